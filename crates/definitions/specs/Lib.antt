@@ -1,0 +1,4 @@
+pub mod Values
+pub mod Faults
+pub mod Texts
+pub mod Pointers

@@ -2,3 +2,17 @@ pub mod Values
 pub mod Faults
 pub mod Texts
 pub mod Pointers
+pub mod Uris
+pub mod Resolution
+pub mod Fragments
+pub mod Shapes
+pub mod Assertions
+pub mod Keywords
+pub mod Schemas
+pub mod Targets
+pub mod Scanning
+pub mod Applied
+pub mod Evaluated
+pub mod Outcomes
+pub mod Answers
+pub mod Reach

@@ -1,0 +1,110 @@
+-- The keywords, in the order of evaluation (JSON Schema 2020-12 Core, 8, 10 and 11; Validation, 6): name, shape of the
+-- value, and what the keyword does.
+use Rattle.std.specs.Prelude.{List, [], ◌∷◌, Bool, true, false, codes, Option, find, is_some, option_map, unwrap_or}
+use Rattle.definitions.specs.Values.{Text, same_text}
+use Rattle.definitions.specs.Shapes.{Shape, any_value, any_text, size, reference, one_schema, schema_list, schema_map, identifier, anchor_name, dialect}
+use Rattle.definitions.specs.Assertions.{Assertion, shape_of, type_is, enum_of, const_is, multiple_of, maximum, exclusive_maximum, minimum, exclusive_minimum, max_length, min_length, max_properties, min_properties, required, dependent_required, max_items, min_items, unique_items}
+
+pub data Meaning : Type 0 where
+  -- looks at its own value and the instance
+  asserts : Assertion → Meaning
+  matches_pattern : Meaning
+  refers : Meaning
+  refers_dynamically : Meaning
+  all_of : Meaning
+  any_of : Meaning
+  one_of : Meaning
+  negated : Meaning
+  condition : Meaning
+  -- where the condition passed, or where it failed
+  consequence : Bool → Meaning
+  dependent_schemas : Meaning
+  prefix_items : Meaning
+  rest_items : Meaning
+  some_item : Meaning
+  at_least_items : Meaning
+  at_most_items : Meaning
+  properties : Meaning
+  pattern_properties : Meaning
+  other_properties : Meaning
+  property_names : Meaning
+  unevaluated_items : Meaning
+  unevaluated_properties : Meaning
+  -- applies nothing: it names, or keeps schemas for others to refer to
+  declares : Meaning
+
+pub record Keyword : Type 0 where
+  pub name : Text
+  pub shape : Shape
+  pub meaning : Meaning
+
+abbrev pub row : Text → Shape → Meaning → Keyword
+row name shape meaning = record { name = name; shape = shape; meaning = meaning }
+
+abbrev pub asserting : Text → Assertion → Keyword
+asserting name a = row name (shape_of a) (asserts a)
+
+abbrev pub keywords : List Keyword
+keywords =
+    row (codes "$ref") reference refers
+    ∷ row (codes "$dynamicRef") reference refers_dynamically
+    ∷ asserting (codes "type") type_is
+    ∷ asserting (codes "enum") enum_of
+    ∷ asserting (codes "const") const_is
+    ∷ asserting (codes "multipleOf") multiple_of
+    ∷ asserting (codes "maximum") maximum
+    ∷ asserting (codes "exclusiveMaximum") exclusive_maximum
+    ∷ asserting (codes "minimum") minimum
+    ∷ asserting (codes "exclusiveMinimum") exclusive_minimum
+    ∷ asserting (codes "maxLength") max_length
+    ∷ asserting (codes "minLength") min_length
+    ∷ row (codes "pattern") any_text matches_pattern
+    ∷ asserting (codes "maxProperties") max_properties
+    ∷ asserting (codes "minProperties") min_properties
+    ∷ asserting (codes "required") required
+    ∷ asserting (codes "dependentRequired") dependent_required
+    ∷ asserting (codes "maxItems") max_items
+    ∷ asserting (codes "minItems") min_items
+    ∷ asserting (codes "uniqueItems") unique_items
+    ∷ row (codes "allOf") schema_list all_of
+    ∷ row (codes "anyOf") schema_list any_of
+    ∷ row (codes "oneOf") schema_list one_of
+    ∷ row (codes "not") one_schema negated
+    ∷ row (codes "if") one_schema condition
+    ∷ row (codes "then") one_schema (consequence true)
+    ∷ row (codes "else") one_schema (consequence false)
+    ∷ row (codes "dependentSchemas") schema_map dependent_schemas
+    ∷ row (codes "prefixItems") schema_list prefix_items
+    ∷ row (codes "items") one_schema rest_items
+    ∷ row (codes "contains") one_schema some_item
+    ∷ row (codes "minContains") size at_least_items
+    ∷ row (codes "maxContains") size at_most_items
+    ∷ row (codes "properties") schema_map properties
+    ∷ row (codes "patternProperties") schema_map pattern_properties
+    ∷ row (codes "additionalProperties") one_schema other_properties
+    ∷ row (codes "propertyNames") one_schema property_names
+    ∷ row (codes "unevaluatedItems") one_schema unevaluated_items
+    ∷ row (codes "unevaluatedProperties") one_schema unevaluated_properties
+    ∷ row (codes "$defs") schema_map declares
+    ∷ row (codes "definitions") schema_map declares
+    ∷ row (codes "contentSchema") one_schema declares
+    ∷ row (codes "$id") identifier declares
+    ∷ row (codes "$anchor") anchor_name declares
+    ∷ row (codes "$dynamicAnchor") anchor_name declares
+    ∷ row (codes "$schema") dialect declares ∷ []
+
+-- those that look at what all others evaluated
+abbrev pub looks_at_evaluated : Meaning → Bool
+looks_at_evaluated unevaluated_items = true
+looks_at_evaluated unevaluated_properties = true
+looks_at_evaluated _ = false
+
+abbrev pub keyword_named : Text → List Keyword → Option Keyword
+keyword_named name = find (λ k. same_text name k.name)
+
+abbrev pub is_keyword_of : List Keyword → Text → Bool
+is_keyword_of rows name = is_some (keyword_named name rows)
+
+-- any value under a name that stands in no row
+abbrev pub shape_in : List Keyword → Text → Shape
+shape_in rows name = unwrap_or (option_map (λ k. k.shape) (keyword_named name rows)) any_value

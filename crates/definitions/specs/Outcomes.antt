@@ -81,7 +81,7 @@ module _ (rules : Rules) (run : Application → Outcome) where
   uses_of rows names indexes a = flat_map (λ k. used names indexes a k (get k.name a.schema.value)) rows
 
   -- the unevaluated keywords come last
-  abbrev pub object_outcome : Application → Outcome
+  unfoldable pub object_outcome : Application → Outcome
   object_outcome a =
       let here = entered a in
       let us = uses_of (filter (λ k. not (looks_at_evaluated k.meaning)) rules.keywords) [] [] here in

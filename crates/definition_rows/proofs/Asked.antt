@@ -1,0 +1,75 @@
+-- What the rows ask, over texts.
+use Rattle.std.specs.Prelude.{ℕ, List, [], ◌∷◌, ◌++◌, ◌&&◌, codes, Bool, Option, Some, None, Result, Ok, Err, option_map, option_and_then}
+use Rattle.std.specs.List.{list_any}
+use Rattle.definitions.specs.Values.{Text, Value, same_text}
+use Rattle.definitions.specs.Texts.{text, reading}
+use Rattle.definitions.specs.Faults.{Fault, number_of, name_of, carried}
+use Rattle.definitions.specs.Pointers.{fragment_text}
+use Rattle.definitions.specs.Schemas.{Document, document_from, table_of}
+use Rattle.definitions.specs.Keywords.{Keyword}
+use Rattle.definitions.specs.Scanning.{scan_fault, scan_fault_by}
+use Rattle.definitions.specs.Targets.{target}
+use Rattle.definitions.specs.Applied.{Outcome, Rules}
+use Rattle.definitions.specs.Answers.{Limits, limits, answer_by, rules_of, output_text}
+
+abbrev pub read_value : Result Value Fault → Option Value
+read_value (Ok v) = Some v
+read_value (Err f) = None
+
+abbrev pub parsed : Text → Option Value
+parsed t = read_value (reading t)
+
+-- a fault, by its name and the text that it carries
+pub data Told : Type 0 where
+  said : Text → Told
+  refused : Text → Option Text → Told
+
+abbrev pub told : Fault → Told
+told f = refused (name_of f) (carried f)
+
+-- ---- reading
+abbrev pub read_again : Result Value Fault → Told
+read_again (Ok v) = said (text v)
+read_again (Err f) = told f
+
+-- the text is read and written again
+abbrev pub rewritten : Text → Told
+rewritten t = read_again (reading t)
+
+-- ---- scanning
+abbrev pub scanned : Text → Text → Option (Option Told)
+scanned base t = option_map (λ v. option_map told (scan_fault base v)) (parsed t)
+
+abbrev pub scanned_by : List Keyword → Text → Text → Option (Option Told)
+scanned_by rows base t = option_map (λ v. option_map told (scan_fault_by rows base v)) (parsed t)
+
+-- ---- validation
+-- the documents with these bases and texts
+abbrev pub documents : List (Text × Text) → Option (List Document)
+documents [] = Some []
+documents (d ∷ ds) = option_and_then (λ v. option_map (λ r. document_from d.0 v ∷ r) (documents ds)) (parsed d.1)
+
+-- no pattern matches
+abbrev pub no_match : Text → Text → Bool
+no_match pattern t = list_any (same_text t) []
+
+abbrev pub answered : Result Outcome Fault → Told
+answered (Ok o) = said (output_text o)
+answered (Err f) = told f
+
+abbrev pub validated_within : Limits → List (Text × Text) → Text → Text → Option Told
+validated_within most docs uri instance =
+    option_and_then (λ ds. option_map (λ x. answered (answer_by most (rules_of no_match ds) uri x)) (parsed instance)) (documents docs)
+
+-- the documents, asked by a URI
+abbrev pub validated : List (Text × Text) → Text → Text → Option Told
+validated = validated_within limits
+
+-- one document
+abbrev pub validated_alone : Text → Text → Option Told
+validated_alone schema = validated ((codes "https://ex.org/s", schema) ∷ []) (codes "https://ex.org/s")
+
+-- ---- references
+abbrev pub target_of : List (Text × Text) → Text → Option Text
+target_of docs t =
+    option_and_then (λ ds. option_map (λ s. s.resource ++ (35 ∷ fragment_text s.pointer)) (target (table_of ds) t)) (documents docs)

@@ -1,0 +1,5 @@
+mod Asked
+mod Readings
+mod Resolutions
+mod Scans
+mod Validations

@@ -123,7 +123,7 @@ schema_outcome rules run a (boolean b) = boolean_outcome a b
 schema_outcome rules run a _ = object_outcome rules run a
 
 -- with so many applications nested at most
-abbrev pub outcome : Rules → ℕ → Application → Outcome
+unfoldable pub outcome : Rules → ℕ → Application → Outcome
 outcome rules zero a = if is_running a then leaf true false else leaf false true
 outcome rules (suc n) a =
     if is_running a then leaf true false else schema_outcome rules (outcome rules n) a a.schema.value

@@ -1,0 +1,237 @@
+//! What a call of schemareg may answer in place of a result, with the number and the name of each fault.
+#![tactic(auto)]
+
+ghost use Rattle.std.specs.Prelude.{◌≡◌, Some, option_map};
+ghost use Rattle.definitions.specs.Faults.{label_of, number_of, name_of, carried};
+ghost use Rattle.faults.specs.View.{fault, printed};
+ghost use Rattle.faults.specs.declared.Fault.TheVariants.{NoRoom};
+
+use std::alloc::{AllocError, AllocFailed};
+use std::error::Error;
+use std::fmt;
+
+/// What a call may answer in place of a result. A fault that arises at a place carries its text.
+#[derive(Debug, Drop, PartialEq)]
+pub enum Fault {
+    /// The text is no JSON in UTF-8, or nests deeper than 127 (RFC 8259).
+    BadJson,
+    /// The JSON text holds a number that is not a whole number of 64 bits.
+    BadNumber,
+    /// The text is no JSON Pointer (RFC 6901, section 3).
+    BadPointer,
+    /// The fragment has a broken percent escape, or its bytes are no UTF-8 (RFC 3986, section 2.1).
+    BadFragment,
+    /// The text is no regular expression, or one that cannot be built.
+    BadPattern,
+    /// The schema document is no JSON object.
+    NotObject,
+    /// The document nests too deep to be stored.
+    TooNested,
+    /// A keyword's value has the wrong shape; carries the pointer to the keyword.
+    BadKeyword(String),
+    /// An `$id` gives no identifier (JSON Schema 2020-12 Core, section 8.2.1).
+    BadId,
+    /// An `$anchor` or `$dynamicAnchor` is no plain name (Core, section 8.2.2).
+    BadAnchor,
+    /// A `$schema` names another dialect than 2020-12 (Core, section 8.1.1).
+    Dialect,
+    /// Two schema objects of the document open a resource of one URI.
+    DuplicateUri,
+    /// Two schema objects of one resource have an anchor of one name.
+    DuplicateAnchor,
+    /// No document, or no resource, has the URI.
+    NotFound,
+    /// A reference has no target; carries the absolute reference.
+    Unresolved(String),
+    /// The evaluation has more applications than its budget.
+    Costly,
+    /// A schema is applied where it is being applied already.
+    Loop,
+    /// The applications nest too deep.
+    Deep,
+    /// Two documents of the bundle want one key; carries the key.
+    BundleClash(String),
+    /// The bundle is too long, or nests too deep.
+    BundleTooLarge,
+    /// The cache's capacity is out of its range.
+    BadCapacity,
+    /// Two tenants have one key.
+    DuplicateTenant,
+    /// There are too many tenants.
+    TooManyTenants,
+    /// No tenant has the key.
+    UnknownTenant,
+    /// The text is no URI that a document may be put under or asked for.
+    BadUri,
+    /// The body has too many bytes.
+    TooLarge,
+    /// A resource of the document belongs to another document; carries its URI.
+    Taken(String),
+    /// The tenant would have more documents than its quota.
+    QuotaDocuments,
+    /// The tenant's documents would have more bytes than its quota.
+    QuotaBytes,
+    /// Memory ran out.
+    NoRoom,
+    /// The connection's id is open already.
+    IdInUse,
+    /// No connection of this id is open.
+    NoSession,
+    /// The schema holds a keyword that is not supported.
+    Unsupported,
+    /// The document belongs to the fixed library.
+    LibraryOwned,
+    /// The tenants' file, or a tenant's key, has the wrong shape.
+    BadTenants,
+    /// No route has the request's target.
+    BadRoute,
+    /// The bytes are no request that is taken; the connection closes.
+    BadRequest,
+    /// The reader failed.
+    ReadFailed,
+    /// The writer failed, or took nothing.
+    WriteFailed,
+    /// The reader gave no end within the bound on reads.
+    ReadBound,
+    /// The program's input has the wrong shape.
+    BadInput,
+}
+
+impl Fault {
+    /// The number, from 1 to 41.
+    pub fn number(&self) -> u8
+        ensures { result ≡ number_of (fault self.now) }
+    {
+        self.label().0
+    }
+
+    /// The name, as [`Fault::NoRoom`] has `NoRoom`.
+    pub fn name(&self) -> &'static str
+        ensures { result.now ≡ name_of (fault self.now) }
+    {
+        self.label().1
+    }
+
+    /// The text that the fault carries: a pointer, a reference or a URI.
+    pub fn at(&self) -> Option<&str>
+        ensures { option_map (λ t. t.now) result ≡ carried (fault self.now) }
+    {
+        match self {
+            Fault::BadKeyword(at)
+            | Fault::Unresolved(at)
+            | Fault::BundleClash(at)
+            | Fault::Taken(at) => Some(at.as_str()),
+            _ => None,
+        }
+    }
+
+    // The number and the name.
+    fn label(&self) -> (u8, &'static str)
+        ensures { (result.0, result.1.now) ≡ label_of (fault self.now) }
+    {
+        match self {
+            Fault::BadJson => (1, "BadJson"),
+            Fault::BadNumber => (2, "BadNumber"),
+            Fault::BadPointer => (3, "BadPointer"),
+            Fault::BadFragment => (4, "BadFragment"),
+            Fault::BadPattern => (5, "BadPattern"),
+            Fault::NotObject => (6, "NotObject"),
+            Fault::TooNested => (7, "TooNested"),
+            Fault::BadKeyword(_) => (8, "BadKeyword"),
+            Fault::BadId => (9, "BadId"),
+            Fault::BadAnchor => (10, "BadAnchor"),
+            Fault::Dialect => (11, "Dialect"),
+            Fault::DuplicateUri => (12, "DuplicateUri"),
+            Fault::DuplicateAnchor => (13, "DuplicateAnchor"),
+            Fault::NotFound => (14, "NotFound"),
+            Fault::Unresolved(_) => (15, "Unresolved"),
+            Fault::Costly => (16, "Costly"),
+            Fault::Loop => (17, "Loop"),
+            Fault::Deep => (18, "Deep"),
+            Fault::BundleClash(_) => (19, "BundleClash"),
+            Fault::BundleTooLarge => (20, "BundleTooLarge"),
+            Fault::BadCapacity => (21, "BadCapacity"),
+            Fault::DuplicateTenant => (22, "DuplicateTenant"),
+            Fault::TooManyTenants => (23, "TooManyTenants"),
+            Fault::UnknownTenant => (24, "UnknownTenant"),
+            Fault::BadUri => (25, "BadUri"),
+            Fault::TooLarge => (26, "TooLarge"),
+            Fault::Taken(_) => (27, "Taken"),
+            Fault::QuotaDocuments => (28, "QuotaDocuments"),
+            Fault::QuotaBytes => (29, "QuotaBytes"),
+            Fault::NoRoom => (30, "NoRoom"),
+            Fault::IdInUse => (31, "IdInUse"),
+            Fault::NoSession => (32, "NoSession"),
+            Fault::Unsupported => (33, "Unsupported"),
+            Fault::LibraryOwned => (34, "LibraryOwned"),
+            Fault::BadTenants => (35, "BadTenants"),
+            Fault::BadRoute => (36, "BadRoute"),
+            Fault::BadRequest => (37, "BadRequest"),
+            Fault::ReadFailed => (38, "ReadFailed"),
+            Fault::WriteFailed => (39, "WriteFailed"),
+            Fault::ReadBound => (40, "ReadBound"),
+            Fault::BadInput => (41, "BadInput"),
+        }
+    }
+}
+
+/// The number, the name and, where the fault carries a text, this text, with a space between them.
+impl fmt::Display for Fault {
+    ghost output = { λ f. Some (printed (fault f)) };
+
+    fn fmt<W: fmt::Write>(&self, f: &mut fmt::Formatter<W>) -> fmt::Result {
+        let (number, name) = self.label();
+        match self.at() {
+            Some(at) => write!(f, "{number} {name} {at}"),
+            None => write!(f, "{number} {name}"),
+        }
+    }
+}
+
+impl Error for Fault {}
+
+impl From<AllocError> for Fault {
+    ghost from_gives = { λ _ f. f ≡ NoRoom };
+
+    fn from(_refused: AllocError) -> Fault {
+        Fault::NoRoom
+    }
+}
+
+impl<T: Drop> From<AllocFailed<T>> for Fault {
+    ghost from_gives = { λ _ f. f ≡ NoRoom };
+
+    fn from(_refused: AllocFailed<T>) -> Fault {
+        Fault::NoRoom
+    }
+}
+
+#[cfg(test)]
+mod tests {
+    use super::*;
+    use std::test::Fail;
+
+    #[test]
+    fn prints_number_name_and_text(rt: HostRuntime) -> Result<(), Fail> {
+        let clash = Fault::BundleClash(String::from_str(rt.alloc(), "https://ex.org/b")?);
+        assert_eq!(rt; clash.number(), 19);
+        assert_eq!(rt; clash.name(), "BundleClash");
+        assert_eq!(rt; clash.at(), Some("https://ex.org/b"));
+        assert_eq!(rt;
+            format!(in rt.alloc(); "{clash}")?.as_str(),
+            "19 BundleClash https://ex.org/b"
+        );
+        Ok(())
+    }
+
+    #[test]
+    fn carries_no_text(rt: HostRuntime) -> Result<(), Fail> {
+        assert_eq!(rt; Fault::NoRoom.at(), None);
+        assert_eq!(rt;
+            format!(in rt.alloc(); "{}", Fault::NoRoom)?.as_str(),
+            "30 NoRoom"
+        );
+        assert_eq!(rt; Fault::from(AllocError), Fault::NoRoom);
+        Ok(())
+    }
+}

@@ -1,0 +1,68 @@
+-- The entries of a map beside the members that they stand for.
+use Rattle.std.proofs.Common.{◌≡◌, List, [], ◌∷◌, map, length, Option, Some, None, option_map, String, Global, Ordering, Less, Equal, Greater, string_bytes, string_cmp, nat_cmp, is_eq, cond, Bool, true, false, Bor, refl, ap, ◌∙◌}
+use Rattle.std.proofs.lemmas.Str.{is_utf8-from_IsUtf8, IsUtf8-string_bytes}
+use Rattle.std.proofs.lemmas.Map.Text.{is_eq-slice_cmp}
+use Rattle.std.specs.BTreeMap.{is_at, insert_entry}
+use Rattle.std.specs.Cmp.Lexicographic.{slice_cmp}
+use Rattle.std.specs.List.{AllByRecursion}
+use Rattle.std.specs.List.Sorted.{IsStrictlySortedBy}
+use Rattle.std.specs.Map.{keys_of, lookup}
+use Rattle.std.specs.Ordering.{match_ordering}
+use Rattle.std.specs.Str.{is_utf8}
+use Rattle.definitions.specs.Values.{Text, Value, entry}
+use Rattle.json_doc.specs.Docs.{value}
+use Rattle.json_doc.specs.Members.{member_value, put, HasNamesInOrder, HasTextsAsNames}
+use Rattle.json_doc.specs.declared.doc.Doc.{Doc}
+use Rattle.json_doc.proofs.Views.{Entry}
+
+-- ---- looking a name up
+found_or : (b : Bool) (v : Doc) (rest : Option Doc) (d : Option Value) → option_map value rest ≡ d → option_map value (cond b (Some v) rest) ≡ cond b (Some (value v)) d
+found_or true v rest d e = refl
+found_or false v rest d e = e
+
+pub value-lookup : (name : Text) (es : List Entry) → option_map value (lookup (is_at (λ k. slice_cmp nat_cmp name (string_bytes k))) es) ≡ entry name (map member_value es)
+value-lookup name [] = refl
+value-lookup name (e ∷ es) =
+    found_or (is_eq (slice_cmp nat_cmp name (string_bytes e.0))) e.1 _ _ (value-lookup name es)
+    ∙ ap (λ b. cond b (Some (value e.1)) (entry name (map member_value es))) (is_eq-slice_cmp name (string_bytes e.0))
+
+pub value_of_ref : (r : Option (Bor Doc)) → option_map (λ d. value d.now) r ≡ option_map value (option_map (λ d. d.now) r)
+value_of_ref None = refl
+value_of_ref (Some d) = refl
+
+-- ---- putting an entry in
+members-match_ordering : (o : Ordering) (a b c : List Entry) → map member_value (match_ordering o a b c) ≡ match_ordering o (map member_value a) (map member_value b) (map member_value c)
+members-match_ordering Less a b c = refl
+members-match_ordering Equal a b c = refl
+members-match_ordering Greater a b c = refl
+
+pub put-insert_entry : (es : List Entry) (k : String Global) (d : Doc) → map member_value (insert_entry string_cmp es k d) ≡ put (string_bytes k) (value d) (map member_value es)
+put-insert_entry [] k d = refl
+put-insert_entry (e ∷ es) k d = members-match_ordering (string_cmp k e.0) _ _ _ ∙ rw (put-insert_entry es k d)
+
+-- ---- the order of names
+above : (name : String Global) (es : List Entry) → AllByRecursion (λ k. string_cmp name k ≡ Less) (keys_of es)
+    → AllByRecursion (λ n. slice_cmp nat_cmp (string_bytes name) n ≡ Less) (map (λ m. m.0) (map member_value es))
+above name [] h = tt
+above name (e ∷ es) h = (h.0, above name es h.1)
+
+pub names_in_order : (es : List Entry) → IsStrictlySortedBy string_cmp (keys_of es) → HasNamesInOrder (map member_value es)
+unfolding IsStrictlySortedBy
+names_in_order [] h = tt
+names_in_order (e ∷ es) h = (above e.0 es h.0, names_in_order es h.1)
+
+pub none_are_left : {A B : Type 0} (f : A → B) (xs : List A) → map f xs ≡ [] → length xs ≡ 0
+none_are_left f [] e = refl
+none_are_left f (x ∷ xs) e = cc
+
+pub none_were_there : {A B : Type 0} (f : A → B) (xs : List A) → length xs ≡ 0 → map f xs ≡ []
+none_were_there f [] e = refl
+none_were_there f (x ∷ xs) e = cc
+
+-- ---- names are in UTF-8
+pub string_is_utf8 : (s : String Global) → is_utf8 (string_bytes s) ≡ true
+string_is_utf8 s = is_utf8-from_IsUtf8 (string_bytes s) (IsUtf8-string_bytes s)
+
+pub texts_as_names : (es : List Entry) → HasTextsAsNames (map member_value es)
+texts_as_names [] = tt
+texts_as_names (e ∷ es) = (string_is_utf8 e.0, texts_as_names es)

@@ -1,0 +1,6 @@
+pub mod Docs
+pub mod Escapes
+pub mod Members
+pub mod Kinds
+pub mod Wholes
+pub mod Tokens

@@ -1,0 +1,38 @@
+-- Members as a list of names and values, and what an iterator over them has left.
+use Rattle.std.specs.Prelude.{◌≡◌, true, List, [], ◌∷◌, map, String, string_bytes}
+use Rattle.std.specs.Borrow.{Bor}
+use Rattle.std.specs.Cmp.Lexicographic.{slice_cmp}
+use Rattle.std.specs.Global.{Global}
+use Rattle.std.specs.List.{AllByRecursion}
+use Rattle.std.specs.List.Sorted.{IsStrictlySortedBy}
+use Rattle.std.specs.Ordering.{nat_cmp, match_ordering}
+use Rattle.std.specs.Str.{is_utf8}
+use Rattle.definitions.specs.Values.{Text, Value}
+use Rattle.json_doc.specs.Docs.{value}
+use Rattle.json_doc.specs.declared.doc.Doc.{Doc}
+use Rattle.json_doc.specs.declared.members.MembersIter.{MembersIter}
+
+-- the members, with the value at this name: it takes the place of the one there, or goes to its place in byte order
+abbrev pub put : Text → Value → List (Text × Value) → List (Text × Value)
+put name v [] = (name, v) ∷ []
+put name v (m ∷ ms) = match_ordering (slice_cmp nat_cmp name m.0) ((name, v) ∷ m ∷ ms) ((m.0, v) ∷ ms) (m ∷ put name v ms)
+
+-- each name once, in byte order
+abbrev pub HasNamesInOrder : List (Text × Value) → Type 0
+HasNamesInOrder ms = IsStrictlySortedBy (slice_cmp nat_cmp) (map (λ m. m.0) ms)
+
+-- each name in UTF-8
+abbrev pub HasTextsAsNames : List (Text × Value) → Type 0
+HasTextsAsNames ms = AllByRecursion (λ m. is_utf8 m.0 ≡ true) ms
+
+-- the name and the value of an entry of the map
+abbrev pub member_value : String Global × Doc → Text × Value
+member_value e = (string_bytes e.0, value e.1)
+
+-- the members that the iterator has left
+unfoldable pub members_left : MembersIter → List (Text × Value)
+members_left i = map member_value i.entries
+
+-- the member that an item shows
+abbrev pub member_shown : Bor Text × Bor Doc → Text × Value
+member_shown item = (item.0.now, value item.1.now)

@@ -1,0 +1,91 @@
+//! JSON values.
+
+ghost use Rattle.std.specs.Prelude.{◌≡◌, option_map, map, string_bytes};
+ghost use Rattle.definitions.specs.Values.{get, as_string};
+ghost use Rattle.json_doc.specs.Docs.{value, members_value};
+ghost use Rattle.json_doc.specs.Kinds.{as_boolean, as_integer, as_elements, as_members};
+
+use crate::members::Members;
+use crate::whole::Whole;
+
+/// A JSON value (RFC 8259), whose numbers are whole.
+///
+/// Contracts see it as the definitions' `Value`, by `value`.
+#[cycle(doc)]
+#[derive(Debug, Drop)]
+pub enum Doc {
+    /// `null`
+    Null,
+    /// `true` or `false`
+    Bool(bool),
+    /// A number.
+    Int(Whole),
+    /// A string.
+    Str(String),
+    /// An array.
+    List(Vec<Doc>),
+    /// An object.
+    Dict(Members),
+}
+
+impl Doc {
+    /// The boolean, if the value is one.
+    pub fn as_bool(&self) -> Option<bool>
+        ensures { result ≡ as_boolean (value self.now) }
+    {
+        match self {
+            Doc::Bool(boolean) => Some(*boolean),
+            _ => None,
+        }
+    }
+
+    /// The number, if the value is one.
+    pub fn as_int(&self) -> Option<Whole>
+        ensures { result ≡ as_integer (value self.now) }
+    {
+        match self {
+            Doc::Int(number) => Some(*number),
+            _ => None,
+        }
+    }
+
+    /// The text, if the value is a string.
+    pub fn as_str(&self) -> Option<&str>
+        ensures { option_map (λ s. s.now) result ≡ as_string (value self.now) }
+    {
+        match self {
+            Doc::Str(text) => Some(text.as_str()),
+            _ => None,
+        }
+    }
+
+    /// The elements, if the value is an array.
+    pub fn as_list(&self) -> Option<&[Doc]>
+        ensures { option_map (λ items. map value items.now) result ≡ as_elements (value self.now) }
+    {
+        match self {
+            Doc::List(items) => Some(items.as_slice()),
+            _ => None,
+        }
+    }
+
+    /// The members, if the value is an object.
+    pub fn as_dict(&self) -> Option<&Members>
+        ensures { option_map (λ m. members_value m.now) result ≡ as_members (value self.now) }
+    {
+        match self {
+            Doc::Dict(members) => Some(members),
+            _ => None,
+        }
+    }
+
+    /// The member of this name, if the value is an object that has one.
+    pub fn get(&self, name: &str) -> Option<&Doc>
+        ensures { option_map (λ d. value d.now) result ≡ get name.now (value self.now) }
+    {
+        match self {
+            Doc::Dict(members) => members.get(name),
+            _ => None,
+        }
+    }
+}

@@ -1,0 +1,26 @@
+//! JSON values whose numbers are whole (RFC 8259): the type, and what walks it.
+#![tactic(auto)]
+
+mod copying;
+mod depth;
+mod doc;
+mod members;
+mod pointer;
+mod reading;
+mod sameness;
+mod whole;
+mod writing;
+
+pub use copying::copy;
+pub use depth::nesting;
+pub use doc::Doc;
+pub use faults::Fault;
+pub use members::{Members, MembersIter};
+pub use pointer::{Pointer, push_token};
+pub use reading::read;
+pub use sameness::same;
+pub use whole::Whole;
+pub use writing::write;
+
+#[cfg(test)]
+mod tests;

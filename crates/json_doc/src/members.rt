@@ -1,0 +1,99 @@
+//! The members of a JSON object.
+
+ghost use Rattle.std.specs.Prelude.{◌≡◌, ◌↔◌, [], ◌∷◌, IsTrue, OnOk, OnErr, IfErr, length, option_map, string_bytes};
+ghost use Rattle.std.specs.Iterator.{YieldsFirstBy, item_count};
+ghost use Rattle.definitions.specs.Values.{entry};
+ghost use Rattle.json_doc.specs.Docs.{value, members_value};
+ghost use Rattle.json_doc.specs.Members.{put, member_shown, members_left, HasNamesInOrder, HasTextsAsNames};
+
+use crate::doc::Doc;
+use faults::Fault;
+use std::alloc::Global;
+use std::collections::{BTreeMap, btree_map};
+
+/// The members of a JSON object: each name once, in byte order of names.
+///
+/// Contracts see them as the definitions' list of names and values, by `members_value`.
+#[cycle(doc)]
+#[derive(Debug, Drop)]
+pub struct Members {
+    entries: BTreeMap<String, Doc>,
+}
+
+impl Members {
+    /// No members. This takes no memory.
+    pub fn new(alloc: Global) -> Members
+        ensures { members_value result ≡ [] }
+    {
+        Members {
+            entries: BTreeMap::new(alloc),
+        }
+    }
+
+    /// How many members there are.
+    pub fn len(&self) -> usize
+        ensures { result ≡ length (members_value self.now) }
+    {
+        self.entries.len()
+    }
+
+    /// Whether there are none.
+    pub fn is_empty(&self) -> bool
+        ensures { IsTrue result ↔ (members_value self.now ≡ []) }
+    {
+        self.entries.is_empty()
+    }
+
+    /// The member of this name.
+    pub fn get(&self, name: &str) -> Option<&Doc>
+        ensures { option_map (λ d. value d.now) result ≡ entry name.now (members_value self.now) }
+    {
+        self.entries.get(name)
+    }
+
+    /// The members with their names, in byte order of names.
+    pub fn iter(&self) -> MembersIter<'_>
+        ensures all { members_left result ≡ members_value self.now }
+        ensures ordered { HasNamesInOrder (members_value self.now) }
+        ensures utf8 { HasTextsAsNames (members_value self.now) }
+    {
+        MembersIter {
+            entries: self.entries.iter(),
+        }
+    }
+
+    /// Puts a member in, in place of the one of the same name, if there is one: the last of repeated names wins
+    /// (RFC 8259, section 4). The only error is want of memory, and then the members stay as they were.
+    pub fn insert(&mut self, name: String, member: Doc) -> Result<(), Fault>
+        ensures ok { OnOk result (members_value self.new ≡ put (string_bytes name) (value member) (members_value self.old)) }
+        ensures unchanged { OnErr result (members_value self.new ≡ members_value self.old) }
+        ensures room { IfErr result (λ f. f ≡ Fault.NoRoom) }
+    {
+        self.entries.insert(name, member)?;
+        Ok(())
+    }
+}
+
+/// The members that are left of an object's, each with its name, in byte order of names.
+///
+/// Contracts see them as a list of names and values, by `members_left`.
+#[derive(Drop)]
+pub struct MembersIter<'a> {
+    entries: btree_map::Iter<'a, String, Doc>,
+}
+
+impl<'a> Iterator for MembersIter<'a> {
+    type Item = (&'a str, &'a Doc);
+
+    ghost next_gives = { YieldsFirstBy member_shown members_left };
+
+    ghost remaining = { item_count members_left };
+
+    #[tactic(auto, unfolding(crate::specs::Members::members_left))]
+    fn next(&mut self) -> Option<(&'a str, &'a Doc)> {
+        match self.entries.next() {
+            Some((name, member)) => Some((name.as_str(), member)),
+            None => None,
+        }
+    }
+}

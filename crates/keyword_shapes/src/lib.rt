@@ -1,0 +1,153 @@
+//! The shapes that the values of keywords have (JSON Schema 2020-12 Core, sections 8 to 10; Validation, section 6), and
+//! the test of them.
+#![tactic(auto)]
+
+ghost use Rattle.std.specs.Prelude.{◌≡◌, ◌&&◌, nat_lt, length};
+ghost use Rattle.std.specs.List.{list_any, list_all};
+ghost use Rattle.definitions.specs.Values.{same_text, is_string};
+ghost use Rattle.definitions.specs.Shapes.{has_shape, types, is_type_name, are_type_names, is_text_list, is_schema, is_schema_map};
+ghost use Rattle.json_doc.specs.Docs.{value};
+ghost use Rattle.keyword_shapes.specs.ShapeView.{shape_view};
+
+use json_doc::Doc;
+
+/// The shape that a keyword's value has to have.
+#[derive(Clone, Copy, Debug, Drop, PartialEq, Eq)]
+pub enum Shape {
+    /// The name of a type, or a list of at least one (Validation, section 6.1.1).
+    TypeNames,
+    /// A list of texts, which may be empty (Validation, section 6.5.3).
+    TextList,
+    /// An object whose members are schemas (Core, section 10.3.2.1).
+    SchemaMap,
+}
+
+/// Whether the value has the shape. This takes no memory.
+pub fn fits(shape: Shape, doc: &Doc) -> bool
+    ensures { result ≡ has_shape (shape_view shape) (value doc.now) }
+{
+    match shape {
+        Shape::TypeNames => are_type_names(doc),
+        Shape::TextList => is_text_list(doc),
+        Shape::SchemaMap => is_schema_map(doc),
+    }
+}
+
+// One name of a type, or a list of at least one.
+fn are_type_names(doc: &Doc) -> bool
+    ensures { result ≡ are_type_names (value doc.now) }
+{
+    match doc {
+        Doc::List(names) => is_list_of_type_names(names),
+        _ => is_type_name(doc),
+    }
+}
+
+// At least one value, and names of types alone.
+fn is_list_of_type_names(docs: &[Doc]) -> bool
+    ensures { result ≡ (nat_lt 0 (length docs.now) && list_all (λ d. is_type_name (value d)) docs.now) }
+{
+    !docs.is_empty() && all_type_names(docs)
+}
+
+fn all_type_names(docs: &[Doc]) -> bool
+    ensures { result ≡ list_all (λ d. is_type_name (value d)) docs.now }
+{
+    docs.iter().all(|doc| is_type_name(doc))
+}
+
+fn is_type_name(doc: &Doc) -> bool
+    ensures { result ≡ is_type_name (value doc.now) }
+{
+    match doc {
+        Doc::Str(name) => is_type(name.as_str()),
+        _ => false,
+    }
+}
+
+// Whether a type has this name.
+fn is_type(name: &str) -> bool
+    ensures { result ≡ list_any (same_text name.now) types }
+{
+    name == "null"
+        || name == "boolean"
+        || name == "object"
+        || name == "array"
+        || name == "number"
+        || name == "string"
+        || name == "integer"
+}
+
+fn is_text_list(doc: &Doc) -> bool
+    ensures { result ≡ is_text_list (value doc.now) }
+{
+    match doc {
+        Doc::List(texts) => all_texts(texts),
+        _ => false,
+    }
+}
+
+fn all_texts(docs: &[Doc]) -> bool
+    ensures { result ≡ list_all (λ d. is_string (value d)) docs.now }
+{
+    docs.iter().all(|doc| is_text(doc))
+}
+
+fn is_text(doc: &Doc) -> bool
+    ensures { result ≡ is_string (value doc.now) }
+{
+    matches!(doc, Doc::Str(_))
+}
+
+fn is_schema_map(doc: &Doc) -> bool
+    ensures { result ≡ is_schema_map (value doc.now) }
+{
+    match doc {
+        Doc::Dict(schemas) => schemas.iter().all(|(_name, schema)| is_schema(schema)),
+        _ => false,
+    }
+}
+
+// Whether the value is a schema: an object or a boolean.
+fn is_schema(doc: &Doc) -> bool
+    ensures { result ≡ is_schema (value doc.now) }
+{
+    matches!(doc, Doc::Bool(_) | Doc::Dict(_))
+}
+
+#[cfg(test)]
+mod tests {
+    use super::*;
+    use json_doc::Members;
+    use std::alloc::Global;
+    use std::test::Fail;
+
+    fn text(alloc: Global, bytes: &str) -> Result<Doc, Fail> {
+        Ok(Doc::Str(String::from_str(alloc, bytes)?))
+    }
+
+    #[test]
+    fn tells_the_shapes_apart(rt: HostRuntime) -> Result<(), Fail> {
+        let name = text(rt.alloc(), "integer")?;
+        assert!(rt; fits(Shape::TypeNames, &name));
+        assert!(rt; !fits(Shape::TypeNames, &text(rt.alloc(), "int")?));
+        assert!(rt; !fits(Shape::SchemaMap, &name));
+
+        let none = Doc::List(Vec::new(rt.alloc()));
+        assert!(rt; !fits(Shape::TypeNames, &none));
+        assert!(rt; fits(Shape::TextList, &none));
+
+        let names = Doc::List(vec![in rt.alloc(); name, text(rt.alloc(), "null")?]?);
+        assert!(rt; fits(Shape::TypeNames, &names));
+        assert!(rt; fits(Shape::TextList, &names));
+        Ok(())
+    }
+
+    #[test]
+    fn false_is_a_schema(rt: HostRuntime) -> Result<(), Fail> {
+        let mut schemas = Members::new(rt.alloc());
+        schemas.insert(String::from_str(rt.alloc(), "a")?, Doc::Bool(false))?;
+        assert!(rt; fits(Shape::SchemaMap, &Doc::Dict(schemas)));
+        Ok(())
+    }
+}

@@ -1,0 +1,5 @@
+pub mod Plain
+pub mod Misshapen
+pub mod Unknown
+pub mod Verdict
+pub mod Stopped

@@ -1,0 +1,4 @@
+pub mod FirstKeywords
+pub mod Walks
+pub mod Stops
+pub mod Scans

@@ -1,0 +1,82 @@
+-- What a walk over the schemas of a document finds, read off the values alone. Neither the base nor the pointer of a
+-- schema matters to the keywords that are in: only whether the schema stands at the root of a resource, to `$schema`.
+use Rattle.std.specs.Prelude.{List, [], ◌∷◌, ◌++◌, Bool, true, false, ◌&&◌, ◌||◌, not, if◌then◌else◌, Option, Some, is_some, codes, map, flat_map}
+use Rattle.std.specs.List.{list_any}
+use Rattle.definitions.specs.Values.{Text, same_text, text_at, Value, object, Members, no_members, member, members_list}
+use Rattle.definitions.specs.Pointers.{Pointer}
+use Rattle.definitions.specs.Uris.{begins}
+use Rattle.definitions.specs.Shapes.{Shape, has_shape, schema_map}
+use Rattle.definitions.specs.Keywords.{keywords, is_keyword_of, shape_in}
+use Rattle.schema_scan.specs.FirstKeywords.{first_keywords}
+
+-- the same pointers from the value around, whose member of this name they start in
+abbrev pub under : Text → List Pointer → List Pointer
+under name = map (λ p. name ∷ p)
+
+-- ---- keywords whose value has a wrong shape, in the order of the walk
+abbrev pub misshapen_keyword : Text → Value → List Pointer
+misshapen_keyword name v = if has_shape (shape_in first_keywords name) v then [] else (name ∷ []) ∷ []
+
+abbrev pub misshapen_keywords : Members → List Pointer
+misshapen_keywords no_members = []
+misshapen_keywords (member name v ms) = misshapen_keyword name v ++ misshapen_keywords ms
+
+abbrev mutual
+  -- of a schema: its own, and then those of its subschemas
+  pub misshapen : Value → List Pointer
+  misshapen (object ms) = misshapen_keywords ms ++ misshapen_below ms
+  misshapen _ = []
+
+  pub misshapen_below : Members → List Pointer
+  misshapen_below no_members = []
+  misshapen_below (member name v ms) = under name (misshapen_at (shape_in first_keywords name) v) ++ misshapen_below ms
+
+  -- of the schemas at the value of a keyword of this shape
+  pub misshapen_at : Shape → Value → List Pointer
+  misshapen_at schema_map (object ms) = misshapen_in ms
+  misshapen_at _ _ = []
+
+  pub misshapen_in : Members → List Pointer
+  misshapen_in no_members = []
+  misshapen_in (member name v ms) = under name (misshapen v) ++ misshapen_in ms
+
+-- ---- names that the table doesn't have, and that aren't ignored
+-- the keywords of the standard that begin with `$`
+abbrev pub dollar_names : List Text
+dollar_names =
+    codes "$ref" ∷ codes "$dynamicRef" ∷ codes "$defs" ∷ codes "$id" ∷ codes "$anchor" ∷ codes "$dynamicAnchor" ∷ codes "$schema" ∷ []
+
+-- in a schema that stands at a resource's root, or not
+abbrev pub is_ignored_name : Bool → Text → Bool
+is_ignored_name at_root name =
+    if same_text name (codes "$schema") then not at_root else begins name (codes "$") && not (is_keyword_of keywords name)
+
+abbrev pub is_unknown : Bool → Text → Bool
+is_unknown at_root name = not (is_keyword_of first_keywords name || is_ignored_name at_root name)
+
+abbrev pub has_unknown_name : Bool → Members → Bool
+has_unknown_name at_root no_members = false
+has_unknown_name at_root (member name v ms) = is_unknown at_root name || has_unknown_name at_root ms
+
+-- Core, 8.2.1
+abbrev pub opens_resource : Members → Bool
+opens_resource ms = is_some (text_at (codes "$id") (object ms))
+
+abbrev mutual
+  -- in a schema or its subschemas
+  pub has_unknown : Bool → Value → Bool
+  has_unknown at_root (object ms) = has_unknown_name (at_root || opens_resource ms) ms || has_unknown_below ms
+  has_unknown at_root _ = false
+
+  pub has_unknown_below : Members → Bool
+  has_unknown_below no_members = false
+  has_unknown_below (member name v ms) = has_unknown_at (shape_in first_keywords name) v || has_unknown_below ms
+
+  -- in the schemas at the value of a keyword of this shape
+  pub has_unknown_at : Shape → Value → Bool
+  has_unknown_at schema_map (object ms) = has_unknown_in ms
+  has_unknown_at _ _ = false
+
+  pub has_unknown_in : Members → Bool
+  has_unknown_in no_members = false
+  has_unknown_in (member name v ms) = has_unknown false v || has_unknown_in ms

@@ -1,0 +1,110 @@
+//! What applications of schemas found, beside their units.
+
+ghost use Rattle.std.specs.Prelude.{◌≡◌, ◌+◌, ◌<◌, ◌^◌, ◌&&◌, ◌||◌, true, false, if◌then◌else◌};
+
+/// What the application of a schema found: whether the instance is valid, how many applications there were, this one
+/// among them, and whether one of them looped or nested too deep.
+#[derive(Clone, Copy, Debug, PartialEq, Eq)]
+pub(crate) struct Found {
+    pub(crate) valid: bool,
+    pub(crate) count: u64,
+    pub(crate) looped: bool,
+    pub(crate) deep: bool,
+}
+
+impl Found {
+    /// A boolean schema.
+    pub(crate) fn boolean(valid: bool) -> Found
+        ensures { result ≡ record { valid = valid; count = 1; looped = false; deep = false } }
+    {
+        Found {
+            valid,
+            count: 1,
+            looped: false,
+            deep: false,
+        }
+    }
+
+    /// A schema that was not applied, since the applications nest too deep.
+    pub(crate) fn too_deep() -> Found
+        ensures { result ≡ record { valid = false; count = 1; looped = false; deep = true } }
+    {
+        Found {
+            valid: false,
+            count: 1,
+            looped: false,
+            deep: true,
+        }
+    }
+
+    /// Both pass, and together they count so much.
+    pub(crate) fn and(self, other: Found) -> Found
+        requires { self.count + other.count < 2 ^ 64 }
+        ensures { result ≡ record { valid = self.valid && other.valid; count = self.count + other.count; looped = self.looped || other.looped; deep = self.deep || other.deep } }
+    {
+        Found {
+            valid: self.valid && other.valid,
+            count: self.count + other.count,
+            looped: self.looped || other.looped,
+            deep: self.deep || other.deep,
+        }
+    }
+}
+
+/// What the schemas that a keyword applies found: how many there were, how many of them passed, how many applications
+/// there were in all, and whether one looped or nested too deep.
+#[derive(Clone, Copy, Debug, PartialEq, Eq)]
+pub(crate) struct Applied {
+    pub(crate) number: u64,
+    pub(crate) passing: u64,
+    pub(crate) count: u64,
+    pub(crate) looped: bool,
+    pub(crate) deep: bool,
+}
+
+impl Applied {
+    /// Nothing was applied.
+    pub(crate) fn none() -> Applied
+        ensures { result ≡ record { number = 0; passing = 0; count = 0; looped = false; deep = false } }
+    {
+        Applied {
+            number: 0,
+            passing: 0,
+            count: 0,
+            looped: false,
+            deep: false,
+        }
+    }
+
+    /// These and one more.
+    pub(crate) fn and(self, found: Found) -> Applied
+        requires number { self.number + 1 < 2 ^ 64 }
+        requires passing { self.passing + 1 < 2 ^ 64 }
+        requires count { self.count + found.count < 2 ^ 64 }
+        ensures { result ≡ record { number = self.number + 1; passing = (if found.valid then self.passing + 1 else self.passing); count = self.count + found.count; looped = self.looped || found.looped; deep = self.deep || found.deep } }
+    {
+        Applied {
+            number: self.number + 1,
+            passing: if found.valid {
+                self.passing + 1
+            } else {
+                self.passing
+            },
+            count: self.count + found.count,
+            looped: self.looped || found.looped,
+            deep: self.deep || found.deep,
+        }
+    }
+
+    /// What a keyword found that applied these.
+    pub(crate) fn under(self, passes: bool) -> Found
+        ensures { result ≡ record { valid = passes; count = self.count; looped = self.looped; deep = self.deep } }
+    {
+        Found {
+            valid: passes,
+            count: self.count,
+            looped: self.looped,
+            deep: self.deep,
+        }
+    }
+}

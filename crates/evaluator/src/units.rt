@@ -1,0 +1,230 @@
+//! The units of the basic output, as they are collected (JSON Schema 2020-12 Core, 12.4.2).
+
+use std::alloc::{AllocError, Global};
+
+/// What a unit says.
+#[derive(Clone, Copy, Debug)]
+pub(crate) enum Says {
+    /// Nothing yet.
+    Pending,
+    /// The keyword that the unit's location ends in is not met.
+    NotMet,
+    /// The schema is `false`.
+    NotAllowed,
+    /// The names from the first number on and below the second.
+    Names(usize, usize),
+}
+
+/// One unit: where its locations stand in the list of steps, the keyword's location first and then the instance's, and
+/// what it says.
+#[derive(Clone, Copy, Debug)]
+pub(crate) struct OutputUnit {
+    pub(crate) start: usize,
+    pub(crate) place: usize,
+    pub(crate) end: usize,
+    pub(crate) says: Says,
+}
+
+/// Units in order. Their steps and names stand in two lists that all of them share, so that a unit takes no memory of
+/// its own.
+#[derive(Drop)]
+pub(crate) struct Units<'a> {
+    pub(crate) units: Vec<OutputUnit>,
+    pub(crate) steps: Vec<&'a str>,
+    pub(crate) names: Vec<&'a str>,
+}
+
+/// How much there is, so that what comes later can be cut off.
+#[derive(Clone, Copy, Debug)]
+pub(crate) struct Mark {
+    unit: usize,
+    step: usize,
+    name: usize,
+}
+
+impl<'a> Units<'a> {
+    pub(crate) fn new(alloc: Global) -> Units<'a> {
+        Units {
+            units: Vec::new(alloc),
+            steps: Vec::new(alloc),
+            names: Vec::new(alloc),
+        }
+    }
+
+    pub(crate) fn mark(&self) -> Mark {
+        Mark {
+            unit: self.units.len(),
+            step: self.steps.len(),
+            name: self.names.len(),
+        }
+    }
+
+    /// Forgets what came after the mark.
+    pub(crate) fn cut_back(&mut self, mark: Mark) {
+        self.units.truncate(mark.unit);
+        self.steps.truncate(mark.step);
+        self.names.truncate(mark.name);
+    }
+
+    /// Keeps a place for a unit that stands before those of the schemas that its keyword applies.
+    pub(crate) fn keep_place(&mut self) -> Result<(), AllocError> {
+        self.units.push(OutputUnit {
+            start: 0,
+            place: 0,
+            end: 0,
+            says: Says::Pending,
+        })?;
+        Ok(())
+    }
+
+    /// Fills the place that was kept at the mark.
+    pub(crate) fn fill(
+        &mut self,
+        mark: Mark,
+        path: &[&'a str],
+        place: &[&'a str],
+        says: Says,
+    ) -> Result<(), AllocError> {
+        let unit = self.located(path, place, says)?;
+        if let Some(kept) = self.units.get_mut(mark.unit) {
+            *kept = unit;
+        }
+        Ok(())
+    }
+
+    /// Adds a unit.
+    pub(crate) fn push(
+        &mut self,
+        path: &[&'a str],
+        place: &[&'a str],
+        says: Says,
+    ) -> Result<(), AllocError> {
+        let unit = self.located(path, place, says)?;
+        self.units.push(unit)?;
+        Ok(())
+    }
+
+    fn located(
+        &mut self,
+        path: &[&'a str],
+        place: &[&'a str],
+        says: Says,
+    ) -> Result<OutputUnit, AllocError> {
+        let start = self.steps.len();
+        self.steps.extend_from_slice(path)?;
+        let middle = self.steps.len();
+        self.steps.extend_from_slice(place)?;
+        Ok(OutputUnit {
+            start,
+            place: middle,
+            end: self.steps.len(),
+            says,
+        })
+    }
+}
+
+/// Where the evaluation stands, and the units so far: the errors, should what is being applied fail, and the
+/// annotations, should it pass.
+#[derive(Drop)]
+pub(crate) struct Log<'a> {
+    path: Vec<&'a str>,
+    place: Vec<&'a str>,
+    pub(crate) errors: Units<'a>,
+    pub(crate) annotations: Units<'a>,
+}
+
+/// Both marks.
+#[derive(Clone, Copy, Debug)]
+pub(crate) struct LogMark {
+    errors: Mark,
+    annotations: Mark,
+}
+
+impl<'a> Log<'a> {
+    pub(crate) fn new(alloc: Global) -> Log<'a> {
+        Log {
+            path: Vec::new(alloc),
+            place: Vec::new(alloc),
+            errors: Units::new(alloc),
+            annotations: Units::new(alloc),
+        }
+    }
+
+    pub(crate) fn mark(&self) -> LogMark {
+        LogMark {
+            errors: self.errors.mark(),
+            annotations: self.annotations.mark(),
+        }
+    }
+
+    /// Keeps the annotations since the mark where the schema passed, and the errors where it failed.
+    pub(crate) fn settle(&mut self, mark: LogMark, valid: bool) {
+        if valid {
+            self.errors.cut_back(mark.errors);
+        } else {
+            self.annotations.cut_back(mark.annotations);
+        }
+    }
+
+    /// Goes on to a keyword of the schema.
+    pub(crate) fn enter_keyword(&mut self, keyword: &'static str) -> Result<LogMark, AllocError> {
+        let mark = self.mark();
+        let step: &'a str = keyword;
+        self.path.push(step)?;
+        self.errors.keep_place()?;
+        self.annotations.keep_place()?;
+        Ok(mark)
+    }
+
+    /// Leaves the keyword, with its error where it failed and its annotation where it passed and has one.
+    pub(crate) fn leave_keyword(
+        &mut self,
+        mark: LogMark,
+        passes: bool,
+        annotation: Option<Says>,
+    ) -> Result<(), AllocError> {
+        if passes {
+            self.errors.cut_back(mark.errors);
+            match annotation {
+                Some(says) => self.annotations.fill(
+                    mark.annotations,
+                    self.path.as_slice(),
+                    self.place.as_slice(),
+                    says,
+                )?,
+                None => self.annotations.cut_back(mark.annotations),
+            }
+        } else {
+            self.errors.fill(
+                mark.errors,
+                self.path.as_slice(),
+                self.place.as_slice(),
+                Says::NotMet,
+            )?;
+            self.annotations.cut_back(mark.annotations);
+        }
+        drop(self.path.pop());
+        Ok(())
+    }
+
+    /// Goes on to a schema of the keyword and the member of this name.
+    pub(crate) fn enter_member(&mut self, name: &'a str) -> Result<(), AllocError> {
+        self.path.push(name)?;
+        self.place.push(name)?;
+        Ok(())
+    }
+
+    pub(crate) fn leave_member(&mut self) {
+        drop(self.path.pop());
+        drop(self.place.pop());
+    }
+
+    /// A schema `false` was applied here.
+    pub(crate) fn not_allowed(&mut self) -> Result<(), AllocError> {
+        self.errors.push(
+            self.path.as_slice(),
+            self.place.as_slice(),
+            Says::NotAllowed,
+        )
+    }
+}

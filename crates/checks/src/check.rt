@@ -1,0 +1,46 @@
+//! A check of two texts.
+
+ghost use Rattle.std.specs.Prelude.{◌≡◌, ◌≢◌, Ok, Err, IfOk, IfErr};
+ghost use Rattle.evaluator.specs.Reports.{is_valid};
+ghost use Rattle.faults.specs.View.{fault};
+ghost use Rattle.json_doc.specs.Docs.{value};
+ghost use Rattle.checks.specs.Judgements.{judgement_of_texts, judgement_of_values};
+
+use evaluator::{Report, evaluate_one};
+use json_doc::{Doc, Fault, read};
+use schema_scan::{Scanned, scan_one};
+use std::alloc::Global;
+
+/// Checks the JSON text `instance` against the JSON text `schema`, which is taken to stand under `uri`.
+///
+/// The first of these faults is answered: of the schema `BadJson`, `BadNumber`, `NotObject`, `TooNested`, `BadKeyword`
+/// and `Unsupported`, then of the instance `BadJson` and `BadNumber`, then `Costly` and `Deep`. `NoRoom` may take the
+/// place of any answer.
+pub fn check_bytes(
+    alloc: Global,
+    uri: &str,
+    schema: &[u8],
+    instance: &[u8],
+) -> Result<Report, Fault>
+    ensures ok { IfOk result (λ r. judgement_of_texts uri.now schema.now instance.now ≡ Ok (is_valid r)) }
+    ensures err { IfErr result (λ f. f ≢ Fault.NoRoom → judgement_of_texts uri.now schema.now instance.now ≡ Err (fault f)) }
+{
+    let schema = read(alloc, schema)?;
+    let scanned = scan_one(alloc, uri, &schema)?;
+    let instance = read(alloc, instance)?;
+    evaluate_one(alloc, &scanned, &instance)
+}
+
+/// The same of two values.
+pub(crate) fn check_docs(
+    alloc: Global,
+    uri: &str,
+    schema: &Doc,
+    instance: &Doc,
+) -> Result<Report, Fault>
+    ensures ok { IfOk result (λ r. judgement_of_values uri.now (value schema.now) (value instance.now) ≡ Ok (is_valid r)) }
+    ensures err { IfErr result (λ f. f ≢ Fault.NoRoom → judgement_of_values uri.now (value schema.now) (value instance.now) ≡ Err (fault f)) }
+{
+    let scanned = scan_one(alloc, uri, schema)?;
+    evaluate_one(alloc, &scanned, instance)
+}

@@ -1,0 +1,112 @@
+//! Whole checks, from texts to the text of the output.
+
+use super::*;
+use std::alloc::Global;
+use std::process::Abort;
+use std::test::Fail;
+
+const URI: &str = "https://ex.org/s";
+
+fn output(alloc: Global, schema: &str, instance: &str) -> Result<String, Fault> {
+    let report = check_bytes(alloc, URI, schema.as_bytes(), instance.as_bytes())?;
+    Ok(String::from_str(alloc, report.text())?)
+}
+
+#[test]
+fn says_what_is_not_met(rt: HostRuntime) -> Result<(), Fail> {
+    let report = check_bytes(
+        rt.alloc(),
+        URI,
+        br#"{"type":"object","required":["a"]}"#,
+        b"{}",
+    )?;
+    assert!(rt; !report.valid());
+    assert_eq!(rt;
+        report.text(),
+        r#"{"errors":[{"absoluteKeywordLocation":"https://ex.org/s#/required","error":"required is not met","instanceLocation":"","keywordLocation":"/required"}],"valid":false}"#
+    );
+    Ok(())
+}
+
+#[test]
+fn an_empty_schema_asks_for_nothing(rt: HostRuntime) -> Result<(), Fail> {
+    let report = check_input(
+        rt.alloc(),
+        br#"{"instance":null,"schema":{},"uri":"https://ex.org/s"}"#,
+    )?;
+    assert!(rt; report.valid());
+    assert_eq!(rt; report.text(), r#"{"annotations":[],"valid":true}"#);
+    Ok(())
+}
+
+#[test]
+fn units_stand_in_order(rt: HostRuntime) -> Result<(), Fail> {
+    let schema =
+        r#"{"properties":{"a":false,"b":{"type":["null","integer"]},"c":{"required":["d"]}},"required":["e"]}"#;
+    assert_eq!(rt;
+        output(rt.alloc(), schema, r#"{"c":{},"b":"x","a":1}"#)?.as_str(),
+        r#"{"errors":[{"absoluteKeywordLocation":"https://ex.org/s#/required","error":"required is not met","instanceLocation":"","keywordLocation":"/required"},{"absoluteKeywordLocation":"https://ex.org/s#/properties","error":"properties is not met","instanceLocation":"","keywordLocation":"/properties"},{"absoluteKeywordLocation":"https://ex.org/s#/properties/a","error":"no value is allowed","instanceLocation":"/a","keywordLocation":"/properties/a"},{"absoluteKeywordLocation":"https://ex.org/s#/properties/b/type","error":"type is not met","instanceLocation":"/b","keywordLocation":"/properties/b/type"},{"absoluteKeywordLocation":"https://ex.org/s#/properties/c/required","error":"required is not met","instanceLocation":"/c","keywordLocation":"/properties/c/required"}],"valid":false}"#
+    );
+    assert_eq!(rt;
+        output(rt.alloc(), schema, r#"{"e":1,"b":7,"c":[]}"#)?.as_str(),
+        r#"{"annotations":[{"absoluteKeywordLocation":"https://ex.org/s#/properties","annotation":["b","c"],"instanceLocation":"","keywordLocation":"/properties"}],"valid":true}"#
+    );
+    Ok(())
+}
+
+#[test]
+fn annotations_of_what_fails_are_lost(rt: HostRuntime) -> Result<(), Fail> {
+    let schema = r#"{"properties":{"a":{"properties":{"x/y":{},"z~":true}},"b":{"type":"null"}}}"#;
+    assert_eq!(rt;
+        output(rt.alloc(), schema, r#"{"a":{"x/y":1},"b":null}"#)?.as_str(),
+        r#"{"annotations":[{"absoluteKeywordLocation":"https://ex.org/s#/properties","annotation":["a","b"],"instanceLocation":"","keywordLocation":"/properties"},{"absoluteKeywordLocation":"https://ex.org/s#/properties/a/properties","annotation":["x/y"],"instanceLocation":"/a","keywordLocation":"/properties/a/properties"}],"valid":true}"#
+    );
+    assert_eq!(rt;
+        output(rt.alloc(), schema, r#"{"a":{"x/y":1},"b":0}"#)?.as_str(),
+        r#"{"errors":[{"absoluteKeywordLocation":"https://ex.org/s#/properties","error":"properties is not met","instanceLocation":"","keywordLocation":"/properties"},{"absoluteKeywordLocation":"https://ex.org/s#/properties/b/type","error":"type is not met","instanceLocation":"/b","keywordLocation":"/properties/b/type"}],"valid":false}"#
+    );
+    Ok(())
+}
+
+#[test]
+fn locations_are_escaped(rt: HostRuntime) -> Result<(), Fail> {
+    assert_eq!(rt;
+        output(
+            rt.alloc(),
+            r#"{"properties":{"a/~\"":false}}"#,
+            r#"{"a/~\"":1}"#
+        )?
+        .as_str(),
+        r#"{"errors":[{"absoluteKeywordLocation":"https://ex.org/s#/properties","error":"properties is not met","instanceLocation":"","keywordLocation":"/properties"},{"absoluteKeywordLocation":"https://ex.org/s#/properties/a~1~0\"","error":"no value is allowed","instanceLocation":"/a~1~0\"","keywordLocation":"/properties/a~1~0\""}],"valid":false}"#
+    );
+    Ok(())
+}
+
+fn assert_refused(rt: &impl Abort, outcome: Result<Report, Fault>, number: u8) {
+    match outcome {
+        Ok(_) => assert!(rt; false, "not refused"),
+        Err(fault) => assert_eq!(rt; fault.number(), number),
+    }
+}
+
+#[test]
+fn refuses_by_name(rt: HostRuntime) {
+    let alloc = rt.alloc();
+    assert_refused(&rt, check_input(alloc, br#"{"schema":{}}"#), 41);
+    assert_refused(
+        &rt,
+        check_input(alloc, br#"{"instance":1,"schema":{},"uri":5}"#),
+        41,
+    );
+    assert_refused(&rt, check_input(alloc, b"[]"), 41);
+    assert_refused(&rt, check_input(alloc, b"[1"), 1);
+    assert_refused(&rt, check_input(alloc, br#"{"instance":1.5}"#), 2);
+    assert_refused(
+        &rt,
+        check_input(alloc, br#"{"instance":1,"schema":{"title":"t"}}"#),
+        33,
+    );
+    assert_refused(&rt, check_bytes(alloc, URI, b"[]", b"1.0"), 6);
+    assert_refused(&rt, check_bytes(alloc, URI, b"{}", b"1.0"), 2);
+    assert_refused(&rt, check_bytes(alloc, URI, br#"{"type":"int"}"#, b"["), 8);
+}

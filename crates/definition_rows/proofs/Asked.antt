@@ -1,15 +1,15 @@
 -- What the rows ask, over texts.
-use Rattle.std.specs.Prelude.{ℕ, List, [], ◌∷◌, ◌++◌, ◌&&◌, codes, Bool, Option, Some, None, Result, Ok, Err, option_map, option_and_then}
+use Rattle.std.specs.Prelude.{List, [], ◌∷◌, ◌++◌, codes, Bool, Option, Some, None, Result, Ok, Err, option_map, option_and_then}
 use Rattle.std.specs.List.{list_any}
 use Rattle.definitions.specs.Values.{Text, Value, same_text}
 use Rattle.definitions.specs.Texts.{text, reading}
-use Rattle.definitions.specs.Faults.{Fault, number_of, name_of, carried}
+use Rattle.definitions.specs.Faults.{Fault, name_of, carried}
 use Rattle.definitions.specs.Pointers.{fragment_text}
 use Rattle.definitions.specs.Schemas.{Document, document_from, table_of}
 use Rattle.definitions.specs.Keywords.{Keyword}
 use Rattle.definitions.specs.Scanning.{scan_fault, scan_fault_by}
 use Rattle.definitions.specs.Targets.{target}
-use Rattle.definitions.specs.Applied.{Outcome, Rules}
+use Rattle.definitions.specs.Applied.{Outcome}
 use Rattle.definitions.specs.Answers.{Limits, limits, answer_by, rules_of, output_text}
 
 abbrev pub read_value : Result Value Fault → Option Value

@@ -1,6 +1,6 @@
 -- Reference resolution: the examples of RFC 3986, section 5.4, and some that identifiers rest on.
 use Rattle.std.proofs.Common.{◌≡◌, refl}
-use Rattle.std.specs.Prelude.{List, [], ◌∷◌, codes, map, Result, Ok, Err}
+use Rattle.std.specs.Prelude.{List, [], ◌∷◌, codes, map, Ok, Err}
 use Rattle.definitions.specs.Values.{Text}
 use Rattle.definitions.specs.Faults.{bad_uri}
 use Rattle.definitions.specs.Resolution.{resolved, base_form}

@@ -4,7 +4,7 @@ use Rattle.std.specs.Prelude.{List, [], ◌∷◌, codes, Some, None}
 use Rattle.std.specs.Fmt.{digits}
 use Rattle.std.specs.Str.{is_utf8, chars}
 use Rattle.serde_json.proofs.OnLiterals.{serde_json_on_literals}
-use Rattle.definitions.specs.Keywords.{Keyword, asserting, row, keywords, properties}
+use Rattle.definitions.specs.Keywords.{Keyword, asserting, row, properties}
 use Rattle.definitions.specs.Assertions.{type_is, required}
 use Rattle.definitions.specs.Shapes.{schema_map}
 use Rattle.definition_rows.proofs.Asked.{scanned, scanned_by, refused}

@@ -5,7 +5,7 @@ use Rattle.std.specs.Fmt.{digits}
 use Rattle.std.specs.Str.{is_utf8, chars}
 use Rattle.serde_json.proofs.OnLiterals.{serde_json_on_literals}
 use Rattle.definitions.specs.Outcomes.{object_outcome, outcome}
-use Rattle.definition_rows.proofs.Asked.{Told, said, refused, validated, validated_alone, validated_within}
+use Rattle.definition_rows.proofs.Asked.{said, refused, validated, validated_alone, validated_within}
 
 missing_member : validated_alone (codes "{\"required\":[\"a\"],\"type\":\"object\"}") (codes "{}")
     ≡ Some (said (codes "{\"errors\":[{\"absoluteKeywordLocation\":\"https://ex.org/s#/required\",\"error\":\"required is not met\",\"instanceLocation\":\"\",\"keywordLocation\":\"/required\"}],\"valid\":false}"))

@@ -1,5 +1,5 @@
 -- Whether a keyword passes, what it evaluates and how it annotates, from what its subschemas said (JSON Schema 2020-12 Core, 7.7, 10 and 11).
-use Rattle.std.specs.Prelude.{ℕ, zero, ℤ, pos, List, [], ◌∷◌, ◌++◌, Bool, true, false, ◌&&◌, ◌||◌, not, if◌then◌else◌, Option, Some, None, nat_lt, ◌==◌, length, codes, map, flat_map, filter, count_by, is_some}
+use Rattle.std.specs.Prelude.{ℕ, zero, pos, List, [], ◌∷◌, ◌++◌, Bool, true, false, ◌&&◌, ◌||◌, not, if◌then◌else◌, Option, Some, None, nat_lt, ◌==◌, length, codes, map, flat_map, filter, count_by, is_some}
 use Rattle.std.specs.List.{list_all}
 use Rattle.definitions.specs.Values.{Text, Value, boolean, integer, string, array, to_elements, same_text, get, elements, is_array, is_object, is_string}
 use Rattle.definitions.specs.Uris.{begins}

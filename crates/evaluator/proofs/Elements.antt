@@ -1,7 +1,7 @@
 -- A test of a list's elements, read off the documents that stand for them.
 use Rattle.std.proofs.Common.{◌≡◌, List, [], ◌∷◌, map, Bool, ◌&&◌, ◌||◌, Vec, Global, refl, ap, ◌∙◌}
 use Rattle.std.specs.List.{list_all, list_any}
-use Rattle.definitions.specs.Values.{Value, elements, elements_list, to_elements}
+use Rattle.definitions.specs.Values.{Value, elements}
 use Rattle.definitions.specs.Assertions.{is_of_type, is_of_types}
 use Rattle.json_doc.specs.Docs.{value}
 use Rattle.json_doc.specs.declared.doc.Doc.{Doc, List as DocList}

@@ -1,14 +1,13 @@
 -- Laws of outcomes, where nothing that is being applied stands at the place or below it, and of what was found so far.
-use Rattle.std.proofs.Common.{◌≡◌, ℕ, zero, suc, ◌+◌, ◌-◌, ◌<◌, ◌≤◌, List, [], ◌∷◌, ◌++◌, map, length, Option, Some, None, cond, Bool, true, false, nat_lt, Result, Ok, Err, ◌&&◌, ◌||◌, nat_eq, sum_by, count_by, refl, sym, ap, ◌∙◌, arith, length-append, append_assoc, append-nil, add-one, true≢false, subst, take, drop, get_or}
-use Rattle.std.specs.Prelude.{flat_map}
+use Rattle.std.proofs.Common.{◌≡◌, ℕ, zero, suc, ◌+◌, ◌-◌, ◌<◌, ◌≤◌, List, [], ◌∷◌, ◌++◌, map, length, Option, Some, None, cond, Bool, true, false, nat_lt, Ok, Err, ◌&&◌, ◌||◌, nat_eq, refl, sym, ap, ◌∙◌, arith, length-append, append_assoc, append-nil, add-one, subst, take, drop, get_or}
 use Rattle.std.specs.List.{list_all, list_any}
 use Rattle.std.proofs.Math.Numerals.{sub-one}
-use Rattle.std.proofs.lemmas.List.{map-append, take_more, take-append-drop, take_all}
+use Rattle.std.proofs.lemmas.List.{map-append, take_more, take-append-drop}
 use Rattle.std.proofs.lemmas.Grind.{flat_map-append}
 use Rattle.std.proofs.lemmas.List.Sums.{sum_by-append, sum_by-cons, count_by-le-length}
 use Rattle.std.proofs.lemmas.Bool.Decides.{nat_tests}
 use Rattle.std.proofs.lemmas.List.Folds.{list_all-append, list_any-append}
-use Rattle.definitions.specs.Values.{Text, Value, null, boolean, integer, string, array, object, is_object}
+use Rattle.definitions.specs.Values.{Text, Value, null, boolean, integer, string, array, object}
 use Rattle.definitions.specs.Pointers.{Pointer, same_pointer}
 use Rattle.definitions.specs.Schemas.{Identity, identity, same_identity, schema_at, opened}
 use Rattle.definitions.specs.Applied.{Application, Outcome, Part, Place, entered}

@@ -1,5 +1,5 @@
 -- The keywords that are in, as the definitions have them.
-use Rattle.std.specs.Prelude.{[], ◌∷◌, codes, false}
+use Rattle.std.specs.Prelude.{[], codes, false}
 use Rattle.definitions.specs.Shapes.{schema_map}
 use Rattle.definitions.specs.Assertions.{type_is, required}
 use Rattle.definitions.specs.Keywords as table

@@ -1,11 +1,11 @@
 -- What the code's types show of the definitions' applications and outcomes.
-use Rattle.std.specs.Prelude.{◌≡◌, ◌≤◌, ◌<◌, ℕ, suc, List, [], ◌∷◌, Bool, Option, Some, None, codes, map, flat_map, sum_by, length}
+use Rattle.std.specs.Prelude.{◌≡◌, ◌≤◌, ◌<◌, ℕ, suc, List, [], ◌∷◌, Some, codes, flat_map, sum_by, length}
 use Rattle.std.specs.List.{list_all, list_any}
 use Rattle.definitions.specs.Values.{Text, Value, get}
 use Rattle.definitions.specs.Schemas.{Identity}
 use Rattle.definitions.specs.Applied.{Application, Outcome, Part, named, Place, at_part, at_present}
 use Rattle.definitions.specs.Evaluated.{passing}
-use Rattle.definitions.specs.Outcomes.{Use, outcome, used, uses_of}
+use Rattle.definitions.specs.Outcomes.{Use, outcome, used}
 use Rattle.evaluator.specs.Rows.{row_of, first_rules}
 use Rattle.evaluator.specs.declared.found.Found.{Found}
 use Rattle.evaluator.specs.declared.found.Applied as found

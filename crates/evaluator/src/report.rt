@@ -39,6 +39,11 @@ impl Report {
     pub fn text(&self) -> &str {
         self.text.as_str()
     }
+
+    /// The same text, handed over.
+    pub fn into_text(self) -> String {
+        self.text
+    }
 }
 
 /// Applies a scanned document to an instance, by the keywords `type`, `required` and `properties` (JSON Schema 2020-12
@@ -47,11 +52,7 @@ impl Report {
 /// - [`Fault::Costly`]: there are more than 100,000 applications of schemas.
 /// - [`Fault::Deep`]: more than 1,000 applications nest.
 /// - [`Fault::NoRoom`]: memory ran out, at whichever step.
-pub fn evaluate_one(
-    alloc: Global,
-    scanned: &Scanned<'_>,
-    instance: &Doc,
-) -> Result<Report, Fault>
+pub fn evaluate_one(alloc: Global, scanned: &Scanned<'_>, instance: &Doc) -> Result<Report, Fault>
     ensures ok { IfOk result (λ r. verdict (answer_one (scanned_base scanned.now) (scanned_value scanned.now) (value instance.now)) ≡ Ok (is_valid r)) }
     ensures err { IfErr result (λ f. f ≢ Fault.NoRoom → verdict (answer_one (scanned_base scanned.now) (scanned_value scanned.now) (value instance.now)) ≡ Err (fault f)) }
 {

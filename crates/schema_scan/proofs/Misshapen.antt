@@ -8,7 +8,7 @@ use Rattle.definitions.specs.Pointers.{Pointer, pointer_text}
 use Rattle.definitions.specs.Faults.{Fault, bad_keyword}
 use Rattle.definitions.specs.Shapes.{Shape, has_shape, any_value, schema_map}
 use Rattle.definitions.specs.Keywords.{Keyword, keyword_named, shape_in}
-use Rattle.definitions.specs.Schemas.{Schema, opened, schema_at, below, at_place, subschemas_by}
+use Rattle.definitions.specs.Schemas.{Schema, opened, schema_at, below, at_place}
 use Rattle.definitions.specs.Scanning.{unless, keyword_faults, walked}
 use Rattle.schema_scan.specs.FirstKeywords.{first_keywords}
 use Rattle.schema_scan.specs.Walks.{under, misshapen_keyword, misshapen_keywords, misshapen, misshapen_below, misshapen_at, misshapen_in}

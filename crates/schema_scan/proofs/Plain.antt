@@ -1,13 +1,9 @@
 -- The keywords that are in: each has one of three shapes, none of which looks at the base or the schema.
-use Rattle.std.proofs.Common.{◌≡◌, List, [], ◌∷◌, ◌++◌, map, Bool, true, false, cond, Option, Some, None, codes, refl}
-use Rattle.definitions.specs.Values.{Text, same_text, Value}
-use Rattle.definitions.specs.Pointers.{Pointer, pointer_text}
-use Rattle.definitions.specs.Faults.{Fault, bad_keyword}
+use Rattle.std.proofs.Common.{Bool, true, false, cond, Option, Some, None, codes}
+use Rattle.definitions.specs.Values.{Text, same_text}
 use Rattle.definitions.specs.Assertions.{type_is, required}
-use Rattle.definitions.specs.Shapes.{Shape, has_shape, any_value, type_names, text_list, schema_map}
-use Rattle.definitions.specs.Keywords.{Keyword, keyword_named, shape_in, is_keyword_of, row, asserting, properties}
-use Rattle.definitions.specs.Schemas.{Schema}
-use Rattle.definitions.specs.Scanning.{unless, keyword_faults}
+use Rattle.definitions.specs.Shapes.{schema_map}
+use Rattle.definitions.specs.Keywords.{Keyword, keyword_named, row, asserting, properties}
 use Rattle.schema_scan.specs.FirstKeywords.{first_keywords}
 
 -- what a name can be

@@ -1,9 +1,8 @@
 -- Where a walk stopped, seen from further up.
-use Rattle.std.proofs.Common.{◌≡◌, List, [], ◌∷◌, ◌++◌, map, reverse, Bor, refl, sym, ap, ◌∙◌}
+use Rattle.std.proofs.Common.{◌≡◌, List, [], ◌∷◌, ◌++◌, map, reverse, Bor, ap, ◌∙◌}
 use Rattle.std.proofs.lemmas.List.{map-append, reverse-append}
 use Rattle.definitions.specs.Values.{Text}
 use Rattle.definitions.specs.Pointers.{Pointer}
-use Rattle.definitions.specs.Scanning.{first}
 use Rattle.schema_scan.specs.Stops.{StopsAt, pointer_up}
 use Rattle.schema_scan.specs.declared.stop.Stop.{Stop}
 use Rattle.schema_scan.specs.declared.stop.Stop.TheVariants.{NoRoom, Keyword}

@@ -1,6 +1,6 @@
 -- The schemas of the definitions hold an unsupported name where the value holds an unknown one, whatever the base and
 -- the pointer.
-use Rattle.std.proofs.Common.{◌≡◌, ◌<◌, ℕ, zero, suc, List, [], ◌∷◌, ◌++◌, map, length, Bool, true, false, ◌||◌, ◌==◌, Option, Some, None, is_some, codes, refl, sym, ap, ap₂, ◌∙◌, arith, append_assoc}
+use Rattle.std.proofs.Common.{◌≡◌, ◌<◌, ℕ, zero, suc, List, [], ◌∷◌, ◌++◌, map, length, Bool, true, false, ◌||◌, ◌==◌, Option, Some, None, is_some, codes, refl, sym, ap, ap₂, ◌∙◌, arith}
 use Rattle.std.proofs.lemmas.Bool.Decides.{nat_tests}
 use Rattle.std.proofs.lemmas.Grind.{flat_map-append}
 use Rattle.std.proofs.lemmas.List.Folds.{list_any-append}
@@ -9,10 +9,10 @@ use Rattle.definitions.specs.Values.{Text, Value, null, boolean, integer, string
 use Rattle.definitions.specs.Pointers.{Pointer}
 use Rattle.definitions.specs.Shapes.{schema_map}
 use Rattle.definitions.specs.Keywords.{Keyword, keyword_named, shape_in}
-use Rattle.definitions.specs.Schemas.{Schema, opened, schema_at, below, at_place, subschemas_by, schemas_within, is_root}
+use Rattle.definitions.specs.Schemas.{Schema, opened, schema_at, below, at_place, schemas_within, is_root}
 use Rattle.definitions.specs.Scanning.{is_unsupported}
 use Rattle.schema_scan.specs.FirstKeywords.{first_keywords}
-use Rattle.schema_scan.specs.Walks.{is_unknown, has_unknown_name, opens_resource, has_unknown, has_unknown_below, has_unknown_at, has_unknown_in}
+use Rattle.schema_scan.specs.Walks.{has_unknown_name, opens_resource, has_unknown, has_unknown_below, has_unknown_at, has_unknown_in}
 use Rattle.schema_scan.proofs.Plain.{IsPlain, no_keyword, of_types, of_required, of_properties, plain}
 use Rattle.schema_scan.proofs.Misshapen.{shape_of_row, value-schema_at}
 

@@ -1,12 +1,12 @@
 -- The first fault of a document, from what the walk finds in its value.
-use Rattle.std.proofs.Common.{◌≡◌, ◌≤◌, ◌<◌, ℕ, suc, List, [], ◌∷◌, ◌++◌, map, Bool, true, false, nat_lt, Option, Some, None, option_map, cond, refl, sym, ap, ap₂, ◌∙◌, arith, append-nil}
+use Rattle.std.proofs.Common.{◌≡◌, ◌≤◌, suc, List, [], ◌∷◌, ◌++◌, map, Bool, true, false, nat_lt, Option, Some, refl, sym, ap, ap₂, ◌∙◌, arith}
 use Rattle.std.proofs.lemmas.Bool.Decides.{nat_tests}
 use Rattle.std.specs.List.{list_any}
 use Rattle.definitions.specs.Values.{Text, Value, is_object, nesting}
-use Rattle.definitions.specs.Pointers.{Pointer, pointer_text}
-use Rattle.definitions.specs.Faults.{Fault, not_object, too_nested, bad_keyword, unsupported}
-use Rattle.definitions.specs.Schemas.{Schema, schema_at, schemas_within, schemas_by}
-use Rattle.definitions.specs.Scanning.{first, unless, when, walked, form_faults, unsupported_faults, scan_fault_by}
+use Rattle.definitions.specs.Pointers.{Pointer}
+use Rattle.definitions.specs.Faults.{Fault, not_object, too_nested, unsupported}
+use Rattle.definitions.specs.Schemas.{schema_at, schemas_within}
+use Rattle.definitions.specs.Scanning.{first, unless, when, walked, unsupported_faults, scan_fault_by}
 use Rattle.schema_scan.specs.FirstKeywords.{first_keywords}
 use Rattle.schema_scan.specs.Walks.{misshapen, has_unknown}
 use Rattle.schema_scan.proofs.Misshapen.{bad, value-schema_at, walked-misshapen}

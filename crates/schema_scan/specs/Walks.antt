@@ -1,8 +1,7 @@
 -- What a walk over the schemas of a document finds, read off the values alone. Neither the base nor the pointer of a
 -- schema matters to the keywords that are in: only whether the schema stands at the root of a resource, to `$schema`.
-use Rattle.std.specs.Prelude.{List, [], ◌∷◌, ◌++◌, Bool, true, false, ◌&&◌, ◌||◌, not, if◌then◌else◌, Option, Some, is_some, codes, map, flat_map}
-use Rattle.std.specs.List.{list_any}
-use Rattle.definitions.specs.Values.{Text, same_text, text_at, Value, object, Members, no_members, member, members_list}
+use Rattle.std.specs.Prelude.{List, [], ◌∷◌, ◌++◌, Bool, false, ◌&&◌, ◌||◌, not, if◌then◌else◌, is_some, codes, map}
+use Rattle.definitions.specs.Values.{Text, same_text, text_at, Value, object, Members, no_members, member}
 use Rattle.definitions.specs.Pointers.{Pointer}
 use Rattle.definitions.specs.Uris.{begins}
 use Rattle.definitions.specs.Shapes.{Shape, has_shape, schema_map}

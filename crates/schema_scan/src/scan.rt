@@ -28,7 +28,7 @@ const MOST_NESTED: usize = 120;
 ///   Validation, section 6).
 /// - [`Fault::Unsupported`]: a schema has a name that is no keyword that is in. A name that begins with `$` and is no
 ///   keyword is ignored, and so is `$schema` below the root of a resource.
-/// - [`Fault::NoRoom`]: memory ran out, which only a document with a misplaced keyword asks for.
+/// - [`Fault::NoRoom`]: memory ran out. Only the text of a refused pointer takes memory.
 pub fn scan_one<'a>(alloc: Global, uri: &'a str, document: &'a Doc) -> Result<Scanned<'a>, Fault>
     ensures ok { IfOk result (λ s. (scanned_base s ≡ uri.now) × (scanned_value s ≡ value document.now)) }
     ensures sound { OnOk result (scan_fault_by first_keywords uri.now (value document.now) ≡ None) }

@@ -1,10 +1,10 @@
-use Rattle.std.proofs.Common.{◌≡◌, ◌<◌, ◌∙◌, ℕ, sym, ap, arith, List, [], ◌∷◌, map, take, refl, subst, false, true}
+use Rattle.std.proofs.Common.{◌<◌, ◌∙◌, sym, ap, arith, [], ◌∷◌, map, take, refl, subst, false, true}
 use Rattle.std.proofs.lemmas.List.{take_all}
 use Rattle.std.proofs.lemmas.Result.{IfOk-weaker}
-use Rattle.definitions.specs.Applied.{Application, Outcome, Part, applied, entered}
+use Rattle.definitions.specs.Applied.{Application, Part, applied, entered}
 use Rattle.definitions.specs.Outcomes.{outcome, leaf, boolean_outcome, use_of}
 use Rattle.evaluator.specs.Rows.{first_rules, row_of}
-use Rattle.evaluator.specs.Views.{Finds, FindsAll, UsesAll, child_outcome, planned_view, count_of, uses_by}
+use Rattle.evaluator.specs.Views.{FindsAll, child_outcome, planned_view, count_of, uses_by}
 use Rattle.evaluator.specs.declared.keyword.Keyword.TheVariants.{TypeIs, Required, Properties}
 use Rattle.evaluator.proofs.OutcomeLaws.{FoundSoFar, finds_same, passing-le, child_shows, child_over, child_more, count_pos, outcome-zero, outcome-boolean, outcome-object, object_finds, object_over, keyword_more, entered_above, use_found, use_over, map-map, alone, alone_shows, alone_entered}
 use Rattle.json_doc.specs.Docs.{value}

@@ -1,4 +1,4 @@
-use Rattle.std.proofs.Common.{◌≡◌, ◌+◌, ◌*◌, map, take}
+use Rattle.std.proofs.Common.{◌+◌, ◌*◌, map, take}
 use Rattle.definitions.specs.Applied.{Application, entered}
 use Rattle.definitions.specs.Outcomes.{outcome}
 use Rattle.evaluator.specs.Rows.{first_rules}

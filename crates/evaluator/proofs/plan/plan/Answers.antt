@@ -1,5 +1,3 @@
-use Rattle.std.proofs.Common.{Bool}
-use Rattle.std.proofs.lemmas.Result.{IfOk-weaker}
 use Rattle.evaluator.proofs.plan.plan.Goals as goal
 
 pub returns-in-Properties-clause-ok : goal.returns-in-Properties-clause-ok

@@ -1,13 +1,11 @@
-use Rattle.std.proofs.Common.{◌≡◌, ◌∙◌, sym, ap, refl, subst, arith, [], Ok, Err, true}
+use Rattle.std.proofs.Common.{◌∙◌, sym, ap, [], Err}
 use Rattle.std.proofs.lemmas.Result.{IfOk-weaker, err_from_is_err_and}
 use Rattle.definitions.specs.Schemas.{schema_at}
-use Rattle.definitions.specs.Applied.{Application}
 use Rattle.definitions.specs.Outcomes.{outcome}
-use Rattle.definitions.specs.Answers.{first_application, answer_of}
+use Rattle.definitions.specs.Answers.{first_application}
 use Rattle.faults.specs.View.{fault}
 use Rattle.json_doc.specs.Docs.{value}
 use Rattle.evaluator.specs.Rows.{first_rules}
-use Rattle.evaluator.specs.Reports.{verdict}
 use Rattle.evaluator.proofs.OutcomeLaws.{first_shows, verdict-ok, verdict-costly, verdict-loop, verdict-deep}
 use Rattle.evaluator.proofs.report.judge.Goals as goal
 
@@ -16,7 +14,7 @@ returns-in_err-found-clause-err c =
     let a = first_application (schema_at c.args.uri.now [] (value c.args.schema.now)) (value c.args.instance.now) in
     let p = err_from_is_err_and c.from_residual.result c.from_residual.ensures.1 in
     rw (p.1, p.2) (λ other. let said = c.in_err-found.ensures.err a (first_shows _ _ _) other in
-      verdict-costly 100000 (outcome first_rules 1000 a) said.1 ∙ ap Err (ap fault (sym said.0)))
+    verdict-costly 100000 (outcome first_rules 1000 a) said.1 ∙ ap Err (ap fault (sym said.0)))
 
 pub returns-then-found-clause-err : goal.returns-then-found-clause-err
 returns-then-found-clause-err c other =

@@ -1,4 +1,4 @@
-use Rattle.std.proofs.Common.{◌≡◌, ◌≤◌, Some, None, true, false, sym, ap, ◌∙◌, arith}
+use Rattle.std.proofs.Common.{◌≡◌, ◌≤◌, true, false, arith}
 use Rattle.definitions.specs.Values.{is_object, nesting}
 use Rattle.faults.specs.View.{fault}
 use Rattle.json_doc.specs.Docs.{value}

@@ -1,0 +1,14 @@
+use Rattle.std.proofs.Common.{◌∙◌, ap, map}
+use Rattle.std.proofs.lemmas.Result.{err_from_is_err_and}
+use Rattle.command_line.specs.Calls.{asked_by}
+use Rattle.command_line.proofs.FormLemmas.{spelled_call, memory_alone}
+use Rattle.command_line.proofs.program.read.Goals as goal
+
+pub returns-clause-forms : goal.returns-clause-forms
+returns-clause-forms g c = λ call s.
+    c.call.ensures ∙ ap asked_by c.in_ok-found.ensures.ok ∙ spelled_call (map g.S.AsStr.text c.args.words.now) call s
+
+pub returns-in_err-found-clause-forms : goal.returns-in_err-found-clause-forms
+returns-in_err-found-clause-forms g c = λ call s.
+    let p = err_from_is_err_and c.from_residual.result c.from_residual.ensures.1 in
+    rw (p.1, p.2) (memory_alone (map g.S.AsStr.text c.args.words.now) call s c.in_err-found.field-0.0 c.in_err-found.ensures.err)

@@ -1,0 +1,3 @@
+pub mod Commands
+pub mod Calls
+pub mod Forms

@@ -12,7 +12,8 @@ use Rattle.clap.specs.declared.error.kind.ErrorKind.TheVariants.{OutOfMemory}
 use Rattle.clap.proofs.OnLiterals.{clap_on_literals}
 use Rattle.command_line.specs.Commands.{program, check_command}
 use Rattle.command_line.specs.Calls.{Asked, call_of, check_asked}
-use Rattle.command_line.specs.Forms.{Spells, no_words, two_files, with_uri, is_plain}
+use Rattle.clap.specs.declared.error.kind.ErrorKind.{ErrorKind}
+use Rattle.command_line.specs.Forms.{Asks, help, version, Spells, no_words, two_files, with_uri, is_plain}
 
 -- ---- a plain word is no flag and no separator
 
@@ -190,3 +191,10 @@ memory_alone words call s e h = go (subst (λ kinds. HasKind kinds e) (spelled_f
     go : HasKind [] e → kind_of e ≡ OutOfMemory
     go (inl m) = m
     go (inr none) = absurd none
+
+-- ---- what asks for help or for the version has that fault
+
+pub asks_fault : (words : List Text) (kind : ErrorKind) → Asks words kind → fault_of program words ≡ kind ∷ []
+unfolding clap_on_literals
+asks_fault _ _ (help p) = refl
+asks_fault _ _ (version p) = refl

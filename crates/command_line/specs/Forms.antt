@@ -2,7 +2,8 @@
 use Rattle.std.specs.Prelude.{◌≡◌, ◌==◌, List, [], ◌∷◌, Bool, true, not, codes, Result, MatchResult}
 use Rattle.clap.specs.Words.{Text, kind_of}
 use Rattle.clap.specs.declared.error.Error.{Error}
-use Rattle.clap.specs.declared.error.kind.ErrorKind.TheVariants.{OutOfMemory}
+use Rattle.clap.specs.declared.error.kind.ErrorKind.{ErrorKind}
+use Rattle.clap.specs.declared.error.kind.ErrorKind.TheVariants.{DisplayHelp, DisplayVersion, OutOfMemory}
 use Rattle.command_line.specs.declared.call.Call.{Call}
 use Rattle.command_line.specs.Calls.{Asked, input, check, asked}
 
@@ -22,3 +23,8 @@ pub data Spells : List Text → Asked → Type 0 where
 -- the call that is asked for, unless memory runs out
 abbrev pub IsCall : Asked → Result Call Error → Type 0
 IsCall wanted r = MatchResult r (λ call. asked call ≡ wanted) (λ e. kind_of e ≡ OutOfMemory)
+
+-- the words that ask for help or for the version, and the kind of error that answers them
+pub data Asks : List Text → ErrorKind → Type 0 where
+  help : (program : Text) → Asks (program ∷ codes "--help" ∷ []) DisplayHelp
+  version : (program : Text) → Asks (program ∷ codes "--version" ∷ []) DisplayVersion

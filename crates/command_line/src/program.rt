@@ -1,11 +1,12 @@
 //! The program's own words, and the call that a command line spells.
-ghost use Rattle.std.specs.Prelude.{◌≡◌, IfOk, map};
+ghost use Rattle.std.specs.Prelude.{◌≡◌, [], ◌∷◌, IfOk, map};
 ghost use Rattle.clap.specs.Words.{FailsBy, app_of, fault_of, subcommand_of, subcommand_rows_of};
 ghost use Rattle.command_line.specs.Calls.{Asked, asked, asked_by, call_of};
 ghost use Rattle.command_line.specs.Commands.{program};
-ghost use Rattle.command_line.specs.Forms.{IsCall, Spells};
+ghost use Rattle.command_line.specs.Forms.{Asks, IsCall, Spells};
 
 use crate::{Call, check};
+use clap::error::ErrorKind;
 use clap::{ArgMatches, Command, Error};
 use std::alloc::{AllocError, Global};
 use std::convert::AsStr;
@@ -47,6 +48,8 @@ fn call<'a>(matches: &ArgMatches<'a>) -> Call<'a>
 /// program ends, for a mistake in the words as for a request for help or for the version.
 pub fn read<'a, S: AsStr>(alloc: Global, words: &'a [S]) -> Result<Call<'a>, Error>
     ensures forms { (call : Asked) → Spells (map S.text words.now) call → IsCall call result }
+    ensures requests { (kind : ErrorKind) → Asks (map S.text words.now) kind
+        → FailsBy (kind ∷ []) result }
 
     // Of any words, by `clap`'s own definitions.
     ensures ok { IfOk result (λ call. asked call ≡ call_of (map S.text words.now)) }

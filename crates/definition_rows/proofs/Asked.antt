@@ -1,5 +1,5 @@
 -- What the rows ask, over texts.
-use Rattle.std.specs.Prelude.{List, [], ◌∷◌, ◌++◌, codes, Bool, Option, Some, None, Result, Ok, Err, option_map, option_and_then}
+use Rattle.std.specs.Prelude.{ℕ, List, [], ◌∷◌, ◌++◌, codes, Bool, Option, Some, None, Result, Ok, Err, option_map, option_and_then, map, not}
 use Rattle.std.specs.List.{list_any}
 use Rattle.definitions.specs.Values.{Text, Value, same_text}
 use Rattle.definitions.specs.Texts.{text, reading}
@@ -9,6 +9,9 @@ use Rattle.definitions.specs.Schemas.{Document, document_from, table_of}
 use Rattle.definitions.specs.Keywords.{Keyword}
 use Rattle.definitions.specs.Scanning.{scan_fault, scan_fault_by}
 use Rattle.definitions.specs.Targets.{target}
+use Rattle.definitions.specs.Registries as registry
+use Rattle.definitions.specs.Registries.{Request, Reply}
+use Rattle.definitions.specs.Runs.{replies}
 use Rattle.definitions.specs.Applied.{Outcome}
 use Rattle.definitions.specs.Answers.{Limits, limits, answer_by, rules_of, output_text}
 
@@ -73,3 +76,17 @@ validated_alone schema = validated ((codes "https://ex.org/s", schema) ∷ []) (
 abbrev pub target_of : List (Text × Text) → Text → Option Text
 target_of docs t =
     option_and_then (λ ds. option_map (λ s. s.resource ++ (35 ∷ fragment_text s.pointer)) (target (table_of ds) t)) (documents docs)
+
+-- ---- requests: the replies of a tenant with these quotas, where the grammar reads all but these patterns
+pub data ToldReply : Type 0 where
+  was : Reply → ToldReply
+  gave : Text → Option Text → ToldReply
+
+abbrev pub told_reply : Reply → ToldReply
+told_reply (registry.refused f) = gave (name_of f) (carried f)
+told_reply r = was r
+
+abbrev pub replied : List Text → ℕ → ℕ → List Request → List ToldReply
+replied unread most_documents most_bytes requests =
+    map told_reply (replies (record { reads = (λ p. not (list_any (same_text p) unread)); matches = no_match })
+    (record { documents = []; most_documents = most_documents; most_bytes = most_bytes }) requests)

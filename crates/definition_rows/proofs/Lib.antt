@@ -3,3 +3,5 @@ mod Readings
 mod Resolutions
 mod Scans
 mod Validations
+mod Requests
+mod Patterns

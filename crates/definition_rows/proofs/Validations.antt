@@ -105,3 +105,60 @@ as_many_as_may_be : validated_within (record { nested = 4; applications = 4 }) (
     ≡ Some (said (codes "{\"annotations\":[{\"absoluteKeywordLocation\":\"https://ex.org/s#/items\",\"annotation\":true,\"instanceLocation\":\"\",\"keywordLocation\":\"/items\"}],\"valid\":true}"))
 unfolding serde_json_on_literals digits is_utf8 chars object_outcome outcome
 as_many_as_may_be = refl
+
+-- ---- further keywords
+annotations_in_order : validated_alone (codes "{\"additionalProperties\":{\"type\":\"integer\"},\"contentSchema\":{},\"properties\":{\"a\":{\"format\":\"date\"}},\"title\":\"t\"}") (codes "{\"a\":\"x\",\"c\":5}")
+    ≡ Some (said (codes "{\"annotations\":[{\"absoluteKeywordLocation\":\"https://ex.org/s#/properties\",\"annotation\":[\"a\"],\"instanceLocation\":\"\",\"keywordLocation\":\"/properties\"},{\"absoluteKeywordLocation\":\"https://ex.org/s#/properties/a/format\",\"annotation\":\"date\",\"instanceLocation\":\"/a\",\"keywordLocation\":\"/properties/a/format\"},{\"absoluteKeywordLocation\":\"https://ex.org/s#/additionalProperties\",\"annotation\":[\"c\"],\"instanceLocation\":\"\",\"keywordLocation\":\"/additionalProperties\"},{\"absoluteKeywordLocation\":\"https://ex.org/s#/title\",\"annotation\":\"t\",\"instanceLocation\":\"\",\"keywordLocation\":\"/title\"}],\"valid\":true}"))
+unfolding serde_json_on_literals digits is_utf8 chars object_outcome outcome
+annotations_in_order = refl
+
+prefix_shorter_than_the_list : validated_alone (codes "{\"items\":{\"type\":\"integer\"},\"prefixItems\":[true,true]}") (codes "[1,2,3]")
+    ≡ Some (said (codes "{\"annotations\":[{\"absoluteKeywordLocation\":\"https://ex.org/s#/prefixItems\",\"annotation\":1,\"instanceLocation\":\"\",\"keywordLocation\":\"/prefixItems\"},{\"absoluteKeywordLocation\":\"https://ex.org/s#/items\",\"annotation\":true,\"instanceLocation\":\"\",\"keywordLocation\":\"/items\"}],\"valid\":true}"))
+unfolding serde_json_on_literals digits is_utf8 chars object_outcome outcome
+prefix_shorter_than_the_list = refl
+
+prefix_as_long_as_the_list : validated_alone (codes "{\"items\":{\"type\":\"integer\"},\"prefixItems\":[true,true]}") (codes "[1,2]")
+    ≡ Some (said (codes "{\"annotations\":[{\"absoluteKeywordLocation\":\"https://ex.org/s#/prefixItems\",\"annotation\":true,\"instanceLocation\":\"\",\"keywordLocation\":\"/prefixItems\"}],\"valid\":true}"))
+unfolding serde_json_on_literals digits is_utf8 chars object_outcome outcome
+prefix_as_long_as_the_list = refl
+
+prefix_of_an_empty_list : validated_alone (codes "{\"items\":{\"type\":\"integer\"},\"prefixItems\":[true,true]}") (codes "[]")
+    ≡ Some (said (codes "{\"annotations\":[],\"valid\":true}"))
+unfolding serde_json_on_literals digits is_utf8 chars object_outcome outcome
+prefix_of_an_empty_list = refl
+
+both_of_one_of : validated_alone (codes "{\"oneOf\":[{\"type\":\"integer\"},{\"minimum\":3}]}") (codes "5")
+    ≡ Some (said (codes "{\"errors\":[{\"absoluteKeywordLocation\":\"https://ex.org/s#/oneOf\",\"error\":\"oneOf is not met\",\"instanceLocation\":\"\",\"keywordLocation\":\"/oneOf\"}],\"valid\":false}"))
+unfolding serde_json_on_literals digits is_utf8 chars object_outcome outcome
+both_of_one_of = refl
+
+one_of_one_of : validated_alone (codes "{\"oneOf\":[{\"type\":\"integer\"},{\"minimum\":3}]}") (codes "\"x\"")
+    ≡ Some (said (codes "{\"annotations\":[],\"valid\":true}"))
+unfolding serde_json_on_literals digits is_utf8 chars object_outcome outcome
+one_of_one_of = refl
+
+negated : validated_alone (codes "{\"not\":{\"type\":\"null\"}}") (codes "null")
+    ≡ Some (said (codes "{\"errors\":[{\"absoluteKeywordLocation\":\"https://ex.org/s#/not\",\"error\":\"not is not met\",\"instanceLocation\":\"\",\"keywordLocation\":\"/not\"}],\"valid\":false}"))
+unfolding serde_json_on_literals digits is_utf8 chars object_outcome outcome
+negated = refl
+
+extended : validated ((codes "https://example.com/base", codes "{\"$dynamicAnchor\":\"node\",\"properties\":{\"c\":{\"$dynamicRef\":\"#node\"}}}") ∷ (codes "https://example.com/ext", codes "{\"$dynamicAnchor\":\"node\",\"$ref\":\"base\",\"required\":[\"x\"]}") ∷ []) (codes "https://example.com/ext") (codes "{\"c\":{},\"x\":1}")
+    ≡ Some (said (codes "{\"errors\":[{\"absoluteKeywordLocation\":\"https://example.com/ext#/$ref\",\"error\":\"$ref is not met\",\"instanceLocation\":\"\",\"keywordLocation\":\"/$ref\"},{\"absoluteKeywordLocation\":\"https://example.com/base#/properties\",\"error\":\"properties is not met\",\"instanceLocation\":\"\",\"keywordLocation\":\"/$ref/properties\"},{\"absoluteKeywordLocation\":\"https://example.com/base#/properties/c/$dynamicRef\",\"error\":\"$dynamicRef is not met\",\"instanceLocation\":\"/c\",\"keywordLocation\":\"/$ref/properties/c/$dynamicRef\"},{\"absoluteKeywordLocation\":\"https://example.com/ext#/required\",\"error\":\"required is not met\",\"instanceLocation\":\"/c\",\"keywordLocation\":\"/$ref/properties/c/$dynamicRef/required\"}],\"valid\":false}"))
+unfolding serde_json_on_literals digits is_utf8 chars object_outcome outcome
+extended = refl
+
+loops_before_it_is_deep : validated_within (record { nested = 3; applications = 100 }) ((codes "https://ex.org/s", codes "{\"$dynamicRef\":\"#\",\"$ref\":\"#/$defs/d1\",\"$defs\":{\"d1\":{\"$ref\":\"#/$defs/d2\"},\"d2\":{\"$ref\":\"#/$defs/d3\"},\"d3\":{}}}") ∷ []) (codes "https://ex.org/s") (codes "1")
+    ≡ Some (refused (codes "Loop") None)
+unfolding serde_json_on_literals digits is_utf8 chars object_outcome outcome
+loops_before_it_is_deep = refl
+
+-- each level applies the next twice: 2^(n+1) applications down to level n
+doubled_within_the_budget : validated_within (record { nested = 10; applications = 8 }) ((codes "https://ex.org/s", codes "{\"$ref\":\"#/$defs/s1\",\"$defs\":{\"s1\":{\"$dynamicRef\":\"#/$defs/s2\",\"$ref\":\"#/$defs/s2\"},\"s2\":{\"$dynamicRef\":\"#/$defs/s3\",\"$ref\":\"#/$defs/s3\"},\"s3\":{}}}") ∷ []) (codes "https://ex.org/s") (codes "1")
+    ≡ Some (said (codes "{\"annotations\":[],\"valid\":true}"))
+unfolding serde_json_on_literals digits is_utf8 chars object_outcome outcome
+doubled_within_the_budget = refl
+
+doubled_over_the_budget : validated_within (record { nested = 10; applications = 7 }) ((codes "https://ex.org/s", codes "{\"$ref\":\"#/$defs/s1\",\"$defs\":{\"s1\":{\"$dynamicRef\":\"#/$defs/s2\",\"$ref\":\"#/$defs/s2\"},\"s2\":{\"$dynamicRef\":\"#/$defs/s3\",\"$ref\":\"#/$defs/s3\"},\"s3\":{}}}") ∷ []) (codes "https://ex.org/s") (codes "1")
+    ≡ Some (refused (codes "Costly") None)
+unfolding serde_json_on_literals digits is_utf8 chars object_outcome outcome
+doubled_over_the_budget = refl

@@ -16,3 +16,8 @@ pub mod Evaluated
 pub mod Outcomes
 pub mod Answers
 pub mod Reach
+pub mod Bundles
+pub mod Registries
+pub mod Alike
+pub mod Runs
+pub mod Patterns

@@ -7,11 +7,7 @@ use Rattle.definitions.specs.Shapes.{is_type_name, are_type_names, is_text_list,
 use Rattle.json_doc.specs.Docs.{value, members_value}
 use Rattle.json_doc.specs.declared.doc.Doc.{Doc, List as DocList, Dict}
 use Rattle.json_doc.specs.declared.members.Members.{Members}
-use Rattle.json_doc.proofs.Views.{value-List, value-Dict}
-
-elements_list-to_elements : (vs : List Value) → elements_list (to_elements vs) ≡ vs
-elements_list-to_elements [] = refl
-elements_list-to_elements (v ∷ vs) = ap (λ r. v ∷ r) (elements_list-to_elements vs)
+use Rattle.json_doc.proofs.Views.{value-List, value-Dict, elements_list-to_elements}
 
 list_all-value : (test : Value → Bool) (ds : List Doc) → list_all test (map value ds) ≡ list_all (λ d. test (value d)) ds
 list_all-value test [] = refl

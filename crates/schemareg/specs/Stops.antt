@@ -1,0 +1,47 @@
+-- Why the program ends without a report: what is printed, where, and with which status.
+use Rattle.std.specs.Prelude.{◌≡◌, ℕ, ◌++◌, ◌∷◌, [], Bool, true, false, not, Option, Some, None, if◌then◌else◌, codes}
+use Rattle.definitions.specs.Values.{Text}
+use Rattle.faults.specs.View.{fault, printed}
+use Rattle.faults.specs.declared.Fault.TheVariants.{NoRoom}
+use Rattle.clap.specs.Words.{kind_of}
+use Rattle.clap.specs.declared.error.Error.{Error}
+use Rattle.clap.specs.declared.error.kind.ErrorKind.{ErrorKind}
+use Rattle.clap.specs.declared.error.kind.ErrorKind.TheVariants.{DisplayHelp, DisplayVersion, OutOfMemory}
+use Rattle.schemareg.specs.declared.stop.Stop.{Stop}
+use Rattle.schemareg.specs.declared.stop.Stop.TheVariants.{Words, NotText, CannotRead, Refused, CannotWrite}
+
+-- what is printed, and none where the text is `clap`'s
+abbrev pub text_of : Stop → Option Text
+text_of (Words e) = None
+text_of NotText = Some (codes "error: the command line is not UTF-8" ++ 10 ∷ [])
+text_of (CannotRead name) = Some (codes "cannot read " ++ name.now ++ 10 ∷ [])
+text_of (Refused f) = Some (codes "refused: " ++ printed (fault f) ++ 10 ∷ [])
+text_of CannotWrite = Some (codes "cannot write -" ++ 10 ∷ [])
+
+-- the words ask for help or for the version
+abbrev pub is_request : ErrorKind → Bool
+is_request DisplayHelp = true
+is_request DisplayVersion = true
+is_request _ = false
+
+-- the text goes to standard error
+abbrev pub is_error : Stop → Bool
+is_error (Words e) = not (is_request (kind_of e))
+is_error _ = true
+
+abbrev pub status_of : Stop → ℕ
+status_of stop = if is_error stop then 2 else 0
+
+-- want of memory while the words are read is a refusal like any other
+abbrev pub stop_by : ErrorKind → Error → Stop
+stop_by OutOfMemory e = Refused NoRoom
+stop_by _ e = Words e
+
+abbrev pub stop_of : Error → Stop
+stop_of e = stop_by (kind_of e) e
+
+-- what has this name cannot be read, or memory ran out
+abbrev pub IsUnread : Text → Stop → Type 0
+IsUnread name (CannotRead n) = n.now ≡ name
+IsUnread name (Refused f) = f ≡ NoRoom
+IsUnread name _ = ⊥

@@ -6,3 +6,6 @@ pub mod Nestings
 pub mod Puts
 pub mod Equality
 pub mod Texts
+pub mod Unescaped
+pub mod Fragments
+pub mod Indexes

@@ -16,7 +16,7 @@ pub use depth::nesting;
 pub use doc::Doc;
 pub use faults::Fault;
 pub use members::{Members, MembersIter};
-pub use pointer::{Pointer, push_token};
+pub use pointer::{Pointer, push_fragment_token, push_token};
 pub use reading::read;
 pub use sameness::same;
 pub use whole::Whole;

@@ -1,12 +1,18 @@
 //! JSON Pointers (RFC 6901).
 
-ghost use Rattle.std.specs.Prelude.{◌≡◌, ◌-◌, [], ◌∷◌, ◌++◌, IsTrue, IfOk, IfErr, OnOk, OnErr, flat_map, length, position, string_bytes, take};
-ghost use Rattle.definitions.specs.Pointers.{escaped_byte, pointer_text};
+ghost use Rattle.std.specs.Prelude.{◌≡◌, ◌-◌, [], Some, ◌∷◌, ◌++◌, IsTrue, IfOk, IfErr, OnOk, OnErr, flat_map, length, position, string_bytes, take};
+ghost use Rattle.definitions.specs.Pointers.{escaped_byte, pointer_of, pointer_text};
 ghost use Rattle.json_doc.specs.Escapes.{is_escaped};
 
 use faults::Fault;
 use std::alloc::{AllocError, Global};
 use std::marker::Model;
+
+mod finding;
+mod fragment;
+mod parsing;
+
+pub use fragment::push_fragment_token;
 
 /// A JSON Pointer (RFC 6901): the reference tokens that lead from a document's root to a place in it.
 ///
@@ -53,9 +59,10 @@ impl Pointer {
     }
 
     /// The text: each token led by a `/`, with `~` written as `~0` and `/` as `~1` (sections 3 and 5). The only error is
-    /// want of memory.
+    /// want of memory. [`Pointer::parse`] reads it back.
     pub fn text(&self, alloc: Global) -> Result<String, Fault>
         ensures text { IfOk result (λ s. string_bytes s ≡ pointer_text self.now) }
+        ensures read_back { IfOk result (λ s. pointer_of (string_bytes s) ≡ Some self.now) }
         ensures room { IfErr result (λ f. f ≡ Fault.NoRoom) }
     {
         let mut text = String::new(alloc);

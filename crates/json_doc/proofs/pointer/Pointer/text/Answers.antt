@@ -1,7 +1,8 @@
 use Rattle.std.proofs.Common.{◌≡◌, [], ◌∷◌, ◌++◌, map, take, string_bytes, flat_map, sym, ap, ap₂, ◌∙◌, append_assoc}
 use Rattle.std.proofs.lemmas.List.{map-append, take_more, take_all}
-use Rattle.definitions.specs.Pointers.{escaped_byte, pointer_text}
+use Rattle.definitions.specs.Pointers.{escaped_byte, pointer_of, pointer_text}
 use Rattle.json_doc.proofs.Escaped.{pointer_text-more}
+use Rattle.json_doc.proofs.Unescaped.{text_back}
 use Rattle.json_doc.proofs.pointer.Pointer.text.Goals as goal
 
 pub loop-token-preserved : goal.loop-token-preserved
@@ -19,3 +20,6 @@ pub returns-clause-text : goal.returns-clause-text
 returns-clause-text c =
     let all = take_all c.loop-token.token-index c.deref-token-items.result.now c.loop-token-test.false ∙ c.deref-token-items.ensures.value in
     c.loop-token.invariant ∙ ap (λ ts. pointer_text (map string_bytes ts)) all ∙ ap pointer_text c.self.view_is
+
+pub returns-clause-read_back : goal.returns-clause-read_back
+returns-clause-read_back c = ap pointer_of (returns-clause-text c) ∙ text_back c.args.self.now

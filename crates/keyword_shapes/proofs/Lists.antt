@@ -3,7 +3,7 @@ use Rattle.std.proofs.Common.{◌≡◌, List, [], ◌∷◌, map, length, nat_l
 use Rattle.std.proofs.lemmas.List.{length-map}
 use Rattle.std.specs.List.{list_all}
 use Rattle.definitions.specs.Values.{Value, is_string, to_elements, elements_list}
-use Rattle.definitions.specs.Shapes.{is_type_name, are_type_names, is_text_list, is_schema, is_schema_map}
+use Rattle.definitions.specs.Shapes.{is_type_name, are_type_names, is_text_list, are_text_lists, is_schema, is_schema_map}
 use Rattle.json_doc.specs.Docs.{value, members_value}
 use Rattle.json_doc.specs.declared.doc.Doc.{Doc, List as DocList, Dict}
 use Rattle.json_doc.specs.declared.members.Members.{Members}
@@ -30,3 +30,6 @@ are_type_names-List v =
 
 pub is_schema_map-Dict : (m : Members) → is_schema_map (value (Dict m)) ≡ list_all (λ e. is_schema e.1) (members_value m)
 is_schema_map-Dict m = ap is_schema_map (value-Dict m)
+
+pub are_text_lists-Dict : (m : Members) → are_text_lists (value (Dict m)) ≡ list_all (λ e. is_text_list e.1) (members_value m)
+are_text_lists-Dict m = ap are_text_lists (value-Dict m)

@@ -4,20 +4,34 @@
 
 ghost use Rattle.std.specs.Prelude.{◌≡◌, ◌&&◌, nat_lt, length};
 ghost use Rattle.std.specs.List.{list_any, list_all};
-ghost use Rattle.definitions.specs.Values.{same_text, is_string};
-ghost use Rattle.definitions.specs.Shapes.{has_shape, types, is_type_name, are_type_names, is_text_list, is_schema, is_schema_map};
+ghost use Rattle.definitions.specs.Values.{integer, same_text, is_boolean, is_integer, is_string, is_array};
+ghost use Rattle.definitions.specs.Shapes.{has_shape, types, is_size, is_divisor, is_type_name, are_type_names, is_text_list, are_text_lists, is_schema, is_schema_map};
 ghost use Rattle.json_doc.specs.Docs.{value};
 ghost use Rattle.keyword_shapes.specs.ShapeView.{shape_view};
 
-use json_doc::Doc;
+use json_doc::{Doc, Whole};
 
 /// The shape that a keyword's value has to have.
 #[derive(Clone, Copy, Debug, Drop, PartialEq, Eq)]
 pub enum Shape {
+    /// Any value (Validation, section 6.1.3).
+    AnyValue,
+    /// `true` or `false` (Validation, section 6.4.3).
+    Truth,
+    /// A number, all of which are whole (Validation, section 6.2.2).
+    WholeNumber,
+    /// A number of at least 0 (Validation, section 6.3.1).
+    Size,
+    /// A number above 0 (Validation, section 6.2.1).
+    Divisor,
+    /// A list of any values, which may be empty (Validation, section 6.1.2).
+    ValueList,
     /// The name of a type, or a list of at least one (Validation, section 6.1.1).
     TypeNames,
     /// A list of texts, which may be empty (Validation, section 6.5.3).
     TextList,
+    /// An object whose members are lists of texts (Validation, section 6.5.4).
+    TextLists,
     /// An object whose members are schemas (Core, section 10.3.2.1).
     SchemaMap,
 }
@@ -27,10 +41,68 @@ pub fn fits(shape: Shape, doc: &Doc) -> bool
     ensures { result ≡ has_shape (shape_view shape) (value doc.now) }
 {
     match shape {
+        Shape::AnyValue => true,
+        Shape::Truth => is_truth(doc),
+        Shape::WholeNumber => is_whole_number(doc),
+        Shape::Size => is_size(doc),
+        Shape::Divisor => is_divisor(doc),
+        Shape::ValueList => is_list(doc),
         Shape::TypeNames => are_type_names(doc),
         Shape::TextList => is_text_list(doc),
+        Shape::TextLists => are_text_lists(doc),
         Shape::SchemaMap => is_schema_map(doc),
     }
+}
+
+fn is_truth(doc: &Doc) -> bool
+    ensures { result ≡ is_boolean (value doc.now) }
+{
+    matches!(doc, Doc::Bool(_))
+}
+
+fn is_whole_number(doc: &Doc) -> bool
+    ensures { result ≡ is_integer (value doc.now) }
+{
+    matches!(doc, Doc::Int(_))
+}
+
+fn is_size(doc: &Doc) -> bool
+    ensures { result ≡ is_size (value doc.now) }
+{
+    match doc {
+        Doc::Int(number) => is_at_least_zero(*number),
+        _ => false,
+    }
+}
+
+fn is_at_least_zero(number: Whole) -> bool
+    ensures { result ≡ is_size (integer number) }
+{
+    number.as_u64().is_some()
+}
+
+fn is_divisor(doc: &Doc) -> bool
+    ensures { result ≡ is_divisor (value doc.now) }
+{
+    match doc {
+        Doc::Int(number) => is_above_zero(*number),
+        _ => false,
+    }
+}
+
+fn is_above_zero(number: Whole) -> bool
+    ensures { result ≡ is_divisor (integer number) }
+{
+    match number.as_u64() {
+        Some(natural) => natural > 0,
+        None => false,
+    }
+}
+
+fn is_list(doc: &Doc) -> bool
+    ensures { result ≡ is_array (value doc.now) }
+{
+    matches!(doc, Doc::List(_))
 }
 
 // One name of a type, or a list of at least one.
@@ -97,6 +169,15 @@ fn is_text(doc: &Doc) -> bool
     ensures { result ≡ is_string (value doc.now) }
 {
     matches!(doc, Doc::Str(_))
+}
+
+fn are_text_lists(doc: &Doc) -> bool
+    ensures { result ≡ are_text_lists (value doc.now) }
+{
+    match doc {
+        Doc::Dict(lists) => lists.iter().all(|(_name, list)| is_text_list(list)),
+        _ => false,
+    }
 }
 
 fn is_schema_map(doc: &Doc) -> bool

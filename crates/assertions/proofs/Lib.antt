@@ -1,0 +1,3 @@
+pub mod Elements
+pub mod Repeats
+pub mod Sizes

@@ -1,0 +1,2 @@
+pub mod AssertionView
+pub mod Limits

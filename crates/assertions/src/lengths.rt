@@ -1,0 +1,148 @@
+//! How many code points, elements or members an instance has (Validation, sections 6.3 to 6.5).
+
+ghost use Rattle.std.specs.Prelude.{◌≡◌, length, chars, nat_le};
+ghost use Rattle.definitions.specs.Assertions.{is_at_most, is_at_least, on_length, on_elements, on_members};
+ghost use Rattle.json_doc.specs.Docs.{value};
+ghost use Rattle.assertions.specs.Limits.{size_of};
+
+use json_doc::Doc;
+
+/// Whether the instance, where it is a string, has at most so many code points.
+pub(crate) fn has_length_at_most(instance: &Doc, limit: &Doc) -> bool
+    ensures { result ≡ on_length (is_at_most (value limit.now)) (value instance.now) }
+{
+    match instance {
+        Doc::Str(text) => is_length_at_most(text.as_str(), limit),
+        _ => true,
+    }
+}
+
+fn is_length_at_most(text: &str, limit: &Doc) -> bool
+    ensures { result ≡ is_at_most (value limit.now) (length (chars text.now)) }
+{
+    match size_of(limit) {
+        Some(size) => has_at_most(text, size),
+        None => true,
+    }
+}
+
+// A code point has one to four bytes, so the code points are counted only where the bytes leave it open.
+fn has_at_most(text: &str, size: u64) -> bool
+    ensures { result ≡ nat_le (length (chars text.now)) size }
+{
+    let bytes = text.len() as u64;
+    if bytes <= size {
+        true
+    } else if bytes.div_ceil(4) > size {
+        false
+    } else {
+        count_of(text) <= size
+    }
+}
+
+/// Whether the instance, where it is a string, has at least so many code points.
+pub(crate) fn has_length_at_least(instance: &Doc, limit: &Doc) -> bool
+    ensures { result ≡ on_length (is_at_least (value limit.now)) (value instance.now) }
+{
+    match instance {
+        Doc::Str(text) => is_length_at_least(text.as_str(), limit),
+        _ => true,
+    }
+}
+
+fn is_length_at_least(text: &str, limit: &Doc) -> bool
+    ensures { result ≡ is_at_least (value limit.now) (length (chars text.now)) }
+{
+    match size_of(limit) {
+        Some(size) => has_at_least(text, size),
+        None => true,
+    }
+}
+
+fn has_at_least(text: &str, size: u64) -> bool
+    ensures { result ≡ nat_le size (length (chars text.now)) }
+{
+    let bytes = text.len() as u64;
+    if bytes < size {
+        false
+    } else if bytes.div_ceil(4) >= size {
+        true
+    } else {
+        count_of(text) >= size
+    }
+}
+
+// The number of code points.
+fn count_of(text: &str) -> u64
+    ensures { result ≡ length (chars text.now) }
+{
+    text.chars().count() as u64
+}
+
+/// Whether the instance, where it is a list, has at most so many elements.
+pub(crate) fn has_elements_at_most(instance: &Doc, limit: &Doc) -> bool
+    ensures { result ≡ on_elements (is_at_most (value limit.now)) (value instance.now) }
+{
+    match instance {
+        Doc::List(items) => is_at_most(items.len(), limit),
+        _ => true,
+    }
+}
+
+/// Whether the instance, where it is a list, has at least so many elements.
+pub(crate) fn has_elements_at_least(instance: &Doc, limit: &Doc) -> bool
+    ensures { result ≡ on_elements (is_at_least (value limit.now)) (value instance.now) }
+{
+    match instance {
+        Doc::List(items) => is_at_least(items.len(), limit),
+        _ => true,
+    }
+}
+
+/// Whether the instance, where it is an object, has at most so many members.
+pub(crate) fn has_members_at_most(instance: &Doc, limit: &Doc) -> bool
+    ensures { result ≡ on_members (is_at_most (value limit.now)) (value instance.now) }
+{
+    match instance {
+        Doc::Dict(members) => is_at_most(members.len(), limit),
+        _ => true,
+    }
+}
+
+/// Whether the instance, where it is an object, has at least so many members.
+pub(crate) fn has_members_at_least(instance: &Doc, limit: &Doc) -> bool
+    ensures { result ≡ on_members (is_at_least (value limit.now)) (value instance.now) }
+{
+    match instance {
+        Doc::Dict(members) => is_at_least(members.len(), limit),
+        _ => true,
+    }
+}
+
+fn is_at_most(count: usize, limit: &Doc) -> bool
+    ensures { result ≡ is_at_most (value limit.now) count }
+{
+    match size_of(limit) {
+        Some(size) => count as u64 <= size,
+        None => true,
+    }
+}
+
+fn is_at_least(count: usize, limit: &Doc) -> bool
+    ensures { result ≡ is_at_least (value limit.now) count }
+{
+    match size_of(limit) {
+        Some(size) => count as u64 >= size,
+        None => true,
+    }
+}
+
+// The number, where it is one of at least 0.
+fn size_of(limit: &Doc) -> Option<u64>
+    ensures { result ≡ size_of (value limit.now) }
+{
+    match limit {
+        Doc::Int(number) => number.as_u64(),
+        _ => None,
+    }
+}

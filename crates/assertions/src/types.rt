@@ -1,0 +1,48 @@
+//! The types of instances (Validation, section 6.1.1).
+
+ghost use Rattle.std.specs.Prelude.{◌≡◌};
+ghost use Rattle.std.specs.List.{list_any};
+ghost use Rattle.definitions.specs.Values.{same_text};
+ghost use Rattle.definitions.specs.Assertions.{is_of_types, is_of_type, types_of};
+ghost use Rattle.json_doc.specs.Docs.{value};
+
+use json_doc::Doc;
+
+/// Whether the instance is of the type, or of one of the types.
+pub(crate) fn is_of_types(instance: &Doc, types: &Doc) -> bool
+    ensures { result ≡ is_of_types (value instance.now) (value types.now) }
+{
+    match types {
+        Doc::List(types) => is_of_one(instance, types),
+        _ => is_of_type(instance, types),
+    }
+}
+
+fn is_of_one(instance: &Doc, types: &[Doc]) -> bool
+    ensures { result ≡ list_any (λ d. is_of_type (value instance.now) (value d)) types.now }
+{
+    types.iter().any(|name| is_of_type(instance, name))
+}
+
+fn is_of_type(instance: &Doc, name: &Doc) -> bool
+    ensures { result ≡ is_of_type (value instance.now) (value name.now) }
+{
+    match name {
+        Doc::Str(name) => has_type(instance, name.as_str()),
+        _ => false,
+    }
+}
+
+// Whether the instance has a type of this name. A whole number is both `number` and `integer`.
+fn has_type(instance: &Doc, name: &str) -> bool
+    ensures { result ≡ list_any (same_text name.now) (types_of (value instance.now)) }
+{
+    match instance {
+        Doc::Null => name == "null",
+        Doc::Bool(_) => name == "boolean",
+        Doc::Int(_) => name == "number" || name == "integer",
+        Doc::Str(_) => name == "string",
+        Doc::List(_) => name == "array",
+        Doc::Dict(_) => name == "object",
+    }
+}

@@ -1,0 +1,18 @@
+//! URI references (RFC 3986): their parts, and what they resolve to.
+#![tactic(auto)]
+
+mod dots;
+mod laws;
+mod owned_parts;
+mod parts;
+mod recomposing;
+mod resolving;
+mod splitting;
+
+pub use faults::Fault;
+pub use laws::identifiers_stay;
+pub use owned_parts::OwnedParts;
+pub use parts::{Parts, is_identifier};
+pub use recomposing::recompose;
+pub use resolving::resolve;
+pub use splitting::split;

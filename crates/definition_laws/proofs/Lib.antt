@@ -1,0 +1,2 @@
+pub mod Registries
+pub mod Evaluations

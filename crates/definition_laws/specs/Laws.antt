@@ -1,0 +1,34 @@
+-- What the laws say.
+use Rattle.std.specs.Prelude.{◌≡◌, ℕ, List, [], ◌∷◌, false}
+use Rattle.definitions.specs.Values.{Text}
+use Rattle.definitions.specs.Faults.{Fault}
+use Rattle.definitions.specs.Applied.{Application, Rules}
+use Rattle.definitions.specs.Outcomes.{outcome}
+use Rattle.definitions.specs.Registries.{Search, Registry, Request, Reply, refused, step}
+use Rattle.definitions.specs.Runs.{Course, IsForRoom, replies, AgreeAnswerAlike}
+
+abbrev pub FailingEvaluatesNothing : Type 0
+FailingEvaluatesNothing =
+    (rules : Rules) (n : ℕ) (a : Application) → (outcome rules n a).valid ≡ false
+    → ((outcome rules n a).names ≡ []) × ((outcome rules n a).indexes ≡ [])
+
+abbrev pub RefusalsKeepTheRegistry : Type 0
+RefusalsKeepTheRegistry = (search : Search) (g : Registry) (q : Request) (f : Fault) → (step search g q).0 ≡ refused f → (step search g q).1 ≡ g
+
+-- no answer is refused for room
+abbrev pub NoneIsForRoom : Search → List Request → List Reply → Type 0
+NoneIsForRoom search (q ∷ qs) (r ∷ rs) = (IsForRoom search q r → ⊥) × NoneIsForRoom search qs rs
+NoneIsForRoom search _ _ = Unit {0}
+
+-- the registry after the requests
+abbrev pub registry_after : Search → Registry → List Request → Registry
+registry_after search g [] = g
+registry_after search g (q ∷ qs) = registry_after search (step search g q).1 qs
+
+abbrev pub CoursesAreReplies : Type 0
+CoursesAreReplies =
+    (search : Search) (g h : Registry) (qs : List Request) (rs : List Reply) → Course search g qs rs h → NoneIsForRoom search qs rs
+    → (rs ≡ replies search g qs) × (h ≡ registry_after search g qs)
+
+abbrev pub AgreeingAnswerAlike : Type 0
+AgreeingAnswerAlike = (search : Search) (g h : Registry) (uri body : Text) → AgreeAnswerAlike search g h uri body

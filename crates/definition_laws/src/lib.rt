@@ -1,0 +1,25 @@
+//! Laws of the definitions, each as the contract of a function that does nothing.
+#![tactic(auto)]
+
+ghost use Rattle.definition_laws.specs.Laws.{FailingEvaluatesNothing, RefusalsKeepTheRegistry, CoursesAreReplies, AgreeingAnswerAlike};
+
+/// A schema that fails evaluates no name and no index (JSON Schema 2020-12 Core, 11).
+pub fn failing_evaluates_nothing()
+    ensures { FailingEvaluatesNothing }
+{}
+
+/// A request that is refused leaves the registry as it was.
+pub fn refusals_keep_the_registry()
+    ensures { RefusalsKeepTheRegistry }
+{}
+
+/// Where no answer of a course is refused for room, the answers are the replies exactly, and the last registry is the
+/// one that the requests lead to.
+pub fn courses_are_replies()
+    ensures { CoursesAreReplies }
+{}
+
+/// Registries from which a URI reaches the same documents answer alike where it is validated by.
+pub fn agreeing_answer_alike()
+    ensures { AgreeingAnswerAlike }
+{}

@@ -1,2 +1,1 @@
 pub mod OutcomeLaws
-pub mod Elements

@@ -2,7 +2,6 @@
 #![tactic(auto)]
 
 mod apply;
-mod assertions;
 mod found;
 mod keyword;
 mod output;

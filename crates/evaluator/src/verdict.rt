@@ -7,11 +7,11 @@ ghost use Rattle.evaluator.specs.Rows.{first_rules, row_of};
 ghost use Rattle.evaluator.specs.Views.{FindsAll};
 ghost use Rattle.json_doc.specs.Docs.{value};
 
-use crate::assertions::{required_holds, type_holds};
 use crate::found::Applied;
 use crate::keyword::Keyword;
 use crate::plan::Planned;
 use crate::units::{Log, Says};
+use assertions::{Keyword as Assertion, holds};
 use json_doc::{Doc, Fault};
 
 /// Whether the keyword with this value passes, by what the schemas that it applied found.
@@ -26,8 +26,8 @@ pub(crate) fn keyword_passes(
         → result ≡ passes_by first_rules run a (row_of keyword).name (row_of keyword).meaning (value keyword_value.now) os }
 {
     match keyword {
-        Keyword::TypeIs => type_holds(keyword_value, instance),
-        Keyword::Required => required_holds(keyword_value, instance),
+        Keyword::TypeIs => holds(Assertion::TypeIs, keyword_value, instance),
+        Keyword::Required => holds(Assertion::Required, keyword_value, instance),
         Keyword::Properties => applied.passing == applied.number,
     }
 }

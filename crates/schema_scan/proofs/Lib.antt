@@ -3,3 +3,4 @@ pub mod Misshapen
 pub mod Unknown
 pub mod Verdict
 pub mod Stopped
+pub mod Checked

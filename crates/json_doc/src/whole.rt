@@ -73,6 +73,7 @@ impl Whole {
         ensures number { result ≡ self }
         ensures fits { fits_64_bits self ≡ true }
     {
-        self.number
+        let Whole { number } = self;
+        number
     }
 }

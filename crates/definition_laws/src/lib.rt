@@ -1,7 +1,11 @@
 //! Laws of the definitions, each as the contract of a function that does nothing.
 #![tactic(auto)]
 
+mod identities;
+
 ghost use Rattle.definition_laws.specs.Laws.{FailingEvaluatesNothing, RefusalsKeepTheRegistry, CoursesAreReplies, AgreeingAnswerAlike};
+
+pub use identities::{identity_names_one_schema, roots_are_found, schemas_are_pointed_to};
 
 /// A schema that fails evaluates no name and no index (JSON Schema 2020-12 Core, 11).
 pub fn failing_evaluates_nothing()

@@ -3,3 +3,9 @@ pub mod Evaluations
 pub mod Memberships
 pub mod Places
 pub mod Resources
+pub mod Unbundled
+pub mod Tables
+pub mod Targets
+pub mod Applying
+pub mod Gathering
+pub mod AlikeTables

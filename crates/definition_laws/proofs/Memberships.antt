@@ -1,6 +1,7 @@
 -- What stands in a list, by recursion.
 use Rattle.std.proofs.Common.{◌≡◌, ◌<◌, ◌≤◌, ◌+◌, ◌⊎◌, ◌||◌, ℕ, zero, suc, List, [], ◌∷◌, ◌++◌, map, length, Bool, true, false, cond, Some, refl, sym, ap, ◌∙◌, arith, inl, inr}
-use Rattle.std.specs.List.{Contains, flat_map, filter, find, enumerate_from, list_any}
+use Rattle.std.proofs.lemmas.Bool.{and_parts}
+use Rattle.std.specs.List.{Contains, flat_map, filter, find, enumerate_from, list_any, list_all, zip}
 
 abbrev pub IsIn : {A : Type 0} → A → List A → Type 0
 IsIn x [] = ⊥
@@ -99,3 +100,23 @@ any_of_in p (y ∷ xs) x (inr h) passes = later (p y) (any_of_in p xs x h passes
     later : (b : Bool) {c : Bool} → c ≡ true → (b || c) ≡ true
     later true e = refl
     later false e = e
+
+pub from_filter : {A : Type 0} (p : A → Bool) (xs : List A) (x : A) → IsIn x (filter p xs) → IsIn x xs
+from_filter p [] x h = absurd h
+from_filter {A} p (y ∷ xs) x h = either (p y) h (from_filter p xs x)
+  where
+    either : (b : Bool) → IsIn x (cond b (y ∷ filter p xs) (filter p xs)) → (IsIn x (filter p xs) → IsIn x xs) → IsIn x (y ∷ xs)
+    either true (inl e) later = inl e
+    either true (inr k) later = inr (later k)
+    either false k later = inr (later k)
+
+pub zipped_first : {A B : Type 0} (xs : List A) (ys : List B) (e : A × B) → IsIn e (zip xs ys) → IsIn e.0 xs
+zipped_first [] ys e h = absurd h
+zipped_first (x ∷ xs) [] e h = absurd h
+zipped_first (x ∷ xs) (y ∷ ys) e (inl f) = inl (ap (λ p. p.0) f)
+zipped_first (x ∷ xs) (y ∷ ys) e (inr h) = inr (zipped_first xs ys e h)
+
+pub all_pass_in : {A : Type 0} (p : A → Bool) (xs : List A) (x : A) → list_all p xs ≡ true → IsIn x xs → p x ≡ true
+all_pass_in p [] x h i = absurd i
+all_pass_in p (y ∷ xs) x h (inl e) = rw (← e) (and_parts (p y) (list_all p xs) h).0
+all_pass_in p (y ∷ xs) x h (inr i) = all_pass_in p xs x (and_parts (p y) (list_all p xs) h).1 i

@@ -172,7 +172,7 @@ step_nests rows s t way h =
     let value_is : nesting t.value ≡ nesting h.part = ap (λ x. nesting x.value) h.is ∙ ap nesting (value-below s way h.part) in
     omega (arith, members_nest s.value h.name h.value h.inside, places_nest h.value (shape_in rows h.name) h.rest h.part h.place)
 
-within_from : (rows : List Keyword) (n : ℕ) (way : Pointer) (s : Schema) (x : Pointer × Schema) → IsIn x (schemas_within rows n way s) → (p : Pointer) × (x.0 ≡ way ++ p) × IsBelow rows s x.1 p
+pub within_from : (rows : List Keyword) (n : ℕ) (way : Pointer) (s : Schema) (x : Pointer × Schema) → IsIn x (schemas_within rows n way s) → (p : Pointer) × (x.0 ≡ way ++ p) × IsBelow rows s x.1 p
 within_from rows zero way s x i = absurd i
 within_from rows (suc n) way s x (inl e) = ([], sym (ap (λ y. y.0) e) ∙ sym (append-nil way), here (ap (λ y. y.1) e) refl)
 within_from rows (suc n) way s x (inr i) =
@@ -181,7 +181,7 @@ within_from rows (suc n) way s x (inr i) =
     let q = within_from rows n (way ++ t.0) t.1 x r.2 in
     (t.0 ++ q.0, q.1 ∙ append_assoc way t.0 q.0, further (step_from rows s t.1 t.0 r.1) q.2 refl)
 
-within_to : (rows : List Keyword) (n : ℕ) (way : Pointer) (s t : Schema) (p : Pointer) → nesting s.value < n → IsBelow rows s t p → IsIn (way ++ p, t) (schemas_within rows n way s)
+pub within_to : (rows : List Keyword) (n : ℕ) (way : Pointer) (s t : Schema) (p : Pointer) → nesting s.value < n → IsBelow rows s t p → IsIn (way ++ p, t) (schemas_within rows n way s)
 within_to rows zero way s t p l b = absurd (omega arith)
 within_to rows (suc n) way s t p l (here e f) = inl (ap₂ (λ x y. (x, y)) (sym (append-nil way) ∙ ap (λ x. way ++ x) (sym f)) e)
 within_to rows (suc n) way s t p l (further {t = u} {way = first} {rest = rest} step more w) =

@@ -2,16 +2,17 @@
 use Rattle.std.proofs.Common.{◌≡◌, ◌&&◌, ℕ, zero, suc, List, [], ◌∷◌, Bool, true, false, cond, Option, Some, None, refl, sym, ap, ap₂, subst, ◌∙◌, ◌⊎◌, inl, inr}
 use Rattle.std.specs.List.{list_any}
 use Rattle.definitions.specs.Values.{Text, Value, null, boolean, integer, string, array, object}
-use Rattle.definitions.specs.Alike.{IsAlikeSchema, IsAlike}
+use Rattle.definitions.specs.Alike.{IsAlikeSchema, IsAlike, AreAlike}
 use Rattle.definitions.specs.Keywords.{Keyword, keywords}
 use Rattle.definitions.specs.Schemas.{Schema, Document, same_identity, references, table_of}
-use Rattle.definitions.specs.Targets.{target, dynamically_anchored}
+use Rattle.definitions.specs.Answers.{first_application, limits, answer_of, answer_from, rules_of}
+use Rattle.definitions.specs.Targets.{resource_root, target, dynamically_anchored}
 use Rattle.definitions.specs.Applied.{Application, Outcome, Rules, entered}
 use Rattle.definitions.specs.Outcomes.{outcome, schema_outcome, object_outcome, boolean_outcome, false_unit, leaf, is_running, same_place}
-use Rattle.definition_laws.specs.Likeness.{AlikeTablesGiveTheSame}
+use Rattle.definition_laws.specs.Likeness.{AlikeTablesGiveTheSame, AlikeTablesAnswerTheSame}
 use Rattle.definition_laws.proofs.Memberships.{IsIn, in_from_contains, contains_from_in, in_append}
 use Rattle.definition_laws.proofs.Unbundled.{as_truth, as_truth_alike, is_object_alike}
-use Rattle.definition_laws.proofs.Tables.{IsClosed, table_closed, step_closed, target_held, dynamically_anchored_in}
+use Rattle.definition_laws.proofs.Tables.{IsClosed, table_closed, step_closed, target_held, dynamically_anchored_in, found_in}
 use Rattle.definition_laws.proofs.Targets.{alike_resource, alike_pointer, AlikeIn, alike_in, AnchorsAlike, dynamic_alike}
 use Rattle.definition_laws.proofs.Applying.{of_schema, IsSetting}
 use Rattle.definition_laws.proofs.Gathering.{object_same}
@@ -114,3 +115,17 @@ alike_tables_give_the_same rules ds es rows l n a t i h s =
     let table : List Schema = table_of ds in
     let scope : IsScope table a.scope = λ uri j. let r = s uri (contains_from_in a.scope uri j) in (r.0, in_from_contains table r.0 (r.1).0, (r.1).1) in
     outcome_same rules table (table_of es) (alike_tables ds es l) (λ k j. in_from_contains keywords k (rows k (contains_from_in rules.keywords k j))) n a t (in_from_contains table a.schema i) h scope
+
+root_answers : (matches : Text → Text → Bool) (ds es : List Document) (x : Value) → IsAlike (table_of ds) (table_of es) → (o p : Option Schema) → AreAlike o p → ((s : Schema) → o ≡ Some s → IsIn s (table_of ds))
+    → answer_from limits (rules_of matches es) x p ≡ answer_from limits (rules_of matches ds) x o
+root_answers matches ds es x l None None h held = refl
+root_answers matches ds es x l None (Some t) h held = absurd h
+root_answers matches ds es x l (Some s) None h held = absurd h
+root_answers matches ds es x l (Some s) (Some t) h held =
+    ap (answer_of limits.applications)
+    (alike_tables_give_the_same (rules_of matches []) ds es (λ k j. j) l limits.nested (first_application s x) t (contains_from_in (table_of ds) s (held s refl)) h
+    (λ uri j. absurd (in_from_contains [] uri j)))
+
+pub alike_tables_answer_the_same : AlikeTablesAnswerTheSame
+alike_tables_answer_the_same matches ds es uri x l h =
+    root_answers matches ds es x l (resource_root (table_of ds) uri) (resource_root (table_of es) uri) h (λ s e. found_in _ (table_of ds) s e)

@@ -9,3 +9,4 @@ pub mod Targets
 pub mod Applying
 pub mod Gathering
 pub mod AlikeTables
+pub mod Reached

@@ -1,7 +1,8 @@
 -- In a table with distinct resource URIs an identity names one schema.
-use Rattle.std.proofs.Common.{◌≡◌, ◌<◌, ◌≤◌, ◌==◌, ◌&&◌, ◌||◌, ℕ, zero, suc, List, [], ◌∷◌, ◌++◌, map, length, Bool, true, false, Option, Some, None, option_map, option_and_then, codes, refl, sym, ap, ap₂, subst, ◌∙◌, arith, inl, inr, append_assoc, append-nil}
+use Rattle.std.proofs.Common.{◌≡◌, ◌<◌, ◌≤◌, ◌==◌, ◌&&◌, ◌||◌, ℕ, zero, suc, List, [], ◌∷◌, ◌++◌, map, length, Bool, true, false, cond, Option, Some, None, option_map, option_and_then, codes, refl, sym, ap, ap₂, subst, ◌∙◌, arith, inl, inr, append_assoc, append-nil}
 use Rattle.std.proofs.lemmas.Bool.{and_parts, eqb-true}
 use Rattle.std.proofs.lemmas.Slice.Eq.{bytes_eq-Decides}
+use Rattle.std.proofs.lemmas.List.{map-append}
 use Rattle.std.specs.List.{filter, enumerate_from, list_any}
 use Rattle.definitions.specs.Values.{Text, Value, null, boolean, integer, string, array, object, Elements, no_elements, element, Members, no_members, member, elements, members, elements_list, members_list, nesting, elements_nesting, members_nesting, text_at, has_repeat, same_text}
 use Rattle.definitions.specs.Pointers.{Pointer, same_pointer}
@@ -9,6 +10,8 @@ use Rattle.definitions.specs.Shapes.{Shape, one_schema, schema_list, schema_map}
 use Rattle.definitions.specs.Keywords.{Keyword, keywords, shape_in}
 use Rattle.definitions.specs.Schemas.{Schema, Document, opened, schema_at, subschemas_by, schemas_within, schemas_from, schemas_of, table_of, is_root}
 use Rattle.definitions.specs.Scanning.{resource_uris}
+use Rattle.definitions.specs.Registries.{resources_of}
+use Rattle.definitions.specs.Runs.{resource_uris_of}
 use Rattle.definitions.specs.Targets.{resource_root, pointed}
 use Rattle.definition_laws.specs.Identities.{IsDefinite, IsDistinct, IdentityNamesOneSchema, RootsAreFound, SchemasArePointedTo}
 use Rattle.definition_laws.proofs.Memberships.{IsIn, in_from_contains, contains_from_in, in_flat_map, into_flat_map, in_map, into_map, into_filter, finds_only, any_of_in, numbered_in}
@@ -32,7 +35,7 @@ same_pointer_is (t ∷ ts) [] h = cc
 same_pointer_is (t ∷ ts) (u ∷ us) h = let p = and_parts (same_text t u) (same_pointer ts us) h in ap₂ (λ x y. x ∷ y) (same_text_is t u p.0) (same_pointer_is ts us p.1)
 
 -- ---- roots with distinct URIs
-neither : (a b : Bool) → (a || b) ≡ false → (a ≡ false) × (b ≡ false)
+pub neither : (a b : Bool) → (a || b) ≡ false → (a ≡ false) × (b ≡ false)
 neither true b h = cc
 neither false b h = (refl, h)
 
@@ -56,78 +59,12 @@ root_pointer s h = none s.pointer h
     none [] e = refl
     none (t ∷ ts) e = absurd (omega (arith, eqb-true (length (t ∷ ts)) 0 e))
 
-pointer_root : (s : Schema) → s.pointer ≡ [] → is_root s ≡ true
+pub pointer_root : (s : Schema) → s.pointer ≡ [] → is_root s ≡ true
 pointer_root s e = rw e refl
 
 pub roots_once : (table : List Schema) (r q : Schema) → has_repeat same_text (resource_uris table) ≡ false → IsIn r table → IsIn q table → r.pointer ≡ [] → q.pointer ≡ [] → r.resource ≡ q.resource → r ≡ q
 roots_once table r q h i j a b e =
     once_by (λ s. s.resource) (filter is_root table) r q h (into_filter is_root table r i (pointer_root r a)) (into_filter is_root table q j (pointer_root q b)) e
-
--- ---- each schema belongs to a root in the table, which its pointer leads from
-pub record HasRoot (rows : List Keyword) (table : List Schema) (s : Schema) : Type 0 where
-  pub root : Schema
-  pub held : IsIn root table
-  pub at_root : root.pointer ≡ []
-  pub definite : IsDefinite root.value
-  pub leads : IsBelow rows root s s.pointer
-  pub resource : s.resource ≡ root.resource
-
-own_root : (rows : List Keyword) (table : List Schema) (s : Schema) → IsIn s table → s.pointer ≡ [] → IsDefinite s.value → HasRoot rows table s
-own_root rows table s i e d = record { root = s; held = i; at_root = e; definite = d; leads = here refl e; resource = refl }
-
-step_root : (rows : List Keyword) (table : List Schema) (s t : Schema) (way : Pointer) → HasRoot rows table s → IsStep rows s t way → IsIn t table → IsDefinite t.value → HasRoot rows table t
-step_root rows table s t way h step i d = by_id (text_at (codes "$id") step.part) step.is
-  where
-    by_id : (id : Option Text) → t ≡ opened s.resource (s.pointer ++ way) step.part id → HasRoot rows table t
-    by_id None e = record {
-      root = h.root;
-      held = h.held;
-      at_root = h.at_root;
-      definite = h.definite;
-      leads = subst (IsBelow rows h.root t) (sym (ap (λ x. x.pointer) e)) (below_more rows h.root s t s.pointer way h.leads step);
-      resource = ap (λ x. x.resource) e ∙ h.resource;
-    }
-    by_id (Some id) e = own_root rows table t i (ap (λ x. x.pointer) e) d
-
-within_roots : (rows : List Keyword) (table : List Schema) (n : ℕ) (way : Pointer) (s : Schema) → ((x : Pointer × Schema) → IsIn x (schemas_within rows n way s) → IsIn x.1 table)
-    → IsDefinite s.value → HasRoot rows table s → (x : Pointer × Schema) → IsIn x (schemas_within rows n way s) → HasRoot rows table x.1
-within_roots rows table zero way s held d h x i = absurd i
-within_roots rows table (suc n) way s held d h x (inl e) = subst (λ y. HasRoot rows table y.1) e h
-within_roots rows table (suc n) way s held d h x (inr i) =
-    let r = in_flat_map (λ t. schemas_within rows n (way ++ t.0) t.1) (subschemas_by rows s) x i in
-    let t : Pointer × Schema = r.0 in
-    let step : IsStep rows s t.1 t.0 = step_from rows s t.1 t.0 r.1 in
-    let further_held : (y : Pointer × Schema) → IsIn y (schemas_within rows n (way ++ t.0) t.1) → IsIn y.1 table =
-    λ y j. held y (inr (into_flat_map (λ u. schemas_within rows n (way ++ u.0) u.1) (subschemas_by rows s) t y r.1 j)) in
-    let definite = step_definite rows s t.1 t.0 step d in
-    let inside : IsIn t.1 table = first_held n table (way ++ t.0) t.1 x r.2 further_held in
-    within_roots rows table n (way ++ t.0) t.1 further_held definite (step_root rows table s t.1 t.0 h step inside definite) x r.2
-  where
-    first_held : (m : ℕ) (table : List Schema) (way : Pointer) (s : Schema) (y : Pointer × Schema) → IsIn y (schemas_within rows m way s)
-        → ((z : Pointer × Schema) → IsIn z (schemas_within rows m way s) → IsIn z.1 table) → IsIn s table
-    first_held zero table way s y j held = absurd j
-    first_held (suc m) table way s y j held = held (way, s) (inl refl)
-
-root_opened : (base : Text) (v : Value) → (schema_at base [] v).pointer ≡ []
-root_opened base v = by_id (text_at (codes "$id") v)
-  where
-    by_id : (id : Option Text) → (opened base [] v id).pointer ≡ []
-    by_id None = refl
-    by_id (Some id) = refl
-
-pub table_roots : (ds : List Document) → ((d : Document) → IsIn d ds → IsDefinite d.value) → (s : Schema) → IsIn s (table_of ds) → HasRoot keywords (table_of ds) s
-table_roots ds definite s i =
-    let r = in_flat_map (λ d. schemas_of d.base d.value) ds s i in
-    let d : Document = r.0 in
-    let top : Schema = schema_at d.base [] d.value in
-    let q = in_map (λ t. t.1) (schemas_from top) s r.2 in
-    let held : (x : Pointer × Schema) → IsIn x (schemas_from top) → IsIn x.1 (table_of ds) =
-    λ x j. into_flat_map (λ e. schemas_of e.base e.value) ds d x.1 r.1 (into_map (λ t. t.1) (schemas_from top) x j) in
-    let value_is : top.value ≡ d.value = value-opened d.base [] d.value _ in
-    let top_definite : IsDefinite top.value = subst IsDefinite (sym value_is) (definite d r.1) in
-    subst (HasRoot keywords (table_of ds)) q.2
-    (within_roots keywords (table_of ds) (suc (nesting top.value)) [] top held top_definite
-    (own_root keywords (table_of ds) top (held ([], top) (inl refl)) (root_opened d.base d.value) top_definite) q.0 q.1)
 
 -- ---- what the walk from a schema comes to, and what comes of it
 element_nesting : (vs : Elements) (v : Value) → IsIn v (elements_list vs) → nesting v ≤ elements_nesting vs
@@ -203,6 +140,105 @@ pointed_from r s way d b =
         let leads : IsBelow keywords r x.1 way = subst (IsBelow keywords r x.1) (sym q.1 ∙ ways) q.2 in
         ap₂ (λ w t. (w, t)) ways (below_once keywords r x.1 s way leads b d)
 
+-- ---- each schema belongs to a root in the table, which its pointer leads from
+pub record HasRoot (rows : List Keyword) (table : List Schema) (s : Schema) : Type 0 where
+  pub root : Schema
+  pub held : IsIn root table
+  pub at_root : root.pointer ≡ []
+  pub leads : IsBelow rows root s s.pointer
+  pub resource : s.resource ≡ root.resource
+
+own_root : (rows : List Keyword) (table : List Schema) (s : Schema) → IsIn s table → s.pointer ≡ [] → HasRoot rows table s
+own_root rows table s i e = record { root = s; held = i; at_root = e; leads = here refl e; resource = refl }
+
+step_root : (rows : List Keyword) (table : List Schema) (s t : Schema) (way : Pointer) → HasRoot rows table s → IsStep rows s t way → IsIn t table → HasRoot rows table t
+step_root rows table s t way h step i = by_id (text_at (codes "$id") step.part) step.is
+  where
+    by_id : (id : Option Text) → t ≡ opened s.resource (s.pointer ++ way) step.part id → HasRoot rows table t
+    by_id None e = record {
+      root = h.root;
+      held = h.held;
+      at_root = h.at_root;
+      leads = subst (IsBelow rows h.root t) (sym (ap (λ x. x.pointer) e)) (below_more rows h.root s t s.pointer way h.leads step);
+      resource = ap (λ x. x.resource) e ∙ h.resource;
+    }
+    by_id (Some id) e = own_root rows table t i (ap (λ x. x.pointer) e)
+
+start_held : (rows : List Keyword) (n : ℕ) (table : List Schema) (way : Pointer) (s : Schema) (x : Pointer × Schema) → IsIn x (schemas_within rows n way s)
+    → ((y : Pointer × Schema) → IsIn y (schemas_within rows n way s) → IsIn y.1 table) → IsIn s table
+start_held rows zero table way s x i held = absurd i
+start_held rows (suc n) table way s x i held = held (way, s) (inl refl)
+
+within_roots : (rows : List Keyword) (table : List Schema) (n : ℕ) (way : Pointer) (s : Schema) → ((x : Pointer × Schema) → IsIn x (schemas_within rows n way s) → IsIn x.1 table)
+    → HasRoot rows table s → (x : Pointer × Schema) → IsIn x (schemas_within rows n way s) → HasRoot rows table x.1
+within_roots rows table zero way s held h x i = absurd i
+within_roots rows table (suc n) way s held h x (inl e) = subst (λ y. HasRoot rows table y.1) e h
+within_roots rows table (suc n) way s held h x (inr i) =
+    let r = in_flat_map (λ t. schemas_within rows n (way ++ t.0) t.1) (subschemas_by rows s) x i in
+    let t : Pointer × Schema = r.0 in
+    let further_held : (y : Pointer × Schema) → IsIn y (schemas_within rows n (way ++ t.0) t.1) → IsIn y.1 table =
+    λ y j. held y (inr (into_flat_map (λ u. schemas_within rows n (way ++ u.0) u.1) (subschemas_by rows s) t y r.1 j)) in
+    let inside : IsIn t.1 table = start_held rows n table (way ++ t.0) t.1 x r.2 further_held in
+    within_roots rows table n (way ++ t.0) t.1 further_held (step_root rows table s t.1 t.0 h (step_from rows s t.1 t.0 r.1) inside) x r.2
+
+root_opened : (base : Text) (v : Value) → (schema_at base [] v).pointer ≡ []
+root_opened base v = by_id (text_at (codes "$id") v)
+  where
+    by_id : (id : Option Text) → (opened base [] v id).pointer ≡ []
+    by_id None = refl
+    by_id (Some id) = refl
+
+-- within one document
+pub document_roots : (base : Text) (v : Value) (s : Schema) → IsIn s (schemas_of base v) → HasRoot keywords (schemas_of base v) s
+document_roots base v s i =
+    let top : Schema = schema_at base [] v in
+    let r = in_map (λ t. t.1) (schemas_from top) s i in
+    let held : (x : Pointer × Schema) → IsIn x (schemas_from top) → IsIn x.1 (schemas_of base v) = λ x j. into_map (λ t. t.1) (schemas_from top) x j in
+    subst (HasRoot keywords (schemas_of base v)) r.2
+    (within_roots keywords (schemas_of base v) (suc (nesting top.value)) [] top held (own_root keywords (schemas_of base v) top (held ([], top) (inl refl)) (root_opened base v)) r.0 r.1)
+
+pub table_roots : (ds : List Document) (s : Schema) → IsIn s (table_of ds) → HasRoot keywords (table_of ds) s
+table_roots ds s i =
+    let r = in_flat_map (λ d. schemas_of d.base d.value) ds s i in
+    let h = document_roots (r.0).base (r.0).value s r.2 in
+    record {
+      root = h.root;
+      held = into_flat_map (λ d. schemas_of d.base d.value) ds r.0 h.root r.1 h.held;
+      at_root = h.at_root;
+      leads = h.leads;
+      resource = h.resource;
+    }
+
+below_definite : (rows : List Keyword) (s t : Schema) (way : Pointer) → IsBelow rows s t way → IsDefinite s.value → IsDefinite t.value
+below_definite rows s t way (here e f) d = subst (λ x. IsDefinite x.value) e d
+below_definite rows s t way (further {t = u} {way = first} {rest = rest} step more w) d = below_definite rows u t rest more (step_definite rows s u first step d)
+
+pub table_definite : (ds : List Document) → ((d : Document) → IsIn d ds → IsDefinite d.value) → (s : Schema) → IsIn s (table_of ds) → IsDefinite s.value
+table_definite ds definite s i =
+    let r = in_flat_map (λ d. schemas_of d.base d.value) ds s i in
+    let d : Document = r.0 in
+    let top : Schema = schema_at d.base [] d.value in
+    let q = in_map (λ t. t.1) (schemas_from top) s r.2 in
+    let o = within_from keywords (suc (nesting top.value)) [] top q.0 q.1 in
+    let value_is : d.value ≡ top.value = sym (value-opened d.base [] d.value _) in
+    below_definite keywords top s o.0 (subst (λ x. IsBelow keywords top x o.0) q.2 o.2) (subst IsDefinite value_is (definite d r.1))
+
+-- ---- what the table's resources are called
+filter-append : {A : Type 0} (p : A → Bool) (xs ys : List A) → filter p (xs ++ ys) ≡ filter p xs ++ filter p ys
+filter-append p [] ys = refl
+filter-append {A} p (x ∷ xs) ys = by (p x) (filter-append p xs ys)
+  where
+    by : (b : Bool) → filter p (xs ++ ys) ≡ filter p xs ++ filter p ys → cond b (x ∷ filter p (xs ++ ys)) (filter p (xs ++ ys)) ≡ cond b (x ∷ filter p xs) (filter p xs) ++ filter p ys
+    by true e = ap (λ rest. x ∷ rest) e
+    by false e = e
+
+pub table_uris : (ds : List Document) → resource_uris (table_of ds) ≡ resource_uris_of ds
+table_uris [] = refl
+table_uris (d ∷ ds) =
+    ap (map (λ s. s.resource)) (filter-append is_root (schemas_of d.base d.value) (table_of ds))
+    ∙ map-append (λ s. s.resource) (filter is_root (schemas_of d.base d.value)) (filter is_root (table_of ds))
+    ∙ ap (λ rest. resources_of d ++ rest) (table_uris ds)
+
 -- ---- the laws
 values_in : (ds : List Document) → IsDistinct ds → (d : Document) → IsIn d ds → IsDefinite d.value
 values_in ds h d i = h.values d (contains_from_in ds d i)
@@ -210,13 +246,13 @@ values_in ds h d i = h.values d (contains_from_in ds d i)
 pub identity_names_one : IdentityNamesOneSchema
 identity_names_one ds h s t i j e =
     let table : List Schema = table_of ds in
-    let a = table_roots ds (values_in ds h) s (in_from_contains table s i) in
-    let b = table_roots ds (values_in ds h) t (in_from_contains table t j) in
+    let a = table_roots ds s (in_from_contains table s i) in
+    let b = table_roots ds t (in_from_contains table t j) in
     let resources : s.resource ≡ t.resource = ap (λ x. x.0) e in
     let pointers : s.pointer ≡ t.pointer = ap (λ x. x.1) e in
     let roots : a.root ≡ b.root = roots_once table a.root b.root h.uris a.held b.held a.at_root b.at_root (sym a.resource ∙ resources ∙ b.resource) in
     let moved : IsBelow keywords a.root t s.pointer = subst (λ x. x) (ap₂ (λ r p. IsBelow keywords r t p) (sym roots) (sym pointers)) b.leads in
-    below_once keywords a.root s t s.pointer a.leads moved a.definite
+    below_once keywords a.root s t s.pointer a.leads moved (table_definite ds (values_in ds h) a.root a.held)
 
 pub roots_found : RootsAreFound
 roots_found ds h r i root =
@@ -225,12 +261,12 @@ roots_found ds h r i root =
     let pointer = root_pointer r root in
     finds_only (λ s. same_text r.resource s.resource && is_root s) table r inside (rw (same_text_itself r.resource) root)
     (λ q j passes. let p = and_parts (same_text r.resource q.resource) (is_root q) passes in
-    roots_once table q r h.uris j inside (root_pointer q p.1) pointer (sym (same_text_is r.resource q.resource p.0)))
+    roots_once table q r h j inside (root_pointer q p.1) pointer (sym (same_text_is r.resource q.resource p.0)))
 
 pub schemas_pointed_to : SchemasArePointedTo
 schemas_pointed_to ds h s i =
     let table : List Schema = table_of ds in
-    let a = table_roots ds (values_in ds h) s (in_from_contains table s i) in
+    let a = table_roots ds s (in_from_contains table s i) in
     let found : resource_root table s.resource ≡ Some a.root =
-    ap (resource_root table) a.resource ∙ roots_found ds h a.root (contains_from_in table a.root a.held) (pointer_root a.root a.at_root) in
-    ap (option_and_then (pointed s.pointer)) found ∙ pointed_from a.root s s.pointer a.definite a.leads
+    ap (resource_root table) a.resource ∙ roots_found ds h.uris a.root (contains_from_in table a.root a.held) (pointer_root a.root a.at_root) in
+    ap (option_and_then (pointed s.pointer)) found ∙ pointed_from a.root s s.pointer (table_definite ds (values_in ds h) a.root a.held) a.leads

@@ -10,10 +10,10 @@ use Rattle.definitions.specs.Keywords.{keywords, shape_in, Meaning, refers, refe
 use Rattle.definitions.specs.Schemas.{Schema, below, reference_at, references}
 use Rattle.definitions.specs.Targets.{target, dynamic_target}
 use Rattle.definitions.specs.Applied.{Application, Outcome, Part, whole, named, indexed, name_of, Rules, applying, at_part, in_place, to_target, each_listed, at_items, at_members, at_present, has, beside, consequence_of, condition_outcome, contains_outcomes, is_taken, applied}
-use Rattle.definition_laws.proofs.Memberships.{IsIn, into_map, from_filter, zipped_first}
+use Rattle.definition_laws.proofs.Occurrences.{IsIn, into_map, from_filter, zipped_first}
 use Rattle.definition_laws.proofs.Places.{IsStep, places}
 use Rattle.definition_laws.proofs.Unbundled.{is_changed}
-use Rattle.definition_laws.proofs.Resources.{same_text_is}
+use Rattle.definition_laws.proofs.Roots.{same_text_is}
 use Rattle.definition_laws.proofs.Targets.{AlikeIn, equal_alike, below_alike, alike_get, alike_reference, referred_alike, static_reference, dynamic_reference}
 
 -- ---- one step down by a keyword's shape

@@ -14,9 +14,9 @@ use Rattle.definitions.specs.Applied.{Application, Outcome, Part, Rules, entered
 use Rattle.definitions.specs.Evaluated.{passing, failed, passed, needs_none, contains_holds, keyword_passes, evaluated_names, evaluated_indexes, annotation_of, may_annotate, is_annotation}
 use Rattle.definitions.specs.Assertions.{is_at_least, is_at_most}
 use Rattle.definitions.specs.Outcomes.{Use, unit, own_annotation, use_annotations, other_annotations, use_errors, combined, use_of, used, uses_of, object_outcome}
-use Rattle.definition_laws.proofs.Memberships.{IsIn, all_pass_in, from_filter}
+use Rattle.definition_laws.proofs.Occurrences.{IsIn, all_pass_in, from_filter}
 use Rattle.definition_laws.proofs.Unbundled.{is_changed, kept_alike, filter_kept}
-use Rattle.definition_laws.proofs.Resources.{same_text_is}
+use Rattle.definition_laws.proofs.Roots.{same_text_is}
 use Rattle.definition_laws.proofs.Targets.{alike_resource, alike_pointer, alike_get}
 use Rattle.definition_laws.proofs.Applying.{fits, outcomes, of_schema, IsSetting, beside_same, contains_same, get_in, filter_same, applied_same}
 

@@ -1,12 +1,12 @@
 pub mod Registries
 pub mod Evaluations
-pub mod Memberships
+pub mod Occurrences
 pub mod Places
-pub mod Resources
+pub mod Roots
 pub mod Unbundled
 pub mod Tables
 pub mod Targets
 pub mod Applying
 pub mod Gathering
 pub mod AlikeTables
-pub mod Reached
+pub mod ReachedTables

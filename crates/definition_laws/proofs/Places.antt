@@ -14,7 +14,7 @@ use Rattle.definitions.specs.Shapes.{Shape, one_schema, schema_list, schema_map}
 use Rattle.definitions.specs.Keywords.{Keyword, shape_in}
 use Rattle.definitions.specs.Schemas.{Schema, opened, below, at_place, subschemas_by}
 use Rattle.definition_laws.specs.Identities.{has_short_arrays, have_short_arrays, members_have_short_arrays, IsDefinite}
-use Rattle.definition_laws.proofs.Memberships.{IsIn, in_flat_map, into_flat_map, in_map, into_map, numbered_within, numbered_once, numbered_in}
+use Rattle.definition_laws.proofs.Occurrences.{IsIn, in_flat_map, into_flat_map, in_map, into_map, numbered_within, numbered_once, numbered_in}
 
 -- ---- the value of a schema
 pub value-opened : (base : Text) (p : Pointer) (v : Value) (id : Option Text) → (opened base p v id).value ≡ v

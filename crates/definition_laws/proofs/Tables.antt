@@ -9,9 +9,9 @@ use Rattle.definitions.specs.Keywords.{Keyword, keywords}
 use Rattle.definitions.specs.Schemas.{Schema, Document, schema_at, schemas_of, schemas_from, table_of}
 use Rattle.definitions.specs.Uris.{without_fragment}
 use Rattle.definitions.specs.Targets.{resource_root, dynamically_anchored, pointed, target_in, target, fragment_of}
-use Rattle.definition_laws.proofs.Memberships.{IsIn, in_flat_map, into_flat_map, in_map, into_map}
+use Rattle.definition_laws.proofs.Occurrences.{IsIn, in_flat_map, into_flat_map, in_map, into_map}
 use Rattle.definition_laws.proofs.Places.{IsStep, IsBelow, here, further}
-use Rattle.definition_laws.proofs.Resources.{within_from, within_to}
+use Rattle.definition_laws.proofs.Roots.{within_from, within_to}
 
 abbrev pub IsClosed : List Schema → Type 0
 IsClosed table = (s t : Schema) (way : Pointer) → IsIn s table → IsBelow keywords s t way → IsIn t table

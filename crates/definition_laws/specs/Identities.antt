@@ -4,7 +4,6 @@ use Rattle.std.specs.Prelude.{◌≡◌, ◌^◌, List, Bool, true, false, ◌&&
 use Rattle.definitions.specs.Values.{Value, null, boolean, integer, string, array, object, Elements, no_elements, element, Members, no_members, member, elements_list, is_well_formed, has_repeat, same_text}
 use Rattle.definitions.specs.Schemas.{Schema, Document, identity, is_root, table_of}
 use Rattle.definitions.specs.Scanning.{resource_uris}
-use Rattle.definitions.specs.Runs.{resource_uris_of}
 use Rattle.definitions.specs.Targets.{resource_root, pointed}
 
 -- each array has less than 2 ^ 64 elements: so far places differ in their decimal text
@@ -34,10 +33,6 @@ pub record IsDefinite (v : Value) : Type 0 where
 pub record IsDistinct (ds : List Document) : Type 0 where
   pub uris : has_repeat same_text (resource_uris (table_of ds)) ≡ false
   pub values : (d : Document) → Contains ds d → IsDefinite d.value
-
--- the URIs are those that the documents open, one after the other
-abbrev pub TableUrisAreTheDocuments : Type 0
-TableUrisAreTheDocuments = (ds : List Document) → resource_uris (table_of ds) ≡ resource_uris_of ds
 
 abbrev pub IdentityNamesOneSchema : Type 0
 IdentityNamesOneSchema =

@@ -1,11 +1,6 @@
 //! What a schema's identity says of it (JSON Schema 2020-12 Core, 8.2.1 and 8.2.3).
 
-ghost use Rattle.definition_laws.specs.Identities.{TableUrisAreTheDocuments, IdentityNamesOneSchema, RootsAreFound, SchemasArePointedTo};
-
-/// The resource URIs of a table are those that its documents open, in turn.
-pub fn table_uris_are_the_documents()
-    ensures { TableUrisAreTheDocuments }
-{}
+ghost use Rattle.definition_laws.specs.Identities.{IdentityNamesOneSchema, RootsAreFound, SchemasArePointedTo};
 
 /// Of the schemas of documents whose resources have distinct URIs no two have the same URI and pointer.
 pub fn identity_names_one_schema()

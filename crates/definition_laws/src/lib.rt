@@ -6,10 +6,7 @@ mod likeness;
 
 ghost use Rattle.definition_laws.specs.Laws.{FailingEvaluatesNothing, RefusalsKeepTheRegistry, CoursesAreReplies, AgreeingAnswerAlike};
 
-pub use identities::{
-    identity_names_one_schema, roots_are_found, schemas_are_pointed_to,
-    table_uris_are_the_documents,
-};
+pub use identities::{identity_names_one_schema, roots_are_found, schemas_are_pointed_to};
 pub use likeness::{alike_tables_answer_the_same, alike_tables_give_the_same, reach_is_enough};
 
 /// A schema that fails evaluates no name and no index (JSON Schema 2020-12 Core, 11).

@@ -1,4 +1,4 @@
-use Rattle.definition_laws.proofs.Resources.{roots_found}
+use Rattle.definition_laws.proofs.Roots.{roots_found}
 use Rattle.definition_laws.proofs.identities.roots_are_found.Goals as goal
 
 pub returns : goal.returns

@@ -14,8 +14,8 @@ use Rattle.definitions.specs.Runs.{resource_uris_of}
 use Rattle.definitions.specs.Targets.{resource_root, dynamically_anchored, is_anchor, is_dynamic_anchor, pointed, target_in, target, fragment_of}
 use Rattle.definitions.specs.Reach.{holds_resource, references_in, refers_to, grown_times, reach, missing}
 use Rattle.definition_laws.specs.Likeness.{ReachIsEnough}
-use Rattle.definition_laws.proofs.Memberships.{IsIn, in_from_contains, contains_from_in, in_flat_map, into_flat_map, into_map, from_filter, into_filter, any_of_in, in_right}
-use Rattle.definition_laws.proofs.Resources.{same_text_itself, same_text_is, pointer_root, neither, document_roots}
+use Rattle.definition_laws.proofs.Occurrences.{IsIn, in_from_contains, contains_from_in, in_flat_map, into_flat_map, into_map, from_filter, into_filter, any_of_in, in_right}
+use Rattle.definition_laws.proofs.Roots.{same_text_itself, same_text_is, pointer_root, neither, document_roots}
 use Rattle.definition_laws.proofs.Tables.{found_in}
 use Rattle.definition_laws.proofs.AlikeTables.{alike_tables_answer_the_same}
 

@@ -1,8 +1,7 @@
 -- In a table with distinct resource URIs an identity names one schema.
-use Rattle.std.proofs.Common.{◌≡◌, ◌<◌, ◌≤◌, ◌==◌, ◌&&◌, ◌||◌, ℕ, zero, suc, List, [], ◌∷◌, ◌++◌, map, length, Bool, true, false, cond, Option, Some, None, option_map, option_and_then, codes, refl, sym, ap, ap₂, subst, ◌∙◌, arith, inl, inr, append_assoc, append-nil}
+use Rattle.std.proofs.Common.{◌≡◌, ◌<◌, ◌≤◌, ◌==◌, ◌&&◌, ◌||◌, ℕ, zero, suc, List, [], ◌∷◌, ◌++◌, map, length, Bool, true, false, Option, Some, None, option_map, option_and_then, codes, refl, sym, ap, ap₂, subst, ◌∙◌, arith, inl, inr, append_assoc, append-nil}
 use Rattle.std.proofs.lemmas.Bool.{and_parts, eqb-true}
 use Rattle.std.proofs.lemmas.Slice.Eq.{bytes_eq-Decides}
-use Rattle.std.proofs.lemmas.List.{map-append}
 use Rattle.std.specs.List.{filter, enumerate_from, list_any}
 use Rattle.definitions.specs.Values.{Text, Value, null, boolean, integer, string, array, object, Elements, no_elements, element, Members, no_members, member, elements, members, elements_list, members_list, nesting, elements_nesting, members_nesting, text_at, has_repeat, same_text}
 use Rattle.definitions.specs.Pointers.{Pointer, same_pointer}
@@ -10,11 +9,9 @@ use Rattle.definitions.specs.Shapes.{Shape, one_schema, schema_list, schema_map}
 use Rattle.definitions.specs.Keywords.{Keyword, keywords, shape_in}
 use Rattle.definitions.specs.Schemas.{Schema, Document, opened, schema_at, subschemas_by, schemas_within, schemas_from, schemas_of, table_of, is_root}
 use Rattle.definitions.specs.Scanning.{resource_uris}
-use Rattle.definitions.specs.Registries.{resources_of}
-use Rattle.definitions.specs.Runs.{resource_uris_of}
 use Rattle.definitions.specs.Targets.{resource_root, pointed}
 use Rattle.definition_laws.specs.Identities.{IsDefinite, IsDistinct, IdentityNamesOneSchema, RootsAreFound, SchemasArePointedTo}
-use Rattle.definition_laws.proofs.Memberships.{IsIn, in_from_contains, contains_from_in, in_flat_map, into_flat_map, in_map, into_map, into_filter, finds_only, any_of_in, numbered_in}
+use Rattle.definition_laws.proofs.Occurrences.{IsIn, in_from_contains, contains_from_in, in_flat_map, into_flat_map, in_map, into_map, into_filter, finds_only, any_of_in, numbered_in}
 use Rattle.definition_laws.proofs.Places.{IsStep, step_from, step_to, step_definite, value-opened, value-below, places, IsBelow, here, further, below_once, below_more}
 
 -- ---- equal texts and pointers
@@ -222,22 +219,6 @@ table_definite ds definite s i =
     let o = within_from keywords (suc (nesting top.value)) [] top q.0 q.1 in
     let value_is : d.value ≡ top.value = sym (value-opened d.base [] d.value _) in
     below_definite keywords top s o.0 (subst (λ x. IsBelow keywords top x o.0) q.2 o.2) (subst IsDefinite value_is (definite d r.1))
-
--- ---- what the table's resources are called
-filter-append : {A : Type 0} (p : A → Bool) (xs ys : List A) → filter p (xs ++ ys) ≡ filter p xs ++ filter p ys
-filter-append p [] ys = refl
-filter-append {A} p (x ∷ xs) ys = by (p x) (filter-append p xs ys)
-  where
-    by : (b : Bool) → filter p (xs ++ ys) ≡ filter p xs ++ filter p ys → cond b (x ∷ filter p (xs ++ ys)) (filter p (xs ++ ys)) ≡ cond b (x ∷ filter p xs) (filter p xs) ++ filter p ys
-    by true e = ap (λ rest. x ∷ rest) e
-    by false e = e
-
-pub table_uris : (ds : List Document) → resource_uris (table_of ds) ≡ resource_uris_of ds
-table_uris [] = refl
-table_uris (d ∷ ds) =
-    ap (map (λ s. s.resource)) (filter-append is_root (schemas_of d.base d.value) (table_of ds))
-    ∙ map-append (λ s. s.resource) (filter is_root (schemas_of d.base d.value)) (filter is_root (table_of ds))
-    ∙ ap (λ rest. resources_of d ++ rest) (table_uris ds)
 
 -- ---- the laws
 values_in : (ds : List Document) → IsDistinct ds → (d : Document) → IsIn d ds → IsDefinite d.value

@@ -1,2 +1,12 @@
 pub mod Registries
 pub mod Evaluations
+pub mod Occurrences
+pub mod Places
+pub mod Roots
+pub mod Unbundled
+pub mod Tables
+pub mod Targets
+pub mod Applying
+pub mod Gathering
+pub mod AlikeTables
+pub mod ReachedTables

@@ -1,2 +1,4 @@
 pub mod Laws
 pub mod Uniqueness
+pub mod Identities
+pub mod Likeness

@@ -1,7 +1,13 @@
 //! Laws of the definitions, each as the contract of a function that does nothing.
 #![tactic(auto)]
 
+mod identities;
+mod likeness;
+
 ghost use Rattle.definition_laws.specs.Laws.{FailingEvaluatesNothing, RefusalsKeepTheRegistry, CoursesAreReplies, AgreeingAnswerAlike};
+
+pub use identities::{identity_names_one_schema, roots_are_found, schemas_are_pointed_to};
+pub use likeness::{alike_tables_answer_the_same, alike_tables_give_the_same, reach_is_enough};
 
 /// A schema that fails evaluates no name and no index (JSON Schema 2020-12 Core, 11).
 pub fn failing_evaluates_nothing()

@@ -1,2 +1,3 @@
 pub mod Registries
 pub mod Evaluations
+pub mod PointerTexts

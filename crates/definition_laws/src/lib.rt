@@ -1,7 +1,11 @@
 //! Laws of the definitions, each as the contract of a function that does nothing.
 #![tactic(auto)]
 
+mod pointers;
+
 ghost use Rattle.definition_laws.specs.Laws.{FailingEvaluatesNothing, RefusalsKeepTheRegistry, CoursesAreReplies, AgreeingAnswerAlike};
+
+pub use pointers::{pointers_are_read_back, read_pointers_have_one_text};
 
 /// A schema that fails evaluates no name and no index (JSON Schema 2020-12 Core, 11).
 pub fn failing_evaluates_nothing()

@@ -1,3 +1,4 @@
 pub mod Laws
 pub mod Uniqueness
 pub mod Pointers
+pub mod Reaching

@@ -2,10 +2,12 @@
 #![tactic(auto)]
 
 mod pointers;
+mod reaching;
 
 ghost use Rattle.definition_laws.specs.Laws.{FailingEvaluatesNothing, RefusalsKeepTheRegistry, CoursesAreReplies, AgreeingAnswerAlike};
 
 pub use pointers::{pointers_are_read_back, read_pointers_have_one_text};
+pub use reaching::reached_sets_are_least;
 
 /// A schema that fails evaluates no name and no index (JSON Schema 2020-12 Core, 11).
 pub fn failing_evaluates_nothing()

@@ -4,3 +4,6 @@ pub mod PointerTexts
 pub mod Membership
 pub mod Growing
 pub mod ReachedSets
+pub mod Repeats
+pub mod Placing
+pub mod KeptRegistries

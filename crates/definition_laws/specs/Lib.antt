@@ -2,3 +2,4 @@ pub mod Laws
 pub mod Uniqueness
 pub mod Pointers
 pub mod Reaching
+pub mod Keeping

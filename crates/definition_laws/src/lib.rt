@@ -1,11 +1,13 @@
 //! Laws of the definitions, each as the contract of a function that does nothing.
 #![tactic(auto)]
 
+mod keeping;
 mod pointers;
 mod reaching;
 
 ghost use Rattle.definition_laws.specs.Laws.{FailingEvaluatesNothing, RefusalsKeepTheRegistry, CoursesAreReplies, AgreeingAnswerAlike};
 
+pub use keeping::{courses_keep_registries, empty_registries_are_kept, steps_keep_registries};
 pub use pointers::{pointers_are_read_back, read_pointers_have_one_text};
 pub use reaching::reached_sets_are_least;
 

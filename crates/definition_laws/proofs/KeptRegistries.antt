@@ -1,0 +1,246 @@
+-- What holds of a registry holds after a request.
+use Rattle.std.proofs.Common.{◌≡◌, ◌⊎◌, ◌≤◌, ℕ, List, [], ◌∷◌, ◌++◌, Bool, true, false, cond, not, ◌&&◌, Option, Some, None, Result, Ok, Err, option_map, is_some, length, map, filter, flat_map, sum_by, find, nat_lt, Contains, Equal, arith, refl, sym, ap, ◌∙◌, subst, inl, inr, true≢false}
+use Rattle.std.proofs.lemmas.Bool.{ltb-false, false_from_ne_true, and_from}
+use Rattle.std.proofs.lemmas.Cmp.{nat_list_cmp_total, tied_itself}
+use Rattle.std.proofs.lemmas.List.Filters.{sum_by-filter_both}
+use Rattle.std.specs.Cmp.Lexicographic.{slice_cmp, bytes_decides}
+use Rattle.std.specs.List.Sorted.{IsStrictlySortedBy}
+use Rattle.std.specs.List.{list_any}
+use Rattle.std.specs.Ordering.{nat_cmp, match_ordering}
+use Rattle.definitions.specs.Values.{Text, Value, has_repeat, same_text}
+use Rattle.definitions.specs.Texts.{text}
+use Rattle.definitions.specs.Faults.{Fault, bad_pattern, taken, quota_documents, quota_bytes, duplicate_uri, duplicate_anchor}
+use Rattle.definitions.specs.Resolution.{base_form}
+use Rattle.definitions.specs.Keywords.{keywords}
+use Rattle.definitions.specs.Schemas.{Schema, Document, document_from, schemas_of, option_list, is_root}
+use Rattle.definitions.specs.Targets.{resource_root}
+use Rattle.definitions.specs.Scanning.{first, when, scan_faults, form_faults, resource_uris, same_anchor, anchors_of}
+use Rattle.definitions.specs.Reach.{least, holds_resource}
+use Rattle.definitions.specs.Bundles.{document_of, others_of}
+use Rattle.definitions.specs.Registries.{Search, Registry, Request, put, delete, validate, bundled_from, Reply, step, for_base, for_value, decided, put_refusal, body_value, is_regular, placed, resources_of, taken_uri, bytes_of}
+use Rattle.definitions.specs.Runs.{Course, IsKept}
+use Rattle.definition_laws.proofs.Membership.{nothing_in, is_first, is_later, first_or_later, in_filter, from_filter, filter_short}
+use Rattle.definition_laws.proofs.Repeats.{none_of, filtered}
+use Rattle.definition_laws.proofs.Placing.{inserted, ascending, kept_ascending, from_inserted, distinct}
+use Rattle.definition_laws.proofs.ReachedSets.{same_text-back}
+
+-- ---- no fault among several
+first_none : {A : Type 0} (xs : List A) → first xs ≡ None → xs ≡ []
+first_none [] e = refl
+first_none (x ∷ xs) e = cc
+
+neither : {A : Type 0} (xs ys : List A) → xs ++ ys ≡ [] → (xs ≡ []) × (ys ≡ [])
+neither [] ys e = (refl, e)
+neither (x ∷ xs) ys e = cc
+
+when_none : (b : Bool) (f : Fault) → when b f ≡ [] → b ≡ false
+when_none true f e = cc
+when_none false f e = refl
+
+not_taken : (o : Option Text) → option_list (option_map taken o) ≡ [] → o ≡ None
+not_taken None e = refl
+not_taken (Some u) e = cc
+
+no_least : (ts : List Text) → least ts ≡ None → ts ≡ []
+no_least [] e = refl
+no_least (t ∷ ts) e = cc
+
+is_not : (b : Bool) → not b ≡ false → b ≡ true
+is_not true e = refl
+is_not false e = sym e
+
+-- ---- a document's resources
+found : {X : Type 0} (p : X → Bool) (x : X) (xs : List X) → Contains xs x → p x ≡ true → is_some (find p xs) ≡ true
+found p x [] c e = absurd (nothing_in x c)
+found {X} p x (y ∷ ys) c e = elim (first_or_later y x ys c) [
+  | inl same ↦ rw (same, e) refl
+  | inr later ↦ at_first (p y) (found p x ys later e)
+]
+  where
+    at_first : (b : Bool) → is_some (find p ys) ≡ true → is_some (cond b (Some y) (find p ys)) ≡ true
+    at_first true h = refl
+    at_first false h = h
+
+from_map : {X Y : Type 0} (f : X → Y) (y : Y) (xs : List X) → Contains (map f xs) y → (x : X) × (Contains xs x × (f x ≡ y))
+from_map f y [] c = absurd (nothing_in y c)
+from_map {X} f y (x ∷ xs) c = elim (first_or_later (f x) y (map f xs) c) [
+  | inl same ↦ (x, (is_first x xs, same))
+  | inr later ↦ let rest : (z : X) × (Contains xs z × (f z ≡ y)) = from_map f y xs later in (rest.0, (is_later x rest.0 xs rest.1.0, rest.1.1))
+]
+
+-- a URI that a table's schemas open has a root
+pub opened_is_root : (table : List Schema) (u v : Text) → Contains (resource_uris table) v → same_text u v ≡ true → is_some (resource_root table u) ≡ true
+opened_is_root table u v c e =
+    let s : (s : Schema) × (Contains (filter is_root table) s × (s.resource ≡ v)) = from_map (λ (s : Schema). s.resource) v (filter is_root table) c in
+    let stands = from_filter is_root s.0 table s.1.0 in
+    found (λ t. same_text u t.resource && is_root t) s.0 table stands.0
+    (and_from (same_text u s.0.resource) (is_root s.0) (ap (same_text u) s.1.1 ∙ e) stands.1)
+
+pub apart_from_held : (d e : Document) → ((u : Text) → Contains (resources_of d) u → holds_resource u e ≡ false)
+    → (u v : Text) → Contains (resources_of d) u → Contains (resources_of e) v → same_text u v ≡ false
+apart_from_held d e free u v c k =
+    false_from_ne_true (same_text u v) (λ same. true≢false (sym (opened_is_root (schemas_of e.base e.value) u v k same) ∙ free u c))
+
+pub same_text-unlike : (t u : Text) → same_text t u ≡ false → same_text u t ≡ false
+same_text-unlike t u e = false_from_ne_true (same_text u t) (λ same. true≢false (sym (same_text-back u t same) ∙ e))
+
+-- ---- a document that is put
+abbrev key_of : Document → Text
+key_of d = d.canonical
+
+as_inserted : (d : Document) (ds : List Document) → inserted (slice_cmp nat_cmp) key_of d ds ≡ placed d ds
+as_inserted d [] = refl
+as_inserted d (e ∷ es) = ap (λ r. match_ordering (slice_cmp nat_cmp d.canonical e.canonical) (d ∷ e ∷ es) (d ∷ es) (e ∷ r)) (as_inserted d es)
+
+from_placed : (d e : Document) (ds : List Document) → Contains (placed d ds) e → (d ≡ e) ⊎ Contains ds e
+from_placed d e ds c = from_inserted (slice_cmp nat_cmp) nat_list_cmp_total key_of d e ds (subst (λ es. Contains es e) (sym (as_inserted d ds)) c)
+
+-- what `put_refusal` has no fault in
+record IsAccepted (search : Search) (g : Registry) (d : Document) (after : List Document) : Type 0 where
+  scanned : scan_faults d.base d.value ≡ []
+  regular : is_regular search d.value ≡ true
+  free : taken_uri g.documents d ≡ None
+  few : nat_lt g.most_documents (length after) ≡ false
+  small : nat_lt g.most_bytes (bytes_of after) ≡ false
+
+accepted_by : (faults : List Fault) (regular : Bool) (uri : Option Text) (many large : Bool)
+    → first (faults ++ (when (not regular) bad_pattern ++ (option_list (option_map taken uri) ++ (when many quota_documents ++ when large quota_bytes)))) ≡ None
+    → (faults ≡ []) × ((regular ≡ true) × ((uri ≡ None) × ((many ≡ false) × (large ≡ false))))
+accepted_by faults regular uri many large e =
+    let one = neither faults _ (first_none _ e) in
+    let two = neither (when (not regular) bad_pattern) _ one.1 in
+    let three = neither (option_list (option_map taken uri)) _ two.1 in
+    let four = neither (when many quota_documents) _ three.1 in
+    (one.0, (is_not regular (when_none (not regular) bad_pattern two.0), (not_taken uri three.0, (when_none many quota_documents four.0, when_none large quota_bytes four.1))))
+
+accepted : (search : Search) (g : Registry) (d : Document) (after : List Document) → put_refusal search g d after ≡ None → IsAccepted search g d after
+accepted search g d after e =
+    let parts = accepted_by (scan_faults d.base d.value) (is_regular search d.value) (taken_uri g.documents d) (nat_lt g.most_documents (length after)) (nat_lt g.most_bytes (bytes_of after)) e in
+    record { scanned = parts.0; regular = parts.1.0; free = parts.1.1.0; few = parts.1.1.1.0; small = parts.1.1.1.1 }
+
+no_repeat_in : (faults : List Fault) (uris anchors : Bool) → faults ++ (when uris duplicate_uri ++ when anchors duplicate_anchor) ≡ [] → uris ≡ false
+no_repeat_in faults uris anchors e =
+    when_none uris duplicate_uri (neither (when uris duplicate_uri) (when anchors duplicate_anchor) (neither faults _ e).1).0
+
+own_resources : (d : Document) → scan_faults d.base d.value ≡ [] → has_repeat same_text (resources_of d) ≡ false
+own_resources d e =
+    no_repeat_in (form_faults keywords d.base d.value) (has_repeat same_text (resources_of d))
+    (has_repeat same_anchor (flat_map anchors_of (schemas_of d.base d.value))) e
+
+-- none of its URIs is held by a document with another canonical URI
+free_of_others : (ds : List Document) (d e : Document) → taken_uri ds d ≡ None → Contains ds e → (slice_cmp nat_cmp d.canonical e.canonical ≡ Equal → ⊥)
+    → (u v : Text) → Contains (resources_of d) u → Contains (resources_of e) v → same_text u v ≡ false
+free_of_others ds d e free c other =
+    apart_from_held d e (λ u in_d.
+    let untaken : list_any (holds_resource u) (others_of d.canonical ds) ≡ false =
+    false_from_ne_true (list_any (holds_resource u) (others_of d.canonical ds)) (λ held.
+    nothing_in u (subst (λ us. Contains us u)
+    (no_least (filter (λ w. list_any (holds_resource w) (others_of d.canonical ds)) (resources_of d)) free)
+    (in_filter (λ w. list_any (holds_resource w) (others_of d.canonical ds)) u (resources_of d) in_d held))) in
+    none_of (holds_resource u) e (others_of d.canonical ds) untaken
+    (in_filter (λ x. not (same_text d.canonical x.canonical)) e ds c (unlike (same_text d.canonical e.canonical) refl)))
+  where
+    unlike : (b : Bool) → same_text d.canonical e.canonical ≡ b → not b ≡ true
+    unlike true same =
+        absurd (other (ap (slice_cmp nat_cmp d.canonical) (sym ((bytes_decides d.canonical e.canonical).0 same)) ∙ tied_itself nat_list_cmp_total d.canonical))
+    unlike false different = refl
+
+put_kept : (search : Search) (g : Registry) (b : Text) (v : Value) → IsKept search g → put_refusal search g (document_from b v) (placed (document_from b v) g.documents) ≡ None
+    → IsKept search (record g { documents = placed (document_from b v) g.documents })
+put_kept search g b v kept none =
+    let d = document_from b v in
+    let fine = accepted search g d (placed d g.documents) none in
+    record {
+      ordered = subst (λ ds. IsStrictlySortedBy (slice_cmp nat_cmp) (map key_of ds)) (as_inserted d g.documents)
+          (ascending (slice_cmp nat_cmp) nat_list_cmp_total key_of d g.documents kept.ordered);
+      named = λ e c. elim (from_placed d e g.documents c) [
+        | inl itself ↦ subst (λ x. x ≡ document_from x.base x.value) itself refl
+        | inr other ↦ kept.named e other
+      ];
+      few = ltb-false g.most_documents (length (placed d g.documents)) fine.few;
+      small = ltb-false g.most_bytes (bytes_of (placed d g.documents)) fine.small;
+      distinct = subst (λ ds. has_repeat same_text (flat_map resources_of ds) ≡ false) (as_inserted d g.documents)
+          (distinct (slice_cmp nat_cmp) nat_list_cmp_total key_of same_text same_text-unlike resources_of d g.documents kept.ordered
+          (own_resources d fine.scanned) kept.distinct (λ e c other. free_of_others g.documents d e fine.free c other));
+      scanned = λ e c. elim (from_placed d e g.documents c) [
+        | inl itself ↦ subst (λ x. first (scan_faults x.base x.value) ≡ None) itself (ap first fine.scanned)
+        | inr other ↦ kept.scanned e other
+      ];
+      regular_patterns = λ e c. elim (from_placed d e g.documents c) [
+        | inl itself ↦ subst (λ x. is_regular search x.value ≡ true) itself fine.regular
+        | inr other ↦ kept.regular_patterns e other
+      ];
+    }
+
+-- ---- a document that is deleted
+fewer : {X : Type 0} (f : X → ℕ) (p : X → Bool) (xs : List X) → sum_by f (filter p xs) ≤ sum_by f xs
+fewer f p xs = omega (arith, sum_by-filter_both p (λ x. not (p x)) (λ x. refl) f xs)
+
+fewer_bytes : (p : Document → Bool) (ds : List Document) → bytes_of (filter p ds) ≤ bytes_of ds
+fewer_bytes p ds = fewer (λ (d : Document). length (text d.value)) p ds
+
+delete_kept : (search : Search) (g : Registry) (b : Text) → IsKept search g → IsKept search (record g { documents = others_of b g.documents })
+delete_kept search g b kept =
+    let is_other = λ (d : Document). not (same_text b d.canonical) in
+    record {
+      ordered = kept_ascending (slice_cmp nat_cmp) key_of (λ t. not (same_text b t)) g.documents kept.ordered;
+      named = λ d c. kept.named d (from_filter is_other d g.documents c).0;
+      few = omega (arith, kept.few, filter_short is_other g.documents);
+      small = omega (arith, kept.small, fewer_bytes is_other g.documents);
+      distinct = filtered same_text resources_of is_other g.documents kept.distinct;
+      scanned = λ d c. kept.scanned d (from_filter is_other d g.documents c).0;
+      regular_patterns = λ d c. kept.regular_patterns d (from_filter is_other d g.documents c).0;
+    }
+
+-- ---- every request
+for_base_kept : (search : Search) (g : Registry) (r : Result Text Fault) (next : Text → Reply × Registry) → ((b : Text) → IsKept search (next b).1) → IsKept search g
+    → IsKept search (for_base g r next).1
+for_base_kept search g (Ok b) next h kept = h b
+for_base_kept search g (Err e) next h kept = kept
+
+for_value_kept : (search : Search) (g : Registry) (r : Result Value Fault) (next : Value → Reply × Registry) → ((v : Value) → IsKept search (next v).1) → IsKept search g
+    → IsKept search (for_value g r next).1
+for_value_kept search g (Ok v) next h kept = h v
+for_value_kept search g (Err e) next h kept = kept
+
+decided_kept : (search : Search) (o : Option Fault) (reply : Reply) (after before : Registry) → (o ≡ None → IsKept search after) → IsKept search before
+    → IsKept search (decided o reply after before).1
+decided_kept search None reply after before h kept = h refl
+decided_kept search (Some f) reply after before h kept = kept
+
+deleted_kept : (search : Search) (b : Bool) (done other : Reply) (after before : Registry) → IsKept search after → IsKept search before
+    → IsKept search (cond {A = Reply × Registry} b (done, after) (other, before)).1
+deleted_kept search true done other after before h kept = h
+deleted_kept search false done other after before h kept = kept
+
+pub step_kept : (search : Search) (g : Registry) (q : Request) → IsKept search g → IsKept search (step search g q).1
+step_kept search g (put uri body) kept =
+    for_base_kept search g (base_form uri) _ (λ b. for_value_kept search g (body_value body) _ (λ v.
+    decided_kept search (put_refusal search g (document_from b v) (placed (document_from b v) g.documents)) _ _ g (put_kept search g b v kept) kept) kept) kept
+step_kept search g (delete uri) kept =
+    for_base_kept search g (base_form uri) _ (λ b. deleted_kept search (is_some (document_of g.documents b)) _ _ _ g (delete_kept search g b kept) kept) kept
+step_kept search g (validate uri body) kept =
+    for_base_kept search g (base_form uri) _ (λ b. for_value_kept search g (body_value body) _ (λ v. kept) kept) kept
+step_kept search g (bundled_from uri) kept = for_base_kept search g (base_form uri) _ (λ b. kept) kept
+
+-- ---- from an empty registry on
+pub empty_kept : (search : Search) (most_documents most_bytes : ℕ) → IsKept search (record { documents = []; most_documents = most_documents; most_bytes = most_bytes })
+unfolding IsStrictlySortedBy
+empty_kept search most_documents most_bytes = record {
+  ordered = tt;
+  named = λ d c. absurd (nothing_in d c);
+  few = omega arith;
+  small = omega arith;
+  distinct = refl;
+  scanned = λ d c. absurd (nothing_in d c);
+  regular_patterns = λ d c. absurd (nothing_in d c);
+}
+
+pub course_kept : (search : Search) (g h : Registry) (qs : List Request) (rs : List Reply) → Course search g qs rs h → IsKept search g → IsKept search h
+course_kept search g h [] [] course kept = subst (IsKept search) (sym course) kept
+course_kept search g h [] (r ∷ rs) course kept = absurd course
+course_kept search g h (q ∷ qs) [] course kept = absurd course
+course_kept search g h (q ∷ qs) (r ∷ rs) course kept = elim course [
+  | inl answered ↦ course_kept search (step search g q).1 h qs rs answered.1 (step_kept search g q kept)
+  | inr for_room ↦ course_kept search g h qs rs for_room.1 kept
+]

@@ -21,6 +21,9 @@ module _ {X : Type 0} (leads : X → X → Bool) (own : (x : X) → leads x x �
   by_test zero = refl
   by_test (suc n) = refl
 
+  pub as_filter : (n : ℕ) → (p : X → Bool) × (after n ≡ filter p all)
+  as_filter n = (is_in n, by_test n)
+
   pub inside : (n : ℕ) (x : X) → Contains (after n) x → Contains all x
   inside zero x c = (from_filter start x all c).0
   inside (suc n) x c = (from_filter (λ y. list_any (λ x. leads x y) (after n)) x all c).0

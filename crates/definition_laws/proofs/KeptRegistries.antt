@@ -1,6 +1,6 @@
 -- What holds of a registry holds after a request.
-use Rattle.std.proofs.Common.{◌≡◌, ◌⊎◌, ◌≤◌, ℕ, List, [], ◌∷◌, ◌++◌, Bool, true, false, cond, not, ◌&&◌, Option, Some, None, Result, Ok, Err, option_map, is_some, length, map, filter, flat_map, sum_by, find, nat_lt, Contains, Equal, arith, refl, sym, ap, ◌∙◌, subst, inl, inr, true≢false}
-use Rattle.std.proofs.lemmas.Bool.{ltb-false, false_from_ne_true, and_from}
+use Rattle.std.proofs.Common.{◌≡◌, ◌↔◌, ◌⊎◌, ◌≤◌, ℕ, List, [], ◌∷◌, ◌++◌, Bool, true, false, cond, not, Option, Some, None, Result, Ok, Err, option_map, is_some, length, map, filter, flat_map, sum_by, nat_lt, Contains, Equal, arith, refl, sym, ap, ◌∙◌, subst, inl, inr}
+use Rattle.std.proofs.lemmas.Bool.{ltb-false, false_from_ne_true}
 use Rattle.std.proofs.lemmas.Cmp.{nat_list_cmp_total, tied_itself}
 use Rattle.std.proofs.lemmas.List.Filters.{sum_by-filter_both}
 use Rattle.std.specs.Cmp.Lexicographic.{slice_cmp, bytes_decides}
@@ -12,17 +12,18 @@ use Rattle.definitions.specs.Texts.{text}
 use Rattle.definitions.specs.Faults.{Fault, bad_pattern, taken, quota_documents, quota_bytes, duplicate_uri, duplicate_anchor}
 use Rattle.definitions.specs.Resolution.{base_form}
 use Rattle.definitions.specs.Keywords.{keywords}
-use Rattle.definitions.specs.Schemas.{Schema, Document, document_from, schemas_of, option_list, is_root}
-use Rattle.definitions.specs.Targets.{resource_root}
-use Rattle.definitions.specs.Scanning.{first, when, scan_faults, form_faults, resource_uris, same_anchor, anchors_of}
-use Rattle.definitions.specs.Reach.{least, holds_resource}
+use Rattle.definitions.specs.Schemas.{Document, document_from, schemas_of, option_list}
+use Rattle.definitions.specs.Scanning.{first, when, scan_faults, form_faults, same_anchor, anchors_of}
+use Rattle.definitions.specs.Reach.{holds_resource, reach, IsReached}
 use Rattle.definitions.specs.Bundles.{document_of, others_of}
 use Rattle.definitions.specs.Registries.{Search, Registry, Request, put, delete, validate, bundled_from, Reply, step, for_base, for_value, decided, put_refusal, body_value, is_regular, placed, resources_of, taken_uri, bytes_of}
 use Rattle.definitions.specs.Runs.{Course, IsKept}
-use Rattle.definition_laws.proofs.Membership.{nothing_in, is_first, is_later, first_or_later, in_filter, from_filter, filter_short}
+use Rattle.definition_laws.proofs.Membership.{nothing_in, in_filter, from_filter, filter_short}
 use Rattle.definition_laws.proofs.Repeats.{none_of, filtered}
-use Rattle.definition_laws.proofs.Placing.{inserted, ascending, kept_ascending, from_inserted, distinct}
-use Rattle.definition_laws.proofs.ReachedSets.{same_text-back}
+use Rattle.definition_laws.proofs.Placing.{inserted, ascending, ascending_distinct, kept_ascending, from_inserted, distinct}
+use Rattle.definition_laws.proofs.LeastTexts.{no_least}
+use Rattle.definition_laws.proofs.Resources.{apart_from_held, same_text-unlike}
+use Rattle.definition_laws.proofs.ReachedSets.{reach_is_least, reach_as_filter}
 
 -- ---- no fault among several
 first_none : {A : Type 0} (xs : List A) → first xs ≡ None → xs ≡ []
@@ -41,48 +42,9 @@ not_taken : (o : Option Text) → option_list (option_map taken o) ≡ [] → o 
 not_taken None e = refl
 not_taken (Some u) e = cc
 
-no_least : (ts : List Text) → least ts ≡ None → ts ≡ []
-no_least [] e = refl
-no_least (t ∷ ts) e = cc
-
 is_not : (b : Bool) → not b ≡ false → b ≡ true
 is_not true e = refl
 is_not false e = sym e
-
--- ---- a document's resources
-found : {X : Type 0} (p : X → Bool) (x : X) (xs : List X) → Contains xs x → p x ≡ true → is_some (find p xs) ≡ true
-found p x [] c e = absurd (nothing_in x c)
-found {X} p x (y ∷ ys) c e = elim (first_or_later y x ys c) [
-  | inl same ↦ rw (same, e) refl
-  | inr later ↦ at_first (p y) (found p x ys later e)
-]
-  where
-    at_first : (b : Bool) → is_some (find p ys) ≡ true → is_some (cond b (Some y) (find p ys)) ≡ true
-    at_first true h = refl
-    at_first false h = h
-
-from_map : {X Y : Type 0} (f : X → Y) (y : Y) (xs : List X) → Contains (map f xs) y → (x : X) × (Contains xs x × (f x ≡ y))
-from_map f y [] c = absurd (nothing_in y c)
-from_map {X} f y (x ∷ xs) c = elim (first_or_later (f x) y (map f xs) c) [
-  | inl same ↦ (x, (is_first x xs, same))
-  | inr later ↦ let rest : (z : X) × (Contains xs z × (f z ≡ y)) = from_map f y xs later in (rest.0, (is_later x rest.0 xs rest.1.0, rest.1.1))
-]
-
--- a URI that a table's schemas open has a root
-pub opened_is_root : (table : List Schema) (u v : Text) → Contains (resource_uris table) v → same_text u v ≡ true → is_some (resource_root table u) ≡ true
-opened_is_root table u v c e =
-    let s : (s : Schema) × (Contains (filter is_root table) s × (s.resource ≡ v)) = from_map (λ (s : Schema). s.resource) v (filter is_root table) c in
-    let stands = from_filter is_root s.0 table s.1.0 in
-    found (λ t. same_text u t.resource && is_root t) s.0 table stands.0
-    (and_from (same_text u s.0.resource) (is_root s.0) (ap (same_text u) s.1.1 ∙ e) stands.1)
-
-pub apart_from_held : (d e : Document) → ((u : Text) → Contains (resources_of d) u → holds_resource u e ≡ false)
-    → (u v : Text) → Contains (resources_of d) u → Contains (resources_of e) v → same_text u v ≡ false
-apart_from_held d e free u v c k =
-    false_from_ne_true (same_text u v) (λ same. true≢false (sym (opened_is_root (schemas_of e.base e.value) u v k same) ∙ free u c))
-
-pub same_text-unlike : (t u : Text) → same_text t u ≡ false → same_text u t ≡ false
-same_text-unlike t u e = false_from_ne_true (same_text u t) (λ same. true≢false (sym (same_text-back u t same) ∙ e))
 
 -- ---- a document that is put
 abbrev key_of : Document → Text
@@ -172,25 +134,24 @@ put_kept search g b v kept none =
       ];
     }
 
--- ---- a document that is deleted
+-- ---- fewer documents
 fewer : {X : Type 0} (f : X → ℕ) (p : X → Bool) (xs : List X) → sum_by f (filter p xs) ≤ sum_by f xs
 fewer f p xs = omega (arith, sum_by-filter_both p (λ x. not (p x)) (λ x. refl) f xs)
 
 fewer_bytes : (p : Document → Bool) (ds : List Document) → bytes_of (filter p ds) ≤ bytes_of ds
 fewer_bytes p ds = fewer (λ (d : Document). length (text d.value)) p ds
 
-delete_kept : (search : Search) (g : Registry) (b : Text) → IsKept search g → IsKept search (record g { documents = others_of b g.documents })
-delete_kept search g b kept =
-    let is_other = λ (d : Document). not (same_text b d.canonical) in
-    record {
-      ordered = kept_ascending (slice_cmp nat_cmp) key_of (λ t. not (same_text b t)) g.documents kept.ordered;
-      named = λ d c. kept.named d (from_filter is_other d g.documents c).0;
-      few = omega (arith, kept.few, filter_short is_other g.documents);
-      small = omega (arith, kept.small, fewer_bytes is_other g.documents);
-      distinct = filtered same_text resources_of is_other g.documents kept.distinct;
-      scanned = λ d c. kept.scanned d (from_filter is_other d g.documents c).0;
-      regular_patterns = λ d c. kept.regular_patterns d (from_filter is_other d g.documents c).0;
-    }
+-- what stands of a kept registry is kept
+pub part_kept : (search : Search) (g : Registry) (p : Document → Bool) → IsKept search g → IsKept search (record g { documents = filter p g.documents })
+part_kept search g p kept = record {
+  ordered = kept_ascending (slice_cmp nat_cmp) key_of p g.documents kept.ordered;
+  named = λ d c. kept.named d (from_filter p d g.documents c).0;
+  few = omega (arith, kept.few, filter_short p g.documents);
+  small = omega (arith, kept.small, fewer_bytes p g.documents);
+  distinct = filtered same_text resources_of p g.documents kept.distinct;
+  scanned = λ d c. kept.scanned d (from_filter p d g.documents c).0;
+  regular_patterns = λ d c. kept.regular_patterns d (from_filter p d g.documents c).0;
+}
 
 -- ---- every request
 for_base_kept : (search : Search) (g : Registry) (r : Result Text Fault) (next : Text → Reply × Registry) → ((b : Text) → IsKept search (next b).1) → IsKept search g
@@ -218,7 +179,7 @@ step_kept search g (put uri body) kept =
     for_base_kept search g (base_form uri) _ (λ b. for_value_kept search g (body_value body) _ (λ v.
     decided_kept search (put_refusal search g (document_from b v) (placed (document_from b v) g.documents)) _ _ g (put_kept search g b v kept) kept) kept) kept
 step_kept search g (delete uri) kept =
-    for_base_kept search g (base_form uri) _ (λ b. deleted_kept search (is_some (document_of g.documents b)) _ _ _ g (delete_kept search g b kept) kept) kept
+    for_base_kept search g (base_form uri) _ (λ b. deleted_kept search (is_some (document_of g.documents b)) _ _ _ g (part_kept search g (λ d. not (same_text b d.canonical)) kept) kept) kept
 step_kept search g (validate uri body) kept =
     for_base_kept search g (base_form uri) _ (λ b. for_value_kept search g (body_value body) _ (λ v. kept) kept) kept
 step_kept search g (bundled_from uri) kept = for_base_kept search g (base_form uri) _ (λ b. kept) kept
@@ -244,3 +205,18 @@ course_kept search g h (q ∷ qs) (r ∷ rs) course kept = elim course [
   | inl answered ↦ course_kept search (step search g q).1 h qs rs answered.1 (step_kept search g q kept)
   | inr for_room ↦ course_kept search g h qs rs for_room.1 kept
 ]
+
+-- ---- what is reached
+pub kept_distinct : (search : Search) (g : Registry) → IsKept search g → has_repeat same_text (map key_of g.documents) ≡ false
+kept_distinct search g kept =
+    ascending_distinct (slice_cmp nat_cmp) same_text
+    (λ t u e. ap (slice_cmp nat_cmp t) (sym ((bytes_decides t u).0 e)) ∙ tied_itself nat_list_cmp_total t)
+    (map key_of g.documents) kept.ordered
+
+pub kept_reach_is_least : (search : Search) (g : Registry) → IsKept search g → (uri : Text) (d : Document) → Contains (reach g.documents uri) d ↔ IsReached g.documents uri d
+kept_reach_is_least search g kept uri = reach_is_least g.documents uri (kept_distinct search g kept)
+
+pub reached_kept : (search : Search) (g : Registry) (uri : Text) → IsKept search g → IsKept search (record g { documents = reach g.documents uri })
+reached_kept search g uri kept =
+    let part : (p : Document → Bool) × (reach g.documents uri ≡ filter p g.documents) = reach_as_filter g.documents uri in
+    subst (λ ds. IsKept search (record g { documents = ds })) (sym part.1) (part_kept search g part.0 kept)

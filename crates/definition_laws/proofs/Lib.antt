@@ -3,7 +3,9 @@ pub mod Evaluations
 pub mod PointerTexts
 pub mod Membership
 pub mod Growing
-pub mod ReachedSets
 pub mod Repeats
+pub mod ReachedSets
+pub mod Resources
+pub mod LeastTexts
 pub mod Placing
 pub mod KeptRegistries

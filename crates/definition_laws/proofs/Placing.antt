@@ -2,13 +2,13 @@
 use Rattle.std.proofs.Common.{◌≡◌, ◌⊎◌, List, [], ◌∷◌, Bool, true, false, cond, map, flat_map, filter, Contains, Ordering, Less, Equal, Greater, refl, sym, ap, ◌∙◌, subst, inl, inr}
 use Rattle.std.specs.Cmp.{IsTotalOrder}
 use Rattle.std.specs.Ordering.{match_ordering, ordering_reverse}
-use Rattle.std.specs.List.{AllByRecursion as Each}
+use Rattle.std.specs.List.{AllByRecursion as Each, list_any}
 use Rattle.std.specs.List.Sorted.{IsStrictlySortedBy}
+use Rattle.std.proofs.lemmas.Bool.{or_from, false_from_ne_true}
 use Rattle.std.proofs.lemmas.List.Elements.{All-from_recursion, All-contains}
-use Rattle.std.proofs.lemmas.List.Kept.{IsStrictlySortedBy-filter}
 use Rattle.definitions.specs.Values.{has_repeat}
 use Rattle.definition_laws.proofs.Membership.{nothing_in, is_first, is_later, first_or_later, in_map}
-use Rattle.definition_laws.proofs.Repeats.{AreApart, joined, cut, from_flat_map, in_flat_map}
+use Rattle.definition_laws.proofs.Repeats.{AreApart, any_none, joined, cut, from_flat_map, in_flat_map}
 
 abbrev pub inserted : {X K : Type 0} → (K → K → Ordering) → (X → K) → X → List X → List X
 inserted cmp key x [] = x ∷ []
@@ -18,19 +18,43 @@ each_weaker : {K : Type 0} (P Q : K → Type 0) → ((k : K) → P k → Q k) �
 each_weaker P Q h [] ps = tt
 each_weaker P Q h (k ∷ ks) ps = (h k ps.0, each_weaker P Q h ks ps.1)
 
-map_filter : {X K : Type 0} (key : X → K) (p : K → Bool) (xs : List X) → map key (filter (λ x. p (key x)) xs) ≡ filter p (map key xs)
-map_filter key p [] = refl
-map_filter {X} {K} key p (x ∷ xs) = at_first (p (key x)) (map_filter key p xs)
-  where
-    at_first : (b : Bool) → map key (filter (λ x. p (key x)) xs) ≡ filter p (map key xs)
-        → map key (cond b (x ∷ filter (λ x. p (key x)) xs) (filter (λ x. p (key x)) xs)) ≡ cond b (key x ∷ filter p (map key xs)) (filter p (map key xs))
-    at_first true e = ap (λ ks. key x ∷ ks) e
-    at_first false e = e
+each_kept_at : {X K : Type 0} (P : K → Type 0) (key : X → K) (p : X → Bool) (x : X) (xs : List X) (b : Bool) → P (key x) → Each P (map key (filter p xs))
+    → Each P (map key (cond b (x ∷ filter p xs) (filter p xs)))
+each_kept_at P key p x xs true here rest = (here, rest)
+each_kept_at P key p x xs false here rest = rest
+
+each_kept : {X K : Type 0} (P : K → Type 0) (key : X → K) (p : X → Bool) (xs : List X) → Each P (map key xs) → Each P (map key (filter p xs))
+each_kept P key p [] ps = tt
+each_kept P key p (x ∷ xs) ps = each_kept_at P key p x xs (p x) ps.0 (each_kept P key p xs ps.1)
+
+kept_ascending_at : {X K : Type 0} (cmp : K → K → Ordering) (key : X → K) (p : X → Bool) (x : X) (xs : List X) (b : Bool)
+    → Each (λ k. cmp (key x) k ≡ Less) (map key (filter p xs)) → IsStrictlySortedBy cmp (map key (filter p xs))
+    → IsStrictlySortedBy cmp (map key (cond b (x ∷ filter p xs) (filter p xs)))
+unfolding IsStrictlySortedBy
+kept_ascending_at cmp key p x xs true below rest = (below, rest)
+kept_ascending_at cmp key p x xs false below rest = rest
 
 -- what is kept of an ascending list ascends
-pub kept_ascending : {X K : Type 0} (cmp : K → K → Ordering) (key : X → K) (p : K → Bool) (xs : List X) → IsStrictlySortedBy cmp (map key xs)
-    → IsStrictlySortedBy cmp (map key (filter (λ x. p (key x)) xs))
-kept_ascending cmp key p xs h = subst (IsStrictlySortedBy cmp) (sym (map_filter key p xs)) (IsStrictlySortedBy-filter cmp p (map key xs) h)
+pub kept_ascending : {X K : Type 0} (cmp : K → K → Ordering) (key : X → K) (p : X → Bool) (xs : List X) → IsStrictlySortedBy cmp (map key xs)
+    → IsStrictlySortedBy cmp (map key (filter p xs))
+unfolding IsStrictlySortedBy
+kept_ascending cmp key p [] h = tt
+kept_ascending cmp key p (x ∷ xs) h =
+    kept_ascending_at cmp key p x xs (p x) (each_kept (λ k. cmp (key x) k ≡ Less) key p xs h.0) (kept_ascending cmp key p xs h.1)
+
+-- an ascending list has no two elements that are alike, where what is alike ties
+pub ascending_distinct : {K : Type 0} (cmp : K → K → Ordering) (alike : K → K → Bool) → ((a b : K) → alike a b ≡ true → cmp a b ≡ Equal)
+    → (ks : List K) → IsStrictlySortedBy cmp ks → has_repeat alike ks ≡ false
+unfolding IsStrictlySortedBy
+ascending_distinct cmp alike ties [] h = refl
+ascending_distinct cmp alike ties (k ∷ ks) h =
+    or_from (list_any (alike k) ks) (has_repeat alike ks)
+    (any_none (alike k) ks (λ a c. false_from_ne_true (alike k a) (λ e.
+    unlike (sym (All-contains (λ b. cmp k b ≡ Less) ks a (All-from_recursion (λ b. cmp k b ≡ Less) ks h.0) c) ∙ ties k a e))))
+    (ascending_distinct cmp alike ties ks h.1)
+  where
+    unlike : Less ≡ Equal → ⊥
+    unlike e = cc
 
 module _ {X K : Type 0} (cmp : K → K → Ordering) (order : IsTotalOrder cmp) (key : X → K) where
   each_inserted_at : (P : K → Type 0) (x y : X) (ys : List X) (o : Ordering) → P (key x) → P (key y) → Each P (map key ys) → Each P (map key (inserted cmp key x ys))

@@ -1,5 +1,5 @@
 -- The computed reach is the least set that is closed under references.
-use Rattle.std.proofs.Common.{◌≡◌, ℕ, zero, suc, List, Bool, true, false, ◌||◌, length, map, filter, Contains, refl, sym, ap, subst, inl, inr}
+use Rattle.std.proofs.Common.{◌≡◌, ◌∙◌, ℕ, zero, suc, List, Bool, true, false, ◌||◌, length, map, filter, Contains, refl, sym, ap, subst, inl, inr}
 use Rattle.std.proofs.lemmas.Bool.{or_cases, or_left, or_right}
 use Rattle.std.specs.Cmp.Lexicographic.{bytes_decides}
 use Rattle.std.specs.List.{list_any}
@@ -7,7 +7,7 @@ use Rattle.definitions.specs.Values.{Text, same_text, has_repeat}
 use Rattle.definitions.specs.Schemas.{Document}
 use Rattle.definitions.specs.Reach.{IsReached, holds, referred, holds_resource, refers_to, grown, grown_times, reach, ReachIsLeast}
 use Rattle.definition_laws.proofs.Membership.{from_filter, any_where, one_of}
-use Rattle.definition_laws.proofs.Growing.{after, inside, led, kept_from_start, stands_still}
+use Rattle.definition_laws.proofs.Growing.{after, as_filter, inside, led, kept_from_start, stands_still}
 
 pub same_text-itself : (t : Text) → same_text t t ≡ true
 same_text-itself t = (bytes_decides t t).1 refl
@@ -52,3 +52,8 @@ pub reach_is_least : (G : List Document) (uri : Text) → ReachIsLeast G uri
 reach_is_least G uri distinct d =
     let steps : reach G uri ≡ after leads own (holds_resource uri) G (length G) = as_steps (length G) G uri in
     (λ c. sound G uri distinct (length G) d (subst (λ ds. Contains ds d) steps c), λ r. subst (λ ds. Contains ds d) (sym steps) (complete G uri d r))
+
+pub reach_as_filter : (G : List Document) (uri : Text) → (p : Document → Bool) × (reach G uri ≡ filter p G)
+reach_as_filter G uri =
+    let of_steps : (p : Document → Bool) × (after leads own (holds_resource uri) G (length G) ≡ filter p G) = as_filter leads own (holds_resource uri) G (length G) in
+    (of_steps.0, as_steps (length G) G uri ∙ of_steps.1)

@@ -81,3 +81,20 @@ filtered alike f p [] h = refl
 filtered alike f p (x ∷ xs) h =
     let parts = cut alike (f x) (flat_map f xs) h in
     filtered_at alike f p x xs (p x) parts (filtered alike f p xs parts.behind)
+
+-- where no name stands twice, one element at most has it
+pub one_with : {X Y : Type 0} (alike : Y → Y → Bool) (f : X → List Y) (xs : List X) → has_repeat alike (flat_map f xs) ≡ false
+    → (x y : X) (u v : Y) → Contains xs x → Contains xs y → Contains (f x) u → Contains (f y) v → alike u v ≡ true → alike v u ≡ true → x ≡ y
+one_with alike f [] h x y u v c d cu dv e back = absurd (nothing_in x c)
+one_with alike f (z ∷ zs) h x y u v c d cu dv e back =
+    let parts = cut alike (f z) (flat_map f zs) h in
+    elim (first_or_later z x zs c) [
+      | inl here ↦ elim (first_or_later z y zs d) [
+        | inl there ↦ sym here ∙ there
+        | inr later ↦ absurd (true≢false (sym e ∙ parts.apart u v (subst (λ w. Contains (f w) u) (sym here) cu) (in_flat_map f y v zs later dv)))
+      ]
+      | inr later ↦ elim (first_or_later z y zs d) [
+        | inl there ↦ absurd (true≢false (sym back ∙ parts.apart v u (subst (λ w. Contains (f w) v) (sym there) dv) (in_flat_map f x u zs later cu)))
+        | inr both ↦ one_with alike f zs parts.behind x y u v later both cu dv e back
+      ]
+    ]

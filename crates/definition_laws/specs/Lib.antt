@@ -2,4 +2,5 @@ pub mod Laws
 pub mod Uniqueness
 pub mod Pointers
 pub mod Reaching
+pub mod Linking
 pub mod Keeping

@@ -2,14 +2,19 @@
 #![tactic(auto)]
 
 mod keeping;
+mod linking;
 mod pointers;
 mod reaching;
 
 ghost use Rattle.definition_laws.specs.Laws.{FailingEvaluatesNothing, RefusalsKeepTheRegistry, CoursesAreReplies, AgreeingAnswerAlike};
 
 pub use keeping::{courses_keep_registries, empty_registries_are_kept, steps_keep_registries};
+pub use linking::{least_is_least, linked_name_all, missing_name_nothing, no_texts_have_no_least};
 pub use pointers::{pointers_are_read_back, read_pointers_have_one_text};
-pub use reaching::reached_sets_are_least;
+pub use reaching::{
+    kept_registries_reach_least_sets, reached_registries_are_kept, reached_resources_are_distinct,
+    reached_sets_are_least, resources_have_one_document, tables_open_the_documents_resources,
+};
 
 /// A schema that fails evaluates no name and no index (JSON Schema 2020-12 Core, 11).
 pub fn failing_evaluates_nothing()

@@ -9,3 +9,4 @@ pub mod Resources
 pub mod LeastTexts
 pub mod Placing
 pub mod KeptRegistries
+pub mod NeighbourRepeats

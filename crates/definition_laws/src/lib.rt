@@ -5,6 +5,7 @@ mod keeping;
 mod linking;
 mod pointers;
 mod reaching;
+mod uniqueness;
 
 ghost use Rattle.definition_laws.specs.Laws.{FailingEvaluatesNothing, RefusalsKeepTheRegistry, CoursesAreReplies, AgreeingAnswerAlike};
 
@@ -15,6 +16,7 @@ pub use reaching::{
     kept_registries_reach_least_sets, reached_registries_are_kept, reached_resources_are_distinct,
     reached_sets_are_least, resources_have_one_document, tables_open_the_documents_resources,
 };
+pub use uniqueness::sorted_repeats_are_neighbours;
 
 /// A schema that fails evaluates no name and no index (JSON Schema 2020-12 Core, 11).
 pub fn failing_evaluates_nothing()

@@ -1,8 +1,8 @@
 -- A set that is grown step by step inside a list stands still after as many steps as the list is long.
-use Rattle.std.proofs.Common.{◌≡◌, ◌⊎◌, ℕ, zero, suc, ◌≤◌, List, Bool, true, length, filter, Contains, arith, refl, sym, ap, subst, inl, inr}
+use Rattle.std.proofs.Common.{◌∙◌, false, [], cond, ◌∷◌, ◌≡◌, ◌⊎◌, ℕ, zero, suc, ◌≤◌, List, Bool, true, length, filter, Contains, arith, refl, sym, ap, subst, inl, inr}
 use Rattle.std.proofs.lemmas.Bool.{cases_lt}
 use Rattle.std.specs.List.{list_any}
-use Rattle.definition_laws.proofs.Membership.{any_at, in_filter, from_filter, wider, filter_short}
+use Rattle.definition_laws.proofs.Membership.{is_first, is_later, any_at, in_filter, from_filter, wider, filter_short}
 
 module _ {X : Type 0} (leads : X → X → Bool) (own : (x : X) → leads x x ≡ true) (start : X → Bool) (all : List X) where
   abbrev pub once : List X → List X
@@ -65,3 +65,11 @@ module _ {X : Type 0} (leads : X → X → Bool) (own : (x : X) → leads x x �
     | inl still ↦ still
     | inr moved ↦ absurd (omega (arith, filter_short (is_in (suc (length all))) all))
   ]
+
+  all_fail : (p : X → Bool) (xs : List X) → ((x : X) → Contains xs x → p x ≡ false) → filter p xs ≡ []
+  all_fail p [] h = refl
+  all_fail p (x ∷ xs) h = ap (λ b. cond b (x ∷ filter p xs) (filter p xs)) (h x (is_first x xs)) ∙ all_fail p xs (λ y c. h y (is_later x y xs c))
+
+  pub nothing_from_nothing : ((x : X) → Contains all x → start x ≡ false) → (n : ℕ) → after n ≡ []
+  nothing_from_nothing h zero = all_fail start all h
+  nothing_from_nothing h (suc n) = ap once (nothing_from_nothing h n) ∙ all_fail (λ y. false) all (λ x c. refl)

@@ -15,12 +15,13 @@ use Rattle.definitions.specs.Keywords.{keywords}
 use Rattle.definitions.specs.Schemas.{Document, document_from, schemas_of, option_list}
 use Rattle.definitions.specs.Scanning.{first, when, scan_faults, form_faults, same_anchor, anchors_of}
 use Rattle.definitions.specs.Reach.{holds_resource, reach, IsReached}
+use Rattle.definitions.specs.Alike.{Agree}
 use Rattle.definitions.specs.Bundles.{document_of, others_of}
 use Rattle.definitions.specs.Registries.{Search, Registry, Request, put, delete, validate, bundled_from, Reply, step, for_base, for_value, decided, put_refusal, body_value, is_regular, placed, resources_of, taken_uri, bytes_of}
 use Rattle.definitions.specs.Runs.{Course, IsKept}
 use Rattle.definition_laws.proofs.Membership.{nothing_in, in_filter, from_filter, filter_short}
 use Rattle.definition_laws.proofs.Repeats.{none_of, filtered}
-use Rattle.definition_laws.proofs.Placing.{inserted, ascending, ascending_distinct, kept_ascending, from_inserted, distinct}
+use Rattle.definition_laws.proofs.Placing.{inserted, same_ascending, ascending, ascending_distinct, kept_ascending, from_inserted, distinct}
 use Rattle.definition_laws.proofs.LeastTexts.{no_least}
 use Rattle.definition_laws.proofs.Resources.{apart_from_held, same_text-unlike}
 use Rattle.definition_laws.proofs.ReachedSets.{reach_is_least, reach_as_filter}
@@ -220,3 +221,11 @@ pub reached_kept : (search : Search) (g : Registry) (uri : Text) → IsKept sear
 reached_kept search g uri kept =
     let part : (p : Document → Bool) × (reach g.documents uri ≡ filter p g.documents) = reach_as_filter g.documents uri in
     subst (λ ds. IsKept search (record g { documents = ds })) (sym part.1) (part_kept search g part.0 kept)
+
+pub same_reached_agree : (search : Search) (g h : Registry) (uri : Text) → IsKept search g → IsKept search h
+    → ((d : Document) → IsReached g.documents uri d ↔ IsReached h.documents uri d) → Agree g.documents h.documents uri
+same_reached_agree search g h uri kept_g kept_h same =
+    same_ascending (slice_cmp nat_cmp) nat_list_cmp_total key_of (reach g.documents uri) (reach h.documents uri)
+    (reached_kept search g uri kept_g).ordered (reached_kept search h uri kept_h).ordered
+    (λ d c. (kept_reach_is_least search h kept_h uri d).1 ((same d).0 ((kept_reach_is_least search g kept_g uri d).0 c)))
+    (λ d c. (kept_reach_is_least search g kept_g uri d).1 ((same d).1 ((kept_reach_is_least search h kept_h uri d).0 c)))

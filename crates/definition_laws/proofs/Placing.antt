@@ -1,10 +1,11 @@
 -- An element is put at its place in a list that ascends by a key, in place of one with the same key.
-use Rattle.std.proofs.Common.{◌≡◌, ◌⊎◌, List, [], ◌∷◌, Bool, true, false, cond, map, flat_map, filter, Contains, Ordering, Less, Equal, Greater, refl, sym, ap, ◌∙◌, subst, inl, inr}
+use Rattle.std.proofs.Common.{ap₂, ◌≡◌, ◌⊎◌, List, [], ◌∷◌, Bool, true, false, cond, map, flat_map, filter, Contains, Ordering, Less, Equal, Greater, refl, sym, ap, ◌∙◌, subst, inl, inr}
 use Rattle.std.specs.Cmp.{IsTotalOrder}
 use Rattle.std.specs.Ordering.{match_ordering, ordering_reverse}
 use Rattle.std.specs.List.{AllByRecursion as Each, list_any}
 use Rattle.std.specs.List.Sorted.{IsStrictlySortedBy}
 use Rattle.std.proofs.lemmas.Bool.{or_from, false_from_ne_true}
+use Rattle.std.proofs.lemmas.Cmp.{tied_itself}
 use Rattle.std.proofs.lemmas.List.Elements.{All-from_recursion, All-contains}
 use Rattle.definitions.specs.Values.{has_repeat}
 use Rattle.definition_laws.proofs.Membership.{nothing_in, is_first, is_later, first_or_later, in_map}
@@ -85,6 +86,41 @@ module _ {X K : Type 0} (cmp : K → K → Ordering) (order : IsTotalOrder cmp) 
   unfolding IsStrictlySortedBy
   first_below x y xs h c =
       All-contains (λ k. cmp (key x) k ≡ Less) (map key xs) (key y) (All-from_recursion (λ k. cmp (key x) k ≡ Less) (map key xs) h.0) (in_map key y xs c)
+
+  one_of_both : (x y : X) (xs ys : List X) → IsStrictlySortedBy cmp (map key (x ∷ xs)) → IsStrictlySortedBy cmp (map key (y ∷ ys))
+      → (y ≡ x) ⊎ Contains ys x → (x ≡ y) ⊎ Contains xs y → x ≡ y
+  one_of_both x y xs ys h k a b = elim a [
+    | inl same ↦ sym same
+    | inr below ↦ elim b [
+      | inl same ↦ same
+      | inr above ↦ absurd (unlike (sym (first_below x y xs h above) ∙ order.antisymm (key x) (key y) ∙ ap ordering_reverse (first_below y x ys k below)))
+    ]
+  ]
+    where
+      unlike : Less ≡ Greater → ⊥
+      unlike e = cc
+
+  in_rest : (x y z : X) (xs ys : List X) → IsStrictlySortedBy cmp (map key (x ∷ xs)) → x ≡ y → Contains xs z → Contains (y ∷ ys) z → Contains ys z
+  in_rest x y z xs ys h same c d = elim (first_or_later y z ys d) [
+    | inl first ↦ absurd (unlike (sym (first_below x z xs h c) ∙ ap (λ w. cmp (key x) (key w)) (sym (same ∙ first)) ∙ tied_itself order (key x)))
+    | inr later ↦ later
+  ]
+    where
+      unlike : Less ≡ Equal → ⊥
+      unlike e = cc
+
+  -- ascending lists with the same elements are the same
+  pub same_ascending : (xs ys : List X) → IsStrictlySortedBy cmp (map key xs) → IsStrictlySortedBy cmp (map key ys)
+      → ((z : X) → Contains xs z → Contains ys z) → ((z : X) → Contains ys z → Contains xs z) → xs ≡ ys
+  same_ascending [] [] h k f g = refl
+  same_ascending [] (y ∷ ys) h k f g = absurd (nothing_in y (g y (is_first y ys)))
+  same_ascending (x ∷ xs) [] h k f g = absurd (nothing_in x (f x (is_first x xs)))
+  same_ascending (x ∷ xs) (y ∷ ys) h k f g =
+      let same = one_of_both x y xs ys h k (first_or_later y x ys (f x (is_first x xs))) (first_or_later x y xs (g y (is_first y ys))) in
+      ap₂ (λ z zs. z ∷ zs) same
+      (same_ascending xs ys (tail_ascending x xs h) (tail_ascending y ys k)
+      (λ z c. in_rest x y z xs ys h same c (f z (is_later x z xs c)))
+      (λ z c. in_rest y x z ys xs k (sym same) c (g z (is_later y z ys c))))
 
   pub ascending : (x : X) (xs : List X) → IsStrictlySortedBy cmp (map key xs) → IsStrictlySortedBy cmp (map key (inserted cmp key x xs))
   unfolding IsStrictlySortedBy

@@ -1,13 +1,13 @@
 -- The computed reach is the least set that is closed under references.
-use Rattle.std.proofs.Common.{◌≡◌, ◌∙◌, ℕ, zero, suc, List, Bool, true, false, ◌||◌, length, map, filter, Contains, refl, sym, ap, subst, inl, inr}
-use Rattle.std.proofs.lemmas.Bool.{or_cases, or_left, or_right}
+use Rattle.std.proofs.Common.{◌↔◌, [], ◌≡◌, ◌∙◌, ℕ, zero, suc, List, Bool, true, false, ◌||◌, length, map, filter, Contains, refl, sym, ap, subst, inl, inr}
+use Rattle.std.proofs.lemmas.Bool.{false_from_ne_true, or_cases, or_left, or_right}
 use Rattle.std.specs.Cmp.Lexicographic.{bytes_decides}
 use Rattle.std.specs.List.{list_any}
 use Rattle.definitions.specs.Values.{Text, same_text, has_repeat}
 use Rattle.definitions.specs.Schemas.{Document}
 use Rattle.definitions.specs.Reach.{IsReached, holds, referred, holds_resource, refers_to, grown, grown_times, reach, ReachIsLeast}
-use Rattle.definition_laws.proofs.Membership.{from_filter, any_where, one_of}
-use Rattle.definition_laws.proofs.Growing.{after, as_filter, inside, led, kept_from_start, stands_still}
+use Rattle.definition_laws.proofs.Membership.{nothing_in, from_filter, any_where, one_of}
+use Rattle.definition_laws.proofs.Growing.{after, nothing_from_nothing, as_filter, inside, led, kept_from_start, stands_still}
 
 pub same_text-itself : (t : Text) → same_text t t ≡ true
 same_text-itself t = (bytes_decides t t).1 refl
@@ -57,3 +57,9 @@ pub reach_as_filter : (G : List Document) (uri : Text) → (p : Document → Boo
 reach_as_filter G uri =
     let of_steps : (p : Document → Bool) × (after leads own (holds_resource uri) G (length G) ≡ filter p G) = as_filter leads own (holds_resource uri) G (length G) in
     (of_steps.0, as_steps (length G) G uri ∙ of_steps.1)
+
+pub nothing_from_nothing_held : (G : List Document) (uri : Text) → (reach G uri ≡ []) ↔ ((d : Document) → Contains G d → holds_resource uri d ≡ false)
+nothing_from_nothing_held G uri =
+    (λ e d c. false_from_ne_true (holds_resource uri d) (λ held.
+      nothing_in d (subst (λ ds. Contains ds d) (sym (as_steps (length G) G uri) ∙ e) (complete G uri d (holds c held))))
+    , λ none. as_steps (length G) G uri ∙ nothing_from_nothing leads own (holds_resource uri) G none (length G))

@@ -1,9 +1,10 @@
 -- What the laws say of the documents that a URI reaches (JSON Schema 2020-12 Core, 8.2.3 and 9.2).
-use Rattle.std.specs.Prelude.{◌≡◌, ◌↔◌, List, false, Contains, IsTrue}
+use Rattle.std.specs.Prelude.{◌≡◌, ◌↔◌, List, [], false, Contains, IsTrue}
 use Rattle.definitions.specs.Values.{Text, has_repeat, same_text}
 use Rattle.definitions.specs.Schemas.{Document, table_of}
 use Rattle.definitions.specs.Scanning.{resource_uris}
 use Rattle.definitions.specs.Reach.{holds_resource, reach, IsReached, ReachIsLeast}
+use Rattle.definitions.specs.Alike.{Agree}
 use Rattle.definitions.specs.Registries.{Search, Registry}
 use Rattle.definitions.specs.Runs.{IsKept, resource_uris_of}
 
@@ -38,3 +39,14 @@ ResourcesHaveOneDocument =
 -- the URIs that the schemas of all documents open are those of the documents, in their order
 abbrev pub TablesOpenTheDocumentsResources : Type 0
 TablesOpenTheDocumentsResources = (ds : List Document) → resource_uris (table_of ds) ≡ resource_uris_of ds
+
+-- nothing is reached exactly where no document has a resource of this URI
+abbrev pub NothingIsReachedFromNothing : Type 0
+NothingIsReachedFromNothing =
+    (G : List Document) (uri : Text) → (reach G uri ≡ []) ↔ ((d : Document) → Contains G d → holds_resource uri d ≡ false)
+
+-- kept registries agree at a URI that reaches the same documents in both, so that what isn't reached changes no answer
+abbrev pub SameReachedSetsAgree : Type 0
+SameReachedSetsAgree =
+    (search : Search) (g h : Registry) (uri : Text) → IsKept search g → IsKept search h
+    → ((d : Document) → IsReached g.documents uri d ↔ IsReached h.documents uri d) → Agree g.documents h.documents uri

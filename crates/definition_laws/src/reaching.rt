@@ -1,6 +1,6 @@
 //! The documents that a URI reaches (JSON Schema 2020-12 Core, 8.2.3 and 9.2).
 
-ghost use Rattle.definition_laws.specs.Reaching.{ReachedSetsAreLeast, KeptRegistriesReachLeastSets, ReachedRegistriesAreKept, ReachedResourcesAreDistinct, ResourcesHaveOneDocument, TablesOpenTheDocumentsResources};
+ghost use Rattle.definition_laws.specs.Reaching.{ReachedSetsAreLeast, KeptRegistriesReachLeastSets, ReachedRegistriesAreKept, ReachedResourcesAreDistinct, ResourcesHaveOneDocument, TablesOpenTheDocumentsResources, NothingIsReachedFromNothing, SameReachedSetsAgree};
 
 /// Of documents with distinct canonical URIs, a URI reaches those in the least set that has each document with a resource
 /// of this URI, and each document that one in the set refers to.
@@ -31,4 +31,14 @@ pub fn resources_have_one_document()
 /// The URIs that the schemas of all documents open are the documents' resource URIs, in their order.
 pub fn tables_open_the_documents_resources()
     ensures { TablesOpenTheDocumentsResources }
+{}
+
+/// Nothing is reached exactly where no document has a resource of the URI.
+pub fn nothing_is_reached_from_nothing()
+    ensures { NothingIsReachedFromNothing }
+{}
+
+/// Kept registries in which a URI reaches the same documents agree at it: what isn't reached changes no answer.
+pub fn same_reached_sets_agree()
+    ensures { SameReachedSetsAgree }
 {}

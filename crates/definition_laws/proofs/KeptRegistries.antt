@@ -1,5 +1,5 @@
 -- What holds of a registry holds after a request.
-use Rattle.std.proofs.Common.{◌≡◌, ◌↔◌, ◌⊎◌, ◌≤◌, ℕ, List, [], ◌∷◌, ◌++◌, Bool, true, false, cond, not, Option, Some, None, Result, Ok, Err, option_map, is_some, length, map, filter, flat_map, sum_by, nat_lt, Contains, Equal, arith, refl, sym, ap, ◌∙◌, subst, inl, inr}
+use Rattle.std.proofs.Common.{◌≡◌, ◌↔◌, ◌⊎◌, ◌≤◌, ℕ, List, [], ◌∷◌, ◌++◌, Bool, true, false, not, Option, Some, None, option_map, length, map, filter, flat_map, sum_by, nat_lt, Contains, Equal, arith, refl, sym, ap, ◌∙◌, subst, inl, inr}
 use Rattle.std.proofs.lemmas.Bool.{ltb-false, false_from_ne_true}
 use Rattle.std.proofs.lemmas.Cmp.{nat_list_cmp_total, tied_itself}
 use Rattle.std.proofs.lemmas.List.Filters.{sum_by-filter_both}
@@ -7,21 +7,23 @@ use Rattle.std.specs.Cmp.Lexicographic.{slice_cmp, bytes_decides}
 use Rattle.std.specs.List.Sorted.{IsStrictlySortedBy}
 use Rattle.std.specs.List.{list_any}
 use Rattle.std.specs.Ordering.{nat_cmp, match_ordering}
-use Rattle.definitions.specs.Values.{Text, Value, has_repeat, same_text}
+use Rattle.definitions.specs.Values.{Text, Value, is_well_formed, has_repeat, same_text}
 use Rattle.definitions.specs.Texts.{text}
 use Rattle.definitions.specs.Faults.{Fault, bad_pattern, taken, quota_documents, quota_bytes, duplicate_uri, duplicate_anchor}
-use Rattle.definitions.specs.Resolution.{base_form}
 use Rattle.definitions.specs.Keywords.{keywords}
 use Rattle.definitions.specs.Schemas.{Document, document_from, schemas_of, option_list}
 use Rattle.definitions.specs.Scanning.{first, when, scan_faults, form_faults, same_anchor, anchors_of}
 use Rattle.definitions.specs.Reach.{holds_resource, reach, IsReached}
 use Rattle.definitions.specs.Alike.{Agree}
-use Rattle.definitions.specs.Bundles.{document_of, others_of}
-use Rattle.definitions.specs.Registries.{Search, Registry, Request, put, delete, validate, bundled_from, Reply, step, for_base, for_value, decided, put_refusal, body_value, is_regular, placed, resources_of, taken_uri, bytes_of}
+use Rattle.definitions.specs.Bundles.{others_of}
+use Rattle.definitions.specs.Registries.{Search, Registry, Request, Reply, step, put_refusal, is_regular, placed, resources_of, taken_uri, bytes_of}
 use Rattle.definitions.specs.Runs.{Course, IsKept}
 use Rattle.definition_laws.proofs.Membership.{nothing_in, in_filter, from_filter, filter_short}
 use Rattle.definition_laws.proofs.Repeats.{none_of, filtered}
 use Rattle.definition_laws.proofs.Placing.{inserted, same_ascending, ascending, ascending_distinct, kept_ascending, from_inserted, distinct}
+use Rattle.definition_laws.specs.Keeping.{HoldsWellFormedValues}
+use Rattle.definition_laws.proofs.Steps.{step_keeps, course_keeps}
+use Rattle.definition_laws.proofs.ReadValues.{body_formed}
 use Rattle.definition_laws.proofs.LeastTexts.{no_least}
 use Rattle.definition_laws.proofs.Resources.{apart_from_held, same_text-unlike}
 use Rattle.definition_laws.proofs.ReachedSets.{reach_is_least, reach_as_filter}
@@ -155,35 +157,10 @@ part_kept search g p kept = record {
 }
 
 -- ---- every request
-for_base_kept : (search : Search) (g : Registry) (r : Result Text Fault) (next : Text → Reply × Registry) → ((b : Text) → IsKept search (next b).1) → IsKept search g
-    → IsKept search (for_base g r next).1
-for_base_kept search g (Ok b) next h kept = h b
-for_base_kept search g (Err e) next h kept = kept
-
-for_value_kept : (search : Search) (g : Registry) (r : Result Value Fault) (next : Value → Reply × Registry) → ((v : Value) → IsKept search (next v).1) → IsKept search g
-    → IsKept search (for_value g r next).1
-for_value_kept search g (Ok v) next h kept = h v
-for_value_kept search g (Err e) next h kept = kept
-
-decided_kept : (search : Search) (o : Option Fault) (reply : Reply) (after before : Registry) → (o ≡ None → IsKept search after) → IsKept search before
-    → IsKept search (decided o reply after before).1
-decided_kept search None reply after before h kept = h refl
-decided_kept search (Some f) reply after before h kept = kept
-
-deleted_kept : (search : Search) (b : Bool) (done other : Reply) (after before : Registry) → IsKept search after → IsKept search before
-    → IsKept search (cond {A = Reply × Registry} b (done, after) (other, before)).1
-deleted_kept search true done other after before h kept = h
-deleted_kept search false done other after before h kept = kept
-
 pub step_kept : (search : Search) (g : Registry) (q : Request) → IsKept search g → IsKept search (step search g q).1
-step_kept search g (put uri body) kept =
-    for_base_kept search g (base_form uri) _ (λ b. for_value_kept search g (body_value body) _ (λ v.
-    decided_kept search (put_refusal search g (document_from b v) (placed (document_from b v) g.documents)) _ _ g (put_kept search g b v kept) kept) kept) kept
-step_kept search g (delete uri) kept =
-    for_base_kept search g (base_form uri) _ (λ b. deleted_kept search (is_some (document_of g.documents b)) _ _ _ g (part_kept search g (λ d. not (same_text b d.canonical)) kept) kept) kept
-step_kept search g (validate uri body) kept =
-    for_base_kept search g (base_form uri) _ (λ b. for_value_kept search g (body_value body) _ (λ v. kept) kept) kept
-step_kept search g (bundled_from uri) kept = for_base_kept search g (base_form uri) _ (λ b. kept) kept
+step_kept search g q kept =
+    step_keeps (IsKept search) search g kept (λ b body v was_read none. put_kept search g b v kept none)
+    (λ b. part_kept search g (λ d. not (same_text b d.canonical)) kept) q
 
 -- ---- from an empty registry on
 pub empty_kept : (search : Search) (most_documents most_bytes : ℕ) → IsKept search (record { documents = []; most_documents = most_documents; most_bytes = most_bytes })
@@ -199,13 +176,20 @@ empty_kept search most_documents most_bytes = record {
 }
 
 pub course_kept : (search : Search) (g h : Registry) (qs : List Request) (rs : List Reply) → Course search g qs rs h → IsKept search g → IsKept search h
-course_kept search g h [] [] course kept = subst (IsKept search) (sym course) kept
-course_kept search g h [] (r ∷ rs) course kept = absurd course
-course_kept search g h (q ∷ qs) [] course kept = absurd course
-course_kept search g h (q ∷ qs) (r ∷ rs) course kept = elim course [
-  | inl answered ↦ course_kept search (step search g q).1 h qs rs answered.1 (step_kept search g q kept)
-  | inr for_room ↦ course_kept search g h qs rs for_room.1 kept
-]
+course_kept search = course_keeps (IsKept search) search (step_kept search)
+
+-- ---- the values
+pub values_kept : (search : Search) (g : Registry) (q : Request) → HoldsWellFormedValues g → HoldsWellFormedValues (step search g q).1
+values_kept search g q formed =
+    step_keeps HoldsWellFormedValues search g formed
+    (λ b body v was_read none d c. elim (from_placed (document_from b v) d g.documents c) [
+      | inl itself ↦ subst (λ x. is_well_formed x.value ≡ true) itself (body_formed body v was_read)
+      | inr other ↦ formed d other
+    ])
+    (λ b d c. formed d (from_filter (λ x. not (same_text b x.canonical)) d g.documents c).0) q
+
+pub course_values_kept : (search : Search) (g h : Registry) (qs : List Request) (rs : List Reply) → Course search g qs rs h → HoldsWellFormedValues g → HoldsWellFormedValues h
+course_values_kept search = course_keeps HoldsWellFormedValues search (values_kept search)
 
 -- ---- what is reached
 pub kept_distinct : (search : Search) (g : Registry) → IsKept search g → has_repeat same_text (map key_of g.documents) ≡ false

@@ -10,3 +10,7 @@ pub mod LeastTexts
 pub mod Placing
 pub mod KeptRegistries
 pub mod NeighbourRepeats
+pub mod StringContents
+pub mod TokenTexts
+pub mod ReadValues
+pub mod Steps

@@ -59,7 +59,8 @@ reach_as_filter G uri =
     (of_steps.0, as_steps (length G) G uri ∙ of_steps.1)
 
 pub nothing_from_nothing_held : (G : List Document) (uri : Text) → (reach G uri ≡ []) ↔ ((d : Document) → Contains G d → holds_resource uri d ≡ false)
-nothing_from_nothing_held G uri =
-    (λ e d c. false_from_ne_true (holds_resource uri d) (λ held.
-      nothing_in d (subst (λ ds. Contains ds d) (sym (as_steps (length G) G uri) ∙ e) (complete G uri d (holds c held))))
-    , λ none. as_steps (length G) G uri ∙ nothing_from_nothing leads own (holds_resource uri) G none (length G))
+nothing_from_nothing_held G uri = (
+  λ e d c. false_from_ne_true (holds_resource uri d) (λ held.
+      nothing_in d (subst (λ ds. Contains ds d) (sym (as_steps (length G) G uri) ∙ e) (complete G uri d (holds c held)))),
+  λ none. as_steps (length G) G uri ∙ nothing_from_nothing leads own (holds_resource uri) G none (length G),
+)

@@ -4,3 +4,4 @@ pub mod Pointers
 pub mod Reaching
 pub mod Linking
 pub mod Keeping
+pub mod Reading

@@ -1,6 +1,6 @@
 //! What holds of a registry from request to request.
 
-ghost use Rattle.definition_laws.specs.Keeping.{EmptyRegistriesAreKept, StepsKeepRegistries, CoursesKeepRegistries};
+ghost use Rattle.definition_laws.specs.Keeping.{EmptyRegistriesAreKept, StepsKeepRegistries, CoursesKeepRegistries, StepsKeepValuesWellFormed, CoursesKeepValuesWellFormed, QuotasStay};
 
 /// A registry without documents is kept: what `IsKept` says holds of it.
 pub fn empty_registries_are_kept()
@@ -17,4 +17,19 @@ pub fn steps_keep_registries()
 /// So does every course of requests, also where some are refused for room.
 pub fn courses_keep_registries()
     ensures { CoursesKeepRegistries }
+{}
+
+/// Every request leaves a registry of well-formed values such a registry, since a value that is put was read.
+pub fn steps_keep_values_well_formed()
+    ensures { StepsKeepValuesWellFormed }
+{}
+
+/// So does every course of requests.
+pub fn courses_keep_values_well_formed()
+    ensures { CoursesKeepValuesWellFormed }
+{}
+
+/// No request changes a quota.
+pub fn quotas_stay()
+    ensures { QuotasStay }
 {}

@@ -1,5 +1,5 @@
 -- A set that is grown step by step inside a list stands still after as many steps as the list is long.
-use Rattle.std.proofs.Common.{◌∙◌, false, [], cond, ◌∷◌, ◌≡◌, ◌⊎◌, ℕ, zero, suc, ◌≤◌, List, Bool, true, length, filter, Contains, arith, refl, sym, ap, subst, inl, inr}
+use Rattle.std.proofs.Common.{◌≡◌, ℕ, zero, suc, ◌≤◌, Bool, true, false, cond, ◌⊎◌, List, [], ◌∷◌, length, Contains, filter, sym, refl, ap, ◌∙◌, subst, inl, inr, arith}
 use Rattle.std.proofs.lemmas.Bool.{cases_lt}
 use Rattle.std.specs.List.{list_any}
 use Rattle.definition_laws.proofs.Membership.{is_first, is_later, any_at, in_filter, from_filter, wider, filter_short}

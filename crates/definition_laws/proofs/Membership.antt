@@ -1,5 +1,5 @@
 -- What stands in a list, in what a filter keeps of it, and in a list without repeats.
-use Rattle.std.proofs.Common.{◌≡◌, ◌⊎◌, ℕ, zero, suc, ◌<◌, ◌≤◌, ◌||◌, List, [], ◌∷◌, Bool, true, false, cond, length, map, filter, get_or, Contains, arith, refl, sym, ap, ◌∙◌, subst, inl, inr, true≢false}
+use Rattle.std.proofs.Common.{◌≡◌, ℕ, zero, suc, ◌<◌, ◌≤◌, Bool, true, false, cond, ◌||◌, ◌⊎◌, List, [], ◌∷◌, map, length, get_or, Contains, filter, sym, refl, ap, ◌∙◌, subst, inl, inr, true≢false, arith}
 use Rattle.std.proofs.lemmas.Bool.{or_parts, or_cases}
 use Rattle.std.specs.List.{list_any}
 use Rattle.definitions.specs.Values.{has_repeat}

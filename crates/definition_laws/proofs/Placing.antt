@@ -1,12 +1,12 @@
 -- An element is put at its place in a list that ascends by a key, in place of one with the same key.
-use Rattle.std.proofs.Common.{ap₂, ◌≡◌, ◌⊎◌, List, [], ◌∷◌, Bool, true, false, cond, map, flat_map, filter, Contains, Ordering, Less, Equal, Greater, refl, sym, ap, ◌∙◌, subst, inl, inr}
+use Rattle.std.proofs.Common.{◌≡◌, Bool, true, false, cond, ◌⊎◌, List, [], ◌∷◌, map, Contains, filter, flat_map, Ordering, Less, Equal, Greater, sym, refl, ap, ◌∙◌, subst, ap₂, inl, inr}
+use Rattle.std.proofs.lemmas.Bool.{or_from, false_from_ne_true}
+use Rattle.std.proofs.lemmas.Cmp.{tied_itself}
+use Rattle.std.proofs.lemmas.List.Elements.{All-from_recursion, All-contains}
 use Rattle.std.specs.Cmp.{IsTotalOrder}
 use Rattle.std.specs.Ordering.{match_ordering, ordering_reverse}
 use Rattle.std.specs.List.{AllByRecursion as Each, list_any}
 use Rattle.std.specs.List.Sorted.{IsStrictlySortedBy}
-use Rattle.std.proofs.lemmas.Bool.{or_from, false_from_ne_true}
-use Rattle.std.proofs.lemmas.Cmp.{tied_itself}
-use Rattle.std.proofs.lemmas.List.Elements.{All-from_recursion, All-contains}
 use Rattle.definitions.specs.Values.{has_repeat}
 use Rattle.definition_laws.proofs.Membership.{nothing_in, is_first, is_later, first_or_later, in_map}
 use Rattle.definition_laws.proofs.Repeats.{AreApart, any_none, joined, cut, from_flat_map, in_flat_map}
@@ -86,6 +86,23 @@ module _ {X K : Type 0} (cmp : K → K → Ordering) (order : IsTotalOrder cmp) 
   unfolding IsStrictlySortedBy
   first_below x y xs h c =
       All-contains (λ k. cmp (key x) k ≡ Less) (map key xs) (key y) (All-from_recursion (λ k. cmp (key x) k ≡ Less) (map key xs) h.0) (in_map key y xs c)
+
+  in_inserted_at : (x y z : X) (ys : List X) (o : Ordering) → cmp (key x) (key y) ≡ o → (cmp (key x) (key z) ≡ Equal → ⊥)
+      → (Contains ys z → Contains (inserted cmp key x ys) z) → Contains (y ∷ ys) z → Contains (match_ordering o (x ∷ y ∷ ys) (x ∷ ys) (y ∷ inserted cmp key x ys)) z
+  in_inserted_at x y z ys Less e other more c = is_later x z (y ∷ ys) c
+  in_inserted_at x y z ys Equal e other more c = elim (first_or_later y z ys c) [
+    | inl same ↦ absurd (other (ap (λ w. cmp (key x) (key w)) (sym same) ∙ e))
+    | inr later ↦ is_later x z ys later
+  ]
+  in_inserted_at x y z ys Greater e other more c = elim (first_or_later y z ys c) [
+    | inl same ↦ subst (Contains (y ∷ inserted cmp key x ys)) same (is_first y (inserted cmp key x ys))
+    | inr later ↦ is_later y z (inserted cmp key x ys) (more later)
+  ]
+
+  -- what has another key stays
+  pub in_inserted : (x z : X) (xs : List X) → (cmp (key x) (key z) ≡ Equal → ⊥) → Contains xs z → Contains (inserted cmp key x xs) z
+  in_inserted x z [] other c = absurd (nothing_in z c)
+  in_inserted x z (y ∷ ys) other c = in_inserted_at x y z ys (cmp (key x) (key y)) refl other (in_inserted x z ys other) c
 
   one_of_both : (x y : X) (xs ys : List X) → IsStrictlySortedBy cmp (map key (x ∷ xs)) → IsStrictlySortedBy cmp (map key (y ∷ ys))
       → (y ≡ x) ⊎ Contains ys x → (x ≡ y) ⊎ Contains xs y → x ≡ y

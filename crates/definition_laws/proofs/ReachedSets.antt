@@ -1,5 +1,5 @@
 -- The computed reach is the least set that is closed under references.
-use Rattle.std.proofs.Common.{◌↔◌, [], ◌≡◌, ◌∙◌, ℕ, zero, suc, List, Bool, true, false, ◌||◌, length, map, filter, Contains, refl, sym, ap, subst, inl, inr}
+use Rattle.std.proofs.Common.{◌≡◌, ℕ, zero, suc, Bool, true, false, ◌||◌, ◌↔◌, List, [], map, length, Contains, filter, sym, refl, ap, ◌∙◌, subst, inl, inr}
 use Rattle.std.proofs.lemmas.Bool.{false_from_ne_true, or_cases, or_left, or_right}
 use Rattle.std.specs.Cmp.Lexicographic.{bytes_decides}
 use Rattle.std.specs.List.{list_any}

@@ -1,15 +1,11 @@
 -- Every value that is read is well formed.
-use Rattle.std.proofs.Common.{◌≡◌, ℕ, ℤ, pos, neg_ℤ, zero, suc, ◌^◌, ◌≤◌, ◌==◌, ◌&&◌, List, [], ◌∷◌, Bool, true, false, cond, Option, Some, None, Ok, Err, option_map, option_and_then, length, drop, nat_lt, nat_le, Ordering, Less, Equal, Greater, is_lt, refl, sym, ap, ◌∙◌, subst}
-use Rattle.std.specs.Prelude.{slice_index}
-use Rattle.std.proofs.lemmas.Bool.{and_from, leb-true, lt-ltb}
+use Rattle.std.proofs.Common.{◌≡◌, ℕ, Bool, true, false, cond, ◌&&◌, List, [], ◌∷◌, length, nat_lt, Some, None, Ok, Err, Option, option_map, option_and_then, is_lt, Ordering, Less, Equal, Greater, refl, ap, ◌∙◌, subst}
+use Rattle.std.proofs.lemmas.Bool.{and_from}
 use Rattle.std.proofs.lemmas.Cmp.{nat_list_cmp_total}
 use Rattle.std.proofs.lemmas.Str.{IsUtf8-from_is_utf8}
 use Rattle.std.specs.Cmp.Lexicographic.{slice_cmp}
-use Rattle.std.specs.Float.{binary64, float_is_finite}
-use Rattle.std.specs.List.{AllByRecursion as Each}
 use Rattle.std.specs.Ordering.{nat_cmp, match_ordering, ordering_reverse}
 use Rattle.std.specs.Str.{is_utf8}
-use Rattle.fast_float.specs.Text.{Parts, digits_of, nearest, scan, minus}
 use Rattle.json.specs.Token.{Token}
 use Rattle.json.specs.Lex.{tokens}
 use Rattle.json.specs.Json as json
@@ -17,205 +13,14 @@ use Rattle.json.specs.Json.{Parse, items, members, value, items_step, members_st
 use Rattle.serde_json.specs.Data as data_words
 use Rattle.serde_json.specs.Data.{Num, Data}
 use Rattle.serde_json.specs.Find.{as_integer}
-use Rattle.serde_json.specs.Read.{read, of_json, of_items, of_members, number_of, number_from, float_of, is_integer, max_depth}
-use Rattle.definitions.specs.Values.{Text, Value, Elements, Members, null, boolean, integer, string, array, object, no_elements, element, no_members, member, fits_64_bits, is_before, is_well_formed, are_well_formed, are_well_formed_members}
+use Rattle.serde_json.specs.Read.{read, of_json, of_items, of_members, number_of, max_depth}
+use Rattle.definitions.specs.Values.{Text, Value, Elements, Members, null, boolean, integer, string, array, object, no_elements, element, no_members, member, is_before, is_well_formed, are_well_formed, are_well_formed_members}
 use Rattle.definitions.specs.Faults.{bad_json, too_large}
 use Rattle.definitions.specs.Texts.{value_of, elements_of, members_of, value_or_bad_json, value_or_bad_number, reading}
 use Rattle.definitions.specs.Registries.{body_value, most_body_bytes}
-use Rattle.definition_laws.proofs.TokenTexts.{IsText, tokens_text}
-
--- ---- numbers that are whole fit 64 bits
-abbrev IsFitting : Num → Type 0
-IsFitting n = (z : ℤ) → as_integer n ≡ Some z → fits_64_bits z ≡ true
-
-float_fitting : (b : Bool) (x : data_words.Num) (n : Num) → as_integer x ≡ None → cond b (Some x) None ≡ Some n → IsFitting n
-float_fitting true x n float e z h =
-    let is : x ≡ n = cc in
-    absurd (unlike (sym float ∙ ap as_integer is ∙ h))
-  where
-    unlike : {A : Type 0} {a : A} → None ≡ Some a → ⊥
-    unlike e = cc
-float_fitting false x n float e z h = cc
-
-unsigned_fitting : (a b : Bool) (k : ℕ) (n : Num) (other : Option Num) → nat_lt k (2 ^ 64) ≡ b → (other ≡ Some n → IsFitting n)
-    → cond (a && b) (Some (data_words.unsigned k)) other ≡ Some n → IsFitting n
-unsigned_fitting true true k n other small more e z h =
-    let is : data_words.unsigned k ≡ n = cc in
-    let same : Some (pos k) ≡ Some z = ap as_integer is ∙ h in
-    let whole : pos k ≡ z = cc in
-    subst (λ y. fits_64_bits y ≡ true) whole small
-unsigned_fitting true false k n other small more e z h = more e z h
-unsigned_fitting false b k n other small more e z h = more e z h
-
-negated_fits : (k : ℕ) → k ≤ 2 ^ 63 → fits_64_bits (neg_ℤ (pos k)) ≡ true
-negated_fits zero small = refl
-negated_fits (suc k) small = lt-ltb k (2 ^ 63) small
-
-negative_fitting : (a b c : Bool) (k : ℕ) (n : Num) (other : Option Num) → nat_le k (2 ^ 63) ≡ c → (other ≡ Some n → IsFitting n)
-    → cond (a && b && c) (Some (data_words.negative (neg_ℤ (pos k)))) other ≡ Some n → IsFitting n
-negative_fitting true true true k n other small more e z h =
-    let is : data_words.negative (neg_ℤ (pos k)) ≡ n = cc in
-    let same : Some (neg_ℤ (pos k)) ≡ Some z = ap as_integer is ∙ h in
-    let whole : neg_ℤ (pos k) ≡ z = cc in
-    subst (λ y. fits_64_bits y ≡ true) whole (negated_fits k (leb-true k (2 ^ 63) small))
-negative_fitting true true false k n other small more e z h = more e z h
-negative_fitting true false c k n other small more e z h = more e z h
-negative_fitting false b c k n other small more e z h = more e z h
-
-from_fitting : (sign : Bool) (p : Parts) (n : Num) → number_from sign p ≡ Some n → IsFitting n
-from_fitting false p n e =
-    unsigned_fitting (is_integer p) (nat_lt (digits_of p) (2 ^ 64)) (digits_of p) n (float_of false p) refl
-    (λ f. float_fitting (float_is_finite (nearest binary64 false p)) _ n refl f) e
-from_fitting true p n e =
-    negative_fitting (is_integer p) (nat_lt 0 (digits_of p)) (nat_le (digits_of p) (2 ^ 63)) (digits_of p) n (float_of true p) refl
-    (λ f. float_fitting (float_is_finite (nearest binary64 true p)) _ n refl f) e
-
-number_fitting : (s : Text) (n : Num) → number_of s ≡ Some n → IsFitting n
-unfolding number_of
-number_fitting s n e = by_sign (slice_index s 0 == minus) e
-  where
-    by_sign : (b : Bool) → cond b (number_from true (scan (drop 1 s))) (number_from false (scan s)) ≡ Some n → IsFitting n
-    by_sign true h = from_fitting true (scan (drop 1 s)) n h
-    by_sign false h = from_fitting false (scan s) n h
-
--- ---- the grammar keeps texts as they are
-abbrev mutual
-  IsTextJson : json.Json → Type 0
-  IsTextJson json.null = Unit {0}
-  IsTextJson (json.boolean b) = Unit {0}
-  IsTextJson (json.number s) = Unit {0}
-  IsTextJson (json.string s) = is_utf8 s ≡ true
-  IsTextJson (json.array js) = AreTextItems js
-  IsTextJson (json.object ms) = AreTextMembers ms
-
-  AreTextItems : json.Items → Type 0
-  AreTextItems json.no_items = Unit {0}
-  AreTextItems (json.item j js) = IsTextJson j × AreTextItems js
-
-  AreTextMembers : json.Members → Type 0
-  AreTextMembers json.no_members = Unit {0}
-  AreTextMembers (json.member k j ms) = (is_utf8 k ≡ true) × (IsTextJson j × AreTextMembers ms)
-
-abbrev KeepsTexts : {A : Type 0} → (A → Type 0) → Parse A → Type 0
-KeepsTexts {A} P p = (ts rest : List Token) (a : A) → Each IsText ts → p ts ≡ Some (a, rest) → P a × Each IsText rest
-
-mapped : {A B : Type 0} (f : A → B) (o : Option (A × List Token)) (b : B) (rest : List Token) → parse_map f o ≡ Some (b, rest) → (a : A) × ((o ≡ Some (a, rest)) × (f a ≡ b))
-mapped f None b rest e = cc
-mapped {A} {B} f (Some p) b rest e =
-    let same : (f p.0, p.1) ≡ (b, rest) = cc in
-    (p.0, (ap (λ r. Some (p.0, r)) (ap (λ (q : B × List Token). q.1) same), ap (λ (q : B × List Token). q.0) same))
-
-chained : {A B : Type 0} (f : A → Option B) (o : Option A) (b : B) → option_and_then f o ≡ Some b → (a : A) × ((o ≡ Some a) × (f a ≡ Some b))
-chained f None b e = cc
-chained f (Some a) b e = (a, (refl, e))
-
-after_end_text : (ts rest : List Token) → Each IsText ts → after_end_array ts ≡ Some rest → Each IsText rest
-after_end_text [] rest h e = cc
-after_end_text (Token.begin_object ∷ ts) rest h e = cc
-after_end_text (Token.end_object ∷ ts) rest h e = cc
-after_end_text (Token.begin_array ∷ ts) rest h e = cc
-after_end_text (Token.end_array ∷ ts) rest h e = let is : ts ≡ rest = cc in subst (Each IsText) is h.1
-after_end_text (Token.key s ∷ ts) rest h e = cc
-after_end_text (Token.string s ∷ ts) rest h e = cc
-after_end_text (Token.number s ∷ ts) rest h e = cc
-after_end_text (Token.boolean b ∷ ts) rest h e = cc
-after_end_text (Token.null ∷ ts) rest h e = cc
-after_end_text (Token.bad ∷ ts) rest h e = cc
-
-items_at : (one : Parse json.Json) (more : Parse json.Items) → KeepsTexts IsTextJson one → KeepsTexts AreTextItems more
-    → (ts rest : List Token) (js : json.Items) (o : Option (List Token)) → after_end_array ts ≡ o → Each IsText ts → items_step one more ts o ≡ Some (js, rest) → AreTextItems js × Each IsText rest
-items_at one more h k ts rest js (Some left) at texts e =
-    let same : (json.no_items, left) ≡ (js, rest) = cc in
-    let none : json.no_items ≡ js = ap (λ (q : json.Items × List Token). q.0) same in
-    let is : left ≡ rest = ap (λ (q : json.Items × List Token). q.1) same in
-    (subst AreTextItems none tt, subst (Each IsText) is (after_end_text ts left texts at))
-items_at one more h k ts rest js None at texts e =
-    let first = chained (λ p. parse_map (json.item p.0) (more p.1)) (one ts) (js, rest) e in
-    let read_first = h ts first.0.1 first.0.0 texts first.1.0 in
-    let later = mapped (json.item first.0.0) (more first.0.1) js rest first.1.1 in
-    let read_later = k first.0.1 rest later.0 read_first.1 later.1.0 in
-    (subst AreTextItems later.1.1 (read_first.0, read_later.0), read_later.1)
-
-items_text : (one : Parse json.Json) → KeepsTexts IsTextJson one → (n : ℕ) → KeepsTexts AreTextItems (items one n)
-unfolding items
-items_text one h zero ts rest js texts e = cc
-items_text one h (suc n) ts rest js texts e = items_at one (items one n) h (items_text one h n) ts rest js (after_end_array ts) refl texts e
-
-abbrev IsTextKey : Option Text → Type 0
-IsTextKey None = Unit {0}
-IsTextKey (Some k) = is_utf8 k ≡ true
-
-key_text : KeepsTexts IsTextKey read_key
-key_text [] rest k h e = cc
-key_text (Token.begin_object ∷ ts) rest k h e = cc
-key_text (Token.end_object ∷ ts) rest k h e =
-    let same : (None, ts) ≡ (k, rest) = cc in
-    (subst IsTextKey (ap (λ (q : Option Text × List Token). q.0) same) tt, subst (Each IsText) (ap (λ (q : Option Text × List Token). q.1) same) h.1)
-key_text (Token.begin_array ∷ ts) rest k h e = cc
-key_text (Token.end_array ∷ ts) rest k h e = cc
-key_text (Token.key s ∷ ts) rest k h e =
-    let same : (Some s, ts) ≡ (k, rest) = cc in
-    (subst IsTextKey (ap (λ (q : Option Text × List Token). q.0) same) h.0, subst (Each IsText) (ap (λ (q : Option Text × List Token). q.1) same) h.1)
-key_text (Token.string s ∷ ts) rest k h e = cc
-key_text (Token.number s ∷ ts) rest k h e = cc
-key_text (Token.boolean b ∷ ts) rest k h e = cc
-key_text (Token.null ∷ ts) rest k h e = cc
-key_text (Token.bad ∷ ts) rest k h e = cc
-
-members_at : (one : Parse json.Json) (more : Parse json.Members) → KeepsTexts IsTextJson one → KeepsTexts AreTextMembers more
-    → (k : Option Text) (ts rest : List Token) (ms : json.Members) → IsTextKey k → Each IsText ts → members_step one more k ts ≡ Some (ms, rest) → AreTextMembers ms × Each IsText rest
-members_at one more h l None ts rest ms key texts e =
-    let same : (json.no_members, ts) ≡ (ms, rest) = cc in
-    (subst AreTextMembers (ap (λ (q : json.Members × List Token). q.0) same) tt, subst (Each IsText) (ap (λ (q : json.Members × List Token). q.1) same) texts)
-members_at one more h l (Some k) ts rest ms key texts e =
-    let first = chained (λ p. parse_map (json.member k p.0) (more p.1)) (one ts) (ms, rest) e in
-    let read_first = h ts first.0.1 first.0.0 texts first.1.0 in
-    let later = mapped (json.member k first.0.0) (more first.0.1) ms rest first.1.1 in
-    let read_later = l first.0.1 rest later.0 read_first.1 later.1.0 in
-    (subst AreTextMembers later.1.1 (key, (read_first.0, read_later.0)), read_later.1)
-
-members_text : (one : Parse json.Json) → KeepsTexts IsTextJson one → (n : ℕ) → KeepsTexts AreTextMembers (members one n)
-unfolding members
-members_text one h zero ts rest ms texts e = cc
-members_text one h (suc n) ts rest ms texts e =
-    let key = chained (λ p. members_step one (members one n) p.0 p.1) (read_key ts) (ms, rest) e in
-    let read_first = key_text ts key.0.1 key.0.0 texts key.1.0 in
-    members_at one (members one n) h (members_text one h n) key.0.0 key.0.1 rest ms read_first.0 read_first.1 key.1.1
-
-leaf_text : (p q : json.Json × List Token) → Some p ≡ Some q → IsTextJson p.0 → Each IsText p.1 → IsTextJson q.0 × Each IsText q.1
-leaf_text p q e h texts =
-    let same : p ≡ q = cc in
-    (subst (λ r. IsTextJson r.0) same h, subst (λ r. Each IsText r.1) same texts)
-
-value_at : (a : Parse json.Items) (o : Parse json.Members) → KeepsTexts AreTextItems a → KeepsTexts AreTextMembers o → KeepsTexts IsTextJson (value_with a o)
-value_at a o h l [] rest j texts e = cc
-value_at a o h l (Token.begin_object ∷ ts) rest j texts e =
-    let inside = mapped json.object (o ts) j rest e in
-    let was_read = l ts rest inside.0 texts.1 inside.1.0 in
-    (subst IsTextJson inside.1.1 was_read.0, was_read.1)
-value_at a o h l (Token.end_object ∷ ts) rest j texts e = cc
-value_at a o h l (Token.begin_array ∷ ts) rest j texts e =
-    let inside = mapped json.array (a ts) j rest e in
-    let was_read = h ts rest inside.0 texts.1 inside.1.0 in
-    (subst IsTextJson inside.1.1 was_read.0, was_read.1)
-value_at a o h l (Token.end_array ∷ ts) rest j texts e = cc
-value_at a o h l (Token.key s ∷ ts) rest j texts e = cc
-value_at a o h l (Token.string s ∷ ts) rest j texts e = leaf_text ((json.string s), ts) (j, rest) e texts.0 texts.1
-value_at a o h l (Token.number s ∷ ts) rest j texts e = leaf_text ((json.number s), ts) (j, rest) e tt texts.1
-value_at a o h l (Token.boolean b ∷ ts) rest j texts e = leaf_text ((json.boolean b), ts) (j, rest) e tt texts.1
-value_at a o h l (Token.null ∷ ts) rest j texts e = leaf_text (json.null, ts) (j, rest) e tt texts.1
-value_at a o h l (Token.bad ∷ ts) rest j texts e = cc
-
-nothing_read : {A : Type 0} (P : A → Type 0) → KeepsTexts P (λ ts. None)
-nothing_read P ts rest a texts e = cc
-
-value_text : (n : ℕ) → KeepsTexts IsTextJson (value n)
-unfolding value
-value_text zero = value_at (λ ts. None) (λ ts. None) (nothing_read AreTextItems) (nothing_read AreTextMembers)
-value_text (suc n) =
-    value_at (λ ts. items (value n) (length ts) ts) (λ ts. members (value n) (length ts) ts)
-    (λ ts. items_text (value n) (value_text n) (length ts) ts)
-    (λ ts. members_text (value n) (value_text n) (length ts) ts)
+use Rattle.definition_laws.proofs.TokenTexts.{tokens_text}
+use Rattle.definition_laws.proofs.WholeNumbers.{IsFitting, number_fitting}
+use Rattle.definition_laws.proofs.TextGrammar.{IsTextJson, AreTextItems, AreTextMembers, chained, value_text}
 
 -- ---- what was read, with each name once and in byte order
 abbrev IsBefore : Text → data_words.Members → Type 0

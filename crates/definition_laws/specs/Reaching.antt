@@ -1,11 +1,12 @@
 -- What the laws say of the documents that a URI reaches (JSON Schema 2020-12 Core, 8.2.3 and 9.2).
-use Rattle.std.specs.Prelude.{◌≡◌, ◌↔◌, List, [], false, Contains, IsTrue}
-use Rattle.definitions.specs.Values.{Text, has_repeat, same_text}
-use Rattle.definitions.specs.Schemas.{Document, table_of}
+use Rattle.std.specs.Prelude.{◌≡◌, ◌≢◌, ◌↔◌, List, [], false, None, Contains, IsTrue}
+use Rattle.definitions.specs.Values.{Text, Value, has_repeat, same_text}
+use Rattle.definitions.specs.Schemas.{Document, document_from, table_of}
 use Rattle.definitions.specs.Scanning.{resource_uris}
 use Rattle.definitions.specs.Reach.{holds_resource, reach, IsReached, ReachIsLeast}
 use Rattle.definitions.specs.Alike.{Agree}
-use Rattle.definitions.specs.Registries.{Search, Registry}
+use Rattle.definitions.specs.Bundles.{others_of}
+use Rattle.definitions.specs.Registries.{Search, Registry, placed, put_refusal}
 use Rattle.definitions.specs.Runs.{IsKept, resource_uris_of}
 
 -- of documents with distinct canonical URIs, a URI reaches those in the least set that has each document with a resource
@@ -50,3 +51,21 @@ abbrev pub SameReachedSetsAgree : Type 0
 SameReachedSetsAgree =
     (search : Search) (g h : Registry) (uri : Text) → IsKept search g → IsKept search h
     → ((d : Document) → IsReached g.documents uri d ↔ IsReached h.documents uri d) → Agree g.documents h.documents uri
+
+-- no document with this canonical URI is reached
+abbrev pub IsUnreached : List Document → Text → Text → Type 0
+IsUnreached G uri canonical = (d : Document) → IsReached G uri d → d.canonical ≢ canonical
+
+-- a document that is put changes no answer by a URI that reaches neither it nor the one that it replaces
+abbrev pub UnreachedPutsChangeNothing : Type 0
+UnreachedPutsChangeNothing =
+    (search : Search) (g : Registry) (base uri : Text) (v : Value) → IsKept search g →
+    let d = document_from base v in
+    put_refusal search g d (placed d g.documents) ≡ None
+    → IsUnreached g.documents uri d.canonical → IsUnreached (placed d g.documents) uri d.canonical → Agree g.documents (placed d g.documents) uri
+
+-- and a document that is deleted none by a URI that doesn't reach it
+abbrev pub UnreachedDeletesChangeNothing : Type 0
+UnreachedDeletesChangeNothing =
+    (search : Search) (g : Registry) (canonical uri : Text) → IsKept search g
+    → IsUnreached g.documents uri canonical → Agree g.documents (others_of canonical g.documents) uri

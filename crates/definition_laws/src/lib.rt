@@ -19,7 +19,8 @@ pub use pointers::{pointers_are_read_back, read_pointers_have_one_text};
 pub use reaching::{
     kept_registries_reach_least_sets, nothing_is_reached_from_nothing, reached_registries_are_kept,
     reached_resources_are_distinct, reached_sets_are_least, resources_have_one_document,
-    same_reached_sets_agree, tables_open_the_documents_resources,
+    same_reached_sets_agree, tables_open_the_documents_resources, unreached_deletes_change_nothing,
+    unreached_puts_change_nothing,
 };
 pub use reading::read_values_are_well_formed;
 pub use uniqueness::sorted_repeats_are_neighbours;

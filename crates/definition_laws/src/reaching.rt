@@ -1,6 +1,6 @@
 //! The documents that a URI reaches (JSON Schema 2020-12 Core, 8.2.3 and 9.2).
 
-ghost use Rattle.definition_laws.specs.Reaching.{ReachedSetsAreLeast, KeptRegistriesReachLeastSets, ReachedRegistriesAreKept, ReachedResourcesAreDistinct, ResourcesHaveOneDocument, TablesOpenTheDocumentsResources, NothingIsReachedFromNothing, SameReachedSetsAgree};
+ghost use Rattle.definition_laws.specs.Reaching.{ReachedSetsAreLeast, KeptRegistriesReachLeastSets, ReachedRegistriesAreKept, ReachedResourcesAreDistinct, ResourcesHaveOneDocument, TablesOpenTheDocumentsResources, NothingIsReachedFromNothing, SameReachedSetsAgree, UnreachedPutsChangeNothing, UnreachedDeletesChangeNothing};
 
 /// Of documents with distinct canonical URIs, a URI reaches those in the least set that has each document with a resource
 /// of this URI, and each document that one in the set refers to.
@@ -41,4 +41,14 @@ pub fn nothing_is_reached_from_nothing()
 /// Kept registries in which a URI reaches the same documents agree at it: what isn't reached changes no answer.
 pub fn same_reached_sets_agree()
     ensures { SameReachedSetsAgree }
+{}
+
+/// A document that is put changes no answer by a URI that reaches neither it nor the one that it replaces.
+pub fn unreached_puts_change_nothing()
+    ensures { UnreachedPutsChangeNothing }
+{}
+
+/// A document that is deleted changes no answer by a URI that doesn't reach it.
+pub fn unreached_deletes_change_nothing()
+    ensures { UnreachedDeletesChangeNothing }
 {}

@@ -1,4 +1,4 @@
-use Rattle.definition_laws.proofs.KeptRegistries.{kept_reach_is_least}
+use Rattle.definition_laws.proofs.KeptReaches.{kept_reach_is_least}
 use Rattle.definition_laws.proofs.reaching.kept_registries_reach_least_sets.Goals as goal
 
 pub returns : goal.returns

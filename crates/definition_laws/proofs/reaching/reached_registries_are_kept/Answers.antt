@@ -1,4 +1,4 @@
-use Rattle.definition_laws.proofs.KeptRegistries.{reached_kept}
+use Rattle.definition_laws.proofs.KeptReaches.{reached_kept}
 use Rattle.definition_laws.proofs.reaching.reached_registries_are_kept.Goals as goal
 
 pub returns : goal.returns

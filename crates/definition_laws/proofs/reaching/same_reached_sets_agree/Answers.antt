@@ -1,4 +1,4 @@
-use Rattle.definition_laws.proofs.KeptRegistries.{same_reached_agree}
+use Rattle.definition_laws.proofs.KeptReaches.{same_reached_agree}
 use Rattle.definition_laws.proofs.reaching.same_reached_sets_agree.Goals as goal
 
 pub returns : goal.returns

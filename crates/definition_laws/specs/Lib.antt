@@ -2,3 +2,8 @@ pub mod Laws
 pub mod Uniqueness
 pub mod Identities
 pub mod Likeness
+pub mod Pointers
+pub mod Reaching
+pub mod Linking
+pub mod Keeping
+pub mod Reading

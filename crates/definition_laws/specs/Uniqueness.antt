@@ -1,5 +1,4 @@
--- A law that a faster test of `uniqueItems` would rest on (JSON Schema 2020-12 Validation, 6.4.3). It is stated here, and
--- not proved yet.
+-- A law that a faster test of `uniqueItems` would rest on (JSON Schema 2020-12 Validation, 6.4.3).
 use Rattle.std.specs.Prelude.{◌≡◌, ◌||◌, List, [], ◌∷◌, Bool, false}
 use Rattle.std.specs.Cmp.{IsTotalOrder}
 use Rattle.std.specs.List.Sorted.{IsPermutation, IsSorted}

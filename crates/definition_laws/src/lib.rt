@@ -2,12 +2,32 @@
 #![tactic(auto)]
 
 mod identities;
+mod keeping;
 mod likeness;
+mod linking;
+mod pointers;
+mod reaching;
+mod reading;
+mod uniqueness;
 
 ghost use Rattle.definition_laws.specs.Laws.{FailingEvaluatesNothing, RefusalsKeepTheRegistry, CoursesAreReplies, AgreeingAnswerAlike};
 
 pub use identities::{identity_names_one_schema, roots_are_found, schemas_are_pointed_to};
+pub use keeping::{
+    courses_keep_registries, courses_keep_values_well_formed, empty_registries_are_kept,
+    quotas_stay, steps_keep_registries, steps_keep_values_well_formed,
+};
 pub use likeness::{alike_tables_answer_the_same, alike_tables_give_the_same, reach_is_enough};
+pub use linking::{least_is_least, linked_name_all, missing_name_nothing, no_texts_have_no_least};
+pub use pointers::{pointers_are_read_back, read_pointers_have_one_text};
+pub use reaching::{
+    kept_registries_reach_least_sets, nothing_is_reached_from_nothing, reached_registries_are_kept,
+    reached_resources_are_distinct, reached_sets_are_least, resources_have_one_document,
+    same_reached_sets_agree, tables_open_the_documents_resources, unreached_deletes_change_nothing,
+    unreached_puts_change_nothing,
+};
+pub use reading::read_values_are_well_formed;
+pub use uniqueness::sorted_repeats_are_neighbours;
 
 /// A schema that fails evaluates no name and no index (JSON Schema 2020-12 Core, 11).
 pub fn failing_evaluates_nothing()

@@ -1,0 +1,91 @@
+-- What holds of a document that is put and not refused.
+use Rattle.std.proofs.Common.{◌≡◌, Bool, true, false, not, List, [], ◌∷◌, ◌++◌, length, nat_lt, Some, None, Contains, filter, Option, option_map, flat_map, Equal, Equal, sym, refl, ap, ◌∙◌, subst}
+use Rattle.std.proofs.lemmas.Bool.{false_from_ne_true}
+use Rattle.std.proofs.lemmas.Cmp.{nat_list_cmp_total, tied_itself}
+use Rattle.std.specs.Cmp.Lexicographic.{slice_cmp, bytes_decides}
+use Rattle.std.specs.List.{list_any}
+use Rattle.std.specs.Ordering.{nat_cmp}
+use Rattle.definitions.specs.Values.{Text, has_repeat, same_text}
+use Rattle.definitions.specs.Faults.{Fault, bad_pattern, taken, quota_documents, quota_bytes, duplicate_uri, duplicate_anchor}
+use Rattle.definitions.specs.Keywords.{keywords}
+use Rattle.definitions.specs.Schemas.{Document, schemas_of, option_list}
+use Rattle.definitions.specs.Scanning.{first, when, scan_faults, form_faults, same_anchor, anchors_of}
+use Rattle.definitions.specs.Reach.{holds_resource}
+use Rattle.definitions.specs.Bundles.{others_of}
+use Rattle.definitions.specs.Registries.{Search, Registry, put_refusal, is_regular, resources_of, taken_uri, bytes_of}
+use Rattle.definition_laws.proofs.Membership.{nothing_in, in_filter}
+use Rattle.definition_laws.proofs.Repeats.{none_of}
+use Rattle.definition_laws.proofs.LeastTexts.{no_least}
+use Rattle.definition_laws.proofs.Resources.{apart_from_held}
+
+-- ---- no fault among several
+first_none : {A : Type 0} (xs : List A) → first xs ≡ None → xs ≡ []
+first_none [] e = refl
+first_none (x ∷ xs) e = cc
+
+neither : {A : Type 0} (xs ys : List A) → xs ++ ys ≡ [] → (xs ≡ []) × (ys ≡ [])
+neither [] ys e = (refl, e)
+neither (x ∷ xs) ys e = cc
+
+when_none : (b : Bool) (f : Fault) → when b f ≡ [] → b ≡ false
+when_none true f e = cc
+when_none false f e = refl
+
+not_taken : (o : Option Text) → option_list (option_map taken o) ≡ [] → o ≡ None
+not_taken None e = refl
+not_taken (Some u) e = cc
+
+is_not : (b : Bool) → not b ≡ false → b ≡ true
+is_not true e = refl
+is_not false e = sym e
+
+-- ---- nothing to refuse
+-- what `put_refusal` has no fault in
+pub record IsAccepted (search : Search) (g : Registry) (d : Document) (after : List Document) : Type 0 where
+  pub scanned : scan_faults d.base d.value ≡ []
+  pub regular : is_regular search d.value ≡ true
+  pub free : taken_uri g.documents d ≡ None
+  pub few : nat_lt g.most_documents (length after) ≡ false
+  pub small : nat_lt g.most_bytes (bytes_of after) ≡ false
+
+accepted_by : (faults : List Fault) (regular : Bool) (uri : Option Text) (many large : Bool)
+    → first (faults ++ (when (not regular) bad_pattern ++ (option_list (option_map taken uri) ++ (when many quota_documents ++ when large quota_bytes)))) ≡ None
+    → (faults ≡ []) × ((regular ≡ true) × ((uri ≡ None) × ((many ≡ false) × (large ≡ false))))
+accepted_by faults regular uri many large e =
+    let one = neither faults _ (first_none _ e) in
+    let two = neither (when (not regular) bad_pattern) _ one.1 in
+    let three = neither (option_list (option_map taken uri)) _ two.1 in
+    let four = neither (when many quota_documents) _ three.1 in
+    (one.0, (is_not regular (when_none (not regular) bad_pattern two.0), (not_taken uri three.0, (when_none many quota_documents four.0, when_none large quota_bytes four.1))))
+
+pub accepted : (search : Search) (g : Registry) (d : Document) (after : List Document) → put_refusal search g d after ≡ None → IsAccepted search g d after
+accepted search g d after e =
+    let parts = accepted_by (scan_faults d.base d.value) (is_regular search d.value) (taken_uri g.documents d) (nat_lt g.most_documents (length after)) (nat_lt g.most_bytes (bytes_of after)) e in
+    record { scanned = parts.0; regular = parts.1.0; free = parts.1.1.0; few = parts.1.1.1.0; small = parts.1.1.1.1 }
+
+no_repeat_in : (faults : List Fault) (uris anchors : Bool) → faults ++ (when uris duplicate_uri ++ when anchors duplicate_anchor) ≡ [] → uris ≡ false
+no_repeat_in faults uris anchors e =
+    when_none uris duplicate_uri (neither (when uris duplicate_uri) (when anchors duplicate_anchor) (neither faults _ e).1).0
+
+pub own_resources : (d : Document) → scan_faults d.base d.value ≡ [] → has_repeat same_text (resources_of d) ≡ false
+own_resources d e =
+    no_repeat_in (form_faults keywords d.base d.value) (has_repeat same_text (resources_of d))
+    (has_repeat same_anchor (flat_map anchors_of (schemas_of d.base d.value))) e
+
+-- none of its URIs is held by a document with another canonical URI
+pub free_of_others : (ds : List Document) (d e : Document) → taken_uri ds d ≡ None → Contains ds e → (slice_cmp nat_cmp d.canonical e.canonical ≡ Equal → ⊥)
+    → (u v : Text) → Contains (resources_of d) u → Contains (resources_of e) v → same_text u v ≡ false
+free_of_others ds d e free c other =
+    apart_from_held d e (λ u in_d.
+    let untaken : list_any (holds_resource u) (others_of d.canonical ds) ≡ false =
+    false_from_ne_true (list_any (holds_resource u) (others_of d.canonical ds)) (λ held.
+    nothing_in u (subst (λ us. Contains us u)
+    (no_least (filter (λ w. list_any (holds_resource w) (others_of d.canonical ds)) (resources_of d)) free)
+    (in_filter (λ w. list_any (holds_resource w) (others_of d.canonical ds)) u (resources_of d) in_d held))) in
+    none_of (holds_resource u) e (others_of d.canonical ds) untaken
+    (in_filter (λ x. not (same_text d.canonical x.canonical)) e ds c (unlike (same_text d.canonical e.canonical) refl)))
+  where
+    unlike : (b : Bool) → same_text d.canonical e.canonical ≡ b → not b ≡ true
+    unlike true same =
+        absurd (other (ap (slice_cmp nat_cmp d.canonical) (sym ((bytes_decides d.canonical e.canonical).0 same)) ∙ tied_itself nat_list_cmp_total d.canonical))
+    unlike false different = refl

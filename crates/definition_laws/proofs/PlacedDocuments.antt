@@ -1,0 +1,28 @@
+-- A document at its place among others.
+use Rattle.std.proofs.Common.{◌≡◌, ◌⊎◌, List, [], ◌∷◌, Contains, is_eq, Equal, Equal, sym, refl, ap, ◌∙◌, subst}
+use Rattle.std.proofs.lemmas.Cmp.{nat_list_cmp_total}
+use Rattle.std.proofs.lemmas.Map.Text.{is_eq-slice_cmp}
+use Rattle.std.specs.Cmp.Lexicographic.{slice_cmp, bytes_decides}
+use Rattle.std.specs.Ordering.{nat_cmp, match_ordering}
+use Rattle.definitions.specs.Values.{Text}
+use Rattle.definitions.specs.Schemas.{Document}
+use Rattle.definitions.specs.Registries.{placed}
+use Rattle.definition_laws.proofs.Placing.{inserted, in_inserted, from_inserted}
+
+abbrev pub key_of : Document → Text
+key_of d = d.canonical
+
+pub as_inserted : (d : Document) (ds : List Document) → inserted (slice_cmp nat_cmp) key_of d ds ≡ placed d ds
+as_inserted d [] = refl
+as_inserted d (e ∷ es) = ap (λ r. match_ordering (slice_cmp nat_cmp d.canonical e.canonical) (d ∷ e ∷ es) (d ∷ es) (e ∷ r)) (as_inserted d es)
+
+pub from_placed : (d e : Document) (ds : List Document) → Contains (placed d ds) e → (d ≡ e) ⊎ Contains ds e
+from_placed d e ds c = from_inserted (slice_cmp nat_cmp) nat_list_cmp_total key_of d e ds (subst (λ es. Contains es e) (sym (as_inserted d ds)) c)
+
+pub tied : (t u : Text) → slice_cmp nat_cmp t u ≡ Equal → t ≡ u
+tied t u e = (bytes_decides t u).0 (sym (is_eq-slice_cmp t u) ∙ ap is_eq e)
+
+pub in_placed : (d e : Document) (ds : List Document) → (e.canonical ≡ d.canonical → ⊥) → Contains ds e → Contains (placed d ds) e
+in_placed d e ds other c =
+    subst (λ es. Contains es e) (as_inserted d ds)
+    (in_inserted (slice_cmp nat_cmp) nat_list_cmp_total key_of d e ds (λ tie. other (sym (tied d.canonical e.canonical tie))) c)

@@ -1,0 +1,35 @@
+//! What holds of a registry from request to request.
+
+ghost use Rattle.definition_laws.specs.Keeping.{EmptyRegistriesAreKept, StepsKeepRegistries, CoursesKeepRegistries, StepsKeepValuesWellFormed, CoursesKeepValuesWellFormed, QuotasStay};
+
+/// A registry without documents is kept: what `IsKept` says holds of it.
+pub fn empty_registries_are_kept()
+    ensures { EmptyRegistriesAreKept }
+{}
+
+/// Every request, granted or refused, leaves a kept registry kept: the documents in byte order of their canonical URIs,
+/// no more of them and no more bytes than the quotas allow, each with no fault and with patterns that can be read, and no
+/// resource URI twice.
+pub fn steps_keep_registries()
+    ensures { StepsKeepRegistries }
+{}
+
+/// So does every course of requests, also where some are refused for room.
+pub fn courses_keep_registries()
+    ensures { CoursesKeepRegistries }
+{}
+
+/// Every request leaves a registry of well-formed values such a registry, since a value that is put was read.
+pub fn steps_keep_values_well_formed()
+    ensures { StepsKeepValuesWellFormed }
+{}
+
+/// So does every course of requests.
+pub fn courses_keep_values_well_formed()
+    ensures { CoursesKeepValuesWellFormed }
+{}
+
+/// No request changes a quota.
+pub fn quotas_stay()
+    ensures { QuotasStay }
+{}

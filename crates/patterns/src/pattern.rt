@@ -2,6 +2,7 @@
 
 ghost use Rattle.std.specs.Prelude.{◌≡◌, ◌≢◌, true, IfOk, IfErr};
 ghost use Rattle.definitions.specs.Patterns.{is_read, has_match};
+ghost use Rattle.patterns.specs.Nesting.{NestsWithin};
 
 use crate::searcher::Searcher;
 use faults::Fault;
@@ -43,6 +44,7 @@ impl Pattern {
     pub fn build(alloc: Global, source: &str) -> Result<Pattern, Fault>
         ensures ok { IfOk result (λ p. p ≡ source.now) }
         ensures read { IfOk result (λ p. is_read p ≡ true) }
+        ensures nested { IfOk result (λ p. NestsWithin 250 p) }
         ensures err { IfErr result (λ f. f ≢ Fault.NoRoom → f ≡ Fault.BadPattern) }
     {
         match RegexBuilder::new(source)

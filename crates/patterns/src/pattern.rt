@@ -2,7 +2,9 @@
 
 ghost use Rattle.std.specs.Prelude.{◌≡◌, ◌≢◌, true, IfOk, IfErr};
 ghost use Rattle.definitions.specs.Patterns.{is_read, has_match};
+ghost use Rattle.patterns.specs.Machines.{IsReadByDefault};
 ghost use Rattle.patterns.specs.Nesting.{NestsWithin};
+ghost use Rattle.regex.specs.Strings.{regex_source};
 
 use crate::searcher::Searcher;
 use faults::Fault;
@@ -10,9 +12,9 @@ use regex::{Error, Regex, RegexBuilder};
 use std::alloc::Global;
 use std::marker::Model;
 
-/// About how many bytes a pattern may take once it is built. `\w`, which has all letters of Unicode, takes some 18,000
-/// each time that it is repeated.
-const SIZE_LIMIT: usize = 32 << 20;
+/// About how many bytes a pattern may take once it is built. A copy of `\w`, which has the letters of all scripts, takes
+/// some 14,000: this is room for a thousand.
+const SIZE_LIMIT: usize = 16 << 20;
 
 /// A regular expression that has been read and built (JSON Schema 2020-12 Core, section 6.4).
 ///
@@ -39,7 +41,7 @@ impl Pattern {
     /// spells.
     ///
     /// [`Fault::BadPattern`] is for a text that the grammar doesn't read, and for a pattern that nests deeper than 250 or
-    /// is too big once it is built: counted repetitions are written out, so this is about 32 MiB for all copies together.
+    /// is too big once it is built: counted repetitions are written out, so this is about 16 MiB for all copies together.
     /// Want of memory is [`Fault::NoRoom`].
     pub fn build(alloc: Global, source: &str) -> Result<Pattern, Fault>
         ensures ok { IfOk result (λ p. p ≡ source.now) }
@@ -47,10 +49,7 @@ impl Pattern {
         ensures nested { IfOk result (λ p. NestsWithin 250 p) }
         ensures err { IfErr result (λ f. f ≢ Fault.NoRoom → f ≡ Fault.BadPattern) }
     {
-        match RegexBuilder::new(source)
-            .size_limit(SIZE_LIMIT)
-            .build(alloc)
-        {
+        match compile(alloc, source) {
             Ok(regex) => Ok(Pattern { regex }),
             Err(refusal) => Err(fault_of(refusal)),
         }
@@ -83,6 +82,15 @@ impl Pattern {
         let matcher = self.regex.matcher(alloc)?;
         Ok(Searcher::new(self.text(), matcher))
     }
+}
+
+fn compile(alloc: Global, source: &str) -> Result<Regex, Error>
+    ensures source { IfOk result (λ r. regex_source r ≡ source.now) }
+    ensures read { IfOk result IsReadByDefault }
+{
+    RegexBuilder::new(source)
+        .size_limit(SIZE_LIMIT)
+        .build(alloc)
 }
 
 fn fault_of(refusal: Error) -> Fault

@@ -12,7 +12,7 @@ mod splitting;
 
 pub use faults::Fault;
 pub use fragments::{FragmentKind, fragment_kind};
-pub use laws::identifiers_stay;
+pub use laws::{identifiers_split, identifiers_stay, texts_split_once};
 pub use owned_parts::OwnedParts;
 pub use parts::{Parts, is_identifier};
 pub use recomposing::recompose;

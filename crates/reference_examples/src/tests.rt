@@ -1,6 +1,6 @@
 use std::alloc::Global;
 use std::test::Fail;
-use uri_ref::{Fault, FragmentKind, fragment_kind, is_identifier, recompose, resolve, split};
+use uri_ref::{Fault, FragmentKind, base_form, fragment_kind, is_identifier, recompose, resolve, split};
 
 // The reference, resolved against the base.
 fn resolved(alloc: Global, base: &str, reference: &str) -> Result<String, Fault> {
@@ -149,6 +149,25 @@ fn fragments_that_are_refused(rt: HostRuntime) -> Result<(), Fail> {
     }
     for unescaped in ["/~2", "/~", "%2F%7E2"] {
         assert!(rt; is_refused_as(rt.alloc(), unescaped, 3));
+    }
+    Ok(())
+}
+
+#[test]
+fn base_forms(rt: HostRuntime) -> Result<(), Fail> {
+    assert_eq!(rt;
+        base_form(rt.alloc(), "https://ex.org/x/../s?q")?.as_str(),
+        "https://ex.org/s?q"
+    );
+    assert_eq!(rt;
+        base_form(rt.alloc(), "urn:schemareg:root")?.as_str(),
+        "urn:schemareg:root"
+    );
+    for refused in ["https://ex.org/a#", "s", "", "x:/.//a", "x:/b/..//a"] {
+        match base_form(rt.alloc(), refused) {
+            Ok(_) => assert!(rt; false, "not refused"),
+            Err(fault) => assert_eq!(rt; fault, Fault::BadUri),
+        }
     }
     Ok(())
 }

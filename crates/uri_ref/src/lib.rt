@@ -1,6 +1,7 @@
 //! URI references (RFC 3986): their parts, and what they resolve to.
 #![tactic(auto)]
 
+mod base_forms;
 mod dots;
 mod fragments;
 mod laws;
@@ -10,6 +11,7 @@ mod recomposing;
 mod resolving;
 mod splitting;
 
+pub use base_forms::base_form;
 pub use faults::Fault;
 pub use fragments::{FragmentKind, fragment_kind};
 pub use laws::{identifiers_split, identifiers_stay, texts_split_once};

@@ -1,6 +1,8 @@
 use std::alloc::Global;
 use std::test::Fail;
-use uri_ref::{Fault, FragmentKind, base_form, fragment_kind, is_identifier, recompose, resolve, split};
+use uri_ref::{
+    Fault, FragmentKind, base_form, fragment_kind, is_identifier, recompose, resolve, split,
+};
 
 // The reference, resolved against the base.
 fn resolved(alloc: Global, base: &str, reference: &str) -> Result<String, Fault> {

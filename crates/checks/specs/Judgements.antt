@@ -4,6 +4,7 @@ use Rattle.std.specs.Prelude.{Bool, Option, Some, None, Result, Ok, Err, codes}
 use Rattle.definitions.specs.Values.{Text, Value, string, get}
 use Rattle.definitions.specs.Texts.{reading}
 use Rattle.definitions.specs.Faults.{Fault, bad_input}
+use Rattle.definitions.specs.Resolution.{base_form}
 use Rattle.definitions.specs.Scanning.{scan_fault_by}
 use Rattle.schema_scan.specs.FirstKeywords.{first_keywords}
 use Rattle.evaluator.specs.Reports.{answer_one, verdict}
@@ -20,9 +21,11 @@ unless_fault (Some f) x = Err f
 abbrev pub scanned : Text → Value → Result Value Fault
 scanned uri v = unless_fault (scan_fault_by first_keywords uri v) v
 
--- the schema's faults come before the instance's, and these before those of the evaluation
-abbrev pub judgement : Text → Result Value Fault → Result Value Fault → Result Bool Fault
-judgement uri schema instance = after schema (λ v. after (scanned uri v) (λ v. after instance (λ x. verdict (answer_one uri v x))))
+-- the URI's fault comes before the schema's, these before the instance's, and these before those of the evaluation. The
+-- schema stands under the base form of the URI
+unfoldable pub judgement : Text → Result Value Fault → Result Value Fault → Result Bool Fault
+judgement uri schema instance =
+    after (base_form uri) (λ base. after schema (λ v. after (scanned base v) (λ v. after instance (λ x. verdict (answer_one base v x)))))
 
 abbrev pub judgement_of_values : Text → Value → Value → Result Bool Fault
 judgement_of_values uri v x = judgement uri (Ok v) (Ok x)

@@ -10,12 +10,15 @@ use evaluator::{Report, evaluate_one};
 use json_doc::{Doc, Fault, read};
 use schema_scan::{Scanned, scan_one};
 use std::alloc::Global;
+use uri_ref::base_form;
 
-/// Checks the JSON text `instance` against the JSON text `schema`, which is taken to stand under `uri`.
+/// Checks the JSON text `instance` against the JSON text `schema`, which is taken to stand under the base form of `uri`
+/// (RFC 3986, section 5.1): the URI without dot segments.
 ///
-/// The first of these faults is answered: of the schema `BadJson`, `BadNumber`, `NotObject`, `TooNested`, `BadKeyword`
-/// and `Unsupported`, then of the instance `BadJson` and `BadNumber`, then `Costly` and `Deep`. `NoRoom` may take the
-/// place of any answer.
+/// The first of these faults is answered: `BadUri`, where `uri` has a fragment, no scheme or no base form; of the schema
+/// `BadJson`, `BadNumber`, `NotObject`, `TooNested`, `BadKeyword` and `Unsupported`; of the instance `BadJson` and
+/// `BadNumber`; and `Costly` and `Deep`. `NoRoom` may take the place of any answer.
+#[tactic(auto, unfolding(crate::specs::Judgements::judgement))]
 pub fn check_bytes(
     alloc: Global,
     uri: &str,
@@ -25,13 +28,15 @@ pub fn check_bytes(
     ensures ok { IfOk result (λ r. judgement_of_texts uri.now schema.now instance.now ≡ Ok (is_valid r)) }
     ensures err { IfErr result (λ f. f ≢ Fault.NoRoom → judgement_of_texts uri.now schema.now instance.now ≡ Err (fault f)) }
 {
+    let base = base_form(alloc, uri)?;
     let schema = read(alloc, schema)?;
-    let scanned = scan_one(alloc, uri, &schema)?;
+    let scanned = scan_one(alloc, base.as_str(), &schema)?;
     let instance = read(alloc, instance)?;
     evaluate_one(alloc, &scanned, &instance)
 }
 
 /// The same of two values.
+#[tactic(auto, unfolding(crate::specs::Judgements::judgement))]
 pub(crate) fn check_docs(
     alloc: Global,
     uri: &str,
@@ -41,6 +46,7 @@ pub(crate) fn check_docs(
     ensures ok { IfOk result (λ r. judgement_of_values uri.now (value schema.now) (value instance.now) ≡ Ok (is_valid r)) }
     ensures err { IfErr result (λ f. f ≢ Fault.NoRoom → judgement_of_values uri.now (value schema.now) (value instance.now) ≡ Err (fault f)) }
 {
-    let scanned = scan_one(alloc, uri, schema)?;
+    let uri = base_form(alloc, uri)?;
+    let scanned = scan_one(alloc, uri.as_str(), schema)?;
     evaluate_one(alloc, &scanned, instance)
 }

@@ -15,12 +15,12 @@ use std::alloc::Global;
 /// The URI under which a schema is taken to stand where none is given.
 pub const DEFAULT_URI: &str = "urn:schemareg:root";
 
-/// Checks the member `instance` of a JSON object against its member `schema`, which is taken to stand under the text of
-/// its member `uri`, or under [`DEFAULT_URI`] where there is no such member. Other members are ignored.
+/// Checks the member `instance` of a JSON object against its member `schema`, which is taken to stand under the base form
+/// of the text of its member `uri`, or of [`DEFAULT_URI`] where there is no such member. Other members are ignored.
 ///
 /// The first of these faults is answered: `BadJson` and `BadNumber` of the whole text, `BadInput` where it is no object
-/// with both members or `uri` is no text, then those of a check from `NotObject` on. `NoRoom` may take the place of any
-/// answer.
+/// with both members or `uri` is no text, then `BadUri`, and those of a check from `NotObject` on. `NoRoom` may take the
+/// place of any answer.
 pub fn check_input(alloc: Global, bytes: &[u8]) -> Result<Report, Fault>
     ensures ok { IfOk result (λ r. judgement_of_input bytes.now ≡ Ok (is_valid r)) }
     ensures err { IfErr result (λ f. f ≢ Fault.NoRoom → judgement_of_input bytes.now ≡ Err (fault f)) }

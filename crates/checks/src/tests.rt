@@ -77,7 +77,41 @@ fn locations_are_escaped(rt: HostRuntime) -> Result<(), Fail> {
             r#"{"a/~\"":1}"#
         )?
         .as_str(),
-        r#"{"errors":[{"absoluteKeywordLocation":"https://ex.org/s#/properties","error":"properties is not met","instanceLocation":"","keywordLocation":"/properties"},{"absoluteKeywordLocation":"https://ex.org/s#/properties/a~1~0\"","error":"no value is allowed","instanceLocation":"/a~1~0\"","keywordLocation":"/properties/a~1~0\""}],"valid":false}"#
+        r#"{"errors":[{"absoluteKeywordLocation":"https://ex.org/s#/properties","error":"properties is not met","instanceLocation":"","keywordLocation":"/properties"},{"absoluteKeywordLocation":"https://ex.org/s#/properties/a~1~0%22","error":"no value is allowed","instanceLocation":"/a~1~0\"","keywordLocation":"/properties/a~1~0\""}],"valid":false}"#
+    );
+    Ok(())
+}
+
+// Steps that cannot stand in a fragment as they are, in the absolute location alone.
+#[test]
+fn absolute_locations_are_percent_encoded(rt: HostRuntime) -> Result<(), Fail> {
+    assert_eq!(rt;
+        output(
+            rt.alloc(),
+            r#"{"properties":{"a b":false}}"#,
+            r#"{"a b":1}"#
+        )?
+        .as_str(),
+        r#"{"errors":[{"absoluteKeywordLocation":"https://ex.org/s#/properties","error":"properties is not met","instanceLocation":"","keywordLocation":"/properties"},{"absoluteKeywordLocation":"https://ex.org/s#/properties/a%20b","error":"no value is allowed","instanceLocation":"/a b","keywordLocation":"/properties/a b"}],"valid":false}"#
+    );
+    assert_eq!(rt;
+        output(rt.alloc(), r#"{"properties":{"ä%":false}}"#, r#"{"ä%":1}"#)?.as_str(),
+        r#"{"errors":[{"absoluteKeywordLocation":"https://ex.org/s#/properties","error":"properties is not met","instanceLocation":"","keywordLocation":"/properties"},{"absoluteKeywordLocation":"https://ex.org/s#/properties/%C3%A4%25","error":"no value is allowed","instanceLocation":"/ä%","keywordLocation":"/properties/ä%"}],"valid":false}"#
+    );
+    Ok(())
+}
+
+#[test]
+fn schemas_stand_under_the_base_form(rt: HostRuntime) -> Result<(), Fail> {
+    let report = check_bytes(
+        rt.alloc(),
+        "https://ex.org/x/../s",
+        br#"{"type":"object","required":["a"]}"#,
+        b"{}",
+    )?;
+    assert_eq!(rt;
+        report.text(),
+        r#"{"errors":[{"absoluteKeywordLocation":"https://ex.org/s#/required","error":"required is not met","instanceLocation":"","keywordLocation":"/required"}],"valid":false}"#
     );
     Ok(())
 }
@@ -109,4 +143,18 @@ fn refuses_by_name(rt: HostRuntime) {
     assert_refused(&rt, check_bytes(alloc, URI, b"[]", b"1.0"), 6);
     assert_refused(&rt, check_bytes(alloc, URI, b"{}", b"1.0"), 2);
     assert_refused(&rt, check_bytes(alloc, URI, br#"{"type":"int"}"#, b"["), 8);
+}
+
+#[test]
+fn refuses_a_uri_before_what_stands_under_it(rt: HostRuntime) {
+    let alloc = rt.alloc();
+    for uri in ["x:/.//a", "s", "https://ex.org/a#"] {
+        assert_refused(&rt, check_bytes(alloc, uri, b"[", b"["), 25);
+    }
+    assert_refused(
+        &rt,
+        check_input(alloc, br#"{"instance":1,"schema":[],"uri":"s"}"#),
+        25,
+    );
+    assert_refused(&rt, check_input(alloc, br#"{"schema":[],"uri":"s"}"#), 41);
 }

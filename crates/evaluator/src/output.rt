@@ -4,7 +4,7 @@ ghost use Rattle.std.specs.Prelude.{◌≡◌};
 
 use crate::units::{OutputUnit, Says, Units};
 use json::{Token, Writer};
-use json_doc::push_token;
+use json_doc::{push_fragment_token, push_token};
 use std::alloc::{AllocError, Global};
 
 /// The text of a report: the annotations of a valid instance, or the errors of another. The URI is that of the schema's
@@ -63,7 +63,7 @@ fn write_unit<'a>(
     location.clear();
     location.push_str(uri)?;
     location.push('#')?;
-    push_pointer(location, path)?;
+    push_fragment(location, path)?;
     out.string(location.as_str())?;
 
     out.key(if valid { "annotation" } else { "error" })?;
@@ -142,6 +142,13 @@ fn write_pointer(steps: &[&str], location: &mut String, out: &mut Writer) -> Res
 fn push_pointer(text: &mut String, steps: &[&str]) -> Result<(), AllocError> {
     for step in steps {
         push_token(text, step)?;
+    }
+    Ok(())
+}
+
+fn push_fragment(text: &mut String, steps: &[&str]) -> Result<(), AllocError> {
+    for step in steps {
+        push_fragment_token(text, step)?;
     }
     Ok(())
 }

@@ -111,6 +111,20 @@ fn stops_at_the_first_fault(rt: HostRuntime) -> Result<(), Fail> {
 }
 
 #[test]
+fn refuses_a_uri_that_identifies_nothing(rt: HostRuntime) -> Result<(), Fail> {
+    for uri in ["x:/.//a", "s", "https://ex.org/a#"] {
+        let words = ["schemareg", "check", "--uri", uri, "/dev/null", "/dev/null"];
+        let stop = program::obey(&rt, words.as_slice()).expect_err(&rt, "no report");
+        assert_eq!(rt;
+            stop.to_string(rt.alloc())?.as_str(),
+            "refused: 25 BadUri\n"
+        );
+        assert_eq!(rt; stop.status(), 2);
+    }
+    Ok(())
+}
+
+#[test]
 fn ends_by_the_words(rt: HostRuntime) -> Result<(), Fail> {
     let words = ["schemareg", "check", "a"];
     let stop = program::obey(&rt, words.as_slice()).expect_err(&rt, "a file is missing");

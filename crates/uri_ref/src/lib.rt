@@ -1,7 +1,9 @@
 //! URI references (RFC 3986): their parts, and what they resolve to.
 #![tactic(auto)]
 
+mod base_forms;
 mod dots;
+mod fragments;
 mod laws;
 mod owned_parts;
 mod parts;
@@ -9,8 +11,10 @@ mod recomposing;
 mod resolving;
 mod splitting;
 
+pub use base_forms::base_form;
 pub use faults::Fault;
-pub use laws::identifiers_stay;
+pub use fragments::{FragmentKind, fragment_kind};
+pub use laws::{identifiers_split, identifiers_stay, texts_split_once};
 pub use owned_parts::OwnedParts;
 pub use parts::{Parts, is_identifier};
 pub use recomposing::recompose;

@@ -1,6 +1,6 @@
 //! The text of a reference's parts (RFC 3986, section 5.3).
 
-ghost use Rattle.std.specs.Prelude.{◌≡◌, ◌++◌, option_map, IfOk, OnOk, codes, string_bytes};
+ghost use Rattle.std.specs.Prelude.{◌≡◌, ◌++◌, option_map, IfOk, IfErr, OnOk, codes, string_bytes};
 ghost use Rattle.definitions.specs.Uris.{recompose, led_by, ended_by};
 
 use crate::parts::Parts;
@@ -9,7 +9,8 @@ use std::alloc::{AllocError, Global};
 
 /// The text of the parts (RFC 3986, section 5.3). The only error is want of memory.
 pub fn recompose(alloc: Global, parts: &Parts) -> Result<String, Fault>
-    ensures { IfOk result (λ s. string_bytes s ≡ recompose parts.now) }
+    ensures text { IfOk result (λ s. string_bytes s ≡ recompose parts.now) }
+    ensures room { IfErr result (λ f. f ≡ Fault.NoRoom) }
 {
     let mut text = String::new(alloc);
     push_ended(&mut text, parts.scheme, ":")?;

@@ -15,7 +15,7 @@ use Rattle.definitions.specs.Evaluated.{passing, all_pass}
 use Rattle.definitions.specs.Outcomes.{Use, outcome, schema_outcome, object_outcome, boolean_outcome, leaf, is_running, same_place, combined}
 use Rattle.definitions.specs.Faults.{costly, loop, deep}
 use Rattle.definitions.specs.Answers.{answer_of, first_application}
-use Rattle.evaluator.specs.Rows.{first_rules}
+use Rattle.evaluator.specs.Rows.{first_rules, in_order}
 use Rattle.evaluator.specs.Reports.{verdict}
 use Rattle.evaluator.specs.Views.{AreAbove, Shows, IsEntered, Finds, FindsAll, UsesAll, Outcomes, count_of, use_count, used_at, uses_by, planned_view}
 use Rattle.evaluator.specs.declared.plan.Planned.{Planned}
@@ -23,7 +23,6 @@ use Rattle.json_doc.specs.Docs.{value}
 use Rattle.evaluator.specs.declared.found.Found.{Found}
 use Rattle.evaluator.specs.declared.found.Applied as found
 use Rattle.evaluator.specs.declared.keyword.Keyword.{Keyword}
-use Rattle.evaluator.specs.declared.keyword.Keyword.TheVariants.{TypeIs, Required, Properties}
 use Rattle.json_doc.specs.Kinds.{as_boolean}
 
 -- ---- what stands above is not at the place
@@ -191,11 +190,11 @@ pub record FoundSoFar (f : Found) (budget : ℕ) (us : List Use) : Type 0 where
   pub deep : f.deep ≡ list_any (λ u. list_any (λ o. o.1.deep) u.outcomes) us
   pub within : f.count ≤ budget
 
-object_uses : (run : Application → Outcome) (a : Application) → object_outcome first_rules run a ≡ combined (entered a) (uses_by run (entered a) (TypeIs ∷ Required ∷ Properties ∷ []))
-unfolding object_outcome
-object_uses run a = ap (combined (entered a)) (append-nil (uses_by run (entered a) (TypeIs ∷ Required ∷ Properties ∷ [])))
+object_uses : (run : Application → Outcome) (a : Application) → object_outcome first_rules run a ≡ combined (entered a) (uses_by run (entered a) in_order)
+unfolding object_outcome in_order
+object_uses run a = ap (combined (entered a)) (append-nil (uses_by run (entered a) in_order))
 
-pub object_finds : (f : Found) (budget : ℕ) (run : Application → Outcome) (a : Application) → FoundSoFar f budget (uses_by run (entered a) (TypeIs ∷ Required ∷ Properties ∷ []))
+pub object_finds : (f : Found) (budget : ℕ) (run : Application → Outcome) (a : Application) → FoundSoFar f budget (uses_by run (entered a) in_order)
     → Finds f budget (object_outcome first_rules run a)
 object_finds f budget run a so_far =
     subst (Finds f budget) (sym (object_uses run a)) (record { valid = so_far.valid; count = so_far.count; looped = so_far.looped; deep = so_far.deep; within = omega (arith, so_far.count, so_far.within) })
@@ -217,7 +216,7 @@ split_at xs i d h =
     sym (append_assoc (take i xs) (get_or xs i d ∷ []) (drop (i + 1) xs)) ∙ ap (λ ys. ys ++ drop (i + 1) xs) (sym (take_more xs i d h)) ∙ take-append-drop (i + 1) xs
 
 -- where a keyword is over what is left, the object is over the budget
-pub object_over : (f : Found) (budget : ℕ) (run : Application → Outcome) (a : Application) (ks : List Keyword) (i : ℕ) (d : Keyword) → i < length ks → ks ≡ TypeIs ∷ Required ∷ Properties ∷ []
+pub object_over : (f : Found) (budget : ℕ) (run : Application → Outcome) (a : Application) (ks : List Keyword) (i : ℕ) (d : Keyword) → i < length ks → ks ≡ in_order
     → FoundSoFar f budget (uses_by run (entered a) (take i ks)) → budget - f.count < use_count (used_at run (entered a) (get_or ks i d))
     → budget < (object_outcome first_rules run a).count
 object_over f budget run a ks i first h is so_far over =
@@ -226,7 +225,7 @@ object_over f budget run a ks i first h is so_far over =
     let e : uses_by run here (take i ks ++ k ∷ drop (i + 1) ks) ≡ uses_by run here (take i ks) ++ (used_at run here k ++ uses_by run here (drop (i + 1) ks)) = flat_map-append (used_at run here) (take i ks) (k ∷ drop (i + 1) ks) in
     let c : use_count (uses_by run here (take i ks) ++ (used_at run here k ++ uses_by run here (drop (i + 1) ks))) ≡ use_count (uses_by run here (take i ks)) + use_count (used_at run here k ++ uses_by run here (drop (i + 1) ks)) = sum_by-append _ (uses_by run here (take i ks)) _ in
     let d : use_count (used_at run here k ++ uses_by run here (drop (i + 1) ks)) ≡ use_count (used_at run here k) + use_count (uses_by run here (drop (i + 1) ks)) = sum_by-append _ (used_at run here k) _ in
-    let g : use_count (uses_by run here (TypeIs ∷ Required ∷ Properties ∷ [])) ≡ use_count (uses_by run here (take i ks) ++ (used_at run here k ++ uses_by run here (drop (i + 1) ks))) = ap (λ ks. use_count (uses_by run here ks)) (sym is ∙ sym (split_at ks i first h)) ∙ ap use_count e in
+    let g : use_count (uses_by run here in_order) ≡ use_count (uses_by run here (take i ks) ++ (used_at run here k ++ uses_by run here (drop (i + 1) ks))) = ap (λ ks. use_count (uses_by run here ks)) (sym is ∙ sym (split_at ks i first h)) ∙ ap use_count e in
     rw (object_uses run a) (omega (arith, so_far.count, so_far.within, c, d, g))
 
 -- the loop over the keywords

@@ -8,7 +8,7 @@ ghost use Rattle.evaluator.specs.Views.{Shows, Finds, FindsAll, UsesAll, IsEnter
 ghost use Rattle.json_doc.specs.Docs.{value};
 
 use crate::found::{Applied, Found};
-use crate::keyword::{KEYWORDS, Keyword};
+use crate::keyword::{Keyword, keywords};
 use crate::plan::{Planned, plan};
 use crate::units::Log;
 use crate::verdict::{annotation, keyword_passes};
@@ -73,7 +73,7 @@ fn apply_object<'a>(
 {
     let mark = log.mark();
     let mut found = Found::boolean(true);
-    for keyword in &KEYWORDS {
+    for keyword in keywords() {
         match apply_keyword(
             alloc,
             *keyword,

@@ -32,8 +32,7 @@ pub(crate) fn plan<'a>(
     ensures err { IfErr result (λ f. f ≡ Fault.NoRoom) }
 {
     match keyword {
-        Keyword::TypeIs => Ok(Vec::new(alloc)),
-        Keyword::Required => Ok(Vec::new(alloc)),
+        Keyword::Asserts(_) => Ok(Vec::new(alloc)),
         Keyword::Properties => plan_properties(alloc, keyword_value, instance),
     }
 }

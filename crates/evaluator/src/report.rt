@@ -46,8 +46,8 @@ impl Report {
     }
 }
 
-/// Applies a scanned document to an instance, by the keywords `type`, `required` and `properties` (JSON Schema 2020-12
-/// Validation, 6.1.1 and 6.5.3; Core, 10.3.2.1). Of these faults the first that arises is answered:
+/// Applies a scanned document to an instance, by `properties` (JSON Schema 2020-12 Core, 10.3.2.1) and the keywords that
+/// look at their own value and the instance (Validation, 6). Of these faults the first that arises is answered:
 ///
 /// - [`Fault::Costly`]: there are more than 100,000 applications of schemas.
 /// - [`Fault::Deep`]: more than 1,000 applications nest.

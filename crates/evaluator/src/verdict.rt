@@ -11,7 +11,7 @@ use crate::found::Applied;
 use crate::keyword::Keyword;
 use crate::plan::Planned;
 use crate::units::{Log, Says};
-use assertions::{Keyword as Assertion, holds};
+use assertions::holds;
 use json_doc::{Doc, Fault};
 
 /// Whether the keyword with this value passes, by what the schemas that it applied found.
@@ -26,8 +26,7 @@ pub(crate) fn keyword_passes(
         → result ≡ passes_by first_rules run a (row_of keyword).name (row_of keyword).meaning (value keyword_value.now) os }
 {
     match keyword {
-        Keyword::TypeIs => holds(Assertion::TypeIs, keyword_value, instance),
-        Keyword::Required => holds(Assertion::Required, keyword_value, instance),
+        Keyword::Asserts(assertion) => holds(assertion, keyword_value, instance),
         Keyword::Properties => applied.passing == applied.number,
     }
 }
@@ -43,8 +42,7 @@ pub(crate) fn annotation<'a>(
     ensures err { IfErr result (λ f. f ≡ Fault.NoRoom) }
 {
     match keyword {
-        Keyword::TypeIs => Ok(None),
-        Keyword::Required => Ok(None),
+        Keyword::Asserts(_) => Ok(None),
         Keyword::Properties => match instance.as_dict() {
             Some(_) => Ok(Some(names_annotation(planned, log)?)),
             None => Ok(None),

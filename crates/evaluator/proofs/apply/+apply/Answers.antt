@@ -5,7 +5,8 @@ use Rattle.definitions.specs.Applied.{Application, Part, applied, entered}
 use Rattle.definitions.specs.Outcomes.{outcome, leaf, boolean_outcome, use_of}
 use Rattle.evaluator.specs.Rows.{first_rules, row_of}
 use Rattle.evaluator.specs.Views.{FindsAll, child_outcome, planned_view, count_of, uses_by}
-use Rattle.evaluator.specs.declared.keyword.Keyword.TheVariants.{TypeIs, Required, Properties}
+use Rattle.assertions.specs.declared.keyword.Keyword.TheVariants.{TypeIs}
+use Rattle.evaluator.specs.declared.keyword.Keyword.TheVariants.{Asserts}
 use Rattle.evaluator.proofs.OutcomeLaws.{FoundSoFar, finds_same, passing-le, child_shows, child_over, child_more, count_pos, outcome-zero, outcome-boolean, outcome-object, object_finds, object_over, keyword_more, entered_above, use_found, use_over, map-map, alone, alone_shows, alone_entered}
 use Rattle.json_doc.specs.Docs.{value}
 use Rattle.json_doc.specs.Kinds.{as_boolean}
@@ -85,21 +86,21 @@ pub apply_object-returns-in-Err-clause-err : goal.apply_object-returns-in-Err-cl
 apply_object-returns-in-Err-clause-err t c a shows other =
     let said = c.in-Err.ensures.err (entered a) shows.schema shows.instance (entered_above a shows.above) other in (
       said.0,
-      object_over c.loop-keyword.found c.args.budget (outcome first_rules c.args.left) a (TypeIs ∷ Required ∷ Properties ∷ []) c.loop-keyword.keyword-index TypeIs
-          (omega arith) refl (c.loop-keyword.invariant a shows) said.1,
+      object_over c.loop-keyword.found c.args.budget (outcome first_rules c.args.left) a c.keywords-keyword-items.result.now c.loop-keyword.keyword-index (Asserts TypeIs)
+          (omega arith) c.keywords-keyword-items.ensures (c.loop-keyword.invariant a shows) said.1,
     )
 
 pub apply_object-loop-keyword-preserved : goal.apply_object-loop-keyword-preserved
 apply_object-loop-keyword-preserved t c a shows =
     let one = c.in-Ok.ensures.found (entered a) shows.schema shows.instance (entered_above a shows.above) in
-    rw c.and-found.ensures (keyword_more c.loop-keyword.found c.in-Ok.used c.args.budget (outcome first_rules c.args.left) (entered a) (TypeIs ∷ Required ∷ Properties ∷ []) c.loop-keyword.keyword-index TypeIs
+    rw c.and-found.ensures (keyword_more c.loop-keyword.found c.in-Ok.used c.args.budget (outcome first_rules c.args.left) (entered a) c.keywords-keyword-items.result.now c.loop-keyword.keyword-index (Asserts TypeIs)
     (omega arith) (c.loop-keyword.invariant a shows) one)
 
 pub apply_object-returns-clause-found : goal.apply_object-returns-clause-found
 apply_object-returns-clause-found t c a shows =
     object_finds c.loop-keyword.found c.args.budget (outcome first_rules c.args.left) a
     (subst (λ ks. FoundSoFar c.loop-keyword.found c.args.budget (uses_by (outcome first_rules c.args.left) (entered a) ks))
-    (take_all c.loop-keyword.keyword-index (TypeIs ∷ Required ∷ Properties ∷ []) (omega arith)) (c.loop-keyword.invariant a shows))
+    (take_all c.loop-keyword.keyword-index c.keywords-keyword-items.result.now (omega arith) ∙ c.keywords-keyword-items.ensures) (c.loop-keyword.invariant a shows))
 
 pub use_keyword-returns-in-Ok-clause-found : goal.use_keyword-returns-in-Ok-clause-found
 use_keyword-returns-in-Ok-clause-found t c a same entered =

@@ -10,6 +10,10 @@ use assertions::Keyword as Assertion;
 pub(crate) enum Keyword {
     /// Looks at its own value and the instance.
     Asserts(Assertion),
+    AllOf,
+    AnyOf,
+    OneOf,
+    Not,
     Properties,
 }
 
@@ -20,12 +24,16 @@ impl Keyword {
     {
         match self {
             Keyword::Asserts(assertion) => assertion.name(),
+            Keyword::AllOf => "allOf",
+            Keyword::AnyOf => "anyOf",
+            Keyword::OneOf => "oneOf",
+            Keyword::Not => "not",
             Keyword::Properties => "properties",
         }
     }
 }
 
-const KEYWORDS: [Keyword; 18] = [
+const KEYWORDS: [Keyword; 22] = [
     Keyword::Asserts(Assertion::TypeIs),
     Keyword::Asserts(Assertion::EnumOf),
     Keyword::Asserts(Assertion::ConstIs),
@@ -43,6 +51,10 @@ const KEYWORDS: [Keyword; 18] = [
     Keyword::Asserts(Assertion::MaxItems),
     Keyword::Asserts(Assertion::MinItems),
     Keyword::Asserts(Assertion::UniqueItems),
+    Keyword::AllOf,
+    Keyword::AnyOf,
+    Keyword::OneOf,
+    Keyword::Not,
     Keyword::Properties,
 ];
 

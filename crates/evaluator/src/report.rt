@@ -1,9 +1,10 @@
 //! What a schema says of an instance.
 
-ghost use Rattle.std.specs.Prelude.{◌≡◌, ◌≢◌, Ok, Err, IfOk, IfErr};
+ghost use Rattle.std.specs.Prelude.{◌≡◌, ◌≢◌, true, false, Ok, Err, IfOk, IfErr};
 ghost use Rattle.faults.specs.View.{fault};
 ghost use Rattle.json_doc.specs.Docs.{value};
 ghost use Rattle.schema_scan.specs.Scans.{scanned_base, scanned_value};
+ghost use Rattle.schema_scan.specs.Walks.{has_unknown};
 ghost use Rattle.evaluator.specs.Reports.{is_valid, answer_one, verdict};
 
 use crate::apply::apply;
@@ -59,7 +60,9 @@ pub fn evaluate_one(alloc: Global, scanned: &Scanned<'_>, instance: &Doc) -> Res
     judge(alloc, scanned.uri(), scanned.document(), instance)
 }
 
+// Nothing loops where the schema's names are all in.
 fn judge(alloc: Global, uri: &str, schema: &Doc, instance: &Doc) -> Result<Report, Fault>
+    requires { has_unknown true (value schema.now) ≡ false }
     ensures ok { IfOk result (λ r. verdict (answer_one uri.now (value schema.now) (value instance.now)) ≡ Ok (is_valid r)) }
     ensures err { IfErr result (λ f. f ≢ Fault.NoRoom → verdict (answer_one uri.now (value schema.now) (value instance.now)) ≡ Err (fault f)) }
 {
@@ -81,7 +84,12 @@ fn judge(alloc: Global, uri: &str, schema: &Doc, instance: &Doc) -> Result<Repor
     made(alloc, uri, found, &log)
 }
 
-fn made<'a>(alloc: Global, uri: &str, found: Found, log: &Log<'a>) -> Result<Report, Fault>
+pub(crate) fn made<'a>(
+    alloc: Global,
+    uri: &str,
+    found: Found,
+    log: &Log<'a>,
+) -> Result<Report, Fault>
     ensures ok { IfOk result (λ r. is_valid r ≡ found.valid) }
     ensures err { IfErr result (λ f. f ≡ Fault.NoRoom) }
 {

@@ -5,6 +5,7 @@ ghost use Rattle.definitions.specs.Assertions.{shape_of, asserted, holds};
 ghost use Rattle.json_doc.specs.Docs.{value};
 ghost use Rattle.keyword_shapes.specs.ShapeView.{shape_view};
 ghost use Rattle.assertions.specs.AssertionView.{assertion_view};
+ghost use Rattle.assertions.specs.Rows.{name_of};
 
 use crate::equality::{is_one_of, is_unique_if};
 use crate::lengths::{
@@ -54,6 +55,33 @@ pub enum Keyword {
     MinItems,
     /// `uniqueItems` (6.4.3): no two elements of the instance are equal.
     UniqueItems,
+}
+
+impl Keyword {
+    /// The name under which it stands in a schema.
+    pub fn name(self) -> &'static str
+        ensures { result.now ≡ name_of self }
+    {
+        match self {
+            Keyword::TypeIs => "type",
+            Keyword::EnumOf => "enum",
+            Keyword::ConstIs => "const",
+            Keyword::MultipleOf => "multipleOf",
+            Keyword::Maximum => "maximum",
+            Keyword::ExclusiveMaximum => "exclusiveMaximum",
+            Keyword::Minimum => "minimum",
+            Keyword::ExclusiveMinimum => "exclusiveMinimum",
+            Keyword::MaxLength => "maxLength",
+            Keyword::MinLength => "minLength",
+            Keyword::MaxProperties => "maxProperties",
+            Keyword::MinProperties => "minProperties",
+            Keyword::Required => "required",
+            Keyword::DependentRequired => "dependentRequired",
+            Keyword::MaxItems => "maxItems",
+            Keyword::MinItems => "minItems",
+            Keyword::UniqueItems => "uniqueItems",
+        }
+    }
 }
 
 /// Whether the keyword, with this value, holds of the instance (Validation, section 6). An instance of a kind that the

@@ -116,6 +116,79 @@ fn schemas_stand_under_the_base_form(rt: HostRuntime) -> Result<(), Fail> {
     Ok(())
 }
 
+// Whether the instance is valid.
+fn is_valid(alloc: Global, schema: &str, instance: &str) -> Result<bool, Fault> {
+    let report = check_bytes(alloc, URI, schema.as_bytes(), instance.as_bytes())?;
+    Ok(report.valid())
+}
+
+#[test]
+fn keywords_on_one_value(rt: HostRuntime) -> Result<(), Fail> {
+    for (schema, instance, valid) in [
+        (r#"{"multipleOf":7}"#, "-9223372036854775808", false),
+        (r#"{"multipleOf":8}"#, "-9223372036854775808", true),
+        (r#"{"multipleOf":18446744073709551615}"#, "0", true),
+        (
+            r#"{"multipleOf":18446744073709551615}"#,
+            "18446744073709551615",
+            true,
+        ),
+        (r#"{"multipleOf":18446744073709551615}"#, r#""x""#, true),
+        (
+            r#"{"multipleOf":18446744073709551615}"#,
+            "-9223372036854775808",
+            false,
+        ),
+        (r#"{"exclusiveMaximum":-9223372036854775808}"#, "null", true),
+        (
+            r#"{"exclusiveMaximum":-9223372036854775808}"#,
+            "-9223372036854775808",
+            false,
+        ),
+        (r#"{"maxLength":1}"#, r#""ä""#, true),
+        (r#"{"maxLength":1}"#, r#""ab""#, false),
+        (r#"{"uniqueItems":true}"#, "[]", true),
+        (r#"{"uniqueItems":true}"#, r#"[1,"1"]"#, true),
+        (
+            r#"{"uniqueItems":true}"#,
+            r#"[{"a":1,"b":2},{"b":2,"a":1}]"#,
+            false,
+        ),
+        (r#"{"dependentRequired":{"a":["b"]}}"#, "{}", true),
+        (
+            r#"{"dependentRequired":{"a":["b"]}}"#,
+            r#"{"a":1,"b":1}"#,
+            true,
+        ),
+        (r#"{"dependentRequired":{"a":["b"]}}"#, r#"{"a":1}"#, false),
+        (r#"{"enum":[]}"#, "null", false),
+        (r#"{"const":{"a":1,"b":2}}"#, r#"{"b":2,"a":1}"#, true),
+        (r#"{"minItems":1,"maxItems":1}"#, "[0,0]", false),
+        (
+            r#"{"minProperties":1,"maxProperties":1}"#,
+            r#"{"a":0}"#,
+            true,
+        ),
+    ] {
+        assert_eq!(rt; is_valid(rt.alloc(), schema, instance)?, valid);
+    }
+    Ok(())
+}
+
+#[test]
+fn keywords_stand_in_the_order_of_evaluation(rt: HostRuntime) -> Result<(), Fail> {
+    assert_eq!(rt;
+        output(
+            rt.alloc(),
+            r#"{"const":1,"enum":[1],"minimum":1,"properties":{},"type":"string","uniqueItems":true}"#,
+            "0"
+        )?
+        .as_str(),
+        r#"{"errors":[{"absoluteKeywordLocation":"https://ex.org/s#/type","error":"type is not met","instanceLocation":"","keywordLocation":"/type"},{"absoluteKeywordLocation":"https://ex.org/s#/enum","error":"enum is not met","instanceLocation":"","keywordLocation":"/enum"},{"absoluteKeywordLocation":"https://ex.org/s#/const","error":"const is not met","instanceLocation":"","keywordLocation":"/const"},{"absoluteKeywordLocation":"https://ex.org/s#/minimum","error":"minimum is not met","instanceLocation":"","keywordLocation":"/minimum"}],"valid":false}"#
+    );
+    Ok(())
+}
+
 fn assert_refused(rt: &impl Abort, outcome: Result<Report, Fault>, number: u8) {
     match outcome {
         Ok(_) => assert!(rt; false, "not refused"),

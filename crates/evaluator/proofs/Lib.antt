@@ -1,1 +1,3 @@
 pub mod OutcomeLaws
+pub mod NoLoops
+pub mod Plans

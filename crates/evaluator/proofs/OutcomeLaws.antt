@@ -1,5 +1,5 @@
--- Laws of outcomes, where nothing that is being applied stands at the place or below it, and of what was found so far.
-use Rattle.std.proofs.Common.{◌≡◌, ℕ, zero, suc, ◌+◌, ◌-◌, ◌<◌, ◌≤◌, List, [], ◌∷◌, ◌++◌, map, length, Option, Some, None, cond, Bool, true, false, nat_lt, Ok, Err, ◌&&◌, ◌||◌, nat_eq, refl, sym, ap, ◌∙◌, arith, length-append, append_assoc, append-nil, add-one, subst, take, drop, get_or}
+-- Laws of outcomes in which nothing loops, and of what was found so far.
+use Rattle.std.proofs.Common.{◌≡◌, ℕ, zero, suc, ◌+◌, ◌-◌, ◌<◌, ◌≤◌, List, [], ◌∷◌, ◌++◌, map, length, Option, Some, None, cond, Bool, true, false, nat_lt, Ok, Err, ◌&&◌, ◌||◌, nat_eq, refl, sym, ap, ◌∙◌, arith, length-append, append_assoc, append-nil, subst, take, drop, get_or}
 use Rattle.std.specs.List.{list_all, list_any}
 use Rattle.std.proofs.Math.Numerals.{sub-one}
 use Rattle.std.proofs.lemmas.List.{map-append, take_more, take-append-drop}
@@ -8,28 +8,22 @@ use Rattle.std.proofs.lemmas.List.Sums.{sum_by-append, sum_by-cons, count_by-le-
 use Rattle.std.proofs.lemmas.Bool.Decides.{nat_tests}
 use Rattle.std.proofs.lemmas.List.Folds.{list_all-append, list_any-append}
 use Rattle.definitions.specs.Values.{Text, Value, null, boolean, integer, string, array, object}
-use Rattle.definitions.specs.Pointers.{Pointer, same_pointer}
-use Rattle.definitions.specs.Schemas.{Identity, identity, same_identity, schema_at, opened}
-use Rattle.definitions.specs.Applied.{Application, Outcome, Part, Place, entered}
+use Rattle.definitions.specs.Pointers.{Pointer}
+use Rattle.definitions.specs.Schemas.{schema_at, opened}
+use Rattle.definitions.specs.Applied.{Application, Outcome, Part, entered}
 use Rattle.definitions.specs.Evaluated.{passing, all_pass}
-use Rattle.definitions.specs.Outcomes.{Use, outcome, schema_outcome, object_outcome, boolean_outcome, leaf, is_running, same_place, combined}
+use Rattle.definitions.specs.Outcomes.{Use, outcome, schema_outcome, object_outcome, boolean_outcome, leaf, is_running, combined}
 use Rattle.definitions.specs.Faults.{costly, loop, deep}
 use Rattle.definitions.specs.Answers.{answer_of, first_application}
-use Rattle.evaluator.specs.Rows.{first_rules}
+use Rattle.evaluator.specs.Rows.{first_rules, in_order}
 use Rattle.evaluator.specs.Reports.{verdict}
-use Rattle.evaluator.specs.Views.{AreAbove, Shows, IsEntered, Finds, FindsAll, UsesAll, Outcomes, count_of, use_count, used_at, uses_by, planned_view}
+use Rattle.evaluator.specs.Views.{Shows, Finds, IsWithin, AreWithin, FindsAll, UsesAll, Outcomes, count_of, use_count, used_at, uses_by, planned_view, some_looped, some_use_looped}
 use Rattle.evaluator.specs.declared.plan.Planned.{Planned}
 use Rattle.json_doc.specs.Docs.{value}
 use Rattle.evaluator.specs.declared.found.Found.{Found}
 use Rattle.evaluator.specs.declared.found.Applied as found
 use Rattle.evaluator.specs.declared.keyword.Keyword.{Keyword}
-use Rattle.evaluator.specs.declared.keyword.Keyword.TheVariants.{TypeIs, Required, Properties}
 use Rattle.json_doc.specs.Kinds.{as_boolean}
-
--- ---- what stands above is not at the place
-and_false : (b : Bool) → (b && false) ≡ false
-and_false true = refl
-and_false false = refl
 
 pub or_false : (b : Bool) → (b || false) ≡ b
 or_false true = refl
@@ -39,26 +33,13 @@ or_assoc : (a b c : Bool) → (a || (b || c)) ≡ ((a || b) || c)
 or_assoc true b c = refl
 or_assoc false b c = refl
 
-shorter_differs : (p q : Pointer) → length p < length q → same_pointer p q ≡ false
-shorter_differs [] [] h = absurd (omega arith)
-shorter_differs [] (u ∷ us) h = refl
-shorter_differs (t ∷ ts) [] h = absurd (omega arith)
-shorter_differs (t ∷ ts) (u ∷ us) h = rw (shorter_differs ts us (omega arith)) (and_false _)
+pub or_left : (a b : Bool) → (a || b) ≡ false → a ≡ false
+or_left true b h = cc
+or_left false b h = refl
 
-none_runs : (i : Identity) (p : Place) (es : List (Identity × Place)) → AreAbove (length p.pointer) es
-    → list_any (λ e. same_identity e.0 i && same_place e.1 p) es ≡ false
-none_runs i p [] h = refl
-none_runs i p (e ∷ es) h = rw (shorter_differs e.1.pointer p.pointer h.0, and_false (same_identity e.0 i)) (none_runs i p es h.1)
-
-not_running : (a : Application) → AreAbove (length a.place.pointer) a.running → is_running a ≡ false
-not_running a h = rw (none_runs (identity a.schema) a.place a.running h) (and_false _)
-
-above_more : (n : ℕ) (es : List (Identity × Place)) (e : Identity × Place) → AreAbove n es → length e.1.pointer < suc n → AreAbove (suc n) (es ++ e ∷ [])
-above_more n [] e h l = (l, tt)
-above_more n (d ∷ es) e h l = (omega (arith, h.0), above_more n es e h.1 l)
-
-pub entered_above : (a : Application) → AreAbove (length a.place.pointer) a.running → IsEntered (entered a)
-entered_above a h = record { above = above_more (length a.place.pointer) a.running (identity a.schema, a.place) h (omega arith) }
+pub or_right : (a b : Bool) → (a || b) ≡ false → b ≡ false
+or_right true b h = cc
+or_right false b h = h
 
 -- ---- one outcome
 value-opened : (base : Text) (p : Pointer) (v : Value) (id : Option Text) → (opened base p v id).value ≡ v
@@ -90,16 +71,21 @@ unfolding outcome
 count_pos zero a = one_of_two (is_running a) (leaf true false) (leaf false true) (omega arith) (omega arith)
 count_pos (suc n) a = one_of_two (is_running a) (leaf true false) _ (omega arith) (schema_count (outcome first_rules n) a a.schema.value)
 
-pub outcome-zero : (n : ℕ) (a : Application) → AreAbove (length a.place.pointer) a.running → n ≡ 0 → outcome first_rules n a ≡ leaf false true
+-- what didn't loop was not being applied already
+unlooped : (b : Bool) (o : Outcome) → (cond b (leaf true false) o).looped ≡ false → cond b (leaf true false) o ≡ o
+unlooped true o h = cc
+unlooped false o h = refl
+
+pub outcome-zero : (n : ℕ) (a : Application) → (outcome first_rules n a).looped ≡ false → n ≡ 0 → outcome first_rules n a ≡ leaf false true
 unfolding outcome
-outcome-zero zero a h e = rw (not_running a h) refl
+outcome-zero zero a h e = unlooped (is_running a) (leaf false true) h
 outcome-zero (suc n) a h e = absurd (omega arith)
 
-outcome-suc : (n : ℕ) (a : Application) → AreAbove (length a.place.pointer) a.running → 0 < n
+outcome-suc : (n : ℕ) (a : Application) → (outcome first_rules n a).looped ≡ false → 0 < n
     → outcome first_rules n a ≡ schema_outcome first_rules (outcome first_rules (n - 1)) a a.schema.value
 unfolding outcome
 outcome-suc zero a h l = absurd (omega arith)
-outcome-suc (suc n) a h l = rw (not_running a h, sub-one) refl
+outcome-suc (suc n) a h l = unlooped (is_running a) (schema_outcome first_rules (outcome first_rules n) a a.schema.value) h ∙ rw sub-one refl
 
 at_boolean : (run : Application → Outcome) (a : Application) (v : Value) (b : Bool) → Some b ≡ as_boolean v → schema_outcome first_rules run a v ≡ boolean_outcome a b
 at_boolean run a (boolean c) b e = let same : b ≡ c = cc in ap (boolean_outcome a) (sym same)
@@ -117,11 +103,11 @@ at_other run a (string s) e = refl
 at_other run a (array vs) e = refl
 at_other run a (object ms) e = refl
 
-pub outcome-boolean : (n : ℕ) (a : Application) (b : Bool) → AreAbove (length a.place.pointer) a.running → 0 < n → Some b ≡ as_boolean a.schema.value
+pub outcome-boolean : (n : ℕ) (a : Application) (b : Bool) → (outcome first_rules n a).looped ≡ false → 0 < n → Some b ≡ as_boolean a.schema.value
     → outcome first_rules n a ≡ boolean_outcome a b
 outcome-boolean n a b h l e = outcome-suc n a h l ∙ at_boolean (outcome first_rules (n - 1)) a a.schema.value b e
 
-pub outcome-object : (n : ℕ) (a : Application) → AreAbove (length a.place.pointer) a.running → 0 < n → None ≡ as_boolean a.schema.value
+pub outcome-object : (n : ℕ) (a : Application) → (outcome first_rules n a).looped ≡ false → 0 < n → None ≡ as_boolean a.schema.value
     → outcome first_rules n a ≡ object_outcome first_rules (outcome first_rules (n - 1)) a
 outcome-object n a h l e = outcome-suc n a h l ∙ at_other (outcome first_rules (n - 1)) a a.schema.value e
 
@@ -135,9 +121,9 @@ passing_more true n = omega arith
 passing_more false n = omega arith
 
 -- one more
-pub finds_more : (a : found.Applied) (f : Found) (budget : ℕ) (os : Outcomes) (part : Part) (o : Outcome) → FindsAll a budget os → Finds f (budget - a.count) o → 0 < o.count
+pub finds_more : (a : found.Applied) (f : Found) (budget : ℕ) (os : Outcomes) (part : Part) (o : Outcome) → FindsAll a budget os → Finds f (budget - a.count) o
     → FindsAll (record { number = a.number + 1; passing = cond f.valid (a.passing + 1) a.passing; count = a.count + f.count; looped = a.looped || f.looped; deep = a.deep || f.deep }) budget (os ++ (part, o) ∷ [])
-finds_more a f budget os part o all one pos =
+finds_more a f budget os part o all one =
     let c : count_of (os ++ (part, o) ∷ []) ≡ count_of os + (0 + o.count) = sum_by-append _ os ((part, o) ∷ []) in
     let l : length (os ++ (part, o) ∷ []) ≡ length os + 1 = length-append os ((part, o) ∷ []) in
     let p : passing (os ++ (part, o) ∷ []) ≡ passing os + (0 + cond o.valid 1 0) = sum_by-append _ os ((part, o) ∷ []) in
@@ -150,8 +136,25 @@ finds_more a f budget os part o all one pos =
       looped = rw (all.looped, one.looped) (sym (list_any-snoc _ os (part, o)));
       deep = rw (all.deep, one.deep) (sym (list_any-snoc _ os (part, o)));
       within = omega (arith, all.count, all.within, one.within, c);
-      counted = omega (arith, all.counted, l, c);
     }
+
+at_most_one : (b : Bool) → cond {A = ℕ} b 1 0 ≤ 1
+at_most_one true = omega arith
+at_most_one false = omega arith
+
+pub within_more : (a : found.Applied) (f : Found) (budget : ℕ) → AreWithin a budget → IsWithin f (budget - a.count)
+    → AreWithin (record { number = a.number + 1; passing = cond f.valid (a.passing + 1) a.passing; count = a.count + f.count; looped = a.looped || f.looped; deep = a.deep || f.deep }) budget
+within_more a f budget all one =
+    let v : cond f.valid (a.passing + 1) a.passing ≡ a.passing + cond f.valid 1 0 = passing_more f.valid a.passing in
+    record {
+      passing = omega (arith, all.passing, v, at_most_one f.valid);
+      number = omega (arith, all.number, one.some);
+      within = omega (arith, all.within, one.within);
+    }
+
+pub found_within : (f g : Found) (budget : ℕ) → IsWithin f budget → g.count ≤ budget - f.count
+    → IsWithin (record { valid = f.valid && g.valid; count = f.count + g.count; looped = f.looped || g.looped; deep = f.deep || g.deep }) budget
+found_within f g budget so_far more = record { some = omega (arith, so_far.some); within = omega (arith, so_far.within, more) }
 
 -- where one is over what is left, all are over the budget
 over : (a : found.Applied) (budget : ℕ) (before : Outcomes) (part : Part) (o : Outcome) (after : Outcomes) → FindsAll a budget before → budget - a.count < o.count
@@ -191,11 +194,11 @@ pub record FoundSoFar (f : Found) (budget : ℕ) (us : List Use) : Type 0 where
   pub deep : f.deep ≡ list_any (λ u. list_any (λ o. o.1.deep) u.outcomes) us
   pub within : f.count ≤ budget
 
-object_uses : (run : Application → Outcome) (a : Application) → object_outcome first_rules run a ≡ combined (entered a) (uses_by run (entered a) (TypeIs ∷ Required ∷ Properties ∷ []))
-unfolding object_outcome
-object_uses run a = ap (combined (entered a)) (append-nil (uses_by run (entered a) (TypeIs ∷ Required ∷ Properties ∷ [])))
+pub object_uses : (run : Application → Outcome) (a : Application) → object_outcome first_rules run a ≡ combined (entered a) (uses_by run (entered a) in_order)
+unfolding object_outcome in_order
+object_uses run a = ap (combined (entered a)) (append-nil (uses_by run (entered a) in_order))
 
-pub object_finds : (f : Found) (budget : ℕ) (run : Application → Outcome) (a : Application) → FoundSoFar f budget (uses_by run (entered a) (TypeIs ∷ Required ∷ Properties ∷ []))
+pub object_finds : (f : Found) (budget : ℕ) (run : Application → Outcome) (a : Application) → FoundSoFar f budget (uses_by run (entered a) in_order)
     → Finds f budget (object_outcome first_rules run a)
 object_finds f budget run a so_far =
     subst (Finds f budget) (sym (object_uses run a)) (record { valid = so_far.valid; count = so_far.count; looped = so_far.looped; deep = so_far.deep; within = omega (arith, so_far.count, so_far.within) })
@@ -217,7 +220,7 @@ split_at xs i d h =
     sym (append_assoc (take i xs) (get_or xs i d ∷ []) (drop (i + 1) xs)) ∙ ap (λ ys. ys ++ drop (i + 1) xs) (sym (take_more xs i d h)) ∙ take-append-drop (i + 1) xs
 
 -- where a keyword is over what is left, the object is over the budget
-pub object_over : (f : Found) (budget : ℕ) (run : Application → Outcome) (a : Application) (ks : List Keyword) (i : ℕ) (d : Keyword) → i < length ks → ks ≡ TypeIs ∷ Required ∷ Properties ∷ []
+pub object_over : (f : Found) (budget : ℕ) (run : Application → Outcome) (a : Application) (ks : List Keyword) (i : ℕ) (d : Keyword) → i < length ks → ks ≡ in_order
     → FoundSoFar f budget (uses_by run (entered a) (take i ks)) → budget - f.count < use_count (used_at run (entered a) (get_or ks i d))
     → budget < (object_outcome first_rules run a).count
 object_over f budget run a ks i first h is so_far over =
@@ -226,7 +229,7 @@ object_over f budget run a ks i first h is so_far over =
     let e : uses_by run here (take i ks ++ k ∷ drop (i + 1) ks) ≡ uses_by run here (take i ks) ++ (used_at run here k ++ uses_by run here (drop (i + 1) ks)) = flat_map-append (used_at run here) (take i ks) (k ∷ drop (i + 1) ks) in
     let c : use_count (uses_by run here (take i ks) ++ (used_at run here k ++ uses_by run here (drop (i + 1) ks))) ≡ use_count (uses_by run here (take i ks)) + use_count (used_at run here k ++ uses_by run here (drop (i + 1) ks)) = sum_by-append _ (uses_by run here (take i ks)) _ in
     let d : use_count (used_at run here k ++ uses_by run here (drop (i + 1) ks)) ≡ use_count (used_at run here k) + use_count (uses_by run here (drop (i + 1) ks)) = sum_by-append _ (used_at run here k) _ in
-    let g : use_count (uses_by run here (TypeIs ∷ Required ∷ Properties ∷ [])) ≡ use_count (uses_by run here (take i ks) ++ (used_at run here k ++ uses_by run here (drop (i + 1) ks))) = ap (λ ks. use_count (uses_by run here ks)) (sym is ∙ sym (split_at ks i first h)) ∙ ap use_count e in
+    let g : use_count (uses_by run here in_order) ≡ use_count (uses_by run here (take i ks) ++ (used_at run here k ++ uses_by run here (drop (i + 1) ks))) = ap (λ ks. use_count (uses_by run here ks)) (sym is ∙ sym (split_at ks i first h)) ∙ ap use_count e in
     rw (object_uses run a) (omega (arith, so_far.count, so_far.within, c, d, g))
 
 -- the loop over the keywords
@@ -243,11 +246,11 @@ child_over a budget g xs i x h is all more =
     rw e (over a budget (map g (take i xs)) _ _ (map g (drop (i + 1) xs)) all (subst (λ y. budget - a.count < (g y).1.count) is more))
 
 pub child_more : {X : Type 0} (a : found.Applied) (f : Found) (budget : ℕ) (g : X → Part × Outcome) (xs : List X) (i : ℕ) (x : X) → i < length xs → x ≡ get_or xs i x
-    → FindsAll a budget (map g (take i xs)) → Finds f (budget - a.count) (g x).1 → 0 < (g x).1.count
+    → FindsAll a budget (map g (take i xs)) → Finds f (budget - a.count) (g x).1
     → FindsAll (record { number = a.number + 1; passing = cond f.valid (a.passing + 1) a.passing; count = a.count + f.count; looped = a.looped || f.looped; deep = a.deep || f.deep }) budget (map g (take (i + 1) xs))
-child_more a f budget g xs i x h is all one pos =
+child_more a f budget g xs i x h is all one =
     rw (take_more xs i x h, map-append g (take i xs) (get_or xs i x ∷ []))
-    (finds_more a f budget (map g (take i xs)) _ _ all (subst (λ y. Finds f (budget - a.count) (g y).1) is one) (subst (λ y. 0 < (g y).1.count) is pos))
+    (finds_more a f budget (map g (take i xs)) _ _ all (subst (λ y. Finds f (budget - a.count) (g y).1) is one))
 
 -- ---- one use of a keyword
 and_true : (b : Bool) → (b && true) ≡ b
@@ -283,32 +286,36 @@ finds_same f budget o e h = record {
   within = h;
 }
 
-pub child_shows : (a : Application) (p : Planned) → IsEntered a → Shows ((planned_view a p).1) (value p.schema.now) (value p.instance.now)
-child_shows a p entered = record {
-  schema = value-schema_at a.schema.resource _ (value p.schema.now);
-  instance = refl;
-  above = rw (length-append a.place.pointer (p.name.now ∷ []), add-one) entered.above;
-}
+pub child_shows : (k : Text) (a : Application) (p : Planned) → Shows ((planned_view k a p).1) (value p.schema.now) (value p.instance.now)
+child_shows k a p = record { schema = value-schema_at a.schema.resource _ (value p.schema.now); instance = refl }
 
--- ---- an application below nothing, by which the code reads off its own bounds
-abbrev pub alone : Value → Value → Application
-alone s x = record {
-  schema = record { resource = []; pointer = []; value = s };
-  instance = x;
-  place = record { pointer = []; name = None };
-  path = [];
-  scope = [];
-  running = [];
-}
+-- ---- what looped is none of what didn't loop in all
+pub child_unlooped : {X : Type 0} (g : X → Part × Outcome) (xs : List X) (i : ℕ) (x : X) → i < length xs → x ≡ get_or xs i x → some_looped (map g xs) ≡ false → (g x).1.looped ≡ false
+child_unlooped g xs i x h is none =
+    let e : map g xs ≡ map g (take i xs) ++ g (get_or xs i x) ∷ map g (drop (i + 1) xs) = sym (ap (map g) (split_at xs i x h)) ∙ map-append g (take i xs) _ in
+    let l : (some_looped (map g (take i xs)) || some_looped (g (get_or xs i x) ∷ map g (drop (i + 1) xs))) ≡ false =
+    sym (list_any-append _ (map g (take i xs)) (g (get_or xs i x) ∷ map g (drop (i + 1) xs))) ∙ sym (ap some_looped e) ∙ none in
+    ap (λ y. (g y).1.looped) is ∙ or_left (g (get_or xs i x)).1.looped _ (or_right (some_looped (map g (take i xs))) _ l)
 
-pub alone_shows : (s x : Value) → Shows (alone s x) s x
-alone_shows s x = record { schema = refl; instance = refl; above = tt }
+pub keyword_unlooped : (run : Application → Outcome) (a : Application) (ks : List Keyword) (i : ℕ) (d : Keyword) → i < length ks → ks ≡ in_order
+    → (object_outcome first_rules run a).looped ≡ false → some_use_looped (used_at run (entered a) (get_or ks i d)) ≡ false
+keyword_unlooped run a ks i d h is none =
+    let here = entered a in
+    let k = get_or ks i d in
+    let e : uses_by run here ks ≡ uses_by run here (take i ks) ++ (used_at run here k ++ uses_by run here (drop (i + 1) ks)) =
+    sym (ap (uses_by run here) (split_at ks i d h)) ∙ flat_map-append (used_at run here) (take i ks) (k ∷ drop (i + 1) ks) in
+    let whole : some_use_looped (uses_by run here ks) ≡ false = ap (λ ks. some_use_looped (uses_by run here ks)) is ∙ sym (ap (λ (o : Outcome). o.looped) (object_uses run a)) ∙ none in
+    let both : (some_use_looped (uses_by run here (take i ks)) || some_use_looped (used_at run here k ++ uses_by run here (drop (i + 1) ks))) ≡ false =
+    sym (list_any-append _ (uses_by run here (take i ks)) _) ∙ sym (ap some_use_looped e) ∙ whole in
+    let rest : (some_use_looped (used_at run here k) || some_use_looped (uses_by run here (drop (i + 1) ks))) ≡ false =
+    sym (list_any-append _ (used_at run here k) _) ∙ or_right (some_use_looped (uses_by run here (take i ks))) _ both in
+    or_left (some_use_looped (used_at run here k)) _ rest
 
-pub alone_entered : (s x : Value) → IsEntered (alone s x)
-alone_entered s x = record { above = tt }
+pub use_unlooped : (u : Use) → some_use_looped (u ∷ []) ≡ false → some_looped u.outcomes ≡ false
+use_unlooped u h = or_left (some_looped u.outcomes) false h
 
-pub passing-le : (os : Outcomes) → passing os ≤ length os
-passing-le os = count_by-le-length (λ (o : Part × Outcome). o.1.valid) os
+pub entered_shows : (a : Application) (s x : Value) → Shows a s x → Shows (entered a) s x
+entered_shows a s x shows = record { schema = shows.schema; instance = shows.instance }
 
 -- ---- the answer, from an outcome
 within-not_over : (m n : ℕ) → m ≤ n → nat_lt n m ≡ false
@@ -330,4 +337,4 @@ pub verdict-deep : (most : ℕ) (o : Outcome) → o.count ≤ most → o.looped 
 verdict-deep most o h l d = rw (within-not_over o.count most h, l, d) refl
 
 pub first_shows : (base : Text) (v x : Value) → Shows (first_application (schema_at base [] v) x) v x
-first_shows base v x = record { schema = value-schema_at base [] v; instance = refl; above = tt }
+first_shows base v x = record { schema = value-schema_at base [] v; instance = refl }

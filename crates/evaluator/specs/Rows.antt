@@ -1,19 +1,40 @@
--- The keywords that are in, as the definitions have them.
-use Rattle.std.specs.Prelude.{[], codes, false}
-use Rattle.definitions.specs.Shapes.{schema_map}
-use Rattle.definitions.specs.Assertions.{type_is, required}
+-- The keywords that are evaluated, as the definitions have them.
+use Rattle.std.specs.Prelude.{List, [], ◌∷◌, Bool, true, false, codes, filter}
+use Rattle.definitions.specs.Shapes.{one_schema, schema_list, schema_map}
 use Rattle.definitions.specs.Keywords as table
-use Rattle.definitions.specs.Keywords.{asserting, row}
+use Rattle.definitions.specs.Keywords.{Meaning, asserts, all_of, any_of, one_of, negated, row, keywords}
 use Rattle.definitions.specs.Applied.{Rules}
-use Rattle.schema_scan.specs.FirstKeywords.{first_keywords}
+use Rattle.assertions.specs.Rows as assertions
+use Rattle.assertions.specs.declared.keyword.Keyword.TheVariants.{TypeIs, EnumOf, ConstIs, MultipleOf, Maximum, ExclusiveMaximum, Minimum, ExclusiveMinimum, MaxLength, MinLength, MaxProperties, MinProperties, Required, DependentRequired, MaxItems, MinItems, UniqueItems}
 use Rattle.evaluator.specs.declared.keyword.Keyword.{Keyword}
-use Rattle.evaluator.specs.declared.keyword.Keyword.TheVariants.{TypeIs, Required, Properties}
+use Rattle.evaluator.specs.declared.keyword.Keyword.TheVariants.{Asserts, AllOf, AnyOf, OneOf, Not, Properties}
 
 abbrev pub row_of : Keyword → table.Keyword
-row_of TypeIs = asserting (codes "type") type_is
-row_of Required = asserting (codes "required") required
+row_of (Asserts assertion) = assertions.row_of assertion
+row_of AllOf = row (codes "allOf") schema_list all_of
+row_of AnyOf = row (codes "anyOf") schema_list any_of
+row_of OneOf = row (codes "oneOf") schema_list one_of
+row_of Not = row (codes "not") one_schema negated
 row_of Properties = row (codes "properties") schema_map table.properties
+
+-- all of them, in the order of evaluation
+unfoldable pub in_order : List Keyword
+in_order =
+    Asserts TypeIs ∷ Asserts EnumOf ∷ Asserts ConstIs ∷ Asserts MultipleOf ∷ Asserts Maximum ∷ Asserts ExclusiveMaximum
+    ∷ Asserts Minimum ∷ Asserts ExclusiveMinimum ∷ Asserts MaxLength ∷ Asserts MinLength ∷ Asserts MaxProperties
+    ∷ Asserts MinProperties ∷ Asserts Required ∷ Asserts DependentRequired ∷ Asserts MaxItems ∷ Asserts MinItems
+    ∷ Asserts UniqueItems ∷ AllOf ∷ AnyOf ∷ OneOf ∷ Not ∷ Properties ∷ []
+
+-- those of the definitions' table, which is in the order of evaluation, that are in
+abbrev pub is_evaluated : Meaning → Bool
+is_evaluated (asserts assertion) = true
+is_evaluated all_of = true
+is_evaluated any_of = true
+is_evaluated one_of = true
+is_evaluated negated = true
+is_evaluated table.properties = true
+is_evaluated _ = false
 
 -- none of these keywords asks for schemas elsewhere, or for patterns
 abbrev pub first_rules : Rules
-first_rules = record { keywords = first_keywords; schemas = []; matches = (λ pattern text. false) }
+first_rules = record { keywords = filter (λ k. is_evaluated k.meaning) keywords; schemas = []; matches = (λ pattern text. false) }

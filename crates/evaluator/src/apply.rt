@@ -1,14 +1,15 @@
 //! Applying a schema to an instance, and what it applies in turn (JSON Schema 2020-12 Core, 7.1 and 10).
 
-ghost use Rattle.std.specs.Prelude.{◌≡◌, ◌≢◌, ◌<◌, map, IfOk, IfErr, Some};
+ghost use Rattle.std.specs.Prelude.{◌≡◌, ◌≢◌, ◌<◌, ◌≤◌, false, map, IfOk, IfErr, Some};
 ghost use Rattle.definitions.specs.Applied.{Application};
+ghost use Rattle.definitions.specs.Values.{Text};
 ghost use Rattle.definitions.specs.Outcomes.{outcome, object_outcome};
 ghost use Rattle.evaluator.specs.Rows.{first_rules, row_of};
-ghost use Rattle.evaluator.specs.Views.{Shows, Finds, FindsAll, UsesAll, IsEntered, child_outcome, used_at, used_with, count_of, use_count};
+ghost use Rattle.evaluator.specs.Views.{Shows, Finds, FindsAll, UsesAll, IsWithin, AreWithin, child_outcome, used_at, used_with, count_of, use_count, some_looped, some_use_looped};
 ghost use Rattle.json_doc.specs.Docs.{value};
 
 use crate::found::{Applied, Found};
-use crate::keyword::{KEYWORDS, Keyword};
+use crate::keyword::{Keyword, keywords};
 use crate::plan::{Planned, plan};
 use crate::units::Log;
 use crate::verdict::{annotation, keyword_passes};
@@ -26,9 +27,10 @@ pub(crate) fn apply<'a>(
     budget: u64,
     log: &mut Log<'a>,
 ) -> Result<Found, Fault>
-    ensures found { (a : Application) → Shows a (value schema.now) (value instance.now)
+    ensures within { IfOk result (λ f. IsWithin f budget) }
+    ensures found { (a : Application) → Shows a (value schema.now) (value instance.now) → (outcome first_rules left a).looped ≡ false
         → IfOk result (λ f. Finds f budget (outcome first_rules left a)) }
-    ensures err { (a : Application) → Shows a (value schema.now) (value instance.now)
+    ensures err { (a : Application) → Shows a (value schema.now) (value instance.now) → (outcome first_rules left a).looped ≡ false
         → IfErr result (λ f. f ≢ Fault.NoRoom → (f ≡ Fault.Costly) × (budget < (outcome first_rules left a).count)) }
 {
     if budget == 0 {
@@ -54,8 +56,6 @@ fn apply_boolean(allowed: bool, log: &mut Log<'_>) -> Result<Found, Fault>
     Ok(Found::boolean(allowed))
 }
 
-ghost use Rattle.std.specs.Prelude.{false};
-
 #[cycle(apply)]
 fn apply_object<'a>(
     alloc: Global,
@@ -66,14 +66,15 @@ fn apply_object<'a>(
     log: &mut Log<'a>,
 ) -> Result<Found, Fault>
     requires { 0 < budget }
-    ensures found { (a : Application) → Shows a (value schema.now) (value instance.now)
+    ensures within { IfOk result (λ f. IsWithin f budget) }
+    ensures found { (a : Application) → Shows a (value schema.now) (value instance.now) → (object_outcome first_rules (outcome first_rules left) a).looped ≡ false
         → IfOk result (λ f. Finds f budget (object_outcome first_rules (outcome first_rules left) a)) }
-    ensures err { (a : Application) → Shows a (value schema.now) (value instance.now)
+    ensures err { (a : Application) → Shows a (value schema.now) (value instance.now) → (object_outcome first_rules (outcome first_rules left) a).looped ≡ false
         → IfErr result (λ f. f ≢ Fault.NoRoom → (f ≡ Fault.Costly) × (budget < (object_outcome first_rules (outcome first_rules left) a).count)) }
 {
     let mark = log.mark();
     let mut found = Found::boolean(true);
-    for keyword in &KEYWORDS {
+    for keyword in keywords() {
         match apply_keyword(
             alloc,
             *keyword,
@@ -102,9 +103,10 @@ fn apply_keyword<'a>(
     budget: u64,
     log: &mut Log<'a>,
 ) -> Result<Found, Fault>
-    ensures found { (a : Application) → a.schema.value ≡ value schema.now → a.instance ≡ value instance.now → IsEntered a
+    ensures within { IfOk result (λ f. f.count ≤ budget) }
+    ensures found { (a : Application) → Shows a (value schema.now) (value instance.now) → some_use_looped (used_at (outcome first_rules left) a keyword) ≡ false
         → IfOk result (λ f. UsesAll f budget (used_at (outcome first_rules left) a keyword)) }
-    ensures err { (a : Application) → a.schema.value ≡ value schema.now → a.instance ≡ value instance.now → IsEntered a
+    ensures err { (a : Application) → Shows a (value schema.now) (value instance.now) → some_use_looped (used_at (outcome first_rules left) a keyword) ≡ false
         → IfErr result (λ f. f ≢ Fault.NoRoom → (f ≡ Fault.Costly) × (budget < use_count (used_at (outcome first_rules left) a keyword))) }
 {
     match schema.get(keyword.name()) {
@@ -132,9 +134,10 @@ fn use_keyword<'a>(
     budget: u64,
     log: &mut Log<'a>,
 ) -> Result<Found, Fault>
-    ensures found { (a : Application) → a.instance ≡ value instance.now → IsEntered a
+    ensures within { IfOk result (λ f. f.count ≤ budget) }
+    ensures found { (a : Application) → a.instance ≡ value instance.now → some_use_looped (used_with (outcome first_rules left) a keyword (value keyword_value.now)) ≡ false
         → IfOk result (λ f. UsesAll f budget (used_with (outcome first_rules left) a keyword (value keyword_value.now))) }
-    ensures err { (a : Application) → a.instance ≡ value instance.now → IsEntered a
+    ensures err { (a : Application) → a.instance ≡ value instance.now → some_use_looped (used_with (outcome first_rules left) a keyword (value keyword_value.now)) ≡ false
         → IfErr result (λ f. f ≢ Fault.NoRoom → (f ≡ Fault.Costly) × (budget < use_count (used_with (outcome first_rules left) a keyword (value keyword_value.now)))) }
 {
     let mark = log.enter_keyword(keyword.name())?;
@@ -159,14 +162,15 @@ fn apply_all<'a>(
     budget: u64,
     log: &mut Log<'a>,
 ) -> Result<Applied, Fault>
-    ensures found { (a : Application) → IsEntered a
-        → IfOk result (λ all. FindsAll all budget (map (child_outcome left a) planned.now.items)) }
-    ensures err { (a : Application) → IsEntered a
-        → IfErr result (λ f. f ≢ Fault.NoRoom → (f ≡ Fault.Costly) × (budget < count_of (map (child_outcome left a) planned.now.items))) }
+    ensures within { IfOk result (λ all. AreWithin all budget) }
+    ensures found { (a : Application) (k : Text) → some_looped (map (child_outcome left k a) planned.now.items) ≡ false
+        → IfOk result (λ all. FindsAll all budget (map (child_outcome left k a) planned.now.items)) }
+    ensures err { (a : Application) (k : Text) → some_looped (map (child_outcome left k a) planned.now.items) ≡ false
+        → IfErr result (λ f. f ≢ Fault.NoRoom → (f ≡ Fault.Costly) × (budget < count_of (map (child_outcome left k a) planned.now.items))) }
 {
     let mut applied = Applied::none();
     for child in planned {
-        log.enter_member(child.name)?;
+        log.enter_child(child)?;
         match apply(
             alloc,
             child.schema,
@@ -178,7 +182,7 @@ fn apply_all<'a>(
             Ok(found) => applied = applied.and(found),
             Err(fault) => return Err(fault),
         }
-        log.leave_member();
+        log.leave_child(child);
     }
     Ok(applied)
 }

@@ -1,18 +1,21 @@
 //! The keywords that are evaluated.
 
 ghost use Rattle.std.specs.Prelude.{◌≡◌};
-ghost use Rattle.evaluator.specs.Rows.{row_of};
+ghost use Rattle.evaluator.specs.Rows.{row_of, in_order};
+
+use assertions::Keyword as Assertion;
 
 /// A keyword that is evaluated.
 #[derive(Clone, Copy, Debug, PartialEq, Eq)]
 pub(crate) enum Keyword {
-    TypeIs,
-    Required,
+    /// Looks at its own value and the instance.
+    Asserts(Assertion),
+    AllOf,
+    AnyOf,
+    OneOf,
+    Not,
     Properties,
 }
-
-/// All of them, in the order of evaluation.
-pub(crate) const KEYWORDS: [Keyword; 3] = [Keyword::TypeIs, Keyword::Required, Keyword::Properties];
 
 impl Keyword {
     /// The name under which it stands in a schema.
@@ -20,9 +23,45 @@ impl Keyword {
         ensures { result.now ≡ (row_of self).name }
     {
         match self {
-            Keyword::TypeIs => "type",
-            Keyword::Required => "required",
+            Keyword::Asserts(assertion) => assertion.name(),
+            Keyword::AllOf => "allOf",
+            Keyword::AnyOf => "anyOf",
+            Keyword::OneOf => "oneOf",
+            Keyword::Not => "not",
             Keyword::Properties => "properties",
         }
     }
+}
+
+const KEYWORDS: [Keyword; 22] = [
+    Keyword::Asserts(Assertion::TypeIs),
+    Keyword::Asserts(Assertion::EnumOf),
+    Keyword::Asserts(Assertion::ConstIs),
+    Keyword::Asserts(Assertion::MultipleOf),
+    Keyword::Asserts(Assertion::Maximum),
+    Keyword::Asserts(Assertion::ExclusiveMaximum),
+    Keyword::Asserts(Assertion::Minimum),
+    Keyword::Asserts(Assertion::ExclusiveMinimum),
+    Keyword::Asserts(Assertion::MaxLength),
+    Keyword::Asserts(Assertion::MinLength),
+    Keyword::Asserts(Assertion::MaxProperties),
+    Keyword::Asserts(Assertion::MinProperties),
+    Keyword::Asserts(Assertion::Required),
+    Keyword::Asserts(Assertion::DependentRequired),
+    Keyword::Asserts(Assertion::MaxItems),
+    Keyword::Asserts(Assertion::MinItems),
+    Keyword::Asserts(Assertion::UniqueItems),
+    Keyword::AllOf,
+    Keyword::AnyOf,
+    Keyword::OneOf,
+    Keyword::Not,
+    Keyword::Properties,
+];
+
+/// All of them, in the order of evaluation.
+#[tactic(auto, unfolding(crate::specs::Rows::in_order))]
+pub(crate) fn keywords() -> &'static [Keyword]
+    ensures { result.now ≡ in_order }
+{
+    &KEYWORDS
 }

@@ -12,3 +12,6 @@ mod verdict;
 
 pub use json_doc::Fault;
 pub use report::{Report, evaluate_one};
+
+#[cfg(test)]
+mod tests;

@@ -2,6 +2,7 @@
 
 ghost use Rattle.std.specs.Prelude.{◌≡◌};
 
+use crate::plan::Step;
 use crate::units::{OutputUnit, Says, Units};
 use json::{Token, Writer};
 use json_doc::{push_fragment_token, push_token};
@@ -38,7 +39,9 @@ fn write_units<'a>(
     let mut location = String::new(alloc);
     out.begin_array()?;
     for unit in &units.units {
-        write_unit(uri, valid, units, *unit, &mut location, out)?;
+        if unit.is_there() {
+            write_unit(uri, valid, units, *unit, &mut location, out)?;
+        }
     }
     out.end_array()?;
     Ok(())
@@ -77,7 +80,7 @@ fn write_unit<'a>(
     Ok(())
 }
 
-fn steps<'u, 'a>(units: &'u Units<'a>, start: usize, end: usize) -> &'u [&'a str] {
+fn steps<'u, 'a>(units: &'u Units<'a>, start: usize, end: usize) -> &'u [Step<'a>] {
     let steps = units.steps.as_slice();
     if start <= end && end <= steps.len() {
         &steps[start..end]
@@ -90,17 +93,17 @@ fn steps<'u, 'a>(units: &'u Units<'a>, start: usize, end: usize) -> &'u [&'a str
 fn write_what<'a>(
     units: &Units<'a>,
     says: Says,
-    path: &[&'a str],
+    path: &[Step<'a>],
     buffer: &mut String,
     out: &mut Writer,
 ) -> Result<(), AllocError>
     ensures { out.new.before ≡ out.old.before }
 {
     match says {
-        Says::Pending => out.token(Token::Null)?,
+        Says::Nothing => out.token(Token::Null)?,
         Says::NotMet => {
             buffer.clear();
-            if let Some(keyword) = path.last() {
+            if let Some(Step::Name(keyword)) = path.last() {
                 buffer.push_str(keyword)?;
             }
             buffer.push_str(" is not met")?;
@@ -130,7 +133,11 @@ fn write_names<'a>(
     Ok(())
 }
 
-fn write_pointer(steps: &[&str], location: &mut String, out: &mut Writer) -> Result<(), AllocError>
+fn write_pointer(
+    steps: &[Step<'_>],
+    location: &mut String,
+    out: &mut Writer,
+) -> Result<(), AllocError>
     ensures { out.new.before ≡ out.old.before }
 {
     location.clear();
@@ -139,9 +146,17 @@ fn write_pointer(steps: &[&str], location: &mut String, out: &mut Writer) -> Res
     Ok(())
 }
 
-fn push_pointer(text: &mut String, steps: &[&str]) -> Result<(), AllocError> {
+fn push_pointer(text: &mut String, steps: &[Step<'_>]) -> Result<(), AllocError> {
     for step in steps {
-        push_token(text, step)?;
+        push_step(text, *step)?;
+    }
+    Ok(())
+}
+
+fn push_step(text: &mut String, step: Step<'_>) -> Result<(), AllocError> {
+    match step {
+        Step::Name(name) => push_token(text, name)?,
+        Step::Index(index) => write!(text, "/{index}")?,
     }
     Ok(())
 }

@@ -1,9 +1,10 @@
 //! What a schema says of an instance.
 
-ghost use Rattle.std.specs.Prelude.{◌≡◌, ◌≢◌, Ok, Err, IfOk, IfErr};
+ghost use Rattle.std.specs.Prelude.{◌≡◌, ◌≢◌, true, false, Ok, Err, IfOk, IfErr};
 ghost use Rattle.faults.specs.View.{fault};
 ghost use Rattle.json_doc.specs.Docs.{value};
 ghost use Rattle.schema_scan.specs.Scans.{scanned_base, scanned_value};
+ghost use Rattle.schema_scan.specs.Walks.{has_unknown};
 ghost use Rattle.evaluator.specs.Reports.{is_valid, answer_one, verdict};
 
 use crate::apply::apply;
@@ -46,8 +47,8 @@ impl Report {
     }
 }
 
-/// Applies a scanned document to an instance, by the keywords `type`, `required` and `properties` (JSON Schema 2020-12
-/// Validation, 6.1.1 and 6.5.3; Core, 10.3.2.1). Of these faults the first that arises is answered:
+/// Applies a scanned document to an instance, by `properties` (JSON Schema 2020-12 Core, 10.3.2.1) and the keywords that
+/// look at their own value and the instance (Validation, 6). Of these faults the first that arises is answered:
 ///
 /// - [`Fault::Costly`]: there are more than 100,000 applications of schemas.
 /// - [`Fault::Deep`]: more than 1,000 applications nest.
@@ -59,7 +60,9 @@ pub fn evaluate_one(alloc: Global, scanned: &Scanned<'_>, instance: &Doc) -> Res
     judge(alloc, scanned.uri(), scanned.document(), instance)
 }
 
+// Nothing loops where the schema's names are all in.
 fn judge(alloc: Global, uri: &str, schema: &Doc, instance: &Doc) -> Result<Report, Fault>
+    requires { has_unknown true (value schema.now) ≡ false }
     ensures ok { IfOk result (λ r. verdict (answer_one uri.now (value schema.now) (value instance.now)) ≡ Ok (is_valid r)) }
     ensures err { IfErr result (λ f. f ≢ Fault.NoRoom → verdict (answer_one uri.now (value schema.now) (value instance.now)) ≡ Err (fault f)) }
 {
@@ -81,7 +84,12 @@ fn judge(alloc: Global, uri: &str, schema: &Doc, instance: &Doc) -> Result<Repor
     made(alloc, uri, found, &log)
 }
 
-fn made<'a>(alloc: Global, uri: &str, found: Found, log: &Log<'a>) -> Result<Report, Fault>
+pub(crate) fn made<'a>(
+    alloc: Global,
+    uri: &str,
+    found: Found,
+    log: &Log<'a>,
+) -> Result<Report, Fault>
     ensures ok { IfOk result (λ r. is_valid r ≡ found.valid) }
     ensures err { IfErr result (λ f. f ≡ Fault.NoRoom) }
 {

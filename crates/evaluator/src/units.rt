@@ -1,12 +1,13 @@
 //! The units of the basic output, as they are collected (JSON Schema 2020-12 Core, 12.4.2).
 
+use crate::plan::{Part, Planned, Step};
 use std::alloc::{AllocError, Global};
 
 /// What a unit says.
 #[derive(Clone, Copy, Debug)]
 pub(crate) enum Says {
-    /// Nothing yet.
-    Pending,
+    /// Nothing: the unit isn't there, and only keeps a place.
+    Nothing,
     /// The keyword that the unit's location ends in is not met.
     NotMet,
     /// The schema is `false`.
@@ -25,12 +26,18 @@ pub(crate) struct OutputUnit {
     pub(crate) says: Says,
 }
 
+impl OutputUnit {
+    pub(crate) fn is_there(&self) -> bool {
+        !matches!(self.says, Says::Nothing)
+    }
+}
+
 /// Units in order. Their steps and names stand in two lists that all of them share, so that a unit takes no memory of
 /// its own.
 #[derive(Drop)]
 pub(crate) struct Units<'a> {
     pub(crate) units: Vec<OutputUnit>,
-    pub(crate) steps: Vec<&'a str>,
+    pub(crate) steps: Vec<Step<'a>>,
     pub(crate) names: Vec<&'a str>,
 }
 
@@ -72,7 +79,7 @@ impl<'a> Units<'a> {
             start: 0,
             place: 0,
             end: 0,
-            says: Says::Pending,
+            says: Says::Nothing,
         })?;
         Ok(())
     }
@@ -81,8 +88,8 @@ impl<'a> Units<'a> {
     pub(crate) fn fill(
         &mut self,
         mark: Mark,
-        path: &[&'a str],
-        place: &[&'a str],
+        path: &[Step<'a>],
+        place: &[Step<'a>],
         says: Says,
     ) -> Result<(), AllocError> {
         let unit = self.located(path, place, says)?;
@@ -95,8 +102,8 @@ impl<'a> Units<'a> {
     /// Adds a unit.
     pub(crate) fn push(
         &mut self,
-        path: &[&'a str],
-        place: &[&'a str],
+        path: &[Step<'a>],
+        place: &[Step<'a>],
         says: Says,
     ) -> Result<(), AllocError> {
         let unit = self.located(path, place, says)?;
@@ -106,8 +113,8 @@ impl<'a> Units<'a> {
 
     fn located(
         &mut self,
-        path: &[&'a str],
-        place: &[&'a str],
+        path: &[Step<'a>],
+        place: &[Step<'a>],
         says: Says,
     ) -> Result<OutputUnit, AllocError> {
         let start = self.steps.len();
@@ -127,8 +134,8 @@ impl<'a> Units<'a> {
 /// annotations, should it pass.
 #[derive(Drop)]
 pub(crate) struct Log<'a> {
-    path: Vec<&'a str>,
-    place: Vec<&'a str>,
+    path: Vec<Step<'a>>,
+    place: Vec<Step<'a>>,
     pub(crate) errors: Units<'a>,
     pub(crate) annotations: Units<'a>,
 }
@@ -169,14 +176,14 @@ impl<'a> Log<'a> {
     /// Goes on to a keyword of the schema.
     pub(crate) fn enter_keyword(&mut self, keyword: &'static str) -> Result<LogMark, AllocError> {
         let mark = self.mark();
-        let step: &'a str = keyword;
-        self.path.push(step)?;
+        self.path.push(Step::Name(keyword))?;
         self.errors.keep_place()?;
         self.annotations.keep_place()?;
         Ok(mark)
     }
 
-    /// Leaves the keyword, with its error where it failed and its annotation where it passed and has one.
+    /// Leaves the keyword, with its error where it failed, and else with what it says and the annotations of what it
+    /// applied, unless these don't count.
     pub(crate) fn leave_keyword(
         &mut self,
         mark: LogMark,
@@ -186,6 +193,7 @@ impl<'a> Log<'a> {
         if passes {
             self.errors.cut_back(mark.errors);
             match annotation {
+                Some(Says::Nothing) => {}
                 Some(says) => self.annotations.fill(
                     mark.annotations,
                     self.path.as_slice(),
@@ -207,16 +215,24 @@ impl<'a> Log<'a> {
         Ok(())
     }
 
-    /// Goes on to a schema of the keyword and the member of this name.
-    pub(crate) fn enter_member(&mut self, name: &'a str) -> Result<(), AllocError> {
-        self.path.push(name)?;
-        self.place.push(name)?;
+    /// Goes on to a schema that the keyword applies.
+    pub(crate) fn enter_child(&mut self, child: &Planned<'a>) -> Result<(), AllocError> {
+        if let Some(step) = child.step {
+            self.path.push(step)?;
+        }
+        if let Part::Member(name) = child.part {
+            self.place.push(Step::Name(name))?;
+        }
         Ok(())
     }
 
-    pub(crate) fn leave_member(&mut self) {
-        drop(self.path.pop());
-        drop(self.place.pop());
+    pub(crate) fn leave_child(&mut self, child: &Planned<'a>) {
+        if child.step.is_some() {
+            drop(self.path.pop());
+        }
+        if let Part::Member(_) = child.part {
+            drop(self.place.pop());
+        }
     }
 
     /// A schema `false` was applied here.

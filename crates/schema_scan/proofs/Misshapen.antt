@@ -6,13 +6,13 @@ use Rattle.std.specs.List.{flat_map}
 use Rattle.definitions.specs.Values.{Text, Value, null, boolean, integer, string, array, object, text_at, Members, no_members, member, members, members_list, nesting, members_nesting}
 use Rattle.definitions.specs.Pointers.{Pointer, pointer_text}
 use Rattle.definitions.specs.Faults.{Fault, bad_keyword}
-use Rattle.definitions.specs.Shapes.{Shape, has_shape, any_value, schema_map}
+use Rattle.definitions.specs.Shapes.{Shape, has_shape, any_value, truth, whole_number, size, divisor, any_text, value_list, text_list, text_lists, type_names, reference, one_schema, schema_list, schema_map, identifier, anchor_name, dialect}
 use Rattle.definitions.specs.Keywords.{Keyword, keyword_named, shape_in}
 use Rattle.definitions.specs.Schemas.{Schema, opened, schema_at, below, at_place}
-use Rattle.definitions.specs.Scanning.{unless, keyword_faults, walked}
+use Rattle.definitions.specs.Scanning.{unless, shape_faults, keyword_faults, walked}
 use Rattle.schema_scan.specs.FirstKeywords.{first_keywords}
 use Rattle.schema_scan.specs.Walks.{under, misshapen_keyword, misshapen_keywords, misshapen, misshapen_below, misshapen_at, misshapen_in}
-use Rattle.schema_scan.proofs.Plain.{IsPlain, no_keyword, of_types, of_required, of_properties, plain}
+use Rattle.schema_scan.proofs.Plain.{is_plain, IsPlain, no_keyword, of_row, plain}
 
 -- the fault at the keyword that this pointer leads to, from the schema that `way` leads to
 abbrev pub bad : Pointer → Pointer → Fault
@@ -22,12 +22,30 @@ abbrev pub shape_of_row : Option Keyword → Shape
 shape_of_row k = unwrap_or (option_map (λ r. r.shape) k) any_value
 
 -- ---- a schema's own keywords
+plain_faults : (shape : Shape) → is_plain shape ≡ true → (base : Text) (way : Pointer) (s : Schema) (v : Value)
+    → shape_faults shape base way s v ≡ unless (has_shape shape v) (bad_keyword (pointer_text way))
+plain_faults any_value h base way s v = refl
+plain_faults truth h base way s v = refl
+plain_faults whole_number h base way s v = refl
+plain_faults size h base way s v = refl
+plain_faults divisor h base way s v = refl
+plain_faults any_text h base way s v = refl
+plain_faults value_list h base way s v = refl
+plain_faults text_list h base way s v = refl
+plain_faults text_lists h base way s v = refl
+plain_faults type_names h base way s v = refl
+plain_faults reference h base way s v = refl
+plain_faults one_schema h base way s v = cc
+plain_faults schema_list h base way s v = cc
+plain_faults schema_map h base way s v = refl
+plain_faults identifier h base way s v = cc
+plain_faults anchor_name h base way s v = cc
+plain_faults dialect h base way s v = cc
+
 row_faults : (k : Option Keyword) → IsPlain k → (base : Text) (way : Pointer) (s : Schema) (v : Value)
     → keyword_faults k base way s v ≡ unless (has_shape (shape_of_row k) v) (bad_keyword (pointer_text way))
 row_faults _ no_keyword base way s v = refl
-row_faults _ of_types base way s v = refl
-row_faults _ of_required base way s v = refl
-row_faults _ of_properties base way s v = refl
+row_faults _ (of_row k h) base way s v = plain_faults k.shape h base way s v
 
 unless-bad : (b : Bool) (way : Pointer) (name : Text) → unless b (bad way (name ∷ [])) ≡ map (bad way) (cond b [] ((name ∷ []) ∷ []))
 unless-bad true way name = refl
@@ -91,12 +109,30 @@ module _ (n : ℕ) (finds : Finds n) (way : Pointer) (s : Schema) where
   properties_faults name (string t) h = refl
   properties_faults name (array vs) h = refl
 
+  shape_below : (shape : Shape) → is_plain shape ≡ true → (name : Text) (v : Value) → nesting v < n
+      → flat_map found_below (at_place s name v shape) ≡ map (bad (way ++ name ∷ [])) (misshapen_at shape v)
+  shape_below any_value h name v l = refl
+  shape_below truth h name v l = refl
+  shape_below whole_number h name v l = refl
+  shape_below size h name v l = refl
+  shape_below divisor h name v l = refl
+  shape_below any_text h name v l = refl
+  shape_below value_list h name v l = refl
+  shape_below text_list h name v l = refl
+  shape_below text_lists h name v l = refl
+  shape_below type_names h name v l = refl
+  shape_below reference h name v l = refl
+  shape_below one_schema h name v l = cc
+  shape_below schema_list h name v l = cc
+  shape_below schema_map h name v l = properties_faults name v l
+  shape_below identifier h name v l = cc
+  shape_below anchor_name h name v l = cc
+  shape_below dialect h name v l = cc
+
   place_faults : (k : Option Keyword) → IsPlain k → (name : Text) (v : Value) → nesting v < n
       → flat_map found_below (at_place s name v (shape_of_row k)) ≡ map (bad (way ++ name ∷ [])) (misshapen_at (shape_of_row k) v)
   place_faults _ no_keyword name v h = refl
-  place_faults _ of_types name v h = refl
-  place_faults _ of_required name v h = refl
-  place_faults _ of_properties name v h = properties_faults name v h
+  place_faults _ (of_row k is) name v h = shape_below k.shape is name v h
 
   below_faults : (ms : Members) → members_nesting ms < n
       → flat_map found_below (flat_map (λ m. at_place s m.0 m.1 (shape_in first_keywords m.0)) (members_list ms)) ≡ map (bad way) (misshapen_below ms)

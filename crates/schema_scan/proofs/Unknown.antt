@@ -7,13 +7,13 @@ use Rattle.std.proofs.lemmas.List.Folds.{list_any-append}
 use Rattle.std.specs.List.{flat_map, list_any}
 use Rattle.definitions.specs.Values.{Text, Value, null, boolean, integer, string, array, object, text_at, Members, no_members, member, members, members_list, nesting, members_nesting}
 use Rattle.definitions.specs.Pointers.{Pointer}
-use Rattle.definitions.specs.Shapes.{schema_map}
+use Rattle.definitions.specs.Shapes.{Shape, any_value, truth, whole_number, size, divisor, any_text, value_list, text_list, text_lists, type_names, reference, one_schema, schema_list, schema_map, identifier, anchor_name, dialect}
 use Rattle.definitions.specs.Keywords.{Keyword, keyword_named, shape_in}
 use Rattle.definitions.specs.Schemas.{Schema, opened, schema_at, below, at_place, schemas_within, is_root}
 use Rattle.definitions.specs.Scanning.{is_unsupported}
 use Rattle.schema_scan.specs.FirstKeywords.{first_keywords}
 use Rattle.schema_scan.specs.Walks.{has_unknown_name, opens_resource, has_unknown, has_unknown_below, has_unknown_at, has_unknown_in}
-use Rattle.schema_scan.proofs.Plain.{IsPlain, no_keyword, of_types, of_required, of_properties, plain}
+use Rattle.schema_scan.proofs.Plain.{is_plain, IsPlain, no_keyword, of_row, plain}
 use Rattle.schema_scan.proofs.Misshapen.{shape_of_row, value-schema_at}
 
 -- ---- tests
@@ -80,12 +80,30 @@ module _ (n : ℕ) (finds : Finds n) (way : Pointer) (s : Schema) where
   properties_names name (string t) h = refl
   properties_names name (array vs) h = refl
 
+  shape_names : (shape : Shape) → is_plain shape ≡ true → (name : Text) (v : Value) → nesting v < n
+      → list_any has_unsupported (flat_map within (at_place s name v shape)) ≡ has_unknown_at shape v
+  shape_names any_value h name v l = refl
+  shape_names truth h name v l = refl
+  shape_names whole_number h name v l = refl
+  shape_names size h name v l = refl
+  shape_names divisor h name v l = refl
+  shape_names any_text h name v l = refl
+  shape_names value_list h name v l = refl
+  shape_names text_list h name v l = refl
+  shape_names text_lists h name v l = refl
+  shape_names type_names h name v l = refl
+  shape_names reference h name v l = refl
+  shape_names one_schema h name v l = cc
+  shape_names schema_list h name v l = cc
+  shape_names schema_map h name v l = properties_names name v l
+  shape_names identifier h name v l = cc
+  shape_names anchor_name h name v l = cc
+  shape_names dialect h name v l = cc
+
   place_names : (k : Option Keyword) → IsPlain k → (name : Text) (v : Value) → nesting v < n
       → list_any has_unsupported (flat_map within (at_place s name v (shape_of_row k))) ≡ has_unknown_at (shape_of_row k) v
   place_names _ no_keyword name v h = refl
-  place_names _ of_types name v h = refl
-  place_names _ of_required name v h = refl
-  place_names _ of_properties name v h = properties_names name v h
+  place_names _ (of_row k is) name v h = shape_names k.shape is name v h
 
   below_names : (ms : Members) → members_nesting ms < n
       → list_any has_unsupported (flat_map within (flat_map (λ m. at_place s m.0 m.1 (shape_in first_keywords m.0)) (members_list ms))) ≡ has_unknown_below ms

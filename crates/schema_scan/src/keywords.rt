@@ -18,14 +18,26 @@ use keyword_shapes::{Shape, fits};
 pub fn keyword_shape(name: &str) -> Option<Shape>
     ensures { option_map shape_view result ≡ option_map (λ k. k.shape) (keyword_named name.now first_keywords) }
 {
-    if name == "type" {
-        Some(Shape::TypeNames)
-    } else if name == "required" {
-        Some(Shape::TextList)
-    } else if name == "properties" {
-        Some(Shape::SchemaMap)
-    } else {
-        None
+    match name {
+        "type" => Some(Shape::TypeNames),
+        "enum" => Some(Shape::ValueList),
+        "const" => Some(Shape::AnyValue),
+        "multipleOf" => Some(Shape::Divisor),
+        "maximum" => Some(Shape::WholeNumber),
+        "exclusiveMaximum" => Some(Shape::WholeNumber),
+        "minimum" => Some(Shape::WholeNumber),
+        "exclusiveMinimum" => Some(Shape::WholeNumber),
+        "maxLength" => Some(Shape::Size),
+        "minLength" => Some(Shape::Size),
+        "maxProperties" => Some(Shape::Size),
+        "minProperties" => Some(Shape::Size),
+        "required" => Some(Shape::TextList),
+        "dependentRequired" => Some(Shape::TextLists),
+        "maxItems" => Some(Shape::Size),
+        "minItems" => Some(Shape::Size),
+        "uniqueItems" => Some(Shape::Truth),
+        "properties" => Some(Shape::SchemaMap),
+        _ => None,
     }
 }
 

@@ -3,20 +3,14 @@ use Rattle.std.specs.Prelude.{◌≡◌, List, [], Bool, false, Contains}
 use Rattle.definitions.specs.Values.{Text, Value, has_repeat, same_text}
 use Rattle.definitions.specs.Schemas.{Document, table_of}
 use Rattle.definitions.specs.Targets.{resource_root}
-use Rattle.definitions.specs.Keywords.{Keyword, keywords}
 use Rattle.definitions.specs.Applied.{Rules}
 use Rattle.definitions.specs.Answers.{answer}
 use Rattle.definitions.specs.Alike.{AreAlike, IsAlike, AlikeGiveTheSame}
 use Rattle.definitions.specs.Reach.{reach, missing}
 use Rattle.definitions.specs.Runs.{resource_uris_of}
 
--- each row is one of the table of all keywords. A row of another kind could say something of what a bundle may change, as
--- of the value of `$id`
-abbrev pub AreRows : List Keyword → Type 0
-AreRows rows = (k : Keyword) → Contains rows k → Contains keywords k
-
 abbrev pub AlikeTablesGiveTheSame : Type 0
-AlikeTablesGiveTheSame = (rules : Rules) (ds es : List Document) → AreRows rules.keywords → AlikeGiveTheSame rules ds es
+AlikeTablesGiveTheSame = (rules : Rules) (ds es : List Document) → AlikeGiveTheSame rules ds es
 
 -- and the same answers, refusals included, where the URI finds alike roots
 abbrev pub AlikeTablesAnswerTheSame : Type 0

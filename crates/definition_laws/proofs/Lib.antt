@@ -19,3 +19,4 @@ pub mod ReadValues
 pub mod Steps
 pub mod KeptRegistries
 pub mod KeptReaches
+pub mod StoredDocuments

@@ -6,6 +6,7 @@ mod linking;
 mod pointers;
 mod reaching;
 mod reading;
+mod storing;
 mod uniqueness;
 
 ghost use Rattle.definition_laws.specs.Laws.{FailingEvaluatesNothing, RefusalsKeepTheRegistry, CoursesAreReplies, AgreeingAnswerAlike};
@@ -23,6 +24,10 @@ pub use reaching::{
     unreached_puts_change_nothing,
 };
 pub use reading::read_values_are_well_formed;
+pub use storing::{
+    documents_are_found_by_their_uris, documents_hold_their_uris, free_uris_are_held_by_no_other,
+    stored_documents_are_reached, taken_uris_are_held_by_another,
+};
 pub use uniqueness::sorted_repeats_are_neighbours;
 
 /// A schema that fails evaluates no name and no index (JSON Schema 2020-12 Core, 11).

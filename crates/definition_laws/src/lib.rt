@@ -12,8 +12,8 @@ mod uniqueness;
 ghost use Rattle.definition_laws.specs.Laws.{FailingEvaluatesNothing, RefusalsKeepTheRegistry, CoursesAreReplies, AgreeingAnswerAlike};
 
 pub use keeping::{
-    courses_keep_registries, courses_keep_values_well_formed, empty_registries_are_kept,
-    quotas_stay, steps_keep_registries, steps_keep_values_well_formed,
+    courses_keep_body_values, courses_keep_registries, empty_registries_are_kept, quotas_stay,
+    steps_keep_body_values, steps_keep_registries,
 };
 pub use linking::{least_is_least, linked_name_all, missing_name_nothing, no_texts_have_no_least};
 pub use pointers::{pointers_are_read_back, read_pointers_have_one_text};
@@ -23,7 +23,7 @@ pub use reaching::{
     same_reached_sets_agree, tables_open_the_documents_resources, unreached_deletes_change_nothing,
     unreached_puts_change_nothing,
 };
-pub use reading::read_values_are_well_formed;
+pub use reading::{read_arrays_are_short, read_values_are_well_formed};
 pub use storing::{
     documents_are_found_by_their_uris, documents_hold_their_uris, free_uris_are_held_by_no_other,
     stored_documents_are_reached, taken_uris_are_held_by_another,

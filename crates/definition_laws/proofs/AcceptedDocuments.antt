@@ -1,5 +1,5 @@
 -- What holds of a document that is put and not refused.
-use Rattle.std.proofs.Common.{◌≡◌, Bool, true, false, not, List, [], ◌∷◌, ◌++◌, length, nat_lt, Some, None, Contains, filter, Option, option_map, flat_map, Equal, Equal, sym, refl, ap, ◌∙◌, subst}
+use Rattle.std.proofs.Common.{◌≡◌, Bool, true, false, not, List, [], ◌∷◌, ◌++◌, length, nat_lt, Some, None, Contains, filter, Option, option_map, flat_map, Equal, sym, refl, ap, ◌∙◌, subst}
 use Rattle.std.proofs.lemmas.Bool.{false_from_ne_true}
 use Rattle.std.proofs.lemmas.Cmp.{nat_list_cmp_total, tied_itself}
 use Rattle.std.specs.Cmp.Lexicographic.{slice_cmp, bytes_decides}

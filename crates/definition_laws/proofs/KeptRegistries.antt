@@ -1,23 +1,24 @@
 -- What holds of a registry holds after a request.
-use Rattle.std.proofs.Common.{◌≡◌, ℕ, ◌≤◌, Bool, true, false, not, List, [], map, length, None, sum_by, filter, flat_map, refl, ap, subst, inl, inr, arith}
+use Rattle.std.proofs.Common.{◌≡◌, Ok, ℕ, ◌≤◌, Bool, true, false, not, List, map, length, None, sum_by, filter, flat_map, refl, ap, subst, inl, inr, arith}
 use Rattle.std.proofs.lemmas.Bool.{ltb-false}
 use Rattle.std.proofs.lemmas.Cmp.{nat_list_cmp_total}
 use Rattle.std.proofs.lemmas.List.Filters.{sum_by-filter_both}
 use Rattle.std.specs.Cmp.Lexicographic.{slice_cmp}
 use Rattle.std.specs.List.Sorted.{IsStrictlySortedBy}
 use Rattle.std.specs.Ordering.{nat_cmp}
-use Rattle.definitions.specs.Values.{Text, Value, is_well_formed, has_repeat, same_text}
+use Rattle.definitions.specs.Values.{Text, Value, has_repeat, same_text}
 use Rattle.definitions.specs.Texts.{text}
 use Rattle.definitions.specs.Schemas.{Document, document_from}
 use Rattle.definitions.specs.Scanning.{first, scan_faults}
-use Rattle.definitions.specs.Registries.{Search, Registry, Request, Reply, step, put_refusal, is_regular, placed, resources_of, bytes_of}
+use Rattle.definitions.specs.Registries.{Search, Registry, Request, Reply, step, put_refusal, body_value, is_regular, placed, resources_of, bytes_of}
 use Rattle.definitions.specs.Runs.{Course, IsKept}
-use Rattle.definition_laws.specs.Keeping.{HoldsWellFormedValues}
+use Rattle.definition_laws.specs.Keeping.{IsBodyValue, HoldsBodyValues, empty_registry}
 use Rattle.definition_laws.proofs.Membership.{nothing_in, from_filter, filter_short}
 use Rattle.definition_laws.proofs.Repeats.{filtered}
 use Rattle.definition_laws.proofs.Placing.{ascending, kept_ascending, distinct}
 use Rattle.definition_laws.proofs.Steps.{step_keeps, course_keeps}
-use Rattle.definition_laws.proofs.ReadValues.{body_formed}
+use Rattle.definition_laws.proofs.ReadValues.{body_well_formed}
+use Rattle.definition_laws.proofs.ShortArrays.{body_short}
 use Rattle.definition_laws.proofs.Resources.{same_text-unlike}
 use Rattle.definition_laws.proofs.PlacedDocuments.{key_of, as_inserted, from_placed}
 use Rattle.definition_laws.proofs.AcceptedDocuments.{accepted, own_resources, free_of_others}
@@ -76,30 +77,36 @@ step_kept search g q kept =
     (λ b. part_kept search g (λ d. not (same_text b d.canonical)) kept) q
 
 -- ---- from an empty registry on
-pub empty_kept : (search : Search) (most_documents most_bytes : ℕ) → IsKept search (record { documents = []; most_documents = most_documents; most_bytes = most_bytes })
+pub empty_kept : (search : Search) (most_documents most_bytes : ℕ) → IsKept search (empty_registry most_documents most_bytes) × HoldsBodyValues (empty_registry most_documents most_bytes)
 unfolding IsStrictlySortedBy
-empty_kept search most_documents most_bytes = record {
-  ordered = tt;
-  named = λ d c. absurd (nothing_in d c);
-  few = omega arith;
-  small = omega arith;
-  distinct = refl;
-  scanned = λ d c. absurd (nothing_in d c);
-  regular_patterns = λ d c. absurd (nothing_in d c);
-}
+empty_kept search most_documents most_bytes = (
+  record {
+    ordered = tt;
+    named = λ d c. absurd (nothing_in d c);
+    few = omega arith;
+    small = omega arith;
+    distinct = refl;
+    scanned = λ d c. absurd (nothing_in d c);
+    regular_patterns = λ d c. absurd (nothing_in d c);
+  },
+  λ d c. absurd (nothing_in d c),
+)
 
 pub course_kept : (search : Search) (g h : Registry) (qs : List Request) (rs : List Reply) → Course search g qs rs h → IsKept search g → IsKept search h
 course_kept search = course_keeps (IsKept search) search (step_kept search)
 
 -- ---- the values
-pub values_kept : (search : Search) (g : Registry) (q : Request) → HoldsWellFormedValues g → HoldsWellFormedValues (step search g q).1
-values_kept search g q formed =
-    step_keeps HoldsWellFormedValues search g formed
-    (λ b body v was_read none d c. elim (from_placed (document_from b v) d g.documents c) [
-      | inl itself ↦ subst (λ x. is_well_formed x.value ≡ true) itself (body_formed body v was_read)
-      | inr other ↦ formed d other
-    ])
-    (λ b d c. formed d (from_filter (λ x. not (same_text b x.canonical)) d g.documents c).0) q
+body_formed : (body : Text) (v : Value) → body_value body ≡ Ok v → IsBodyValue v
+body_formed body v e = record { well_formed = body_well_formed body v e; short_arrays = body_short body v e }
 
-pub course_values_kept : (search : Search) (g h : Registry) (qs : List Request) (rs : List Reply) → Course search g qs rs h → HoldsWellFormedValues g → HoldsWellFormedValues h
-course_values_kept search = course_keeps HoldsWellFormedValues search (values_kept search)
+pub values_kept : (search : Search) (g : Registry) (q : Request) → HoldsBodyValues g → HoldsBodyValues (step search g q).1
+values_kept search g q held =
+    step_keeps HoldsBodyValues search g held
+    (λ b body v was_read none d c. elim (from_placed (document_from b v) d g.documents c) [
+      | inl itself ↦ subst (λ x. IsBodyValue x.value) itself (body_formed body v was_read)
+      | inr other ↦ held d other
+    ])
+    (λ b d c. held d (from_filter (λ x. not (same_text b x.canonical)) d g.documents c).0) q
+
+pub course_values_kept : (search : Search) (g h : Registry) (qs : List Request) (rs : List Reply) → Course search g qs rs h → HoldsBodyValues g → HoldsBodyValues h
+course_values_kept search = course_keeps HoldsBodyValues search (values_kept search)

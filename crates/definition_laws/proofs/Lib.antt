@@ -26,6 +26,9 @@ pub mod TokenTexts
 pub mod TextGrammar
 pub mod WholeNumbers
 pub mod ReadValues
+pub mod ShortTokens
+pub mod ShortArrays
 pub mod Steps
 pub mod KeptRegistries
 pub mod KeptReaches
+pub mod StoredDocuments

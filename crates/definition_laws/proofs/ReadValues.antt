@@ -66,7 +66,7 @@ put_formed : (k : Text) (d : Data) (ms : data_words.Members) → is_utf8 k ≡ t
 put_formed k d data_words.no_members text formed old = (text, (tt, (formed, tt)))
 put_formed k d (data_words.member l e ms) text formed old = put_at k l d e ms (slice_cmp nat_cmp k l) refl text formed old (put_formed k d ms text formed old.1.1.1)
 
-under : {A B : Type 0} (f : A → B) (o : Option A) (b : B) → option_map f o ≡ Some b → (a : A) × ((o ≡ Some a) × (f a ≡ b))
+pub under : {A B : Type 0} (f : A → B) (o : Option A) (b : B) → option_map f o ≡ Some b → (a : A) × ((o ≡ Some a) × (f a ≡ b))
 under f None b e = cc
 under f (Some a) b e = (a, (refl, cc))
 
@@ -129,7 +129,7 @@ mutual
       (and_from (is_well_formed first.0) (are_well_formed_members later.0) (value_formed d first.0 h.1.1.0 first.1.0) (all_formed ds later.0 h.1.1.1 later.1.0))))
 
 -- ---- the whole text
-last_is : (j k : json.Json) (ts : List Token) → if_last j ts ≡ Some k → j ≡ k
+pub last_is : (j k : json.Json) (ts : List Token) → if_last j ts ≡ Some k → j ≡ k
 last_is j k [] e = cc
 last_is j k (t ∷ ts) e = cc
 
@@ -145,7 +145,7 @@ of_value : (o : Option Value) (v : Value) → value_or_bad_number o ≡ Ok v →
 of_value None v e = cc
 of_value (Some u) v e = cc
 
-of_data : (o : Option Data) (v : Value) → value_or_bad_json o ≡ Ok v → (d : Data) × ((o ≡ Some d) × (value_of d ≡ Some v))
+pub of_data : (o : Option Data) (v : Value) → value_or_bad_json o ≡ Ok v → (d : Data) × ((o ≡ Some d) × (value_of d ≡ Some v))
 of_data None v e = cc
 of_data (Some d) v e = (d, (refl, of_value (value_of d) v e))
 
@@ -160,5 +160,5 @@ of_size : (large : Bool) (body : Text) (v : Value) → cond large (Err too_large
 of_size true body v e = cc
 of_size false body v e = well_formed body v e
 
-pub body_formed : (body : Text) (v : Value) → body_value body ≡ Ok v → is_well_formed v ≡ true
-body_formed body v e = of_size (nat_lt most_body_bytes (length body)) body v e
+pub body_well_formed : (body : Text) (v : Value) → body_value body ≡ Ok v → is_well_formed v ≡ true
+body_well_formed body v e = of_size (nat_lt most_body_bytes (length body)) body v e

@@ -28,7 +28,7 @@ abbrev mutual
 abbrev pub KeepsTexts : {A : Type 0} → (A → Type 0) → Parse A → Type 0
 KeepsTexts {A} P p = (ts rest : List Token) (a : A) → Each IsText ts → p ts ≡ Some (a, rest) → P a × Each IsText rest
 
-mapped : {A B : Type 0} (f : A → B) (o : Option (A × List Token)) (b : B) (rest : List Token) → parse_map f o ≡ Some (b, rest) → (a : A) × ((o ≡ Some (a, rest)) × (f a ≡ b))
+pub mapped : {A B : Type 0} (f : A → B) (o : Option (A × List Token)) (b : B) (rest : List Token) → parse_map f o ≡ Some (b, rest) → (a : A) × ((o ≡ Some (a, rest)) × (f a ≡ b))
 mapped f None b rest e = cc
 mapped {A} {B} f (Some p) b rest e =
     let same : (f p.0, p.1) ≡ (b, rest) = cc in

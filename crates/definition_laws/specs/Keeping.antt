@@ -1,14 +1,26 @@
 -- What the laws say of a registry from request to request: `IsKept` holds of an empty one, and every request keeps it.
 use Rattle.std.specs.Prelude.{◌≡◌, ℕ, List, [], Contains, IsTrue}
-use Rattle.definitions.specs.Values.{is_well_formed}
+use Rattle.definitions.specs.Values.{Value, is_well_formed}
 use Rattle.definitions.specs.Schemas.{Document}
-use Rattle.definitions.specs.Registries.{Search, Registry, Request, Reply, step}
+use Rattle.definitions.specs.Registries.{Search, Registry, Request, Reply, step, most_body_bytes}
 use Rattle.definitions.specs.Runs.{Course, IsKept}
+use Rattle.definition_laws.specs.Reading.{has_arrays_within}
+
+-- what every value is like that was the body of a request
+pub record IsBodyValue (v : Value) : Type 0 where
+  pub well_formed : IsTrue (is_well_formed v)
+  pub short_arrays : IsTrue (has_arrays_within most_body_bytes v)
+
+abbrev pub HoldsBodyValues : Registry → Type 0
+HoldsBodyValues g = (d : Document) → Contains g.documents d → IsBodyValue d.value
+
+abbrev pub empty_registry : ℕ → ℕ → Registry
+empty_registry most_documents most_bytes = record { documents = []; most_documents = most_documents; most_bytes = most_bytes }
 
 abbrev pub EmptyRegistriesAreKept : Type 0
 EmptyRegistriesAreKept =
     (search : Search) (most_documents most_bytes : ℕ)
-    → IsKept search (record { documents = []; most_documents = most_documents; most_bytes = most_bytes })
+    → IsKept search (empty_registry most_documents most_bytes) × HoldsBodyValues (empty_registry most_documents most_bytes)
 
 abbrev pub StepsKeepRegistries : Type 0
 StepsKeepRegistries = (search : Search) (g : Registry) (q : Request) → IsKept search g → IsKept search (step search g q).1
@@ -18,17 +30,13 @@ abbrev pub CoursesKeepRegistries : Type 0
 CoursesKeepRegistries =
     (search : Search) (g h : Registry) (qs : List Request) (rs : List Reply) → Course search g qs rs h → IsKept search g → IsKept search h
 
-abbrev pub HoldsWellFormedValues : Registry → Type 0
-HoldsWellFormedValues g = (d : Document) → Contains g.documents d → IsTrue (is_well_formed d.value)
+-- the documents' values stay what bodies are
+abbrev pub StepsKeepBodyValues : Type 0
+StepsKeepBodyValues = (search : Search) (g : Registry) (q : Request) → HoldsBodyValues g → HoldsBodyValues (step search g q).1
 
--- so do the documents' values stay well formed, since those that are put were read
-abbrev pub StepsKeepValuesWellFormed : Type 0
-StepsKeepValuesWellFormed =
-    (search : Search) (g : Registry) (q : Request) → HoldsWellFormedValues g → HoldsWellFormedValues (step search g q).1
-
-abbrev pub CoursesKeepValuesWellFormed : Type 0
-CoursesKeepValuesWellFormed =
-    (search : Search) (g h : Registry) (qs : List Request) (rs : List Reply) → Course search g qs rs h → HoldsWellFormedValues g → HoldsWellFormedValues h
+abbrev pub CoursesKeepBodyValues : Type 0
+CoursesKeepBodyValues =
+    (search : Search) (g h : Registry) (qs : List Request) (rs : List Reply) → Course search g qs rs h → HoldsBodyValues g → HoldsBodyValues h
 
 -- no request changes a quota
 abbrev pub QuotasStay : Type 0

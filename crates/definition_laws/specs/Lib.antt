@@ -7,3 +7,4 @@ pub mod Reaching
 pub mod Linking
 pub mod Keeping
 pub mod Reading
+pub mod Storing

@@ -1,8 +1,8 @@
 //! What holds of a registry from request to request.
 
-ghost use Rattle.definition_laws.specs.Keeping.{EmptyRegistriesAreKept, StepsKeepRegistries, CoursesKeepRegistries, StepsKeepValuesWellFormed, CoursesKeepValuesWellFormed, QuotasStay};
+ghost use Rattle.definition_laws.specs.Keeping.{EmptyRegistriesAreKept, StepsKeepRegistries, CoursesKeepRegistries, StepsKeepBodyValues, CoursesKeepBodyValues, QuotasStay};
 
-/// A registry without documents is kept: what `IsKept` says holds of it.
+/// A registry without documents is kept, and holds no value but those of bodies.
 pub fn empty_registries_are_kept()
     ensures { EmptyRegistriesAreKept }
 {}
@@ -19,14 +19,15 @@ pub fn courses_keep_registries()
     ensures { CoursesKeepRegistries }
 {}
 
-/// Every request leaves a registry of well-formed values such a registry, since a value that is put was read.
-pub fn steps_keep_values_well_formed()
-    ensures { StepsKeepValuesWellFormed }
+/// Every request leaves the documents' values what bodies are: well formed, and with no array of more elements than a body
+/// has bytes.
+pub fn steps_keep_body_values()
+    ensures { StepsKeepBodyValues }
 {}
 
 /// So does every course of requests.
-pub fn courses_keep_values_well_formed()
-    ensures { CoursesKeepValuesWellFormed }
+pub fn courses_keep_body_values()
+    ensures { CoursesKeepBodyValues }
 {}
 
 /// No request changes a quota.

@@ -8,14 +8,15 @@ mod linking;
 mod pointers;
 mod reaching;
 mod reading;
+mod storing;
 mod uniqueness;
 
 ghost use Rattle.definition_laws.specs.Laws.{FailingEvaluatesNothing, RefusalsKeepTheRegistry, CoursesAreReplies, AgreeingAnswerAlike};
 
 pub use identities::{identity_names_one_schema, roots_are_found, schemas_are_pointed_to};
 pub use keeping::{
-    courses_keep_registries, courses_keep_values_well_formed, empty_registries_are_kept,
-    quotas_stay, steps_keep_registries, steps_keep_values_well_formed,
+    courses_keep_body_values, courses_keep_registries, empty_registries_are_kept, quotas_stay,
+    steps_keep_body_values, steps_keep_registries,
 };
 pub use likeness::{alike_tables_answer_the_same, alike_tables_give_the_same, reach_is_enough};
 pub use linking::{least_is_least, linked_name_all, missing_name_nothing, no_texts_have_no_least};
@@ -26,7 +27,11 @@ pub use reaching::{
     same_reached_sets_agree, tables_open_the_documents_resources, unreached_deletes_change_nothing,
     unreached_puts_change_nothing,
 };
-pub use reading::read_values_are_well_formed;
+pub use reading::{read_arrays_are_short, read_values_are_well_formed};
+pub use storing::{
+    documents_are_found_by_their_uris, documents_hold_their_uris, free_uris_are_held_by_no_other,
+    stored_documents_are_reached, taken_uris_are_held_by_another,
+};
 pub use uniqueness::sorted_repeats_are_neighbours;
 
 /// A schema that fails evaluates no name and no index (JSON Schema 2020-12 Core, 11).

@@ -1,5 +1,5 @@
 use Rattle.definition_laws.proofs.KeptRegistries.{course_values_kept}
-use Rattle.definition_laws.proofs.keeping.courses_keep_values_well_formed.Goals as goal
+use Rattle.definition_laws.proofs.keeping.courses_keep_body_values.Goals as goal
 
 pub returns : goal.returns
 returns c = course_values_kept

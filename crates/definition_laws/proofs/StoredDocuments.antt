@@ -1,0 +1,107 @@
+-- The documents of a registry, by their canonical URIs.
+use Rattle.std.proofs.Common.{◌≡◌, ◌≢◌, ◌↔◌, ◌&&◌, List, [], ◌∷◌, Bool, true, false, not, cond, Option, Some, None, is_some, filter, find, codes, Contains, refl, sym, ap, ◌∙◌, subst, inl, inr, true≢false}
+use Rattle.std.proofs.lemmas.Bool.{and_from, not-true}
+use Rattle.std.specs.Cmp.Lexicographic.{bytes_decides}
+use Rattle.std.specs.List.{list_any}
+use Rattle.definitions.specs.Values.{Text, Value, same_text, text_at}
+use Rattle.definitions.specs.Schemas.{Document, document_from, schema_at, opened, is_root}
+use Rattle.definitions.specs.Reach.{holds_resource, reach, holds}
+use Rattle.definitions.specs.Bundles.{document_of, others_of}
+use Rattle.definitions.specs.Registries.{Search, Registry, resources_of, taken_uri}
+use Rattle.definitions.specs.Runs.{IsKept}
+use Rattle.definition_laws.specs.Storing.{IsHeldByAnother, IsTaken}
+use Rattle.definition_laws.proofs.Membership.{nothing_in, is_first, is_later, first_or_later, any_at, any_where, in_filter, from_filter, one_of}
+use Rattle.definition_laws.proofs.ReachedSets.{same_text-itself, same_text-back}
+use Rattle.definition_laws.proofs.LeastTexts.{least_is_least, no_least}
+use Rattle.definition_laws.proofs.KeptReaches.{kept_distinct, kept_reach_is_least}
+
+-- ---- a document's root
+root_at : (base : Text) (v : Value) (id : Option Text) → is_root (opened base [] v id) ≡ true
+root_at base v None = refl
+root_at base v (Some id) = refl
+
+first_found : {X : Type 0} (p : X → Bool) (x : X) (xs : List X) → p x ≡ true → is_some (find p (x ∷ xs)) ≡ true
+first_found p x xs e = ap (λ b. is_some (cond b (Some x) (find p xs))) e
+
+pub holds_itself : (base : Text) (v : Value) → holds_resource (document_from base v).canonical (document_from base v) ≡ true
+holds_itself base v =
+    let root = schema_at base [] v in
+    first_found (λ s. same_text root.resource s.resource && is_root s) root _
+    (and_from (same_text root.resource root.resource) (is_root root) (same_text-itself root.resource) (root_at base v (text_at (codes "$id") v)))
+
+pub reaches_itself : (search : Search) (g : Registry) (d : Document) → IsKept search g → Contains g.documents d → Contains (reach g.documents d.canonical) d
+reaches_itself search g d kept c =
+    let own : holds_resource d.canonical d ≡ true = subst (λ x. holds_resource x.canonical x ≡ true) (sym (kept.named d c)) (holds_itself d.base d.value) in
+    (kept_reach_is_least search g kept d.canonical d).1 (holds c own)
+
+-- ---- the document with a URI
+found_there_at : {X : Type 0} (p : X → Bool) (x y : X) (xs : List X) (b : Bool) → p x ≡ b → (find p xs ≡ Some y → Contains xs y × (p y ≡ true))
+    → cond b (Some x) (find p xs) ≡ Some y → Contains (x ∷ xs) y × (p y ≡ true)
+found_there_at p x y xs true e more h = let is : x ≡ y = cc in (subst (Contains (x ∷ xs)) is (is_first x xs), ap p (sym is) ∙ e)
+found_there_at p x y xs false e more h = (is_later x y xs (more h).0, (more h).1)
+
+found_there : {X : Type 0} (p : X → Bool) (y : X) (xs : List X) → find p xs ≡ Some y → Contains xs y × (p y ≡ true)
+found_there p y [] e = cc
+found_there p y (x ∷ xs) e = found_there_at p x y xs (p x) refl (found_there p y xs) e
+
+found_some_at : {X : Type 0} (p : X → Bool) (x : X) (xs : List X) (b : Bool) → ((y : X) × (find p xs ≡ Some y)) → (z : X) × (cond b (Some x) (find p xs) ≡ Some z)
+found_some_at p x xs true more = (x, refl)
+found_some_at p x xs false more = more
+
+found_some : {X : Type 0} (p : X → Bool) (y : X) (xs : List X) → Contains xs y → p y ≡ true → (z : X) × (find p xs ≡ Some z)
+found_some p y [] c e = absurd (nothing_in y c)
+found_some {X} p y (x ∷ xs) c e = elim (first_or_later x y xs c) [
+  | inl same ↦ (x, ap (λ b. cond b (Some x) (find p xs)) (ap p same ∙ e))
+  | inr later ↦ found_some_at p x xs (p x) (found_some p y xs later e)
+]
+
+pub found_by_uri : (search : Search) (g : Registry) (uri : Text) (d : Document) → IsKept search g
+    → (document_of g.documents uri ≡ Some d) ↔ (Contains g.documents d × (d.canonical ≡ uri))
+found_by_uri search g uri d kept = (from_found, to_found)
+  where
+    from_found : document_of g.documents uri ≡ Some d → Contains g.documents d × (d.canonical ≡ uri)
+    from_found e =
+        let there = found_there (λ (x : Document). same_text uri x.canonical) d g.documents e in
+        (there.0, sym ((bytes_decides uri d.canonical).0 there.1))
+
+    to_found : Contains g.documents d × (d.canonical ≡ uri) → document_of g.documents uri ≡ Some d
+    to_found h =
+        let some_one : (z : Document) × (document_of g.documents uri ≡ Some z) =
+        found_some (λ (x : Document). same_text uri x.canonical) d g.documents h.0 ((bytes_decides uri d.canonical).1 (sym h.1)) in
+        let there = found_there (λ (x : Document). same_text uri x.canonical) some_one.0 g.documents some_one.1 in
+        let same : some_one.0 ≡ d =
+        one_of same_text (λ (x : Document). x.canonical) same_text-back g.documents (kept_distinct search g kept) some_one.0 d there.0 h.0
+        (same_text-back d.canonical some_one.0.canonical (ap (λ t. same_text t some_one.0.canonical) h.1 ∙ there.1)) in
+        some_one.1 ∙ ap Some same
+
+-- ---- URIs that another document has
+differs : (d e : Document) → not (same_text d.canonical e.canonical) ≡ true → d.canonical ≢ e.canonical
+differs d e h same = true≢false (sym ((bytes_decides d.canonical e.canonical).1 same) ∙ not-true (same_text d.canonical e.canonical) h)
+
+different : (d e : Document) → d.canonical ≢ e.canonical → (b : Bool) → same_text d.canonical e.canonical ≡ b → not b ≡ true
+different d e h true is = absurd (h ((bytes_decides d.canonical e.canonical).0 is))
+different d e h false is = refl
+
+held_kept : (ds : List Document) (d : Document) (uri : Text) → Contains (resources_of d) uri → IsHeldByAnother ds d uri
+    → Contains (filter (λ u. list_any (holds_resource u) (others_of d.canonical ds)) (resources_of d)) uri
+held_kept ds d uri c held =
+    in_filter (λ u. list_any (holds_resource u) (others_of d.canonical ds)) uri (resources_of d) c
+    (any_at (holds_resource uri) held.other (others_of d.canonical ds)
+    (in_filter (λ x. not (same_text d.canonical x.canonical)) held.other ds held.inside (different d held.other held.differs (same_text d.canonical held.other.canonical) refl))
+    held.holds)
+
+pub taken_is_held : (ds : List Document) (d : Document) (uri : Text) → taken_uri ds d ≡ Some uri → IsTaken ds d uri
+taken_is_held ds d uri e =
+    let low = least_is_least (filter (λ u. list_any (holds_resource u) (others_of d.canonical ds)) (resources_of d)) uri e in
+    let own = from_filter (λ u. list_any (holds_resource u) (others_of d.canonical ds)) uri (resources_of d) low.inside in
+    let by : (x : Document) × (Contains (others_of d.canonical ds) x × (holds_resource uri x ≡ true)) = any_where (holds_resource uri) (others_of d.canonical ds) own.1 in
+    let other = from_filter (λ x. not (same_text d.canonical x.canonical)) by.0 ds by.1.0 in
+    record {
+      own = own.0;
+      held = record { other = by.0; inside = other.0; differs = differs d by.0 other.1; holds = by.1.1 };
+      none_less = λ u c held. low.none_less u (held_kept ds d u c held);
+    }
+
+pub free_is_unheld : (ds : List Document) (d : Document) (uri : Text) → taken_uri ds d ≡ None → Contains (resources_of d) uri → IsHeldByAnother ds d uri → ⊥
+free_is_unheld ds d uri e c held =
+    nothing_in uri (subst (λ us. Contains us uri) (no_least (filter (λ u. list_any (holds_resource u) (others_of d.canonical ds)) (resources_of d)) e) (held_kept ds d uri c held))

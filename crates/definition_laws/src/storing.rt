@@ -1,0 +1,29 @@
+//! The documents that a registry holds, by their canonical URIs.
+
+ghost use Rattle.definition_laws.specs.Storing.{DocumentsHoldTheirUris, StoredDocumentsAreReached, DocumentsAreFoundByTheirUris, TakenUrisAreHeldByAnother, FreeUrisAreHeldByNoOther};
+
+/// A document has a resource under its canonical URI: its root (JSON Schema 2020-12 Core, 8.2.1).
+pub fn documents_hold_their_uris()
+    ensures { DocumentsHoldTheirUris }
+{}
+
+/// A document of a kept registry is reached by its canonical URI.
+pub fn stored_documents_are_reached()
+    ensures { StoredDocumentsAreReached }
+{}
+
+/// The document that is found by a URI in a kept registry is the one that has it as its canonical URI.
+pub fn documents_are_found_by_their_uris()
+    ensures { DocumentsAreFoundByTheirUris }
+{}
+
+/// A URI that is taken is the least in byte order of the document's own URIs that a document with another canonical URI
+/// holds.
+pub fn taken_uris_are_held_by_another()
+    ensures { TakenUrisAreHeldByAnother }
+{}
+
+/// Where no URI is taken, no document with another canonical URI holds one of the document's own.
+pub fn free_uris_are_held_by_no_other()
+    ensures { FreeUrisAreHeldByNoOther }
+{}

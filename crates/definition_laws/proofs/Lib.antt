@@ -10,3 +10,7 @@ pub mod Applying
 pub mod Gathering
 pub mod AlikeTables
 pub mod ReachedTables
+pub mod MembersPut
+pub mod Extending
+pub mod BundledDocuments
+pub mod Bundled

@@ -1,11 +1,13 @@
 //! Laws of the definitions, each as the contract of a function that does nothing.
 #![tactic(auto)]
 
+mod bundling;
 mod identities;
 mod likeness;
 
 ghost use Rattle.definition_laws.specs.Laws.{FailingEvaluatesNothing, RefusalsKeepTheRegistry, CoursesAreReplies, AgreeingAnswerAlike};
 
+pub use bundling::{bundles_answer_the_same, bundles_are_alike};
 pub use identities::{identity_names_one_schema, roots_are_found, schemas_are_pointed_to};
 pub use likeness::{alike_tables_answer_the_same, alike_tables_give_the_same, reach_is_enough};
 

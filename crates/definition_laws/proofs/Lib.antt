@@ -32,3 +32,7 @@ pub mod Steps
 pub mod KeptRegistries
 pub mod KeptReaches
 pub mod StoredDocuments
+pub mod MembersPut
+pub mod Extending
+pub mod BundledDocuments
+pub mod Bundled

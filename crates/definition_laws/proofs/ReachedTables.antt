@@ -20,7 +20,7 @@ use Rattle.definition_laws.proofs.Tables.{found_in}
 use Rattle.definition_laws.proofs.AlikeTables.{alike_tables_answer_the_same}
 
 -- ---- what a search finds in a part of a list
-found_passes : {A : Type 0} (p : A → Bool) (xs : List A) (x : A) → find p xs ≡ Some x → p x ≡ true
+pub found_passes : {A : Type 0} (p : A → Bool) (xs : List A) (x : A) → find p xs ≡ Some x → p x ≡ true
 found_passes p [] x e = absurd (cc)
 found_passes {A} p (y ∷ ys) x e = by (p y) refl e (found_passes p ys x)
   where
@@ -47,38 +47,51 @@ find_in_part {A} f p q (x ∷ xs) h = by (q x) refl (find_in_part f p q xs (λ y
     by false e rest = find_past p (f x) (flat_map f xs) (h x (inl refl) e) ∙ rest
 
 -- ---- a URI belongs to one document
-repeats_across : (xs ys : List Text) (t : Text) → IsIn t xs → IsIn t ys → has_repeat same_text (xs ++ ys) ≡ true
-repeats_across [] ys t i j = absurd i
-repeats_across (x ∷ xs) ys t (inl e) j =
-    let some : list_any (same_text x) (xs ++ ys) ≡ true = any_of_in (same_text x) (xs ++ ys) t (in_right xs ys t j) (subst (λ u. same_text x u ≡ true) e (same_text_itself x)) in
+repeats_across : {A : Type 0} (alike : A → A → Bool) → ((x : A) → alike x x ≡ true) → (xs ys : List A) (t : A) → IsIn t xs → IsIn t ys → has_repeat alike (xs ++ ys) ≡ true
+repeats_across alike itself [] ys t i j = absurd i
+repeats_across alike itself (x ∷ xs) ys t (inl e) j =
+    let some : list_any (alike x) (xs ++ ys) ≡ true = any_of_in (alike x) (xs ++ ys) t (in_right xs ys t j) (subst (λ u. alike x u ≡ true) e (itself x)) in
     rw some refl
-repeats_across (x ∷ xs) ys t (inr i) j = later (list_any (same_text x) (xs ++ ys)) (repeats_across xs ys t i j)
+repeats_across alike itself (x ∷ xs) ys t (inr i) j = later (list_any (alike x) (xs ++ ys)) (repeats_across alike itself xs ys t i j)
   where
     later : (b : Bool) {c : Bool} → c ≡ true → (b || c) ≡ true
     later true e = refl
     later false e = e
 
-repeats_after : (xs ys : List Text) → has_repeat same_text (xs ++ ys) ≡ false → has_repeat same_text ys ≡ false
-repeats_after [] ys h = h
-repeats_after (x ∷ xs) ys h = repeats_after xs ys (neither (list_any (same_text x) (xs ++ ys)) (has_repeat same_text (xs ++ ys)) h).1
+repeats_after : {A : Type 0} (alike : A → A → Bool) (xs ys : List A) → has_repeat alike (xs ++ ys) ≡ false → has_repeat alike ys ≡ false
+repeats_after alike [] ys h = h
+repeats_after alike (x ∷ xs) ys h = repeats_after alike xs ys (neither (list_any (alike x) (xs ++ ys)) (has_repeat alike (xs ++ ys)) h).1
 
-one_has : {A : Type 0} (f : A → List Text) (xs : List A) (x y : A) (t : Text) → has_repeat same_text (flat_map f xs) ≡ false → IsIn x xs → IsIn y xs → IsIn t (f x) → IsIn t (f y) → x ≡ y
-one_has f [] x y t h i j k l = absurd i
-one_has f (z ∷ zs) x y t h (inl a) (inl b) k l = sym a ∙ b
-one_has f (z ∷ zs) x y t h (inl a) (inr j) k l =
-    let twice : has_repeat same_text (f z ++ flat_map f zs) ≡ true = repeats_across (f z) (flat_map f zs) t (subst (λ w. IsIn t (f w)) (sym a) k) (into_flat_map f zs y t j l) in
+pub one_has : {A B : Type 0} (alike : B → B → Bool) → ((x : B) → alike x x ≡ true) → (f : A → List B) (xs : List A) (x y : A) (t : B) → has_repeat alike (flat_map f xs) ≡ false
+    → IsIn x xs → IsIn y xs → IsIn t (f x) → IsIn t (f y) → x ≡ y
+one_has alike itself f [] x y t h i j k l = absurd i
+one_has alike itself f (z ∷ zs) x y t h (inl a) (inl b) k l = sym a ∙ b
+one_has alike itself f (z ∷ zs) x y t h (inl a) (inr j) k l =
+    let twice : has_repeat alike (f z ++ flat_map f zs) ≡ true = repeats_across alike itself (f z) (flat_map f zs) t (subst (λ w. IsIn t (f w)) (sym a) k) (into_flat_map f zs y t j l) in
     absurd (cc)
-one_has f (z ∷ zs) x y t h (inr i) (inl b) k l =
-    let twice : has_repeat same_text (f z ++ flat_map f zs) ≡ true = repeats_across (f z) (flat_map f zs) t (subst (λ w. IsIn t (f w)) (sym b) l) (into_flat_map f zs x t i k) in
+one_has alike itself f (z ∷ zs) x y t h (inr i) (inl b) k l =
+    let twice : has_repeat alike (f z ++ flat_map f zs) ≡ true = repeats_across alike itself (f z) (flat_map f zs) t (subst (λ w. IsIn t (f w)) (sym b) l) (into_flat_map f zs x t i k) in
     absurd (cc)
-one_has f (z ∷ zs) x y t h (inr i) (inr j) k l = one_has f zs x y t (repeats_after (f z) (flat_map f zs) h) i j k l
+one_has alike itself f (z ∷ zs) x y t h (inr i) (inr j) k l = one_has alike itself f zs x y t (repeats_after alike (f z) (flat_map f zs) h) i j k l
 
 -- the URI of a schema is one of those that its document opens
-own_uri : (d : Document) (s : Schema) → IsIn s (schemas_of d.base d.value) → IsIn s.resource (resources_of d)
+pub own_uri : (d : Document) (s : Schema) → IsIn s (schemas_of d.base d.value) → IsIn s.resource (resources_of d)
 own_uri d s i =
     let h = document_roots d.base d.value s i in
     subst (λ u. IsIn u (resources_of d)) (sym h.resource)
     (into_map (λ r. r.resource) (filter is_root (schemas_of d.base d.value)) h.root (into_filter is_root (schemas_of d.base d.value) h.root h.held (pointer_root h.root h.at_root)))
+
+-- ---- where none is missing each reference has a target
+pub has_target : (ds : List Document) → missing ds ≡ [] → (s : Schema) (r : Text) → IsIn s (table_of ds) → IsIn r (references s) → is_some (target (table_of ds) r) ≡ true
+has_target ds none_missing s r i j = by (target (table_of ds) r) refl
+  where
+    by : (o : Option Schema) → target (table_of ds) r ≡ o → is_some o ≡ true
+    by (Some t) e = refl
+    by None e =
+        let d = in_flat_map (λ c. schemas_of c.base c.value) ds s i in
+        let referred : IsIn r (flat_map references_in ds) = into_flat_map references_in ds d.0 r d.1 (into_flat_map references (schemas_of (d.0).base (d.0).value) s r d.2 j) in
+        let lost : IsIn r (missing ds) = into_filter (λ t. is_none (target (table_of ds) t)) (flat_map references_in ds) r referred (ap is_none e) in
+        absurd (subst (IsIn r) none_missing lost)
 
 -- ---- a part of the documents that has a schema under a URI has all of them
 module _ (ds : List Document) (q : Document → Bool) (distinct : has_repeat same_text (resource_uris_of ds) ≡ false) where
@@ -115,7 +128,7 @@ module _ (ds : List Document) (q : Document → Bool) (distinct : has_repeat sam
               let r = in_flat_map (λ c. schemas_of c.base c.value) (filter q ds) s i in
               let uris : s.resource ≡ t.resource = e ∙ same_text_is uri t.resource f in
               let one : r.0 ≡ d =
-              one_has resources_of ds r.0 d t.resource distinct (from_filter q ds r.0 r.1) j (subst (λ u. IsIn u (resources_of r.0)) uris (own_uri r.0 s r.2)) (own_uri d t k) in
+              one_has same_text same_text_itself resources_of ds r.0 d t.resource distinct (from_filter q ds r.0 r.1) j (subst (λ u. IsIn u (resources_of r.0)) uris (own_uri r.0 s r.2)) (own_uri d t k) in
               let kept : q d ≡ true = subst (λ c. q c ≡ true) one (passes r.0 r.1) in
               absurd (let no : true ≡ false = sym kept ∙ out in cc)
 
@@ -151,27 +164,14 @@ module _ (ds : List Document) (q : Document → Bool) (distinct : has_repeat sam
   part_alike none_missing = record {
     schemas = λ s i. (s, (contains_from_in (table_of ds) s (part_held s (in_from_contains (table_of (filter q ds)) s i)), (refl, refl)));
     targets = λ s r i j. (
-      has_target s r (in_from_contains (table_of (filter q ds)) s i) (in_from_contains (references s) r j),
+      has_target (filter q ds) none_missing s r (in_from_contains (table_of (filter q ds)) s i) (in_from_contains (references s) r j),
       equal_found (target (table_of (filter q ds)) r) (target (table_of ds) r)
-          (target_same (without_fragment r) (fragment_of r) (has_target s r (in_from_contains (table_of (filter q ds)) s i) (in_from_contains (references s) r j))),
+          (target_same (without_fragment r) (fragment_of r) (has_target (filter q ds) none_missing s r (in_from_contains (table_of (filter q ds)) s i) (in_from_contains (references s) r j))),
     );
     dynamic_anchors = λ s name i.
         equal_found (dynamically_anchored (table_of (filter q ds)) s.resource name) (dynamically_anchored (table_of ds) s.resource name)
         (same_find s.resource (is_dynamic_anchor name) s (in_from_contains (table_of (filter q ds)) s i) refl);
   }
-    where
-      has_target : (s : Schema) (r : Text) → IsIn s (table_of (filter q ds)) → IsIn r (references s) → is_some (target (table_of (filter q ds)) r) ≡ true
-      has_target s r i j = by (target (table_of (filter q ds)) r) refl
-        where
-          by : (o : Option Schema) → target (table_of (filter q ds)) r ≡ o → is_some o ≡ true
-          by (Some t) e = refl
-          by None e =
-              let d = in_flat_map (λ c. schemas_of c.base c.value) (filter q ds) s i in
-              let referred : IsIn r (flat_map references_in (filter q ds)) =
-              into_flat_map references_in (filter q ds) d.0 r d.1 (into_flat_map references (schemas_of (d.0).base (d.0).value) s r d.2 j) in
-              let lost : IsIn r (missing (filter q ds)) =
-              into_filter (λ t. is_none (target (table_of (filter q ds)) t)) (flat_map references_in (filter q ds)) r referred (ap is_none e) in
-              absurd (subst (IsIn r) none_missing lost)
 
 -- ---- what is reached is a part, and has the document that holds the URI
 reached_part : (n : ℕ) (ds : List Document) (uri : Text) → (q : Document → Bool) × (grown_times n ds (filter (holds_resource uri) ds) ≡ filter q ds)
@@ -185,7 +185,7 @@ holder_reached (suc n) ds uri d i h =
     (any_of_in (λ c. same_text c.canonical d.canonical || refers_to c d) (grown_times n ds (filter (holds_resource uri) ds)) d (holder_reached n ds uri d i h)
     (rw (same_text_itself d.canonical) refl))
 
-found_somewhere : {A : Type 0} (p : A → Bool) (xs : List A) (x : A) → IsIn x xs → p x ≡ true → is_some (find p xs) ≡ true
+pub found_somewhere : {A : Type 0} (p : A → Bool) (xs : List A) (x : A) → IsIn x xs → p x ≡ true → is_some (find p xs) ≡ true
 found_somewhere p [] x i h = absurd i
 found_somewhere {A} p (y ∷ ys) x i h = by (p y) refl i (found_somewhere p ys x)
   where

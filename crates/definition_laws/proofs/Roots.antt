@@ -1,7 +1,8 @@
 -- In a table with distinct resource URIs an identity names one schema.
-use Rattle.std.proofs.Common.{◌≡◌, ◌<◌, ◌≤◌, ◌==◌, ◌&&◌, ◌||◌, ℕ, zero, suc, List, [], ◌∷◌, ◌++◌, map, length, Bool, true, false, Option, Some, None, option_map, option_and_then, codes, refl, sym, ap, ap₂, subst, ◌∙◌, arith, inl, inr, append_assoc, append-nil}
+use Rattle.std.proofs.Common.{◌≡◌, ◌<◌, ◌≤◌, ◌==◌, ◌&&◌, ◌||◌, ℕ, zero, suc, List, [], ◌∷◌, ◌++◌, map, length, Bool, true, false, cond, Option, Some, None, option_map, option_and_then, codes, refl, sym, ap, ap₂, subst, ◌∙◌, arith, inl, inr, append_assoc, append-nil}
 use Rattle.std.proofs.lemmas.Bool.{and_parts, eqb-true}
 use Rattle.std.proofs.lemmas.Slice.Eq.{bytes_eq-Decides}
+use Rattle.std.proofs.lemmas.List.{map-append}
 use Rattle.std.specs.List.{filter, enumerate_from, list_any}
 use Rattle.definitions.specs.Values.{Text, Value, null, boolean, integer, string, array, object, Elements, no_elements, element, Members, no_members, member, elements, members, elements_list, members_list, nesting, elements_nesting, members_nesting, text_at, has_repeat, same_text}
 use Rattle.definitions.specs.Pointers.{Pointer, same_pointer}
@@ -9,6 +10,8 @@ use Rattle.definitions.specs.Shapes.{Shape, one_schema, schema_list, schema_map}
 use Rattle.definitions.specs.Keywords.{Keyword, keywords, shape_in}
 use Rattle.definitions.specs.Schemas.{Schema, Document, opened, schema_at, subschemas_by, schemas_within, schemas_from, schemas_of, table_of, is_root}
 use Rattle.definitions.specs.Scanning.{resource_uris}
+use Rattle.definitions.specs.Registries.{resources_of}
+use Rattle.definitions.specs.Runs.{resource_uris_of}
 use Rattle.definitions.specs.Targets.{resource_root, pointed}
 use Rattle.definition_laws.specs.Identities.{IsDefinite, IsDistinct, IdentityNamesOneSchema, RootsAreFound, SchemasArePointedTo}
 use Rattle.definition_laws.proofs.Occurrences.{IsIn, in_from_contains, contains_from_in, in_flat_map, into_flat_map, in_map, into_map, into_filter, finds_only, any_of_in, numbered_in}
@@ -49,7 +52,7 @@ once_by f (z ∷ zs) x y h (inr i) (inl b) e =
     absurd (cc)
 once_by f (z ∷ zs) x y h (inr i) (inr j) e = once_by f zs x y (neither (list_any (same_text (f z)) (map f zs)) (has_repeat same_text (map f zs)) h).1 i j e
 
-root_pointer : (s : Schema) → is_root s ≡ true → s.pointer ≡ []
+pub root_pointer : (s : Schema) → is_root s ≡ true → s.pointer ≡ []
 root_pointer s h = none s.pointer h
   where
     none : (p : Pointer) → (length p == 0) ≡ true → p ≡ []
@@ -178,7 +181,7 @@ within_roots rows table (suc n) way s held h x (inr i) =
     let inside : IsIn t.1 table = start_held rows n table (way ++ t.0) t.1 x r.2 further_held in
     within_roots rows table n (way ++ t.0) t.1 further_held (step_root rows table s t.1 t.0 h (step_from rows s t.1 t.0 r.1) inside) x r.2
 
-root_opened : (base : Text) (v : Value) → (schema_at base [] v).pointer ≡ []
+pub root_opened : (base : Text) (v : Value) → (schema_at base [] v).pointer ≡ []
 root_opened base v = by_id (text_at (codes "$id") v)
   where
     by_id : (id : Option Text) → (opened base [] v id).pointer ≡ []
@@ -219,6 +222,22 @@ table_definite ds definite s i =
     let o = within_from keywords (suc (nesting top.value)) [] top q.0 q.1 in
     let value_is : d.value ≡ top.value = sym (value-opened d.base [] d.value _) in
     below_definite keywords top s o.0 (subst (λ x. IsBelow keywords top x o.0) q.2 o.2) (subst IsDefinite value_is (definite d r.1))
+
+-- ---- the URIs of a table are those of its documents
+filter-append : {A : Type 0} (p : A → Bool) (xs ys : List A) → filter p (xs ++ ys) ≡ filter p xs ++ filter p ys
+filter-append p [] ys = refl
+filter-append {A} p (x ∷ xs) ys = by (p x) (filter-append p xs ys)
+  where
+    by : (b : Bool) → filter p (xs ++ ys) ≡ filter p xs ++ filter p ys → cond b (x ∷ filter p (xs ++ ys)) (filter p (xs ++ ys)) ≡ cond b (x ∷ filter p xs) (filter p xs) ++ filter p ys
+    by true e = ap (λ rest. x ∷ rest) e
+    by false e = e
+
+pub table_uris : (ds : List Document) → resource_uris (table_of ds) ≡ resource_uris_of ds
+table_uris [] = refl
+table_uris (d ∷ ds) =
+    ap (map (λ s. s.resource)) (filter-append is_root (schemas_of d.base d.value) (table_of ds))
+    ∙ map-append (λ s. s.resource) (filter is_root (schemas_of d.base d.value)) (filter is_root (table_of ds))
+    ∙ ap (λ rest. resources_of d ++ rest) (table_uris ds)
 
 -- ---- the laws
 values_in : (ds : List Document) → IsDistinct ds → (d : Document) → IsIn d ds → IsDefinite d.value

@@ -11,7 +11,7 @@ is_changed name = same_text name (codes "$id") || same_text name (codes "$defs")
 abbrev pub is_kept : Text × Value → Bool
 is_kept m = not (is_changed m.0)
 
-members_back : (ms : List (Text × Value)) → members_list (to_members ms) ≡ ms
+pub members_back : (ms : List (Text × Value)) → members_list (to_members ms) ≡ ms
 members_back [] = refl
 members_back (m ∷ ms) = ap (λ rest. m ∷ rest) (members_back ms)
 

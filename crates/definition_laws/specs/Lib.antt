@@ -8,3 +8,4 @@ pub mod Linking
 pub mod Keeping
 pub mod Reading
 pub mod Storing
+pub mod Bundling

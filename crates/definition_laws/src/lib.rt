@@ -1,6 +1,7 @@
 //! Laws of the definitions, each as the contract of a function that does nothing.
 #![tactic(auto)]
 
+mod bundling;
 mod identities;
 mod keeping;
 mod likeness;
@@ -13,6 +14,7 @@ mod uniqueness;
 
 ghost use Rattle.definition_laws.specs.Laws.{FailingEvaluatesNothing, RefusalsKeepTheRegistry, CoursesAreReplies, AgreeingAnswerAlike};
 
+pub use bundling::{bundles_answer_the_same, bundles_are_alike};
 pub use identities::{identity_names_one_schema, roots_are_found, schemas_are_pointed_to};
 pub use keeping::{
     courses_keep_body_values, courses_keep_registries, empty_registries_are_kept, quotas_stay,

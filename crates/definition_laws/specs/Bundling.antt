@@ -1,0 +1,39 @@
+-- What a bundle keeps of the documents that it is made of (JSON Schema 2020-12 Core, 9.3).
+use Rattle.std.specs.Prelude.{◌≡◌, List, [], ◌∷◌, Bool, true, false, Ok, Contains, flat_map}
+use Rattle.definitions.specs.Values.{Text, Value, has_repeat, is_object, same_text}
+use Rattle.definitions.specs.Uris.{without_fragment}
+use Rattle.definitions.specs.Resolution.{resolved}
+use Rattle.definitions.specs.Schemas.{Document, document_from, schemas_of, table_of}
+use Rattle.definitions.specs.Scanning.{anchors_of, same_anchor}
+use Rattle.definitions.specs.Answers.{answer}
+use Rattle.definitions.specs.Reach.{missing}
+use Rattle.definitions.specs.Bundles.{bundle}
+use Rattle.definitions.specs.Runs.{resource_uris_of}
+use Rattle.definitions.specs.Alike.{IsAlike}
+use Rattle.definition_laws.specs.Identities.{IsDefinite}
+
+-- resolved against whatever base it is itself, and has no fragment
+abbrev pub IsAbsolute : Text → Type 0
+IsAbsolute uri = (base : Text) → without_fragment (resolved base uri) ≡ uri
+
+-- documents as a registry keeps them, under URIs that don't hang on where they stand, with no reference missing
+pub record AreWhole (ds : List Document) : Type 0 where
+  pub distinct : has_repeat same_text (resource_uris_of ds) ≡ false
+  pub anchors : (d : Document) → Contains ds d → has_repeat same_anchor (flat_map anchors_of (schemas_of d.base d.value)) ≡ false
+  pub named : (d : Document) → Contains ds d → d ≡ document_from d.base d.value
+  pub objects : (d : Document) → Contains ds d → is_object d.value ≡ true
+  pub values : (d : Document) → Contains ds d → IsDefinite d.value
+  pub absolute : (d : Document) → Contains ds d → IsAbsolute d.canonical
+  pub linked : missing ds ≡ []
+
+-- under any base, the table of the bundle alone is alike to theirs
+abbrev pub BundlesAreAlike : Type 0
+BundlesAreAlike =
+    (ds : List Document) (uri base : Text) (v : Value) → AreWhole ds → bundle ds uri ≡ Ok v → IsDefinite v →
+    IsAlike (table_of ds) (table_of (document_from base v ∷ []))
+
+-- and the bundle alone answers as they do
+abbrev pub BundlesAnswerTheSame : Type 0
+BundlesAnswerTheSame =
+    (matches : Text → Text → Bool) (ds : List Document) (uri base : Text) (v x : Value) → AreWhole ds → bundle ds uri ≡ Ok v → IsDefinite v →
+    answer matches (document_from base v ∷ []) uri x ≡ answer matches ds uri x

@@ -5,3 +5,7 @@ pub mod Bases
 pub mod Recomposed
 pub mod Undotted
 pub mod Identifiers
+pub mod Percents
+pub mod Missing
+pub mod Sound
+pub mod Unique

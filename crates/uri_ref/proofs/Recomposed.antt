@@ -10,7 +10,7 @@ cut_step : (c x : ℕ) (xs : Text) (b : Bool) (r : Text × Option Text) → (x =
 cut_step c x xs true r e h = ap (λ y. y ∷ xs) (sym (eqb-true x c e))
 cut_step c x xs false r e h = ap (λ s. x ∷ s) h
 
-cut_joined : (c : ℕ) (s : Text) → (cut_at (λ d. d == c) s).0 ++ led_by (c ∷ []) (cut_at (λ d. d == c) s).1 ≡ s
+pub cut_joined : (c : ℕ) (s : Text) → (cut_at (λ d. d == c) s).0 ++ led_by (c ∷ []) (cut_at (λ d. d == c) s).1 ≡ s
 cut_joined c [] = refl
 cut_joined c (x ∷ xs) = cut_step c x xs (x == c) (cut_at (λ d. d == c) xs) refl (cut_joined c xs)
 
@@ -29,7 +29,7 @@ scheme_step s a None b h = refl
 scheme_step s a (Some t) false h = refl
 scheme_step s a (Some t) true h = append_assoc a (codes ":") t ∙ h
 
-scheme_joined : (s : Text) → ended_by (scheme_and_rest s).0 (codes ":") ++ (scheme_and_rest s).1 ≡ s
+pub scheme_joined : (s : Text) → ended_by (scheme_and_rest s).0 (codes ":") ++ (scheme_and_rest s).1 ≡ s
 scheme_joined s = scheme_step s (cut_at (λ c. c == 58) s).0 (cut_at (λ c. c == 58) s).1 (is_scheme (cut_at (λ c. c == 58) s).0) (cut_joined 58 s)
 
 authority_step : (s : Text) (b : Bool) → begins s (codes "//") ≡ b
@@ -39,10 +39,10 @@ authority_step s true e =
     append_assoc (codes "//") (split_before (λ c. c == 47) (drop 2 s)).0 (split_before (λ c. c == 47) (drop 2 s)).1
     ∙ ap (λ r. codes "//" ++ r) (before_joined (λ c. c == 47) (drop 2 s)) ∙ sym (front (codes "//") s e)
 
-authority_joined : (s : Text) → led_by (codes "//") (authority_and_path s).0 ++ (authority_and_path s).1 ≡ s
+pub authority_joined : (s : Text) → led_by (codes "//") (authority_and_path s).0 ++ (authority_and_path s).1 ≡ s
 authority_joined s = authority_step s (begins s (codes "//")) refl
 
-joined : (e l p q f : Text) → e ++ (l ++ (p ++ (q ++ f))) ≡ ((e ++ (l ++ p)) ++ q) ++ f
+pub joined : (e l p q f : Text) → e ++ (l ++ (p ++ (q ++ f))) ≡ ((e ++ (l ++ p)) ++ q) ++ f
 joined e l p q f = rw (append_assoc (e ++ (l ++ p)) q f, append_assoc e (l ++ p) (q ++ f), append_assoc l p (q ++ f)) refl
 
 pub recomposes : (t : Text) → recompose (split t) ≡ t

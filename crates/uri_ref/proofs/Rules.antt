@@ -120,7 +120,7 @@ pub rule_e : (i o : Text) → begins i (codes "../") ≡ false → begins i (cod
 rule_e i o e1 e2 e3 e4 e5 e6 e = rw (e1, e2, e3, e4, e5, e6, e) refl
 
 -- ---- each rewriting shortens what is left
-whichever : (P : Text × Text → Type 0) (b : Bool) (x y : Text × Text) → (b ≡ true → P x) → P y → P (cond b x y)
+pub whichever : (P : Text × Text → Type 0) (b : Bool) (x y : Text × Text) → (b ≡ true → P x) → P y → P (cond b x y)
 whichever P true x y h k = h refl
 whichever P false x y h k = k
 

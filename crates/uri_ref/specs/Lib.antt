@@ -1,3 +1,5 @@
+pub mod Escapes
+pub mod FragmentViews
 pub mod Places
 pub mod Views
 pub mod OwnedViews

@@ -2,6 +2,7 @@
 #![tactic(auto)]
 
 mod dots;
+mod fragments;
 mod laws;
 mod owned_parts;
 mod parts;
@@ -10,6 +11,7 @@ mod resolving;
 mod splitting;
 
 pub use faults::Fault;
+pub use fragments::{FragmentKind, fragment_kind};
 pub use laws::identifiers_stay;
 pub use owned_parts::OwnedParts;
 pub use parts::{Parts, is_identifier};

@@ -2,10 +2,16 @@
 //! fault.
 #![tactic(auto)]
 
+mod forms;
+mod keyword_values;
 mod keywords;
+mod refusal;
+mod resources;
 mod scan;
 mod scanned;
 mod stop;
+mod table;
+mod visit;
 mod walk;
 
 pub use faults::Fault;

@@ -27,6 +27,10 @@ pub uri_at-push : (us vs : List Text) (u : Text) → vs ≡ us ++ u ∷ [] → (
 unfolding uri_at
 uri_at-push us vs u e = (omega (arith, ap length e, length-append us (u ∷ [])), ap (λ ws. get_or ws (length us) []) e ∙ last us u)
 
+pub uri_at-first : (us : List Text) (u : Text) → us ≡ u ∷ [] → (0 < length us) × (uri_at us 0 ≡ u)
+unfolding uri_at
+uri_at-first us u e = (omega (arith, ap length e), ap (λ vs. get_or vs 0 []) e)
+
 -- ---- of strings
 text_at-map : (us : List (String Global)) (i : ℕ) (u : String Global) → i < length us → u ≡ get_or us i u → string_bytes u ≡ get_or (map string_bytes us) i []
 text_at-map [] i u h e = absurd (omega arith)

@@ -12,3 +12,8 @@ pub mod TableOfForms
 pub mod Extended
 pub mod Rows
 pub mod Visits
+pub mod SeenKeys
+pub mod ScanFaults
+pub mod Gathered
+pub mod SameNames
+pub mod StageFaults

@@ -8,3 +8,7 @@ pub mod Forms
 pub mod Refusals
 pub mod Uris
 pub mod Tables
+pub mod Names
+pub mod AnchorViews
+pub mod Stages
+pub mod Documents

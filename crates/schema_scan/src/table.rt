@@ -1,11 +1,14 @@
 //! The schemas of a document, in the order of a walk.
 
-ghost use Rattle.std.specs.Prelude.{◌≡◌, true, nat_lt, ◌<◌, [], ◌∷◌, ◌++◌, ◌||◌, length, OnOk, IfOk, string_bytes};
+ghost use Rattle.std.specs.Prelude.{◌≡◌, true, nat_lt, ◌<◌, [], ◌∷◌, ◌++◌, ◌||◌, length, OnOk, IfOk, map, string_bytes};
 ghost use Rattle.std.specs.List.{list_all};
 ghost use Rattle.json_doc.specs.Docs.{value};
 ghost use Rattle.schema_scan.specs.Places.{resource_of, opens_resource, place_of, opened_uri, id_of};
+ghost use Rattle.schema_scan.specs.AnchorViews.{anchor_view};
+ghost use Rattle.schema_scan.specs.Names.{uris_opened, anchors_in};
 ghost use Rattle.schema_scan.specs.Uris.{uri_at, Extends};
 
+use crate::names::push_anchors;
 use crate::resources::{id_of, opened_uri};
 use json_doc::Doc;
 use std::alloc::{AllocError, Global};
@@ -125,5 +128,29 @@ impl<'a> Table<'a> {
         let index = self.uris.len();
         self.uris.push(uri)?;
         Ok(index)
+    }
+
+    /// The URIs of the resources that the schemas open.
+    pub(crate) fn opened_uris(&self, alloc: Global) -> Result<Vec<&str>, AllocError>
+        ensures { IfOk result (λ uris. map (λ u. u.now) uris.items ≡ uris_opened (places_of self.now)) }
+    {
+        let mut uris = Vec::new(alloc);
+        for position in &self.positions {
+            if position.at_root {
+                uris.push(self.uri(position.resource))?;
+            }
+        }
+        Ok(uris)
+    }
+
+    /// The anchors of the schemas, each with the URI of its resource.
+    pub(crate) fn anchors(&self, alloc: Global) -> Result<Vec<(&str, &str)>, AllocError>
+        ensures { IfOk result (λ anchors. map anchor_view anchors.items ≡ anchors_in (places_of self.now)) }
+    {
+        let mut anchors = Vec::new(alloc);
+        for position in &self.positions {
+            push_anchors(&mut anchors, self.uri(position.resource), position.schema)?;
+        }
+        Ok(anchors)
     }
 }

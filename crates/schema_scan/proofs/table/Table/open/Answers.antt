@@ -9,10 +9,11 @@ use Rattle.schema_scan.proofs.Rows.{resource-some, resource-none, opens-some, op
 use Rattle.schema_scan.proofs.table.Table.open.Goals as goal
 
 pub returns-in_ok-resource-in-Some-clause-resource : goal.returns-in_ok-resource-in-Some-clause-resource
-returns-in_ok-resource-in-Some-clause-resource c =
-    (c.in_ok-resource-in-Some.ensures.uri.0,
-    c.in_ok-resource-in-Some.ensures.uri.1 ∙ c.in_ok-uri-in-Some.ensures ∙ ap (λ base. without_fragment (resolved base c.in-Some.id.now)) c.uri.ensures
-    ∙ resource-some (uri_at (uris_of c.args.self.now) c.args.around) (value c.args.schema.now) c.in-Some.id.now c.in-Some.ensures)
+returns-in_ok-resource-in-Some-clause-resource c = (
+  c.in_ok-resource-in-Some.ensures.uri.0,
+  c.in_ok-resource-in-Some.ensures.uri.1 ∙ c.in_ok-uri-in-Some.ensures ∙ ap (λ base. without_fragment (resolved base c.in-Some.id.now)) c.uri.ensures
+      ∙ resource-some (uri_at (uris_of c.args.self.now) c.args.around) (value c.args.schema.now) c.in-Some.id.now c.in-Some.ensures,
+)
 
 pub returns-in_ok-resource-in-Some-clause-at_root : goal.returns-in_ok-resource-in-Some-clause-at_root
 returns-in_ok-resource-in-Some-clause-at_root c = opens-some c.args.at_root (value c.args.schema.now) c.in-Some.id.now c.in-Some.ensures

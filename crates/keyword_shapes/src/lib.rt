@@ -5,7 +5,7 @@
 ghost use Rattle.std.specs.Prelude.{◌≡◌, ◌&&◌, nat_lt, length};
 ghost use Rattle.std.specs.List.{list_any, list_all};
 ghost use Rattle.definitions.specs.Values.{integer, same_text, is_boolean, is_integer, is_string, is_array};
-ghost use Rattle.definitions.specs.Shapes.{has_shape, types, is_size, is_divisor, is_type_name, are_type_names, is_text_list, are_text_lists, is_schema, is_schema_map};
+ghost use Rattle.definitions.specs.Shapes.{has_shape, types, is_size, is_divisor, is_type_name, are_type_names, is_text_list, are_text_lists, is_schema, is_schema_list, is_schema_map};
 ghost use Rattle.json_doc.specs.Docs.{value};
 ghost use Rattle.keyword_shapes.specs.ShapeView.{shape_view};
 
@@ -24,6 +24,8 @@ pub enum Shape {
     Size,
     /// A number above 0 (Validation, section 6.2.1).
     Divisor,
+    /// A text (Validation, section 6.3.3).
+    AnyText,
     /// A list of any values, which may be empty (Validation, section 6.1.2).
     ValueList,
     /// The name of a type, or a list of at least one (Validation, section 6.1.1).
@@ -32,6 +34,10 @@ pub enum Shape {
     TextList,
     /// An object whose members are lists of texts (Validation, section 6.5.4).
     TextLists,
+    /// A schema: an object or a boolean (Core, section 10.2.1.4).
+    OneSchema,
+    /// A list of at least one value, all of which are schemas (Core, section 10.2.1.1).
+    SchemaList,
     /// An object whose members are schemas (Core, section 10.3.2.1).
     SchemaMap,
 }
@@ -46,10 +52,13 @@ pub fn fits(shape: Shape, doc: &Doc) -> bool
         Shape::WholeNumber => is_whole_number(doc),
         Shape::Size => is_size(doc),
         Shape::Divisor => is_divisor(doc),
+        Shape::AnyText => is_text(doc),
         Shape::ValueList => is_list(doc),
         Shape::TypeNames => are_type_names(doc),
         Shape::TextList => is_text_list(doc),
         Shape::TextLists => are_text_lists(doc),
+        Shape::OneSchema => is_schema(doc),
+        Shape::SchemaList => is_schema_list(doc),
         Shape::SchemaMap => is_schema_map(doc),
     }
 }
@@ -180,6 +189,28 @@ fn are_text_lists(doc: &Doc) -> bool
     }
 }
 
+fn is_schema_list(doc: &Doc) -> bool
+    ensures { result ≡ is_schema_list (value doc.now) }
+{
+    match doc {
+        Doc::List(schemas) => is_list_of_schemas(schemas),
+        _ => false,
+    }
+}
+
+// At least one value, and schemas alone.
+fn is_list_of_schemas(docs: &[Doc]) -> bool
+    ensures { result ≡ (nat_lt 0 (length docs.now) && list_all (λ d. is_schema (value d)) docs.now) }
+{
+    !docs.is_empty() && all_schemas(docs)
+}
+
+fn all_schemas(docs: &[Doc]) -> bool
+    ensures { result ≡ list_all (λ d. is_schema (value d)) docs.now }
+{
+    docs.iter().all(|doc| is_schema(doc))
+}
+
 fn is_schema_map(doc: &Doc) -> bool
     ensures { result ≡ is_schema_map (value doc.now) }
 {
@@ -229,6 +260,25 @@ mod tests {
         let mut schemas = Members::new(rt.alloc());
         schemas.insert(String::from_str(rt.alloc(), "a")?, Doc::Bool(false))?;
         assert!(rt; fits(Shape::SchemaMap, &Doc::Dict(schemas)));
+        assert!(rt; fits(Shape::OneSchema, &Doc::Bool(false)));
+        assert!(rt; !fits(Shape::OneSchema, &Doc::Null));
+        Ok(())
+    }
+
+    #[test]
+    fn a_list_of_schemas_has_one(rt: HostRuntime) -> Result<(), Fail> {
+        let none = Doc::List(Vec::new(rt.alloc()));
+        assert!(rt; !fits(Shape::SchemaList, &none));
+        let one = Doc::List(vec![in rt.alloc(); Doc::Bool(true)]?);
+        assert!(rt; fits(Shape::SchemaList, &one));
+        assert!(rt; !fits(Shape::SchemaList, &Doc::Bool(true)));
+        Ok(())
+    }
+
+    #[test]
+    fn a_number_is_no_text(rt: HostRuntime) -> Result<(), Fail> {
+        assert!(rt; fits(Shape::AnyText, &text(rt.alloc(), "")?));
+        assert!(rt; !fits(Shape::AnyText, &Doc::Null));
         Ok(())
     }
 }

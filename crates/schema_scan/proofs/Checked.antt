@@ -12,7 +12,7 @@ use Rattle.schema_scan.specs.Walks.{misshapen_keywords, has_unknown_name, is_ign
 abbrev pub IsFound : Option Shape → Text → Type 0
 IsFound shape name = option_map shape_view shape ≡ option_map (λ k. k.shape) (keyword_named name first_keywords)
 
-is_some-same : (shape : Option Shape) (k : Option Keyword) → option_map shape_view shape ≡ option_map (λ r. r.shape) k → is_some k ≡ is_some shape
+pub is_some-same : (shape : Option Shape) (k : Option Keyword) → option_map shape_view shape ≡ option_map (λ r. r.shape) k → is_some k ≡ is_some shape
 is_some-same None None e = refl
 is_some-same None (Some k) e = cc
 is_some-same (Some s) None e = cc

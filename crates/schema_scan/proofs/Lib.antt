@@ -4,3 +4,16 @@ pub mod Unknown
 pub mod Verdict
 pub mod Stopped
 pub mod Checked
+pub mod Opened
+pub mod Placed
+pub mod Walked
+pub mod Asked
+pub mod TableOfForms
+pub mod Extended
+pub mod Rows
+pub mod Visits
+pub mod SeenKeys
+pub mod ScanFaults
+pub mod Gathered
+pub mod SameNames
+pub mod StageFaults

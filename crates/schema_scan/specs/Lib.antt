@@ -2,3 +2,13 @@ pub mod FirstKeywords
 pub mod Walks
 pub mod Stops
 pub mod Scans
+pub mod Places
+pub mod Missteps
+pub mod Forms
+pub mod Refusals
+pub mod Uris
+pub mod Tables
+pub mod Names
+pub mod AnchorViews
+pub mod Stages
+pub mod Documents

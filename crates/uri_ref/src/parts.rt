@@ -1,6 +1,6 @@
 //! The parts of a URI reference, and the test whether they identify a resource.
 
-ghost use Rattle.std.specs.Prelude.{◌≡◌, option_map};
+ghost use Rattle.std.specs.Prelude.{◌≡◌, None, option_map};
 ghost use Rattle.std.specs.List.{list_any, slice_split};
 ghost use Rattle.definitions.specs.Uris.{is_identifier, is_dot_segment};
 ghost use Rattle.std.specs.Prelude.{◌==◌};
@@ -9,7 +9,7 @@ use std::marker::Model;
 
 /// The parts of a URI reference (RFC 3986, section 3), borrowed from its text.
 ///
-/// Contracts see the parts as `definitions` has them, each as its bytes.
+/// Contracts see the parts as `definitions` has them, each as its bytes. Each is free of the signs that would end it.
 #[derive(Debug, Drop)]
 pub struct Parts<'a> {
     pub(crate) scheme: Option<&'a str>,
@@ -25,8 +25,11 @@ impl<'a> Model for Parts<'a> {
     ghost Value = { UriParts };
 
     ghost use Rattle.uri_ref.specs.Views.{parts};
+    ghost use Rattle.uri_ref.specs.Soundness.{AreSound};
 
     ghost view = { parts };
+
+    ghost invariant = { λ p. AreSound (parts p) };
 }
 
 impl<'a> Parts<'a> {
@@ -63,6 +66,19 @@ impl<'a> Parts<'a> {
         ensures { option_map (λ t. t.now) result ≡ self.now.fragment }
     {
         self.fragment
+    }
+
+    /// The same parts without a fragment.
+    pub fn without_fragment(&self) -> Parts<'a>
+        ensures { result ≡ record self.now { fragment = None } }
+    {
+        Parts {
+            scheme: self.scheme,
+            authority: self.authority,
+            path: self.path,
+            query: self.query,
+            fragment: None,
+        }
     }
 }
 

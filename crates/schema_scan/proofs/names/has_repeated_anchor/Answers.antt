@@ -1,0 +1,14 @@
+use Rattle.std.proofs.Common.{ap, ◌∙◌}
+use Rattle.std.specs.Ordering.{eq_by_cmp}
+use Rattle.definitions.specs.Values.{has_repeat}
+use Rattle.definitions.specs.Scanning.{same_anchor}
+use Rattle.schema_scan.specs.AnchorViews.{anchor_view}
+use Rattle.schema_scan.proofs.SameNames.{pair_order, same-anchors}
+use Rattle.schema_scan.proofs.SeenKeys.{has_repeat-view}
+use Rattle.schema_scan.proofs.names.has_repeated_anchor.Goals as goal
+
+pub returns : goal.returns
+returns c =
+    c.in_ok-has_repeat.ensures ∙ ap (has_repeat (eq_by_cmp pair_order)) c.deref.ensures.value
+    ∙ has_repeat-view anchor_view (eq_by_cmp pair_order) same_anchor same-anchors c.in_ok-anchors.anchors.items
+    ∙ ap (has_repeat same_anchor) c.in_ok-anchors.ensures

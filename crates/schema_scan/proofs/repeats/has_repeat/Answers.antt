@@ -1,0 +1,24 @@
+use Rattle.std.proofs.Common.{◌≡◌, ◌+◌, drop, Bool, true, false, not, refl, sym, ap, ◌∙◌, rules}
+use Rattle.std.specs.BTreeSet as tree
+use Rattle.std.specs.Ordering.{eq_by_cmp}
+use Rattle.schema_scan.proofs.Gathered.{next_item}
+use Rattle.schema_scan.proofs.SeenKeys.{repeats, repeats-new, repeats-none}
+use Rattle.schema_scan.proofs.repeats.has_repeat.Goals as goal
+
+pub loop-key-init : goal.loop-key-init
+loop-key-init g c =
+    sym (repeats-none (eq_by_cmp g.K.Ord.cmp) (tree.contains g.K.Ord.cmp c.new-seen.result) (λ q. search (rules, c.new-seen.ensures.empty)) c.args.keys.now)
+
+not_seen : (b added : Bool) → added ≡ not b → added ≡ true → b ≡ false
+not_seen true added e f = cc
+not_seen false added e f = refl
+
+pub loop-key-preserved : goal.loop-key-preserved
+loop-key-preserved g c =
+    let R = g.K.Ord.cmp in
+    let x = c.key-item.result in
+    let added : c.in_ok-insert.field-0 ≡ true = search rules in
+    c.loop-key.invariant
+    ∙ ap (repeats (eq_by_cmp R) (tree.contains R c.loop-key.seen)) (next_item c.args.keys.now c.args.keys.now c.loop-key.key-index x refl c.loop-key-test.true c.key-item.is)
+    ∙ repeats-new (eq_by_cmp R) (tree.contains R c.loop-key.seen) (tree.contains R c.insert.new.self) x (drop (c.loop-key.key-index + 1) c.args.keys.now) c.in_ok-insert.ensures.updates.0
+    (not_seen (tree.contains R c.loop-key.seen x) c.in_ok-insert.field-0 c.in_ok-insert.ensures.added added)

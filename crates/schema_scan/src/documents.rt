@@ -1,0 +1,103 @@
+//! The scan of a whole document.
+
+ghost use Rattle.std.specs.Prelude.{◌≡◌, ◌≢◌, Some, None, OnOk, IfOk, IfErr, true, string_bytes};
+ghost use Rattle.definitions.specs.Values.{is_object};
+ghost use Rattle.definitions.specs.Uris.{recompose};
+ghost use Rattle.definitions.specs.Scanning.{scan_fault};
+ghost use Rattle.faults.specs.View.{fault};
+ghost use Rattle.json_doc.specs.Docs.{value};
+ghost use Rattle.schema_scan.specs.Documents.{document_base, document_value};
+ghost use Rattle.schema_scan.specs.Places.{places};
+ghost use Rattle.schema_scan.specs.Stages.{stage_fault};
+ghost use Rattle.schema_scan.specs.Tables.{uris_of, places_of};
+ghost use Rattle.schema_scan.specs.Uris.{uri_at};
+
+use crate::document::ScannedDocument;
+use crate::names::{has_repeated_anchor, has_repeated_uri};
+use crate::table::Table;
+use crate::unsupported::has_unknown;
+use crate::visit::visit_schema;
+use faults::Fault;
+use json_doc::{Doc, nesting};
+use std::alloc::{AllocError, Global};
+use uri_ref::{Parts, recompose};
+
+// How deep a document may nest.
+const MOST_NESTED: usize = 120;
+
+/// Scans the document that is to stand under this base (JSON Schema 2020-12 Core, sections 8 to 10).
+///
+/// The first of these faults is answered:
+///
+/// - [`Fault::NotObject`]: the document is no object.
+/// - [`Fault::TooNested`]: it nests deeper than 120.
+/// - [`Fault::BadKeyword`]: the value of a keyword has a wrong shape; at the keyword (Core, section 10; Validation,
+///   section 6). [`Fault::BadId`]: an `$id` makes no identifier (Core, section 8.2.1). [`Fault::BadAnchor`]: an `$anchor` or
+///   a `$dynamicAnchor` is no name (section 8.2.2). [`Fault::Dialect`]: at the root of a resource, `$schema` names another
+///   dialect (section 8.1.1). Of these the first on one walk, where a schema's own keywords come before its subschemas,
+///   both in byte order of names.
+/// - [`Fault::DuplicateUri`]: two schemas open a resource of one URI.
+/// - [`Fault::DuplicateAnchor`]: two schemas of one resource have an anchor of one name.
+/// - [`Fault::Unsupported`]: a schema has a name that is no keyword that is in. A name that begins with `$` and is no
+///   keyword is ignored, and so is `$schema` below the root of a resource.
+/// - [`Fault::NoRoom`]: memory ran out.
+pub fn scan_document<'a>(
+    alloc: Global,
+    base: &Parts,
+    document: &'a Doc,
+) -> Result<ScannedDocument<'a>, Fault>
+    ensures ok { IfOk result (λ s. (document_base s ≡ recompose base.now) × (document_value s ≡ value document.now)) }
+    ensures sound { OnOk result (stage_fault (recompose base.now) (value document.now) ≡ None) }
+    ensures err { IfErr result (λ f. f ≢ Fault.NoRoom → stage_fault (recompose base.now) (value document.now) ≡ Some (fault f)) }
+{
+    let table = match read_schemas(alloc, base, document) {
+        Ok(table) => table,
+        Err(fault) => return Err(fault),
+    };
+    if has_unknown(document, true) {
+        return Err(Fault::Unsupported);
+    }
+    Ok(ScannedDocument::new(table, document))
+}
+
+// The schemas of the document, where the scan by all keywords finds no fault.
+fn read_schemas<'a>(alloc: Global, base: &Parts, document: &'a Doc) -> Result<Table<'a>, Fault>
+    ensures base { IfOk result (λ t. uri_at (uris_of t) 0 ≡ recompose base.now) }
+    ensures places { IfOk result (λ t. places_of t ≡ places (recompose base.now) true (value document.now)) }
+    ensures sound { OnOk result (scan_fault (recompose base.now) (value document.now) ≡ None) }
+    ensures err { IfErr result (λ f. f ≢ Fault.NoRoom → scan_fault (recompose base.now) (value document.now) ≡ Some (fault f)) }
+{
+    if !is_object(document) {
+        return Err(Fault::NotObject);
+    }
+    if nesting(document) > MOST_NESTED {
+        return Err(Fault::TooNested);
+    }
+    let mut table = Table::new(alloc, text_of(alloc, base)?)?;
+    match visit_schema(alloc, &mut table, 0, true, document) {
+        Ok(()) => {}
+        Err(refusal) => return Err(refusal.fault(alloc)),
+    }
+    if has_repeated_uri(alloc, &table)? {
+        return Err(Fault::DuplicateUri);
+    }
+    if has_repeated_anchor(alloc, &table)? {
+        return Err(Fault::DuplicateAnchor);
+    }
+    Ok(table)
+}
+
+fn is_object(doc: &Doc) -> bool
+    ensures { result ≡ is_object (value doc.now) }
+{
+    matches!(doc, Doc::Dict(_))
+}
+
+fn text_of(alloc: Global, base: &Parts) -> Result<String, AllocError>
+    ensures { IfOk result (λ s. string_bytes s ≡ recompose base.now) }
+{
+    match recompose(alloc, base) {
+        Ok(text) => Ok(text),
+        Err(_) => Err(AllocError),
+    }
+}

@@ -22,7 +22,8 @@ use Rattle.schema_scan.proofs.Verdict.{scan_fault_by-parts}
 use Rattle.evaluator.specs.Rows.{first_rules, in_order, row_of}
 use Rattle.evaluator.specs.Views.{used_at, uses_by, some_looped, some_use_looped}
 use Rattle.evaluator.specs.declared.keyword.Keyword.{Keyword}
-use Rattle.evaluator.specs.declared.keyword.Keyword.TheVariants.{Asserts, AllOf, AnyOf, OneOf, Not, Properties}
+use Rattle.evaluator.specs.declared.keyword.Keyword.TheVariants.{Asserts, AllOf, AnyOf, OneOf, Not, DependentSchemas, PrefixItems, Items, Contains, Properties, AdditionalProperties}
+use Rattle.assertions.specs.declared.keyword.Keyword as assertions
 use Rattle.evaluator.proofs.OutcomeLaws.{or_false, or_left, or_right, object_uses}
 
 -- ---- what is being applied stands above: its pointers have fewer than so many tokens
@@ -108,10 +109,6 @@ both_false : (a b : Bool) → a ≡ false → b ≡ false → (a || b) ≡ false
 both_false true b h k = cc
 both_false false b h k = k
 
-abbrev is_assertion : Keyword → Bool
-is_assertion (Asserts assertion) = true
-is_assertion _ = false
-
 -- what so many levels say of a schema whose names are in
 abbrev NeverLoops : (Application → Outcome) → Type 0
 NeverLoops run = (a : Application) (r : Bool) → AreAbove (length a.schema.pointer) a.running → has_unknown r a.schema.value ≡ false → (run a).looped ≡ false
@@ -148,14 +145,9 @@ module _ (run : Application → Outcome) (never : NeverLoops run) (a : Applicati
   schemas_unlooped k x (string s) none = refl
   schemas_unlooped k x (array vs) none = refl
 
-  asserts_unlooped : (k : Keyword) (y : Option Value) → is_assertion k ≡ true → some_use_looped (used first_rules run [] [] (entered a) (row_of k) y) ≡ false
-  asserts_unlooped (Asserts assertion) None h = refl
-  asserts_unlooped (Asserts assertion) (Some v) h = refl
-  asserts_unlooped AllOf y h = cc
-  asserts_unlooped AnyOf y h = cc
-  asserts_unlooped OneOf y h = cc
-  asserts_unlooped Not y h = cc
-  asserts_unlooped Properties y h = cc
+  asserts_unlooped : (assertion : assertions.Keyword) (y : Option Value) → some_use_looped (used first_rules run [] [] (entered a) (row_of (Asserts assertion)) y) ≡ false
+  asserts_unlooped assertion None = refl
+  asserts_unlooped assertion (Some v) = refl
 
   absent_unlooped : (k : Keyword) (y : Option Value) → y ≡ None → some_use_looped (used first_rules run [] [] (entered a) (row_of k) y) ≡ false
   absent_unlooped k None e = refl
@@ -168,12 +160,17 @@ module _ (run : Application → Outcome) (never : NeverLoops run) (a : Applicati
 
   module _ (r : Bool) (known : has_unknown r a.schema.value ≡ false) where
     keyword_unlooped : (k : Keyword) → some_use_looped (used_at run (entered a) k) ≡ false
-    keyword_unlooped (Asserts assertion) = asserts_unlooped (Asserts assertion) (get (row_of (Asserts assertion)).name a.schema.value) refl
+    keyword_unlooped (Asserts assertion) = asserts_unlooped assertion (get (row_of (Asserts assertion)).name a.schema.value)
     keyword_unlooped AllOf = absent_unlooped AllOf _ (absent r (codes "allOf") a.schema.value known (λ s. refl))
     keyword_unlooped AnyOf = absent_unlooped AnyOf _ (absent r (codes "anyOf") a.schema.value known (λ s. refl))
     keyword_unlooped OneOf = absent_unlooped OneOf _ (absent r (codes "oneOf") a.schema.value known (λ s. refl))
     keyword_unlooped Not = absent_unlooped Not _ (absent r (codes "not") a.schema.value known (λ s. refl))
+    keyword_unlooped DependentSchemas = absent_unlooped DependentSchemas _ (absent r (codes "dependentSchemas") a.schema.value known (λ s. refl))
+    keyword_unlooped PrefixItems = absent_unlooped PrefixItems _ (absent r (codes "prefixItems") a.schema.value known (λ s. refl))
+    keyword_unlooped Items = absent_unlooped Items _ (absent r (codes "items") a.schema.value known (λ s. refl))
+    keyword_unlooped Contains = absent_unlooped Contains _ (absent r (codes "contains") a.schema.value known (λ s. refl))
     keyword_unlooped Properties = properties_unlooped (get (codes "properties") a.schema.value) (λ w is. at_properties r a.schema.value w known is)
+    keyword_unlooped AdditionalProperties = absent_unlooped AdditionalProperties _ (absent r (codes "additionalProperties") a.schema.value known (λ s. refl))
 
     keywords_unlooped : (ks : List Keyword) → some_use_looped (uses_by run (entered a) ks) ≡ false
     keywords_unlooped [] = refl

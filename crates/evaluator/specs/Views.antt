@@ -1,10 +1,10 @@
 -- What the code's types show of the definitions' applications and outcomes.
-use Rattle.std.specs.Prelude.{◌≡◌, ◌≤◌, ◌<◌, ℕ, List, [], ◌∷◌, Bool, Option, Some, None, decimal, map, flat_map, sum_by, length}
+use Rattle.std.specs.Prelude.{◌≡◌, ◌≤◌, ◌<◌, ℕ, List, [], ◌∷◌, Bool, Option, Some, None, decimal, map, flat_map, filter, zip, is_some, not, sum_by, length}
 use Rattle.std.specs.List.{list_all, list_any, enumerate_from}
 use Rattle.definitions.specs.Values.{Text, Value, get}
 use Rattle.definitions.specs.Pointers.{Pointer}
 use Rattle.definitions.specs.Applied as definition
-use Rattle.definitions.specs.Applied.{Application, Outcome, whole, named, at_part, in_place, at_present}
+use Rattle.definitions.specs.Applied.{Application, Outcome, whole, named, indexed, at_part, in_place, at_present, at_members, is_taken}
 use Rattle.definitions.specs.Evaluated.{passing}
 use Rattle.definitions.specs.Outcomes.{Use, outcome, used}
 use Rattle.evaluator.specs.Rows.{row_of, first_rules}
@@ -12,7 +12,7 @@ use Rattle.evaluator.specs.declared.found.Found.{Found}
 use Rattle.evaluator.specs.declared.found.Applied as found
 use Rattle.evaluator.specs.declared.plan.Planned.{Planned}
 use Rattle.evaluator.specs.declared.plan.Part.{Part}
-use Rattle.evaluator.specs.declared.plan.Part.TheVariants.{Whole, Member}
+use Rattle.evaluator.specs.declared.plan.Part.TheVariants.{Whole, Member, Element}
 use Rattle.evaluator.specs.declared.plan.Step.{Step}
 use Rattle.evaluator.specs.declared.plan.Step.TheVariants.{Name, Index}
 use Rattle.evaluator.specs.declared.keyword.Keyword.{Keyword}
@@ -94,6 +94,7 @@ step_view (Some (Index i)) = decimal i ∷ []
 abbrev pub part_view : Part → definition.Part
 part_view Whole = whole
 part_view (Member name) = named name.now
+part_view (Element i) = indexed i
 
 -- under the keyword of this name
 abbrev pub planned_view : Text → Application → Planned → definition.Part × Application
@@ -106,6 +107,18 @@ planned_listed k a i vs = map (λ e. in_place a (k ∷ decimal e.0 ∷ []) e.1) 
 -- the members of the instance x whose names stand among these schemas
 abbrev pub planned_members : Text → Application → Value → List (Text × Value) → List (definition.Part × Application)
 planned_members k a x ms = flat_map (λ m. at_present a k m (get m.0 x)) ms
+
+-- the schemas whose names the instance has, at the whole instance
+abbrev pub planned_dependents : Text → Application → List (Text × Value) → List (definition.Part × Application)
+planned_dependents k a ms = map (λ m. in_place a (k ∷ m.0 ∷ []) m.1) (filter (λ m. is_some (get m.0 a.instance)) ms)
+
+-- each of these schemas, numbered from i, at the element beside it
+abbrev pub planned_pairs : Text → Application → ℕ → List Value → List Value → List (definition.Part × Application)
+planned_pairs k a i vs xs = map (λ e. at_part a (k ∷ decimal (e.0).0 ∷ []) (e.0).1 (indexed (e.0).0) e.1) (zip (enumerate_from i vs) xs)
+
+-- the schema v, at each of these members that no keyword beside takes
+abbrev pub planned_others : Text → Application → Value → List (Text × Value) → List (definition.Part × Application)
+planned_others k a v ms = at_members a k v (filter (λ m. not (is_taken first_rules a m.0)) ms)
 
 abbrev pub child_outcome : ℕ → Text → Application → Planned → definition.Part × Outcome
 child_outcome left k a p = let e = planned_view k a p in (e.0, outcome first_rules left e.1)

@@ -114,6 +114,7 @@ fn apply_keyword<'a>(
             alloc,
             keyword,
             keyword_value,
+            schema,
             instance,
             left,
             budget,
@@ -129,23 +130,24 @@ fn use_keyword<'a>(
     alloc: Global,
     keyword: Keyword,
     keyword_value: &'a Doc,
+    schema: &'a Doc,
     instance: &'a Doc,
     left: u32,
     budget: u64,
     log: &mut Log<'a>,
 ) -> Result<Found, Fault>
     ensures within { IfOk result (λ f. f.count ≤ budget) }
-    ensures found { (a : Application) → a.instance ≡ value instance.now → some_use_looped (used_with (outcome first_rules left) a keyword (value keyword_value.now)) ≡ false
+    ensures found { (a : Application) → Shows a (value schema.now) (value instance.now) → some_use_looped (used_with (outcome first_rules left) a keyword (value keyword_value.now)) ≡ false
         → IfOk result (λ f. UsesAll f budget (used_with (outcome first_rules left) a keyword (value keyword_value.now))) }
-    ensures err { (a : Application) → a.instance ≡ value instance.now → some_use_looped (used_with (outcome first_rules left) a keyword (value keyword_value.now)) ≡ false
+    ensures err { (a : Application) → Shows a (value schema.now) (value instance.now) → some_use_looped (used_with (outcome first_rules left) a keyword (value keyword_value.now)) ≡ false
         → IfErr result (λ f. f ≢ Fault.NoRoom → (f ≡ Fault.Costly) × (budget < use_count (used_with (outcome first_rules left) a keyword (value keyword_value.now)))) }
 {
     let mark = log.enter_keyword(keyword.name())?;
-    let planned = plan(alloc, keyword, keyword_value, instance)?;
+    let planned = plan(alloc, keyword, keyword_value, schema, instance)?;
     match apply_all(alloc, &planned, left, budget, log) {
         Ok(applied) => {
-            let passes = keyword_passes(keyword, keyword_value, instance, applied);
-            let says = annotation(keyword, instance, &planned, log)?;
+            let passes = keyword_passes(keyword, keyword_value, schema, instance, applied);
+            let says = annotation(keyword, instance, &planned, mark, log)?;
             log.leave_keyword(mark, passes, says)?;
             Ok(applied.under(passes))
         }
@@ -179,10 +181,12 @@ fn apply_all<'a>(
             budget - applied.count,
             log,
         ) {
-            Ok(found) => applied = applied.and(found),
+            Ok(found) => {
+                applied = applied.and(found);
+                log.leave_child(child, found.valid)?;
+            }
             Err(fault) => return Err(fault),
         }
-        log.leave_child(child);
     }
     Ok(applied)
 }

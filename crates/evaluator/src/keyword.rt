@@ -14,7 +14,12 @@ pub(crate) enum Keyword {
     AnyOf,
     OneOf,
     Not,
+    DependentSchemas,
+    PrefixItems,
+    Items,
+    Contains,
     Properties,
+    AdditionalProperties,
 }
 
 impl Keyword {
@@ -28,12 +33,17 @@ impl Keyword {
             Keyword::AnyOf => "anyOf",
             Keyword::OneOf => "oneOf",
             Keyword::Not => "not",
+            Keyword::DependentSchemas => "dependentSchemas",
+            Keyword::PrefixItems => "prefixItems",
+            Keyword::Items => "items",
+            Keyword::Contains => "contains",
             Keyword::Properties => "properties",
+            Keyword::AdditionalProperties => "additionalProperties",
         }
     }
 }
 
-const KEYWORDS: [Keyword; 22] = [
+const KEYWORDS: [Keyword; 27] = [
     Keyword::Asserts(Assertion::TypeIs),
     Keyword::Asserts(Assertion::EnumOf),
     Keyword::Asserts(Assertion::ConstIs),
@@ -55,7 +65,12 @@ const KEYWORDS: [Keyword; 22] = [
     Keyword::AnyOf,
     Keyword::OneOf,
     Keyword::Not,
+    Keyword::DependentSchemas,
+    Keyword::PrefixItems,
+    Keyword::Items,
+    Keyword::Contains,
     Keyword::Properties,
+    Keyword::AdditionalProperties,
 ];
 
 /// All of them, in the order of evaluation.

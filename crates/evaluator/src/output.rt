@@ -110,7 +110,10 @@ fn write_what<'a>(
             out.string(buffer.as_str())?;
         }
         Says::NotAllowed => out.string("no value is allowed")?,
+        Says::All => out.token(Token::Bool(true))?,
+        Says::Index(index) => out.u64(index as u64)?,
         Says::Names(start, end) => write_names(units, start, end, out)?,
+        Says::Indexes(start, end) => write_indexes(units, start, end, out)?,
     }
     Ok(())
 }
@@ -127,6 +130,24 @@ fn write_names<'a>(
     if let Some(names) = units.names.get(start..end) {
         for name in names {
             out.string(name)?;
+        }
+    }
+    out.end_array()?;
+    Ok(())
+}
+
+fn write_indexes<'a>(
+    units: &Units<'a>,
+    start: usize,
+    end: usize,
+    out: &mut Writer,
+) -> Result<(), AllocError>
+    ensures { out.new.before ≡ out.old.before }
+{
+    out.begin_array()?;
+    if let Some(indexes) = units.indexes.get(start..end) {
+        for index in indexes {
+            out.u64(*index as u64)?;
         }
     }
     out.end_array()?;

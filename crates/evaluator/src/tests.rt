@@ -70,3 +70,85 @@ fn annotations_of_what_passes_are_kept(rt: HostRuntime) -> Result<(), Fail> {
     );
     Ok(())
 }
+
+#[test]
+fn elements_in_order(rt: HostRuntime) -> Result<(), Fail> {
+    let schema = r#"{"items":{"type":"integer"},"prefixItems":[true,true]}"#;
+    assert_eq!(rt;
+        output(rt.alloc(), schema, "[1,2,3]")?.as_str(),
+        r#"{"annotations":[{"absoluteKeywordLocation":"https://ex.org/s#/prefixItems","annotation":1,"instanceLocation":"","keywordLocation":"/prefixItems"},{"absoluteKeywordLocation":"https://ex.org/s#/items","annotation":true,"instanceLocation":"","keywordLocation":"/items"}],"valid":true}"#
+    );
+    assert_eq!(rt;
+        output(rt.alloc(), schema, "[1,2]")?.as_str(),
+        r#"{"annotations":[{"absoluteKeywordLocation":"https://ex.org/s#/prefixItems","annotation":true,"instanceLocation":"","keywordLocation":"/prefixItems"}],"valid":true}"#
+    );
+    assert_eq!(rt;
+        output(rt.alloc(), schema, "[]")?.as_str(),
+        r#"{"annotations":[],"valid":true}"#
+    );
+    Ok(())
+}
+
+#[test]
+fn some_element(rt: HostRuntime) -> Result<(), Fail> {
+    assert_eq!(rt;
+        output(
+            rt.alloc(),
+            r#"{"contains":{"type":"string"},"minContains":0}"#,
+            "[]"
+        )?
+        .as_str(),
+        r#"{"annotations":[{"absoluteKeywordLocation":"https://ex.org/s#/contains","annotation":[],"instanceLocation":"","keywordLocation":"/contains"}],"valid":true}"#
+    );
+    let schema = r#"{"contains":{"type":"string"}}"#;
+    assert_eq!(rt;
+        output(rt.alloc(), schema, "[]")?.as_str(),
+        r#"{"errors":[{"absoluteKeywordLocation":"https://ex.org/s#/contains","error":"contains is not met","instanceLocation":"","keywordLocation":"/contains"}],"valid":false}"#
+    );
+    assert_eq!(rt;
+        output(rt.alloc(), schema, "[1]")?.as_str(),
+        r#"{"errors":[{"absoluteKeywordLocation":"https://ex.org/s#/contains","error":"contains is not met","instanceLocation":"","keywordLocation":"/contains"},{"absoluteKeywordLocation":"https://ex.org/s#/contains/type","error":"type is not met","instanceLocation":"/0","keywordLocation":"/contains/type"}],"valid":false}"#
+    );
+    assert_eq!(rt;
+        output(rt.alloc(), schema, r#"[1,"a",[],"b"]"#)?.as_str(),
+        r#"{"annotations":[{"absoluteKeywordLocation":"https://ex.org/s#/contains","annotation":[1,3],"instanceLocation":"","keywordLocation":"/contains"}],"valid":true}"#
+    );
+    Ok(())
+}
+
+#[test]
+fn members_that_no_other_keyword_takes(rt: HostRuntime) -> Result<(), Fail> {
+    assert_eq!(rt;
+        output(
+            rt.alloc(),
+            r#"{"additionalProperties":{"type":"integer"},"properties":{"a":{"type":"string"}}}"#,
+            r#"{"a":"x","c":5}"#
+        )?
+        .as_str(),
+        r#"{"annotations":[{"absoluteKeywordLocation":"https://ex.org/s#/properties","annotation":["a"],"instanceLocation":"","keywordLocation":"/properties"},{"absoluteKeywordLocation":"https://ex.org/s#/additionalProperties","annotation":["c"],"instanceLocation":"","keywordLocation":"/additionalProperties"}],"valid":true}"#
+    );
+    assert_eq!(rt;
+        output(
+            rt.alloc(),
+            r#"{"additionalProperties":false,"allOf":[{"properties":{"a":true}}]}"#,
+            r#"{"a":1}"#
+        )?
+        .as_str(),
+        r#"{"errors":[{"absoluteKeywordLocation":"https://ex.org/s#/additionalProperties","error":"additionalProperties is not met","instanceLocation":"","keywordLocation":"/additionalProperties"},{"absoluteKeywordLocation":"https://ex.org/s#/additionalProperties","error":"no value is allowed","instanceLocation":"/a","keywordLocation":"/additionalProperties"}],"valid":false}"#
+    );
+    Ok(())
+}
+
+#[test]
+fn schemas_for_members_that_are_there(rt: HostRuntime) -> Result<(), Fail> {
+    let schema = r#"{"dependentSchemas":{"a":{"required":["b"]},"c":false}}"#;
+    assert_eq!(rt;
+        output(rt.alloc(), schema, r#"{"a":1}"#)?.as_str(),
+        r#"{"errors":[{"absoluteKeywordLocation":"https://ex.org/s#/dependentSchemas","error":"dependentSchemas is not met","instanceLocation":"","keywordLocation":"/dependentSchemas"},{"absoluteKeywordLocation":"https://ex.org/s#/dependentSchemas/a/required","error":"required is not met","instanceLocation":"","keywordLocation":"/dependentSchemas/a/required"}],"valid":false}"#
+    );
+    assert_eq!(rt;
+        output(rt.alloc(), schema, r#"{"a":1,"b":1}"#)?.as_str(),
+        r#"{"annotations":[],"valid":true}"#
+    );
+    Ok(())
+}

@@ -12,8 +12,14 @@ pub(crate) enum Says {
     NotMet,
     /// The schema is `false`.
     NotAllowed,
+    /// `true`: all of them.
+    All,
+    /// This index.
+    Index(usize),
     /// The names from the first number on and below the second.
     Names(usize, usize),
+    /// The indexes from the first number on and below the second.
+    Indexes(usize, usize),
 }
 
 /// One unit: where its locations stand in the list of steps, the keyword's location first and then the instance's, and
@@ -32,13 +38,14 @@ impl OutputUnit {
     }
 }
 
-/// Units in order. Their steps and names stand in two lists that all of them share, so that a unit takes no memory of
+/// Units in order. Their steps, names and indexes stand in lists that all of them share, so that a unit takes no memory of
 /// its own.
 #[derive(Drop)]
 pub(crate) struct Units<'a> {
     pub(crate) units: Vec<OutputUnit>,
     pub(crate) steps: Vec<Step<'a>>,
     pub(crate) names: Vec<&'a str>,
+    pub(crate) indexes: Vec<usize>,
 }
 
 /// How much there is, so that what comes later can be cut off.
@@ -47,6 +54,7 @@ pub(crate) struct Mark {
     unit: usize,
     step: usize,
     name: usize,
+    index: usize,
 }
 
 impl<'a> Units<'a> {
@@ -55,6 +63,7 @@ impl<'a> Units<'a> {
             units: Vec::new(alloc),
             steps: Vec::new(alloc),
             names: Vec::new(alloc),
+            indexes: Vec::new(alloc),
         }
     }
 
@@ -63,6 +72,7 @@ impl<'a> Units<'a> {
             unit: self.units.len(),
             step: self.steps.len(),
             name: self.names.len(),
+            index: self.indexes.len(),
         }
     }
 
@@ -71,6 +81,7 @@ impl<'a> Units<'a> {
         self.units.truncate(mark.unit);
         self.steps.truncate(mark.step);
         self.names.truncate(mark.name);
+        self.indexes.truncate(mark.index);
     }
 
     /// Keeps a place for a unit that stands before those of the schemas that its keyword applies.
@@ -131,18 +142,20 @@ impl<'a> Units<'a> {
 }
 
 /// Where the evaluation stands, and the units so far: the errors, should what is being applied fail, and the
-/// annotations, should it pass.
+/// annotations, should it pass. Beside them the indexes of the elements that passed what a keyword applied to them.
 #[derive(Drop)]
 pub(crate) struct Log<'a> {
     path: Vec<Step<'a>>,
     place: Vec<Step<'a>>,
+    passing: Vec<usize>,
     pub(crate) errors: Units<'a>,
     pub(crate) annotations: Units<'a>,
 }
 
-/// Both marks.
+/// The marks of all.
 #[derive(Clone, Copy, Debug)]
 pub(crate) struct LogMark {
+    passing: usize,
     errors: Mark,
     annotations: Mark,
 }
@@ -152,6 +165,7 @@ impl<'a> Log<'a> {
         Log {
             path: Vec::new(alloc),
             place: Vec::new(alloc),
+            passing: Vec::new(alloc),
             errors: Units::new(alloc),
             annotations: Units::new(alloc),
         }
@@ -159,6 +173,7 @@ impl<'a> Log<'a> {
 
     pub(crate) fn mark(&self) -> LogMark {
         LogMark {
+            passing: self.passing.len(),
             errors: self.errors.mark(),
             annotations: self.annotations.mark(),
         }
@@ -211,8 +226,18 @@ impl<'a> Log<'a> {
             )?;
             self.annotations.cut_back(mark.annotations);
         }
+        self.passing.truncate(mark.passing);
         drop(self.path.pop());
         Ok(())
+    }
+
+    /// What the passing indexes since the mark say.
+    pub(crate) fn keep_passing(&mut self, mark: LogMark) -> Result<Says, AllocError> {
+        let start = self.annotations.indexes.len();
+        if let Some(passing) = self.passing.get(mark.passing..) {
+            self.annotations.indexes.extend_from_slice(passing)?;
+        }
+        Ok(Says::Indexes(start, self.annotations.indexes.len()))
     }
 
     /// Goes on to a schema that the keyword applies.
@@ -220,19 +245,33 @@ impl<'a> Log<'a> {
         if let Some(step) = child.step {
             self.path.push(step)?;
         }
-        if let Part::Member(name) = child.part {
-            self.place.push(Step::Name(name))?;
+        match child.part {
+            Part::Whole => {}
+            Part::Member(name) => self.place.push(Step::Name(name))?,
+            Part::Element(index) => self.place.push(Step::Index(index))?,
         }
         Ok(())
     }
 
-    pub(crate) fn leave_child(&mut self, child: &Planned<'a>) {
+    pub(crate) fn leave_child(
+        &mut self,
+        child: &Planned<'a>,
+        passed: bool,
+    ) -> Result<(), AllocError> {
         if child.step.is_some() {
             drop(self.path.pop());
         }
-        if let Part::Member(_) = child.part {
-            drop(self.place.pop());
+        match child.part {
+            Part::Whole => {}
+            Part::Member(_) => drop(self.place.pop()),
+            Part::Element(index) => {
+                drop(self.place.pop());
+                if passed {
+                    self.passing.push(index)?;
+                }
+            }
         }
+        Ok(())
     }
 
     /// A schema `false` was applied here.

@@ -93,26 +93,26 @@ apply_object-returns-clause-found t c a shows none =
     (take_all c.loop-keyword.keyword-index c.keywords-keyword-items.result.now (omega arith) ∙ c.keywords-keyword-items.ensures) (c.loop-keyword.invariant.found a shows none))
 
 pub use_keyword-returns-in-Ok-clause-found : goal.use_keyword-returns-in-Ok-clause-found
-use_keyword-returns-in-Ok-clause-found t c a same none =
+use_keyword-returns-in-Ok-clause-found t c a shows none =
     let run = outcome first_rules c.args.left in
     let k = row_of c.args.keyword in
     let v = value c.args.keyword_value.now in
     let u = use_of first_rules run a k.name k.meaning v (map (λ e. (e.0, run e.1)) (applied first_rules run [] [] a k.name k.meaning v)) in
     let os = sym (map-map (λ (e : Part × Application). (e.0, run e.1)) (planned_view k.name a) c.in_ok-planned.planned.items)
-    ∙ ap (map (λ (e : Part × Application). (e.0, run e.1))) (c.in_ok-planned.ensures.ok a run [] [] same) in
+    ∙ ap (map (λ (e : Part × Application). (e.0, run e.1))) (c.in_ok-planned.ensures.ok a run [] [] shows) in
     let here : some_looped (map (child_outcome c.args.left k.name a) c.in_ok-planned.planned.items) ≡ false = ap some_looped os ∙ use_unlooped u none in
     let all : FindsAll c.in-Ok.applied c.args.budget u.outcomes = subst (FindsAll c.in-Ok.applied c.args.budget) os (c.in-Ok.ensures.found a k.name here) in
     rw c.under.ensures (use_found c.in-Ok.applied c.args.budget u c.keyword_passes-passes.result all
-    (c.keyword_passes-passes.ensures a run c.args.budget u.outcomes same all))
+    (c.keyword_passes-passes.ensures a run c.args.budget u.outcomes shows all))
 
 pub use_keyword-returns-clause-err : goal.use_keyword-returns-clause-err
-use_keyword-returns-clause-err t c a same none other =
+use_keyword-returns-clause-err t c a shows none other =
     let run = outcome first_rules c.args.left in
     let k = row_of c.args.keyword in
     let v = value c.args.keyword_value.now in
     let u = use_of first_rules run a k.name k.meaning v (map (λ e. (e.0, run e.1)) (applied first_rules run [] [] a k.name k.meaning v)) in
     let os = sym (map-map (λ (e : Part × Application). (e.0, run e.1)) (planned_view k.name a) c.in_ok-planned.planned.items)
-    ∙ ap (map (λ (e : Part × Application). (e.0, run e.1))) (c.in_ok-planned.ensures.ok a run [] [] same) in
+    ∙ ap (map (λ (e : Part × Application). (e.0, run e.1))) (c.in_ok-planned.ensures.ok a run [] [] shows) in
     let here : some_looped (map (child_outcome c.args.left k.name a) c.in_ok-planned.planned.items) ≡ false = ap some_looped os ∙ use_unlooped u none in
     let said = c.in-Err.ensures.err a k.name here other in
     (said.0, use_over c.args.budget u (subst (λ os. c.args.budget < count_of os) os said.1))

@@ -1,14 +1,11 @@
 -- An identifier resolves to itself, whatever the base.
-use Rattle.std.proofs.Common.{◌≡◌, ◌==◌, Bool, true, false, not, ◌&&◌, ◌||◌, is_some, is_none, codes, refl, ap}
+use Rattle.std.proofs.Common.{◌≡◌, ◌==◌, true, not, ◌&&◌, ◌||◌, is_some, is_none, codes, ap}
 use Rattle.std.specs.List.{list_any, slice_split}
 use Rattle.definitions.specs.Uris.{Parts, begins, is_dot_segment, is_identifier}
 use Rattle.definitions.specs.Resolution.{resolve}
+use Rattle.uri_ref.proofs.Missing.{negated}
 use Rattle.uri_ref.proofs.Rules.{both}
 use Rattle.uri_ref.proofs.Undotted.{undotted}
-
-negated : (b : Bool) → not b ≡ true → b ≡ false
-negated true h = cc
-negated false h = refl
 
 pub stays : (p : Parts) → is_identifier p ≡ true → (base : Parts) → resolve base p ≡ p
 stays p h base =

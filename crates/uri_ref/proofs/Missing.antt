@@ -1,6 +1,6 @@
 -- Texts that miss some bytes, and where they are cut.
-use Rattle.std.proofs.Common.{◌≡◌, ℕ, ◌==◌, [], ◌∷◌, ◌++◌, Bool, true, false, true≢false, not, ◌||◌, ◌&&◌, cond, Option, Some, None, nat_eq, take, drop, codes, inl, inr, refl, sym, ap, ◌∙◌, arith, take-append-drop, eq-eqb}
-use Rattle.std.proofs.lemmas.Bool.{or_from, or_parts, eqb-true}
+use Rattle.std.proofs.Common.{◌≡◌, ℕ, ◌==◌, [], ◌∷◌, ◌++◌, Bool, true, false, true≢false, not, ◌||◌, cond, Option, Some, None, nat_eq, take, drop, codes, inl, inr, refl, sym, ap, ◌∙◌, take-append-drop, eq-eqb}
+use Rattle.std.proofs.lemmas.Bool.{and_from, or_from, or_parts, eqb-true}
 use Rattle.std.proofs.lemmas.Bool.Decides.{eqb_tells}
 use Rattle.std.proofs.lemmas.List.Folds.{list_any-append}
 use Rattle.std.specs.List.{list_all, list_any}
@@ -14,7 +14,7 @@ one_of signs c = list_any (λ d. d == c) signs
 abbrev pub Misses : (ℕ → Bool) → Text → Type 0
 Misses p t = list_any p t ≡ false
 
-negated : (b : Bool) → not b ≡ true → b ≡ false
+pub negated : (b : Bool) → not b ≡ true → b ≡ false
 negated true h = cc
 negated false h = refl
 
@@ -101,6 +101,14 @@ before_misses c (x ∷ xs) = before_step c x xs (x == c) (split_before (λ d. d 
 abbrev pub is_rooted : Text → Bool
 is_rooted [] = true
 is_rooted (c ∷ cs) = 47 == c
+
+pub rooted_from : (t : Text) → (same_text t [] || begins t (codes "/")) ≡ true → is_rooted t ≡ true
+rooted_from [] h = refl
+rooted_from (c ∷ cs) h = (both (nat_eq 47 c) true h).0
+
+pub rooted_text : (t : Text) → is_rooted t ≡ true → (same_text t [] || begins t (codes "/")) ≡ true
+rooted_text [] h = refl
+rooted_text (c ∷ cs) h = and_from (nat_eq 47 c) true h refl
 
 rooted_step : (x : ℕ) (xs : Text) (b : Bool) (r : Text × Text) → (x == 47) ≡ b → is_rooted r.1 ≡ true
     → is_rooted (cond {A = Text × Text} b ([], x ∷ xs) (x ∷ r.0, r.1)).1 ≡ true

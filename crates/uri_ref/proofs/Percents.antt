@@ -1,5 +1,5 @@
 -- Percent escapes: the test of them byte by byte, and what they are read as where each is whole.
-use Rattle.std.proofs.Common.{◌≡◌, ℕ, ◌*◌, ◌+◌, ◌<◌, ◌≤◌, ◌≢◌, ◌==◌, [], ◌∷◌, length, get_or, drop, ◌||◌, ◌&&◌, Bool, true, false, cond, Option, Some, None, is_some, Err, option_map, option_and_then, refl, sym, ap, ◌∙◌, arith}
+use Rattle.std.proofs.Common.{◌≡◌, ℕ, ◌*◌, ◌+◌, ◌≤◌, ◌≢◌, ◌==◌, [], ◌∷◌, length, get_or, drop, ◌||◌, ◌&&◌, Bool, true, false, cond, Option, Some, None, is_some, Err, option_map, option_and_then, refl, sym, ap, ◌∙◌, arith}
 use Rattle.std.proofs.lemmas.Bool.{ne_eqb}
 use Rattle.std.proofs.lemmas.Bool.Decides.{nat_tests}
 use Rattle.std.specs.Char.{digit_value, is_digit, is_ascii_hexdigit}
@@ -11,7 +11,8 @@ use Rattle.definitions.specs.Faults.{bad_fragment}
 use Rattle.definitions.specs.Fragments.{hex_value, percent_decoded, kind_of_decoded, kind_of_text}
 use Rattle.uri_ref.specs.Escapes.{after_digits}
 
-mapped : {A B : Type 0} (f : A → B) (o : Option A) → is_some o ≡ is_some (option_map f o)
+-- what is there stays there
+pub mapped : {A B : Type 0} (f : A → B) (o : Option A) → is_some o ≡ is_some (option_map f o)
 mapped f None = refl
 mapped f (Some x) = refl
 

@@ -1,21 +1,14 @@
 -- What holds of the parts of every text, and of the parts that such parts resolve to.
-use Rattle.std.proofs.Common.{◌≡◌, ℕ, zero, suc, ◌==◌, [], ◌∷◌, ◌++◌, Bool, true, false, not, ◌||◌, ◌&&◌, cond, Option, Some, None, is_some, unwrap_or, nat_eq, drop, length, codes, refl, sym, ap, ◌∙◌, append-nil}
-use Rattle.std.proofs.lemmas.Bool.{or_from, or_parts, eq-eqb, eqb-true}
+use Rattle.std.proofs.Common.{◌≡◌, ℕ, zero, suc, ◌==◌, [], ◌∷◌, ◌++◌, Bool, true, false, not, ◌||◌, ◌&&◌, cond, Option, Some, None, is_some, unwrap_or, drop, length, codes, refl, sym, ap, subst, ◌∙◌, append-nil}
+use Rattle.std.proofs.lemmas.Bool.{or_from, or_parts, or_right, eqb-true}
 use Rattle.std.specs.List.{list_any}
 use Rattle.definitions.specs.Values.{Text, same_text}
 use Rattle.definitions.specs.Uris.{Parts, split, begins, cut_at, is_free_of, is_scheme, led_by, ended_by, option_all, scheme_and_rest, authority_and_path, split_before}
 use Rattle.definitions.specs.Resolution.{resolve, merge, remove_dot_segments, rewritten, rewritten_times, first_segment, without_last_segment, up_to_last_slash, is_empty}
-use Rattle.uri_ref.proofs.Missing.{Misses, one_of, misses_from, free_from, joined_misses, halves_miss, rest_misses, one_missed, none_missed, more_missed, cut_misses, before_misses, is_rooted, rest_is_rooted}
+use Rattle.uri_ref.specs.Soundness.{AreSound}
+use Rattle.uri_ref.proofs.Missing.{Misses, one_of, misses_from, free_from, joined_misses, halves_miss, rest_misses, none_missed, more_missed, cut_misses, before_misses, is_rooted, rest_is_rooted, rooted_from, rooted_text}
 use Rattle.uri_ref.proofs.Recomposed.{before_joined, cut_joined, scheme_joined, authority_joined}
-use Rattle.uri_ref.proofs.Rules.{both, front, whichever}
-
--- each part is free of the signs that would end it, and a path after an authority is rooted
-pub record Sound (p : Parts) : Type 0 where
-  pub scheme : option_all is_scheme p.scheme ≡ true
-  pub authority : option_all (is_free_of (codes "/?#")) p.authority ≡ true
-  pub path : is_free_of (codes "?#") p.path ≡ true
-  pub rooted : is_some p.authority ≡ true → is_rooted p.path ≡ true
-  pub query : option_all (is_free_of (codes "#")) p.query ≡ true
+use Rattle.uri_ref.proofs.Rules.{front, whichever}
 
 -- ---- the parts of a text
 option_misses : (p : ℕ → Bool) (sign : Text) (o : Option Text) → Misses p (led_by sign o) → (t : Text) → o ≡ Some t → Misses p t
@@ -49,7 +42,7 @@ two_missed t q f = more_missed 63 (codes "#") t q (more_missed 35 [] t f (none_m
 three_missed : (t : Text) → Misses (λ c. c == 47) t → Misses (λ c. c == 63) t → Misses (λ c. c == 35) t → Misses (one_of (codes "/?#")) t
 three_missed t s q f = more_missed 47 (codes "?#") t s (two_missed t q f)
 
-pub split_sound : (t : Text) → Sound (split t)
+pub split_sound : (t : Text) → AreSound (split t)
 split_sound t =
     let f = cut_at (λ c. c == 35) t in
     let q = cut_at (λ c. c == 63) f.0 in
@@ -66,7 +59,7 @@ split_sound t =
           all_of (is_free_of (codes "/?#")) a.0 (λ u e. free_from (codes "/?#") u (three_missed u (authority_step s.1 (begins s.1 (codes "//")) u e)
           (option_misses (λ c. c == 63) (codes "//") a.0 path_q.0 u e) (option_misses (λ c. c == 35) (codes "//") a.0 path_f.0 u e)));
       path = free_from (codes "?#") a.1 (two_missed a.1 path_q.1 path_f.1);
-      rooted = rooted_step s.1 (begins s.1 (codes "//"));
+      rooted = λ e. rooted_text a.1 (rooted_step s.1 (begins s.1 (codes "//")) e);
       query = all_of (is_free_of (codes "#")) q.1 (λ u e. free_from (codes "#") u (more_missed 35 [] u (option_misses (λ c. c == 35) (codes "?") q.1 halves.1 u e) (none_missed u)));
     }
 
@@ -169,9 +162,6 @@ merge_free base path h k =
     free_from (codes "?#") (merge base path)
     (merge_misses_step (one_of (codes "?#")) (is_some base.authority && is_empty base.path) base.path path refl (misses_from (codes "?#") base.path h) (misses_from (codes "?#") path k))
 
-led_step : (c : ℕ) (t path : Text) (b : Bool) → (c == 47) ≡ true → is_rooted (cond (true || b) (c ∷ t) [] ++ path) ≡ true
-led_step c t path b h = eq-eqb 47 c (sym (eqb-true c 47 h))
-
 merge_rooted_step : (a : Bool) (base path : Text) → a ≡ true → is_rooted base ≡ true → is_rooted (cond (a && is_empty base) (47 ∷ path) (up_to_last_slash base ++ path)) ≡ true
 merge_rooted_step false base path e h = cc
 merge_rooted_step true [] path e h = refl
@@ -183,7 +173,7 @@ merge_rooted : (base : Parts) (path : Text) → is_some base.authority ≡ true 
 merge_rooted base path a h = merge_rooted_step (is_some base.authority) base.path path a h
 
 -- ---- what parts resolve to
-either : (b : Bool) (x y : Parts) → (b ≡ true → Sound x) → Sound y → Sound (cond b x y)
+either : (b : Bool) (x y : Parts) → (b ≡ true → AreSound x) → AreSound y → AreSound (cond b x y)
 either true x y h k = h refl
 either false x y h k = k
 
@@ -191,25 +181,63 @@ chosen : (f : Text → Bool) (b : Bool) (o p : Option Text) → option_all f o �
 chosen f true o p h k = h
 chosen f false o p h k = k
 
-led_is_rooted : (t : Text) → begins t (codes "/") ≡ true → is_rooted t ≡ true
-led_is_rooted [] h = refl
-led_is_rooted (c ∷ cs) h = (both (nat_eq 47 c) true h).0
+undotted_path : (path : Text) → (same_text path [] || begins path (codes "/")) ≡ true → (same_text (remove_dot_segments path) [] || begins (remove_dot_segments path) (codes "/")) ≡ true
+undotted_path path h = rooted_text (remove_dot_segments path) (undotted_rooted path (rooted_from path h))
 
-pub resolve_sound : (base r : Parts) → Sound base → Sound r → Sound (resolve base r)
+led_path : (t : Text) → begins t (codes "/") ≡ true → (same_text t [] || begins t (codes "/")) ≡ true
+led_path t h = or_right (same_text t []) (begins t (codes "/")) h
+
+merge_path : (base : Parts) (path : Text) → is_some base.authority ≡ true → (same_text base.path [] || begins base.path (codes "/")) ≡ true
+    → (same_text (merge base path) [] || begins (merge base path) (codes "/")) ≡ true
+merge_path base path a h = rooted_text (merge base path) (merge_rooted base path a (rooted_from base.path h))
+
+pub resolve_sound : (base r : Parts) → AreSound base → AreSound r → AreSound (resolve base r)
 resolve_sound base r hb hr =
     let path = undotted_free r.path hr.path in
     either (is_some r.scheme) _ _
-    (λ _. record { scheme = hr.scheme; authority = hr.authority; path = path; rooted = λ a. undotted_rooted r.path (hr.rooted a); query = hr.query })
+    (λ _. record { scheme = hr.scheme; authority = hr.authority; path = path; rooted = λ a. undotted_path r.path (hr.rooted a); query = hr.query })
     (either (is_some r.authority) _ _
-    (λ _. record { scheme = hb.scheme; authority = hr.authority; path = path; rooted = λ a. undotted_rooted r.path (hr.rooted a); query = hr.query })
+    (λ _. record { scheme = hb.scheme; authority = hr.authority; path = path; rooted = λ a. undotted_path r.path (hr.rooted a); query = hr.query })
     (either (is_empty r.path) _ _
     (λ _. record { scheme = hb.scheme; authority = hb.authority; path = hb.path; rooted = hb.rooted; query = chosen (is_free_of (codes "#")) (is_some r.query) r.query base.query hr.query hb.query })
     (either (begins r.path (codes "/")) _ _
-    (λ e. record { scheme = hb.scheme; authority = hb.authority; path = path; rooted = λ _. undotted_rooted r.path (led_is_rooted r.path e); query = hr.query })
+    (λ e. record { scheme = hb.scheme; authority = hb.authority; path = path; rooted = λ _. undotted_path r.path (led_path r.path e); query = hr.query })
     (record {
       scheme = hb.scheme;
       authority = hb.authority;
       path = undotted_free (merge base r.path) (merge_free base r.path hb.path hr.path);
-      rooted = λ a. undotted_rooted (merge base r.path) (merge_rooted base r.path a (hb.rooted a));
+      rooted = λ a. undotted_path (merge base r.path) (merge_path base r.path a (hb.rooted a));
       query = hr.query;
     }))))
+
+-- ---- the parts that the code puts together
+pub own_path : (r : Parts) (path : Text) → AreSound r → path ≡ remove_dot_segments r.path → AreSound (record r { path = path })
+own_path r path h is =
+    subst (λ p. AreSound (record r { path = p })) (sym is)
+    (record { scheme = h.scheme; authority = h.authority; path = undotted_free r.path h.path; rooted = λ a. undotted_path r.path (h.rooted a); query = h.query })
+
+pub own_authority : (base r : Parts) (path : Text) → AreSound base → AreSound r → path ≡ remove_dot_segments r.path → AreSound (record r { scheme = base.scheme; path = path })
+own_authority base r path hb h is =
+    let own = own_path r path h is in
+    record { scheme = hb.scheme; authority = own.authority; path = own.path; rooted = own.rooted; query = own.query }
+
+pub of_base : (base : Parts) (path : Text) (q f : Option Text) → AreSound base → path ≡ base.path → option_all (is_free_of (codes "#")) q ≡ true → AreSound (record base { path = path; query = q; fragment = f })
+of_base base path q f h is free =
+    subst (λ p. AreSound (record base { path = p; query = q; fragment = f })) (sym is)
+    (record { scheme = h.scheme; authority = h.authority; path = h.path; rooted = h.rooted; query = free })
+
+rooted_step_of : (base : Parts) (t path : Text) (b : Bool) → AreSound base → is_free_of (codes "?#") t ≡ true → begins t (codes "/") ≡ b
+    → path ≡ cond b (remove_dot_segments t) (remove_dot_segments (merge base t))
+    → (is_free_of (codes "?#") path ≡ true) × (is_some base.authority ≡ true → (same_text path [] || begins path (codes "/")) ≡ true)
+rooted_step_of base t path true h free e is =
+    (rw is (undotted_free t free), λ a. rw is (undotted_path t (led_path t e)))
+rooted_step_of base t path false h free e is =
+    (rw is (undotted_free (merge base t) (merge_free base t h.path free)), λ a. rw is (undotted_path (merge base t) (merge_path base t a (h.rooted a))))
+
+pub under_base : (base b r : Parts) (path : Text) → AreSound base → AreSound r → base ≡ b
+    → path ≡ cond (begins r.path (codes "/")) (remove_dot_segments r.path) (remove_dot_segments (merge b r.path))
+    → AreSound (record base { path = path; query = r.query; fragment = r.fragment })
+under_base base b r path hb h same is =
+    let here = is ∙ ap (λ x. cond {A = Text} (begins r.path (codes "/")) (remove_dot_segments r.path) (remove_dot_segments (merge x r.path))) (sym same) in
+    let whole = rooted_step_of base r.path path (begins r.path (codes "/")) hb h.path refl here in
+    record { scheme = hb.scheme; authority = hb.authority; path = whole.0; rooted = whole.1; query = h.query }

@@ -1,14 +1,15 @@
 -- The parts of a text are the only ones that recompose to it.
-use Rattle.std.proofs.Common.{◌≡◌, ℕ, ◌==◌, [], ◌∷◌, ◌++◌, Bool, true, false, not, ◌||◌, ◌&&◌, cond, Option, Some, None, is_some, is_none, unwrap_or, nat_eq, drop, codes, refl, sym, ap, ◌∙◌, append_assoc}
+use Rattle.std.proofs.Common.{◌≡◌, ℕ, ◌==◌, [], ◌∷◌, ◌++◌, Bool, true, false, not, ◌||◌, ◌&&◌, cond, Option, Some, None, is_some, is_none, unwrap_or, drop, codes, refl, sym, ap, ◌∙◌, append_assoc}
 use Rattle.std.proofs.lemmas.Bool.{and_from}
 use Rattle.std.specs.List.{list_any, slice_split}
 use Rattle.definitions.specs.Values.{Text, same_text}
 use Rattle.definitions.specs.Uris.{Parts, SplitsOnce, split, recompose, begins, cut_at, split_before, is_free_of, is_dot_segment, is_identifier, is_path_of, is_scheme, are_parts, led_by, ended_by, option_all, scheme_and_rest, authority_and_path}
+use Rattle.uri_ref.specs.Soundness.{AreSound}
 use Rattle.uri_ref.specs.Views.{made}
-use Rattle.uri_ref.proofs.Missing.{Misses, one_of, misses_from, joined_misses, one_missed, scheme_misses, is_rooted, rest_is_rooted, cut_apart, before_apart}
+use Rattle.uri_ref.proofs.Missing.{Misses, negated, misses_from, joined_misses, one_missed, scheme_misses, is_rooted, rest_is_rooted, rooted_from, rooted_text, cut_apart, before_apart}
 use Rattle.uri_ref.proofs.Recomposed.{joined, recomposes}
 use Rattle.uri_ref.proofs.Rules.{both}
-use Rattle.uri_ref.proofs.Sound.{Sound, split_sound}
+use Rattle.uri_ref.proofs.Sound.{split_sound}
 use Rattle.uri_ref.proofs.Splits.{split_from}
 
 of_option : (f : Text → Bool) (o : Option Text) → option_all f o ≡ true → (t : Text) → o ≡ Some t → f t ≡ true
@@ -100,14 +101,6 @@ split_of s a path q f hs ha hp hq rooted unled unschemed =
     (sym (ap (λ (r : Option Text × Text). r.0) at_a)) (sym (ap (λ (r : Option Text × Text). r.1) at_a)))
 
 -- ---- parts that some text splits into
-rooted_from : (t : Text) → (same_text t [] || begins t (codes "/")) ≡ true → is_rooted t ≡ true
-rooted_from [] h = refl
-rooted_from (c ∷ cs) h = (both (nat_eq 47 c) true h).0
-
-rooted_text : (t : Text) → is_rooted t ≡ true → (same_text t [] || begins t (codes "/")) ≡ true
-rooted_text [] h = refl
-rooted_text (c ∷ cs) h = and_from (nat_eq 47 c) true h refl
-
 path_some : (a x y : Bool) → cond a x y ≡ true → a ≡ true → x ≡ true
 path_some true x y h e = h
 path_some false x y h e = cc
@@ -115,10 +108,6 @@ path_some false x y h e = cc
 path_none : (o : Option Text) (x y : Bool) → cond (is_some o) x y ≡ true → is_none o ≡ true → y ≡ true
 path_none None x y h e = h
 path_none (Some t) x y h e = cc
-
-negated : (b : Bool) → not b ≡ true → b ≡ false
-negated true h = cc
-negated false h = refl
 
 only : (p : Parts) → are_parts p ≡ true → split (recompose p) ≡ p
 only p h =
@@ -181,7 +170,7 @@ path_of : (a n s x u : Bool) → (a ≡ true → u ≡ true) → (a || n) ≡ tr
 path_of true n s x u h k e = h refl
 path_of false n s x u h k e = rw (k, e) refl
 
-pub identified : (p : Parts) → Sound p → is_identifier p ≡ true → split (recompose p) ≡ p
+pub identified : (p : Parts) → AreSound p → is_identifier p ≡ true → split (recompose p) ≡ p
 identified p sound h =
     let dots = list_any is_dot_segment (slice_split (λ c. c == 47) p.path) in
     let whole = both (is_some p.scheme && is_none p.fragment && not dots) (is_some p.authority || not (begins p.path (codes "//"))) h in
@@ -191,5 +180,5 @@ identified p sound h =
     (gathered (option_all is_scheme p.scheme) (option_all (is_free_of (codes "/?#")) p.authority) (is_free_of (codes "?#") p.path) (is_path_of p) (option_all (is_free_of (codes "#")) p.query)
     sound.scheme sound.authority sound.path
     (path_of (is_some p.authority) (not (begins p.path (codes "//"))) (is_some p.scheme) (is_none (scheme_and_rest p.path).0) (same_text p.path [] || begins p.path (codes "/"))
-    (λ e. rooted_text p.path (sound.rooted e)) whole.1 scheme)
+    sound.rooted whole.1 scheme)
     sound.query)

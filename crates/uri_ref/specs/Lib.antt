@@ -1,5 +1,6 @@
 pub mod Escapes
 pub mod FragmentViews
 pub mod Places
+pub mod Soundness
 pub mod Views
 pub mod OwnedViews

@@ -5,6 +5,8 @@ ghost use Rattle.definitions.specs.Values.{Text};
 ghost use Rattle.definitions.specs.Uris.{Parts as UriParts, SplitsOnce, is_identifier, recompose, split};
 ghost use Rattle.definitions.specs.Resolution.{resolve};
 
+use crate::parts::Parts;
+
 /// An identifier resolves to itself, whatever the base.
 pub fn identifiers_stay()
     ensures { (base identifier : UriParts) → IsTrue (is_identifier identifier) → resolve base identifier ≡ identifier }
@@ -21,3 +23,11 @@ pub fn identifiers_split()
         → IsTrue (is_identifier (resolve (split base) (split reference)))
         → split (recompose (resolve (split base) (split reference))) ≡ resolve (split base) (split reference) }
 {}
+
+/// The text of an identifier splits into its parts.
+pub fn identifier_splits(parts: &Parts)
+    ensures { IsTrue (is_identifier parts.now) → split (recompose parts.now) ≡ parts.now }
+{
+    // What holds of all parts is known where a field is looked at.
+    let _ = &parts.path;
+}

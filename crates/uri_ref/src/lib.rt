@@ -14,7 +14,7 @@ mod splitting;
 pub use base_forms::base_form;
 pub use faults::Fault;
 pub use fragments::{FragmentKind, fragment_kind};
-pub use laws::{identifiers_split, identifiers_stay, texts_split_once};
+pub use laws::{identifier_splits, identifiers_split, identifiers_stay, texts_split_once};
 pub use owned_parts::OwnedParts;
 pub use parts::{Parts, is_identifier};
 pub use recomposing::recompose;

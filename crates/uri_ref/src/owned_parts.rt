@@ -1,6 +1,7 @@
 //! The parts of a URI reference that own their texts.
 
 ghost use Rattle.std.specs.Prelude.{◌≡◌, IfOk, option_map, string_bytes};
+ghost use Rattle.uri_ref.specs.Soundness.{AreSound};
 ghost use Rattle.uri_ref.specs.Views.{made};
 
 use crate::parts::Parts;
@@ -26,8 +27,11 @@ impl Model for OwnedParts {
     ghost Value = { UriParts };
 
     ghost use Rattle.uri_ref.specs.OwnedViews.{owned_parts};
+    ghost use Rattle.uri_ref.specs.Soundness.{AreSound};
 
     ghost view = { owned_parts };
+
+    ghost invariant = { λ p. AreSound (owned_parts p) };
 }
 
 impl OwnedParts {
@@ -54,6 +58,7 @@ pub(crate) fn with_path(
     query: Option<&str>,
     fragment: Option<&str>,
 ) -> Result<OwnedParts, AllocError>
+    requires { AreSound (made (option_map (λ t. t.now) scheme) (option_map (λ t. t.now) authority) (string_bytes path) (option_map (λ t. t.now) query) (option_map (λ t. t.now) fragment)) }
     ensures { IfOk result (λ p. p ≡ made (option_map (λ t. t.now) scheme.entry) (option_map (λ t. t.now) authority.entry) (string_bytes path) (option_map (λ t. t.now) query.entry) (option_map (λ t. t.now) fragment.entry)) }
 {
     let scheme = owned(alloc, scheme)?;

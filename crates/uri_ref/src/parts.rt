@@ -9,7 +9,7 @@ use std::marker::Model;
 
 /// The parts of a URI reference (RFC 3986, section 3), borrowed from its text.
 ///
-/// Contracts see the parts as `definitions` has them, each as its bytes.
+/// Contracts see the parts as `definitions` has them, each as its bytes. Each is free of the signs that would end it.
 #[derive(Debug, Drop)]
 pub struct Parts<'a> {
     pub(crate) scheme: Option<&'a str>,
@@ -25,8 +25,11 @@ impl<'a> Model for Parts<'a> {
     ghost Value = { UriParts };
 
     ghost use Rattle.uri_ref.specs.Views.{parts};
+    ghost use Rattle.uri_ref.specs.Soundness.{AreSound};
 
     ghost view = { parts };
+
+    ghost invariant = { λ p. AreSound (parts p) };
 }
 
 impl<'a> Parts<'a> {

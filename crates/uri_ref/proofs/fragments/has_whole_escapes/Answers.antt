@@ -1,6 +1,5 @@
-use Rattle.std.proofs.Common.{◌≡◌, ◌-◌, ◌∙◌, length, take, drop, is_some, sym}
+use Rattle.std.proofs.Common.{◌-◌, ◌∙◌, length, take, drop, sym}
 use Rattle.std.proofs.lemmas.List.{take_rest}
-use Rattle.definitions.specs.Fragments.{percent_decoded}
 use Rattle.uri_ref.proofs.Percents.{byte_left, escape_left}
 use Rattle.uri_ref.proofs.fragments.has_whole_escapes.Goals as goal
 

@@ -19,4 +19,4 @@ pub use owned_parts::OwnedParts;
 pub use parts::{Parts, is_identifier};
 pub use recomposing::recompose;
 pub use resolving::resolve;
-pub use splitting::split;
+pub use splitting::{split, without_fragment};

@@ -1,6 +1,6 @@
 //! The parts of a URI reference, and the test whether they identify a resource.
 
-ghost use Rattle.std.specs.Prelude.{◌≡◌, option_map};
+ghost use Rattle.std.specs.Prelude.{◌≡◌, None, option_map};
 ghost use Rattle.std.specs.List.{list_any, slice_split};
 ghost use Rattle.definitions.specs.Uris.{is_identifier, is_dot_segment};
 ghost use Rattle.std.specs.Prelude.{◌==◌};
@@ -66,6 +66,19 @@ impl<'a> Parts<'a> {
         ensures { option_map (λ t. t.now) result ≡ self.now.fragment }
     {
         self.fragment
+    }
+
+    /// The same parts without a fragment.
+    pub fn without_fragment(&self) -> Parts<'a>
+        ensures { result ≡ record self.now { fragment = None } }
+    {
+        Parts {
+            scheme: self.scheme,
+            authority: self.authority,
+            path: self.path,
+            query: self.query,
+            fragment: None,
+        }
     }
 }
 

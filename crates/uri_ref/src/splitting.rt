@@ -2,7 +2,7 @@
 
 ghost use Rattle.std.specs.Prelude.{◌≡◌, ◌==◌, ◌<◌, option_map, position, MatchOption};
 ghost use Rattle.std.specs.List.{list_all};
-ghost use Rattle.definitions.specs.Uris.{split, cut_at, split_before, is_letter, is_scheme, is_scheme_byte, scheme_and_rest, authority_and_path, recompose};
+ghost use Rattle.definitions.specs.Uris.{split, cut_at, split_before, is_letter, is_scheme, is_scheme_byte, scheme_and_rest, authority_and_path, recompose, without_fragment};
 ghost use Rattle.uri_ref.specs.Places.{Lacks, IsLast};
 
 use crate::parts::Parts;
@@ -23,6 +23,14 @@ pub fn split(text: &str) -> Parts<'_>
         query,
         fragment,
     }
+}
+
+/// The text without its fragment: what stands before its first `#`, if it has one (RFC 3986, section 3.5).
+pub fn without_fragment(text: &str) -> &str
+    ensures { result.now ≡ without_fragment text.now }
+{
+    let (before, _) = cut_at(text, '#');
+    before
 }
 
 // What stands before the first such sign, and what follows it, where there is one.

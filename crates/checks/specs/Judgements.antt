@@ -5,8 +5,7 @@ use Rattle.definitions.specs.Values.{Text, Value, string, get}
 use Rattle.definitions.specs.Texts.{reading}
 use Rattle.definitions.specs.Faults.{Fault, bad_input}
 use Rattle.definitions.specs.Resolution.{base_form}
-use Rattle.definitions.specs.Scanning.{scan_fault_by}
-use Rattle.schema_scan.specs.FirstKeywords.{first_keywords}
+use Rattle.schema_scan.specs.Stages.{stage_fault}
 use Rattle.evaluator.specs.Reports.{answer_one, verdict}
 
 abbrev pub after : {A B : Type 0} → Result A Fault → (A → Result B Fault) → Result B Fault
@@ -19,7 +18,7 @@ unless_fault (Some f) x = Err f
 
 -- the schema, where its scan finds no fault
 abbrev pub scanned : Text → Value → Result Value Fault
-scanned uri v = unless_fault (scan_fault_by first_keywords uri v) v
+scanned uri v = unless_fault (stage_fault uri v) v
 
 -- the URI's fault comes before the schema's, these before the instance's, and these before those of the evaluation. The
 -- schema stands under the base form of the URI

@@ -8,9 +8,9 @@ ghost use Rattle.checks.specs.Judgements.{judgement_of_texts, judgement_of_value
 
 use evaluator::{Report, evaluate_one};
 use json_doc::{Doc, Fault, read};
-use schema_scan::{Scanned, scan_one};
+use schema_scan::{Scanned, scan};
 use std::alloc::Global;
-use uri_ref::base_form;
+use uri_ref::{base_form, split};
 
 /// Checks the JSON text `instance` against the JSON text `schema`, which is taken to stand under the base form of `uri`
 /// (RFC 3986, section 5.1): the URI without dot segments.
@@ -30,7 +30,7 @@ pub fn check_bytes(
 {
     let base = base_form(alloc, uri)?;
     let schema = read(alloc, schema)?;
-    let scanned = scan_one(alloc, base.as_str(), &schema)?;
+    let scanned = scan(alloc, &split(base.as_str()), &schema)?;
     let instance = read(alloc, instance)?;
     evaluate_one(alloc, &scanned, &instance)
 }
@@ -46,7 +46,7 @@ pub(crate) fn check_docs(
     ensures ok { IfOk result (λ r. judgement_of_values uri.now (value schema.now) (value instance.now) ≡ Ok (is_valid r)) }
     ensures err { IfErr result (λ f. f ≢ Fault.NoRoom → judgement_of_values uri.now (value schema.now) (value instance.now) ≡ Err (fault f)) }
 {
-    let uri = base_form(alloc, uri)?;
-    let scanned = scan_one(alloc, uri.as_str(), schema)?;
+    let base = base_form(alloc, uri)?;
+    let scanned = scan(alloc, &split(base.as_str()), schema)?;
     evaluate_one(alloc, &scanned, instance)
 }

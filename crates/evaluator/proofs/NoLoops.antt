@@ -1,24 +1,20 @@
 -- Nothing loops in a document whose names are all in: no keyword refers to a schema elsewhere and none opens a resource,
 -- so the pointer grows from each schema to those that it applies.
-use Rattle.std.proofs.Common.{◌≡◌, ℕ, zero, suc, ◌+◌, ◌<◌, List, [], ◌∷◌, ◌++◌, map, length, Option, Some, None, cond, Bool, true, false, ◌&&◌, ◌||◌, nat_lt, codes, refl, sym, ap, ◌∙◌, arith, length-append}
+use Rattle.std.proofs.Common.{◌≡◌, ℕ, zero, suc, ◌+◌, ◌<◌, List, [], ◌∷◌, ◌++◌, map, length, Option, Some, None, cond, Bool, true, false, ◌&&◌, ◌||◌, codes, refl, sym, ap, ◌∙◌, arith, length-append}
 use Rattle.std.specs.List.{list_any, flat_map}
 use Rattle.std.proofs.lemmas.List.Folds.{list_any-append}
 use Rattle.std.proofs.lemmas.List.{map-append}
 use Rattle.std.proofs.lemmas.Slice.Eq.{bytes_eq-Decides}
-use Rattle.definitions.specs.Values.{Text, Value, null, boolean, integer, string, array, object, Members, no_members, member, members, members_list, same_text, entry, get, text_at, is_object, nesting}
+use Rattle.definitions.specs.Values.{Text, Value, null, boolean, integer, string, array, object, Members, no_members, member, members, members_list, same_text, entry, get, text_at}
 use Rattle.definitions.specs.Pointers.{Pointer, same_pointer}
 use Rattle.definitions.specs.Shapes.{schema_map}
 use Rattle.definitions.specs.Keywords.{shape_in}
 use Rattle.definitions.specs.Schemas.{Identity, identity, same_identity, schema_at, opened}
-use Rattle.definitions.specs.Faults.{not_object, too_nested, unsupported}
-use Rattle.definitions.specs.Scanning.{first, unless, when, scan_fault_by}
 use Rattle.definitions.specs.Applied.{Application, Outcome, Part, Place, entered, at_present}
 use Rattle.definitions.specs.Outcomes.{outcome, object_outcome, schema_outcome, is_running, same_place, used}
 use Rattle.definitions.specs.Answers.{first_application}
 use Rattle.schema_scan.specs.FirstKeywords.{first_keywords}
-use Rattle.schema_scan.specs.Walks.{misshapen, is_unknown, has_unknown, has_unknown_name, has_unknown_below, has_unknown_at, has_unknown_in, opens_resource}
-use Rattle.schema_scan.proofs.Misshapen.{bad}
-use Rattle.schema_scan.proofs.Verdict.{scan_fault_by-parts}
+use Rattle.schema_scan.specs.UnknownNames.{is_unknown, has_unknown, has_unknown_name, has_unknown_below, has_unknown_at, has_unknown_in, opens_resource}
 use Rattle.evaluator.specs.Rows.{first_rules, in_order, row_of}
 use Rattle.evaluator.specs.Views.{used_at, uses_by, some_looped, some_use_looped}
 use Rattle.evaluator.specs.declared.keyword.Keyword.{Keyword}
@@ -192,17 +188,7 @@ unfolding outcome
 never_loops zero a r above known = rw (not_running a above) refl
 never_loops (suc n) a r above known = rw (not_running a above) (schema_unlooped (outcome first_rules n) (never_loops n) a above r known a.schema.value)
 
--- ---- a document in which the scan found no fault
-last_is_there : {A : Type 0} (ys : List A) (b : Bool) (x : A) → first (ys ++ cond b (x ∷ []) []) ≡ None → b ≡ false
-last_is_there ys false x h = refl
-last_is_there [] true x h = cc
-last_is_there (y ∷ ys) true x h = cc
-
-pub faultless_known : (base : Text) (v : Value) → scan_fault_by first_keywords base v ≡ None → has_unknown true v ≡ false
-faultless_known base v h =
-    last_is_there (unless (is_object v) not_object ++ (when (nat_lt 120 (nesting v)) too_nested ++ map (bad []) (misshapen v))) (has_unknown true v) unsupported
-    (sym (scan_fault_by-parts base v) ∙ h)
-
+-- ---- a document whose names are all in
 pub first_never_loops : (n : ℕ) (base : Text) (v x : Value) → has_unknown true v ≡ false → (outcome first_rules n (first_application (schema_at base [] v) x)).looped ≡ false
 first_never_loops n base v x known =
     never_loops n (first_application (schema_at base [] v) x) true tt (ap (has_unknown true) (opened-value base [] v (text_at (codes "$id") v)) ∙ known)

@@ -4,7 +4,7 @@ ghost use Rattle.std.specs.Prelude.{◌≡◌, ◌≢◌, true, false, Ok, Err, 
 ghost use Rattle.faults.specs.View.{fault};
 ghost use Rattle.json_doc.specs.Docs.{value};
 ghost use Rattle.schema_scan.specs.Scans.{scanned_base, scanned_value};
-ghost use Rattle.schema_scan.specs.Walks.{has_unknown};
+ghost use Rattle.schema_scan.specs.UnknownNames.{has_unknown};
 ghost use Rattle.evaluator.specs.Reports.{is_valid, answer_one, verdict};
 
 use crate::apply::apply;
@@ -57,7 +57,7 @@ pub fn evaluate_one(alloc: Global, scanned: &Scanned<'_>, instance: &Doc) -> Res
     ensures ok { IfOk result (λ r. verdict (answer_one (scanned_base scanned.now) (scanned_value scanned.now) (value instance.now)) ≡ Ok (is_valid r)) }
     ensures err { IfErr result (λ f. f ≢ Fault.NoRoom → verdict (answer_one (scanned_base scanned.now) (scanned_value scanned.now) (value instance.now)) ≡ Err (fault f)) }
 {
-    judge(alloc, scanned.uri(), scanned.document(), instance)
+    judge(alloc, scanned.base(), scanned.document(), instance)
 }
 
 // Nothing loops where the schema's names are all in.

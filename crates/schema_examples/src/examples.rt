@@ -1,5 +1,5 @@
 use json_doc::read;
-use schema_scan::scan_document;
+use schema_scan::scan;
 use std::alloc::Global;
 use std::test::Fail;
 use uri_ref::split;
@@ -7,7 +7,7 @@ use uri_ref::split;
 // What a scan of the document under this base answers, as text.
 fn answer_under(alloc: Global, base: &str, document: &str) -> Result<String, Fail> {
     let document = read(alloc, document.as_bytes())?;
-    match scan_document(alloc, &split(base), &document) {
+    match scan(alloc, &split(base), &document) {
         Ok(scanned) => Ok(String::from_str(alloc, scanned.base())?),
         Err(fault) => Ok(format!(in alloc; "{fault}")?),
     }
@@ -35,19 +35,37 @@ fn takes_what_is_in(rt: HostRuntime) -> Result<(), Fail> {
     let alloc = rt.alloc();
     let document = r#"{"type":"object","required":["a"],"properties":{"a":{"$schema":1}}}"#;
     assert_eq!(rt; answer(alloc, document)?.as_str(), "https://ex.org/s");
+    assert_eq!(rt;
+        answer(alloc, r#"{"$comment":1}"#)?.as_str(),
+        "https://ex.org/s"
+    );
     Ok(())
 }
 
 #[test]
 fn refuses_wrong_shapes(rt: HostRuntime) -> Result<(), Fail> {
     let alloc = rt.alloc();
-    assert_eq!(rt; answer(alloc, r#"{"not":5}"#)?.as_str(), "8 BadKeyword /not");
-    assert_eq!(rt; answer(alloc, r#"{"allOf":[]}"#)?.as_str(), "8 BadKeyword /allOf");
+    assert_eq!(rt;
+        answer(alloc, r#"{"not":5}"#)?.as_str(),
+        "8 BadKeyword /not"
+    );
+    assert_eq!(rt;
+        answer(alloc, r#"{"allOf":[]}"#)?.as_str(),
+        "8 BadKeyword /allOf"
+    );
     let own = r#"{"$defs":{"d":{"type":"int"}},"allOf":[]}"#;
     assert_eq!(rt; answer(alloc, own)?.as_str(), "8 BadKeyword /allOf");
+    let escaped = r#"{"properties":{"a/~b":{"type":1}}}"#;
+    assert_eq!(rt;
+        answer(alloc, escaped)?.as_str(),
+        "8 BadKeyword /properties/a~1~0b/type"
+    );
     let below = r#"{"$defs":{"d":{"type":"int"}}}"#;
-    assert_eq!(rt; answer(alloc, below)?.as_str(), "8 BadKeyword /$defs/d/type");
-    let listed = r#"{"allOf":[true,{"items":{"not":{"$ref":"%"}}}]}"#;
+    assert_eq!(rt;
+        answer(alloc, below)?.as_str(),
+        "8 BadKeyword /$defs/d/type"
+    );
+    let listed = r#"{"allOf":[true,{"items":{"not":{"$ref":"s#%"}}}]}"#;
     assert_eq!(rt;
         answer(alloc, listed)?.as_str(),
         "8 BadKeyword /allOf/1/items/not/$ref"
@@ -60,8 +78,14 @@ fn refuses_wrong_core_keywords(rt: HostRuntime) -> Result<(), Fail> {
     let alloc = rt.alloc();
     assert_eq!(rt; answer(alloc, "[]")?.as_str(), "6 NotObject");
     assert_eq!(rt; answer(alloc, r#"{"$id":"a#b"}"#)?.as_str(), "9 BadId");
-    assert_eq!(rt; answer(alloc, r#"{"$anchor":"1"}"#)?.as_str(), "10 BadAnchor");
-    assert_eq!(rt; answer(alloc, r#"{"$schema":"x:y"}"#)?.as_str(), "11 Dialect");
+    assert_eq!(rt;
+        answer(alloc, r#"{"$anchor":"1"}"#)?.as_str(),
+        "10 BadAnchor"
+    );
+    assert_eq!(rt;
+        answer(alloc, r#"{"$schema":"x:y"}"#)?.as_str(),
+        "11 Dialect"
+    );
     assert_eq!(rt;
         answer_under(alloc, "x:/b", r#"{"$id":"/.//a"}"#)?.as_str(),
         "9 BadId"
@@ -87,7 +111,10 @@ fn refuses_names_that_stand_twice(rt: HostRuntime) -> Result<(), Fail> {
 #[test]
 fn names_that_are_not_in_come_last(rt: HostRuntime) -> Result<(), Fail> {
     let alloc = rt.alloc();
-    assert_eq!(rt; answer(alloc, r#"{"allOf":[true]}"#)?.as_str(), "33 Unsupported");
+    assert_eq!(rt;
+        answer(alloc, r#"{"allOf":[true]}"#)?.as_str(),
+        "33 Unsupported"
+    );
     let uri = r#"{"allOf":[true],"$defs":{"d":{"$id":"s"}}}"#;
     assert_eq!(rt; answer(alloc, uri)?.as_str(), "12 DuplicateUri");
     // One name in two resources is two anchors.

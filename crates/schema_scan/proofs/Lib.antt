@@ -1,9 +1,5 @@
 pub mod Plain
-pub mod Misshapen
 pub mod Unknown
-pub mod Verdict
-pub mod Stopped
-pub mod Checked
 pub mod Opened
 pub mod Placed
 pub mod Walked

@@ -1,5 +1,5 @@
 -- The first fault of a document, where only the keywords of a table are in.
-use Rattle.std.proofs.Common.{◌≡◌, suc, List, [], ◌∷◌, ◌++◌, Bool, true, Some, None, refl, sym, ap, ◌∙◌, arith}
+use Rattle.std.proofs.Common.{◌≡◌, suc, List, [], ◌∷◌, ◌++◌, Bool, true, false, Some, None, refl, sym, ap, ◌∙◌, arith}
 use Rattle.std.specs.List.{list_any}
 use Rattle.definitions.specs.Values.{Text, Value, nesting}
 use Rattle.definitions.specs.Faults.{Fault, unsupported}
@@ -7,7 +7,7 @@ use Rattle.definitions.specs.Schemas.{schema_at, schemas_within}
 use Rattle.definitions.specs.Scanning.{first, when, scan_faults, scan_fault, unsupported_faults}
 use Rattle.schema_scan.specs.FirstKeywords.{first_keywords}
 use Rattle.schema_scan.specs.Stages.{stage_fault}
-use Rattle.schema_scan.specs.Walks.{has_unknown}
+use Rattle.schema_scan.specs.UnknownNames.{has_unknown}
 use Rattle.schema_scan.proofs.Opened.{value-at}
 use Rattle.schema_scan.proofs.Unknown.{has_unsupported, unsupported-has_unknown}
 
@@ -23,6 +23,20 @@ first-some (z ∷ xs) ys x e = e
 first-none : (xs ys : List Fault) → first xs ≡ None → first (xs ++ ys) ≡ first ys
 first-none [] ys e = refl
 first-none (z ∷ xs) ys e = cc
+
+-- a document without a fault has no unknown name
+first-rest : (xs ys : List Fault) → first (xs ++ ys) ≡ None → first ys ≡ None
+first-rest [] ys e = e
+first-rest (z ∷ xs) ys e = cc
+
+absent : (b : Bool) → first (when b unsupported) ≡ None → b ≡ false
+absent true e = cc
+absent false e = refl
+
+pub faultless_known : (base : Text) (v : Value) → stage_fault base v ≡ None → has_unknown true v ≡ false
+unfolding stage_fault
+faultless_known base v e =
+    absent (has_unknown true v) (sym (ap first (unknown_names base v)) ∙ first-rest (scan_faults base v) (unsupported_faults first_keywords base v) e)
 
 pub stage-some : (base : Text) (v : Value) (f : Fault) → scan_fault base v ≡ Some f → stage_fault base v ≡ Some f
 unfolding stage_fault

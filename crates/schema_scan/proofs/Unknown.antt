@@ -1,6 +1,6 @@
 -- The schemas of the definitions hold an unsupported name where the value holds an unknown one, whatever the base and
 -- the pointer.
-use Rattle.std.proofs.Common.{◌≡◌, ◌<◌, ℕ, zero, suc, List, [], ◌∷◌, ◌++◌, map, length, Bool, true, false, ◌||◌, ◌==◌, Option, Some, None, is_some, codes, refl, sym, ap, ap₂, ◌∙◌, arith}
+use Rattle.std.proofs.Common.{◌≡◌, ◌<◌, ℕ, zero, suc, List, [], ◌∷◌, ◌++◌, map, length, Bool, true, false, ◌||◌, ◌==◌, Option, Some, None, option_map, unwrap_or, is_some, codes, refl, sym, ap, ap₂, ◌∙◌, arith}
 use Rattle.std.proofs.lemmas.Bool.Decides.{nat_tests}
 use Rattle.std.proofs.lemmas.Grind.{flat_map-append}
 use Rattle.std.proofs.lemmas.List.Folds.{list_any-append}
@@ -12,9 +12,19 @@ use Rattle.definitions.specs.Keywords.{Keyword, keyword_named, shape_in}
 use Rattle.definitions.specs.Schemas.{Schema, opened, schema_at, below, at_place, schemas_within, is_root}
 use Rattle.definitions.specs.Scanning.{is_unsupported}
 use Rattle.schema_scan.specs.FirstKeywords.{first_keywords}
-use Rattle.schema_scan.specs.Walks.{has_unknown_name, opens_resource, has_unknown, has_unknown_below, has_unknown_at, has_unknown_in}
+use Rattle.schema_scan.specs.UnknownNames.{has_unknown_name, opens_resource, has_unknown, has_unknown_below, has_unknown_at, has_unknown_in}
 use Rattle.schema_scan.proofs.Plain.{is_plain, IsPlain, no_keyword, of_row, plain}
-use Rattle.schema_scan.proofs.Misshapen.{shape_of_row, value-schema_at}
+use Rattle.schema_scan.proofs.Opened.{value-at}
+
+abbrev shape_of_row : Option Keyword → Shape
+shape_of_row k = unwrap_or (option_map (λ r. r.shape) k) any_value
+
+-- what two options show alike is there in both or in none
+pub is_some-same : {A B C : Type 0} (f : A → C) (g : B → C) (x : Option A) (y : Option B) → option_map f x ≡ option_map g y → is_some y ≡ is_some x
+is_some-same f g None None e = refl
+is_some-same f g None (Some y) e = cc
+is_some-same f g (Some x) None e = cc
+is_some-same f g (Some x) (Some y) e = refl
 
 -- ---- tests
 list_any-flat_map : {A B : Type 0} (test : B → Bool) (f : A → List B) (xs : List A) → list_any test (flat_map f xs) ≡ list_any (λ x. list_any test (f x)) xs
@@ -131,6 +141,6 @@ unsupported-has_unknown zero way base p v at_root e h = absurd (omega arith)
 unsupported-has_unknown (suc n) way base p v at_root e h =
     ap (λ u. list_any (λ m. is_unsupported first_keywords (schema_at base p v) m.0) (members u)
     || list_any has_unsupported (flat_map (λ t. schemas_within first_keywords n (way ++ t.0) t.1) (flat_map (λ m. at_place (schema_at base p v) m.0 m.1 (shape_in first_keywords m.0)) (members u))))
-    (value-schema_at base p v)
+    (value-at base p v)
     ∙ level_names n (unsupported-has_unknown n) way (schema_at base p v) v at_root h
     (λ ms is. ap (λ u. is_root (schema_at base p u)) is ∙ is_root-schema_at base p ms at_root e)

@@ -1,7 +1,5 @@
 pub mod FirstKeywords
-pub mod Walks
-pub mod Stops
-pub mod Scans
+pub mod UnknownNames
 pub mod Places
 pub mod Missteps
 pub mod Forms
@@ -11,4 +9,4 @@ pub mod Tables
 pub mod Names
 pub mod AnchorViews
 pub mod Stages
-pub mod Documents
+pub mod Scans

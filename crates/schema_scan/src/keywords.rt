@@ -9,7 +9,7 @@ ghost use Rattle.definitions.specs.Keywords.{keyword_named};
 ghost use Rattle.json_doc.specs.Docs.{value};
 ghost use Rattle.keyword_shapes.specs.ShapeView.{shape_view};
 ghost use Rattle.schema_scan.specs.FirstKeywords.{first_keywords};
-ghost use Rattle.schema_scan.specs.Walks.{is_ignored_name, dollar_names};
+ghost use Rattle.schema_scan.specs.UnknownNames.{is_ignored_name, dollar_names};
 
 use json_doc::Doc;
 use keyword_shapes::{Shape, fits};
@@ -38,16 +38,6 @@ pub fn keyword_shape(name: &str) -> Option<Shape>
         "uniqueItems" => Some(Shape::Truth),
         "properties" => Some(Shape::SchemaMap),
         _ => None,
-    }
-}
-
-/// Whether the value has the shape; any value has it where no keyword asks for one.
-pub fn has_shape_of(shape: Option<Shape>, doc: &Doc) -> bool
-    ensures { result ≡ has_shape (unwrap_or (option_map shape_view shape) any_value) (value doc.now) }
-{
-    match shape {
-        Some(shape) => fits(shape, doc),
-        None => true,
     }
 }
 

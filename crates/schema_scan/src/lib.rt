@@ -2,8 +2,6 @@
 //! fault.
 #![tactic(auto)]
 
-mod document;
-mod documents;
 mod forms;
 mod keyword_values;
 mod keywords;
@@ -11,19 +9,12 @@ mod names;
 mod refusal;
 mod repeats;
 mod resources;
-mod scan;
 mod scanned;
-mod stop;
+mod scanning;
 mod table;
 mod unsupported;
 mod visit;
-mod walk;
 
-pub use document::ScannedDocument;
-pub use documents::scan_document;
 pub use faults::Fault;
-pub use scan::scan_one;
 pub use scanned::Scanned;
-
-#[cfg(test)]
-mod tests;
+pub use scanning::scan;

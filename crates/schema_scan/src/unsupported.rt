@@ -4,7 +4,7 @@ ghost use Rattle.std.specs.Prelude.{◌≡◌, option_map, unwrap_or};
 ghost use Rattle.definitions.specs.Shapes.{any_value};
 ghost use Rattle.json_doc.specs.Docs.{value, members_view};
 ghost use Rattle.keyword_shapes.specs.ShapeView.{shape_view};
-ghost use Rattle.schema_scan.specs.Walks.{is_unknown, opens_resource, has_unknown_name, has_unknown, has_unknown_below, has_unknown_at, has_unknown_in};
+ghost use Rattle.schema_scan.specs.UnknownNames.{is_unknown, opens_resource, has_unknown_name, has_unknown, has_unknown_below, has_unknown_at, has_unknown_in};
 
 use crate::keywords::{is_unknown, keyword_shape};
 use json_doc::{Doc, Members};

@@ -1,7 +1,7 @@
 use Rattle.std.proofs.Common.{true, ap, ◌∙◌}
 use Rattle.schema_scan.specs.Scans.{scanned_base, scanned_value}
-use Rattle.schema_scan.specs.Walks.{has_unknown}
-use Rattle.evaluator.proofs.NoLoops.{faultless_known}
+use Rattle.schema_scan.specs.UnknownNames.{has_unknown}
+use Rattle.schema_scan.proofs.StageFaults.{faultless_known}
 use Rattle.evaluator.proofs.report.evaluate_one.Goals as goal
 
 pub judge-requires : goal.judge-requires

@@ -3,7 +3,7 @@ use Rattle.definitions.specs.Values.{to_members, members_nesting}
 use Rattle.json_doc.specs.Docs.{members_view}
 use Rattle.json_doc.specs.Members.{members_left}
 use Rattle.json_doc.proofs.Views.{to_members-value}
-use Rattle.schema_scan.specs.Walks.{has_unknown_below, has_unknown_in}
+use Rattle.schema_scan.specs.UnknownNames.{has_unknown_below, has_unknown_in}
 use Rattle.schema_scan.proofs.unsupported.+unsupported.Goals as goal
 
 pub has_unknown_below-loop-name-init : goal.has_unknown_below-loop-name-init

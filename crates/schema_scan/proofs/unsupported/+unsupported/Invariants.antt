@@ -2,7 +2,7 @@ use Rattle.std.proofs.Common.{◌≡◌, ◌≤◌, ◌+◌, ◌*◌}
 use Rattle.definitions.specs.Values.{nesting, members_nesting, to_members}
 use Rattle.json_doc.specs.Docs.{value, members_view}
 use Rattle.json_doc.specs.Members.{members_left}
-use Rattle.schema_scan.specs.Walks.{has_unknown_below, has_unknown_in}
+use Rattle.schema_scan.specs.UnknownNames.{has_unknown_below, has_unknown_in}
 use Rattle.schema_scan.proofs.unsupported.+unsupported.Given as goal
 
 abbrev pub decreases-has_unknown : goal.decreases-has_unknown

@@ -3,7 +3,7 @@ use Rattle.definitions.specs.Values.{to_members}
 use Rattle.json_doc.specs.Docs.{members_view}
 use Rattle.json_doc.specs.Members.{members_left}
 use Rattle.json_doc.proofs.Views.{to_members-value}
-use Rattle.schema_scan.specs.Walks.{has_unknown_name}
+use Rattle.schema_scan.specs.UnknownNames.{has_unknown_name}
 use Rattle.schema_scan.proofs.unsupported.has_unknown_name.Goals as goal
 
 pub loop-name-init : goal.loop-name-init

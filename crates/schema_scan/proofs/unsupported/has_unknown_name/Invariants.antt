@@ -2,7 +2,7 @@ use Rattle.std.proofs.Common.{◌≡◌}
 use Rattle.definitions.specs.Values.{to_members}
 use Rattle.json_doc.specs.Docs.{members_view}
 use Rattle.json_doc.specs.Members.{members_left}
-use Rattle.schema_scan.specs.Walks.{has_unknown_name}
+use Rattle.schema_scan.specs.UnknownNames.{has_unknown_name}
 use Rattle.schema_scan.proofs.unsupported.has_unknown_name.Given as goal
 
 abbrev pub invariant-loop-name : goal.invariant-loop-name

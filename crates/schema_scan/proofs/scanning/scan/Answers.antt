@@ -2,9 +2,9 @@ use Rattle.std.proofs.Common.{◌≡◌, true, false, ap, ◌∙◌}
 use Rattle.definitions.specs.Uris.{recompose}
 use Rattle.json_doc.specs.Docs.{value}
 use Rattle.schema_scan.specs.Stages.{stage_fault}
-use Rattle.schema_scan.specs.Walks.{has_unknown}
+use Rattle.schema_scan.specs.UnknownNames.{has_unknown}
 use Rattle.schema_scan.proofs.StageFaults.{stage-some, stage-none}
-use Rattle.schema_scan.proofs.documents.scan_document.Goals as goal
+use Rattle.schema_scan.proofs.scanning.scan.Goals as goal
 
 pub returns-in-Err-clause-err : goal.returns-in-Err-clause-err
 returns-in-Err-clause-err c =

@@ -1,43 +1,11 @@
--- What a walk over the schemas of a document finds, read off the values alone. Neither the base nor the pointer of a
--- schema matters to the keywords that are in: only whether the schema stands at the root of a resource, to `$schema`.
-use Rattle.std.specs.Prelude.{List, [], ◌∷◌, ◌++◌, Bool, false, ◌&&◌, ◌||◌, not, if◌then◌else◌, is_some, codes, map}
+-- Names that a table of keywords doesn't have, in the schemas of a document, read off the values alone. Neither the base
+-- nor the pointer of a schema matters to them: only whether the schema stands at the root of a resource, to `$schema`.
+use Rattle.std.specs.Prelude.{List, [], ◌∷◌, Bool, false, ◌&&◌, ◌||◌, not, if◌then◌else◌, is_some, codes}
 use Rattle.definitions.specs.Values.{Text, same_text, text_at, Value, object, Members, no_members, member}
-use Rattle.definitions.specs.Pointers.{Pointer}
 use Rattle.definitions.specs.Uris.{begins}
-use Rattle.definitions.specs.Shapes.{Shape, has_shape, schema_map}
+use Rattle.definitions.specs.Shapes.{Shape, schema_map}
 use Rattle.definitions.specs.Keywords.{keywords, is_keyword_of, shape_in}
 use Rattle.schema_scan.specs.FirstKeywords.{first_keywords}
-
--- the same pointers from the value around, whose member of this name they start in
-abbrev pub under : Text → List Pointer → List Pointer
-under name = map (λ p. name ∷ p)
-
--- ---- keywords whose value has a wrong shape, in the order of the walk
-abbrev pub misshapen_keyword : Text → Value → List Pointer
-misshapen_keyword name v = if has_shape (shape_in first_keywords name) v then [] else (name ∷ []) ∷ []
-
-abbrev pub misshapen_keywords : Members → List Pointer
-misshapen_keywords no_members = []
-misshapen_keywords (member name v ms) = misshapen_keyword name v ++ misshapen_keywords ms
-
-abbrev mutual
-  -- of a schema: its own, and then those of its subschemas
-  pub misshapen : Value → List Pointer
-  misshapen (object ms) = misshapen_keywords ms ++ misshapen_below ms
-  misshapen _ = []
-
-  pub misshapen_below : Members → List Pointer
-  misshapen_below no_members = []
-  misshapen_below (member name v ms) = under name (misshapen_at (shape_in first_keywords name) v) ++ misshapen_below ms
-
-  -- of the schemas at the value of a keyword of this shape
-  pub misshapen_at : Shape → Value → List Pointer
-  misshapen_at schema_map (object ms) = misshapen_in ms
-  misshapen_at _ _ = []
-
-  pub misshapen_in : Members → List Pointer
-  misshapen_in no_members = []
-  misshapen_in (member name v ms) = under name (misshapen v) ++ misshapen_in ms
 
 -- ---- names that the table doesn't have, and that aren't ignored
 -- the keywords of the standard that begin with `$`

@@ -6,13 +6,13 @@ ghost use Rattle.definitions.specs.Uris.{recompose};
 ghost use Rattle.definitions.specs.Scanning.{scan_fault};
 ghost use Rattle.faults.specs.View.{fault};
 ghost use Rattle.json_doc.specs.Docs.{value};
-ghost use Rattle.schema_scan.specs.Documents.{document_base, document_value};
+ghost use Rattle.schema_scan.specs.Scans.{scanned_base, scanned_value};
 ghost use Rattle.schema_scan.specs.Places.{places};
 ghost use Rattle.schema_scan.specs.Stages.{stage_fault};
 ghost use Rattle.schema_scan.specs.Tables.{uris_of, places_of};
 ghost use Rattle.schema_scan.specs.Uris.{uri_at};
 
-use crate::document::ScannedDocument;
+use crate::scanned::Scanned;
 use crate::names::{has_repeated_anchor, has_repeated_uri};
 use crate::table::Table;
 use crate::unsupported::has_unknown;
@@ -41,12 +41,12 @@ const MOST_NESTED: usize = 120;
 /// - [`Fault::Unsupported`]: a schema has a name that is no keyword that is in. A name that begins with `$` and is no
 ///   keyword is ignored, and so is `$schema` below the root of a resource.
 /// - [`Fault::NoRoom`]: memory ran out.
-pub fn scan_document<'a>(
+pub fn scan<'a>(
     alloc: Global,
     base: &Parts,
     document: &'a Doc,
-) -> Result<ScannedDocument<'a>, Fault>
-    ensures ok { IfOk result (λ s. (document_base s ≡ recompose base.now) × (document_value s ≡ value document.now)) }
+) -> Result<Scanned<'a>, Fault>
+    ensures ok { IfOk result (λ s. (scanned_base s ≡ recompose base.now) × (scanned_value s ≡ value document.now)) }
     ensures sound { OnOk result (stage_fault (recompose base.now) (value document.now) ≡ None) }
     ensures err { IfErr result (λ f. f ≢ Fault.NoRoom → stage_fault (recompose base.now) (value document.now) ≡ Some (fault f)) }
 {
@@ -57,7 +57,7 @@ pub fn scan_document<'a>(
     if has_unknown(document, true) {
         return Err(Fault::Unsupported);
     }
-    Ok(ScannedDocument::new(table, document))
+    Ok(Scanned::new(table, document))
 }
 
 // The schemas of the document, where the scan by all keywords finds no fault.

@@ -12,7 +12,7 @@ use Rattle.schema_scan.specs.Tables.{uris_of, places_of}
 use Rattle.schema_scan.specs.Uris.{uri_at}
 use Rattle.schema_scan.proofs.Extended.{uri_at-first}
 use Rattle.schema_scan.proofs.ScanFaults.{uris_repeat, anchors_repeat, fault_of_misstep, fault_of_uris, fault_of_names}
-use Rattle.schema_scan.proofs.documents.read_schemas.Goals as goal
+use Rattle.schema_scan.proofs.scanning.read_schemas.Goals as goal
 
 pub returns-in-Err-clause-err : goal.returns-in-Err-clause-err
 returns-in-Err-clause-err c =

@@ -38,3 +38,4 @@ pub mod BundledDocuments
 pub mod Bundled
 pub mod FragmentTexts
 pub mod LocatedSchemas
+pub mod BundledValues

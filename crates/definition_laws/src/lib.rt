@@ -16,7 +16,8 @@ mod uniqueness;
 ghost use Rattle.definition_laws.specs.Laws.{FailingEvaluatesNothing, RefusalsKeepTheRegistry, CoursesAreReplies, AgreeingAnswerAlike};
 
 pub use bundling::{
-    bundles_answer_the_same, bundles_are_alike, bundles_keep_the_resources, bundles_keep_their_uri,
+    bundles_answer_the_same, bundles_are_alike, bundles_are_definite, bundles_keep_the_resources,
+    bundles_keep_their_uri,
 };
 pub use identities::{identity_names_one_schema, roots_are_found, schemas_are_pointed_to};
 pub use keeping::{

@@ -1,24 +1,28 @@
 -- A bundle's table is alike to that of the documents that it is made of.
-use Rattle.std.proofs.Common.{◌≡◌, ◌⊎◌, ◌||◌, ◌++◌, suc, List, [], ◌∷◌, Bool, true, false, cond, not, Option, Some, None, Ok, Err, is_some, nat_lt, length, map, codes, refl, sym, ap, subst, ◌∙◌, inl, inr}
+use Rattle.std.proofs.Common.{◌≡◌, ◌==◌, ◌⊎◌, ◌||◌, ◌++◌, suc, List, [], ◌∷◌, Bool, true, false, cond, not, Option, Some, None, Ok, Err, is_some, nat_lt, length, map, codes, refl, sym, ap, subst, ◌∙◌, inl, inr}
 use Rattle.std.specs.List.{filter}
 use Rattle.definitions.specs.Values.{Text, Value, entry, is_object, nesting, same_text}
 use Rattle.definitions.specs.Texts.{text}
 use Rattle.definitions.specs.Faults.{bundle_too_large}
 use Rattle.definitions.specs.Pointers.{Pointer}
 use Rattle.definitions.specs.Keywords.{keywords}
-use Rattle.definitions.specs.Schemas.{Schema, Document, schema_at, below, document_from, schemas_from, schemas_of, table_of}
+use Rattle.definitions.specs.Schemas.{Schema, Document, schema_at, below, document_from, schemas_from, schemas_of, table_of, is_root}
+use Rattle.definitions.specs.Scanning.{resource_uris}
+use Rattle.definitions.specs.Alike.{IsAlikeSchema}
+use Rattle.definition_laws.proofs.Targets.{alike_resource, alike_pointer}
 use Rattle.definitions.specs.Registries.{resources_of}
 use Rattle.definitions.specs.Reach.{least}
 use Rattle.definitions.specs.Bundles.{document_of, others_of, under_its_uri, defs_of, bundle_of, clash, most_bundle_bytes, most_bundle_nesting, sized, bundle_unless, bundle_from, bundle}
 use Rattle.definition_laws.specs.Identities.{IsDefinite}
-use Rattle.definition_laws.specs.Bundling.{IsAbsolute, AreWhole, BundlesAreAlike, BundlesAnswerTheSame}
-use Rattle.definition_laws.proofs.Occurrences.{IsIn, contains_from_in, in_flat_map, into_flat_map, in_map, into_map, into_filter, from_filter}
+use Rattle.definition_laws.specs.Bundling.{IsAbsolute, AreWhole, BundlesKeepTheirUri, BundlesKeepTheResources, BundlesAreDefinite, BundlesAreAlike, BundlesAnswerTheSame}
+use Rattle.definition_laws.proofs.Occurrences.{IsIn, in_from_contains, contains_from_in, in_flat_map, into_flat_map, in_map, into_map, into_filter, from_filter, filter_passes}
 use Rattle.definition_laws.proofs.Places.{value-opened, IsStep, IsBelow, here, further}
 use Rattle.definition_laws.proofs.Roots.{same_text_itself, same_text_is, within_from, root_opened, table_definite}
 use Rattle.definition_laws.proofs.Tables.{table_closed, step_closed, found_in}
 use Rattle.definition_laws.proofs.ReachedTables.{found_passes, one_has, own_uri}
-use Rattle.definition_laws.proofs.Extending.{Extends, extends_itself, extends_by, extends_below, IsPrepared, prepared_alike, roots_alike}
+use Rattle.definition_laws.proofs.Extending.{Extends, extends_itself, extends_by, extends_below, Correspond, IsPrepared, prepared_alike, roots_alike}
 use Rattle.definition_laws.proofs.AlikeTables.{alike_tables_answer_the_same}
+use Rattle.definition_laws.proofs.BundledValues.{bundle_definite}
 use Rattle.definition_laws.proofs.BundledDocuments.{root_schema, step_moved, opened_there, under_id, under_keeps, under_had, under_unbundled, bundle_id, bundle_keeps, bundle_had, bundle_embeds, bundle_unbundled, entry_found, IsApart, HaveOwnUris}
 
 -- ---- a document's own root
@@ -230,19 +234,69 @@ made_of ds uri root whole e none =
         inl (own d root i inside (sym (same_text_is uri d.canonical f) ∙ same_text_is uri root.canonical (found_passes (λ c. same_text uri c.canonical) ds root e)))
     by d i inside own false f = inr (into_filter (λ c. not (same_text uri c.canonical)) ds d i (ap not f))
 
-bundle_prepared : (ds : List Document) (uri base : Text) (v : Value) → AreWhole ds → bundle ds uri ≡ Ok v → IsDefinite v → IsPrepared ds (table_of (document_from base v ∷ []))
-bundle_prepared ds uri base v whole e d =
+uri_kept : (ds : List Document) (uri base : Text) (v : Value) → AreWhole ds → bundle ds uri ≡ Ok v → (document_from base v).canonical ≡ uri
+uri_kept ds uri base v whole e =
     let parts = bundle_parts (document_of ds uri) (others_of uri ds) v e in
     let root : Document = parts.0 in
-    let is : v ≡ bundle_of root (others_of uri ds) = (parts.2).1 in
-    subst (λ w. IsPrepared ds (table_of (document_from base w ∷ []))) (sym is)
-    (prepared ds root (others_of uri ds) (made_of ds uri root whole parts.1 (parts.2).0) base (subst IsDefinite is d))
+    let found : uri ≡ root.canonical = same_text_is uri root.canonical (found_passes (λ c. same_text uri c.canonical) ds root parts.1) in
+    ap (λ w. (document_from base w).canonical) (parts.2).1
+    ∙ ap (λ s. s.resource) (top_is ds root (others_of uri ds) (made_of ds uri root whole parts.1 (parts.2).0) base)
+    ∙ sym found
+
+bundle_corresponds : (ds : List Document) (uri base : Text) (v : Value) → AreWhole ds → bundle ds uri ≡ Ok v → Correspond (table_of ds) (table_of (document_from base v ∷ []))
+bundle_corresponds ds uri base v whole e =
+    let parts = bundle_parts (document_of ds uri) (others_of uri ds) v e in
+    let root : Document = parts.0 in
+    let made : IsMade ds root (others_of uri ds) = made_of ds uri root whole parts.1 (parts.2).0 in
+    subst (λ w. Correspond (table_of ds) (table_of (document_from base w ∷ []))) (sym (parts.2).1)
+    (record { forth = forth ds root (others_of uri ds) made base; back = back ds root (others_of uri ds) made base })
+
+alike_sym : (s t : Schema) → IsAlikeSchema s t → IsAlikeSchema t s
+alike_sym s t h = (sym h.0, sym h.1)
+
+uris_over : (table other : List Schema) → ((s : Schema) → IsIn s table → (t : Schema) × IsIn t other × IsAlikeSchema s t) → (u : Text) → IsIn u (resource_uris table) → IsIn u (resource_uris other)
+uris_over table other over u i =
+    let s = in_map (λ r. r.resource) (filter is_root table) u i in
+    let t = over s.0 (from_filter is_root table s.0 s.1) in
+    let root : is_root t.0 ≡ true = ap (λ p. length p == 0) (alike_pointer s.0 t.0 t.2) ∙ filter_passes is_root table s.0 s.1 in
+    subst (λ x. IsIn x (resource_uris other)) (alike_resource s.0 t.0 t.2 ∙ s.2) (into_map (λ r. r.resource) (filter is_root other) t.0 (into_filter is_root other t.0 t.1 root))
+
+definite_made : (ds : List Document) (root : Document) (others : List Document) → IsMade ds root others → IsDefinite (bundle_of root others)
+definite_made ds root others made =
+    bundle_definite root others (made.whole.texts root (contains_from_in ds root made.root_in)) (made.whole.values root (contains_from_in ds root made.root_in))
+    (λ d i. made.whole.texts d (contains_from_in ds d (made.others_in d i))) (λ d i. made.whole.values d (contains_from_in ds d (made.others_in d i)))
+
+bundle_prepared : (ds : List Document) (uri base : Text) (v : Value) → AreWhole ds → bundle ds uri ≡ Ok v → IsPrepared ds (table_of (document_from base v ∷ []))
+bundle_prepared ds uri base v whole e =
+    let parts = bundle_parts (document_of ds uri) (others_of uri ds) v e in
+    let root : Document = parts.0 in
+    let made : IsMade ds root (others_of uri ds) = made_of ds uri root whole parts.1 (parts.2).0 in
+    subst (λ w. IsPrepared ds (table_of (document_from base w ∷ []))) (sym (parts.2).1)
+    (prepared ds root (others_of uri ds) made base (definite_made ds root (others_of uri ds) made))
 
 -- ---- the laws
+pub bundles_are_definite : BundlesAreDefinite
+bundles_are_definite ds uri v whole e =
+    let parts = bundle_parts (document_of ds uri) (others_of uri ds) v e in
+    let root : Document = parts.0 in
+    subst IsDefinite (sym (parts.2).1) (definite_made ds root (others_of uri ds) (made_of ds uri root whole parts.1 (parts.2).0))
+
 pub bundles_are_alike : BundlesAreAlike
-bundles_are_alike ds uri base v whole e d = prepared_alike ds (table_of (document_from base v ∷ [])) (bundle_prepared ds uri base v whole e d)
+bundles_are_alike ds uri base v whole e = prepared_alike ds (table_of (document_from base v ∷ [])) (bundle_prepared ds uri base v whole e)
 
 pub bundles_answer_the_same : BundlesAnswerTheSame
-bundles_answer_the_same matches ds uri base v x whole e d =
-    alike_tables_answer_the_same matches ds (document_from base v ∷ []) uri x (bundles_are_alike ds uri base v whole e d)
-    (roots_alike ds (table_of (document_from base v ∷ [])) (bundle_prepared ds uri base v whole e d) uri)
+bundles_answer_the_same matches ds uri base v x whole e =
+    alike_tables_answer_the_same matches ds (document_from base v ∷ []) uri x (bundles_are_alike ds uri base v whole e)
+    (roots_alike ds (table_of (document_from base v ∷ [])) (bundle_prepared ds uri base v whole e) uri)
+
+pub bundles_keep_their_uri : BundlesKeepTheirUri
+bundles_keep_their_uri ds uri base v whole e = uri_kept ds uri base v whole e
+
+pub bundles_keep_the_resources : BundlesKeepTheResources
+bundles_keep_the_resources ds uri base v whole e u =
+    let c = bundle_corresponds ds uri base v whole e in
+    let table : List Schema = table_of ds in
+    let other : List Schema = table_of (document_from base v ∷ []) in (
+      λ i. contains_from_in (resource_uris table) u (uris_over other table (λ t j. let s = c.back t j in (s.0, s.1, alike_sym s.0 t (s.2).alike)) u (in_from_contains (resource_uris other) u i)),
+      λ i. contains_from_in (resource_uris other) u (uris_over table other (λ s j. let t = c.forth s j in (t.0, t.1, (t.2).alike)) u (in_from_contains (resource_uris table) u i)),
+    )

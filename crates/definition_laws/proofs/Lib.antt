@@ -36,3 +36,6 @@ pub mod MembersPut
 pub mod Extending
 pub mod BundledDocuments
 pub mod Bundled
+pub mod FragmentTexts
+pub mod LocatedSchemas
+pub mod BundledValues

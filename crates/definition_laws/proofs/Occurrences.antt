@@ -120,3 +120,12 @@ pub all_pass_in : {A : Type 0} (p : A → Bool) (xs : List A) (x : A) → list_a
 all_pass_in p [] x h i = absurd i
 all_pass_in p (y ∷ xs) x h (inl e) = rw (← e) (and_parts (p y) (list_all p xs) h).0
 all_pass_in p (y ∷ xs) x h (inr i) = all_pass_in p xs x (and_parts (p y) (list_all p xs) h).1 i
+
+pub filter_passes : {A : Type 0} (p : A → Bool) (xs : List A) (x : A) → IsIn x (filter p xs) → p x ≡ true
+filter_passes p [] x h = absurd h
+filter_passes {A} p (y ∷ ys) x h = by (p y) refl h (filter_passes p ys x)
+  where
+    by : (b : Bool) → p y ≡ b → IsIn x (cond b (y ∷ filter p ys) (filter p ys)) → (IsIn x (filter p ys) → p x ≡ true) → p x ≡ true
+    by true e (inl f) later = rw (← f) e
+    by true e (inr k) later = later k
+    by false e k later = later k

@@ -70,7 +70,7 @@ definite_members (string s) n u d i = absurd i
 definite_members (array vs) n u d i = absurd i
 definite_members (object ms) n u d i = definite_member ms n u d.well_formed d.short_arrays i
 
-short_array : (v : Value) → IsDefinite v → length (elements v) < 2 ^ 64
+pub short_array : (v : Value) → IsDefinite v → length (elements v) < 2 ^ 64
 short_array null d = omega arith
 short_array (boolean b) d = omega arith
 short_array (integer z) d = omega arith

@@ -14,7 +14,7 @@ use Rattle.definitions.specs.Runs.{resource_uris_of}
 use Rattle.definitions.specs.Targets.{resource_root, dynamically_anchored, is_anchor, is_dynamic_anchor, pointed, target_in, target, fragment_of}
 use Rattle.definitions.specs.Reach.{holds_resource, references_in, refers_to, grown_times, reach, missing}
 use Rattle.definition_laws.specs.Likeness.{ReachIsEnough}
-use Rattle.definition_laws.proofs.Occurrences.{IsIn, in_from_contains, contains_from_in, in_flat_map, into_flat_map, into_map, from_filter, into_filter, any_of_in, in_right}
+use Rattle.definition_laws.proofs.Occurrences.{IsIn, in_from_contains, contains_from_in, in_flat_map, into_flat_map, into_map, from_filter, into_filter, filter_passes, any_of_in, in_right}
 use Rattle.definition_laws.proofs.Roots.{same_text_itself, same_text_is, pointer_root, neither, document_roots}
 use Rattle.definition_laws.proofs.Tables.{found_in}
 use Rattle.definition_laws.proofs.AlikeTables.{alike_tables_answer_the_same}
@@ -110,15 +110,6 @@ module _ (ds : List Document) (q : Document → Bool) (distinct : has_repeat sam
 
       passes : (d : Document) → IsIn d (filter q ds) → q d ≡ true
       passes d j = filter_passes q ds d j
-        where
-          filter_passes : (p : Document → Bool) (xs : List Document) (x : Document) → IsIn x (filter p xs) → p x ≡ true
-          filter_passes p [] x k = absurd k
-          filter_passes p (y ∷ ys) x k = by (p y) refl k (filter_passes p ys x)
-            where
-              by : (b : Bool) → p y ≡ b → IsIn x (cond b (y ∷ filter p ys) (filter p ys)) → (IsIn x (filter p ys) → p x ≡ true) → p x ≡ true
-              by true f (inl g) later = rw (← g) f
-              by true f (inr l) later = later l
-              by false f l later = later l
 
       none : (d : Document) → IsIn d ds → q d ≡ false → (t : Schema) → IsIn t (schemas_of d.base d.value) → (same_text uri t.resource && p t) ≡ false
       none d j out t k = both (same_text uri t.resource) (p t) differs

@@ -6,6 +6,7 @@ mod identities;
 mod keeping;
 mod likeness;
 mod linking;
+mod locations;
 mod pointers;
 mod reaching;
 mod reading;
@@ -14,7 +15,10 @@ mod uniqueness;
 
 ghost use Rattle.definition_laws.specs.Laws.{FailingEvaluatesNothing, RefusalsKeepTheRegistry, CoursesAreReplies, AgreeingAnswerAlike};
 
-pub use bundling::{bundles_answer_the_same, bundles_are_alike};
+pub use bundling::{
+    bundles_answer_the_same, bundles_are_alike, bundles_are_definite, bundles_keep_the_resources,
+    bundles_keep_their_uri,
+};
 pub use identities::{identity_names_one_schema, roots_are_found, schemas_are_pointed_to};
 pub use keeping::{
     courses_keep_body_values, courses_keep_registries, empty_registries_are_kept, quotas_stay,
@@ -22,6 +26,7 @@ pub use keeping::{
 };
 pub use likeness::{alike_tables_answer_the_same, alike_tables_give_the_same, reach_is_enough};
 pub use linking::{least_is_least, linked_name_all, missing_name_nothing, no_texts_have_no_least};
+pub use locations::locations_name_schemas;
 pub use pointers::{pointers_are_read_back, read_pointers_have_one_text};
 pub use reaching::{
     kept_registries_reach_least_sets, nothing_is_reached_from_nothing, reached_registries_are_kept,

@@ -36,3 +36,4 @@ pub mod MembersPut
 pub mod Extending
 pub mod BundledDocuments
 pub mod Bundled
+pub mod DistinctRegistries

@@ -9,3 +9,4 @@ pub mod Keeping
 pub mod Reading
 pub mod Storing
 pub mod Bundling
+pub mod Distinctness

@@ -1,5 +1,5 @@
 -- When alike tables of schemas give the same outcomes.
-use Rattle.std.specs.Prelude.{◌≡◌, List, [], Bool, false, Contains}
+use Rattle.std.specs.Prelude.{◌≡◌, List, [], Bool, false}
 use Rattle.definitions.specs.Values.{Text, Value, has_repeat, same_text}
 use Rattle.definitions.specs.Schemas.{Document, table_of}
 use Rattle.definitions.specs.Targets.{resource_root}

@@ -1,17 +1,20 @@
 -- Kept registries of bodies have distinct resource URIs and definite values.
-use Rattle.std.proofs.Common.{◌≡◌, ℕ, ◌<◌, ◌^◌, Bool, true, length, nat_lt, nat_le, filter, Contains, lt-ltb, lt_of_le_of_lt, lit<, refl, ap, ◌∙◌, subst}
+use Rattle.std.proofs.Common.{[], ◌≡◌, ℕ, ◌<◌, ◌^◌, Bool, true, length, nat_lt, nat_le, filter, Contains, lt-ltb, lt_of_le_of_lt, lit<, refl, ap, ◌∙◌, subst}
 use Rattle.std.proofs.lemmas.Bool.{and_from, and_parts, leb-true}
 use Rattle.definitions.specs.Values.{Text, Value, null, boolean, integer, string, array, object, Elements, no_elements, element, Members, no_members, member, elements_list, has_repeat, same_text}
 use Rattle.definitions.specs.Schemas.{Document}
-use Rattle.definitions.specs.Reach.{reach}
+use Rattle.definitions.specs.Scanning.{scan_faults}
+use Rattle.definitions.specs.Reach.{reach, missing}
 use Rattle.definitions.specs.Registries.{Search, Registry}
 use Rattle.definitions.specs.Runs.{IsKept}
 use Rattle.definition_laws.specs.Identities.{has_short_arrays, have_short_arrays, members_have_short_arrays, IsDefinite, IsDistinct}
+use Rattle.definition_laws.specs.Bundling.{AreWhole, IsAbsolute}
 use Rattle.definition_laws.specs.Reading.{has_arrays_within, have_arrays_within, members_have_arrays_within}
 use Rattle.definition_laws.specs.Keeping.{IsBodyValue, HoldsBodyValues}
 use Rattle.definition_laws.proofs.Membership.{from_filter}
 use Rattle.definition_laws.proofs.ReachedSets.{reach_as_filter}
 use Rattle.definition_laws.proofs.Resources.{table_uris}
+use Rattle.definition_laws.proofs.AcceptedDocuments.{first_none, scanned}
 use Rattle.definition_laws.proofs.KeptReaches.{reached_kept}
 
 mutual
@@ -55,3 +58,17 @@ reached_held g uri held d c =
 pub reached_distinct_schemas : (search : Search) (g : Registry) (uri : Text) → IsKept search g → HoldsBodyValues g → IsDistinct (reach g.documents uri)
 reached_distinct_schemas search g uri kept held =
     kept_distinct_schemas search (record g { documents = reach g.documents uri }) (reached_kept search g uri kept) (reached_held g uri held)
+
+pub reached_whole : (search : Search) (g : Registry) (uri : Text) → IsKept search g → HoldsBodyValues g
+    → ((d : Document) → Contains (reach g.documents uri) d → IsAbsolute d.canonical) → missing (reach g.documents uri) ≡ [] → AreWhole (reach g.documents uri)
+reached_whole search g uri kept held absolute linked =
+    let reached = reached_kept search g uri kept in
+    record {
+      distinct = reached.distinct;
+      anchors = λ d c. (scanned d (first_none (scan_faults d.base d.value) (reached.scanned d c))).anchors;
+      named = reached.named;
+      objects = λ d c. (scanned d (first_none (scan_faults d.base d.value) (reached.scanned d c))).object;
+      values = λ d c. definite d.value (reached_held g uri held d c);
+      absolute = absolute;
+      linked = linked;
+    }

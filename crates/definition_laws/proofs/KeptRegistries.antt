@@ -21,7 +21,7 @@ use Rattle.definition_laws.proofs.ReadValues.{body_well_formed}
 use Rattle.definition_laws.proofs.ShortArrays.{body_short}
 use Rattle.definition_laws.proofs.Resources.{same_text-unlike}
 use Rattle.definition_laws.proofs.PlacedDocuments.{key_of, as_inserted, from_placed}
-use Rattle.definition_laws.proofs.AcceptedDocuments.{accepted, own_resources, free_of_others}
+use Rattle.definition_laws.proofs.AcceptedDocuments.{accepted, scanned, free_of_others}
 
 -- ---- a document that is put
 pub put_kept : (search : Search) (g : Registry) (b : Text) (v : Value) → IsKept search g → put_refusal search g (document_from b v) (placed (document_from b v) g.documents) ≡ None
@@ -40,7 +40,7 @@ put_kept search g b v kept none =
       small = ltb-false g.most_bytes (bytes_of (placed d g.documents)) fine.small;
       distinct = subst (λ ds. has_repeat same_text (flat_map resources_of ds) ≡ false) (as_inserted d g.documents)
           (distinct (slice_cmp nat_cmp) nat_list_cmp_total key_of same_text same_text-unlike resources_of d g.documents kept.ordered
-          (own_resources d fine.scanned) kept.distinct (λ e c other. free_of_others g.documents d e fine.free c other));
+          (scanned d fine.scanned).uris kept.distinct (λ e c other. free_of_others g.documents d e fine.free c other));
       scanned = λ e c. elim (from_placed d e g.documents c) [
         | inl itself ↦ subst (λ x. first (scan_faults x.base x.value) ≡ None) itself (ap first fine.scanned)
         | inr other ↦ kept.scanned e other

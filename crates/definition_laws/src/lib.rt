@@ -16,7 +16,9 @@ mod uniqueness;
 ghost use Rattle.definition_laws.specs.Laws.{FailingEvaluatesNothing, RefusalsKeepTheRegistry, CoursesAreReplies, AgreeingAnswerAlike};
 
 pub use bundling::{bundles_answer_the_same, bundles_are_alike};
-pub use distinctness::{kept_registries_are_distinct, reached_documents_are_distinct};
+pub use distinctness::{
+    kept_registries_are_distinct, linked_documents_are_whole, reached_documents_are_distinct,
+};
 pub use identities::{identity_names_one_schema, roots_are_found, schemas_are_pointed_to};
 pub use keeping::{
     courses_keep_body_values, courses_keep_registries, empty_registries_are_kept, quotas_stay,

@@ -12,7 +12,7 @@ use Rattle.definitions.specs.Schemas.{Document, document_from}
 use Rattle.definitions.specs.Scanning.{first, scan_faults}
 use Rattle.definitions.specs.Registries.{Search, Registry, Request, Reply, step, put_refusal, body_value, is_regular, placed, resources_of, bytes_of}
 use Rattle.definitions.specs.Runs.{Course, IsKept}
-use Rattle.definition_laws.specs.Keeping.{IsBodyValue, HoldsBodyValues, empty_registry}
+use Rattle.definition_laws.specs.Keeping.{IsBaseForm, HoldsBaseForms, IsBodyValue, HoldsBodyValues, empty_registry}
 use Rattle.definition_laws.proofs.Membership.{nothing_in, from_filter, filter_short}
 use Rattle.definition_laws.proofs.Repeats.{filtered}
 use Rattle.definition_laws.proofs.Placing.{ascending, kept_ascending, distinct}
@@ -73,11 +73,11 @@ part_kept search g p kept = record {
 -- ---- every request
 pub step_kept : (search : Search) (g : Registry) (q : Request) → IsKept search g → IsKept search (step search g q).1
 step_kept search g q kept =
-    step_keeps (IsKept search) search g kept (λ b body v was_read none. put_kept search g b v kept none)
+    step_keeps (IsKept search) search g kept (λ uri b body v is_base was_read none. put_kept search g b v kept none)
     (λ b. part_kept search g (λ d. not (same_text b d.canonical)) kept) q
 
 -- ---- from an empty registry on
-pub empty_kept : (search : Search) (most_documents most_bytes : ℕ) → IsKept search (empty_registry most_documents most_bytes) × HoldsBodyValues (empty_registry most_documents most_bytes)
+pub empty_kept : (search : Search) (most_documents most_bytes : ℕ) → IsKept search (empty_registry most_documents most_bytes) × (HoldsBodyValues (empty_registry most_documents most_bytes) × HoldsBaseForms (empty_registry most_documents most_bytes))
 unfolding IsStrictlySortedBy
 empty_kept search most_documents most_bytes = (
   record {
@@ -89,7 +89,7 @@ empty_kept search most_documents most_bytes = (
     scanned = λ d c. absurd (nothing_in d c);
     regular_patterns = λ d c. absurd (nothing_in d c);
   },
-  λ d c. absurd (nothing_in d c),
+  (λ d c. absurd (nothing_in d c), λ d c. absurd (nothing_in d c)),
 )
 
 pub course_kept : (search : Search) (g h : Registry) (qs : List Request) (rs : List Reply) → Course search g qs rs h → IsKept search g → IsKept search h
@@ -102,7 +102,7 @@ body_formed body v e = record { well_formed = body_well_formed body v e; short_a
 pub values_kept : (search : Search) (g : Registry) (q : Request) → HoldsBodyValues g → HoldsBodyValues (step search g q).1
 values_kept search g q held =
     step_keeps HoldsBodyValues search g held
-    (λ b body v was_read none d c. elim (from_placed (document_from b v) d g.documents c) [
+    (λ uri b body v is_base was_read none d c. elim (from_placed (document_from b v) d g.documents c) [
       | inl itself ↦ subst (λ x. IsBodyValue x.value) itself (body_formed body v was_read)
       | inr other ↦ held d other
     ])
@@ -110,3 +110,16 @@ values_kept search g q held =
 
 pub course_values_kept : (search : Search) (g h : Registry) (qs : List Request) (rs : List Reply) → Course search g qs rs h → HoldsBodyValues g → HoldsBodyValues h
 course_values_kept search = course_keeps HoldsBodyValues search (values_kept search)
+
+-- ---- the bases
+pub bases_kept : (search : Search) (g : Registry) (q : Request) → HoldsBaseForms g → HoldsBaseForms (step search g q).1
+bases_kept search g q held =
+    step_keeps HoldsBaseForms search g held
+    (λ uri b body v is_base was_read none d c. elim (from_placed (document_from b v) d g.documents c) [
+      | inl itself ↦ subst (λ x. IsBaseForm x.base) itself (record { uri = uri; is = is_base })
+      | inr other ↦ held d other
+    ])
+    (λ b d c. held d (from_filter (λ x. not (same_text b x.canonical)) d g.documents c).0) q
+
+pub course_bases_kept : (search : Search) (g h : Registry) (qs : List Request) (rs : List Reply) → Course search g qs rs h → HoldsBaseForms g → HoldsBaseForms h
+course_bases_kept search = course_keeps HoldsBaseForms search (bases_kept search)

@@ -1,15 +1,15 @@
 -- What holds of a document that is put and not refused.
-use Rattle.std.proofs.Common.{◌≡◌, Bool, true, false, not, List, [], ◌∷◌, ◌++◌, length, nat_lt, Some, None, Contains, filter, Option, option_map, flat_map, Equal, sym, refl, ap, ◌∙◌, subst}
+use Rattle.std.proofs.Common.{◌≡◌, suc, Bool, true, false, not, List, [], ◌∷◌, ◌++◌, length, nat_lt, Some, None, Contains, filter, Option, option_map, flat_map, Equal, sym, refl, ap, ◌∙◌, subst}
 use Rattle.std.proofs.lemmas.Bool.{false_from_ne_true}
 use Rattle.std.proofs.lemmas.Cmp.{nat_list_cmp_total, tied_itself}
 use Rattle.std.specs.Cmp.Lexicographic.{slice_cmp, bytes_decides}
 use Rattle.std.specs.List.{list_any}
 use Rattle.std.specs.Ordering.{nat_cmp}
-use Rattle.definitions.specs.Values.{Text, has_repeat, same_text}
-use Rattle.definitions.specs.Faults.{Fault, bad_pattern, taken, quota_documents, quota_bytes, duplicate_uri, duplicate_anchor}
+use Rattle.definitions.specs.Values.{Text, has_repeat, same_text, is_object, nesting}
+use Rattle.definitions.specs.Faults.{Fault, bad_pattern, taken, quota_documents, quota_bytes, not_object, too_nested, duplicate_uri, duplicate_anchor}
 use Rattle.definitions.specs.Keywords.{keywords}
-use Rattle.definitions.specs.Schemas.{Document, schemas_of, option_list}
-use Rattle.definitions.specs.Scanning.{first, when, scan_faults, form_faults, same_anchor, anchors_of}
+use Rattle.definitions.specs.Schemas.{Document, schemas_of, schema_at, option_list}
+use Rattle.definitions.specs.Scanning.{first, when, unless, scan_faults, same_anchor, anchors_of, most_nested_schema, walked}
 use Rattle.definitions.specs.Reach.{holds_resource}
 use Rattle.definitions.specs.Bundles.{others_of}
 use Rattle.definitions.specs.Registries.{Search, Registry, put_refusal, is_regular, resources_of, taken_uri, bytes_of}
@@ -19,7 +19,7 @@ use Rattle.definition_laws.proofs.LeastTexts.{no_least}
 use Rattle.definition_laws.proofs.Resources.{apart_from_held}
 
 -- ---- no fault among several
-first_none : {A : Type 0} (xs : List A) → first xs ≡ None → xs ≡ []
+pub first_none : {A : Type 0} (xs : List A) → first xs ≡ None → xs ≡ []
 first_none [] e = refl
 first_none (x ∷ xs) e = cc
 
@@ -63,14 +63,29 @@ accepted search g d after e =
     let parts = accepted_by (scan_faults d.base d.value) (is_regular search d.value) (taken_uri g.documents d) (nat_lt g.most_documents (length after)) (nat_lt g.most_bytes (bytes_of after)) e in
     record { scanned = parts.0; regular = parts.1.0; free = parts.1.1.0; few = parts.1.1.1.0; small = parts.1.1.1.1 }
 
-no_repeat_in : (faults : List Fault) (uris anchors : Bool) → faults ++ (when uris duplicate_uri ++ when anchors duplicate_anchor) ≡ [] → uris ≡ false
-no_repeat_in faults uris anchors e =
-    when_none uris duplicate_uri (neither (when uris duplicate_uri) (when anchors duplicate_anchor) (neither faults _ e).1).0
+-- an object, with no URI and no anchor twice
+pub record IsScanned (d : Document) : Type 0 where
+  pub object : is_object d.value ≡ true
+  pub uris : has_repeat same_text (resources_of d) ≡ false
+  pub anchors : has_repeat same_anchor (flat_map anchors_of (schemas_of d.base d.value)) ≡ false
 
-pub own_resources : (d : Document) → scan_faults d.base d.value ≡ [] → has_repeat same_text (resources_of d) ≡ false
-own_resources d e =
-    no_repeat_in (form_faults keywords d.base d.value) (has_repeat same_text (resources_of d))
-    (has_repeat same_anchor (flat_map anchors_of (schemas_of d.base d.value))) e
+unless_none : (b : Bool) (f : Fault) → unless b f ≡ [] → b ≡ true
+unless_none true f e = refl
+unless_none false f e = cc
+
+scanned_by : (object : Bool) (others : List Fault) (uris anchors : Bool)
+    → (unless object not_object ++ others) ++ (when uris duplicate_uri ++ when anchors duplicate_anchor) ≡ [] → (object ≡ true) × ((uris ≡ false) × (anchors ≡ false))
+scanned_by object others uris anchors e =
+    let both = neither (unless object not_object ++ others) _ e in
+    let names = neither (when uris duplicate_uri) (when anchors duplicate_anchor) both.1 in
+    (unless_none object not_object (neither (unless object not_object) others both.0).0, (when_none uris duplicate_uri names.0, when_none anchors duplicate_anchor names.1))
+
+pub scanned : (d : Document) → scan_faults d.base d.value ≡ [] → IsScanned d
+scanned d e =
+    let parts = scanned_by (is_object d.value)
+    (when (nat_lt most_nested_schema (nesting d.value)) too_nested ++ walked keywords (suc (nesting d.value)) d.base [] (schema_at d.base [] d.value))
+    (has_repeat same_text (resources_of d)) (has_repeat same_anchor (flat_map anchors_of (schemas_of d.base d.value))) e in
+    record { object = parts.0; uris = parts.1.0; anchors = parts.1.1 }
 
 -- none of its URIs is held by a document with another canonical URI
 pub free_of_others : (ds : List Document) (d e : Document) → taken_uri ds d ≡ None → Contains ds e → (slice_cmp nat_cmp d.canonical e.canonical ≡ Equal → ⊥)

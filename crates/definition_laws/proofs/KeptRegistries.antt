@@ -12,7 +12,7 @@ use Rattle.definitions.specs.Schemas.{Document, document_from}
 use Rattle.definitions.specs.Scanning.{first, scan_faults}
 use Rattle.definitions.specs.Registries.{Search, Registry, Request, Reply, step, put_refusal, body_value, is_regular, placed, resources_of, bytes_of}
 use Rattle.definitions.specs.Runs.{Course, IsKept}
-use Rattle.definition_laws.specs.Keeping.{IsBodyValue, HoldsBodyValues, empty_registry}
+use Rattle.definition_laws.specs.Keeping.{IsBaseForm, HoldsBaseForms, IsBodyValue, HoldsBodyValues, empty_registry}
 use Rattle.definition_laws.proofs.Membership.{nothing_in, from_filter, filter_short}
 use Rattle.definition_laws.proofs.Repeats.{filtered}
 use Rattle.definition_laws.proofs.Placing.{ascending, kept_ascending, distinct}
@@ -21,7 +21,7 @@ use Rattle.definition_laws.proofs.ReadValues.{body_well_formed}
 use Rattle.definition_laws.proofs.ShortArrays.{body_short}
 use Rattle.definition_laws.proofs.Resources.{same_text-unlike}
 use Rattle.definition_laws.proofs.PlacedDocuments.{key_of, as_inserted, from_placed}
-use Rattle.definition_laws.proofs.AcceptedDocuments.{accepted, own_resources, free_of_others}
+use Rattle.definition_laws.proofs.AcceptedDocuments.{accepted, scanned, free_of_others}
 
 -- ---- a document that is put
 pub put_kept : (search : Search) (g : Registry) (b : Text) (v : Value) → IsKept search g → put_refusal search g (document_from b v) (placed (document_from b v) g.documents) ≡ None
@@ -40,7 +40,7 @@ put_kept search g b v kept none =
       small = ltb-false g.most_bytes (bytes_of (placed d g.documents)) fine.small;
       distinct = subst (λ ds. has_repeat same_text (flat_map resources_of ds) ≡ false) (as_inserted d g.documents)
           (distinct (slice_cmp nat_cmp) nat_list_cmp_total key_of same_text same_text-unlike resources_of d g.documents kept.ordered
-          (own_resources d fine.scanned) kept.distinct (λ e c other. free_of_others g.documents d e fine.free c other));
+          (scanned d fine.scanned).uris kept.distinct (λ e c other. free_of_others g.documents d e fine.free c other));
       scanned = λ e c. elim (from_placed d e g.documents c) [
         | inl itself ↦ subst (λ x. first (scan_faults x.base x.value) ≡ None) itself (ap first fine.scanned)
         | inr other ↦ kept.scanned e other
@@ -73,11 +73,11 @@ part_kept search g p kept = record {
 -- ---- every request
 pub step_kept : (search : Search) (g : Registry) (q : Request) → IsKept search g → IsKept search (step search g q).1
 step_kept search g q kept =
-    step_keeps (IsKept search) search g kept (λ b body v was_read none. put_kept search g b v kept none)
+    step_keeps (IsKept search) search g kept (λ uri b body v is_base was_read none. put_kept search g b v kept none)
     (λ b. part_kept search g (λ d. not (same_text b d.canonical)) kept) q
 
 -- ---- from an empty registry on
-pub empty_kept : (search : Search) (most_documents most_bytes : ℕ) → IsKept search (empty_registry most_documents most_bytes) × HoldsBodyValues (empty_registry most_documents most_bytes)
+pub empty_kept : (search : Search) (most_documents most_bytes : ℕ) → IsKept search (empty_registry most_documents most_bytes) × (HoldsBodyValues (empty_registry most_documents most_bytes) × HoldsBaseForms (empty_registry most_documents most_bytes))
 unfolding IsStrictlySortedBy
 empty_kept search most_documents most_bytes = (
   record {
@@ -89,7 +89,7 @@ empty_kept search most_documents most_bytes = (
     scanned = λ d c. absurd (nothing_in d c);
     regular_patterns = λ d c. absurd (nothing_in d c);
   },
-  λ d c. absurd (nothing_in d c),
+  (λ d c. absurd (nothing_in d c), λ d c. absurd (nothing_in d c)),
 )
 
 pub course_kept : (search : Search) (g h : Registry) (qs : List Request) (rs : List Reply) → Course search g qs rs h → IsKept search g → IsKept search h
@@ -102,7 +102,7 @@ body_formed body v e = record { well_formed = body_well_formed body v e; short_a
 pub values_kept : (search : Search) (g : Registry) (q : Request) → HoldsBodyValues g → HoldsBodyValues (step search g q).1
 values_kept search g q held =
     step_keeps HoldsBodyValues search g held
-    (λ b body v was_read none d c. elim (from_placed (document_from b v) d g.documents c) [
+    (λ uri b body v is_base was_read none d c. elim (from_placed (document_from b v) d g.documents c) [
       | inl itself ↦ subst (λ x. IsBodyValue x.value) itself (body_formed body v was_read)
       | inr other ↦ held d other
     ])
@@ -110,3 +110,16 @@ values_kept search g q held =
 
 pub course_values_kept : (search : Search) (g h : Registry) (qs : List Request) (rs : List Reply) → Course search g qs rs h → HoldsBodyValues g → HoldsBodyValues h
 course_values_kept search = course_keeps HoldsBodyValues search (values_kept search)
+
+-- ---- the bases
+pub bases_kept : (search : Search) (g : Registry) (q : Request) → HoldsBaseForms g → HoldsBaseForms (step search g q).1
+bases_kept search g q held =
+    step_keeps HoldsBaseForms search g held
+    (λ uri b body v is_base was_read none d c. elim (from_placed (document_from b v) d g.documents c) [
+      | inl itself ↦ subst (λ x. IsBaseForm x.base) itself (record { uri = uri; is = is_base })
+      | inr other ↦ held d other
+    ])
+    (λ b d c. held d (from_filter (λ x. not (same_text b x.canonical)) d g.documents c).0) q
+
+pub course_bases_kept : (search : Search) (g h : Registry) (qs : List Request) (rs : List Reply) → Course search g qs rs h → HoldsBaseForms g → HoldsBaseForms h
+course_bases_kept search = course_keeps HoldsBaseForms search (bases_kept search)

@@ -9,8 +9,8 @@ use Rattle.definitions.specs.Registries.{Search, Registry, Request, put, delete,
 use Rattle.definitions.specs.Runs.{Course}
 
 module _ (P : Registry → Type 0) where
-  for_base_keeps : (g : Registry) (r : Result Text Fault) (next : Text → Reply × Registry) → ((b : Text) → P (next b).1) → P g → P (for_base g r next).1
-  for_base_keeps g (Ok b) next h before = h b
+  for_base_keeps : (g : Registry) (r : Result Text Fault) (next : Text → Reply × Registry) → ((b : Text) → r ≡ Ok b → P (next b).1) → P g → P (for_base g r next).1
+  for_base_keeps g (Ok b) next h before = h b refl
   for_base_keeps g (Err e) next h before = before
 
   for_value_keeps : (g : Registry) (r : Result Value Fault) (next : Value → Reply × Registry) → ((v : Value) → r ≡ Ok v → P (next v).1) → P g → P (for_value g r next).1
@@ -26,17 +26,17 @@ module _ (P : Registry → Type 0) where
   deleted_keeps false done other after g h before = before
 
   pub step_keeps : (search : Search) (g : Registry) → P g
-      → ((b body : Text) (v : Value) → body_value body ≡ Ok v → put_refusal search g (document_from b v) (placed (document_from b v) g.documents) ≡ None
+      → ((uri b body : Text) (v : Value) → base_form uri ≡ Ok b → body_value body ≡ Ok v → put_refusal search g (document_from b v) (placed (document_from b v) g.documents) ≡ None
       → P (record g { documents = placed (document_from b v) g.documents }))
       → ((b : Text) → P (record g { documents = others_of b g.documents })) → (q : Request) → P (step search g q).1
   step_keeps search g before put_one delete_one (put uri body) =
-      for_base_keeps g (base_form uri) _ (λ b. for_value_keeps g (body_value body) _ (λ v was_read.
-      decided_keeps (put_refusal search g (document_from b v) (placed (document_from b v) g.documents)) _ _ g (put_one b body v was_read) before) before) before
+      for_base_keeps g (base_form uri) _ (λ b is_base. for_value_keeps g (body_value body) _ (λ v was_read.
+      decided_keeps (put_refusal search g (document_from b v) (placed (document_from b v) g.documents)) _ _ g (put_one uri b body v is_base was_read) before) before) before
   step_keeps search g before put_one delete_one (delete uri) =
-      for_base_keeps g (base_form uri) _ (λ b. deleted_keeps (is_some (document_of g.documents b)) _ _ _ g (delete_one b) before) before
+      for_base_keeps g (base_form uri) _ (λ b is_base. deleted_keeps (is_some (document_of g.documents b)) _ _ _ g (delete_one b) before) before
   step_keeps search g before put_one delete_one (validate uri body) =
-      for_base_keeps g (base_form uri) _ (λ b. for_value_keeps g (body_value body) _ (λ v was_read. before) before) before
-  step_keeps search g before put_one delete_one (bundled_from uri) = for_base_keeps g (base_form uri) _ (λ b. before) before
+      for_base_keeps g (base_form uri) _ (λ b is_base. for_value_keeps g (body_value body) _ (λ v was_read. before) before) before
+  step_keeps search g before put_one delete_one (bundled_from uri) = for_base_keeps g (base_form uri) _ (λ b is_base. before) before
 
   pub course_keeps : (search : Search) → ((g : Registry) (q : Request) → P g → P (step search g q).1)
       → (g h : Registry) (qs : List Request) (rs : List Reply) → Course search g qs rs h → P g → P h
@@ -56,5 +56,5 @@ pub quotas_stay : (search : Search) (g : Registry) (q : Request) → ((step sear
 quotas_stay search g q =
     let own : HasQuotas g.most_documents g.most_bytes g = record { documents = refl; bytes = refl } in
     let after = step_keeps (HasQuotas g.most_documents g.most_bytes) search g own
-    (λ b body v was_read none. record { documents = refl; bytes = refl }) (λ b. record { documents = refl; bytes = refl }) q in
+    (λ uri b body v is_base was_read none. record { documents = refl; bytes = refl }) (λ b. record { documents = refl; bytes = refl }) q in
     (after.documents, after.bytes)

@@ -10,3 +10,4 @@ pub mod Reading
 pub mod Storing
 pub mod Bundling
 pub mod Locations
+pub mod Distinctness

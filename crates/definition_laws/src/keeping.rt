@@ -1,8 +1,8 @@
 //! What holds of a registry from request to request.
 
-ghost use Rattle.definition_laws.specs.Keeping.{EmptyRegistriesAreKept, StepsKeepRegistries, CoursesKeepRegistries, StepsKeepBodyValues, CoursesKeepBodyValues, QuotasStay};
+ghost use Rattle.definition_laws.specs.Keeping.{EmptyRegistriesAreKept, StepsKeepRegistries, CoursesKeepRegistries, StepsKeepBodyValues, CoursesKeepBodyValues, StepsKeepBaseForms, CoursesKeepBaseForms, QuotasStay};
 
-/// A registry without documents is kept, and holds no value but those of bodies.
+/// A registry without documents is kept, and holds no value but those of bodies and no base but base forms.
 pub fn empty_registries_are_kept()
     ensures { EmptyRegistriesAreKept }
 {}
@@ -28,6 +28,16 @@ pub fn steps_keep_body_values()
 /// So does every course of requests.
 pub fn courses_keep_body_values()
     ensures { CoursesKeepBodyValues }
+{}
+
+/// Every request leaves the URIs that documents stand under base forms of URIs.
+pub fn steps_keep_base_forms()
+    ensures { StepsKeepBaseForms }
+{}
+
+/// So does every course of requests.
+pub fn courses_keep_base_forms()
+    ensures { CoursesKeepBaseForms }
 {}
 
 /// No request changes a quota.

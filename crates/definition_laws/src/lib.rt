@@ -2,6 +2,7 @@
 #![tactic(auto)]
 
 mod bundling;
+mod distinctness;
 mod identities;
 mod keeping;
 mod likeness;
@@ -19,10 +20,14 @@ pub use bundling::{
     bundles_answer_the_same, bundles_are_alike, bundles_are_definite, bundles_keep_the_resources,
     bundles_keep_their_uri,
 };
+pub use distinctness::{
+    kept_registries_are_distinct, linked_documents_are_whole, reached_documents_are_distinct,
+};
 pub use identities::{identity_names_one_schema, roots_are_found, schemas_are_pointed_to};
 pub use keeping::{
-    courses_keep_body_values, courses_keep_registries, empty_registries_are_kept, quotas_stay,
-    steps_keep_body_values, steps_keep_registries,
+    courses_keep_base_forms, courses_keep_body_values, courses_keep_registries,
+    empty_registries_are_kept, quotas_stay, steps_keep_base_forms, steps_keep_body_values,
+    steps_keep_registries,
 };
 pub use likeness::{alike_tables_answer_the_same, alike_tables_give_the_same, reach_is_enough};
 pub use linking::{least_is_least, linked_name_all, missing_name_nothing, no_texts_have_no_least};

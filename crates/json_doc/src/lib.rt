@@ -20,7 +20,7 @@ pub use pointer::{Pointer, push_fragment_token, push_token};
 pub use reading::read;
 pub use sameness::same;
 pub use whole::Whole;
-pub use writing::write;
+pub use writing::{write, write_doc};
 
 #[cfg(test)]
 mod tests;

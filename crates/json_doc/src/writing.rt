@@ -26,9 +26,10 @@ pub fn write(alloc: Global, doc: &Doc) -> Result<String, Fault>
     Ok(unsafe { String::from_utf8_unchecked(bytes) })
 }
 
+/// Writes the value after what `out` holds, as [`write`] does. The only error is want of memory.
 // The walk sees each number, text and name once, so it also finds that the value is well formed.
 #[cycle(write)]
-fn write_doc(doc: &Doc, out: &mut Writer) -> Result<(), AllocError>
+pub fn write_doc(doc: &Doc, out: &mut Writer) -> Result<(), AllocError>
     ensures ok { OnOk result (out.new.tokens ≡ out.old.tokens ++ value_tokens (value doc.now)) }
     ensures before { out.new.before ≡ out.old.before }
     ensures well_formed { OnOk result (is_well_formed (value doc.now) ≡ true) }

@@ -1,0 +1,4 @@
+pub mod Appended
+pub mod EntryLaws
+pub mod KeptLaws
+pub mod OutputTexts

@@ -1,0 +1,6 @@
+pub mod Steps
+pub mod Sayings
+pub mod Entries
+pub mod Kept
+pub mod Units
+pub mod Outputs

@@ -1,0 +1,28 @@
+-- What a unit says, as the value that is written, and the unit at a location.
+use Rattle.std.specs.Prelude.{◌++◌, map, pos, codes, true}
+use Rattle.definitions.specs.Values.{Value, boolean, integer, string, array, to_elements}
+use Rattle.definitions.specs.Applied.{OutputUnit}
+use Rattle.json_doc.specs.Docs.{value}
+use Rattle.basic_output.specs.Steps.{tokens}
+use Rattle.basic_output.specs.declared.location.Location.{Location}
+use Rattle.basic_output.specs.declared.says.Says.{Says}
+use Rattle.basic_output.specs.declared.says.Says.TheVariants as says
+
+abbrev pub says_value : Says → Value
+says_value (says.NotMet keyword) = string (keyword.now ++ codes " is not met")
+says_value says.NotAllowed = string (codes "no value is allowed")
+says_value says.True = boolean true
+says_value (says.Index index) = integer (pos index)
+says_value (says.Names names) = array (to_elements (map (λ name. string name.now) names.now))
+says_value (says.Indexes indexes) = array (to_elements (map (λ index. integer (pos index)) indexes.now))
+says_value (says.Value doc) = value doc.now
+
+abbrev pub unit_at : Location → Says → OutputUnit
+unit_at location says =
+    record {
+      path = tokens location.path.now;
+      resource = location.resource.now;
+      pointer = tokens location.pointer.now;
+      place = tokens location.place.now;
+      says = says_value says;
+    }

@@ -1,0 +1,19 @@
+//! The units of the basic output and their text (JSON Schema 2020-12 Core, 12.4.2).
+#![tactic(auto)]
+
+mod entry;
+mod location;
+mod output;
+mod says;
+mod step;
+mod units;
+
+pub use faults::Fault;
+pub use location::Location;
+pub use output::output_text;
+pub use says::Says;
+pub use step::Step;
+pub use units::{Mark, Units};
+
+#[cfg(test)]
+mod tests;

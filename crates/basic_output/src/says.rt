@@ -1,0 +1,24 @@
+//! What a unit says.
+
+use json_doc::Doc;
+
+/// What a unit says: an error's message, or an annotation's value.
+///
+/// Contracts see the JSON value that is written, by `says_value`.
+#[derive(Clone, Copy)]
+pub enum Says<'s, 'a> {
+    /// The keyword of this name is not met.
+    NotMet(&'a str),
+    /// The schema is `false`.
+    NotAllowed,
+    /// `true`
+    True,
+    /// An index.
+    Index(usize),
+    /// A list of names.
+    Names(&'s [&'a str]),
+    /// A list of indexes.
+    Indexes(&'s [usize]),
+    /// A value of the schema's document.
+    Value(&'a Doc),
+}

@@ -9,4 +9,4 @@ pub mod Percents
 pub mod Missing
 pub mod Sound
 pub mod Unique
-pub mod Resolved
+pub mod Based

@@ -221,11 +221,6 @@ own_authority base r path hb h is =
     let own = own_path r path h is in
     record { scheme = hb.scheme; authority = own.authority; path = own.path; rooted = own.rooted; query = own.query }
 
-pub of_base : (base : Parts) (path : Text) (q f : Option Text) → AreSound base → path ≡ base.path → option_all (is_free_of (codes "#")) q ≡ true → AreSound (record base { path = path; query = q; fragment = f })
-of_base base path q f h is free =
-    subst (λ p. AreSound (record base { path = p; query = q; fragment = f })) (sym is)
-    (record { scheme = h.scheme; authority = h.authority; path = h.path; rooted = h.rooted; query = free })
-
 rooted_step_of : (base : Parts) (t path : Text) (b : Bool) → AreSound base → is_free_of (codes "?#") t ≡ true → begins t (codes "/") ≡ b
     → path ≡ cond b (remove_dot_segments t) (remove_dot_segments (merge base t))
     → (is_free_of (codes "?#") path ≡ true) × (is_some base.authority ≡ true → (same_text path [] || begins path (codes "/")) ≡ true)

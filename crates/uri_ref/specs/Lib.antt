@@ -3,4 +3,4 @@ pub mod FragmentViews
 pub mod Places
 pub mod Soundness
 pub mod Views
-pub mod OwnedViews
+pub mod ResolvedViews

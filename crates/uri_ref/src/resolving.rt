@@ -6,76 +6,70 @@ ghost use Rattle.definitions.specs.Uris.{begins};
 ghost use Rattle.definitions.specs.Resolution.{resolve, merge, remove_dot_segments, up_to_last_slash};
 
 use crate::dots::{begins, remove_dot_segments};
-use crate::owned_parts::{OwnedParts, with_path};
 use crate::parts::Parts;
+use crate::resolved_parts::ResolvedParts;
 use crate::splitting::last_slash;
 use faults::Fault;
 use std::alloc::{AllocError, Global};
 
 /// The parts of the reference, resolved against the base (RFC 3986, section 5.2.2). The only error is want of memory.
-pub fn resolve(alloc: Global, base: &Parts, reference: &Parts) -> Result<OwnedParts, Fault>
+pub fn resolve<'a>(
+    alloc: Global,
+    base: &Parts<'a>,
+    reference: &Parts<'a>,
+) -> Result<ResolvedParts<'a>, Fault>
     ensures parts { IfOk result (λ p. p ≡ resolve base.now reference.now) }
     ensures room { IfErr result (λ f. f ≡ Fault.NoRoom) }
 {
     if reference.scheme.is_some() {
         let path = remove_dot_segments(alloc, reference.path)?;
-        return Ok(with_path(
-            alloc,
-            reference.scheme,
-            reference.authority,
+        return Ok(ResolvedParts {
+            scheme: reference.scheme,
+            authority: reference.authority,
             path,
-            reference.query,
-            reference.fragment,
-        )?);
+            query: reference.query,
+            fragment: reference.fragment,
+        });
     }
     if reference.authority.is_some() {
         let path = remove_dot_segments(alloc, reference.path)?;
-        return Ok(with_path(
-            alloc,
-            base.scheme,
-            reference.authority,
+        return Ok(ResolvedParts {
+            scheme: base.scheme,
+            authority: reference.authority,
             path,
-            reference.query,
-            reference.fragment,
-        )?);
+            query: reference.query,
+            fragment: reference.fragment,
+        });
     }
     if reference.path.is_empty() {
         return Ok(of_base(alloc, base, reference)?);
     }
     let path = rooted_path(alloc, base, reference.path)?;
-    Ok(with_path(
-        alloc,
-        base.scheme,
-        base.authority,
+    Ok(ResolvedParts {
+        scheme: base.scheme,
+        authority: base.authority,
         path,
-        reference.query,
-        reference.fragment,
-    )?)
+        query: reference.query,
+        fragment: reference.fragment,
+    })
 }
 
 // The base's parts, with the reference's fragment, and with its query where it has one.
-fn of_base(alloc: Global, base: &Parts, reference: &Parts) -> Result<OwnedParts, AllocError>
+fn of_base<'a>(
+    alloc: Global,
+    base: &Parts<'a>,
+    reference: &Parts<'a>,
+) -> Result<ResolvedParts<'a>, AllocError>
     ensures { IfOk result (λ p. p ≡ record base.now { query = (if is_some reference.now.query then reference.now.query else base.now.query); fragment = reference.now.fragment }) }
 {
     let path = String::from_str(alloc, base.path)?;
-    if reference.query.is_some() {
-        return with_path(
-            alloc,
-            base.scheme,
-            base.authority,
-            path,
-            reference.query,
-            reference.fragment,
-        );
-    }
-    with_path(
-        alloc,
-        base.scheme,
-        base.authority,
+    Ok(ResolvedParts {
+        scheme: base.scheme,
+        authority: base.authority,
         path,
-        base.query,
-        reference.fragment,
-    )
+        query: reference.query.or(base.query),
+        fragment: reference.fragment,
+    })
 }
 
 // The path without its dot segments, where it begins with a `/`, and otherwise the path that it makes with the base's.

@@ -1,7 +1,7 @@
 use Rattle.std.proofs.Common.{Ok, not, is_some, ap, sym, ◌∙◌}
 use Rattle.std.proofs.lemmas.Result.{IfOk-weaker}
 use Rattle.uri_ref.proofs.Percents.{mapped}
-use Rattle.uri_ref.proofs.Resolved.{based}
+use Rattle.uri_ref.proofs.Based.{based}
 use Rattle.uri_ref.proofs.base_forms.base_form.Goals as goal
 
 pub returns-clause-ok : goal.returns-clause-ok

@@ -41,13 +41,22 @@ fn takes_what_is_in(rt: HostRuntime) -> Result<(), Fail> {
 #[test]
 fn refuses_wrong_shapes(rt: HostRuntime) -> Result<(), Fail> {
     let alloc = rt.alloc();
-    assert_eq!(rt; answer(alloc, r#"{"not":5}"#)?.as_str(), "8 BadKeyword /not");
-    assert_eq!(rt; answer(alloc, r#"{"allOf":[]}"#)?.as_str(), "8 BadKeyword /allOf");
+    assert_eq!(rt;
+        answer(alloc, r#"{"not":5}"#)?.as_str(),
+        "8 BadKeyword /not"
+    );
+    assert_eq!(rt;
+        answer(alloc, r#"{"allOf":[]}"#)?.as_str(),
+        "8 BadKeyword /allOf"
+    );
     let own = r#"{"$defs":{"d":{"type":"int"}},"allOf":[]}"#;
     assert_eq!(rt; answer(alloc, own)?.as_str(), "8 BadKeyword /allOf");
     let below = r#"{"$defs":{"d":{"type":"int"}}}"#;
-    assert_eq!(rt; answer(alloc, below)?.as_str(), "8 BadKeyword /$defs/d/type");
-    let listed = r#"{"allOf":[true,{"items":{"not":{"$ref":"%"}}}]}"#;
+    assert_eq!(rt;
+        answer(alloc, below)?.as_str(),
+        "8 BadKeyword /$defs/d/type"
+    );
+    let listed = r#"{"allOf":[true,{"items":{"not":{"$ref":"s#%"}}}]}"#;
     assert_eq!(rt;
         answer(alloc, listed)?.as_str(),
         "8 BadKeyword /allOf/1/items/not/$ref"
@@ -60,8 +69,14 @@ fn refuses_wrong_core_keywords(rt: HostRuntime) -> Result<(), Fail> {
     let alloc = rt.alloc();
     assert_eq!(rt; answer(alloc, "[]")?.as_str(), "6 NotObject");
     assert_eq!(rt; answer(alloc, r#"{"$id":"a#b"}"#)?.as_str(), "9 BadId");
-    assert_eq!(rt; answer(alloc, r#"{"$anchor":"1"}"#)?.as_str(), "10 BadAnchor");
-    assert_eq!(rt; answer(alloc, r#"{"$schema":"x:y"}"#)?.as_str(), "11 Dialect");
+    assert_eq!(rt;
+        answer(alloc, r#"{"$anchor":"1"}"#)?.as_str(),
+        "10 BadAnchor"
+    );
+    assert_eq!(rt;
+        answer(alloc, r#"{"$schema":"x:y"}"#)?.as_str(),
+        "11 Dialect"
+    );
     assert_eq!(rt;
         answer_under(alloc, "x:/b", r#"{"$id":"/.//a"}"#)?.as_str(),
         "9 BadId"
@@ -87,7 +102,10 @@ fn refuses_names_that_stand_twice(rt: HostRuntime) -> Result<(), Fail> {
 #[test]
 fn names_that_are_not_in_come_last(rt: HostRuntime) -> Result<(), Fail> {
     let alloc = rt.alloc();
-    assert_eq!(rt; answer(alloc, r#"{"allOf":[true]}"#)?.as_str(), "33 Unsupported");
+    assert_eq!(rt;
+        answer(alloc, r#"{"allOf":[true]}"#)?.as_str(),
+        "33 Unsupported"
+    );
     let uri = r#"{"allOf":[true],"$defs":{"d":{"$id":"s"}}}"#;
     assert_eq!(rt; answer(alloc, uri)?.as_str(), "12 DuplicateUri");
     // One name in two resources is two anchors.

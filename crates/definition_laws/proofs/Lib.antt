@@ -36,4 +36,5 @@ pub mod MembersPut
 pub mod Extending
 pub mod BundledDocuments
 pub mod Bundled
+pub mod AbsoluteUris
 pub mod DistinctRegistries

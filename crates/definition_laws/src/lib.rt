@@ -17,7 +17,8 @@ ghost use Rattle.definition_laws.specs.Laws.{FailingEvaluatesNothing, RefusalsKe
 
 pub use bundling::{bundles_answer_the_same, bundles_are_alike};
 pub use distinctness::{
-    kept_registries_are_distinct, linked_documents_are_whole, reached_documents_are_distinct,
+    canonical_uris_are_absolute, kept_registries_are_distinct, linked_documents_are_whole,
+    reached_documents_are_distinct,
 };
 pub use identities::{identity_names_one_schema, roots_are_found, schemas_are_pointed_to};
 pub use keeping::{

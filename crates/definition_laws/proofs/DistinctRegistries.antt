@@ -8,13 +8,14 @@ use Rattle.definitions.specs.Reach.{reach, missing}
 use Rattle.definitions.specs.Registries.{Search, Registry}
 use Rattle.definitions.specs.Runs.{IsKept}
 use Rattle.definition_laws.specs.Identities.{has_short_arrays, have_short_arrays, members_have_short_arrays, IsDefinite, IsDistinct}
-use Rattle.definition_laws.specs.Bundling.{AreWhole, IsAbsolute}
+use Rattle.definition_laws.specs.Bundling.{AreWhole}
 use Rattle.definition_laws.specs.Reading.{has_arrays_within, have_arrays_within, members_have_arrays_within}
-use Rattle.definition_laws.specs.Keeping.{IsBodyValue, HoldsBodyValues}
+use Rattle.definition_laws.specs.Keeping.{IsBodyValue, HoldsBodyValues, HoldsBaseForms}
 use Rattle.definition_laws.proofs.Membership.{from_filter}
 use Rattle.definition_laws.proofs.ReachedSets.{reach_as_filter}
 use Rattle.definition_laws.proofs.Resources.{table_uris}
 use Rattle.definition_laws.proofs.AcceptedDocuments.{first_none, scanned}
+use Rattle.definition_laws.proofs.AbsoluteUris.{canonical_absolute}
 use Rattle.definition_laws.proofs.KeptReaches.{reached_kept}
 
 mutual
@@ -50,18 +51,20 @@ kept_distinct_schemas search g kept held = record {
   values = λ d c. definite d.value (held d c);
 }
 
-reached_held : (g : Registry) (uri : Text) → HoldsBodyValues g → HoldsBodyValues (record g { documents = reach g.documents uri })
-reached_held g uri held d c =
+in_registry : (g : Registry) (uri : Text) (d : Document) → Contains (reach g.documents uri) d → Contains g.documents d
+in_registry g uri d c =
     let part : (p : Document → Bool) × (reach g.documents uri ≡ filter p g.documents) = reach_as_filter g.documents uri in
-    held d (from_filter part.0 d g.documents (subst (λ ds. Contains ds d) part.1 c)).0
+    (from_filter part.0 d g.documents (subst (λ ds. Contains ds d) part.1 c)).0
+
+reached_held : (g : Registry) (uri : Text) → HoldsBodyValues g → HoldsBodyValues (record g { documents = reach g.documents uri })
+reached_held g uri held d c = held d (in_registry g uri d c)
 
 pub reached_distinct_schemas : (search : Search) (g : Registry) (uri : Text) → IsKept search g → HoldsBodyValues g → IsDistinct (reach g.documents uri)
 reached_distinct_schemas search g uri kept held =
     kept_distinct_schemas search (record g { documents = reach g.documents uri }) (reached_kept search g uri kept) (reached_held g uri held)
 
-pub reached_whole : (search : Search) (g : Registry) (uri : Text) → IsKept search g → HoldsBodyValues g
-    → ((d : Document) → Contains (reach g.documents uri) d → IsAbsolute d.canonical) → missing (reach g.documents uri) ≡ [] → AreWhole (reach g.documents uri)
-reached_whole search g uri kept held absolute linked =
+pub reached_whole : (search : Search) (g : Registry) (uri : Text) → IsKept search g → HoldsBodyValues g → HoldsBaseForms g → missing (reach g.documents uri) ≡ [] → AreWhole (reach g.documents uri)
+reached_whole search g uri kept held bases linked =
     let reached = reached_kept search g uri kept in
     record {
       distinct = reached.distinct;
@@ -69,6 +72,6 @@ reached_whole search g uri kept held absolute linked =
       named = reached.named;
       objects = λ d c. (scanned d (first_none (scan_faults d.base d.value) (reached.scanned d c))).object;
       values = λ d c. definite d.value (reached_held g uri held d c);
-      absolute = absolute;
+      absolute = λ d c. canonical_absolute search g d kept bases (in_registry g uri d c);
       linked = linked;
     }

@@ -7,7 +7,7 @@ use Rattle.definitions.specs.Registries.{Search, Registry}
 use Rattle.definitions.specs.Runs.{IsKept}
 use Rattle.definition_laws.specs.Bundling.{AreWhole, IsAbsolute}
 use Rattle.definition_laws.specs.Identities.{IsDistinct}
-use Rattle.definition_laws.specs.Keeping.{HoldsBodyValues}
+use Rattle.definition_laws.specs.Keeping.{HoldsBodyValues, HoldsBaseForms}
 
 -- the documents of a kept registry of bodies have distinct resource URIs and definite values
 abbrev pub KeptRegistriesAreDistinct : Type 0
@@ -18,8 +18,13 @@ abbrev pub ReachedDocumentsAreDistinct : Type 0
 ReachedDocumentsAreDistinct =
     (search : Search) (g : Registry) (uri : Text) → IsKept search g → HoldsBodyValues g → IsDistinct (reach g.documents uri)
 
--- where nothing is missing, and their canonical URIs are absolute, they are as a bundle wants its documents
+-- the canonical URI of each document is absolute: resolved against any base it is itself
+abbrev pub CanonicalUrisAreAbsolute : Type 0
+CanonicalUrisAreAbsolute =
+    (search : Search) (g : Registry) (d : Document) → IsKept search g → HoldsBaseForms g → Contains g.documents d → IsAbsolute d.canonical
+
+-- where nothing is missing, the documents that a URI reaches are as a bundle wants them
 abbrev pub LinkedDocumentsAreWhole : Type 0
 LinkedDocumentsAreWhole =
-    (search : Search) (g : Registry) (uri : Text) → IsKept search g → HoldsBodyValues g
-    → ((d : Document) → Contains (reach g.documents uri) d → IsAbsolute d.canonical) → missing (reach g.documents uri) ≡ [] → AreWhole (reach g.documents uri)
+    (search : Search) (g : Registry) (uri : Text) → IsKept search g → HoldsBodyValues g → HoldsBaseForms g
+    → missing (reach g.documents uri) ≡ [] → AreWhole (reach g.documents uri)

@@ -182,9 +182,17 @@ fn push_step(text: &mut String, step: Step<'_>) -> Result<(), AllocError> {
     Ok(())
 }
 
-fn push_fragment(text: &mut String, steps: &[&str]) -> Result<(), AllocError> {
+fn push_fragment(text: &mut String, steps: &[Step<'_>]) -> Result<(), AllocError> {
     for step in steps {
-        push_fragment_token(text, step)?;
+        push_fragment_step(text, *step)?;
+    }
+    Ok(())
+}
+
+fn push_fragment_step(text: &mut String, step: Step<'_>) -> Result<(), AllocError> {
+    match step {
+        Step::Name(name) => push_fragment_token(text, name)?,
+        Step::Index(index) => write!(text, "/{index}")?,
     }
     Ok(())
 }

@@ -8,7 +8,7 @@ ghost use Rattle.checks.specs.Judgements.{judgement_of_texts, judgement_of_value
 
 use evaluator::{Report, evaluate_one};
 use json_doc::{Doc, Fault, read};
-use schema_scan::{Scanned, scan};
+use schema_scan::scan;
 use std::alloc::Global;
 use uri_ref::{base_form, split};
 
@@ -16,8 +16,8 @@ use uri_ref::{base_form, split};
 /// (RFC 3986, section 5.1): the URI without dot segments.
 ///
 /// The first of these faults is answered: `BadUri`, where `uri` has a fragment, no scheme or no base form; of the schema
-/// `BadJson`, `BadNumber`, `NotObject`, `TooNested`, `BadKeyword` and `Unsupported`; of the instance `BadJson` and
-/// `BadNumber`; and `Costly` and `Deep`. `NoRoom` may take the place of any answer.
+/// `BadJson`, `BadNumber` and those of [`scan`]; of the instance `BadJson` and `BadNumber`; and `Costly` and `Deep`. `NoRoom`
+/// may take the place of any answer.
 #[tactic(auto, unfolding(crate::specs::Judgements::judgement))]
 pub fn check_bytes(
     alloc: Global,
@@ -46,7 +46,7 @@ pub(crate) fn check_docs(
     ensures ok { IfOk result (λ r. judgement_of_values uri.now (value schema.now) (value instance.now) ≡ Ok (is_valid r)) }
     ensures err { IfErr result (λ f. f ≢ Fault.NoRoom → judgement_of_values uri.now (value schema.now) (value instance.now) ≡ Err (fault f)) }
 {
-    let base = base_form(alloc, uri)?;
-    let scanned = scan(alloc, &split(base.as_str()), schema)?;
+    let uri = base_form(alloc, uri)?;
+    let scanned = scan(alloc, &split(uri.as_str()), schema)?;
     evaluate_one(alloc, &scanned, instance)
 }

@@ -23,7 +23,7 @@ pub first_none : {A : Type 0} (xs : List A) → first xs ≡ None → xs ≡ []
 first_none [] e = refl
 first_none (x ∷ xs) e = cc
 
-pub neither : {A : Type 0} (xs ys : List A) → xs ++ ys ≡ [] → (xs ≡ []) × (ys ≡ [])
+neither : {A : Type 0} (xs ys : List A) → xs ++ ys ≡ [] → (xs ≡ []) × (ys ≡ [])
 neither [] ys e = (refl, e)
 neither (x ∷ xs) ys e = cc
 
@@ -69,7 +69,7 @@ pub record IsScanned (d : Document) : Type 0 where
   pub uris : has_repeat same_text (resources_of d) ≡ false
   pub anchors : has_repeat same_anchor (flat_map anchors_of (schemas_of d.base d.value)) ≡ false
 
-pub unless_none : (b : Bool) (f : Fault) → unless b f ≡ [] → b ≡ true
+unless_none : (b : Bool) (f : Fault) → unless b f ≡ [] → b ≡ true
 unless_none true f e = refl
 unless_none false f e = cc
 

@@ -1,6 +1,7 @@
 -- Kept registries of bodies have distinct resource URIs and definite values.
-use Rattle.std.proofs.Common.{[], ◌≡◌, ℕ, ◌<◌, ◌^◌, Bool, true, length, nat_lt, nat_le, filter, Contains, lt-ltb, lt_of_le_of_lt, lit<, refl, ap, ◌∙◌, subst}
+use Rattle.std.proofs.Common.{[], ◌≡◌, ℕ, ◌<◌, ◌^◌, Bool, true, length, nat_lt, nat_le, filter, Contains, IsTrue, lt-ltb, lt_of_le_of_lt, lit<, refl, ap, ◌∙◌, subst}
 use Rattle.std.proofs.lemmas.Bool.{and_from, and_parts, leb-true}
+use Rattle.std.specs.Str.{is_utf8}
 use Rattle.definitions.specs.Values.{Text, Value, null, boolean, integer, string, array, object, Elements, no_elements, element, Members, no_members, member, elements_list, has_repeat, same_text}
 use Rattle.definitions.specs.Schemas.{Document}
 use Rattle.definitions.specs.Scanning.{scan_faults}
@@ -8,14 +9,13 @@ use Rattle.definitions.specs.Reach.{reach, missing}
 use Rattle.definitions.specs.Registries.{Search, Registry}
 use Rattle.definitions.specs.Runs.{IsKept}
 use Rattle.definition_laws.specs.Identities.{has_short_arrays, have_short_arrays, members_have_short_arrays, IsDefinite, IsDistinct}
-use Rattle.definition_laws.specs.Bundling.{AreWhole}
+use Rattle.definition_laws.specs.Bundling.{AreWhole, IsAbsolute}
 use Rattle.definition_laws.specs.Reading.{has_arrays_within, have_arrays_within, members_have_arrays_within}
-use Rattle.definition_laws.specs.Keeping.{IsBodyValue, HoldsBodyValues, HoldsBaseForms}
+use Rattle.definition_laws.specs.Keeping.{IsBodyValue, HoldsBodyValues}
 use Rattle.definition_laws.proofs.Membership.{from_filter}
 use Rattle.definition_laws.proofs.ReachedSets.{reach_as_filter}
 use Rattle.definition_laws.proofs.Resources.{table_uris}
 use Rattle.definition_laws.proofs.AcceptedDocuments.{first_none, scanned}
-use Rattle.definition_laws.proofs.AbsoluteUris.{canonical_absolute}
 use Rattle.definition_laws.proofs.KeptReaches.{reached_kept}
 
 mutual
@@ -51,20 +51,18 @@ kept_distinct_schemas search g kept held = record {
   values = λ d c. definite d.value (held d c);
 }
 
-in_registry : (g : Registry) (uri : Text) (d : Document) → Contains (reach g.documents uri) d → Contains g.documents d
-in_registry g uri d c =
-    let part : (p : Document → Bool) × (reach g.documents uri ≡ filter p g.documents) = reach_as_filter g.documents uri in
-    (from_filter part.0 d g.documents (subst (λ ds. Contains ds d) part.1 c)).0
-
 reached_held : (g : Registry) (uri : Text) → HoldsBodyValues g → HoldsBodyValues (record g { documents = reach g.documents uri })
-reached_held g uri held d c = held d (in_registry g uri d c)
+reached_held g uri held d c =
+    let part : (p : Document → Bool) × (reach g.documents uri ≡ filter p g.documents) = reach_as_filter g.documents uri in
+    held d (from_filter part.0 d g.documents (subst (λ ds. Contains ds d) part.1 c)).0
 
 pub reached_distinct_schemas : (search : Search) (g : Registry) (uri : Text) → IsKept search g → HoldsBodyValues g → IsDistinct (reach g.documents uri)
 reached_distinct_schemas search g uri kept held =
     kept_distinct_schemas search (record g { documents = reach g.documents uri }) (reached_kept search g uri kept) (reached_held g uri held)
 
-pub reached_whole : (search : Search) (g : Registry) (uri : Text) → IsKept search g → HoldsBodyValues g → HoldsBaseForms g → missing (reach g.documents uri) ≡ [] → AreWhole (reach g.documents uri)
-reached_whole search g uri kept held bases linked =
+pub reached_whole : (search : Search) (g : Registry) (uri : Text) → IsKept search g → HoldsBodyValues g
+    → ((d : Document) → Contains (reach g.documents uri) d → IsTrue (is_utf8 d.canonical) × IsAbsolute d.canonical) → missing (reach g.documents uri) ≡ [] → AreWhole (reach g.documents uri)
+reached_whole search g uri kept held uris linked =
     let reached = reached_kept search g uri kept in
     record {
       distinct = reached.distinct;
@@ -72,6 +70,7 @@ reached_whole search g uri kept held bases linked =
       named = reached.named;
       objects = λ d c. (scanned d (first_none (scan_faults d.base d.value) (reached.scanned d c))).object;
       values = λ d c. definite d.value (reached_held g uri held d c);
-      absolute = λ d c. canonical_absolute search g d kept bases (in_registry g uri d c);
+      texts = λ d c. (uris d c).0;
+      absolute = λ d c. (uris d c).1;
       linked = linked;
     }

@@ -39,5 +39,4 @@ pub mod Bundled
 pub mod FragmentTexts
 pub mod LocatedSchemas
 pub mod BundledValues
-pub mod AbsoluteUris
 pub mod DistinctRegistries

@@ -1,5 +1,6 @@
 -- That the schemas of a registry's documents can be told apart by URI and pointer, whatever was put before.
-use Rattle.std.specs.Prelude.{◌≡◌, [], Contains}
+use Rattle.std.specs.Prelude.{◌≡◌, [], Contains, IsTrue}
+use Rattle.std.specs.Str.{is_utf8}
 use Rattle.definitions.specs.Values.{Text}
 use Rattle.definitions.specs.Schemas.{Document}
 use Rattle.definitions.specs.Reach.{reach, missing}
@@ -7,7 +8,7 @@ use Rattle.definitions.specs.Registries.{Search, Registry}
 use Rattle.definitions.specs.Runs.{IsKept}
 use Rattle.definition_laws.specs.Bundling.{AreWhole, IsAbsolute}
 use Rattle.definition_laws.specs.Identities.{IsDistinct}
-use Rattle.definition_laws.specs.Keeping.{HoldsBodyValues, HoldsBaseForms}
+use Rattle.definition_laws.specs.Keeping.{HoldsBodyValues}
 
 -- the documents of a kept registry of bodies have distinct resource URIs and definite values
 abbrev pub KeptRegistriesAreDistinct : Type 0
@@ -18,13 +19,8 @@ abbrev pub ReachedDocumentsAreDistinct : Type 0
 ReachedDocumentsAreDistinct =
     (search : Search) (g : Registry) (uri : Text) → IsKept search g → HoldsBodyValues g → IsDistinct (reach g.documents uri)
 
--- the canonical URI of each document is absolute: resolved against any base it is itself
-abbrev pub CanonicalUrisAreAbsolute : Type 0
-CanonicalUrisAreAbsolute =
-    (search : Search) (g : Registry) (d : Document) → IsKept search g → HoldsBaseForms g → Contains g.documents d → IsAbsolute d.canonical
-
--- where nothing is missing, the documents that a URI reaches are as a bundle wants them
+-- where nothing is missing, and their canonical URIs are absolute and in UTF-8, they are as a bundle wants its documents
 abbrev pub LinkedDocumentsAreWhole : Type 0
 LinkedDocumentsAreWhole =
-    (search : Search) (g : Registry) (uri : Text) → IsKept search g → HoldsBodyValues g → HoldsBaseForms g
-    → missing (reach g.documents uri) ≡ [] → AreWhole (reach g.documents uri)
+    (search : Search) (g : Registry) (uri : Text) → IsKept search g → HoldsBodyValues g
+    → ((d : Document) → Contains (reach g.documents uri) d → IsTrue (is_utf8 d.canonical) × IsAbsolute d.canonical) → missing (reach g.documents uri) ≡ [] → AreWhole (reach g.documents uri)

@@ -21,8 +21,7 @@ pub use bundling::{
     bundles_keep_their_uri,
 };
 pub use distinctness::{
-    canonical_uris_are_absolute, kept_registries_are_distinct, linked_documents_are_whole,
-    reached_documents_are_distinct,
+    kept_registries_are_distinct, linked_documents_are_whole, reached_documents_are_distinct,
 };
 pub use identities::{identity_names_one_schema, roots_are_found, schemas_are_pointed_to};
 pub use keeping::{

@@ -12,8 +12,8 @@ ghost use Rattle.schema_scan.specs.Stages.{stage_fault};
 ghost use Rattle.schema_scan.specs.Tables.{uris_of, places_of};
 ghost use Rattle.schema_scan.specs.Uris.{uri_at};
 
-use crate::scanned::Scanned;
 use crate::names::{has_repeated_anchor, has_repeated_uri};
+use crate::scanned::Scanned;
 use crate::table::Table;
 use crate::unsupported::has_unknown;
 use crate::visit::visit_schema;
@@ -41,11 +41,7 @@ const MOST_NESTED: usize = 120;
 /// - [`Fault::Unsupported`]: a schema has a name that is no keyword that is in. A name that begins with `$` and is no
 ///   keyword is ignored, and so is `$schema` below the root of a resource.
 /// - [`Fault::NoRoom`]: memory ran out.
-pub fn scan<'a>(
-    alloc: Global,
-    base: &Parts,
-    document: &'a Doc,
-) -> Result<Scanned<'a>, Fault>
+pub fn scan<'a>(alloc: Global, base: &Parts, document: &'a Doc) -> Result<Scanned<'a>, Fault>
     ensures ok { IfOk result (λ s. (scanned_base s ≡ recompose base.now) × (scanned_value s ≡ value document.now)) }
     ensures sound { OnOk result (stage_fault (recompose base.now) (value document.now) ≡ None) }
     ensures err { IfErr result (λ f. f ≢ Fault.NoRoom → stage_fault (recompose base.now) (value document.now) ≡ Some (fault f)) }

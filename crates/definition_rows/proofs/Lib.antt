@@ -5,3 +5,4 @@ mod Scans
 mod Validations
 mod Requests
 mod Patterns
+mod DynamicBundles

@@ -129,10 +129,8 @@ fn pointers_are_read_and_written_as_fragments(rt: HostRuntime) -> Result<(), Fai
     pushed.push("a/b")?;
     pushed.push("m~n")?;
     pushed.push("ä b")?;
-    assert_eq!(rt;
-        pointer.text(rt.alloc())?.as_str(),
-        pushed.text(rt.alloc())?.as_str()
-    );
+    assert_eq!(rt; pushed.text(rt.alloc())?.as_str(), "/a~1b/m~0n/ä b");
+    assert_eq!(rt; pointer.text(rt.alloc())?.as_str(), "/a~1b/m~0n/ä b");
     assert_eq!(rt;
         pointer.fragment_text(rt.alloc())?.as_str(),
         "/a~1b/m~0n/%C3%A4%20b"

@@ -75,6 +75,9 @@ fn a_base_without_authority(rt: HostRuntime) -> Result<(), Fail> {
 fn parts_that_identify(rt: HostRuntime) -> Result<(), Fail> {
     assert!(rt; is_identifier(&split("https://ex.org/a?b")));
     assert!(rt; is_identifier(&split("urn:x:y")));
+    assert!(rt; !is_identifier(&split("http://a/./b")));
+    assert!(rt; !is_identifier(&split("http://a/b#")));
+    assert!(rt; !is_identifier(&split("a")));
     assert!(rt; !is_identifier(&split("s")));
     assert!(rt; !is_identifier(&split("https://ex.org/a#")));
     assert!(rt; !is_identifier(&split("https://ex.org/x/../a")));

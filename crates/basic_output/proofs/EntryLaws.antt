@@ -5,8 +5,8 @@ use Rattle.std.proofs.lemmas.List.{drop-take, take-take, drop_at, take_all, leng
 use Rattle.std.specs.Prelude.{slice_range}
 use Rattle.definitions.specs.Values.{Text, integer, string, array, to_elements}
 use Rattle.basic_output.specs.Entries.{steps_of, said_value, entry_view, is_within, said_fits, fits}
-use Rattle.basic_output.specs.Steps.{tokens, step_value, named_steps, indexed_steps}
-use Rattle.basic_output.specs.declared.step.Step.{Step}
+use Rattle.locations.specs.Steps.{tokens, step_value, named_steps, indexed_steps}
+use Rattle.locations.specs.declared.step.Step.{Step}
 use Rattle.basic_output.specs.declared.entry.Segment.{Segment}
 use Rattle.basic_output.specs.declared.entry.Said.{Said}
 use Rattle.basic_output.specs.declared.entry.Said.TheVariants as said

@@ -7,7 +7,7 @@ use Rattle.std.specs.List.{list_all, insert}
 use Rattle.definitions.specs.Applied.{OutputUnit}
 use Rattle.basic_output.specs.Entries.{Grows, entry_view, fits}
 use Rattle.basic_output.specs.Kept.{AreReached, raised, reach_before}
-use Rattle.basic_output.specs.declared.step.Step.{Step}
+use Rattle.locations.specs.declared.step.Step.{Step}
 use Rattle.basic_output.specs.declared.entry.Entry.{Entry}
 use Rattle.basic_output.proofs.EntryLaws.{view_same, fits_more}
 

@@ -3,8 +3,8 @@ use Rattle.std.specs.Prelude.{◌≡◌, ℕ, List, ◌++◌, Bool, true, ◌&&�
 use Rattle.definitions.specs.Values.{Value, boolean, integer, string, array, to_elements}
 use Rattle.definitions.specs.Applied.{OutputUnit}
 use Rattle.json_doc.specs.Docs.{value}
-use Rattle.basic_output.specs.Steps.{tokens, step_value}
-use Rattle.basic_output.specs.declared.step.Step.{Step}
+use Rattle.locations.specs.Steps.{tokens, step_value}
+use Rattle.locations.specs.declared.step.Step.{Step}
 use Rattle.basic_output.specs.declared.entry.Segment.{Segment}
 use Rattle.basic_output.specs.declared.entry.Said.{Said}
 use Rattle.basic_output.specs.declared.entry.Said.TheVariants as said

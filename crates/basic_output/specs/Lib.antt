@@ -1,4 +1,3 @@
-pub mod Steps
 pub mod Sayings
 pub mod Entries
 pub mod Kept

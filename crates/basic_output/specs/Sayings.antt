@@ -3,7 +3,7 @@ use Rattle.std.specs.Prelude.{◌++◌, map, pos, codes, true}
 use Rattle.definitions.specs.Values.{Value, boolean, integer, string, array, to_elements}
 use Rattle.definitions.specs.Applied.{OutputUnit}
 use Rattle.json_doc.specs.Docs.{value}
-use Rattle.basic_output.specs.Steps.{tokens}
+use Rattle.locations.specs.Steps.{tokens}
 use Rattle.basic_output.specs.declared.location.Location.{Location}
 use Rattle.basic_output.specs.declared.says.Says.{Says}
 use Rattle.basic_output.specs.declared.says.Says.TheVariants as says

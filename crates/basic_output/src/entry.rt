@@ -3,11 +3,11 @@
 ghost use Rattle.std.specs.Prelude.{◌≡◌, ◌++◌, true, length, OnOk, OnErr, IfOk, map};
 ghost use Rattle.basic_output.specs.Entries.{Grows, entry_view, fits, said_fits, said_value};
 ghost use Rattle.basic_output.specs.Sayings.{says_value, unit_at};
-ghost use Rattle.basic_output.specs.Steps.{indexed_steps, named_steps};
+ghost use Rattle.locations.specs.Steps.{indexed_steps, named_steps};
 
 use crate::location::Location;
 use crate::says::Says;
-use crate::step::Step;
+use locations::Step;
 use json_doc::Doc;
 use std::alloc::AllocError;
 

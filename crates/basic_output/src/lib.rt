@@ -5,14 +5,13 @@ mod entry;
 mod location;
 mod output;
 mod says;
-mod step;
 mod units;
 
 pub use faults::Fault;
 pub use location::Location;
+pub use locations::Step;
 pub use output::output_text;
 pub use says::Says;
-pub use step::Step;
 pub use units::{Mark, Units};
 
 #[cfg(test)]

@@ -1,6 +1,6 @@
 //! Where a unit stands.
 
-use crate::step::Step;
+use locations::Step;
 
 /// Where a unit stands (JSON Schema 2020-12 Core, 12.3).
 #[derive(Clone, Copy, Debug)]

@@ -11,11 +11,11 @@ ghost use Rattle.json.specs.Token as json;
 ghost use Rattle.json_doc.specs.Tokens.{value_tokens, elements_tokens};
 ghost use Rattle.basic_output.specs.Entries.{entry_view, fits, is_within, said_fits, said_value, steps_of};
 ghost use Rattle.basic_output.specs.Outputs.{reported, reported_tokens, units_output};
-ghost use Rattle.basic_output.specs.Steps.{step_value, tokens};
+ghost use Rattle.locations.specs.Steps.{step_value, tokens};
 ghost use Rattle.basic_output.specs.Units.{units_view};
 
 use crate::entry::{Entry, Said, Segment};
-use crate::step::{Step, push_fragment, push_pointer};
+use locations::{Step, push_fragment, push_pointer};
 use crate::units::Units;
 use faults::Fault;
 use json::Writer;

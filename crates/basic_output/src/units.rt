@@ -8,7 +8,7 @@ ghost use Rattle.basic_output.specs.Kept.{AreReached, raised, reach_before};
 use crate::entry::{Entry, keep};
 use crate::location::Location;
 use crate::says::Says;
-use crate::step::Step;
+use locations::Step;
 use std::alloc::{AllocError, Global};
 use std::marker::Model;
 

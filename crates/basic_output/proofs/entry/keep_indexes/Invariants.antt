@@ -1,5 +1,5 @@
 use Rattle.std.proofs.Common.{◌≡◌, ◌++◌, take}
-use Rattle.basic_output.specs.Steps.{indexed_steps}
+use Rattle.locations.specs.Steps.{indexed_steps}
 use Rattle.basic_output.proofs.entry.keep_indexes.Given as goal
 
 abbrev pub invariant-loop-index : goal.invariant-loop-index

@@ -1,5 +1,5 @@
 use Rattle.std.proofs.Common.{◌≡◌, ◌++◌, take}
-use Rattle.basic_output.specs.Steps.{named_steps}
+use Rattle.locations.specs.Steps.{named_steps}
 use Rattle.basic_output.proofs.entry.keep_names.Given as goal
 
 abbrev pub invariant-loop-name : goal.invariant-loop-name

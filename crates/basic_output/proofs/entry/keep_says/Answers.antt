@@ -1,7 +1,7 @@
 use Rattle.std.proofs.Common.{ap, ◌∙◌, sym}
 use Rattle.definitions.specs.Values.{array, to_elements}
 use Rattle.basic_output.specs.Sayings.{says_value}
-use Rattle.basic_output.specs.Steps.{named_steps, indexed_steps}
+use Rattle.locations.specs.Steps.{named_steps, indexed_steps}
 use Rattle.basic_output.proofs.EntryLaws.{listed, named_values, indexed_values}
 use Rattle.basic_output.proofs.entry.keep_says.Goals as goal
 

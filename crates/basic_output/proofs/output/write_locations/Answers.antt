@@ -2,7 +2,7 @@ use Rattle.std.proofs.Common.{[], ◌∷◌, ◌++◌, ◌≡◌, codes, ap, ◌
 use Rattle.std.proofs.lemmas.Result.{on_ok_weaker}
 use Rattle.json.specs.Token as json
 use Rattle.definitions.specs.Pointers.{pointer_text}
-use Rattle.basic_output.specs.Steps.{tokens}
+use Rattle.locations.specs.Steps.{tokens}
 use Rattle.basic_output.proofs.Appended.{appended}
 use Rattle.basic_output.proofs.output.write_locations.Goals as goal
 

@@ -1,7 +1,7 @@
 use Rattle.std.proofs.Common.{◌≡◌, ◌++◌, map, drop}
 use Rattle.definitions.specs.Values.{to_elements}
 use Rattle.json_doc.specs.Tokens.{elements_tokens}
-use Rattle.basic_output.specs.Steps.{step_value}
+use Rattle.locations.specs.Steps.{step_value}
 use Rattle.basic_output.proofs.output.write_steps.Given as goal
 
 -- what is left to be written makes the text whole

@@ -1,7 +1,7 @@
 use Rattle.std.proofs.Common.{◌≡◌, ◌++◌, take, string_bytes}
 use Rattle.definitions.specs.Pointers.{fragment_text}
-use Rattle.basic_output.specs.Steps.{tokens}
-use Rattle.basic_output.proofs.step.push_fragment.Given as goal
+use Rattle.locations.specs.Steps.{tokens}
+use Rattle.locations.proofs.step.push_fragment.Given as goal
 
 abbrev pub invariant-loop-step : goal.invariant-loop-step
 invariant-loop-step l = string_bytes l.text ≡ string_bytes l.initial.text ++ fragment_text (tokens (take l.step-index l.steps))

@@ -2,8 +2,8 @@
 use Rattle.std.specs.Prelude.{ℕ, List, map, pos, decimal}
 use Rattle.std.specs.Borrow.{Bor}
 use Rattle.definitions.specs.Values.{Text, Value, integer, string}
-use Rattle.basic_output.specs.declared.step.Step.{Step}
-use Rattle.basic_output.specs.declared.step.Step.TheVariants.{Name, Index}
+use Rattle.locations.specs.declared.step.Step.{Step}
+use Rattle.locations.specs.declared.step.Step.TheVariants.{Name, Index}
 
 abbrev pub token : Step → Text
 token (Name name) = name.now

@@ -2,7 +2,7 @@
 
 ghost use Rattle.std.specs.Prelude.{◌≡◌, ◌∷◌, ◌++◌, OnOk, flat_map, map, string_bytes};
 ghost use Rattle.definitions.specs.Pointers.{escaped_byte, fragment_text, percent_encoded, pointer_text};
-ghost use Rattle.basic_output.specs.Steps.{token, tokens};
+ghost use Rattle.locations.specs.Steps.{token, tokens};
 
 use json_doc::{push_fragment_token, push_token};
 use std::alloc::AllocError;
@@ -20,7 +20,7 @@ pub enum Step<'a> {
 }
 
 /// Appends the text of the pointer with these steps (RFC 6901, section 3).
-pub(crate) fn push_pointer(text: &mut String, steps: &[Step<'_>]) -> Result<(), AllocError>
+pub fn push_pointer(text: &mut String, steps: &[Step<'_>]) -> Result<(), AllocError>
     ensures { OnOk result (string_bytes text.new ≡ string_bytes text.old ++ pointer_text (tokens steps.now)) }
 {
     for step in steps {
@@ -30,7 +30,7 @@ pub(crate) fn push_pointer(text: &mut String, steps: &[Step<'_>]) -> Result<(), 
 }
 
 /// Appends the same in bytes that can stand in a URI fragment (RFC 6901, section 6).
-pub(crate) fn push_fragment(text: &mut String, steps: &[Step<'_>]) -> Result<(), AllocError>
+pub fn push_fragment(text: &mut String, steps: &[Step<'_>]) -> Result<(), AllocError>
     ensures { OnOk result (string_bytes text.new ≡ string_bytes text.old ++ fragment_text (tokens steps.now)) }
 {
     for step in steps {

@@ -1,0 +1,6 @@
+//! The steps of locations in documents and instances, as tokens of JSON Pointers (RFC 6901).
+#![tactic(auto)]
+
+mod step;
+
+pub use step::{Step, push_fragment, push_pointer};

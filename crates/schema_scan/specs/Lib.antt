@@ -10,3 +10,4 @@ pub mod Names
 pub mod AnchorViews
 pub mod Stages
 pub mod Scans
+pub mod CompiledDocuments

@@ -2,6 +2,8 @@
 //! fault.
 #![tactic(auto)]
 
+mod compiling;
+mod compiled;
 mod forms;
 mod keyword_values;
 mod keywords;
@@ -15,6 +17,9 @@ mod table;
 mod unsupported;
 mod visit;
 
+pub use compiling::{canonical, compile};
+pub use compiled::Compiled;
 pub use faults::Fault;
 pub use scanned::Scanned;
 pub use scanning::scan;
+pub use schema_index::Located;

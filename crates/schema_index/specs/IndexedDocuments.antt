@@ -1,0 +1,19 @@
+-- What an indexed document means: the text of the base that it stands under, and its value.
+use Rattle.std.specs.Prelude.{List, string_bytes}
+use Rattle.definitions.specs.Values.{Text, Value}
+use Rattle.definitions.specs.Schemas.{Schema, Document, document_from, schemas_of}
+use Rattle.json_doc.specs.Docs.{value}
+use Rattle.schema_index.specs.declared.indexed.Indexed.{Indexed}
+
+unfoldable pub indexed_base : Indexed → Text
+indexed_base d = string_bytes d.base
+
+unfoldable pub indexed_value : Indexed → Value
+indexed_value d = value d.document
+
+-- its schemas, in the order of a walk
+abbrev pub indexed_schemas : Indexed → List Schema
+indexed_schemas d = schemas_of (indexed_base d) (indexed_value d)
+
+abbrev pub indexed_document : Indexed → Document
+indexed_document d = document_from (indexed_base d) (indexed_value d)

@@ -1,0 +1,2 @@
+pub mod Locateds
+pub mod IndexedDocuments

@@ -1,0 +1,9 @@
+//! An index of a schema document: its resources, anchors and references, and the schema that a fragment names (JSON
+//! Schema 2020-12 Core, section 8.2).
+#![tactic(auto)]
+
+mod indexed;
+mod located;
+
+pub use indexed::Indexed;
+pub use located::Located;

@@ -1,0 +1,19 @@
+-- What a compiled document means: the text of the base that it stands under, and its value.
+use Rattle.std.specs.Prelude.{List}
+use Rattle.definitions.specs.Values.{Text, Value}
+use Rattle.definitions.specs.Schemas.{Schema, Document, document_from, schemas_of}
+use Rattle.schema_index.specs.IndexedDocuments.{indexed_base, indexed_value}
+use Rattle.schema_scan.specs.declared.compiled.Compiled.{Compiled}
+
+abbrev pub compiled_base : Compiled → Text
+compiled_base c = indexed_base c.indexed
+
+abbrev pub compiled_value : Compiled → Value
+compiled_value c = indexed_value c.indexed
+
+-- its schemas, in the order of a walk
+abbrev pub compiled_schemas : Compiled → List Schema
+compiled_schemas c = schemas_of (compiled_base c) (compiled_value c)
+
+abbrev pub compiled_document : Compiled → Document
+compiled_document c = document_from (compiled_base c) (compiled_value c)

@@ -1,0 +1,112 @@
+//! Documents that can be evaluated.
+
+ghost use Rattle.std.specs.Prelude.{◌≡◌, true, false, None, IfOk, IfErr, IfSome, IsTrue, Contains, is_some, map, option_map, string_bytes};
+ghost use Rattle.definitions.specs.Patterns.{regular_search};
+ghost use Rattle.definitions.specs.Reach.{holds_resource, references_in};
+ghost use Rattle.definitions.specs.Registries.{is_regular};
+ghost use Rattle.definitions.specs.Scanning.{patterns, resource_uris, scan_fault};
+ghost use Rattle.definitions.specs.Targets.{resource_root, target_by, dynamically_anchored};
+ghost use Rattle.json_doc.specs.Docs.{value};
+ghost use Rattle.schema_index.specs.Locateds.{located_schema};
+ghost use Rattle.uri_ref.specs.FragmentViews.{fragment_shown};
+
+use faults::Fault;
+use json_doc::Doc;
+use patterns::Pattern;
+use schema_index::{Indexed, Located};
+use std::alloc::Global;
+use uri_ref::FragmentKind;
+
+/// A schema document that can be evaluated: the scan found no fault in it, and its patterns are built.
+///
+/// Contracts see it as one pair: the text of the base that it stands under, by `compiled_base`, and its value, by
+/// `compiled_value`.
+#[derive(Drop)]
+pub struct Compiled {
+    pub(crate) indexed: Indexed,
+    ghost stub: { true ≡ false },
+}
+
+impl Compiled {
+    ghost use Rattle.schema_scan.specs.CompiledDocuments.{compiled_base, compiled_value, compiled_schemas, compiled_document};
+
+    /// The text of the base that the document stands under.
+    pub fn base(&self) -> &str
+        ensures { result.now ≡ compiled_base self.now }
+    {
+        self.indexed.base()
+    }
+
+    /// The document.
+    pub fn document(&self) -> &Doc
+        ensures value { value result.now ≡ compiled_value self.now }
+        ensures faultless { scan_fault (compiled_base self.now) (compiled_value self.now) ≡ None }
+        ensures regular { is_regular regular_search (compiled_value self.now) ≡ true }
+    {
+        self.indexed.document()
+    }
+
+    /// The URIs of its resources, in the order of a walk.
+    pub fn resource_uris(&self) -> &[String]
+        ensures { map string_bytes result.now ≡ resource_uris (compiled_schemas self.now) }
+    {
+        self.indexed.resource_uris()
+    }
+
+    /// The absolute references of its schemas, in the order of a walk; some may stand more than once.
+    pub fn references(&self) -> &[String]
+        ensures { map string_bytes result.now ≡ references_in (compiled_document self.now) }
+    {
+        self.indexed.references()
+    }
+
+    /// The URI, as the document's own text, where one of its resources has it.
+    pub fn resource_uri(&self, uri: &str) -> Option<&str>
+        ensures same { IfSome result (λ u. u.now ≡ uri.now) }
+        ensures held { is_some result ≡ holds_resource uri.now (compiled_document self.now) }
+    {
+        self.indexed.resource_uri(uri)
+    }
+
+    /// The root of the resource with this URI.
+    pub fn resource_root(&self, alloc: Global, uri: &str) -> Option<Located<'_>>
+        ensures { option_map located_schema result ≡ resource_root (compiled_schemas self.now) uri.now }
+    {
+        self.indexed.resource_root(alloc, uri)
+    }
+
+    /// The schema that the fragment names in the resource with this URI: its root, the schema at a pointer from there, or
+    /// the one with this anchor. A pointer that leads to no schema names nothing. The only error is want of memory.
+    pub fn target(
+        &self,
+        alloc: Global,
+        uri: &str,
+        fragment: &FragmentKind,
+    ) -> Result<Option<Located<'_>>, Fault>
+        ensures ok { IfOk result (λ t. option_map located_schema t ≡ target_by (compiled_schemas self.now) uri.now (fragment_shown fragment.now)) }
+        ensures err { IfErr result (λ f. f ≡ Fault.NoRoom) }
+    {
+        self.indexed.target(alloc, uri, fragment)
+    }
+
+    /// The schema with this dynamic anchor in the resource with this URI. The only error is want of memory.
+    pub fn dynamically_anchored(
+        &self,
+        alloc: Global,
+        uri: &str,
+        name: &str,
+    ) -> Result<Option<Located<'_>>, Fault>
+        ensures ok { IfOk result (λ t. option_map located_schema t ≡ dynamically_anchored (compiled_schemas self.now) uri.now name.now) }
+        ensures err { IfErr result (λ f. f ≡ Fault.NoRoom) }
+    {
+        self.indexed.dynamically_anchored(alloc, uri, name)
+    }
+
+    /// The pattern with this text, where one of the document's schemas has it.
+    pub fn pattern(&self, text: &str) -> Option<&Pattern>
+        ensures same { IfSome result (λ p. p.now ≡ text.now) }
+        ensures there { Contains (patterns (compiled_value self.now)) text.now → IsTrue (is_some result) }
+    {
+        unreachable!()
+    }
+}

@@ -1,0 +1,30 @@
+//! From a scanned document to one that can be evaluated.
+
+ghost use Rattle.std.specs.Prelude.{◌≡◌, ◌≢◌, ◌<◌, IfOk, IfErr, length};
+ghost use Rattle.definitions.specs.Scanning.{patterns};
+ghost use Rattle.definitions.specs.Schemas.{document_from};
+ghost use Rattle.schema_scan.specs.Scans.{scanned_base, scanned_value};
+ghost use Rattle.schema_scan.specs.CompiledDocuments.{compiled_base, compiled_value, compiled_document};
+
+use crate::compiled::Compiled;
+use crate::scanned::Scanned;
+use faults::Fault;
+use std::alloc::Global;
+
+/// Builds the patterns of a scanned document and keeps a copy of it.
+///
+/// [`Fault::BadPattern`] is for a pattern that the grammar of `regex` doesn't read, or that is too big or nests too deep
+/// once it is built; a document without patterns never meets it. The only other error is want of memory.
+pub fn compile(alloc: Global, scanned: Scanned<'_>) -> Result<Compiled, Fault>
+    ensures ok { IfOk result (λ c. (compiled_base c ≡ scanned_base scanned.entry) × (compiled_value c ≡ scanned_value scanned.entry)) }
+    ensures err { IfErr result (λ f. f ≢ Fault.NoRoom → (f ≡ Fault.BadPattern) × (0 < length (patterns (scanned_value scanned.entry)))) }
+{
+    Err(Fault::NoRoom)
+}
+
+/// The document's canonical URI: that of its root's resource (JSON Schema 2020-12 Core, section 8.2.1).
+pub fn canonical(compiled: &Compiled) -> &str
+    ensures { result.now ≡ (compiled_document compiled.now).canonical }
+{
+    compiled.indexed.canonical()
+}

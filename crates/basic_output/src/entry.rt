@@ -7,8 +7,8 @@ ghost use Rattle.locations.specs.Steps.{indexed_steps, named_steps};
 
 use crate::location::Location;
 use crate::says::Says;
-use locations::Step;
 use json_doc::Doc;
+use locations::Step;
 use std::alloc::AllocError;
 
 /// The steps from the first number on and below the second.

@@ -15,11 +15,11 @@ ghost use Rattle.locations.specs.Steps.{step_value, tokens};
 ghost use Rattle.basic_output.specs.Units.{units_view};
 
 use crate::entry::{Entry, Said, Segment};
-use locations::{Step, push_fragment, push_pointer};
 use crate::units::Units;
 use faults::Fault;
 use json::Writer;
 use json_doc::write_doc;
+use locations::{Step, push_fragment, push_pointer};
 use std::alloc::{AllocError, Global};
 
 /// The text of the basic output: compact JSON, with the names of each object in byte order. The units are the

@@ -1,0 +1,3 @@
+pub mod Standings
+pub mod Frames
+pub mod Returns

@@ -1,0 +1,7 @@
+//! Where an application of a schema stands: its evaluation path, its identity, its place in the instance, the dynamic
+//! scope and the schemas that are being applied (JSON Schema 2020-12 Core, 7.1 and 12.3).
+#![tactic(auto)]
+
+mod context;
+
+pub use context::{Context, Return};

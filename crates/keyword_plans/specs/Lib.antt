@@ -1,0 +1,5 @@
+pub mod Rows
+pub mod Subjects
+pub mod Sites
+pub mod Plans
+pub mod Annotations

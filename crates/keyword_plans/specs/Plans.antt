@@ -1,0 +1,39 @@
+-- What a keyword applies, as the definitions have it.
+use Rattle.std.specs.Prelude.{ℕ, List, [], ◌∷◌, Option, Some, None, decimal, map}
+use Rattle.definitions.specs.Values.{Text, Value}
+use Rattle.definitions.specs.Pointers.{Pointer}
+use Rattle.definitions.specs.Keywords.{Meaning}
+use Rattle.definitions.specs.Applied as definition
+use Rattle.definitions.specs.Applied.{Application, Outcome, Rules, whole, named, indexed, name_of, applied, applying, at_part}
+use Rattle.json_doc.specs.Docs.{value}
+use Rattle.locations.specs.declared.step.Step.{Step}
+use Rattle.locations.specs.Steps.{token}
+use Rattle.schema_index.specs.Locateds.{located_schema}
+use Rattle.keyword_plans.specs.Subjects.{subject_value}
+use Rattle.keyword_plans.specs.declared.planned.Planned.{Planned}
+use Rattle.keyword_plans.specs.declared.planned.Chosen.{Chosen}
+use Rattle.keyword_plans.specs.declared.planned.Chosen.TheVariants.{Below, Target}
+use Rattle.keyword_plans.specs.declared.planned.Part.{Part}
+use Rattle.keyword_plans.specs.declared.planned.Part.TheVariants.{Whole, Member, Element, NameOf}
+
+abbrev pub part_view : Part → definition.Part
+part_view Whole = whole
+part_view (Member name) = named name.now
+part_view (Element i) = indexed i
+part_view (NameOf name) = name_of name.now
+
+abbrev pub step_view : Option Step → Pointer
+step_view None = []
+step_view (Some step) = token step ∷ []
+
+-- the application that is planned, under the keyword k of the application a
+abbrev pub chosen_application : Text → Application → Chosen → definition.Part → Value → Application
+chosen_application k a (Below step schema) part x = (at_part a (k ∷ step_view step) (value schema.now) part x).1
+chosen_application k a (Target located) part x = applying a (k ∷ []) (located_schema located) part x
+
+abbrev pub planned_view : Text → Application → Planned → definition.Part × Application
+planned_view k a p = (part_view p.part, chosen_application k a p.chosen (part_view p.part) (subject_value p.subject))
+
+-- what the keyword with this value applied, each with its outcome
+abbrev pub outcomes_of : Rules → (Application → Outcome) → List Text → List ℕ → Application → Text → Meaning → Value → List (definition.Part × Outcome)
+outcomes_of rules run names indexes a k meaning v = map (λ e. (e.0, run e.1)) (applied rules run names indexes a k meaning v)

@@ -1,0 +1,22 @@
+-- What the keywords of a schema object see of its application.
+use Rattle.std.specs.Prelude.{◌≡◌, map, Contains}
+use Rattle.definitions.specs.Patterns.{has_match}
+use Rattle.definitions.specs.Applied.{Application, Rules}
+use Rattle.definitions.specs.Answers.{rules_of}
+use Rattle.json_doc.specs.Docs.{value}
+use Rattle.linker.specs.LinkedDocuments.{linked_documents, linked_schemas}
+use Rattle.linker.specs.declared.linked.Linked.{Linked}
+use Rattle.keyword_plans.specs.Subjects.{subject_value}
+use Rattle.keyword_plans.specs.declared.site.Site.{Site}
+
+-- the rules over the linked documents
+abbrev pub linked_rules : Linked → Rules
+linked_rules l = rules_of has_match (linked_documents l)
+
+-- the site of this application, whose schema is one of the linked documents'
+pub record Shows (site : Site) (a : Application) : Type 0 where
+  pub schema : a.schema.value ≡ value site.schema.now
+  pub resource : a.schema.resource ≡ site.resource.now
+  pub instance : a.instance ≡ subject_value site.subject
+  pub scope : a.scope ≡ map (λ uri. uri.now) site.scope.now
+  pub inside : Contains (linked_schemas site.linked.now) a.schema

@@ -1,0 +1,21 @@
+//! What each keyword of a schema applies, whether it passes, and how it annotates (JSON Schema 2020-12 Core, 7.7, 10 and 11).
+#![tactic(auto)]
+
+mod annotating;
+mod keyword;
+mod planned;
+mod planning;
+mod searches;
+mod site;
+mod subject;
+mod verdict;
+
+pub use annotating::{Annotation, annotate};
+pub use faults::Fault;
+pub use keyword::Keyword;
+pub use planned::{Chosen, Part, Planned};
+pub use planning::plan;
+pub use searches::Searches;
+pub use site::{Evaluated, Site};
+pub use subject::Subject;
+pub use verdict::{Tally, passes};

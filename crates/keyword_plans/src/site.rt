@@ -1,0 +1,30 @@
+//! Where a keyword is used.
+
+use crate::subject::Subject;
+use json_doc::Doc;
+use linker::Linked;
+
+/// The application of a schema object, as its keywords see it.
+#[derive(Clone, Copy)]
+pub struct Site<'s, 'a> {
+    /// The documents that references lead to.
+    pub linked: &'a Linked,
+    /// The URI of the schema's resource.
+    pub resource: &'a str,
+    /// The schema object.
+    pub schema: &'a Doc,
+    /// What it is applied to.
+    pub subject: Subject<'a>,
+    /// The URIs of the resources of the dynamic scope, the outermost first, the schema's own last.
+    pub scope: &'s [&'a str],
+}
+
+/// The names and the indexes of the instance that the other keywords of a schema object evaluated (JSON Schema 2020-12
+/// Core, 11), in any order.
+#[derive(Clone, Copy)]
+pub struct Evaluated<'s, 'a> {
+    /// The names.
+    pub names: &'s [&'a str],
+    /// The indexes.
+    pub indexes: &'s [usize],
+}

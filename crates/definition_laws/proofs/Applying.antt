@@ -17,7 +17,7 @@ use Rattle.definition_laws.proofs.Roots.{same_text_is}
 use Rattle.definition_laws.proofs.Targets.{AlikeIn, equal_alike, below_alike, alike_get, alike_reference, referred_alike, static_reference, dynamic_reference}
 
 -- ---- one step down by a keyword's shape
-step_one : (s : Schema) (k : Text) (v : Value) → IsIn (k, v) (members s.value) → shape_in keywords k ≡ one_schema → IsStep keywords s (below s (k ∷ []) v) (k ∷ [])
+pub step_one : (s : Schema) (k : Text) (v : Value) → IsIn (k, v) (members s.value) → shape_in keywords k ≡ one_schema → IsStep keywords s (below s (k ∷ []) v) (k ∷ [])
 step_one s k v i e = record {
   name = k;
   value = v;
@@ -29,7 +29,7 @@ step_one s k v i e = record {
   is = refl;
 }
 
-step_listed : (s : Schema) (k : Text) (v : Value) (e : ℕ × Value) → IsIn (k, v) (members s.value) → shape_in keywords k ≡ schema_list → IsIn e (enumerate_from 0 (elements v))
+pub step_listed : (s : Schema) (k : Text) (v : Value) (e : ℕ × Value) → IsIn (k, v) (members s.value) → shape_in keywords k ≡ schema_list → IsIn e (enumerate_from 0 (elements v))
     → IsStep keywords s (below s (k ∷ decimal e.0 ∷ []) e.1) (k ∷ decimal e.0 ∷ [])
 step_listed s k v e i h j = record {
   name = k;
@@ -42,7 +42,7 @@ step_listed s k v e i h j = record {
   is = refl;
 }
 
-step_named : (s : Schema) (k : Text) (v : Value) (m : Text × Value) → IsIn (k, v) (members s.value) → shape_in keywords k ≡ schema_map → IsIn m (members v)
+pub step_named : (s : Schema) (k : Text) (v : Value) (m : Text × Value) → IsIn (k, v) (members s.value) → shape_in keywords k ≡ schema_map → IsIn m (members v)
     → IsStep keywords s (below s (k ∷ m.0 ∷ []) m.1) (k ∷ m.0 ∷ [])
 step_named s k v m i h j = record {
   name = k;
@@ -56,27 +56,27 @@ step_named s k v m i h j = record {
 }
 
 -- ---- whether the shape is the one that the meaning applies by
-abbrev is_one : Shape → Bool
+abbrev pub is_one : Shape → Bool
 is_one one_schema = true
 is_one _ = false
 
-abbrev is_list : Shape → Bool
+abbrev pub is_list : Shape → Bool
 is_list schema_list = true
 is_list _ = false
 
-abbrev is_map : Shape → Bool
+abbrev pub is_map : Shape → Bool
 is_map schema_map = true
 is_map _ = false
 
-one_is : (shape : Shape) → is_one shape ≡ true → shape ≡ one_schema
+pub one_is : (shape : Shape) → is_one shape ≡ true → shape ≡ one_schema
 one_is one_schema h = refl
 one_is _ h = absurd (cc)
 
-list_is : (shape : Shape) → is_list shape ≡ true → shape ≡ schema_list
+pub list_is : (shape : Shape) → is_list shape ≡ true → shape ≡ schema_list
 list_is schema_list h = refl
 list_is _ h = absurd (cc)
 
-map_is : (shape : Shape) → is_map shape ≡ true → shape ≡ schema_map
+pub map_is : (shape : Shape) → is_map shape ≡ true → shape ≡ schema_map
 map_is schema_map h = refl
 map_is _ h = absurd (cc)
 

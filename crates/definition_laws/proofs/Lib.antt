@@ -40,3 +40,5 @@ pub mod FragmentTexts
 pub mod LocatedSchemas
 pub mod BundledValues
 pub mod DistinctRegistries
+pub mod AppliedSchemas
+pub mod Reports

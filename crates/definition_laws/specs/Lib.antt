@@ -11,3 +11,4 @@ pub mod Storing
 pub mod Bundling
 pub mod Locations
 pub mod Distinctness
+pub mod Applications

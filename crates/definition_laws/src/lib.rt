@@ -1,6 +1,7 @@
 //! Laws of the definitions, each as the contract of a function that does nothing.
 #![tactic(auto)]
 
+mod applications;
 mod bundling;
 mod distinctness;
 mod identities;
@@ -16,6 +17,9 @@ mod uniqueness;
 
 ghost use Rattle.definition_laws.specs.Laws.{FailingEvaluatesNothing, RefusalsKeepTheRegistry, CoursesAreReplies, AgreeingAnswerAlike};
 
+pub use applications::{
+    applied_schemas_are_known, failing_annotates_nothing, passing_reports_no_error,
+};
 pub use bundling::{
     bundles_answer_the_same, bundles_are_alike, bundles_are_definite, bundles_keep_the_resources,
     bundles_keep_their_uri,

@@ -13,3 +13,4 @@ pub mod ScanFaults
 pub mod Gathered
 pub mod SameNames
 pub mod StageFaults
+pub mod HeldPatterns

@@ -8,6 +8,8 @@ mod forms;
 mod keyword_values;
 mod keywords;
 mod names;
+mod pattern_table;
+mod pattern_texts;
 mod refusal;
 mod repeats;
 mod resources;

@@ -14,3 +14,4 @@ pub mod Gathered
 pub mod SameNames
 pub mod StageFaults
 pub mod HeldPatterns
+pub mod Patterned

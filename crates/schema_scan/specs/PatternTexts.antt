@@ -1,6 +1,6 @@
 -- The patterns of schemas, read off their values alone.
-use Rattle.std.specs.Prelude.{List, [], ◌++◌, Option, None, Some, map, flat_map, codes}
-use Rattle.definitions.specs.Values.{Text, Value, get, text_at, members}
+use Rattle.std.specs.Prelude.{List, [], Option, map, flat_map, option_map, unwrap_or}
+use Rattle.definitions.specs.Values.{Text, Value, get, members}
 use Rattle.definitions.specs.Scanning.{patterns_of}
 use Rattle.schema_scan.specs.Places.{Place}
 
@@ -8,10 +8,9 @@ use Rattle.schema_scan.specs.Places.{Place}
 unfoldable pub patterns_at : Value → List Text
 patterns_at v = patterns_of (record { resource = []; pointer = []; value = v })
 
--- the names of a `patternProperties` of this value
-abbrev pub names_under : Option Value → List Text
-names_under None = []
-names_under (Some v) = map (λ m. m.0) (members v)
+-- the names of the members under a keyword
+unfoldable pub names_at : Text → Value → List Text
+names_at keyword v = unwrap_or (option_map (λ u. map (λ m. m.0) (members u)) (get keyword v)) []
 
 abbrev pub patterns_in : List Place → List Text
 patterns_in ps = flat_map (λ p. patterns_at p.value) ps

@@ -1,22 +1,30 @@
-use Rattle.std.proofs.Common.{rules, ◌≡◌, true, nat_lt, ◌<◌, [], ◌∷◌, ◌++◌, ◌||◌, length, OnOk, IfOk, map, string_bytes, ℕ, ◌+◌, ◌-◌, ◌*◌, ◌≤◌, ◌/◌, ◌%◌, Bool, false, nat_eq, List, slice_index_or, slice_set, bit_and, bit_or, Fits, w8, w32, w64, Bor, MutBor}
-use Rattle.std.specs.List.{list_all}
+use Rattle.std.proofs.Common.{◌≡◌, ◌≤◌, ◌++◌, ◌+◌, List, map, length, drop, Bor, sym, ap, ◌∙◌, string_bytes, arith}
+use Rattle.definitions.specs.Values.{Text}
 use Rattle.json_doc.specs.Docs.{value}
-use Rattle.schema_scan.specs.Places.{resource_of, opens_resource, place_of, opened_uri, id_of}
-use Rattle.schema_scan.specs.AnchorViews.{anchor_view}
-use Rattle.schema_scan.specs.Names.{uris_opened, anchors_in}
-use Rattle.schema_scan.specs.PatternTexts.{patterns_in}
-use Rattle.schema_scan.specs.Uris.{uri_at, Extends}
-use Rattle.schema_scan.specs.Tables.{uris_of, places_of}
+use Rattle.schema_scan.specs.PatternTexts.{patterns_at, patterns_in}
+use Rattle.schema_scan.specs.Tables.{places_of, place_by}
+use Rattle.schema_scan.proofs.Gathered.{next_item, no_more, grown, append-none}
 use Rattle.schema_scan.proofs.table.Table.patterns.Goals as goal
 
--- src/table.rt:163:9
-pub loop-position-init : goal.loop-position-init
-loop-position-init c = ?
+abbrev texts : List (Bor Text) → List Text
+texts = map (λ t. t.now)
 
--- src/table.rt:163:9
 pub loop-position-preserved : goal.loop-position-preserved
-loop-position-preserved c = ?
+loop-position-preserved c =
+    let place = place_by (map string_bytes c.args.self.now.uris.items) in
+    let ps = c.args.self.now.positions.items in
+    let i = c.loop-position.position-index in
+    let p = c.position-item.result in
+    grown (patterns_in (map place ps)) (texts c.loop-position.texts.items) (texts c.push_patterns.new.texts.items) (patterns_at (value p.schema.now)) (patterns_in (map place (drop (i + 1) ps)))
+    (c.loop-position.invariant
+    ∙ ap (λ qs. texts c.loop-position.texts.items ++ patterns_in (map place qs)) (next_item c.deref-position-items.result.now ps i p c.deref-position-items.ensures.value c.loop-position-test.true c.position-item.is))
+    c.in_ok-push_patterns.ensures
 
--- src/table.rt:159:5
 pub returns : goal.returns
-returns c = ?
+unfolding places_of
+returns c =
+    let place = place_by (map string_bytes c.args.self.now.uris.items) in
+    let end : length c.deref-position-items.result.now ≤ c.loop-position.position-index = omega arith in
+    sym (c.loop-position.invariant
+    ∙ ap (λ qs. texts c.loop-position.texts.items ++ patterns_in (map place qs)) (no_more c.deref-position-items.result.now c.args.self.now.positions.items c.loop-position.position-index c.deref-position-items.ensures.value end)
+    ∙ append-none (texts c.loop-position.texts.items))

@@ -1,5 +1,5 @@
 -- The patterns of a schema, and those of a document by its places.
-use Rattle.std.proofs.Common.{◌≡◌, List, [], ◌∷◌, ◌++◌, map, Bool, true, false, Option, Some, None, option_map, option_and_then, unwrap_or, Bor, codes, refl, sym, ap, ap₂, ◌∙◌, append_assoc}
+use Rattle.std.proofs.Common.{◌≡◌, List, [], ◌∷◌, ◌++◌, map, Bool, true, false, Option, Some, None, option_map, option_and_then, unwrap_or, codes, refl, sym, ap, ap₂, ◌∙◌}
 use Rattle.std.proofs.lemmas.Grind.{flat_map-append}
 use Rattle.std.specs.List.{flat_map}
 use Rattle.definitions.specs.Values.{Text, Value, null, boolean, integer, string, array, object, Elements, no_elements, element, Members, no_members, member, get, members, text_at}
@@ -8,7 +8,7 @@ use Rattle.definitions.specs.Scanning.{patterns, patterns_of}
 use Rattle.definitions.specs.Shapes.{Shape, any_value, truth, whole_number, size, divisor, any_text, value_list, text_list, text_lists, type_names, reference, one_schema, schema_list, schema_map, identifier, anchor_name, dialect}
 use Rattle.json_doc.specs.Kinds.{as_members}
 use Rattle.schema_scan.specs.PatternTexts.{patterns_at, names_at, patterns_in}
-use Rattle.schema_scan.specs.Places.{Place, shape_named, resource_of, place_of, places, places_below, places_at, places_in_list, places_in_map}
+use Rattle.schema_scan.specs.Places.{Place, shape_named, resource_of, places, places_below, places_at, places_in_list, places_in_map}
 use Rattle.schema_scan.proofs.Placed.{placed, schemas_of-places}
 
 -- ---- of a schema

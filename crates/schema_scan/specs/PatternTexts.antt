@@ -1,5 +1,5 @@
 -- The patterns of schemas, read off their values alone.
-use Rattle.std.specs.Prelude.{List, [], Option, map, flat_map, option_map, unwrap_or}
+use Rattle.std.specs.Prelude.{List, [], map, flat_map, option_map, unwrap_or}
 use Rattle.definitions.specs.Values.{Text, Value, get, members}
 use Rattle.definitions.specs.Scanning.{patterns_of}
 use Rattle.schema_scan.specs.Places.{Place}

@@ -2,8 +2,8 @@
 //! fault.
 #![tactic(auto)]
 
-mod compiling;
 mod compiled;
+mod compiling;
 mod forms;
 mod keyword_values;
 mod keywords;
@@ -19,8 +19,8 @@ mod table;
 mod unsupported;
 mod visit;
 
-pub use compiling::{canonical, compile};
 pub use compiled::Compiled;
+pub use compiling::{canonical, compile};
 pub use faults::Fault;
 pub use scanned::Scanned;
 pub use scanning::scan;

@@ -49,7 +49,8 @@ impl PatternTable {
             return Ok(());
         }
         let pattern = Pattern::build(alloc, text)?;
-        self.patterns.insert(String::from_str(alloc, text)?, pattern)?;
+        self.patterns
+            .insert(String::from_str(alloc, text)?, pattern)?;
         Ok(())
     }
 

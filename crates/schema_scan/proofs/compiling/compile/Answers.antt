@@ -1,4 +1,4 @@
-use Rattle.std.proofs.Common.{◌≡◌, ap₂, ◌∙◌}
+use Rattle.std.proofs.Common.{ap₂, ◌∙◌}
 use Rattle.definitions.specs.Scanning.{scan_fault}
 use Rattle.schema_scan.specs.Scans.{scanned_base, scanned_value}
 use Rattle.schema_scan.proofs.StageFaults.{faultless_scan}

@@ -1,4 +1,4 @@
-use Rattle.std.proofs.Common.{◌≡◌, ◌++◌, [], ◌∷◌, List, map, Bor, sym, ap, ◌∙◌}
+use Rattle.std.proofs.Common.{◌++◌, [], ◌∷◌, List, map, Bor, sym, ap, ◌∙◌}
 use Rattle.definitions.specs.Values.{Text, Value}
 use Rattle.json_doc.specs.Docs.{members_value}
 use Rattle.json_doc.specs.Members.{members_left}

@@ -2,7 +2,7 @@ use Rattle.std.proofs.Common.{◌≡◌, ◌++◌, List, map, OnOk, option_map, 
 use Rattle.definitions.specs.Schemas.{option_list}
 use Rattle.definitions.specs.Values.{Text}
 use Rattle.json_doc.specs.Docs.{value}
-use Rattle.schema_scan.specs.PatternTexts.{patterns_at, names_at}
+use Rattle.schema_scan.specs.PatternTexts.{names_at}
 use Rattle.schema_scan.proofs.Gathered.{map-push, append-none}
 use Rattle.schema_scan.proofs.Patterned.{patterns_at-parts}
 use Rattle.schema_scan.proofs.pattern_texts.push_patterns.Goals as goal

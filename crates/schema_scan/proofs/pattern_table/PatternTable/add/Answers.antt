@@ -1,6 +1,4 @@
-use Rattle.std.proofs.Common.{◌≡◌, true, ◌||◌, OnOk, OnErr, Some, string_bytes, string_cmp, nat_cmp, sym, ap, subst, ◌∙◌, rules}
-use Rattle.std.specs.BTreeMap.{UpdatesBy}
-use Rattle.std.specs.Cmp.Lexicographic.{slice_cmp}
+use Rattle.std.proofs.Common.{◌≡◌, ◌||◌, string_bytes, sym, ap, ◌∙◌}
 use Rattle.definitions.specs.Patterns.{is_read}
 use Rattle.schema_scan.specs.PatternTables.{holds_pattern}
 use Rattle.definitions.specs.Values.{same_text}

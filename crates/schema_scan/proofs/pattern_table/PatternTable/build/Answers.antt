@@ -1,4 +1,4 @@
-use Rattle.std.proofs.Common.{◌≡◌, ◌≤◌, [], length, map, Bor, sym, ap, ◌∙◌, refl, arith}
+use Rattle.std.proofs.Common.{[], map, Bor, sym, ap, ◌∙◌, refl}
 use Rattle.std.proofs.lemmas.List.{take_all}
 use Rattle.std.specs.List.{list_all}
 use Rattle.definitions.specs.Values.{Text}

@@ -1,4 +1,4 @@
-use Rattle.std.proofs.Common.{◌≡◌, ◌≤◌, ◌++◌, ◌+◌, List, map, length, drop, Bor, sym, ap, ◌∙◌, string_bytes, arith}
+use Rattle.std.proofs.Common.{◌≤◌, ◌++◌, ◌+◌, List, map, length, drop, Bor, sym, ap, ◌∙◌, string_bytes, arith}
 use Rattle.definitions.specs.Values.{Text}
 use Rattle.json_doc.specs.Docs.{value}
 use Rattle.schema_scan.specs.PatternTexts.{patterns_at, patterns_in}

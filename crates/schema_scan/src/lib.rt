@@ -25,3 +25,6 @@ pub use faults::Fault;
 pub use scanned::Scanned;
 pub use scanning::scan;
 pub use schema_index::Located;
+
+#[cfg(test)]
+mod tests;

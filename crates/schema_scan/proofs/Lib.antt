@@ -13,3 +13,5 @@ pub mod ScanFaults
 pub mod Gathered
 pub mod SameNames
 pub mod StageFaults
+pub mod HeldPatterns
+pub mod Patterned

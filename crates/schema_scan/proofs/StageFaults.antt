@@ -46,3 +46,12 @@ pub stage-none : (base : Text) (v : Value) (unknown : Bool) → scan_fault base 
 unfolding stage_fault
 stage-none base v unknown e u =
     first-none (scan_faults base v) (unsupported_faults first_keywords base v) e ∙ ap first (unknown_names base v) ∙ ap (λ b. first (when b unsupported)) (sym u)
+
+-- nor a fault that a scan finds
+first-before : (xs ys : List Fault) → first (xs ++ ys) ≡ None → first xs ≡ None
+first-before [] ys e = refl
+first-before (z ∷ xs) ys e = cc
+
+pub faultless_scan : (base : Text) (v : Value) → stage_fault base v ≡ None → scan_fault base v ≡ None
+unfolding stage_fault
+faultless_scan base v e = first-before (scan_faults base v) (unsupported_faults first_keywords base v) e

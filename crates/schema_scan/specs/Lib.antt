@@ -10,4 +10,7 @@ pub mod Names
 pub mod AnchorViews
 pub mod Stages
 pub mod Scans
+pub mod PatternTexts
+pub mod BuiltPatterns
+pub mod PatternTables
 pub mod CompiledDocuments

@@ -1,15 +1,19 @@
 //! Documents that can be evaluated.
 
-ghost use Rattle.std.specs.Prelude.{◌≡◌, true, false, None, IfOk, IfErr, IfSome, IsTrue, Contains, is_some, map, option_map, string_bytes};
+ghost use Rattle.std.specs.Prelude.{◌≡◌, true, None, IfOk, IfErr, IfSome, IsTrue, Contains, is_some, map, option_map, string_bytes};
+ghost use Rattle.std.specs.List.{list_all};
 ghost use Rattle.definitions.specs.Patterns.{regular_search};
 ghost use Rattle.definitions.specs.Reach.{holds_resource, references_in};
 ghost use Rattle.definitions.specs.Registries.{is_regular};
 ghost use Rattle.definitions.specs.Scanning.{patterns, resource_uris, scan_fault};
 ghost use Rattle.definitions.specs.Targets.{resource_root, target_by, dynamically_anchored};
 ghost use Rattle.json_doc.specs.Docs.{value};
+ghost use Rattle.schema_index.specs.IndexedDocuments.{indexed_value};
 ghost use Rattle.schema_index.specs.Locateds.{located_schema};
+ghost use Rattle.schema_scan.specs.PatternTables.{holds_pattern};
 ghost use Rattle.uri_ref.specs.FragmentViews.{fragment_shown};
 
+use crate::pattern_table::PatternTable;
 use faults::Fault;
 use json_doc::Doc;
 use patterns::Pattern;
@@ -24,7 +28,9 @@ use uri_ref::FragmentKind;
 #[derive(Drop)]
 pub struct Compiled {
     pub(crate) indexed: Indexed,
-    ghost stub: { true ≡ false },
+    pub(crate) pattern_table: PatternTable,
+    ghost regular: { is_regular regular_search (indexed_value indexed) ≡ true },
+    ghost built: { list_all (holds_pattern pattern_table) (patterns (indexed_value indexed)) ≡ true },
 }
 
 impl Compiled {
@@ -107,6 +113,6 @@ impl Compiled {
         ensures same { IfSome result (λ p. p.now ≡ text.now) }
         ensures there { Contains (patterns (compiled_value self.now)) text.now → IsTrue (is_some result) }
     {
-        unreachable!()
+        self.pattern_table.get(text)
     }
 }

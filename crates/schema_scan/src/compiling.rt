@@ -1,14 +1,19 @@
 //! From a scanned document to one that can be evaluated.
 
-ghost use Rattle.std.specs.Prelude.{◌≡◌, ◌≢◌, ◌<◌, IfOk, IfErr, length};
+ghost use Rattle.std.specs.Prelude.{◌≡◌, ◌≢◌, ◌<◌, true, IfOk, OnOk, IfErr, length};
+ghost use Rattle.definitions.specs.Patterns.{regular_search};
+ghost use Rattle.definitions.specs.Registries.{is_regular};
 ghost use Rattle.definitions.specs.Scanning.{patterns};
 ghost use Rattle.definitions.specs.Schemas.{document_from};
 ghost use Rattle.schema_scan.specs.Scans.{scanned_base, scanned_value};
 ghost use Rattle.schema_scan.specs.CompiledDocuments.{compiled_base, compiled_value, compiled_document};
 
 use crate::compiled::Compiled;
+use crate::pattern_table::PatternTable;
 use crate::scanned::Scanned;
 use faults::Fault;
+use json_doc::copy;
+use schema_index::Indexed;
 use std::alloc::Global;
 
 /// Builds the patterns of a scanned document and keeps a copy of it.
@@ -17,9 +22,17 @@ use std::alloc::Global;
 /// once it is built; a document without patterns never meets it. The only other error is want of memory.
 pub fn compile(alloc: Global, scanned: Scanned<'_>) -> Result<Compiled, Fault>
     ensures ok { IfOk result (λ c. (compiled_base c ≡ scanned_base scanned.entry) × (compiled_value c ≡ scanned_value scanned.entry)) }
+    ensures regular { OnOk result (is_regular regular_search (scanned_value scanned.entry) ≡ true) }
     ensures err { IfErr result (λ f. f ≢ Fault.NoRoom → (f ≡ Fault.BadPattern) × (0 < length (patterns (scanned_value scanned.entry)))) }
 {
-    Err(Fault::NoRoom)
+    let pattern_table = PatternTable::build(alloc, &scanned.patterns(alloc)?)?;
+    let document = copy(alloc, scanned.document())?;
+    let base = String::from_str(alloc, scanned.base())?;
+    let indexed = Indexed::of(alloc, base, document)?;
+    Ok(Compiled {
+        indexed,
+        pattern_table,
+    })
 }
 
 /// The document's canonical URI: that of its root's resource (JSON Schema 2020-12 Core, section 8.2.1).

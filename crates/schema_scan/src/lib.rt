@@ -8,6 +8,8 @@ mod forms;
 mod keyword_values;
 mod keywords;
 mod names;
+mod pattern_table;
+mod pattern_texts;
 mod refusal;
 mod repeats;
 mod resources;
@@ -23,3 +25,6 @@ pub use faults::Fault;
 pub use scanned::Scanned;
 pub use scanning::scan;
 pub use schema_index::Located;
+
+#[cfg(test)]
+mod tests;

@@ -53,7 +53,8 @@ pub(crate) fn push_anchors<'t>(
     Ok(())
 }
 
-fn text_at<'t>(schema: &'t Doc, keyword: &str) -> Option<&'t str>
+/// The text under this keyword, if the schema has one there.
+pub(crate) fn text_at<'t>(schema: &'t Doc, keyword: &str) -> Option<&'t str>
     ensures { option_map (λ t. t.now) result ≡ text_at keyword.now (value schema.now) }
 {
     schema.get(keyword)?.as_str()

@@ -1,13 +1,16 @@
 //! Documents that were scanned.
 
-ghost use Rattle.std.specs.Prelude.{◌≡◌, None};
+ghost use Rattle.std.specs.Prelude.{◌≡◌, None, IfOk, map};
+ghost use Rattle.definitions.specs.Scanning.{patterns};
 ghost use Rattle.json_doc.specs.Docs.{value};
+ghost use Rattle.schema_scan.specs.PatternTexts.{patterns_in};
 ghost use Rattle.schema_scan.specs.Stages.{stage_fault};
-ghost use Rattle.schema_scan.specs.Tables.{uris_of};
+ghost use Rattle.schema_scan.specs.Tables.{uris_of, places_of};
 ghost use Rattle.schema_scan.specs.Uris.{uri_at};
 
 use crate::table::Table;
 use json_doc::Doc;
+use std::alloc::{AllocError, Global};
 
 /// A schema document that was scanned, with the base that it stands under: the scan found no fault.
 ///
@@ -17,13 +20,15 @@ pub struct Scanned<'a> {
     table: Table<'a>,
     document: &'a Doc,
     ghost faultless: { stage_fault (uri_at (uris_of table) 0) (value document.now) ≡ None },
+    ghost all_patterns: { patterns_in (places_of table) ≡ patterns (value document.now) },
 }
 
 impl<'a> Scanned<'a> {
     ghost use Rattle.schema_scan.specs.Scans.{scanned_base, scanned_value};
 
     pub(crate) fn new(table: Table<'a>, document: &'a Doc) -> Scanned<'a>
-        requires { stage_fault (uri_at (uris_of table) 0) (value document.now) ≡ None }
+        requires faultless { stage_fault (uri_at (uris_of table) 0) (value document.now) ≡ None }
+        requires patterns { patterns_in (places_of table) ≡ patterns (value document.now) }
         ensures base { scanned_base result ≡ uri_at (uris_of table.entry) 0 }
         ensures value { scanned_value result ≡ value document.now }
     {
@@ -43,5 +48,12 @@ impl<'a> Scanned<'a> {
         ensures faultless { stage_fault (scanned_base self.now) (scanned_value self.now) ≡ None }
     {
         self.document
+    }
+
+    /// The texts of the document's patterns, in the order of a walk; some may stand more than once.
+    pub(crate) fn patterns(&self, alloc: Global) -> Result<Vec<&str>, AllocError>
+        ensures { IfOk result (λ texts. map (λ t. t.now) texts.items ≡ patterns (scanned_value self.now)) }
+    {
+        self.table.patterns(alloc)
     }
 }

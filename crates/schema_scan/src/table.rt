@@ -6,9 +6,11 @@ ghost use Rattle.json_doc.specs.Docs.{value};
 ghost use Rattle.schema_scan.specs.Places.{resource_of, opens_resource, place_of, opened_uri, id_of};
 ghost use Rattle.schema_scan.specs.AnchorViews.{anchor_view};
 ghost use Rattle.schema_scan.specs.Names.{uris_opened, anchors_in};
+ghost use Rattle.schema_scan.specs.PatternTexts.{patterns_in};
 ghost use Rattle.schema_scan.specs.Uris.{uri_at, Extends};
 
 use crate::names::push_anchors;
+use crate::pattern_texts::push_patterns;
 use crate::resources::{id_of, opened_uri};
 use json_doc::Doc;
 use std::alloc::{AllocError, Global};
@@ -152,5 +154,15 @@ impl<'a> Table<'a> {
             push_anchors(&mut anchors, self.uri(position.resource), position.schema)?;
         }
         Ok(anchors)
+    }
+    /// The texts of the schemas' patterns.
+    pub(crate) fn patterns(&self, alloc: Global) -> Result<Vec<&str>, AllocError>
+        ensures { IfOk result (λ texts. map (λ t. t.now) texts.items ≡ patterns_in (places_of self.now)) }
+    {
+        let mut texts = Vec::new(alloc);
+        for position in &self.positions {
+            push_patterns(&mut texts, position.schema)?;
+        }
+        Ok(texts)
     }
 }

@@ -1,0 +1,4 @@
+//! The schemas that pointers lead to.
+
+mod holding;
+mod descending;

@@ -4,7 +4,7 @@ use Rattle.std.proofs.lemmas.Bool.{false_from_ne_true}
 use Rattle.std.proofs.lemmas.Cmp.{nat_list_cmp_total, tied_itself}
 use Rattle.std.proofs.lemmas.Fmt.{decimal_injective}
 use Rattle.std.proofs.lemmas.Grind.{flat_map-append}
-use Rattle.std.proofs.lemmas.List.{map-append}
+use Rattle.std.proofs.lemmas.List.{map-append, length-append, length-map}
 use Rattle.std.specs.Cmp.Lexicographic.{slice_cmp}
 use Rattle.std.specs.List.{find, flat_map, list_any, slice_get, enumerate_from, Contains}
 use Rattle.definitions.specs.Values.{Text, Value, elements, members, entry, nesting, has_repeat, same_text}
@@ -164,6 +164,7 @@ held_stands s k w shape rest part h e i =
 -- ---- one schema
 pub to_one : (k : Text) (rest : Pointer) (v w : Value) → IsHeld v k w → shape_in keywords k ≡ one_schema → StepsTo (k ∷ rest) v (k ∷ []) w rest
 to_one k rest v w h e = record {
+  begins = refl;
   stands = λ s is. held_stands s k w one_schema [] w (held_in v s.value w k is h) e (inl refl);
   leads = λ s is.
   let g : IsHeld s.value k w = held_in v s.value w k is h in
@@ -184,6 +185,7 @@ element_in (suc i) (x ∷ us) u h = inr (element_in i us u h)
 pub to_element : (k : Text) (i : ℕ) (rest : Pointer) (v w u : Value) → IsHeld v k w → shape_in keywords k ≡ schema_list → length (elements w) ≤ 2 ^ 64 → i < 2 ^ 64
     → slice_get (elements w) i ≡ Some u → StepsTo (k ∷ decimal i ∷ rest) v (k ∷ decimal i ∷ []) u rest
 to_element k i rest v w u h e short less at = record {
+  begins = refl;
   stands = λ s is. held_stands s k w schema_list (decimal i ∷ []) u (held_in v s.value w k is h) e
   (into_map (λ (x : ℕ × Value). (decimal x.0 ∷ [], x.1)) (enumerate_from 0 (elements w)) (i, u) (element_at i 0 i (elements w) u (omega arith) at));
   leads = λ s is.
@@ -200,6 +202,7 @@ to_element k i rest v w u h e short less at = record {
 -- ---- a map of schemas
 pub to_entry : (k t : Text) (rest : Pointer) (v w u : Value) → IsHeld v k w → shape_in keywords k ≡ schema_map → IsHeld w t u → StepsTo (k ∷ t ∷ rest) v (k ∷ t ∷ []) u rest
 to_entry k t rest v w u h e at = record {
+  begins = refl;
   stands = λ s is. held_stands s k w schema_map (t ∷ []) u (held_in v s.value w k is h) e
   (into_map (λ (x : Text × Value). (x.0 ∷ [], x.1)) (members w) (t, u) (row-in name_of t (members w) (t, u) at.found));
   leads = λ s is.
@@ -264,3 +267,11 @@ shape_held one_schema other e = cc
 shape_held schema_list other e = cc
 shape_held schema_map other e = cc
 shape_held _ other e = cc
+
+pub led_here : (s : Schema) → led [] s ≡ Some s
+unfolding led
+led_here s = refl
+
+pub shorter : {A B : Type 0} (f : A → Text) (g : B → Text) (k t : Text) (ts : Pointer) (xs : List A) (ys : List B) → k ∷ map f xs ≡ (t ∷ ts) ++ map g ys → length ys ≤ length xs
+shorter f g k t ts xs ys e =
+    omega (arith, ap length e, length-append ts (map g ys), length-map xs f, length-map ys g)

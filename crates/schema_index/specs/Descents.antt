@@ -1,5 +1,5 @@
 -- One step of a pointer: from a schema to one directly below it (JSON Schema 2020-12 Core, 8.2.3).
-use Rattle.std.specs.Prelude.{◌≡◌, List, Option, Some, None, Contains, find}
+use Rattle.std.specs.Prelude.{◌≡◌, ◌++◌, List, Option, Some, None, Contains, find}
 use Rattle.definitions.specs.Values.{Text, Value, members, same_text}
 use Rattle.definitions.specs.Pointers.{Pointer}
 use Rattle.definitions.specs.Shapes.{Shape, one_schema, schema_list, schema_map}
@@ -19,6 +19,7 @@ LeadsNowhere way v = (s : Schema) → s.value ≡ v → led way s ≡ None
 -- from a schema of this value the pointer leads first by these tokens to one directly below, of that value, and then where
 -- the rest leads
 pub record StepsTo (way : Pointer) (v : Value) (tokens : Pointer) (part : Value) (rest : Pointer) : Type 0 where
+  pub begins : way ≡ tokens ++ rest
   pub stands : (s : Schema) → s.value ≡ v → Contains (subschemas_by keywords s) (tokens, below s tokens part)
   pub leads : (s : Schema) → s.value ≡ v → led way s ≡ led rest (below s tokens part)
 

@@ -3,6 +3,7 @@
 ghost use Rattle.std.specs.Prelude.{◌≡◌, ◌∷◌, ◌++◌, codes, IfOk, IfErr, Contains, map, option_map, string_bytes};
 ghost use Rattle.definitions.specs.Resolution.{resolved};
 ghost use Rattle.definitions.specs.Schemas.{below, option_list};
+ghost use Rattle.definitions.specs.Targets.{pointed};
 ghost use Rattle.definitions.specs.Uris.{without_fragment};
 ghost use Rattle.definitions.specs.Values.{text_at};
 ghost use Rattle.json_doc.specs.Docs.{value};
@@ -14,22 +15,43 @@ ghost use Rattle.schema_index.specs.Locateds.{located_schema};
 use crate::indexed::Indexed;
 use crate::located::Located;
 use faults::Fault;
-use json_doc::Doc;
+use json_doc::{Doc, Pointer};
 use locations::Step;
 use std::alloc::{AllocError, Global};
 use uri_ref::{recompose, resolve, split, without_fragment};
 
 mod descending;
 mod holding;
+mod tokens;
 
 use descending::{Descent, descend};
+use tokens::pointer_tokens;
 
 impl Indexed {
     ghost use Rattle.schema_index.specs.IndexedDocuments.{indexed_schemas};
 
-    /// The schema that a pointer with these tokens leads to from one of the document's. It goes by the places of
-    /// subschemas alone: a pointer that leads to anything else names nothing. The only error is want of memory.
-    pub(crate) fn led<'a>(
+    /// The schema that a pointer leads to from the root of a resource, or from another schema of the document (JSON Schema
+    /// 2020-12 Core, section 8.2.3). It goes by the places of subschemas alone: a pointer that leads to anything else names
+    /// nothing. A schema with an `$id` opens a resource, and the steps begin anew there.
+    ///
+    /// The time grows with the pointer's tokens and with the members of each object on the way. The only error is want of
+    /// memory.
+    pub(crate) fn pointed<'a>(
+        &'a self,
+        alloc: Global,
+        root: Located<'a>,
+        pointer: &Pointer,
+    ) -> Result<Option<Located<'a>>, Fault>
+        requires { Contains (indexed_schemas self.now) (located_schema root) }
+        ensures ok { IfOk result (λ t. option_map located_schema t ≡ pointed pointer.now (located_schema root.entry)) }
+        ensures err { IfErr result (λ f. f ≡ Fault.NoRoom) }
+    {
+        let tokens = pointer_tokens(alloc, pointer)?;
+        self.led(alloc, root, tokens.as_slice())
+    }
+
+    // The schema that a pointer with these tokens leads to from one of the document's.
+    fn led<'a>(
         &'a self,
         alloc: Global,
         from: Located<'a>,

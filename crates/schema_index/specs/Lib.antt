@@ -1,2 +1,5 @@
 pub mod Locateds
 pub mod IndexedDocuments
+pub mod Descents
+pub mod Holdings
+pub mod DescentViews

@@ -4,6 +4,7 @@
 
 mod indexed;
 mod located;
+mod pointing;
 
 pub use indexed::Indexed;
 pub use located::Located;

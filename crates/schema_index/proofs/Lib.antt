@@ -1,0 +1,6 @@
+pub mod Lookups
+pub mod Levels
+pub mod Descents
+pub mod HeldValues
+pub mod Standing
+pub mod Holders

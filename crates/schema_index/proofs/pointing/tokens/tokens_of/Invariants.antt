@@ -1,0 +1,10 @@
+use Rattle.std.proofs.Common.{◌≡◌, ◌==◌, map, drop, length, string_bytes}
+use Rattle.std.specs.List.{slice_split}
+use Rattle.definitions.specs.Pointers.{each, unescaped}
+use Rattle.json_doc.proofs.Unescaped.{resumed}
+use Rattle.schema_index.proofs.pointing.tokens.tokens_of.Given as goal
+
+abbrev pub invariant-loop-part : goal.invariant-loop-part
+invariant-loop-part l =
+    resumed (map string_bytes l.tokens.items) (each unescaped (drop (length l.yielded) (slice_split (λ d. d == 47) l.fn.text)))
+    ≡ each unescaped (slice_split (λ d. d == 47) l.fn.text)

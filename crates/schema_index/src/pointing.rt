@@ -1,0 +1,139 @@
+//! The schemas that pointers lead to (JSON Schema 2020-12 Core, section 8.2.3).
+
+ghost use Rattle.std.specs.Prelude.{◌≡◌, ◌∷◌, ◌++◌, codes, IfOk, IfErr, Contains, map, option_map, string_bytes};
+ghost use Rattle.definitions.specs.Resolution.{resolved};
+ghost use Rattle.definitions.specs.Schemas.{below, option_list};
+ghost use Rattle.definitions.specs.Targets.{pointed};
+ghost use Rattle.definitions.specs.Uris.{without_fragment};
+ghost use Rattle.definitions.specs.Values.{text_at};
+ghost use Rattle.json_doc.specs.Docs.{value};
+ghost use Rattle.locations.specs.Steps.{tokens};
+ghost use Rattle.schema_index.specs.DescentViews.{tokens_taken};
+ghost use Rattle.schema_index.specs.Descents.{led};
+ghost use Rattle.schema_index.specs.Locateds.{located_schema};
+
+use crate::indexed::Indexed;
+use crate::located::Located;
+use faults::Fault;
+use json_doc::{Doc, Pointer};
+use locations::Step;
+use std::alloc::{AllocError, Global};
+use uri_ref::{recompose, resolve, split, without_fragment};
+
+mod descending;
+mod holding;
+mod tokens;
+
+use descending::{Descent, descend};
+use tokens::pointer_tokens;
+
+impl Indexed {
+    ghost use Rattle.schema_index.specs.IndexedDocuments.{indexed_schemas};
+
+    /// The schema that a pointer leads to from the root of a resource, or from another schema of the document (JSON Schema
+    /// 2020-12 Core, section 8.2.3). It goes by the places of subschemas alone: a pointer that leads to anything else names
+    /// nothing. A schema with an `$id` opens a resource, and the steps begin anew there.
+    ///
+    /// The time grows with the pointer's tokens and with the members of each object on the way. The only error is want of
+    /// memory.
+    pub(crate) fn pointed<'a>(
+        &'a self,
+        alloc: Global,
+        root: Located<'a>,
+        pointer: &Pointer,
+    ) -> Result<Option<Located<'a>>, Fault>
+        requires { Contains (indexed_schemas self.now) (located_schema root) }
+        ensures ok { IfOk result (λ t. option_map located_schema t ≡ pointed pointer.now (located_schema root.entry)) }
+        ensures err { IfErr result (λ f. f ≡ Fault.NoRoom) }
+    {
+        let tokens = pointer_tokens(alloc, pointer)?;
+        self.led(alloc, root, tokens.as_slice())
+    }
+
+    // The schema that a pointer with these tokens leads to from one of the document's.
+    fn led<'a>(
+        &'a self,
+        alloc: Global,
+        from: Located<'a>,
+        tokens: &[String],
+    ) -> Result<Option<Located<'a>>, Fault>
+        requires { Contains (indexed_schemas self.now) (located_schema from) }
+        ensures ok { IfOk result (λ t. option_map located_schema t ≡ led (map string_bytes tokens.now) (located_schema from.entry)) }
+        ensures err { IfErr result (λ f. f ≡ Fault.NoRoom) }
+    {
+        let mut here = from;
+        let mut left = tokens;
+        while let Some((keyword, rest)) = left.split_first() {
+            let Some(descent) = descend(here.schema, keyword.as_str(), rest) else {
+                return Ok(None);
+            };
+            left = descent.rest;
+            here = self.below(alloc, here, descent)?;
+        }
+        Ok(Some(here))
+    }
+
+    // The schema at the end of a step: where it has an `$id`, this opens a resource, and its steps begin anew.
+    fn below<'a>(
+        &'a self,
+        alloc: Global,
+        around: Located<'a>,
+        descent: Descent<'a, '_>,
+    ) -> Result<Located<'a>, Fault>
+        requires { Contains (indexed_schemas self.now) (below (located_schema around) (tokens_taken descent) (value descent.schema.now)) }
+        ensures ok { IfOk result (λ l. located_schema l ≡ below (located_schema around.entry) (tokens_taken descent.entry) (value descent.entry.schema.now)) }
+        ensures err { IfErr result (λ f. f ≡ Fault.NoRoom) }
+    {
+        match id_of(descent.schema) {
+            Some(id) => {
+                let uri = opened_uri(alloc, around.resource, id)?;
+                match self.resource_uri(uri.as_str()) {
+                    Some(resource) => Ok(Located {
+                        resource,
+                        steps: Vec::new(alloc),
+                        schema: descent.schema,
+                    }),
+                    None => unreachable!(),
+                }
+            }
+            None => Ok(Located {
+                resource: around.resource,
+                steps: with_steps(around.steps, descent.keyword, descent.place)?,
+                schema: descent.schema,
+            }),
+        }
+    }
+}
+
+// The text of the schema's `$id`, if it opens a resource.
+fn id_of(schema: &Doc) -> Option<&str>
+    ensures { option_map (λ t. t.now) result ≡ text_at (codes "$id") (value schema.now) }
+{
+    schema.get("$id")?.as_str()
+}
+
+// These steps, then the one to the keyword, and then the one to a place in its value, if there is one.
+fn with_steps<'a>(
+    steps: Vec<Step<'a>>,
+    keyword: &'a str,
+    place: Option<Step<'a>>,
+) -> Result<Vec<Step<'a>>, AllocError>
+    ensures { IfOk result (λ s. tokens s.items ≡ tokens steps.entry.items ++ keyword.now ∷ tokens (option_list place.entry)) }
+{
+    let mut steps = steps;
+    steps.push(Step::Name(keyword))?;
+    if let Some(step) = place {
+        steps.push(step)?;
+    }
+    Ok(steps)
+}
+
+// The URI of the resource that a schema with this `$id` opens inside this base.
+fn opened_uri(alloc: Global, base: &str, id: &str) -> Result<String, Fault>
+    ensures ok { IfOk result (λ uri. string_bytes uri ≡ without_fragment (resolved base.now id.now)) }
+    ensures err { IfErr result (λ f. f ≡ Fault.NoRoom) }
+{
+    let resolved = resolve(alloc, &split(base), &split(id))?;
+    let text = recompose(alloc, &resolved.parts())?;
+    Ok(String::from_str(alloc, without_fragment(text.as_str()))?)
+}

@@ -78,3 +78,11 @@ fn the_canonical_uri_is_that_of_the_root(rt: HostRuntime) -> Result<(), Fail> {
     assert_eq!(rt; document.base(), "https://ex.org/a/c/x");
     Ok(())
 }
+
+#[test]
+fn names_of_definitions_are_scanned(rt: HostRuntime) -> Result<(), Fail> {
+    let text = r#"{"$defs":{"d":{"properties":{"p":{"unknown":1}}}}}"#;
+    let refused = compiled(rt.alloc(), "https://ex.org/s", text);
+    assert!(rt; matches!(refused, Err(Fault::Unsupported)));
+    Ok(())
+}

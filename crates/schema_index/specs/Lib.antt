@@ -1,2 +1,6 @@
 pub mod Locateds
 pub mod IndexedDocuments
+pub mod Hops
+pub mod Spots
+pub mod Ways
+pub mod Gathering

@@ -2,8 +2,14 @@
 //! Schema 2020-12 Core, section 8.2).
 #![tactic(auto)]
 
+mod anchors;
+mod gathered;
+mod holdings;
 mod indexed;
 mod located;
+mod resources;
+mod visit;
+mod ways;
 
 pub use indexed::Indexed;
 pub use located::Located;

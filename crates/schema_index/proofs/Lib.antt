@@ -1,0 +1,5 @@
+pub mod TableOfHoldings
+pub mod Standing
+pub mod Following
+pub mod Gatherings
+pub mod Visiting

@@ -7,6 +7,7 @@ mod gathered;
 mod holdings;
 mod indexed;
 mod located;
+mod numbers;
 mod resources;
 mod visit;
 mod ways;

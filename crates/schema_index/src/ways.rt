@@ -1,6 +1,6 @@
 //! Ways from a document's root to a value in it.
 
-ghost use Rattle.std.specs.Prelude.{◌≡◌, IfOk, drop, option_map};
+ghost use Rattle.std.specs.Prelude.{◌≡◌, IfOk, drop, map, option_map, slice_get};
 ghost use Rattle.json_doc.specs.Docs.{value};
 ghost use Rattle.schema_index.specs.Hops.{follow, hop_value, step_hop, step_hops};
 ghost use Rattle.schema_index.specs.Ways.{owned_hop, owned_hops};
@@ -89,4 +89,11 @@ fn borrow_step(step: &OwnedStep) -> Step<'_>
         OwnedStep::Name(name) => Step::Name(name.as_str()),
         OwnedStep::Index(index) => Step::Index(*index),
     }
+}
+
+/// The way of this number.
+pub(crate) fn way_of(ways: &[Vec<OwnedStep>], number: usize) -> Option<&[OwnedStep]>
+    ensures { option_map (λ w. owned_hops w.now) result ≡ slice_get (map (λ w. owned_hops w.items) ways.now) number }
+{
+    Some(ways.get(number)?.as_slice())
 }

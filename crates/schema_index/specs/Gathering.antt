@@ -65,3 +65,10 @@ pub record Gathers (earlier later : Gathered) (ss : List Spot) : Type 0 where
   pub ways : gathered_ways later ≡ gathered_ways earlier ++ root_ways ss
   pub references : gathered_references later ≡ gathered_references earlier ++ flat_map spot_references ss
   pub marks : gathered_marks later ≡ gathered_marks earlier ++ flat_map marks ss
+
+-- all that is gathered is of these schemas
+pub record IsGathered (g : Gathered) (ss : List Spot) : Type 0 where
+  pub uris : gathered_uris g ≡ root_uris ss
+  pub ways : gathered_ways g ≡ root_ways ss
+  pub references : gathered_references g ≡ flat_map spot_references ss
+  pub marks : gathered_marks g ≡ flat_map marks ss

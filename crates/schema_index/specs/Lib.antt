@@ -4,3 +4,4 @@ pub mod Hops
 pub mod Spots
 pub mod Ways
 pub mod Gathering
+pub mod Lookups

@@ -4,10 +4,12 @@
 
 mod anchors;
 mod gathered;
+mod gathering;
 mod holdings;
 mod indexed;
 mod located;
 mod numbers;
+mod pointing;
 mod resources;
 mod visit;
 mod ways;

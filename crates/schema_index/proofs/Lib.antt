@@ -6,3 +6,4 @@ pub mod Visiting
 pub mod Tables
 pub mod Indexing
 pub mod Marked
+pub mod Owned

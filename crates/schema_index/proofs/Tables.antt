@@ -53,6 +53,7 @@ abbrev schema_with : Text → Value → List Hop → Schema
 schema_with uri v hops = record { resource = uri; pointer = hop_tokens hops; value = v }
 
 root-at : (root : Value) (s : Spot) → at_root s ≡ true → IsFollowed root s → root_at s.resource s.way root ≡ Some (spot_schema s)
+unfolding root_at
 root-at root s e f = ap (option_map (rooted s.resource)) f ∙ ap (λ hops. Some (schema_with s.resource s.value hops)) (sym (root-pointer s e))
 
 module _ (uri : Text) (root : Value) where

@@ -85,8 +85,8 @@ impl Indexed {
     pub fn canonical(&self) -> &str
         ensures { result.now ≡ (indexed_document self.now).canonical }
     {
-        match self.gathered.uris.first() {
-            Some(uri) => uri.as_str(),
+        match numbered(&self.gathered.uris, 0) {
+            Some(uri) => uri,
             None => "",
         }
     }

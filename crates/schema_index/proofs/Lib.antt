@@ -2,5 +2,14 @@ pub mod Lookups
 pub mod Levels
 pub mod Descents
 pub mod HeldValues
+pub mod DocumentSchemas
 pub mod Standing
 pub mod Holders
+pub mod TableOfHoldings
+pub mod Following
+pub mod Gatherings
+pub mod Visiting
+pub mod Tables
+pub mod Indexing
+pub mod Marked
+pub mod Owned

@@ -3,3 +3,8 @@ pub mod IndexedDocuments
 pub mod Descents
 pub mod Holdings
 pub mod DescentViews
+pub mod Hops
+pub mod Spots
+pub mod Ways
+pub mod Gathering
+pub mod Lookups

@@ -1,17 +1,30 @@
 //! Documents with an index.
 
-ghost use Rattle.std.specs.Prelude.{◌≡◌, ◌≢◌, true, false, None, IfOk, IfErr, IfSome, is_some, map, option_map, string_bytes};
+ghost use Rattle.std.specs.Prelude.{◌≡◌, [], true, None, IfOk, IfErr, IfSome, is_some, find, map, option_and_then, option_map, string_bytes};
+ghost use Rattle.std.specs.BTreeMap.{get_by_text};
+ghost use Rattle.std.specs.List.{position_from};
 ghost use Rattle.definitions.specs.Reach.{holds_resource, references_in};
 ghost use Rattle.definitions.specs.Scanning.{resource_uris, scan_fault};
-ghost use Rattle.definitions.specs.Targets.{resource_root, target_by, dynamically_anchored};
+ghost use Rattle.definitions.specs.Targets.{resource_root, target_by, pointed, anchored, dynamically_anchored};
+ghost use Rattle.definitions.specs.Values.{Text, is_well_formed, same_text};
 ghost use Rattle.json_doc.specs.Docs.{value};
+ghost use Rattle.schema_index.specs.Gathering.{IsGathered, gathered_uris, gathered_ways};
 ghost use Rattle.schema_index.specs.Locateds.{located_schema};
+ghost use Rattle.schema_index.specs.Lookups.{root_at, root_numbered};
+ghost use Rattle.schema_index.specs.Ways.{owned_hops};
+ghost use Rattle.schema_index.specs.Spots.{spots};
 ghost use Rattle.uri_ref.specs.FragmentViews.{fragment_shown};
 
+use crate::anchors::{find_anchor, find_dynamic_anchor, schema_of_anchor};
+use crate::gathered::Gathered;
+use crate::gathering::gather;
 use crate::located::Located;
+use crate::numbers::{numbered, numbers_of};
+use crate::ways::{OwnedStep, follow, way_of};
 use faults::Fault;
-use json_doc::Doc;
+use json_doc::{Doc, Pointer, nesting};
 use std::alloc::Global;
+use std::collections::BTreeMap;
 use uri_ref::FragmentKind;
 
 /// A schema document with no fault, and an index of its resources, anchors and references.
@@ -21,7 +34,13 @@ use uri_ref::FragmentKind;
 pub struct Indexed {
     base: String,
     document: Doc,
-    ghost stub: { true ≡ false },
+    gathered: Gathered,
+    /// The number of each resource's URI among those that were gathered.
+    numbers: BTreeMap<String, usize>,
+    ghost faultless: { scan_fault (string_bytes base) (value document) ≡ None },
+    ghost well_formed: { is_well_formed (value document) ≡ true },
+    ghost of_document: { IsGathered gathered (spots [] 0 (string_bytes base) (value document)) },
+    ghost by_uri: { (uri : Text) → get_by_text numbers uri ≡ position_from (same_text uri) 0 (gathered_uris gathered) },
 }
 
 impl Indexed {
@@ -33,43 +52,57 @@ impl Indexed {
         ensures ok { IfOk result (λ d. (indexed_base d ≡ string_bytes base) × (indexed_value d ≡ value document)) }
         ensures err { IfErr result (λ f. f ≡ Fault.NoRoom) }
     {
-        Err(Fault::NoRoom)
+        // The walk through the whole value tells that it is well formed.
+        let _nesting = nesting(&document);
+        let gathered = gather(alloc, base.as_str(), &document)?;
+        let numbers = numbers_of(alloc, &gathered.uris)?;
+        Ok(Indexed {
+            base,
+            document,
+            gathered,
+            numbers,
+        })
     }
 
     /// The text of the base that the document stands under.
+    #[tactic(auto, unfolding(crate::specs::IndexedDocuments::indexed_base))]
     pub fn base(&self) -> &str
         ensures { result.now ≡ indexed_base self.now }
     {
-        unreachable!()
+        self.base.as_str()
     }
 
     /// The document.
+    #[tactic(auto, unfolding(crate::specs::IndexedDocuments::indexed_base, crate::specs::IndexedDocuments::indexed_value))]
     pub fn document(&self) -> &Doc
         ensures value { value result.now ≡ indexed_value self.now }
         ensures faultless { scan_fault (indexed_base self.now) (indexed_value self.now) ≡ None }
     {
-        unreachable!()
+        &self.document
     }
 
     /// The document's canonical URI: that of its root's resource.
     pub fn canonical(&self) -> &str
         ensures { result.now ≡ (indexed_document self.now).canonical }
     {
-        unreachable!()
+        match numbered(&self.gathered.uris, 0) {
+            Some(uri) => uri,
+            None => "",
+        }
     }
 
     /// The URIs of its resources, in the order of a walk.
     pub fn resource_uris(&self) -> &[String]
         ensures { map string_bytes result.now ≡ resource_uris (indexed_schemas self.now) }
     {
-        unreachable!()
+        self.gathered.uris.as_slice()
     }
 
     /// The absolute references of its schemas, in the order of a walk; some may stand more than once.
     pub fn references(&self) -> &[String]
         ensures { map string_bytes result.now ≡ references_in (indexed_document self.now) }
     {
-        unreachable!()
+        self.gathered.references.as_slice()
     }
 
     /// The URI, as the document's own text, where one of its resources has it.
@@ -77,14 +110,40 @@ impl Indexed {
         ensures same { IfSome result (λ u. u.now ≡ uri.now) }
         ensures held { is_some result ≡ holds_resource uri.now (indexed_document self.now) }
     {
-        unreachable!()
+        match self.number(uri) {
+            Some(number) => numbered(&self.gathered.uris, number),
+            None => None,
+        }
     }
 
     /// The root of the resource with this URI.
     pub fn resource_root(&self, alloc: Global, uri: &str) -> Option<Located<'_>>
         ensures { option_map located_schema result ≡ resource_root (indexed_schemas self.now) uri.now }
     {
-        unreachable!()
+        match self.number(uri) {
+            Some(number) => self.root(alloc, number),
+            None => None,
+        }
+    }
+
+    // The number of the first resource with this URI.
+    fn number(&self, uri: &str) -> Option<usize>
+        ensures { result ≡ position_from (same_text uri.now) 0 (gathered_uris self.now.gathered) }
+    {
+        self.numbers.get(uri).copied()
+    }
+
+    // The root of the resource of this number.
+    fn root(&self, alloc: Global, number: usize) -> Option<Located<'_>>
+        ensures { option_map located_schema result ≡ root_numbered (gathered_uris self.now.gathered) (gathered_ways self.now.gathered) (value self.now.document) number }
+    {
+        match numbered(&self.gathered.uris, number) {
+            Some(resource) => match way_of(&self.gathered.ways, number) {
+                Some(way) => root_along(alloc, resource, way, &self.document),
+                None => None,
+            },
+            None => None,
+        }
     }
 
     /// The schema that the fragment names in the resource with this URI: its root, the schema at a pointer from there, or
@@ -98,7 +157,11 @@ impl Indexed {
         ensures ok { IfOk result (λ t. option_map located_schema t ≡ target_by (indexed_schemas self.now) uri.now (fragment_shown fragment.now)) }
         ensures err { IfErr result (λ f. f ≡ Fault.NoRoom) }
     {
-        unreachable!()
+        match fragment {
+            FragmentKind::Empty => Ok(self.resource_root(alloc, uri)),
+            FragmentKind::Pointer(pointer) => self.pointed_from(alloc, uri, pointer),
+            FragmentKind::Name(name) => self.anchored(alloc, uri, name.as_str()),
+        }
     }
 
     /// The schema with this dynamic anchor in the resource with this URI. The only error is want of memory.
@@ -111,6 +174,61 @@ impl Indexed {
         ensures ok { IfOk result (λ t. option_map located_schema t ≡ dynamically_anchored (indexed_schemas self.now) uri.now name.now) }
         ensures err { IfErr result (λ f. f ≡ Fault.NoRoom) }
     {
-        unreachable!()
+        match find_dynamic_anchor(&self.gathered.anchors, uri, name) {
+            Some(anchor) => Ok(schema_of_anchor(alloc, anchor, &self.document)?),
+            None => Ok(None),
+        }
+    }
+
+    // The schema that a pointer leads to from the root of the resource with this URI.
+    fn pointed_from(
+        &self,
+        alloc: Global,
+        uri: &str,
+        pointer: &Pointer,
+    ) -> Result<Option<Located<'_>>, Fault>
+        ensures ok { IfOk result (λ t. option_map located_schema t ≡ option_and_then (pointed pointer.now) (resource_root (indexed_schemas self.now) uri.now)) }
+        ensures err { IfErr result (λ f. f ≡ Fault.NoRoom) }
+    {
+        match self.resource_root(alloc, uri) {
+            Some(root) => self.pointed(alloc, root, pointer),
+            None => Ok(None),
+        }
+    }
+
+    // The schema with this anchor in the resource with this URI.
+    fn anchored(
+        &self,
+        alloc: Global,
+        uri: &str,
+        name: &str,
+    ) -> Result<Option<Located<'_>>, Fault>
+        ensures ok { IfOk result (λ t. option_map located_schema t ≡ anchored (indexed_schemas self.now) uri.now name.now) }
+        ensures err { IfErr result (λ f. f ≡ Fault.NoRoom) }
+    {
+        match find_anchor(&self.gathered.anchors, uri, name) {
+            Some(anchor) => Ok(schema_of_anchor(alloc, anchor, &self.document)?),
+            None => Ok(None),
+        }
+    }
+}
+
+// The root of the resource with this URI, at the end of the way.
+#[tactic(auto, unfolding(crate::specs::Lookups::root_at))]
+fn root_along<'a>(
+    alloc: Global,
+    resource: &'a str,
+    way: &[OwnedStep],
+    document: &'a Doc,
+) -> Option<Located<'a>>
+    ensures { option_map located_schema result ≡ root_at resource.now (owned_hops way.now) (value document.now) }
+{
+    match follow(way, document) {
+        Some(schema) => Some(Located {
+            resource,
+            steps: Vec::new(alloc),
+            schema,
+        }),
+        None => None,
     }
 }

@@ -2,9 +2,17 @@
 //! Schema 2020-12 Core, section 8.2).
 #![tactic(auto)]
 
+mod anchors;
+mod gathered;
+mod gathering;
+mod holdings;
 mod indexed;
 mod located;
 mod pointing;
+mod numbers;
+mod resources;
+mod visit;
+mod ways;
 
 pub use indexed::Indexed;
 pub use located::Located;

@@ -6,7 +6,7 @@ use Rattle.json_doc.specs.Docs.{value}
 use Rattle.schema_index.specs.DescentViews.{tokens_taken}
 use Rattle.schema_index.specs.IndexedDocuments.{indexed_schemas}
 use Rattle.schema_index.specs.Locateds.{located_schema}
-use Rattle.schema_index.proofs.Standing.{below-opened, root_held}
+use Rattle.schema_index.proofs.DocumentSchemas.{below-opened, root_held}
 use Rattle.schema_index.proofs.indexed.Indexed.below.Goals as goal
 
 pub unreachable-requires : goal.unreachable-requires

@@ -1,0 +1,49 @@
+use Rattle.std.proofs.Common.{◌≡◌, ◌<◌, ◌≤◌, ℕ, List, [], ◌∷◌, ◌++◌, Bool, true, false, length, map, nat_le, string_bytes, sym, ap, ◌∙◌, arith, append-nil}
+use Rattle.std.proofs.lemmas.Bool.Decides.{nat_tests}
+use Rattle.std.proofs.lemmas.List.{length-map}
+use Rattle.json_doc.specs.Docs.{value}
+use Rattle.locations.specs.declared.step.Step.{Step}
+use Rattle.schema_index.specs.Hops.{step_hop, step_hops}
+use Rattle.schema_index.specs.Spots.{Spot, at_root, spot_in}
+use Rattle.schema_index.specs.Ways.{owned_hops}
+use Rattle.schema_index.specs.Gathering.{Gathers, anchor_mark, gathered_uris, gathered_ways, gathered_references, gathered_marks, references_at, marks}
+use Rattle.schema_index.proofs.Gatherings.{root_uri-one, root_way-one}
+use Rattle.schema_index.proofs.gathered.Gathered.add.Goals as goal
+use Rattle.schema_index.proofs.gathered.Gathered.add.Goals.{then-way-start+in_ok-push_root, else-way-start}
+
+is-root : (steps : List Step) (start : ℕ) → length steps ≤ start → nat_le (length (step_hops steps)) start ≡ true
+is-root steps start h = rw length-map (grind (arith, nat_tests))
+
+no-root : (steps : List Step) (start : ℕ) → start < length steps → nat_le (length (step_hops steps)) start ≡ false
+no-root steps start h = rw length-map (grind (arith, nat_tests))
+
+last : {A : Type 0} (x y a : List A) → y ≡ x ++ a → y ≡ x ++ (a ++ [])
+last x y a e = e ∙ ap (λ w. x ++ w) (sym (append-nil a))
+
+pub returns : goal.returns
+unfolding gathered_uris gathered_ways gathered_references gathered_marks
+returns c =
+    let uri = c.args.uri.now in
+    let v = value c.args.schema.now in
+    let before = c.args.self.now in
+    let s : Spot = spot_in (step_hops c.args.way.now) c.args.start uri v in
+    let references = c.in_ok-push_references.ensures in
+    let anchors = c.in_ok-push_anchors.ensures in
+    elim c.if-way-start.branch [
+    | then-way-start+in_ok-push_root w ↦
+        let root : at_root s ≡ true = is-root c.args.way.now c.args.start w.if-way-start.true in
+        record {
+          uris = ap (λ g. map string_bytes g.uris.items) w.self-is ∙ w.in_ok-push_root.ensures.uris ∙ ap (λ us. map string_bytes before.uris.items ++ us) (sym (root_uri-one s true root));
+          ways = ap (λ g. map (λ v. owned_hops v.items) g.ways.items) w.self-is ∙ w.in_ok-push_root.ensures.ways ∙ ap (λ us. map (λ v. owned_hops v.items) before.ways.items ++ us) (sym (root_way-one s true root));
+          references = last (map string_bytes before.references.items) _ (references_at uri v) (references ∙ ap (λ g. map string_bytes g.references.items ++ references_at uri v) w.self-is);
+          marks = last (map anchor_mark before.anchors.items) _ (marks s) (anchors ∙ ap (λ g. map anchor_mark g.anchors.items ++ marks s) w.self-is);
+        }
+    | else-way-start w ↦
+        let below : at_root s ≡ false = no-root c.args.way.now c.args.start w.if-way-start.false in
+        record {
+          uris = ap (λ g. map string_bytes g.uris.items) w.self-is ∙ sym (append-nil (map string_bytes before.uris.items)) ∙ ap (λ us. map string_bytes before.uris.items ++ us) (sym (root_uri-one s false below));
+          ways = ap (λ g. map (λ v. owned_hops v.items) g.ways.items) w.self-is ∙ sym (append-nil (map (λ v. owned_hops v.items) before.ways.items)) ∙ ap (λ us. map (λ v. owned_hops v.items) before.ways.items ++ us) (sym (root_way-one s false below));
+          references = last (map string_bytes before.references.items) _ (references_at uri v) (references ∙ ap (λ g. map string_bytes g.references.items ++ references_at uri v) w.self-is);
+          marks = last (map anchor_mark before.anchors.items) _ (marks s) (anchors ∙ ap (λ g. map anchor_mark g.anchors.items ++ marks s) w.self-is);
+        }
+    ]

@@ -1,0 +1,74 @@
+-- What a walk gathers of the schemas that it comes by.
+use Rattle.std.specs.Prelude.{ℕ, ◌≡◌, List, ◌++◌, Bool, true, false, codes, filter, flat_map, map, option_map, string_bytes}
+use Rattle.definitions.specs.Values.{Text, Value, text_at}
+use Rattle.definitions.specs.Resolution.{resolved}
+use Rattle.definitions.specs.Schemas.{option_list}
+use Rattle.schema_index.specs.Hops.{Hop}
+use Rattle.schema_index.specs.Spots.{Spot, at_root}
+use Rattle.schema_index.specs.Ways.{owned_hops}
+use Rattle.schema_index.specs.declared.anchors.Anchor.{Anchor}
+use Rattle.schema_index.specs.declared.gathered.Gathered.{Gathered}
+
+-- ---- roots
+abbrev pub root_uris : List Spot → List Text
+root_uris ss = map (λ s. s.resource) (filter at_root ss)
+
+abbrev pub root_ways : List Spot → List (List Hop)
+root_ways ss = map (λ s. s.way) (filter at_root ss)
+
+-- ---- references (Core, 8.2.3)
+abbrev pub reference_under : Text → Text → Value → List Text
+reference_under keyword base v = option_list (option_map (resolved base) (text_at keyword v))
+
+unfoldable pub references_at : Text → Value → List Text
+references_at base v = reference_under (codes "$ref") base v ++ reference_under (codes "$dynamicRef") base v
+
+abbrev pub spot_references : Spot → List Text
+spot_references s = references_at s.resource s.value
+
+-- ---- anchors (Core, 8.2.2)
+pub record Mark : Type 0 where
+  pub name : Text
+  pub dynamic : Bool
+  pub resource : Text
+  pub start : ℕ
+  pub way : List Hop
+
+abbrev pub mark : Bool → Spot → Text → Mark
+mark dynamic s name = record { name = name; dynamic = dynamic; resource = s.resource; start = s.start; way = s.way }
+
+abbrev pub marks_under : Text → Bool → Spot → List Mark
+marks_under keyword dynamic s = map (mark dynamic s) (option_list (text_at keyword s.value))
+
+unfoldable pub marks : Spot → List Mark
+marks s = marks_under (codes "$anchor") false s ++ marks_under (codes "$dynamicAnchor") true s
+
+abbrev pub anchor_mark : Anchor → Mark
+anchor_mark a = record { name = string_bytes a.name; dynamic = a.dynamic; resource = string_bytes a.resource; start = a.start; way = owned_hops a.way.items }
+
+-- ---- all of it
+unfoldable pub gathered_uris : Gathered → List Text
+gathered_uris g = map string_bytes g.uris.items
+
+unfoldable pub gathered_ways : Gathered → List (List Hop)
+gathered_ways g = map (λ w. owned_hops w.items) g.ways.items
+
+unfoldable pub gathered_references : Gathered → List Text
+gathered_references g = map string_bytes g.references.items
+
+unfoldable pub gathered_marks : Gathered → List Mark
+gathered_marks g = map anchor_mark g.anchors.items
+
+-- the later has what the earlier has, and what is gathered of these schemas
+pub record Gathers (earlier later : Gathered) (ss : List Spot) : Type 0 where
+  pub uris : gathered_uris later ≡ gathered_uris earlier ++ root_uris ss
+  pub ways : gathered_ways later ≡ gathered_ways earlier ++ root_ways ss
+  pub references : gathered_references later ≡ gathered_references earlier ++ flat_map spot_references ss
+  pub marks : gathered_marks later ≡ gathered_marks earlier ++ flat_map marks ss
+
+-- all that is gathered is of these schemas
+pub record IsGathered (g : Gathered) (ss : List Spot) : Type 0 where
+  pub uris : gathered_uris g ≡ root_uris ss
+  pub ways : gathered_ways g ≡ root_ways ss
+  pub references : gathered_references g ≡ flat_map spot_references ss
+  pub marks : gathered_marks g ≡ flat_map marks ss

@@ -1,0 +1,27 @@
+-- What is found by number, by URI and by name.
+use Rattle.std.specs.Prelude.{ℕ, List, [], ◌∷◌, Bool, ◌&&◌, ◌||◌, Option, None, drop, find, if◌then◌else◌, not, option_and_then, option_map, slice_get}
+use Rattle.definitions.specs.Values.{Text, Value, same_text}
+use Rattle.definitions.specs.Schemas.{Schema}
+use Rattle.schema_index.specs.Hops.{Hop, follow, hop_tokens}
+use Rattle.schema_index.specs.Gathering.{Mark}
+
+-- the root of a resource with this URI
+abbrev pub rooted : Text → Value → Schema
+rooted uri v = record { resource = uri; pointer = []; value = v }
+
+unfoldable pub root_at : Text → List Hop → Value → Option Schema
+root_at uri way root = option_map (rooted uri) (follow way root)
+
+unfoldable pub root_numbered : List Text → List (List Hop) → Value → ℕ → Option Schema
+root_numbered uris ways root number =
+    option_and_then (λ uri. option_and_then (λ way. root_at uri way root) (slice_get ways number)) (slice_get uris number)
+
+-- the schema that has an anchor
+unfoldable pub marked : Value → Mark → Option Schema
+marked root m = option_map (λ v. record { resource = m.resource; pointer = hop_tokens (drop m.start m.way); value = v }) (follow m.way root)
+
+abbrev pub has_mark : Text → Text → Mark → Bool
+has_mark uri name m = same_text uri m.resource && same_text name m.name
+
+abbrev pub has_dynamic_mark : Text → Text → Mark → Bool
+has_dynamic_mark uri name m = m.dynamic && has_mark uri name m

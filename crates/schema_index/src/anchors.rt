@@ -1,0 +1,67 @@
+//! Anchors (JSON Schema 2020-12 Core, section 8.2.2).
+
+ghost use Rattle.std.specs.Prelude.{◌≡◌, IfOk, find, map, option_map};
+ghost use Rattle.json_doc.specs.Docs.{value};
+ghost use Rattle.schema_index.specs.Gathering.{anchor_mark};
+ghost use Rattle.schema_index.specs.Locateds.{located_schema};
+ghost use Rattle.schema_index.specs.Lookups.{has_dynamic_mark, has_mark, marked};
+
+use crate::located::Located;
+use crate::ways::{OwnedStep, follow, steps_after};
+use json_doc::Doc;
+use std::alloc::{AllocError, Global};
+
+/// An anchor, and the schema that has it.
+#[derive(Debug, Drop)]
+pub(crate) struct Anchor {
+    pub(crate) name: String,
+    /// Whether `$dynamicAnchor` made it.
+    pub(crate) dynamic: bool,
+    /// The URI of the schema's resource.
+    pub(crate) resource: String,
+    /// How many steps of the way lead to the resource's root.
+    pub(crate) start: usize,
+    /// The way from the document's root to the schema.
+    pub(crate) way: Vec<OwnedStep>,
+}
+
+/// The first anchor of this name in the resource with this URI.
+pub(crate) fn find_anchor<'a>(anchors: &'a [Anchor], uri: &str, name: &str) -> Option<&'a Anchor>
+    ensures { option_map (λ a. anchor_mark a.now) result ≡ find (has_mark uri.now name.now) (map anchor_mark anchors.now) }
+{
+    anchors
+        .iter()
+        .find(|anchor| uri == anchor.resource.as_str() && name == anchor.name.as_str())
+}
+
+/// The first dynamic anchor of this name in the resource with this URI.
+pub(crate) fn find_dynamic_anchor<'a>(
+    anchors: &'a [Anchor],
+    uri: &str,
+    name: &str,
+) -> Option<&'a Anchor>
+    ensures { option_map (λ a. anchor_mark a.now) result ≡ find (has_dynamic_mark uri.now name.now) (map anchor_mark anchors.now) }
+{
+    anchors.iter().find(|anchor| {
+        anchor.dynamic && uri == anchor.resource.as_str() && name == anchor.name.as_str()
+    })
+}
+
+/// The schema of the document that has the anchor.
+#[tactic(auto, unfolding(crate::specs::Lookups::marked))]
+pub(crate) fn schema_of_anchor<'a>(
+    alloc: Global,
+    anchor: &'a Anchor,
+    document: &'a Doc,
+) -> Result<Option<Located<'a>>, AllocError>
+    ensures { IfOk result (λ t. option_map located_schema t ≡ marked (value document.now) (anchor_mark anchor.now)) }
+{
+    match follow(&anchor.way, document) {
+        Some(schema) => Ok(Some(Located {
+            resource: anchor.resource.as_str(),
+            steps: steps_after(alloc, &anchor.way, anchor.start)?,
+            schema,
+        })),
+        None => Ok(None),
+    }
+}

@@ -1,0 +1,153 @@
+//! What a walk gathers of the schemas of a document.
+
+ghost use Rattle.std.specs.Prelude.{◌≡◌, [], ◌∷◌, ◌++◌, IfOk, OnOk, map, string_bytes};
+ghost use Rattle.json_doc.specs.Docs.{value};
+ghost use Rattle.schema_index.specs.Hops.{step_hops};
+ghost use Rattle.schema_index.specs.Spots.{spot_in};
+ghost use Rattle.schema_index.specs.Ways.{owned_hops};
+ghost use Rattle.schema_index.specs.Gathering.{anchor_mark, marks, reference_under, references_at};
+
+use crate::anchors::Anchor;
+use crate::resources::{resolved, text_at};
+use crate::ways::{OwnedStep, own};
+use json_doc::Doc;
+use locations::Step;
+use std::alloc::{AllocError, Global};
+
+/// What was gathered of a document's schemas, each list in the order of a walk.
+#[derive(Debug, Drop)]
+pub(crate) struct Gathered {
+    /// The URIs of the resources.
+    pub(crate) uris: Vec<String>,
+    /// The ways to their roots.
+    pub(crate) ways: Vec<Vec<OwnedStep>>,
+    /// The absolute references.
+    pub(crate) references: Vec<String>,
+    /// The anchors.
+    pub(crate) anchors: Vec<Anchor>,
+}
+
+impl Gathered {
+    ghost use Rattle.schema_index.specs.Gathering.{Gathers, gathered_uris, gathered_ways, gathered_references, gathered_marks};
+
+    /// Nothing yet. This takes no memory.
+    #[tactic(auto, unfolding(crate::specs::Gathering::gathered_uris, crate::specs::Gathering::gathered_ways, crate::specs::Gathering::gathered_references, crate::specs::Gathering::gathered_marks))]
+    pub(crate) fn new(alloc: Global) -> Gathered
+        ensures uris { gathered_uris result ≡ [] }
+        ensures ways { gathered_ways result ≡ [] }
+        ensures references { gathered_references result ≡ [] }
+        ensures marks { gathered_marks result ≡ [] }
+    {
+        Gathered {
+            uris: Vec::new(alloc),
+            ways: Vec::new(alloc),
+            references: Vec::new(alloc),
+            anchors: Vec::new(alloc),
+        }
+    }
+
+    /// Adds a schema that stands at the end of this way, in the resource of this URI, whose root is `start` steps along
+    /// the way.
+    pub(crate) fn add(
+        &mut self,
+        alloc: Global,
+        uri: &str,
+        start: usize,
+        way: &[Step<'_>],
+        schema: &Doc,
+    ) -> Result<(), AllocError>
+        ensures { OnOk result (Gathers self.old self.new (spot_in (step_hops way.now) start uri.now (value schema.now) ∷ [])) }
+    {
+        if way.len() <= start {
+            push_root(alloc, &mut self.uris, &mut self.ways, uri, way)?;
+        }
+        push_references(alloc, &mut self.references, uri, schema)?;
+        push_anchors(alloc, &mut self.anchors, uri, start, way, schema)?;
+        Ok(())
+    }
+}
+
+// Appends a root's URI, and the way to it.
+fn push_root(
+    alloc: Global,
+    uris: &mut Vec<String>,
+    ways: &mut Vec<Vec<OwnedStep>>,
+    uri: &str,
+    way: &[Step<'_>],
+) -> Result<(), AllocError>
+    ensures uris { OnOk result (map string_bytes uris.new.items ≡ map string_bytes uris.old.items ++ uri.now ∷ []) }
+    ensures ways { OnOk result (map (λ w. owned_hops w.items) ways.new.items ≡ map (λ w. owned_hops w.items) ways.old.items ++ step_hops way.now ∷ []) }
+{
+    uris.push(String::from_str(alloc, uri)?)?;
+    ways.push(own(alloc, way)?)?;
+    Ok(())
+}
+
+// Appends the absolute references of a schema inside this base.
+#[tactic(auto, unfolding(crate::specs::Gathering::references_at))]
+fn push_references(
+    alloc: Global,
+    references: &mut Vec<String>,
+    base: &str,
+    schema: &Doc,
+) -> Result<(), AllocError>
+    ensures { OnOk result (map string_bytes references.new.items ≡ map string_bytes references.old.items ++ references_at base.now (value schema.now)) }
+{
+    push_reference(alloc, references, "$ref", base, schema)?;
+    push_reference(alloc, references, "$dynamicRef", base, schema)
+}
+
+fn push_reference(
+    alloc: Global,
+    references: &mut Vec<String>,
+    keyword: &str,
+    base: &str,
+    schema: &Doc,
+) -> Result<(), AllocError>
+    ensures { OnOk result (map string_bytes references.new.items ≡ map string_bytes references.old.items ++ reference_under keyword.now base.now (value schema.now)) }
+{
+    if let Some(reference) = text_at(schema, keyword) {
+        references.push(resolved(alloc, base, reference)?)?;
+    }
+    Ok(())
+}
+
+// Appends the anchors of a schema where it stands.
+#[tactic(auto, unfolding(crate::specs::Gathering::marks))]
+fn push_anchors(
+    alloc: Global,
+    anchors: &mut Vec<Anchor>,
+    uri: &str,
+    start: usize,
+    way: &[Step<'_>],
+    schema: &Doc,
+) -> Result<(), AllocError>
+    ensures { OnOk result (map anchor_mark anchors.new.items ≡ map anchor_mark anchors.old.items ++ marks (spot_in (step_hops way.now) start uri.now (value schema.now))) }
+{
+    if let Some(name) = text_at(schema, "$anchor") {
+        anchors.push(anchor(alloc, name, false, uri, start, way)?)?;
+    }
+    if let Some(name) = text_at(schema, "$dynamicAnchor") {
+        anchors.push(anchor(alloc, name, true, uri, start, way)?)?;
+    }
+    Ok(())
+}
+
+fn anchor(
+    alloc: Global,
+    name: &str,
+    dynamic: bool,
+    uri: &str,
+    start: usize,
+    way: &[Step<'_>],
+) -> Result<Anchor, AllocError>
+    ensures { IfOk result (λ a. anchor_mark a ≡ record { name = name.now; dynamic = dynamic; resource = uri.now; start = start; way = step_hops way.now }) }
+{
+    Ok(Anchor {
+        name: String::from_str(alloc, name)?,
+        dynamic,
+        resource: String::from_str(alloc, uri)?,
+        start,
+        way: own(alloc, way)?,
+    })
+}

@@ -167,8 +167,8 @@ to_one k rest v w h e = record {
   begins = refl;
   stands = λ s is. held_stands s k w one_schema [] w (held_in v s.value w k is h) e (inl refl);
   leads = λ s is.
-  let g : IsHeld s.value k w = held_in v s.value w k is h in
-  at_shape k rest s w one_schema g e ∙ further_led rest s (k ∷ []) w (held_nests s.value w k g);
+      let g : IsHeld s.value k w = held_in v s.value w k is h in
+      at_shape k rest s w one_schema g e ∙ further_led rest s (k ∷ []) w (held_nests s.value w k g);
 }
 
 -- ---- a list of schemas
@@ -187,16 +187,16 @@ pub to_element : (k : Text) (i : ℕ) (rest : Pointer) (v w u : Value) → IsHel
 to_element k i rest v w u h e short less at = record {
   begins = refl;
   stands = λ s is. held_stands s k w schema_list (decimal i ∷ []) u (held_in v s.value w k is h) e
-  (into_map (λ (x : ℕ × Value). (decimal x.0 ∷ [], x.1)) (enumerate_from 0 (elements w)) (i, u) (element_at i 0 i (elements w) u (omega arith) at));
+      (into_map (λ (x : ℕ × Value). (decimal x.0 ∷ [], x.1)) (enumerate_from 0 (elements w)) (i, u) (element_at i 0 i (elements w) u (omega arith) at));
   leads = λ s is.
-  let g : IsHeld s.value k w = held_in v s.value w k is h in
-  let n : ℕ = nesting s.value in
-  let one : row (λ (x : ℕ × Value). decimal x.0) (decimal i) (enumerate_from 0 (elements w)) ≡ Some (i, u) =
-  row-decimal 0 i i (elements w) (omega arith) (omega arith) less ∙ ap (option_map (λ x. (i, x))) at in
-  let nests : nesting u < nesting s.value = omega (arith, elements_nest w u (element_in i (elements w) u at), held_nests s.value w k g) in
-  at_shape k (decimal i ∷ rest) s w schema_list g e
-  ∙ look_keyed-some (λ (x : ℕ × Value). decimal x.0) (λ x. schemas_within keywords n [] (below s (k ∷ decimal x.0 ∷ []) x.1)) (decimal i) rest (enumerate_from 0 (elements w)) (i, u) (decimals_once 0 (elements w) (omega arith)) one
-  ∙ further_led rest s (k ∷ decimal i ∷ []) u nests;
+      let g : IsHeld s.value k w = held_in v s.value w k is h in
+      let n : ℕ = nesting s.value in
+      let one : row (λ (x : ℕ × Value). decimal x.0) (decimal i) (enumerate_from 0 (elements w)) ≡ Some (i, u) =
+      row-decimal 0 i i (elements w) (omega arith) (omega arith) less ∙ ap (option_map (λ x. (i, x))) at in
+      let nests : nesting u < nesting s.value = omega (arith, elements_nest w u (element_in i (elements w) u at), held_nests s.value w k g) in
+      at_shape k (decimal i ∷ rest) s w schema_list g e
+      ∙ look_keyed-some (λ (x : ℕ × Value). decimal x.0) (λ x. schemas_within keywords n [] (below s (k ∷ decimal x.0 ∷ []) x.1)) (decimal i) rest (enumerate_from 0 (elements w)) (i, u) (decimals_once 0 (elements w) (omega arith)) one
+      ∙ further_led rest s (k ∷ decimal i ∷ []) u nests;
 }
 
 -- ---- a map of schemas
@@ -204,14 +204,14 @@ pub to_entry : (k t : Text) (rest : Pointer) (v w u : Value) → IsHeld v k w �
 to_entry k t rest v w u h e at = record {
   begins = refl;
   stands = λ s is. held_stands s k w schema_map (t ∷ []) u (held_in v s.value w k is h) e
-  (into_map (λ (x : Text × Value). (x.0 ∷ [], x.1)) (members w) (t, u) (row-in name_of t (members w) (t, u) at.found));
+      (into_map (λ (x : Text × Value). (x.0 ∷ [], x.1)) (members w) (t, u) (row-in name_of t (members w) (t, u) at.found));
   leads = λ s is.
-  let g : IsHeld s.value k w = held_in v s.value w k is h in
-  let n : ℕ = nesting s.value in
-  let nests : nesting u < nesting s.value = omega (arith, held_nests w u t at, held_nests s.value w k g) in
-  at_shape k (t ∷ rest) s w schema_map g e
-  ∙ look_keyed-some (λ (x : Text × Value). x.0) (λ x. schemas_within keywords n [] (below s (k ∷ x.0 ∷ []) x.1)) t rest (members w) (t, u) (names_once (members w) at.ordered) at.found
-  ∙ further_led rest s (k ∷ t ∷ []) u nests;
+      let g : IsHeld s.value k w = held_in v s.value w k is h in
+      let n : ℕ = nesting s.value in
+      let nests : nesting u < nesting s.value = omega (arith, held_nests w u t at, held_nests s.value w k g) in
+      at_shape k (t ∷ rest) s w schema_map g e
+      ∙ look_keyed-some (λ (x : Text × Value). x.0) (λ x. schemas_within keywords n [] (below s (k ∷ x.0 ∷ []) x.1)) t rest (members w) (t, u) (names_once (members w) at.ordered) at.found
+      ∙ further_led rest s (k ∷ t ∷ []) u nests;
 }
 
 -- ---- nowhere

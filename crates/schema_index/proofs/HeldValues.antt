@@ -54,8 +54,10 @@ pub held : (v : Value) (name : Text) (ms : List (Text × Value)) (m : Bor Text �
     → Some (member_shown m) ≡ row name_of name ms → (name ≡ m.0.now) × IsHeld v name (value m.1.now)
 held v name ms m e ordered found =
     let is : members v ≡ ms = members_some v ms e in
-    let key : name ≡ m.0.now = row-key name_of name ms (member_shown m) (sym found) in
-    (key, record {
-      ordered = subst HasNamesInOrder (sym is) ordered;
-      found = ap (row name_of name) is ∙ sym found ∙ ap (λ n. Some (n, value m.1.now)) (sym key);
-    })
+    let key : name ≡ m.0.now = row-key name_of name ms (member_shown m) (sym found) in (
+      key,
+      record {
+        ordered = subst HasNamesInOrder (sym is) ordered;
+        found = ap (row name_of name) is ∙ sym found ∙ ap (λ n. Some (n, value m.1.now)) (sym key);
+      },
+    )

@@ -24,7 +24,11 @@ pub(crate) struct Descent<'a, 't> {
 }
 
 /// The first step of the pointer with these tokens, from a schema.
-pub(crate) fn descend<'a, 't>(schema: &'a Doc, keyword: &str, rest: &'t [String]) -> Option<Descent<'a, 't>>
+pub(crate) fn descend<'a, 't>(
+    schema: &'a Doc,
+    keyword: &str,
+    rest: &'t [String],
+) -> Option<Descent<'a, 't>>
     ensures { GoesOn (keyword.now ∷ map string_bytes rest.now) (value schema.now) result }
 {
     let (name, member) = named(schema.as_dict()?, keyword)?;
@@ -42,7 +46,11 @@ pub(crate) fn descend<'a, 't>(schema: &'a Doc, keyword: &str, rest: &'t [String]
 }
 
 // The step into a list of schemas, which is the value of this keyword.
-fn descend_into_list<'a, 't>(keyword: &'a str, list: &'a Doc, rest: &'t [String]) -> Option<Descent<'a, 't>>
+fn descend_into_list<'a, 't>(
+    keyword: &'a str,
+    list: &'a Doc,
+    rest: &'t [String],
+) -> Option<Descent<'a, 't>>
     ensures { (v : Value) → IsHeld v keyword.now (value list.now) → shape_in keywords keyword.now ≡ schema_list
         → GoesOn (keyword.now ∷ map string_bytes rest.now) v result }
 {
@@ -58,7 +66,11 @@ fn descend_into_list<'a, 't>(keyword: &'a str, list: &'a Doc, rest: &'t [String]
 }
 
 // The step into a map of schemas, which is the value of this keyword.
-fn descend_into_map<'a, 't>(keyword: &'a str, object: &'a Doc, rest: &'t [String]) -> Option<Descent<'a, 't>>
+fn descend_into_map<'a, 't>(
+    keyword: &'a str,
+    object: &'a Doc,
+    rest: &'t [String],
+) -> Option<Descent<'a, 't>>
     ensures { (v : Value) → IsHeld v keyword.now (value object.now) → shape_in keywords keyword.now ≡ schema_map
         → GoesOn (keyword.now ∷ map string_bytes rest.now) v result }
 {
@@ -97,5 +109,63 @@ fn index_of(token: &str, count: usize) -> Option<usize>
         Some(index)
     } else {
         None
+    }
+}
+
+#[cfg(test)]
+mod tests {
+    use super::super::tokens::pointer_tokens;
+    use super::*;
+    use faults::Fault;
+    use json_doc::{Pointer, read};
+    use std::alloc::Global;
+    use std::test::Fail;
+
+    // The number of tokens that are left after the first step of this pointer, and whether the step leads to the value `true`.
+    fn left(alloc: Global, schema: &str, pointer: &str) -> Result<Option<(usize, bool)>, Fault> {
+        let schema = read(alloc, schema.as_bytes())?;
+        let pointer = Pointer::parse(alloc, pointer)?;
+        let tokens = pointer_tokens(alloc, &pointer)?;
+        let Some((keyword, rest)) = tokens.as_slice().split_first() else {
+            return Ok(None);
+        };
+        match descend(&schema, keyword.as_str(), rest) {
+            Some(descent) => Ok(Some((descent.rest.len(), descent.schema.as_bool() == Some(true)))),
+            None => Ok(None),
+        }
+    }
+
+    #[test]
+    fn steps_lead_to_schemas(rt: HostRuntime) -> Result<(), Fail> {
+        let alloc = rt.alloc();
+        assert_eq!(rt; left(alloc, r#"{"not":true}"#, "/not")?, Some((0, true)));
+        assert_eq!(rt;
+            left(alloc, r#"{"$defs":{"a/b":true}}"#, "/$defs/a~1b/c/d")?,
+            Some((2, true))
+        );
+        assert_eq!(rt;
+            left(alloc, r#"{"allOf":[false,true]}"#, "/allOf/1/if")?,
+            Some((1, true))
+        );
+        assert_eq!(rt;
+            left(alloc, r#"{"allOf":[false,true]}"#, "/allOf/0")?,
+            Some((0, false))
+        );
+        Ok(())
+    }
+
+    #[test]
+    fn other_values_are_no_schemas(rt: HostRuntime) -> Result<(), Fail> {
+        let alloc = rt.alloc();
+        assert_eq!(rt; left(alloc, r#"{"const":true}"#, "/const")?, None);
+        assert_eq!(rt; left(alloc, r#"{"x":true}"#, "/x")?, None);
+        assert_eq!(rt; left(alloc, r#"{"$defs":{"a":true}}"#, "/$defs")?, None);
+        assert_eq!(rt; left(alloc, r#"{"$defs":{"a":true}}"#, "/$defs/b")?, None);
+        assert_eq!(rt; left(alloc, r#"{"allOf":[true,true]}"#, "/allOf")?, None);
+        assert_eq!(rt; left(alloc, r#"{"allOf":[true,true]}"#, "/allOf/2")?, None);
+        assert_eq!(rt; left(alloc, r#"{"allOf":[true,true]}"#, "/allOf/01")?, None);
+        assert_eq!(rt; left(alloc, r#"{"allOf":[true,true]}"#, "/allOf/+1")?, None);
+        assert_eq!(rt; left(alloc, "true", "/not")?, None);
+        Ok(())
     }
 }

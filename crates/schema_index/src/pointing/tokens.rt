@@ -63,3 +63,24 @@ fn escape_before(text: &str) -> Option<char>
         _ => None,
     }
 }
+
+#[cfg(test)]
+mod tests {
+    use super::*;
+    use std::test::Fail;
+
+    #[test]
+    fn tokens_are_read_back(rt: HostRuntime) -> Result<(), Fail> {
+        let mut pointer = Pointer::new(rt.alloc());
+        assert_eq!(rt; pointer_tokens(rt.alloc(), &pointer)?.len(), 0);
+        pointer.push("a/b")?;
+        pointer.push("")?;
+        pointer.push("~1")?;
+        let tokens = pointer_tokens(rt.alloc(), &pointer)?;
+        assert_eq!(rt; tokens.len(), 3);
+        for (token, name) in tokens.iter().zip(["a/b", "", "~1"]) {
+            assert_eq!(rt; token.as_str(), name);
+        }
+        Ok(())
+    }
+}

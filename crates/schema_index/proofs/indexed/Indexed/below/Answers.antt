@@ -1,12 +1,16 @@
-use Rattle.std.proofs.Common.{◌≡◌, false, true, Some, codes, is_some, sym, ap, ◌∙◌}
-use Rattle.definitions.specs.Values.{text_at}
-use Rattle.definitions.specs.Schemas.{below}
+use Rattle.std.proofs.Common.{◌≡◌, false, true, Some, codes, is_some, sym, ap, ap₂, ◌∙◌}
+use Rattle.definitions.specs.Values.{Text, Value, text_at}
+use Rattle.definitions.specs.Pointers.{Pointer}
+use Rattle.definitions.specs.Resolution.{resolved}
+use Rattle.definitions.specs.Uris.{without_fragment}
+use Rattle.definitions.specs.Schemas.{Schema, below}
 use Rattle.definitions.specs.Targets.{resource_root}
 use Rattle.json_doc.specs.Docs.{value}
+use Rattle.locations.specs.Steps.{tokens}
 use Rattle.schema_index.specs.DescentViews.{tokens_taken}
 use Rattle.schema_index.specs.IndexedDocuments.{indexed_schemas}
 use Rattle.schema_index.specs.Locateds.{located_schema}
-use Rattle.schema_index.proofs.DocumentSchemas.{below-opened, root_held}
+use Rattle.schema_index.proofs.DocumentSchemas.{below-opened, below-inside, root_held}
 use Rattle.schema_index.proofs.indexed.Indexed.below.Goals as goal
 
 pub unreachable-requires : goal.unreachable-requires
@@ -20,3 +24,19 @@ unreachable-requires c =
     let held : is_some (resource_root (indexed_schemas c.args.self.now) t.resource) ≡ true = root_held (indexed_schemas c.args.self.now) t c.requires (ap (λ x. x.pointer) is) in
     let none : is_some (resource_root (indexed_schemas c.args.self.now) c.as_str.result.now) ≡ true = ap (λ u. is_some (resource_root (indexed_schemas c.args.self.now) u)) (sym uri) ∙ held in
     absurd (let no : false ≡ true = c.in-None-resource_uri.ensures.held ∙ none in cc)
+
+abbrev shown : Text → Pointer → Value → Schema
+shown resource pointer v = record { resource = resource; pointer = pointer; value = v }
+
+pub returns-in-Some-resource_uri-clause-ok : goal.returns-in-Some-resource_uri-clause-ok
+returns-in-Some-resource_uri-clause-ok c =
+    let s = located_schema c.args.around in
+    let v = value c.args.descent.schema.now in
+    let uri : c.in-Some-resource_uri.resource.now ≡ without_fragment (resolved s.resource c.in-Some.id.now) = c.in-Some-resource_uri.ensures.same ∙ c.as_str.ensures.value ∙ c.in_ok-uri-in-Some.ensures.ok in
+    ap₂ (λ r p. shown r p v) uri (ap tokens c.new.ensures.items) ∙ sym (below-opened s (tokens_taken c.args.descent) v c.in-Some.id.now (sym c.in-Some.ensures))
+
+pub returns-clause-ok : goal.returns-clause-ok
+returns-clause-ok c =
+    let s = located_schema c.args.around in
+    let v = value c.args.descent.schema.now in
+    ap (λ p. shown s.resource p v) c.in_ok-with_steps-in-None.ensures ∙ sym (below-inside s (tokens_taken c.args.descent) v (sym c.in-None.ensures))

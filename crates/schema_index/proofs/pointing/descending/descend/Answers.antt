@@ -12,13 +12,13 @@ use Rattle.schema_index.proofs.pointing.descending.descend.Goals as goal
 
 pub returns-in_err-as_dict : goal.returns-in_err-as_dict
 returns-in_err-as_dict c = rw c.from_residual.ensures
-  (from_no_member c.args.keyword.now (map string_bytes c.args.rest.now) (value c.args.schema.now)
-  (ap (row name_of c.args.keyword.now) (members_none (value c.args.schema.now) (sym c.in_err-as_dict.ensures))))
+    (from_no_member c.args.keyword.now (map string_bytes c.args.rest.now) (value c.args.schema.now)
+    (ap (row name_of c.args.keyword.now) (members_none (value c.args.schema.now) (sym c.in_err-as_dict.ensures))))
 
 pub returns-in_err-name : goal.returns-in_err-name
 returns-in_err-name c = rw c.from_residual-in_err-name.ensures
-  (from_no_member c.args.keyword.now (map string_bytes c.args.rest.now) (value c.args.schema.now)
-  (ap (row name_of c.args.keyword.now) (members_some (value c.args.schema.now) (members_value c.in_ok-as_dict.field-0.now) (sym c.in_ok-as_dict.ensures)) ∙ sym c.in_err-name.ensures.found))
+    (from_no_member c.args.keyword.now (map string_bytes c.args.rest.now) (value c.args.schema.now)
+    (ap (row name_of c.args.keyword.now) (members_some (value c.args.schema.now) (members_value c.in_ok-as_dict.field-0.now) (sym c.in_ok-as_dict.ensures)) ∙ sym c.in_err-name.ensures.found))
 
 pub returns-in-Some-One : goal.returns-in-Some-One
 returns-in-Some-One c =

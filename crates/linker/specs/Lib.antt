@@ -1,1 +1,2 @@
+pub mod SharedDocuments
 pub mod LinkedDocuments

@@ -1,1 +1,3 @@
 pub mod Tables
+pub mod Searches
+pub mod Holders

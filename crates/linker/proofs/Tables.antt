@@ -1,5 +1,5 @@
 -- What a table of documents with distinct resource URIs finds by a URI: what the one document finds that holds it.
-use Rattle.std.proofs.Common.{◌≡◌, Bool, true, false, ◌&&◌, ◌⊎◌, List, [], ◌∷◌, ◌++◌, Option, Some, None, Contains, filter, find, flat_map, option_and_then, refl, sym, ap, ap₂, ◌∙◌, inl, inr, true≢false}
+use Rattle.std.proofs.Common.{◌≡◌, Bool, true, false, cond, ◌&&◌, ◌⊎◌, List, [], ◌∷◌, ◌++◌, Option, Some, None, Contains, filter, find, flat_map, option_and_then, refl, sym, ap, ap₂, subst, ◌∙◌, inl, inr, true≢false}
 use Rattle.std.specs.Option.{option_or}
 use Rattle.std.proofs.lemmas.Bool.{false_from_ne_true, and_parts}
 use Rattle.std.proofs.lemmas.List.Folds.{find-append}
@@ -127,3 +127,33 @@ pub target_nowhere : (ds : List Document) (uri : Text) (f : Fragment) → ((d : 
 target_nowhere ds uri no_fragment none = root_nowhere ds uri none
 target_nowhere ds uri (tokens way) none = ap (option_and_then (pointed way)) (root_nowhere ds uri none)
 target_nowhere ds uri (plain_name n) none = anchored_nowhere ds uri n none
+
+-- ---- the first document that holds the URI
+holder_at : (uri : Text) (e : Document) (es : List Document) (d : Document) (b : Bool) → holds_resource uri e ≡ b
+    → (find (holds_resource uri) es ≡ Some d → Contains es d × (holds_resource uri d ≡ true))
+    → cond b (Some e) (find (holds_resource uri) es) ≡ Some d → Contains (e ∷ es) d × (holds_resource uri d ≡ true)
+holder_at uri e es d true holds more found =
+    let same : e ≡ d = cc in
+    (subst (Contains (e ∷ es)) same (is_first e es), ap (holds_resource uri) (sym same) ∙ holds)
+holder_at uri e es d false none more found = let rest = more found in (is_later e d es rest.0, rest.1)
+
+found_holds : (ds : List Document) (uri : Text) (d : Document) → find (holds_resource uri) ds ≡ Some d → Contains ds d × (holds_resource uri d ≡ true)
+found_holds [] uri d found = absurd (cc)
+found_holds (e ∷ es) uri d found = holder_at uri e es d (holds_resource uri e) refl (found_holds es uri d) found
+
+pub found_holder : (ds : List Document) (uri : Text) (d : Document) → has_repeat same_text (resource_uris (table_of ds)) ≡ false → find (holds_resource uri) ds ≡ Some d
+    → IsHolder ds uri d
+found_holder ds uri d distinct found = let h = found_holds ds uri d found in record { distinct = distinct; inside = h.0; holds = h.1 }
+
+none_at : (uri : Text) (e : Document) (es : List Document) (d : Document) (b : Bool) → holds_resource uri e ≡ b
+    → (find (holds_resource uri) es ≡ None → Contains es d → holds_resource uri d ≡ false)
+    → cond b (Some e) (find (holds_resource uri) es) ≡ None → Contains (e ∷ es) d → holds_resource uri d ≡ false
+none_at uri e es d true holds more none c = absurd (cc)
+none_at uri e es d false free more none c = elim (first_or_later e d es c) [
+  | inl same ↦ ap (holds_resource uri) (sym same) ∙ free
+  | inr later ↦ more none later
+]
+
+pub no_holder : (ds : List Document) (uri : Text) → find (holds_resource uri) ds ≡ None → (d : Document) → Contains ds d → holds_resource uri d ≡ false
+no_holder [] uri none d c = absurd (nothing_in d c)
+no_holder (e ∷ es) uri none d c = none_at uri e es d (holds_resource uri e) refl (λ free later. no_holder es uri free d later) none c

@@ -2,6 +2,7 @@
 #![tactic(auto)]
 
 mod linked;
+mod lookups;
 
 pub use faults::Fault;
 pub use linked::Linked;

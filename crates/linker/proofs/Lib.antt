@@ -1,3 +1,4 @@
 pub mod Tables
 pub mod Searches
 pub mod Holders
+pub mod CutTexts

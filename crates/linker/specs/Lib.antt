@@ -1,2 +1,3 @@
 pub mod SharedDocuments
 pub mod LinkedDocuments
+pub mod AbsoluteReferences

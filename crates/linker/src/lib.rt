@@ -3,6 +3,7 @@
 
 mod linked;
 mod lookups;
+mod references;
 
 pub use faults::Fault;
 pub use linked::Linked;

@@ -208,11 +208,15 @@ impl Linked {
         ensures ok { IfOk result (λ t. (first : Schema) → unwrap_or (option_map located_schema t) first ≡ outermost (linked_schemas self.now) (map (λ uri. uri.now) scope.now) name.now first) }
         ensures err { IfErr result (λ f. f ≡ Fault.NoRoom) }
     {
+        let mut before: Option<&str> = None;
         for uri in scope {
-            match self.dynamically_anchored(alloc, uri, name) {
-                Ok(Some(found)) => return Ok(Some(found)),
-                Ok(None) => {}
-                Err(fault) => return Err(fault),
+            // A resource that has entered the scope twice in a row is asked once.
+            if before != Some(*uri) {
+                match self.dynamically_anchored(alloc, uri, name) {
+                    Ok(Some(found)) => return Ok(Some(found)),
+                    Ok(None) => before = Some(*uri),
+                    Err(fault) => return Err(fault),
+                }
             }
         }
         Ok(None)

@@ -1,5 +1,5 @@
 -- The text of a reference's parts, and what stands before its fragment (RFC 3986, section 5.3).
-use Rattle.std.proofs.Common.{◌≡◌, ◌==◌, ◌++◌, ℕ, Bool, true, Option, Some, None, codes, refl, sym, ap, ◌∙◌, append-nil}
+use Rattle.std.proofs.Common.{◌≡◌, ◌==◌, ◌++◌, ◌∷◌, ℕ, Bool, true, Option, Some, None, codes, refl, sym, ap, ◌∙◌, append-nil}
 use Rattle.definitions.specs.Values.{Text}
 use Rattle.definitions.specs.Fragments.{fragment_kind}
 use Rattle.definitions.specs.Targets.{fragment_of}
@@ -7,7 +7,7 @@ use Rattle.definitions.specs.Uris.{Parts, split, recompose, cut_at, is_free_of, 
 use Rattle.definitions.specs.Resolution.{resolve, resolved}
 use Rattle.uri_ref.specs.Soundness.{AreSound}
 use Rattle.uri_ref.proofs.Missing.{Misses, misses_from, joined_misses, one_missed, scheme_misses, cut_apart}
-use Rattle.uri_ref.proofs.Recomposed.{joined}
+use Rattle.uri_ref.proofs.Recomposed.{joined, recomposes}
 use Rattle.uri_ref.proofs.Sound.{split_sound, resolve_sound}
 
 of_option : (f : Text → Bool) (o : Option Text) → option_all f o ≡ true → (t : Text) → o ≡ Some t → f t ≡ true
@@ -63,3 +63,12 @@ fragment_read base reference p o e f = ap fragment_kind (f ∙ ap (λ (q : Parts
 pub text_before : (base reference : Text) (p q : Parts) → p ≡ resolve (split base) (split reference) → q ≡ record p { fragment = None }
     → recompose q ≡ without_fragment (resolved base reference)
 text_before base reference p q e f = ap recompose (f ∙ ap (λ (r : Parts). record r { fragment = None }) e) ∙ sym (resolved_before base reference)
+
+-- what stands before the fragment of a reference that is a fragment alone is the base's
+pub base_before : (base fragment : Text) → without_fragment base ≡ without_fragment (resolved base (35 ∷ fragment))
+base_before base fragment =
+    ap (λ (r : Text × Option Text). r.0) (ap (cut_at (λ c. c == 35)) (sym (recomposes base)) ∙ cut_text (split base) (split_sound base))
+    ∙ sym (resolved_before base (35 ∷ fragment))
+
+pub own_fragment : (base fragment : Text) → fragment_kind (Some fragment) ≡ fragment_of (resolved base (35 ∷ fragment))
+own_fragment base fragment = ap fragment_kind (sym (resolved_fragment base (35 ∷ fragment)))

@@ -16,7 +16,7 @@ ghost use Rattle.schema_scan.specs.CompiledDocuments.{compiled_document};
 ghost use Rattle.uri_ref.specs.FragmentViews.{fragment_shown};
 
 use crate::linked::Linked;
-use crate::references::{AbsoluteReference, resolve_reference, resource_named};
+use crate::references::{AbsoluteReference, opened_resource, resolve_reference};
 use faults::Fault;
 use patterns::Pattern;
 use schema_scan::{Compiled, Located};
@@ -77,7 +77,7 @@ impl Linked {
             → IfOk result (λ uri. uri.now ≡ s.resource) }
         ensures err { IfErr result (λ f. f ≡ Fault.NoRoom) }
     {
-        let uri = resource_named(alloc, around, id)?;
+        let uri = opened_resource(alloc, around, id)?;
         Ok(self.resource_uri(uri.as_str()))
     }
 

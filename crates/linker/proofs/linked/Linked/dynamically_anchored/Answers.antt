@@ -2,7 +2,7 @@ use Rattle.std.proofs.Common.{◌≡◌, Some, None, Option, IfOk, option_map, s
 use Rattle.definitions.specs.Schemas.{Schema}
 use Rattle.schema_index.specs.Locateds.{located_schema}
 use Rattle.schema_scan.specs.CompiledDocuments.{compiled_document}
-use Rattle.linker.proofs.Holders.{anchored_of_first}
+use Rattle.linker.proofs.FirstHolders.{anchored_of_first}
 use Rattle.linker.proofs.linked.Linked.dynamically_anchored.Goals as goal
 
 pub returns-in-None-clause-ok : goal.returns-in-None-clause-ok

@@ -1,6 +1,6 @@
 use Rattle.std.proofs.Common.{Some, None, ◌∙◌}
 use Rattle.schema_scan.specs.CompiledDocuments.{compiled_document}
-use Rattle.linker.proofs.Holders.{root_of_first}
+use Rattle.linker.proofs.FirstHolders.{root_of_first}
 use Rattle.linker.proofs.linked.Linked.resource_root.Goals as goal
 
 pub returns-in-None : goal.returns-in-None

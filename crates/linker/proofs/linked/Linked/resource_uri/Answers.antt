@@ -1,5 +1,5 @@
 use Rattle.std.proofs.Common.{None, is_some, true≢false, sym, ap, ◌∙◌}
-use Rattle.linker.proofs.Holders.{root_of_first}
+use Rattle.linker.proofs.FirstHolders.{root_of_first}
 use Rattle.linker.proofs.linked.Linked.resource_uri.Goals as goal
 
 pub returns-in-None : goal.returns-in-None

@@ -1,7 +1,7 @@
 use Rattle.std.proofs.Common.{sym, ap, ◌∙◌}
 use Rattle.definitions.specs.Targets.{resource_root}
 use Rattle.linker.specs.LinkedDocuments.{linked_uri, linked_schemas}
-use Rattle.linker.proofs.Holders.{root_is_there}
+use Rattle.linker.proofs.FirstHolders.{root_is_there}
 use Rattle.linker.proofs.linked.Linked.root.Goals as goal
 
 pub unreachable-requires : goal.unreachable-requires

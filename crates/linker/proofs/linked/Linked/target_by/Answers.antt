@@ -3,7 +3,7 @@ use Rattle.definitions.specs.Schemas.{Schema}
 use Rattle.schema_index.specs.Locateds.{located_schema}
 use Rattle.schema_scan.specs.CompiledDocuments.{compiled_document}
 use Rattle.uri_ref.specs.FragmentViews.{fragment_shown}
-use Rattle.linker.proofs.Holders.{target_of_first}
+use Rattle.linker.proofs.FirstHolders.{target_of_first}
 use Rattle.linker.proofs.linked.Linked.target_by.Goals as goal
 
 pub returns-in-None-clause-ok : goal.returns-in-None-clause-ok

@@ -137,7 +137,7 @@ holder_at uri e es d true holds more found =
     (subst (Contains (e ∷ es)) same (is_first e es), ap (holds_resource uri) (sym same) ∙ holds)
 holder_at uri e es d false none more found = let rest = more found in (is_later e d es rest.0, rest.1)
 
-found_holds : (ds : List Document) (uri : Text) (d : Document) → find (holds_resource uri) ds ≡ Some d → Contains ds d × (holds_resource uri d ≡ true)
+pub found_holds : (ds : List Document) (uri : Text) (d : Document) → find (holds_resource uri) ds ≡ Some d → Contains ds d × (holds_resource uri d ≡ true)
 found_holds [] uri d found = absurd (cc)
 found_holds (e ∷ es) uri d found = holder_at uri e es d (holds_resource uri e) refl (found_holds es uri d) found
 

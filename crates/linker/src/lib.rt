@@ -2,6 +2,8 @@
 #![tactic(auto)]
 
 mod linked;
+mod lookups;
+mod references;
 
 pub use faults::Fault;
 pub use linked::Linked;

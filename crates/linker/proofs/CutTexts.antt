@@ -1,0 +1,74 @@
+-- The text of a reference's parts, and what stands before its fragment (RFC 3986, section 5.3).
+use Rattle.std.proofs.Common.{◌≡◌, ◌==◌, ◌++◌, ◌∷◌, ℕ, Bool, true, Option, Some, None, codes, refl, sym, ap, ◌∙◌, append-nil}
+use Rattle.definitions.specs.Values.{Text}
+use Rattle.definitions.specs.Fragments.{fragment_kind}
+use Rattle.definitions.specs.Targets.{fragment_of}
+use Rattle.definitions.specs.Uris.{Parts, split, recompose, cut_at, is_free_of, is_scheme, led_by, ended_by, option_all, without_fragment}
+use Rattle.definitions.specs.Resolution.{resolve, resolved}
+use Rattle.uri_ref.specs.Soundness.{AreSound}
+use Rattle.uri_ref.proofs.Missing.{Misses, misses_from, joined_misses, one_missed, scheme_misses, cut_apart}
+use Rattle.uri_ref.proofs.Recomposed.{joined, recomposes}
+use Rattle.uri_ref.proofs.Sound.{split_sound, resolve_sound}
+
+of_option : (f : Text → Bool) (o : Option Text) → option_all f o ≡ true → (t : Text) → o ≡ Some t → f t ≡ true
+of_option f None h t e = cc
+of_option f (Some s) h t e = let same : s ≡ t = cc in ap f (sym same) ∙ h
+
+led_misses : (p : ℕ → Bool) (sign : Text) (o : Option Text) → Misses p sign → ((t : Text) → o ≡ Some t → Misses p t) → Misses p (led_by sign o)
+led_misses p sign None h k = refl
+led_misses p sign (Some t) h k = joined_misses p sign t h (k t refl)
+
+ended_misses : (p : ℕ → Bool) (sign : Text) (o : Option Text) → Misses p sign → ((t : Text) → o ≡ Some t → Misses p t) → Misses p (ended_by o sign)
+ended_misses p sign None h k = refl
+ended_misses p sign (Some t) h k = joined_misses p t sign (k t refl) h
+
+-- no `#` stands before the fragment
+before_misses : (p : Parts) → AreSound p
+    → Misses (λ c. c == 35) ((ended_by p.scheme (codes ":") ++ (led_by (codes "//") p.authority ++ p.path)) ++ led_by (codes "?") p.query)
+before_misses p h =
+    joined_misses (λ c. c == 35) (ended_by p.scheme (codes ":") ++ (led_by (codes "//") p.authority ++ p.path)) (led_by (codes "?") p.query)
+    (joined_misses (λ c. c == 35) (ended_by p.scheme (codes ":")) (led_by (codes "//") p.authority ++ p.path)
+    (ended_misses (λ c. c == 35) (codes ":") p.scheme refl (λ t e. scheme_misses 35 t refl refl (of_option is_scheme p.scheme h.scheme t e)))
+    (joined_misses (λ c. c == 35) (led_by (codes "//") p.authority) p.path
+    (led_misses (λ c. c == 35) (codes "//") p.authority refl
+    (λ t e. one_missed (codes "/?#") 35 t refl (misses_from (codes "/?#") t (of_option (is_free_of (codes "/?#")) p.authority h.authority t e))))
+    (one_missed (codes "?#") 35 p.path refl (misses_from (codes "?#") p.path h.path))))
+    (led_misses (λ c. c == 35) (codes "?") p.query refl
+    (λ t e. one_missed (codes "#") 35 t refl (misses_from (codes "#") t (of_option (is_free_of (codes "#")) p.query h.query t e))))
+
+cut_text : (p : Parts) → AreSound p → cut_at (λ c. c == 35) (recompose p) ≡ (recompose (record p { fragment = None }), p.fragment)
+cut_text p h =
+    let u : Text = (ended_by p.scheme (codes ":") ++ (led_by (codes "//") p.authority ++ p.path)) ++ led_by (codes "?") p.query in
+    let whole : recompose p ≡ u ++ led_by (codes "#") p.fragment =
+    joined (ended_by p.scheme (codes ":")) (led_by (codes "//") p.authority) p.path (led_by (codes "?") p.query) (led_by (codes "#") p.fragment) in
+    let before : recompose (record p { fragment = None }) ≡ u =
+    joined (ended_by p.scheme (codes ":")) (led_by (codes "//") p.authority) p.path (led_by (codes "?") p.query) (codes "") ∙ append-nil u in
+    ap (cut_at (λ c. c == 35)) whole ∙ cut_apart 35 u p.fragment (before_misses p h) ∙ ap (λ (t : Text). (t, p.fragment)) (sym before)
+
+sound : (base reference : Text) → AreSound (resolve (split base) (split reference))
+sound base reference = resolve_sound (split base) (split reference) (split_sound base) (split_sound reference)
+
+resolved_before : (base reference : Text) → without_fragment (resolved base reference) ≡ recompose (record (resolve (split base) (split reference)) { fragment = None })
+resolved_before base reference = ap (λ (r : Text × Option Text). r.0) (cut_text (resolve (split base) (split reference)) (sound base reference))
+
+resolved_fragment : (base reference : Text) → (split (resolved base reference)).fragment ≡ (resolve (split base) (split reference)).fragment
+resolved_fragment base reference = ap (λ (r : Text × Option Text). r.1) (cut_text (resolve (split base) (split reference)) (sound base reference))
+
+-- of parts that these are, the fragment is read as that of the text
+pub fragment_read : (base reference : Text) (p : Parts) (o : Option Text) → p ≡ resolve (split base) (split reference) → o ≡ p.fragment
+    → fragment_kind o ≡ fragment_of (resolved base reference)
+fragment_read base reference p o e f = ap fragment_kind (f ∙ ap (λ (q : Parts). q.fragment) e ∙ sym (resolved_fragment base reference))
+
+-- and without it they make the text before it
+pub text_before : (base reference : Text) (p q : Parts) → p ≡ resolve (split base) (split reference) → q ≡ record p { fragment = None }
+    → recompose q ≡ without_fragment (resolved base reference)
+text_before base reference p q e f = ap recompose (f ∙ ap (λ (r : Parts). record r { fragment = None }) e) ∙ sym (resolved_before base reference)
+
+-- what stands before the fragment of a reference that is a fragment alone is the base's
+pub base_before : (base fragment : Text) → without_fragment base ≡ without_fragment (resolved base (35 ∷ fragment))
+base_before base fragment =
+    ap (λ (r : Text × Option Text). r.0) (ap (cut_at (λ c. c == 35)) (sym (recomposes base)) ∙ cut_text (split base) (split_sound base))
+    ∙ sym (resolved_before base (35 ∷ fragment))
+
+pub own_fragment : (base fragment : Text) → fragment_kind (Some fragment) ≡ fragment_of (resolved base (35 ∷ fragment))
+own_fragment base fragment = ap fragment_kind (sym (resolved_fragment base (35 ∷ fragment)))

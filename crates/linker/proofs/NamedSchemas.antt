@@ -1,0 +1,44 @@
+-- What references name, by what they are read as.
+use Rattle.std.proofs.Common.{◌≡◌, List, [], true, None, Ok, Err, Result, IsTrue, is_err, is_some, Contains, option_map, refl, sym, ap, ◌∙◌}
+use Rattle.std.specs.Cow.{cow_str_bytes}
+use Rattle.definitions.specs.Faults.{Fault}
+use Rattle.definitions.specs.Fragments.{Fragment}
+use Rattle.definitions.specs.Schemas.{Schema}
+use Rattle.definitions.specs.Targets.{resource_root, fragment_of, target_in, target, dynamic_by, dynamic_target}
+use Rattle.definitions.specs.Uris.{without_fragment}
+use Rattle.definitions.specs.Values.{Text}
+use Rattle.uri_ref.specs.FragmentViews.{fragment_shown}
+use Rattle.definition_laws.proofs.Roots.{roots_found, pointer_root}
+use Rattle.linker.specs.AbsoluteReferences.{target_of, dynamic_target_of}
+use Rattle.linker.specs.LinkedDocuments.{linked_documents, linked_schemas}
+use Rattle.linker.specs.declared.linked.Linked.{Linked}
+use Rattle.linker.specs.declared.references.AbsoluteReference.{AbsoluteReference}
+
+no_target : (table : List Schema) (uri : Text) (f : Result Fragment Fault) → is_err f ≡ true → None ≡ target_in table uri f
+no_target table uri (Ok f) e = absurd (cc)
+no_target table uri (Err f) e = refl
+
+-- a reference whose fragment can't be read names nothing
+pub unread : (table : List Schema) (text : Text) → IsTrue (is_err (fragment_of text)) → None ≡ target table text
+unread table text e = no_target table (without_fragment text) (fragment_of text) e
+
+pub unread_dynamic : (table : List Schema) (scope : List Text) (text : Text) → IsTrue (is_err (fragment_of text)) → None ≡ dynamic_target table scope text
+unread_dynamic table scope text e = ap (option_map (λ first. dynamic_by table scope first (fragment_of text))) (unread table text e)
+
+-- and one that is read names what it is read as
+pub read : (table : List Schema) (text : Text) (r : AbsoluteReference) → cow_str_bytes r.uri ≡ without_fragment text → fragment_of text ≡ Ok (fragment_shown r.fragment)
+    → target_of table r ≡ target table text
+read table text r e f = ap (λ u. target_in table u (Ok (fragment_shown r.fragment))) e ∙ ap (target_in table (without_fragment text)) (sym f)
+
+pub read_dynamic : (table : List Schema) (scope : List Text) (text : Text) (r : AbsoluteReference) → cow_str_bytes r.uri ≡ without_fragment text
+    → fragment_of text ≡ Ok (fragment_shown r.fragment) → dynamic_target_of table scope r ≡ dynamic_target table scope text
+read_dynamic table scope text r e f =
+    ap (option_map (λ first. dynamic_by table scope first (Ok (fragment_shown r.fragment)))) (read table text r e f)
+    ∙ ap (λ kind. option_map (λ first. dynamic_by table scope first kind) (target table text)) (sym f)
+
+-- the URI of a schema that opens a resource has a root
+pub opened_has_root : (l : Linked) (s : Schema) (uri : Text) → Contains (linked_schemas l) s → s.pointer ≡ [] → s.resource ≡ uri
+    → IsTrue (is_some (resource_root (linked_schemas l) uri))
+unfolding linked_documents
+opened_has_root l s uri c root e =
+    ap (λ u. is_some (resource_root (linked_schemas l) u)) (sym e) ∙ ap is_some (roots_found (linked_documents l) l.distinct s c (pointer_root s root))

@@ -1,1 +1,4 @@
+pub mod SharedDocuments
 pub mod LinkedDocuments
+pub mod Sources
+pub mod ListedDocuments

@@ -1,7 +1,12 @@
 //! Links a resource with all documents that it refers to (JSON Schema 2020-12 Core, sections 8.2.3 and 9.2).
 #![tactic(auto)]
 
+mod holding;
 mod linked;
+mod list_source;
+mod source;
 
 pub use faults::Fault;
 pub use linked::Linked;
+pub use list_source::ListSource;
+pub use source::Source;

@@ -1,0 +1,5 @@
+use Rattle.linker.proofs.Sound.{listed_sound}
+use Rattle.linker.proofs.list_source.ListSourceSource.holding.Goals as goal
+
+pub returns-in-None-clause-sound : goal.returns-in-None-clause-sound
+returns-in-None-clause-sound c = listed_sound c.args.self.now

@@ -1,5 +1,6 @@
-use Rattle.std.proofs.Common.{◌≡◌, find, option_map, rules}
-use Rattle.std.proofs.iter.runs.Made.{chains}
+use Rattle.std.proofs.Common.{◌≡◌, List, map, find, option_map, rules, tests, refl, ap, ◌∙◌}
+use Rattle.std.proofs.lemmas.Iterator.{YieldsList-from_slice}
+use Rattle.std.proofs.lemmas.Iterator.Search.{find_from_yields_List}
 use Rattle.std.specs.declared.rc.Rc.{Rc}
 use Rattle.std.specs.Global.{Global}
 use Rattle.definitions.specs.Reach.{holds_resource}
@@ -12,6 +13,8 @@ use Rattle.linker.proofs.holding.holder.Goals as goal
 pub returns : goal.returns
 unfolding shared_documents
 returns c =
-    let found : option_map (λ d. d.now) c.find.result ≡ find (λ (d : Rc Compiled Global). holds_resource c.args.uri.now (compiled_document d.value)) c.args.documents.now =
-        search (rules, chains) in
-    found_image (holds_resource c.args.uri.now) (λ (d : Rc Compiled Global). compiled_document d.value) c.args.documents.now c.find.result found
+    let items : List (Rc Compiled Global) = c.iter.result.rest.now in
+    let found : option_map (λ d. d.now) c.find.result ≡ find (λ (d : Rc Compiled Global). holds_resource c.args.uri.now (compiled_document d.value)) items =
+        find_from_yields_List (λ (d : Rc Compiled Global). holds_resource c.args.uri.now (compiled_document d.value)) _ _ c.find.result c.find.ensures.ran (YieldsList-from_slice items refl) (λ x b q k. search (rules, tests)) in
+    found_image (holds_resource c.args.uri.now) (λ (d : Rc Compiled Global). compiled_document d.value) items c.find.result found
+    ∙ ap (λ ds. find (holds_resource c.args.uri.now) (map (λ (d : Rc Compiled Global). compiled_document d.value) ds)) c.iter.ensures.rest

@@ -1,2 +1,5 @@
 pub mod Shared
 pub mod Sound
+pub mod Positions
+pub mod Adding
+pub mod Tables

@@ -2,3 +2,4 @@ pub mod SharedDocuments
 pub mod LinkedDocuments
 pub mod Sources
 pub mod ListedDocuments
+pub mod Positions

@@ -1,11 +1,14 @@
 //! Links a resource with all documents that it refers to (JSON Schema 2020-12 Core, sections 8.2.3 and 9.2).
 #![tactic(auto)]
 
-mod holding;
+mod contents;
+mod holders;
 mod linked;
 mod list_source;
+mod placing;
 mod source;
 
+pub use contents::{asked, reached, value_of};
 pub use faults::Fault;
 pub use linked::Linked;
 pub use list_source::ListSource;

@@ -8,7 +8,7 @@ use Rattle.schema_scan.specs.CompiledDocuments.{compiled_document}
 use Rattle.schema_scan.specs.declared.compiled.Compiled.{Compiled}
 use Rattle.linker.specs.SharedDocuments.{shared_documents}
 use Rattle.linker.proofs.Shared.{found_image}
-use Rattle.linker.proofs.holding.holder.Goals as goal
+use Rattle.linker.proofs.holders.holder.Goals as goal
 
 pub returns : goal.returns
 unfolding shared_documents

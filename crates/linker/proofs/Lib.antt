@@ -3,3 +3,4 @@ pub mod Sound
 pub mod Positions
 pub mod Adding
 pub mod Tables
+pub mod Visits

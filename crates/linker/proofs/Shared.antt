@@ -27,7 +27,7 @@ pub found_image : {X Y : Type 0} (p : Y → Bool) (f : X → Y) (xs : List X) (r
 found_image p f xs r e = through f r ∙ ap (option_map f) e ∙ sym (find-map p f xs)
 
 module _ {X Y : Type 0} (f : X → Y) where
-  map_take_more : (xs : List X) (i : ℕ) (x : X) → i < length xs → x ≡ get_or xs i x → map f (take (i + 1) xs) ≡ map f (take i xs) ++ f x ∷ []
+  pub map_take_more : (xs : List X) (i : ℕ) (x : X) → i < length xs → x ≡ get_or xs i x → map f (take (i + 1) xs) ≡ map f (take i xs) ++ f x ∷ []
   map_take_more xs i x l e =
       ap (map f) (take_more xs i x l)
       ∙ map-append f (take i xs) (get_or xs i x ∷ [])
@@ -42,3 +42,8 @@ shared_more ds i d l e = map_take_more (λ (x : Rc Compiled Global). compiled_do
 pub shared_none : shared_documents [] ≡ []
 unfolding shared_documents
 shared_none = refl
+
+-- a document is pushed
+pub shared_pushed : (ds : List (Rc Compiled Global)) (d : Rc Compiled Global) → shared_documents (ds ++ d ∷ []) ≡ shared_documents ds ++ compiled_document d.value ∷ []
+unfolding shared_documents
+shared_pushed ds d = map-append (λ (x : Rc Compiled Global). compiled_document x.value) ds (d ∷ [])

@@ -3,3 +3,4 @@ pub mod LinkedDocuments
 pub mod Sources
 pub mod ListedDocuments
 pub mod Positions
+pub mod Visits

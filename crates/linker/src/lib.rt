@@ -7,6 +7,7 @@ mod linked;
 mod list_source;
 mod placing;
 mod source;
+mod visiting;
 
 pub use contents::{asked, reached, value_of};
 pub use faults::Fault;

@@ -4,3 +4,5 @@ pub mod Positions
 pub mod Adding
 pub mod Tables
 pub mod Visits
+pub mod Least
+pub mod Judged

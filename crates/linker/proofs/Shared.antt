@@ -1,5 +1,5 @@
 -- Lists of shared documents.
-use Rattle.std.proofs.Common.{◌≡◌, ℕ, ◌+◌, ◌<◌, ◌++◌, take, length, get_or, Bool, true, false, cond, List, [], ◌∷◌, Option, Some, None, map, find, option_map, sym, refl, ap, ◌∙◌}
+use Rattle.std.proofs.Common.{◌≡◌, ℕ, ◌+◌, ◌<◌, ◌++◌, take, length, get_or, Bool, true, false, cond, List, [], ◌∷◌, Option, Some, None, map, find, option_map, sym, refl, ap, ◌∙◌, arith}
 use Rattle.std.proofs.lemmas.List.{take_more, map-append}
 use Rattle.std.specs.Borrow.{Bor}
 use Rattle.std.specs.Global.{Global}
@@ -47,3 +47,8 @@ shared_none = refl
 pub shared_pushed : (ds : List (Rc Compiled Global)) (d : Rc Compiled Global) → shared_documents (ds ++ d ∷ []) ≡ shared_documents ds ++ compiled_document d.value ∷ []
 unfolding shared_documents
 shared_pushed ds d = map-append (λ (x : Rc Compiled Global). compiled_document x.value) ds (d ∷ [])
+
+pub shared_empty : (ds : List (Rc Compiled Global)) → length ds ≡ 0 → shared_documents ds ≡ []
+unfolding shared_documents
+shared_empty [] e = refl
+shared_empty (d ∷ ds) e = absurd (omega (arith, e))

@@ -220,3 +220,7 @@ no_more reached all ascend part =
         (ap is_some (some_found (λ (x : Document). same_text d.canonical x.canonical) d reached c ((bytes_decides d.canonical d.canonical).1 refl)).1))
         (λ d c. let kept = from_filter (λ e. is_some (document_of reached e.canonical)) d all c in found_itself reached all d ascend part kept.0 kept.1) in
     omega (arith, ap length same, filter_short (λ d. is_some (document_of reached d.canonical)) all)
+
+pub none_part : (all : List Document) → IsPart [] all
+unfolding IsStrictlySortedBy
+none_part all = record { ascend = tt; inside = λ d c. absurd (nothing_in d c) }

@@ -4,3 +4,4 @@ pub mod Sources
 pub mod ListedDocuments
 pub mod Positions
 pub mod Visits
+pub mod Missing

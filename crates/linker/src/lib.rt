@@ -3,6 +3,7 @@
 
 mod contents;
 mod holders;
+mod judging;
 mod linked;
 mod list_source;
 mod placing;

@@ -1,7 +1,7 @@
 //! The documents that a resource reaches (JSON Schema 2020-12 Core, sections 8.2.3 and 9.2).
 
 ghost use Rattle.std.specs.Prelude.{◌≡◌, IfErr, IfOk, OnOk};
-ghost use Rattle.definitions.specs.Reach.{holds_resource, refers_to};
+ghost use Rattle.definitions.specs.Reach.{holds_resource, reach, refers_to};
 ghost use Rattle.schema_scan.specs.CompiledDocuments.{compiled_document};
 ghost use Rattle.linker.specs.SharedDocuments.{shared_documents};
 ghost use Rattle.linker.specs.Sources.{Ascend, AreSound};
@@ -14,6 +14,26 @@ use schema_scan::Compiled;
 use std::alloc::{AllocError, Global};
 use std::rc::Rc;
 use uri_ref::without_fragment;
+
+// The documents that the resource reaches, in byte order of their canonical URIs: none where no document has it.
+pub(crate) fn reached_documents<S: Source>(
+    alloc: Global,
+    source: &mut S,
+    resource: &str,
+) -> Result<Vec<Rc<Compiled>>, Fault>
+    ensures ok { IfOk result (λ ds. shared_documents ds.items ≡ reach (S.documents source.old) resource.now) }
+    ensures sound { OnOk result (AreSound (S.documents source.old)) }
+    ensures err { IfErr result (λ f. f ≡ Fault.NoRoom) }
+    ensures same { S.documents source.new ≡ S.documents source.old }
+{
+    let mut reached = Vec::new(alloc);
+    let mut waiting = Vec::new(alloc);
+    visit(alloc, source, resource, &mut reached, &mut waiting)?;
+    while let Some(document) = waiting.pop() {
+        follow(alloc, source, &document, &mut reached, &mut waiting)?;
+    }
+    Ok(reached)
+}
 
 // Follows the references of a document: each is looked up in the source once.
 fn follow<S: Source>(

@@ -6,3 +6,4 @@ pub mod Tables
 pub mod Visits
 pub mod Least
 pub mod Judged
+pub mod LinkFaults

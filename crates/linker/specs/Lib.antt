@@ -5,3 +5,4 @@ pub mod ListedDocuments
 pub mod Positions
 pub mod Visits
 pub mod Missing
+pub mod LinkFaults

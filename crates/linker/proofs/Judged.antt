@@ -1,5 +1,5 @@
 -- References with a target and without, among documents with distinct resource URIs.
-use Rattle.std.proofs.Common.{◌≡◌, List, [], ◌∷◌, ◌++◌, Option, Some, None, Bool, true, false, cond, is_some, is_none, filter, flat_map, Result, Ok, Err, Contains, find, sym, refl, ap, ◌∙◌, append_assoc, append-nil}
+use Rattle.std.proofs.Common.{◌≡◌, List, [], ◌∷◌, ◌++◌, Option, Some, None, false, cond, is_some, is_none, filter, flat_map, Result, Ok, Err, Contains, find, sym, refl, ap, ◌∙◌, append_assoc, append-nil}
 use Rattle.std.proofs.lemmas.List.Elements.{filter-append}
 use Rattle.definitions.specs.Values.{Text, has_repeat, same_text}
 use Rattle.definitions.specs.Faults.{Fault}
@@ -8,7 +8,7 @@ use Rattle.definitions.specs.Uris.{without_fragment}
 use Rattle.definitions.specs.Schemas.{Schema, Document, schemas_of, table_of}
 use Rattle.definitions.specs.Scanning.{resource_uris}
 use Rattle.definitions.specs.Targets.{target, target_in, fragment_of}
-use Rattle.definitions.specs.Reach.{holds_resource, references_in, least, lesser, missing}
+use Rattle.definitions.specs.Reach.{holds_resource, references_in, least, lesser}
 use Rattle.linker.specs.Missing.{missing_in}
 use Rattle.linker.proofs.Least.{least_more}
 use Rattle.linker.proofs.Tables.{IsHolder, found_holder, no_holder, target_in_holder, target_nowhere}

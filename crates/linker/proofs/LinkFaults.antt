@@ -3,11 +3,11 @@ use Rattle.std.proofs.Common.{◌≡◌, List, [], ◌∷◌, length, Option, So
 use Rattle.std.proofs.lemmas.Bool.{false_from_ne_true}
 use Rattle.std.specs.List.{list_any}
 use Rattle.definitions.specs.Values.{Text, has_repeat, same_text}
-use Rattle.definitions.specs.Faults.{Fault, unresolved, not_found}
+use Rattle.definitions.specs.Faults.{unresolved, not_found}
 use Rattle.definitions.specs.Schemas.{Document, table_of}
 use Rattle.definitions.specs.Scanning.{resource_uris}
 use Rattle.definitions.specs.Targets.{resource_root}
-use Rattle.definitions.specs.Reach.{IsReached, holds, holds_resource, reach, least, missing}
+use Rattle.definitions.specs.Reach.{holds, holds_resource, reach, least, missing}
 use Rattle.definition_laws.proofs.LeastTexts.{no_least}
 use Rattle.definition_laws.proofs.Membership.{any_where}
 use Rattle.definition_laws.proofs.Repeats.{none_of}

@@ -1,5 +1,5 @@
 -- A visit of documents reaches the least set that is closed under references.
-use Rattle.std.proofs.Common.{◌≡◌, ◌≢◌, ℕ, ◌+◌, ◌≤◌, ◌++◌, ◌⊎◌, ◌||◌, List, [], ◌∷◌, map, length, filter, Bool, true, false, Option, Some, None, is_some, Contains, Ordering, Less, Equal, Greater, sym, refl, ap, ◌∙◌, subst, inl, inr, true≢false, arith, find, length-append}
+use Rattle.std.proofs.Common.{◌≡◌, ◌≢◌, ◌+◌, ◌≤◌, ◌++◌, ◌⊎◌, ◌||◌, List, [], ◌∷◌, length, filter, Bool, true, false, Option, Some, None, is_some, Contains, Ordering, Less, Equal, Greater, sym, refl, ap, ◌∙◌, subst, inl, inr, true≢false, arith, find, length-append}
 use Rattle.std.proofs.lemmas.Bool.{or_cases, or_left, or_right}
 use Rattle.std.proofs.lemmas.Cmp.{nat_list_cmp_total}
 use Rattle.std.proofs.lemmas.List.Elements.{Contains-append_left, Contains-append_right, Contains-append_cases}
@@ -214,11 +214,11 @@ finished all uri reached ascend visit =
 pub no_more : (reached all : List Document) → Ascend all → IsPart reached all → length reached ≤ length all
 no_more reached all ascend part =
     let same : reached ≡ filter (λ d. is_some (document_of reached d.canonical)) all =
-        same_ascending (slice_cmp nat_cmp) nat_list_cmp_total key_of reached (filter (λ d. is_some (document_of reached d.canonical)) all) part.ascend
-        (kept_ascending (slice_cmp nat_cmp) key_of (λ d. is_some (document_of reached d.canonical)) all ascend)
-        (λ d c. in_filter (λ e. is_some (document_of reached e.canonical)) d all (part.inside d c)
-        (ap is_some (some_found (λ (x : Document). same_text d.canonical x.canonical) d reached c ((bytes_decides d.canonical d.canonical).1 refl)).1))
-        (λ d c. let kept = from_filter (λ e. is_some (document_of reached e.canonical)) d all c in found_itself reached all d ascend part kept.0 kept.1) in
+    same_ascending (slice_cmp nat_cmp) nat_list_cmp_total key_of reached (filter (λ d. is_some (document_of reached d.canonical)) all) part.ascend
+    (kept_ascending (slice_cmp nat_cmp) key_of (λ d. is_some (document_of reached d.canonical)) all ascend)
+    (λ d c. in_filter (λ e. is_some (document_of reached e.canonical)) d all (part.inside d c)
+    (ap is_some (some_found (λ (x : Document). same_text d.canonical x.canonical) d reached c ((bytes_decides d.canonical d.canonical).1 refl)).1))
+    (λ d c. let kept = from_filter (λ e. is_some (document_of reached e.canonical)) d all c in found_itself reached all d ascend part kept.0 kept.1) in
     omega (arith, ap length same, filter_short (λ d. is_some (document_of reached d.canonical)) all)
 
 pub none_part : (all : List Document) → IsPart [] all

@@ -17,3 +17,6 @@ pub use linked::Linked;
 pub use linking::link;
 pub use list_source::ListSource;
 pub use source::Source;
+
+#[cfg(test)]
+mod tests;

@@ -64,11 +64,7 @@ impl Source for ListSource {
 
     ghost documents = { listed_documents };
 
-    fn holding(
-        &mut self,
-        alloc: Global,
-        resource: &str,
-    ) -> Result<Option<Rc<Compiled>>, Fault> {
+    fn holding(&mut self, alloc: Global, resource: &str) -> Result<Option<Rc<Compiled>>, Fault> {
         match holder(&self.documents, resource) {
             Some(document) => Ok(Some(document.clone()?)),
             None => Ok(None),

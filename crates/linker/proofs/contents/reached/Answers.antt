@@ -1,4 +1,4 @@
-use Rattle.std.proofs.Common.{◌≡◌, IfOk, Result, Ok, Err, Vec, String, List, map, string_bytes, ap, sym, ◌∙◌, subst}
+use Rattle.std.proofs.Common.{◌≡◌, IfOk, Result, Ok, Err, Vec, String, List, map, string_bytes, sym, subst}
 use Rattle.std.specs.Cmp.Lexicographic.{slice_cmp}
 use Rattle.std.specs.Global.{Global}
 use Rattle.std.specs.List.Sorted.{IsStrictlySortedBy}

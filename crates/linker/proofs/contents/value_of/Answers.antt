@@ -1,5 +1,4 @@
-use Rattle.std.proofs.Common.{◌≡◌, Some, option_map, ap, sym, ◌∙◌, subst, arith}
-use Rattle.definitions.specs.Bundles.{document_of}
+use Rattle.std.proofs.Common.{Some, option_map, ap, sym, ◌∙◌, subst, arith}
 use Rattle.schema_scan.specs.CompiledDocuments.{compiled_value}
 use Rattle.linker.specs.LinkedDocuments.{linked_documents}
 use Rattle.linker.specs.Positions.{StandsAt, IsGap}

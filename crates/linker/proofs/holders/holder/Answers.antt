@@ -15,6 +15,6 @@ unfolding shared_documents
 returns c =
     let items : List (Rc Compiled Global) = c.iter.result.rest.now in
     let found : option_map (λ d. d.now) c.find.result ≡ find (λ (d : Rc Compiled Global). holds_resource c.args.uri.now (compiled_document d.value)) items =
-        find_from_yields_List (λ (d : Rc Compiled Global). holds_resource c.args.uri.now (compiled_document d.value)) _ _ c.find.result c.find.ensures.ran (YieldsList-from_slice items refl) (λ x b q k. search (rules, tests)) in
+    find_from_yields_List (λ (d : Rc Compiled Global). holds_resource c.args.uri.now (compiled_document d.value)) _ _ c.find.result c.find.ensures.ran (YieldsList-from_slice items refl) (λ x b q k. search (rules, tests)) in
     found_image (holds_resource c.args.uri.now) (λ (d : Rc Compiled Global). compiled_document d.value) items c.find.result found
     ∙ ap (λ ds. find (holds_resource c.args.uri.now) (map (λ (d : Rc Compiled Global). compiled_document d.value) ds)) c.iter.ensures.rest

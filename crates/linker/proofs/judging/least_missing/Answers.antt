@@ -1,4 +1,4 @@
-use Rattle.std.proofs.Common.{◌≡◌, ◌++◌, flat_map, take, ap, refl, sym, ◌∙◌}
+use Rattle.std.proofs.Common.{◌++◌, flat_map, take, ap, refl, sym, ◌∙◌}
 use Rattle.std.proofs.lemmas.List.{take_all}
 use Rattle.definitions.specs.Reach.{least}
 use Rattle.schema_scan.specs.CompiledDocuments.{compiled_document}

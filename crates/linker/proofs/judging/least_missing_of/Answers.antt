@@ -29,6 +29,6 @@ returns-clause-ok c = λ before e.
     let table = table_of (shared_documents c.args.documents.now) in
     let items : List (String Global) = c.references-reference-items.result.now in
     let whole : map string_bytes (take c.loop-reference.reference-index items) ≡ references_in (compiled_document c.args.document.now) =
-        ap (map string_bytes) (take_all c.loop-reference.reference-index items c.loop-reference-test.false) ∙ c.references-reference-items.ensures in
+    ap (map string_bytes) (take_all c.loop-reference.reference-index items c.loop-reference-test.false) ∙ c.references-reference-items.ensures in
     c.loop-reference.invariant before e
     ∙ ap (λ rs. least (before ++ filter (λ r. is_none (target table r)) rs)) whole

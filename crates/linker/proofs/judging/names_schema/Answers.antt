@@ -1,4 +1,4 @@
-use Rattle.std.proofs.Common.{◌≡◌, Some, None, Option, IfOk, Result, Bool, is_some, find, ap, sym, ◌∙◌, subst}
+use Rattle.std.proofs.Common.{◌≡◌, Some, Option, IfOk, Result, Bool, is_some, find, ap, sym, ◌∙◌, subst}
 use Rattle.definitions.specs.Fragments.{fragment_kind}
 use Rattle.definitions.specs.Reach.{holds_resource}
 use Rattle.definitions.specs.Schemas.{Schema}
@@ -18,7 +18,7 @@ returns-in-Some-clause-ok c =
     let reference = c.args.reference.now in
     let document = c.in-Some.document.now.value in
     let found : find (holds_resource (without_fragment reference)) ds ≡ Some (compiled_document document) =
-        ap (λ u. find (holds_resource u) ds) (sym c.without_fragment-uri.ensures) ∙ sym c.in-Some.ensures in
+    ap (λ u. find (holds_resource u) ds) (sym c.without_fragment-uri.ensures) ∙ sym c.in-Some.ensures in
     carried c.names_in.result _ _
     (ap (λ f. target_in (compiled_schemas c.deref.result.now) c.without_fragment-uri.result.now (fragment_kind f)) (c.fragment.ensures ∙ ap (λ p. p.fragment) c.split.ensures.parts)
     ∙ ap (λ d. target_in (compiled_schemas d) c.without_fragment-uri.result.now (fragment_of reference)) c.deref.ensures

@@ -1,4 +1,4 @@
-use Rattle.std.proofs.Common.{◌≡◌, false, None, string_bytes, ap, sym, ◌∙◌, subst}
+use Rattle.std.proofs.Common.{◌≡◌, None, string_bytes, ap, sym, ◌∙◌, subst}
 use Rattle.definitions.specs.Scanning.{resource_uris}
 use Rattle.definitions.specs.Schemas.{table_of}
 use Rattle.definitions.specs.Values.{has_repeat, same_text}
@@ -17,9 +17,9 @@ pub invariant_of-result : goal.invariant_of-result
 invariant_of-result g c =
     let ds = shared_documents c.in_ok-documents.documents.items in
     let linked : IsLinked ds (string_bytes c.in_ok-uri.uri) =
-        subst (IsLinked ds) (sym c.in_ok-uri.ensures.ok)
-        (is_linked (g.S.Source.documents c.args.source.now) ds c.args.resource.now c.in_ok-documents.ensures.sound c.in_ok-documents.ensures.ok
-        (subst (λ xs. link_fault (shared_documents xs) ≡ None) c.deref.ensures.value c.in_ok-judge.ensures.ok)) in
+    subst (IsLinked ds) (sym c.in_ok-uri.ensures.ok)
+    (is_linked (g.S.Source.documents c.args.source.now) ds c.args.resource.now c.in_ok-documents.ensures.sound c.in_ok-documents.ensures.ok
+    (subst (λ xs. link_fault (shared_documents xs) ≡ None) c.deref.ensures.value c.in_ok-judge.ensures.ok)) in
     record { ascend = linked.ascend; distinct = linked.distinct; whole = linked.whole; asked = linked.asked }
 
 pub returns-clause-uri : goal.returns-clause-uri

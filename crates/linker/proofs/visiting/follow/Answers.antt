@@ -1,4 +1,4 @@
-use Rattle.std.proofs.Common.{◌≡◌, ℕ, ◌+◌, ◌<◌, ◌≤◌, length, get_or, ◌||◌, ◌++◌, ◌∷◌, [], List, String, Bool, true, false, map, take, string_bytes, ap, refl, sym, ◌∙◌, subst, arith}
+use Rattle.std.proofs.Common.{◌≡◌, ℕ, ◌+◌, ◌<◌, length, get_or, ◌||◌, ◌∷◌, [], List, String, Bool, true, false, map, take, string_bytes, ap, refl, sym, ◌∙◌, subst}
 use Rattle.std.proofs.lemmas.List.Folds.{list_any-append}
 use Rattle.std.proofs.lemmas.List.{take_all}
 use Rattle.std.specs.Global.{Global}
@@ -40,9 +40,9 @@ pub loop-reference-preserved : goal.loop-reference-preserved
 loop-reference-preserved g c =
     let all = g.S.Source.documents c.args.source.now in
     let step : Adds all (holds_resource c.without_fragment.result.now) (shared_documents c.loop-reference.reached.items) (shared_documents c.loop-reference.waiting.items)
-            (shared_documents c.visit.new.reached.items) (shared_documents c.visit.new.waiting.items) =
-        subst (λ ds. Adds ds (holds_resource c.without_fragment.result.now) (shared_documents c.loop-reference.reached.items) (shared_documents c.loop-reference.waiting.items)
-            (shared_documents c.visit.new.reached.items) (shared_documents c.visit.new.waiting.items)) c.loop-reference.invariant.same c.in_ok-visit.ensures.ok in
+    (shared_documents c.visit.new.reached.items) (shared_documents c.visit.new.waiting.items) =
+    subst (λ ds. Adds ds (holds_resource c.without_fragment.result.now) (shared_documents c.loop-reference.reached.items) (shared_documents c.loop-reference.waiting.items)
+    (shared_documents c.visit.new.reached.items) (shared_documents c.visit.new.waiting.items)) c.loop-reference.invariant.same c.in_ok-visit.ensures.ok in
     record {
       same = c.in_ok-visit.ensures.same ∙ c.loop-reference.invariant.same;
       adds = adds_then all _ _ _ _ _ _ _ _ _ c.loop-reference.invariant.adds step
@@ -54,6 +54,6 @@ pub returns-clause-ok : goal.returns-clause-ok
 returns-clause-ok g c =
     let items : List (String Global) = c.references-reference-items.result.now in
     let whole : map string_bytes (take c.loop-reference.reference-index items) ≡ references_in (compiled_document c.args.document.now) =
-        ap (map string_bytes) (take_all c.loop-reference.reference-index items c.loop-reference-test.false) ∙ c.references-reference-items.ensures in
+    ap (map string_bytes) (take_all c.loop-reference.reference-index items c.loop-reference-test.false) ∙ c.references-reference-items.ensures in
     subst (λ rs. Adds (g.S.Source.documents c.args.source.now) (named_by rs) (shared_documents c.args.reached.now.items) (shared_documents c.args.waiting.now.items)
-        (shared_documents c.loop-reference.reached.items) (shared_documents c.loop-reference.waiting.items)) whole c.loop-reference.invariant.adds
+    (shared_documents c.loop-reference.reached.items) (shared_documents c.loop-reference.waiting.items)) whole c.loop-reference.invariant.adds

@@ -3,8 +3,7 @@ use Rattle.std.specs.List.{list_any}
 use Rattle.definitions.specs.Uris.{without_fragment}
 use Rattle.definitions.specs.Reach.{holds_resource}
 use Rattle.linker.specs.SharedDocuments.{shared_documents}
-use Rattle.linker.specs.Sources.{AreSound}
-use Rattle.linker.specs.Visits.{Adds, IsPart}
+use Rattle.linker.specs.Visits.{Adds}
 use Rattle.linker.proofs.visiting.follow.Given as goal
 
 abbrev pub invariant-loop-reference : goal.invariant-loop-reference

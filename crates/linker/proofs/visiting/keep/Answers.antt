@@ -1,4 +1,4 @@
-use Rattle.std.proofs.Common.{◌≡◌, ◌++◌, ◌∷◌, [], Bool, true, false, cond, Option, Some, None, is_some, is_none, inr, ap, sym, refl, ◌∙◌, true≢false}
+use Rattle.std.proofs.Common.{◌≡◌, ◌++◌, ◌∷◌, [], true, false, cond, Option, Some, None, is_some, is_none, inr, ap, sym, refl, ◌∙◌, true≢false}
 use Rattle.definitions.specs.Registries.{placed}
 use Rattle.schema_scan.specs.CompiledDocuments.{compiled_document}
 use Rattle.schema_scan.specs.declared.compiled.Compiled.{Compiled}
@@ -14,7 +14,9 @@ pub returns-in_ok-push : goal.returns-in_ok-push
 returns-in_ok-push c =
     let put = c.in_ok-place.ensures.put in
     let same = c.in_ok-again.ensures.cases in
-    inr (nothing _ (sym c.in_ok-place.ensures.absent ∙ c.if-branch.true),
+    inr (
+      nothing _ (sym c.in_ok-place.ensures.absent ∙ c.if-branch.true),
       (put ∙ ap (λ b. cond b (placed (compiled_document c.args.document.value) (shared_documents c.args.reached.now.items)) (shared_documents c.args.reached.now.items)) c.if-branch.true),
       ap shared_documents c.in_ok-push.ensures.items ∙ shared_pushed c.args.waiting.now.items c.in_ok-again.again
-      ∙ ap (λ (d : Compiled). shared_documents c.args.waiting.now.items ++ compiled_document d ∷ []) same)
+          ∙ ap (λ (d : Compiled). shared_documents c.args.waiting.now.items ++ compiled_document d ∷ []) same,
+    )

@@ -1,4 +1,4 @@
-use Rattle.std.proofs.Common.{◌≡◌, Some, None, IsTrue, find, ap, sym, ◌∙◌, subst}
+use Rattle.std.proofs.Common.{ap, sym, ◌∙◌, subst}
 use Rattle.std.specs.Option.{option_map}
 use Rattle.definitions.specs.Reach.{holds_resource}
 use Rattle.schema_scan.specs.CompiledDocuments.{compiled_document}

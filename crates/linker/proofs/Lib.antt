@@ -4,3 +4,11 @@ pub mod FirstHolders
 pub mod CutTexts
 pub mod Patterns
 pub mod NamedSchemas
+pub mod Shared
+pub mod Sound
+pub mod Positions
+pub mod Adding
+pub mod Visits
+pub mod Least
+pub mod Judged
+pub mod LinkFaults

@@ -2,3 +2,9 @@ pub mod SharedDocuments
 pub mod DocumentPatterns
 pub mod LinkedDocuments
 pub mod AbsoluteReferences
+pub mod Sources
+pub mod ListedDocuments
+pub mod Positions
+pub mod Visits
+pub mod Missing
+pub mod LinkFaults

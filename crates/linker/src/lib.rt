@@ -1,9 +1,24 @@
 //! Links a resource with all documents that it refers to (JSON Schema 2020-12 Core, sections 8.2.3 and 9.2).
 #![tactic(auto)]
 
+mod contents;
+mod holders;
+mod judging;
 mod linked;
 mod lookups;
 mod references;
+mod linking;
+mod list_source;
+mod placing;
+mod source;
+mod visiting;
 
+pub use contents::{asked, reached, value_of};
 pub use faults::Fault;
 pub use linked::Linked;
+pub use linking::link;
+pub use list_source::ListSource;
+pub use source::Source;
+
+#[cfg(test)]
+mod tests;

@@ -7,6 +7,8 @@ ghost use Rattle.definitions.specs.Scanning.{resource_uris};
 ghost use Rattle.definitions.specs.Schemas.{table_of};
 ghost use Rattle.definitions.specs.Targets.{resource_root};
 ghost use Rattle.linker.specs.SharedDocuments.{shared_documents};
+ghost use Rattle.std.specs.List.Sorted.{IsStrictlySortedBy-prop};
+ghost use Rattle.linker.specs.Sources.{Ascend};
 
 use schema_scan::Compiled;
 use std::rc::Rc;
@@ -19,6 +21,7 @@ pub struct Linked {
     pub(crate) uri: String,
     // In byte order of canonical URIs.
     pub(crate) documents: Vec<Rc<Compiled>>,
+    ghost ascend: { Ascend (shared_documents documents.items) } by { IsStrictlySortedBy-prop _ _ },
     ghost distinct: { has_repeat same_text (resource_uris (table_of (shared_documents documents.items))) ≡ false },
     ghost whole: { missing (shared_documents documents.items) ≡ [] },
     ghost asked: { is_some (resource_root (table_of (shared_documents documents.items)) (string_bytes uri)) ≡ true },

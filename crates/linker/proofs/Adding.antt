@@ -1,0 +1,121 @@
+-- A document that is put among others with which it shares no resource.
+use Rattle.std.proofs.Common.{◌≡◌, Bool, true, false, ◌||◌, cond, not, List, [], ◌∷◌, map, find, is_some, is_none, Option, Some, None, option_map, Result, Ok, Err, IfOk, OnErr, ◌⊎◌, Contains, Ordering, Less, Equal, Greater, ℕ, suc, zero, sym, refl, ap, ◌∙◌, subst, inl, inr, true≢false}
+use Rattle.std.proofs.lemmas.Bool.{and_from, and_parts}
+use Rattle.std.proofs.lemmas.Cmp.{nat_list_cmp_total}
+use Rattle.std.specs.Cmp.Lexicographic.{slice_cmp, bytes_decides}
+use Rattle.std.specs.List.{list_any, list_all, insert}
+use Rattle.std.specs.Ordering.{nat_cmp, match_ordering}
+use Rattle.definitions.specs.Values.{Text, has_repeat, same_text}
+use Rattle.definitions.specs.Schemas.{Document, document_from, schemas_of}
+use Rattle.definitions.specs.Scanning.{scan_fault, scan_faults}
+use Rattle.definitions.specs.Reach.{holds_resource}
+use Rattle.definitions.specs.Bundles.{document_of}
+use Rattle.definitions.specs.Registries.{placed, resources_of}
+use Rattle.definitions.specs.Runs.{resource_uris_of}
+use Rattle.definition_laws.proofs.AcceptedDocuments.{first_none, scanned}
+use Rattle.definition_laws.proofs.Membership.{any_at}
+use Rattle.definition_laws.proofs.PlacedDocuments.{key_of, as_inserted}
+use Rattle.definition_laws.proofs.Placing.{ascending, distinct}
+use Rattle.definition_laws.proofs.Repeats.{none_of}
+use Rattle.definition_laws.proofs.Resources.{apart_from_held, same_text-unlike, root_opens}
+use Rattle.definition_laws.proofs.StoredDocuments.{holds_itself}
+use Rattle.linker.proofs.Positions.{found_there}
+use Rattle.linker.specs.Sources.{Ascend, is_faultless, shares_resource}
+
+-- ---- tests of images
+found_at : {X : Type 0} (p : X → Bool) (x : X) (xs : List X) (b : Bool) → is_some (find p xs) ≡ list_any p xs → is_some (cond b (Some x) (find p xs)) ≡ (b || list_any p xs)
+found_at p x xs true e = refl
+found_at p x xs false e = e
+
+pub is_some-find : {X : Type 0} (p : X → Bool) (xs : List X) → is_some (find p xs) ≡ list_any p xs
+is_some-find p [] = refl
+is_some-find p (x ∷ xs) = found_at p x xs (p x) (is_some-find p xs)
+
+pub is_some-map : {X Y : Type 0} (f : X → Y) (o : Option X) → is_some (option_map f o) ≡ is_some o
+is_some-map f None = refl
+is_some-map f (Some x) = refl
+
+pub any-map : {X Y : Type 0} (p : Y → Bool) (f : X → Y) (xs : List X) → list_any p (map f xs) ≡ list_any (λ x. p (f x)) xs
+any-map p f [] = refl
+any-map p f (x ∷ xs) = ap (λ b. p (f x) || b) (any-map p f xs)
+
+-- ---- an element that is put in
+pub insert-map : {X Y : Type 0} (f : X → Y) (xs : List X) (at : ℕ) (x : X) → map f (insert xs at x) ≡ insert (map f xs) at (f x)
+insert-map f xs zero x = refl
+insert-map f [] (suc at) x = refl
+insert-map f (y ∷ ys) (suc at) x = ap (λ zs. f y ∷ zs) (insert-map f ys at x)
+
+all_placed_at : (p : Document → Bool) (d e : Document) (es : List Document) (o : Ordering) → p d ≡ true → p e ≡ true → list_all p es ≡ true → list_all p (placed d es) ≡ true
+    → list_all p (match_ordering o (d ∷ e ∷ es) (d ∷ es) (e ∷ placed d es)) ≡ true
+all_placed_at p d e es Less here there rest more = and_from (p d) (list_all p (e ∷ es)) here (and_from (p e) (list_all p es) there rest)
+all_placed_at p d e es Equal here there rest more = and_from (p d) (list_all p es) here rest
+all_placed_at p d e es Greater here there rest more = and_from (p e) (list_all p (placed d es)) there more
+
+all_placed : (p : Document → Bool) (d : Document) (ds : List Document) → p d ≡ true → list_all p ds ≡ true → list_all p (placed d ds) ≡ true
+all_placed p d [] here rest = and_from (p d) true here refl
+all_placed p d (e ∷ es) here rest =
+    let parts = and_parts (p e) (list_all p es) rest in
+    all_placed_at p d e es (slice_cmp nat_cmp d.canonical e.canonical) here parts.0 parts.1 (all_placed p d es here parts.1)
+
+unshared : (ds : List Document) (d e : Document) → shares_resource ds d ≡ false → Contains ds e → (u : Text) → Contains (resources_of d) u → holds_resource u e ≡ false
+unfolding shares_resource
+unshared ds d e none c u own =
+    none_of (holds_resource u) e ds (none_of (λ v. list_any (holds_resource v) ds) u (resources_of d) none own) c
+
+pub record IsSoundWith (d : Document) (ds : List Document) : Type 0 where
+  pub ascend : Ascend (placed d ds)
+  pub distinct : has_repeat same_text (resource_uris_of (placed d ds)) ≡ false
+  pub faultless : list_all is_faultless (placed d ds) ≡ true
+
+pub added : (ds : List Document) (d : Document) → Ascend ds → has_repeat same_text (resource_uris_of ds) ≡ false → list_all is_faultless ds ≡ true
+    → scan_fault d.base d.value ≡ None → shares_resource ds d ≡ false → IsSoundWith d ds
+added ds d ascend apart faultless fine free = record {
+  ascend = subst Ascend (as_inserted d ds) (ascending (slice_cmp nat_cmp) nat_list_cmp_total key_of d ds ascend);
+  distinct = subst (λ es. has_repeat same_text (resource_uris_of es) ≡ false) (as_inserted d ds)
+      (distinct (slice_cmp nat_cmp) nat_list_cmp_total key_of same_text same_text-unlike resources_of d ds ascend
+      (scanned d (first_none (scan_faults d.base d.value) fine)).uris apart
+      (λ e c other. apart_from_held d e (unshared ds d e free c)));
+  faultless = all_placed is_faultless d ds (ap is_none fine) faultless;
+}
+
+-- the document's own canonical URI is that of one of its resources
+pub shares_its_own : (ds : List Document) (d e : Document) → holds_resource d.canonical d ≡ true → holds_resource e.canonical e ≡ true → Contains ds e → e.canonical ≡ d.canonical
+    → shares_resource ds d ≡ true
+unfolding shares_resource
+shares_its_own ds d e own holds c same =
+    any_at (λ u. list_any (holds_resource u) ds) d.canonical (resources_of d) (root_opens (schemas_of d.base d.value) d.canonical own)
+    (any_at (holds_resource d.canonical) e ds c (subst (λ u. holds_resource u e ≡ true) same holds))
+
+pub kept_or_put : {E : Type 0} (r : Result Bool E) (old new : List Document) (d : Document) → IfOk r (λ put. new ≡ cond put (placed d old) old) → OnErr r (new ≡ old)
+    → (new ≡ old) ⊎ (new ≡ placed d old)
+kept_or_put (Ok true) old new d put kept = inr put
+kept_or_put (Ok false) old new d put kept = inl put
+kept_or_put (Err e) old new d put kept = inl kept
+
+-- what a list of documents keeps
+pub record IsSoundList (ds : List Document) : Type 0 where
+  pub ascend : Ascend ds
+  pub distinct : has_repeat same_text (resource_uris_of ds) ≡ false
+  pub faultless : list_all is_faultless ds ≡ true
+
+pub sound_after : (old new : List Document) (d : Document) → IsSoundList old → scan_fault d.base d.value ≡ None → shares_resource old d ≡ false → (new ≡ old) ⊎ (new ≡ placed d old) → IsSoundList new
+sound_after old new d sound fine free way = elim way [
+  | inl same ↦ subst IsSoundList (sym same) sound
+  | inr put ↦
+      let with_it = added old d sound.ascend sound.distinct sound.faultless fine free in
+      subst IsSoundList (sym put) (record { ascend = with_it.ascend; distinct = with_it.distinct; faultless = with_it.faultless })
+]
+
+-- where no resource is shared, none has the canonical URI
+unfound_at : (ds : List Document) (d : Document) (o : Option Document) → document_of ds d.canonical ≡ o → ((e : Document) → Contains ds e → e ≡ document_from e.base e.value)
+    → holds_resource d.canonical d ≡ true → shares_resource ds d ≡ false → is_none o ≡ true
+unfound_at ds d None e made own free = refl
+unfound_at ds d (Some other) e made own free =
+    let found = found_there (λ (x : Document). same_text d.canonical x.canonical) ds other e in
+    absurd (true≢false (sym (shares_its_own ds d other own
+    (subst (λ (x : Document). holds_resource x.canonical x ≡ true) (sym (made other found.0)) (holds_itself other.base other.value))
+    found.0 (sym ((bytes_decides d.canonical other.canonical).0 found.1))) ∙ free))
+
+pub unfound : (ds : List Document) (d : Document) → ((e : Document) → Contains ds e → e ≡ document_from e.base e.value) → holds_resource d.canonical d ≡ true → shares_resource ds d ≡ false
+    → is_none (document_of ds d.canonical) ≡ not (shares_resource ds d)
+unfound ds d made own free = unfound_at ds d (document_of ds d.canonical) refl made own free ∙ ap not (sym free)

@@ -1,0 +1,16 @@
+use Rattle.std.proofs.Common.{ap, sym, ◌∙◌, is_some, Bor}
+use Rattle.std.specs.Global.{Global}
+use Rattle.std.specs.declared.rc.Rc.{Rc}
+use Rattle.definitions.specs.Reach.{holds_resource}
+use Rattle.schema_scan.specs.CompiledDocuments.{compiled_document}
+use Rattle.schema_scan.specs.declared.compiled.Compiled.{Compiled}
+use Rattle.linker.specs.SharedDocuments.{shared_documents}
+use Rattle.linker.proofs.Adding.{is_some-find, is_some-map}
+use Rattle.linker.proofs.holders.is_held.Goals as goal
+
+pub returns : goal.returns
+returns c =
+    c.is_some.ensures
+    ∙ sym (is_some-map (λ (d : Bor (Rc Compiled Global)). compiled_document d.now.value) c.holder.result)
+    ∙ ap is_some c.holder.ensures
+    ∙ is_some-find (holds_resource c.args.uri.now) (shared_documents c.args.documents.now)

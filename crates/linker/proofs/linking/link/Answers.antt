@@ -1,0 +1,31 @@
+use Rattle.std.proofs.Common.{◌≡◌, None, string_bytes, ap, sym, ◌∙◌, subst}
+use Rattle.definitions.specs.Scanning.{resource_uris}
+use Rattle.definitions.specs.Schemas.{table_of}
+use Rattle.definitions.specs.Values.{has_repeat, same_text}
+use Rattle.linker.specs.LinkFaults.{link_fault}
+use Rattle.linker.specs.LinkedDocuments.{linked_uri, linked_documents}
+use Rattle.linker.specs.SharedDocuments.{shared_documents}
+use Rattle.linker.proofs.LinkFaults.{IsLinked, is_linked, reached_table}
+use Rattle.linker.proofs.linking.link.Goals as goal
+
+pub judge-requires : goal.judge-requires
+judge-requires g c =
+    ap (λ ds. has_repeat same_text (resource_uris (table_of ds))) (ap shared_documents c.deref.ensures.value ∙ c.in_ok-documents.ensures.ok)
+    ∙ reached_table (g.S.Source.documents c.args.source.now) c.args.resource.now c.in_ok-documents.ensures.sound
+
+pub invariant_of-result : goal.invariant_of-result
+invariant_of-result g c =
+    let ds = shared_documents c.in_ok-documents.documents.items in
+    let linked : IsLinked ds (string_bytes c.in_ok-uri.uri) =
+    subst (IsLinked ds) (sym c.in_ok-uri.ensures.ok)
+    (is_linked (g.S.Source.documents c.args.source.now) ds c.args.resource.now c.in_ok-documents.ensures.sound c.in_ok-documents.ensures.ok
+    (subst (λ xs. link_fault (shared_documents xs) ≡ None) c.deref.ensures.value c.in_ok-judge.ensures.ok)) in
+    record { ascend = linked.ascend; distinct = linked.distinct; whole = linked.whole; asked = linked.asked }
+
+pub returns-clause-uri : goal.returns-clause-uri
+unfolding linked_uri
+returns-clause-uri g c = c.in_ok-uri.ensures.ok
+
+pub returns-clause-documents : goal.returns-clause-documents
+unfolding linked_documents
+returns-clause-documents g c = c.in_ok-documents.ensures.ok

@@ -1,0 +1,28 @@
+-- A visit of documents: those that are reached so far, and those of them whose references wait to be followed.
+use Rattle.std.specs.Prelude.{◌≡◌, ◌⊎◌, ◌+◌, ◌++◌, List, [], ◌∷◌, Bool, true, false, Contains, is_some, length}
+use Rattle.definitions.specs.Schemas.{Document}
+use Rattle.definitions.specs.Bundles.{document_of}
+use Rattle.definitions.specs.Registries.{placed}
+use Rattle.linker.specs.Sources.{Ascend}
+
+-- documents of the source, in byte order of canonical URIs
+pub record IsPart (reached all : List Document) : Type 0 where
+  pub ascend : Ascend reached
+  pub inside : (d : Document) → Contains reached d → Contains all d
+
+-- the document is reached; it waits if it is new
+abbrev pub Keeps : Document → List Document → List Document → List Document → List Document → Type 0
+Keeps d reached waiting reached_now waiting_now =
+    (is_some (document_of reached d.canonical) ≡ true) × (reached_now ≡ reached) × (waiting_now ≡ waiting)
+    ⊎ (is_some (document_of reached d.canonical) ≡ false) × (reached_now ≡ placed d reached) × (waiting_now ≡ waiting ++ d ∷ [])
+
+-- of all documents those that pass the test are reached now, and what is new waits
+pub record Adds (all : List Document) (p : Document → Bool) (reached waiting reached_now waiting_now : List Document) : Type 0 where
+  pub ascend : Ascend reached_now
+  pub kept : (d : Document) → Contains reached d → Contains reached_now d
+  pub found : (d : Document) → Contains all d → p d ≡ true → Contains reached_now d
+  pub only : (d : Document) → Contains reached_now d → Contains reached d ⊎ (Contains all d × (p d ≡ true))
+  pub new_wait : (d : Document) → Contains reached_now d → Contains reached d ⊎ Contains waiting_now d
+  pub still_wait : (d : Document) → Contains waiting d → Contains waiting_now d
+  pub waiting_reached : (d : Document) → Contains waiting_now d → Contains waiting d ⊎ Contains reached_now d
+  pub one_for_one : length reached_now + length waiting ≡ length reached + length waiting_now

@@ -1,0 +1,57 @@
+//! What linked documents are.
+
+ghost use Rattle.std.specs.Prelude.{◌≡◌, IfErr, IfOk, map, option_map, string_bytes};
+ghost use Rattle.std.specs.Cmp.Lexicographic.{slice_cmp};
+ghost use Rattle.std.specs.List.Sorted.{IsStrictlySortedBy};
+ghost use Rattle.std.specs.Ordering.{nat_cmp};
+ghost use Rattle.definitions.specs.Bundles.{document_of};
+ghost use Rattle.json_doc.specs.Docs.{value};
+ghost use Rattle.linker.specs.LinkedDocuments.{linked_uri, linked_documents};
+ghost use Rattle.linker.specs.SharedDocuments.{shared_documents};
+ghost use Rattle.linker.specs.Sources.{canonicals};
+
+use crate::linked::Linked;
+use crate::placing::position;
+use faults::Fault;
+use json_doc::Doc;
+use schema_scan::{Compiled, canonical};
+use std::alloc::Global;
+use std::rc::Rc;
+
+/// The canonical URIs of the linked documents (JSON Schema 2020-12 Core, section 8.2.1), in byte order, each once. The only
+/// error is want of memory.
+pub fn reached(alloc: Global, linked: &Linked) -> Result<Vec<String>, Fault>
+    ensures ok { IfOk result (λ uris. map string_bytes uris.items ≡ canonicals (linked_documents linked.now)) }
+    ensures ascending { IfOk result (λ uris. IsStrictlySortedBy (slice_cmp nat_cmp) (map string_bytes uris.items)) }
+    ensures err { IfErr result (λ f. f ≡ Fault.NoRoom) }
+{
+    canonical_uris(alloc, &linked.documents)
+}
+
+/// The URI of the resource that was linked.
+pub fn asked(linked: &Linked) -> &str
+    ensures { result.now ≡ linked_uri linked.now }
+{
+    &linked.uri
+}
+
+/// The value of the linked document that has this canonical URI, where one has.
+pub fn value_of<'a>(linked: &'a Linked, canonical: &str) -> Option<&'a Doc>
+    ensures { option_map (λ d. value d.now) result ≡ option_map (λ d. d.value) (document_of (linked_documents linked.now) canonical.now) }
+{
+    match position(&linked.documents, canonical) {
+        Ok(at) => Some(linked.documents[at].document()),
+        Err(_) => None,
+    }
+}
+
+fn canonical_uris(alloc: Global, documents: &[Rc<Compiled>]) -> Result<Vec<String>, Fault>
+    ensures ok { IfOk result (λ uris. map string_bytes uris.items ≡ canonicals (shared_documents documents.now)) }
+    ensures err { IfErr result (λ f. f ≡ Fault.NoRoom) }
+{
+    let mut uris = Vec::with_capacity(alloc, documents.len())?;
+    for document in documents {
+        uris.push(canonical(document).to_owned(alloc)?)?;
+    }
+    Ok(uris)
+}

@@ -1,0 +1,54 @@
+//! Linking of a resource with what it refers to (JSON Schema 2020-12 Core, sections 8.2.3 and 9.2).
+
+ghost use Rattle.std.specs.Prelude.{◌≡◌, ◌≢◌, None, Some, false, IfErr, IfOk, OnOk};
+ghost use Rattle.definitions.specs.Reach.{reach};
+ghost use Rattle.definitions.specs.Scanning.{resource_uris};
+ghost use Rattle.definitions.specs.Schemas.{table_of};
+ghost use Rattle.definitions.specs.Values.{has_repeat, same_text};
+ghost use Rattle.faults.specs.View.{fault};
+ghost use Rattle.linker.specs.LinkFaults.{link_fault};
+ghost use Rattle.linker.specs.LinkedDocuments.{linked_uri, linked_documents};
+ghost use Rattle.linker.specs.SharedDocuments.{shared_documents};
+
+use crate::judging::least_missing;
+use crate::linked::Linked;
+use crate::source::Source;
+use crate::visiting::reached_documents;
+use faults::Fault;
+use schema_scan::Compiled;
+use std::alloc::Global;
+use std::rc::Rc;
+
+/// Links the resource that has this URI with the documents that it reaches: the one that has it, each document that one of
+/// these refers to by an absolute reference, and so on.
+///
+/// [`Fault::NotFound`] is for a URI that no resource of the source's documents has. [`Fault::Unresolved`] is for a reference
+/// of a reached document that names no schema: it carries the least of these references in byte order. The only other error
+/// is want of memory. Whatever is answered, the source keeps the documents that it had.
+pub fn link<S: Source>(alloc: Global, source: &mut S, resource: &str) -> Result<Linked, Fault>
+    ensures uri { IfOk result (λ l. linked_uri l ≡ resource.now) }
+    ensures documents { IfOk result (λ l. linked_documents l ≡ reach (S.documents source.old) resource.now) }
+    ensures ok { OnOk result (link_fault (reach (S.documents source.old) resource.now) ≡ None) }
+    ensures err { IfErr result (λ f. f ≢ Fault.NoRoom → link_fault (reach (S.documents source.old) resource.now) ≡ Some (fault f)) }
+    ensures same { S.documents source.new ≡ S.documents source.old }
+{
+    let documents = reached_documents(alloc, source, resource)?;
+    judge(alloc, &documents)?;
+    let uri = resource.to_owned(alloc)?;
+    Ok(Linked { uri, documents })
+}
+
+// Fails where there are no documents, or where a reference of theirs names no schema.
+fn judge(alloc: Global, documents: &[Rc<Compiled>]) -> Result<(), Fault>
+    requires { has_repeat same_text (resource_uris (table_of (shared_documents documents.now))) ≡ false }
+    ensures ok { OnOk result (link_fault (shared_documents documents.now) ≡ None) }
+    ensures err { IfErr result (λ f. f ≢ Fault.NoRoom → link_fault (shared_documents documents.now) ≡ Some (fault f)) }
+{
+    if documents.is_empty() {
+        return Err(Fault::NotFound);
+    }
+    match least_missing(alloc, documents)? {
+        Some(reference) => Err(Fault::Unresolved(reference.to_owned(alloc)?)),
+        None => Ok(()),
+    }
+}

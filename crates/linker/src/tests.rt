@@ -1,0 +1,105 @@
+use crate::{Fault, Linked, ListSource, asked, link, reached, value_of};
+use json_doc::read;
+use schema_scan::{Compiled, compile, scan};
+use std::alloc::Global;
+use std::rc::Rc;
+use std::test::Fail;
+use uri_ref::split;
+
+fn compiled(alloc: Global, base: &str, document: &str) -> Result<Rc<Compiled>, Fail> {
+    let document = read(alloc, document.as_bytes())?;
+    let document = compile(alloc, scan(alloc, &split(base), &document)?)?;
+    Ok(Rc::new(alloc, document)?)
+}
+
+// `a` refers to `b`, and `b` to `a`; `c` refers to `a`, and nothing refers to `c`.
+fn three(alloc: Global) -> Result<ListSource, Fail> {
+    let mut source = ListSource::new(alloc);
+    let c = r#"{"$ref":"a"}"#;
+    let b = r##"{"$defs":{"d":{"$ref":"a#/$defs/e"}}}"##;
+    let a = r##"{"$ref":"b","$defs":{"e":{"$id":"inner"}}}"##;
+    source.add(compiled(alloc, "https://ex.org/c", c)?)?;
+    source.add(compiled(alloc, "https://ex.org/b", b)?)?;
+    source.add(compiled(alloc, "https://ex.org/a", a)?)?;
+    Ok(source)
+}
+
+// The canonical URIs, or the fault, as text.
+fn answer(alloc: Global, linked: Result<Linked, Fault>) -> Result<String, Fail> {
+    let linked = match linked {
+        Ok(linked) => linked,
+        Err(fault) => return Ok(format!(in alloc; "{fault}")?),
+    };
+    let mut text = String::from_str(alloc, asked(&linked))?;
+    for uri in &reached(alloc, &linked)? {
+        text.push(' ')?;
+        text.push_str(uri)?;
+    }
+    Ok(text)
+}
+
+#[test]
+fn an_empty_source_has_no_resource(rt: HostRuntime) -> Result<(), Fail> {
+    let alloc = rt.alloc();
+    let mut source = ListSource::new(alloc);
+    let linked = link(alloc, &mut source, "https://ex.org/a");
+    assert_eq!(rt; answer(alloc, linked)?.as_str(), "14 NotFound");
+    Ok(())
+}
+
+#[test]
+fn links_what_is_reached(rt: HostRuntime) -> Result<(), Fail> {
+    let alloc = rt.alloc();
+    let mut source = three(alloc)?;
+    let linked = link(alloc, &mut source, "https://ex.org/b");
+    assert_eq!(rt;
+        answer(alloc, linked)?.as_str(),
+        "https://ex.org/b https://ex.org/a https://ex.org/b"
+    );
+    let linked = link(alloc, &mut source, "https://ex.org/inner");
+    assert_eq!(rt;
+        answer(alloc, linked)?.as_str(),
+        "https://ex.org/inner https://ex.org/a https://ex.org/b"
+    );
+    let linked = link(alloc, &mut source, "https://ex.org/d");
+    assert_eq!(rt; answer(alloc, linked)?.as_str(), "14 NotFound");
+    Ok(())
+}
+
+#[test]
+fn values_have_canonical_uris(rt: HostRuntime) -> Result<(), Fail> {
+    let alloc = rt.alloc();
+    let mut source = three(alloc)?;
+    let linked = link(alloc, &mut source, "https://ex.org/a")?;
+    assert!(rt; value_of(&linked, "https://ex.org/b").is_some());
+    assert!(rt; value_of(&linked, "https://ex.org/c").is_none());
+    assert!(rt; value_of(&linked, "https://ex.org/inner").is_none());
+    Ok(())
+}
+
+#[test]
+fn the_least_missing_reference_is_told(rt: HostRuntime) -> Result<(), Fail> {
+    let alloc = rt.alloc();
+    let mut source = ListSource::new(alloc);
+    let a = r##"{"$defs":{"d":{"$ref":"z"},"e":{"$ref":"b"}}}"##;
+    let b = r##"{"$ref":"a#/$defs/f"}"##;
+    source.add(compiled(alloc, "https://ex.org/a", a)?)?;
+    source.add(compiled(alloc, "https://ex.org/b", b)?)?;
+    let linked = link(alloc, &mut source, "https://ex.org/a");
+    assert_eq!(rt;
+        answer(alloc, linked)?.as_str(),
+        "15 Unresolved https://ex.org/a#/$defs/f"
+    );
+    Ok(())
+}
+
+#[test]
+fn a_held_resource_is_not_added(rt: HostRuntime) -> Result<(), Fail> {
+    let alloc = rt.alloc();
+    let mut source = three(alloc)?;
+    assert!(rt; !source.add(compiled(alloc, "https://ex.org/a", "{}")?)?);
+    let other = r#"{"$defs":{"d":{"$id":"inner"}}}"#;
+    assert!(rt; !source.add(compiled(alloc, "https://ex.org/d", other)?)?);
+    assert!(rt; source.add(compiled(alloc, "https://ex.org/d", "{}")?)?);
+    Ok(())
+}

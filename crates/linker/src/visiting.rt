@@ -1,0 +1,92 @@
+//! The documents that a resource reaches (JSON Schema 2020-12 Core, sections 8.2.3 and 9.2).
+
+ghost use Rattle.std.specs.Prelude.{◌≡◌, IfErr, IfOk, OnOk};
+ghost use Rattle.definitions.specs.Reach.{holds_resource, reach, refers_to};
+ghost use Rattle.schema_scan.specs.CompiledDocuments.{compiled_document};
+ghost use Rattle.linker.specs.SharedDocuments.{shared_documents};
+ghost use Rattle.linker.specs.Sources.{Ascend, AreSound};
+ghost use Rattle.linker.specs.Visits.{Adds, IsPart, Keeps};
+
+use crate::placing::place;
+use crate::source::Source;
+use faults::Fault;
+use schema_scan::Compiled;
+use std::alloc::{AllocError, Global};
+use std::rc::Rc;
+use uri_ref::without_fragment;
+
+// The documents that the resource reaches, in byte order of their canonical URIs: none where no document has it.
+pub(crate) fn reached_documents<S: Source>(
+    alloc: Global,
+    source: &mut S,
+    resource: &str,
+) -> Result<Vec<Rc<Compiled>>, Fault>
+    ensures ok { IfOk result (λ ds. shared_documents ds.items ≡ reach (S.documents source.old) resource.now) }
+    ensures sound { OnOk result (AreSound (S.documents source.old)) }
+    ensures err { IfErr result (λ f. f ≡ Fault.NoRoom) }
+    ensures same { S.documents source.new ≡ S.documents source.old }
+{
+    let mut reached = Vec::new(alloc);
+    let mut waiting = Vec::new(alloc);
+    visit(alloc, source, resource, &mut reached, &mut waiting)?;
+    while let Some(document) = waiting.pop() {
+        follow(alloc, source, &document, &mut reached, &mut waiting)?;
+    }
+    Ok(reached)
+}
+
+// Follows the references of a document: each is looked up in the source once.
+fn follow<S: Source>(
+    alloc: Global,
+    source: &mut S,
+    document: &Compiled,
+    reached: &mut Vec<Rc<Compiled>>,
+    waiting: &mut Vec<Rc<Compiled>>,
+) -> Result<(), Fault>
+    requires part { IsPart (shared_documents reached.old.items) (S.documents source.old) }
+    requires sound { AreSound (S.documents source.old) }
+    ensures ok { OnOk result (Adds (S.documents source.old) (refers_to (compiled_document document.now)) (shared_documents reached.old.items) (shared_documents waiting.old.items) (shared_documents reached.new.items) (shared_documents waiting.new.items)) }
+    ensures err { IfErr result (λ f. f ≡ Fault.NoRoom) }
+    ensures same { S.documents source.new ≡ S.documents source.old }
+{
+    for reference in document.references() {
+        visit(alloc, source, without_fragment(reference), reached, waiting)?;
+    }
+    Ok(())
+}
+
+// Looks a URI up in the source, and keeps the document that has it.
+fn visit<S: Source>(
+    alloc: Global,
+    source: &mut S,
+    uri: &str,
+    reached: &mut Vec<Rc<Compiled>>,
+    waiting: &mut Vec<Rc<Compiled>>,
+) -> Result<(), Fault>
+    requires { IsPart (shared_documents reached.old.items) (S.documents source.old) }
+    ensures ok { OnOk result (Adds (S.documents source.old) (holds_resource uri.now) (shared_documents reached.old.items) (shared_documents waiting.old.items) (shared_documents reached.new.items) (shared_documents waiting.new.items)) }
+    ensures err { IfErr result (λ f. f ≡ Fault.NoRoom) }
+    ensures same { S.documents source.new ≡ S.documents source.old }
+    ensures sound { AreSound (S.documents source.new) }
+{
+    match source.holding(alloc, uri)? {
+        Some(document) => Ok(keep(document, reached, waiting)?),
+        None => Ok(()),
+    }
+}
+
+// Adds a document to those that are reached and wait, unless it is reached already.
+fn keep(
+    document: Rc<Compiled>,
+    reached: &mut Vec<Rc<Compiled>>,
+    waiting: &mut Vec<Rc<Compiled>>,
+) -> Result<(), AllocError>
+    requires { Ascend (shared_documents reached.old.items) }
+    ensures { OnOk result (Keeps (compiled_document document.value) (shared_documents reached.old.items) (shared_documents waiting.old.items) (shared_documents reached.new.items) (shared_documents waiting.new.items)) }
+{
+    let again = document.clone()?;
+    if place(reached, document)? {
+        waiting.push(again)?;
+    }
+    Ok(())
+}

@@ -32,8 +32,8 @@ pub popped : {A B : Type 0} (g : A → B) (xs ys : List A) (o : Option A) (n : �
     → (older : List B) (v : B) → map g xs ≡ older ++ v ∷ [] → map g ys ≡ older
 popped g xs ys None n e there size older v seen =
     elim (cases_lt 0 n) [
-      inl less ↦ absurd (false≢true (there less))
-    | inr none ↦ absurd (none_popped g xs (omega arith) older v seen)
+      | inl less ↦ absurd (false≢true (there less))
+      | inr none ↦ absurd (none_popped g xs (omega arith) older v seen)
     ]
 popped g xs ys (Some x) n e there size older v seen = (same_from_push (map g ys) older (g x) v (sym (map_push g ys x) ∙ ap (map g) (sym e) ∙ seen)).0
 

@@ -83,12 +83,7 @@ impl<'a> Context<'a> {
     pub fn is_running(&self) -> bool
         ensures { (s x : Value) → is_object s ≡ true → result ≡ is_running (application_at (standing (frame self.now)) s x) }
     {
-        self.running.contains(
-            self.resource,
-            self.pointers.last(),
-            &self.place,
-            self.name,
-        )
+        self.running.contains(self.resource, self.pointers.last(), &self.place, self.name)
     }
 
     /// The location of a unit of the output.
@@ -109,12 +104,7 @@ impl<'a> Context<'a> {
         ensures entered { OnOk result (frame self.new ≡ object_entered (frame self.old)) }
     {
         self.scope.push(self.resource)?;
-        self.running.push(
-            self.resource,
-            self.pointers.last(),
-            &self.place,
-            self.name,
-        )?;
+        self.running.push(self.resource, self.pointers.last(), &self.place, self.name)?;
         Ok(())
     }
 

@@ -75,7 +75,8 @@ impl<'a> Pointers<'a> {
         ensures last { last_pointer self.new ≡ [] }
         ensures outer { outer_pointers self.new ≡ outer_pointers self.old ++ last_pointer self.old }
     {
-        self.start = self.steps.len();
+        let end = self.steps.len();
+        self.start = end;
     }
 
     /// These steps more.

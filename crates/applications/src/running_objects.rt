@@ -12,8 +12,8 @@ use crate::running::Running;
 use locations::{Step, same_steps};
 use std::alloc::{AllocError, Global};
 
-/// The schema objects that are being applied, the outermost first. Their pointers and places stand in one list that all of
-/// them share, so that none takes memory of its own.
+/// The schema objects that are being applied, the outermost first. Their pointers and places are copied, so that they stay
+/// while a context moves, into one list that all of them share.
 ///
 /// Contracts see their identities and places, by `running_objects`.
 #[derive(Drop)]

@@ -23,4 +23,3 @@ returns-in_ok-enter_target-in-Target-clause-there c = λ contains. target_there 
 
 pub returns-in_ok-enter_target-in-Target-clause-onward : goal.returns-in_ok-enter_target-in-Target-clause-onward
 returns-in_ok-enter_target-in-Target-clause-onward c = onward_at c.in_ok-enter_target-in-Target.ensures (onward_schema (located_schema c.in-Target.located) (frame c.args.self.now))
-

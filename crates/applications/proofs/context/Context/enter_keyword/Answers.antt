@@ -12,4 +12,3 @@ returns-clause-there c = same_standings (ap tokens c.in_ok-push.ensures.items âˆ
 pub returns-clause-entered : goal.returns-clause-entered
 unfolding frame keyword_entered
 returns-clause-entered c = same_frames (ap tokens c.in_ok-push.ensures.items âˆ™ map_push token c.args.self.now.path.items _) c.in_ok-push-2.ensures.outer refl c.in_ok-push-2.ensures.last refl refl refl
-

@@ -12,4 +12,3 @@ returns-clause-there c = same_standings refl refl refl refl (ap (map (λ uri. ur
 pub returns-clause-entered : goal.returns-clause-entered
 unfolding frame object_entered
 returns-clause-entered c = same_frames refl refl refl refl refl (ap (map (λ uri. uri.now)) c.in_ok-push.ensures.items ∙ map_push (λ uri. uri.now) c.args.self.now.scope.items _) (c.in_ok-push-2.ensures ∙ same_objects refl c.last.ensures (ap tokens c.deref.ensures.value) refl _)
-

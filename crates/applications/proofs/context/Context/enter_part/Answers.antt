@@ -35,4 +35,3 @@ returns-in-NameOf c =
     let old = c.args.self.now in
     same_frames refl refl refl refl (refl) refl refl
     ∙ ap (λ part. placed (part_place (frame old).place (part_view part)) (frame old)) (sym c.in-NameOf.is)
-

@@ -21,4 +21,3 @@ returns-clause-entered c =
     let place = part_place g.place (part_view c.args.planned.now.part) in
     let last : Onward g (frame c.enter_part.new.self) = onward_at c.in_ok-enter_part.ensures (onward_placed place g (front_of_part g.place (part_view c.args.planned.now.part))) in
     came_from c.way_back-back.result f (frame c.enter_part.new.self) c.way_back-back.ensures (onward_onward c.in_ok-enter_chosen.ensures.onward last)
-

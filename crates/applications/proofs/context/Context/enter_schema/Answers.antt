@@ -33,4 +33,3 @@ returns-in-None-clause-there c = λ contains.
     let f = frame c.args.self.now in
     let v = value c.args.schema.now in
     schema_stays f v (ap (opened f.resource f.pointer v) c.in-None.ensures)
-

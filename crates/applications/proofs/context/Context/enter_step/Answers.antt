@@ -19,4 +19,3 @@ unfolding frame
 returns-in-None c =
     let old = c.args.self.now in
     stepped_nowhere (frame old) ∙ ap (λ o. stepped (step_view o) (frame old)) (sym c.in-None.is)
-

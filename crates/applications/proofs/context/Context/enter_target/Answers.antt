@@ -10,4 +10,3 @@ unfolding frame at_schema
 returns c =
     same_frames refl (c.in_ok-append.ensures.outer ∙ c.begin.ensures.outer) refl
     (c.in_ok-append.ensures.last ∙ ap₂ (λ p s. p ++ tokens s) c.begin.ensures.last c.deref.ensures.value) refl refl refl
-

@@ -15,4 +15,3 @@ returns c = λ s x object.
     c.contains.ensures
     ∙ ap₂ (λ t (p : Place). list_any (is_running_as (o.resource.now, t) p) (running_objects o.running)) c.last.ensures (same_places (ap tokens c.deref.ensures.value) refl)
     ∙ running_is s x (standing (frame o)) object
-

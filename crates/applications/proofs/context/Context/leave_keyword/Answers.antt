@@ -16,4 +16,3 @@ returns c = λ older k h.
     (ap (λ (f : Frame). f.place) h)
     (ap (λ (f : Frame). f.scope) h)
     (ap (λ (f : Frame). f.running) h)
-

@@ -18,4 +18,3 @@ returns c = λ older h.
     refl
     refl
     ∙ sym h
-

@@ -7,4 +7,3 @@ use Rattle.applications.proofs.context.Context.location.Goals as goal
 pub returns : goal.returns
 unfolding frame standing
 returns c = λ says. same_units (ap tokens c.deref.ensures.value) refl c.last.ensures (ap tokens c.deref-2.ensures.value) refl
-

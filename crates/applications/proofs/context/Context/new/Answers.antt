@@ -13,4 +13,3 @@ returns c = λ x.
     let start : Standing = record { path = []; resource = root.resource.now; pointer = tokens root.steps.items; place = record { pointer = []; name = None }; scope = []; running = [] } in
     ap (λ st. application_at st (value root.schema.now) x)
     (same_standings {t = start} (ap tokens c.new.ensures.items) refl c.new-2.ensures.last (same_places (ap tokens c.new-3.ensures.items) refl) (ap (map (λ uri. uri.now)) c.new-4.ensures.items) c.new-5.ensures)
-

@@ -5,4 +5,3 @@ use Rattle.applications.proofs.context.Context.resource.Goals as goal
 pub returns : goal.returns
 unfolding frame standing
 returns c = refl
-

@@ -16,4 +16,3 @@ returns c =
       place = c.len-3.ensures ∙ old.place.ok.0 ∙ sym (length-map old.place.items token);
       name = refl;
     }
-

@@ -7,9 +7,8 @@ use Rattle.std.proofs.lemmas.List.{drop_all, take_all}
 
 pub returns-clause-last : goal.returns-clause-last
 unfolding last_pointer outer_pointers
-returns-clause-last c = ap tokens (drop_all c.len-self.result c.args.self.now.steps.items (omega (arith, c.len-self.ensures, c.args.self.now.steps.ok.0)))
+returns-clause-last c = ap tokens (drop_all c.len-end.result c.args.self.now.steps.items (omega (arith, c.len-end.ensures, c.args.self.now.steps.ok.0)))
 
 pub returns-clause-outer : goal.returns-clause-outer
 unfolding last_pointer outer_pointers
-returns-clause-outer c = ap tokens (take_all c.len-self.result c.args.self.now.steps.items (omega (arith, c.len-self.ensures, c.args.self.now.steps.ok.0))) ∙ sym (both_tokens c.args.self.now.start c.args.self.now.steps.items)
-
+returns-clause-outer c = ap tokens (take_all c.len-end.result c.args.self.now.steps.items (omega (arith, c.len-end.ensures, c.args.self.now.steps.ok.0))) ∙ sym (both_tokens c.args.self.now.start c.args.self.now.steps.items)

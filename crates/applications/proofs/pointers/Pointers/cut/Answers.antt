@@ -17,4 +17,3 @@ returns-clause-outer c =
     let start : c.min-self.result ≡ min c.args.start (length (take c.args.steps c.args.self.now.steps.items)) =
     c.min-self.ensures ∙ ap (min c.args.start) (c.len.ensures ∙ c.truncate.new.self.ok.0 ∙ ap length c.truncate.ensures.items) in
     ap₂ (λ k s. tokens (take k s)) start c.truncate.ensures.items ∙ outer_cut c.args.self.now.start c.args.steps c.args.start c.args.self.now.steps.items
-

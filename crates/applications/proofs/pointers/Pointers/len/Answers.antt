@@ -6,4 +6,3 @@ use Rattle.applications.proofs.pointers.Pointers.len.Goals as goal
 pub returns : goal.returns
 unfolding last_pointer outer_pointers
 returns c = c.len.ensures ∙ c.args.self.now.steps.ok.0 ∙ sym (both_length c.args.self.now.start c.args.self.now.steps.items)
-

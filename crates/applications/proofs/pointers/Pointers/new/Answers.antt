@@ -9,4 +9,3 @@ returns-clause-last c = refl
 pub returns-clause-outer : goal.returns-clause-outer
 unfolding last_pointer outer_pointers
 returns-clause-outer c = refl
-

@@ -22,4 +22,3 @@ returns-then-self-len-clause-outer c =
 pub returns-else-self-len-clause-last : goal.returns-else-self-len-clause-last
 unfolding last_pointer outer_pointers
 returns-else-self-len-clause-last c = λ older t e. absurd (last_none c.args.self.now.start c.args.self.now.steps.items (omega (arith, c.if-self-len.false, c.len.ensures, c.args.self.now.steps.ok.0)) older t e)
-

@@ -11,4 +11,3 @@ returns-clause-last c = ap (λ s. tokens (drop c.args.self.now.start s)) c.in_ok
 pub returns-clause-outer : goal.returns-clause-outer
 unfolding last_pointer outer_pointers
 returns-clause-outer c = ap (λ s. tokens (take c.args.self.now.start s)) c.in_ok-push.ensures.items ∙ outer_more c.args.self.now.start c.args.self.now.steps.items (c.args.step ∷ []) c.args.self.now.within
-

@@ -6,4 +6,3 @@ use Rattle.applications.proofs.pointers.Pointers.start.Goals as goal
 pub returns : goal.returns
 unfolding last_pointer outer_pointers
 returns c = sym (outer_length c.args.self.now.start c.args.self.now.steps.items c.args.self.now.within)
-

@@ -1,3 +1,7 @@
 pub mod Standings
+pub mod PointerViews
+pub mod Runnings
+pub mod RunningViews
 pub mod Frames
 pub mod Returns
+pub mod Moves

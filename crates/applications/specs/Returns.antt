@@ -1,5 +1,5 @@
 -- The way back from what a keyword applied.
-use Rattle.std.specs.Prelude.{◌≡◌, option_map, take}
+use Rattle.std.specs.Prelude.{◌≡◌, ◌++◌, option_map, take, drop}
 use Rattle.applications.specs.Frames.{Frame}
 use Rattle.applications.specs.declared.context.Return.{Return}
 
@@ -8,8 +8,8 @@ abbrev pub CameFrom : Return → Frame → Frame → Type 0
 CameFrom back older newer =
     older ≡ record newer {
       path = take back.path newer.path;
-      steps = take back.steps newer.steps;
-      start = back.start;
+      outer = take back.start (take back.steps (newer.outer ++ newer.pointer));
       resource = back.resource.now;
+      pointer = drop back.start (take back.steps (newer.outer ++ newer.pointer));
       place = record { pointer = take back.place newer.place.pointer; name = option_map (λ n. n.now) back.name };
     }

@@ -3,5 +3,9 @@
 #![tactic(auto)]
 
 mod context;
+mod moving;
+mod pointers;
+mod running;
+mod running_objects;
 
 pub use context::{Context, Return};

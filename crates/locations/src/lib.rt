@@ -1,6 +1,8 @@
 //! The steps of locations in documents and instances, as tokens of JSON Pointers (RFC 6901).
 #![tactic(auto)]
 
+mod sameness;
 mod step;
 
+pub use sameness::same_steps;
 pub use step::{Step, push_fragment, push_pointer};

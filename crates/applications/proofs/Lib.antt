@@ -1,0 +1,4 @@
+pub mod PointerLaws
+pub mod RunningLaws
+pub mod FrameLaws
+pub mod PlannedLaws

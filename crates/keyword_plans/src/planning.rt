@@ -8,6 +8,11 @@ ghost use Rattle.keyword_plans.specs.Plans.{planned_view};
 ghost use Rattle.keyword_plans.specs.Rows.{row_of};
 ghost use Rattle.keyword_plans.specs.Sites.{Shows, linked_rules};
 
+mod in_place;
+mod items;
+mod members;
+mod references;
+
 use crate::keyword::Keyword;
 use crate::planned::Planned;
 use crate::searches::Searches;

@@ -1,2 +1,5 @@
 pub mod Listed
 pub mod Consequences
+pub mod Matching
+pub mod Growing
+pub mod Patterns

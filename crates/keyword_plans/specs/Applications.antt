@@ -1,6 +1,6 @@
 -- What a keyword applies, read off lists of schemas, elements and members.
 use Rattle.std.specs.Prelude.{ℕ, List, [], ◌∷◌, ◌==◌, decimal, map, flat_map, filter, zip, is_some, not, Contains}
-use Rattle.std.specs.List.{list_any, enumerate_from}
+use Rattle.std.specs.List.{AllByRecursion, list_any, enumerate_from}
 use Rattle.definitions.specs.Values.{Text, Value, get, string}
 use Rattle.definitions.specs.Patterns.{has_match}
 use Rattle.definitions.specs.Scanning.{patterns_of}
@@ -53,4 +53,4 @@ planned_unnamed k a v ns ms = at_members a k v (filter (λ m. not (has m.0 ns)) 
 -- each of these names is a pattern of a schema of the linked documents
 pub record ArePatternsOf (l : Linked) (s : Schema) (ps : List (Text × Value)) : Type 0 where
   pub inside : Contains (linked_schemas l) s
-  pub patterns : (p : Text × Value) → Contains ps p → Contains (patterns_of s) p.0
+  pub patterns : AllByRecursion (λ p. Contains (patterns_of s) p.0) ps

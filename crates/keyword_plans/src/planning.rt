@@ -10,6 +10,7 @@ ghost use Rattle.keyword_plans.specs.Sites.{Shows, linked_rules};
 
 mod in_place;
 mod items;
+mod matching;
 mod members;
 mod references;
 

@@ -44,8 +44,10 @@ impl<'a> Searches<'a> {
         }
         match linked.pattern(pattern) {
             Some(built) => {
-                self.searchers.insert(place, built.searcher(alloc)?)?;
-                Ok(self.searchers[place].is_match(text))
+                let mut searcher = built.searcher(alloc)?;
+                let found = searcher.is_match(text);
+                self.searchers.insert(place, searcher)?;
+                Ok(found)
             }
             None => Ok(false),
         }

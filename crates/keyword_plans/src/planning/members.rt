@@ -1,24 +1,16 @@
 //! Keywords that apply schemas to the members of an object, or to their names (JSON Schema 2020-12 Core, 10.3.2).
 
-ghost use Rattle.std.specs.Prelude.{◌≡◌, [], ◌++◌, map, option_map, unwrap_or, is_some, codes, IfOk, IfErr, OnOk};
-ghost use Rattle.std.specs.List.{list_any};
-ghost use Rattle.definitions.specs.Values.{Text, null, get, members};
-ghost use Rattle.definitions.specs.Patterns.{has_match};
-ghost use Rattle.definitions.specs.Schemas.{Schema};
-ghost use Rattle.definitions.specs.Applied.{Application, beside, is_taken};
+ghost use Rattle.std.specs.Prelude.{◌≡◌, map, IfOk};
+ghost use Rattle.definitions.specs.Values.{Text, members};
+ghost use Rattle.definitions.specs.Applied.{Application};
 ghost use Rattle.json_doc.specs.Docs.{value, members_value};
-ghost use Rattle.keyword_plans.specs.Applications.{ArePatternsOf, planned_members, planned_matches, planned_matched, planned_others, planned_names};
+ghost use Rattle.keyword_plans.specs.Applications.{planned_members, planned_names};
 ghost use Rattle.keyword_plans.specs.Plans.{planned_view};
-ghost use Rattle.keyword_plans.specs.Sites.{Shows, linked_rules};
 ghost use Rattle.keyword_plans.specs.Subjects.{subject_value};
 
 use crate::planned::{Chosen, Part, Planned};
-use crate::searches::Searches;
-use crate::site::Site;
-use crate::subject::{Subject, members_of};
-use faults::Fault;
+use crate::subject::Subject;
 use json_doc::{Doc, Members};
-use linker::Linked;
 use locations::Step;
 use std::alloc::{AllocError, Global};
 

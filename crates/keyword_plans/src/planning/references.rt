@@ -66,7 +66,7 @@ fn plan_target<'a>(
     subject: Subject<'a>,
 ) -> Result<Vec<Planned<'a>>, AllocError>
     ensures { (a : Application) (k : Text) → a.instance ≡ subject_value subject.entry
-        → IfOk result (λ ps. map (planned_view k a) ps.items ≡ to_target a k (option_map located_schema target)) }
+        → IfOk result (λ ps. map (planned_view k a) ps.items ≡ to_target a k (option_map located_schema target.entry)) }
 {
     let mut planned = Vec::new(alloc);
     if let Some(located) = target {

@@ -1,0 +1,35 @@
+-- The patterns of a schema of the linked documents.
+use Rattle.std.proofs.Common.{◌≡◌, ℕ, ◌<◌, List, [], ◌∷◌, ◌++◌, map, Option, Some, None, option_map, unwrap_or, codes, length, refl, sym, ap, ◌∙◌, append_assoc, subst, arith, Contains}
+use Rattle.std.proofs.lemmas.List.Elements.{Contains-append_right}
+use Rattle.std.specs.List.{AllByRecursion}
+use Rattle.definitions.specs.Values.{Text, Value, null, get, text_at, members}
+use Rattle.definitions.specs.Scanning.{patterns_of}
+use Rattle.definitions.specs.Schemas.{Schema, option_list}
+use Rattle.definitions.specs.Applied.{Application, Part, beside}
+use Rattle.keyword_plans.specs.Sites.{Shows}
+use Rattle.keyword_plans.specs.declared.site.Site.{Site}
+use Rattle.keyword_plans.specs.Applications.{ArePatternsOf, planned_matched}
+
+contains-first : {Y : Type 0} (y : Y) (ys : List Y) → Contains (y ∷ ys) y
+contains-first y ys = (0, omega arith, refl)
+
+all_in : {X Y : Type 0} (f : X → Y) (before : List Y) (xs : List X) → AllByRecursion (λ x. Contains (before ++ map f xs) (f x)) xs
+all_in f before [] = tt
+all_in f before (x ∷ xs) =
+    (Contains-append_right before (f x ∷ map f xs) (f x) (contains-first (f x) (map f xs)),
+    subst (λ ys. AllByRecursion (λ z. Contains ys (f z)) xs) (append_assoc before (f x ∷ []) (map f xs)) (all_in f (before ++ f x ∷ []) xs))
+
+pub patterns-of : (s : Schema) (v : Value) → get (codes "patternProperties") s.value ≡ Some v → AllByRecursion (λ p. Contains (patterns_of s) p.0) (members v)
+patterns-of s v e =
+    subst
+    (λ (o : Option Value). AllByRecursion (λ p. Contains (option_list (text_at (codes "pattern") s.value) ++ unwrap_or (option_map (λ v. map (λ m. m.0) (members v)) o) []) p.0) (members v))
+    (sym e) (all_in (λ (m : Text × Value). m.0) (option_list (text_at (codes "pattern") s.value)) (members v))
+
+pub site_patterns : (site : Site) (a : Application) (v : Value) → Shows site a → get (codes "patternProperties") a.schema.value ≡ Some v
+    → ArePatternsOf site.linked.now a.schema (members v)
+site_patterns site a v shows e = record { inside = shows.inside; patterns = patterns-of a.schema v e }
+
+-- where there are none
+pub matched-none : (k : Text) (a : Application) (ms : List (Text × Value)) → planned_matched k a [] ms ≡ []
+matched-none k a [] = refl
+matched-none k a (m ∷ ms) = matched-none k a ms

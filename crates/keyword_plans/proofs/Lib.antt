@@ -3,3 +3,4 @@ pub mod Consequences
 pub mod Matching
 pub mod Growing
 pub mod Patterns
+pub mod Taken

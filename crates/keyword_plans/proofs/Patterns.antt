@@ -29,6 +29,14 @@ pub site_patterns : (site : Site) (a : Application) (v : Value) → Shows site a
     → ArePatternsOf site.linked.now a.schema (members v)
 site_patterns site a v shows e = record { inside = shows.inside; patterns = patterns-of a.schema v e }
 
+-- where the keyword may be absent
+beside-of : (s : Schema) (o : Option Value) → get (codes "patternProperties") s.value ≡ o → AllByRecursion (λ p. Contains (patterns_of s) p.0) (members (unwrap_or o null))
+beside-of s None e = tt
+beside-of s (Some v) e = patterns-of s v e
+
+pub patterns_beside : (site : Site) (a : Application) → Shows site a → ArePatternsOf site.linked.now a.schema (members (beside a (codes "patternProperties")))
+patterns_beside site a shows = record { inside = shows.inside; patterns = beside-of a.schema (get (codes "patternProperties") a.schema.value) refl }
+
 -- where there are none
 pub matched-none : (k : Text) (a : Application) (ms : List (Text × Value)) → planned_matched k a [] ms ≡ []
 matched-none k a [] = refl

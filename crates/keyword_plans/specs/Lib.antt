@@ -4,3 +4,4 @@ pub mod Sites
 pub mod Plans
 pub mod Annotations
 pub mod Applications
+pub mod Beside

@@ -12,6 +12,7 @@ mod in_place;
 mod items;
 mod matching;
 mod members;
+mod others;
 mod references;
 
 use crate::keyword::Keyword;

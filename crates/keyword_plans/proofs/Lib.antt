@@ -4,3 +4,5 @@ pub mod Matching
 pub mod Growing
 pub mod Patterns
 pub mod Taken
+pub mod Seen
+pub mod Unevaluated

@@ -14,6 +14,7 @@ mod matching;
 mod members;
 mod others;
 mod references;
+mod unevaluated;
 
 use crate::keyword::Keyword;
 use crate::planned::Planned;

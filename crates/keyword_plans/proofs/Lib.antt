@@ -6,3 +6,5 @@ pub mod Patterns
 pub mod Taken
 pub mod Seen
 pub mod Unevaluated
+pub mod Once
+pub mod Annotated

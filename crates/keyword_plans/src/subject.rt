@@ -1,7 +1,7 @@
 //! What a schema is applied to.
 
 ghost use Rattle.std.specs.Prelude.{◌≡◌, [], map, option_map, unwrap_or};
-ghost use Rattle.definitions.specs.Values.{elements, members, get};
+ghost use Rattle.definitions.specs.Values.{elements, members, get, as_string, is_array, is_object};
 ghost use Rattle.json_doc.specs.Docs.{value, members_value};
 ghost use Rattle.keyword_plans.specs.Subjects.{subject_value};
 
@@ -38,6 +38,30 @@ impl<'a> Subject<'a> {
             Subject::Value(doc) => members_of(doc),
             Subject::Name(_) => None,
         }
+    }
+
+    /// The text, where it is a string.
+    pub fn as_str(self) -> Option<&'a str>
+        ensures { option_map (λ s. s.now) result ≡ as_string (subject_value self.entry) }
+    {
+        match self {
+            Subject::Value(doc) => doc.as_str(),
+            Subject::Name(name) => Some(name),
+        }
+    }
+
+    /// Whether it is an array.
+    pub fn is_array(self) -> bool
+        ensures { result ≡ is_array (subject_value self.entry) }
+    {
+        matches!(self, Subject::Value(Doc::List(_)))
+    }
+
+    /// Whether it is an object.
+    pub fn is_object(self) -> bool
+        ensures { result ≡ is_object (subject_value self.entry) }
+    {
+        matches!(self, Subject::Value(Doc::Dict(_)))
     }
 
     /// The member of this name, where it is an object that has one.

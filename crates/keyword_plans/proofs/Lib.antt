@@ -8,3 +8,4 @@ pub mod Seen
 pub mod Unevaluated
 pub mod Once
 pub mod Annotated
+pub mod Verdicts

@@ -1,8 +1,10 @@
 -- The patterns of a schema of the linked documents.
-use Rattle.std.proofs.Common.{◌≡◌, ℕ, ◌<◌, List, [], ◌∷◌, ◌++◌, map, Option, Some, None, option_map, unwrap_or, codes, length, refl, sym, ap, ◌∙◌, append_assoc, subst, arith, Contains}
-use Rattle.std.proofs.lemmas.List.Elements.{Contains-append_right}
+use Rattle.std.proofs.Common.{◌≡◌, ℕ, ◌<◌, List, [], ◌∷◌, ◌++◌, map, Option, Some, None, option_map, option_and_then, unwrap_or, codes, length, refl, sym, ap, ◌∙◌, append_assoc, subst, arith, Contains}
+use Rattle.std.proofs.lemmas.List.Elements.{Contains-append_left, Contains-append_right}
 use Rattle.std.specs.List.{AllByRecursion}
-use Rattle.definitions.specs.Values.{Text, Value, null, get, text_at, members}
+use Rattle.definitions.specs.Values.{Text, Value, null, boolean, integer, string, array, object, as_string, get, text_at, members}
+use Rattle.definitions.specs.Evaluated.{pattern_holds}
+use Rattle.definitions.specs.Patterns.{has_match}
 use Rattle.definitions.specs.Scanning.{patterns_of}
 use Rattle.definitions.specs.Schemas.{Schema, option_list}
 use Rattle.definitions.specs.Applied.{Application, Part, beside}
@@ -37,7 +39,24 @@ beside-of s (Some v) e = patterns-of s v e
 pub patterns_beside : (site : Site) (a : Application) → Shows site a → ArePatternsOf site.linked.now a.schema (members (beside a (codes "patternProperties")))
 patterns_beside site a shows = record { inside = shows.inside; patterns = beside-of a.schema (get (codes "patternProperties") a.schema.value) refl }
 
--- where there are none
+-- ---- what stands under `pattern`
+pub string-of : (v : Value) (p : Text) → Some p ≡ as_string v → v ≡ string p
+string-of null p e = cc
+string-of (boolean b) p e = cc
+string-of (integer z) p e = cc
+string-of (string s) p e = cc
+string-of (array vs) p e = cc
+string-of (object ms) p e = cc
+
+pub pattern-of : (s : Schema) (v : Value) (p : Text) → get (codes "pattern") s.value ≡ Some v → Some p ≡ as_string v → Contains (patterns_of s) p
+pattern-of s v p e f =
+    Contains-append_left (option_list (text_at (codes "pattern") s.value)) _ p
+    (subst (λ (o : Option Text). Contains (option_list o) p) (f ∙ sym (ap (option_and_then as_string) e)) (contains-first p []))
+
+pub pattern_holds-strings : (v x : Value) (p s : Text) → Some p ≡ as_string v → Some s ≡ as_string x → has_match p s ≡ pattern_holds has_match v x
+pattern_holds-strings v x p s e f = rw (string-of v p e, string-of x s f) refl
+
+-- ---- where there are none
 pub matched-none : (k : Text) (a : Application) (ms : List (Text × Value)) → planned_matched k a [] ms ≡ []
 matched-none k a [] = refl
 matched-none k a (m ∷ ms) = matched-none k a ms

@@ -8,8 +8,23 @@ ghost use Rattle.keyword_plans.specs.Plans.{planned_view};
 ghost use Rattle.keyword_plans.specs.Rows.{row_of};
 ghost use Rattle.keyword_plans.specs.Sites.{Shows, linked_rules};
 
+mod in_place;
+mod items;
+mod matching;
+mod members;
+mod others;
+mod references;
+mod unevaluated;
+
 use crate::keyword::Keyword;
 use crate::planned::Planned;
+use crate::planning::in_place::{plan_consequence, plan_dependents, plan_listed, plan_own};
+use crate::planning::items::{plan_items, plan_prefix, prefix_length};
+use crate::planning::matching::plan_patterns;
+use crate::planning::members::{plan_names, plan_properties};
+use crate::planning::others::plan_others;
+use crate::planning::references::{plan_dynamic_reference, plan_reference};
+use crate::planning::unevaluated::{plan_unevaluated_items, plan_unevaluated_properties};
 use crate::searches::Searches;
 use crate::site::{Evaluated, Site};
 use faults::Fault;
@@ -37,5 +52,55 @@ pub fn plan<'a>(
         (row_of keyword).name (row_of keyword).meaning (value keyword_value.now)) }
     ensures err { IfErr result (λ f. f ≡ Fault.NoRoom) }
 {
-    Err(Fault::NoRoom)
+    let subject = site.subject;
+    match keyword {
+        Keyword::Ref => plan_reference(alloc, site, keyword_value),
+        Keyword::DynamicRef => plan_dynamic_reference(alloc, site, keyword_value),
+        Keyword::Asserts(_) => Ok(Vec::new(alloc)),
+        Keyword::Pattern => Ok(Vec::new(alloc)),
+        Keyword::AllOf => Ok(plan_listed(alloc, keyword_value, subject)?),
+        Keyword::AnyOf => Ok(plan_listed(alloc, keyword_value, subject)?),
+        Keyword::OneOf => Ok(plan_listed(alloc, keyword_value, subject)?),
+        Keyword::Not => Ok(plan_own(alloc, keyword_value, subject)?),
+        Keyword::If => Ok(plan_own(alloc, keyword_value, subject)?),
+        Keyword::Then => Ok(plan_consequence(
+            alloc,
+            keyword_value,
+            subject,
+            condition,
+            true,
+        )?),
+        Keyword::Else => Ok(plan_consequence(
+            alloc,
+            keyword_value,
+            subject,
+            condition,
+            false,
+        )?),
+        Keyword::DependentSchemas => Ok(plan_dependents(alloc, keyword_value, subject)?),
+        Keyword::PrefixItems => Ok(plan_prefix(alloc, keyword_value, subject)?),
+        Keyword::Items => {
+            let start = prefix_length(site.schema);
+            Ok(plan_items(alloc, keyword_value, start, subject)?)
+        }
+        Keyword::Contains => Ok(plan_items(alloc, keyword_value, 0, subject)?),
+        Keyword::MinContains => Ok(Vec::new(alloc)),
+        Keyword::MaxContains => Ok(Vec::new(alloc)),
+        Keyword::Properties => Ok(plan_properties(alloc, keyword_value, subject)?),
+        Keyword::PatternProperties => plan_patterns(alloc, site, searches, keyword_value),
+        Keyword::AdditionalProperties => plan_others(alloc, site, searches, keyword_value),
+        Keyword::PropertyNames => Ok(plan_names(alloc, keyword_value, subject)?),
+        Keyword::UnevaluatedItems => Ok(plan_unevaluated_items(
+            alloc,
+            keyword_value,
+            subject,
+            evaluated.indexes,
+        )?),
+        Keyword::UnevaluatedProperties => Ok(plan_unevaluated_properties(
+            alloc,
+            keyword_value,
+            subject,
+            evaluated.names,
+        )?),
+    }
 }

@@ -1,6 +1,6 @@
 //! Searches for the patterns of linked documents.
 
-ghost use Rattle.std.specs.Prelude.{◌≡◌, IfOk, IfErr, Contains};
+ghost use Rattle.std.specs.Prelude.{◌≡◌, ◌<◌, ◌≤◌, true, IfOk, IfErr, Contains, length, slice_index_or};
 ghost use Rattle.definitions.specs.Patterns.{has_match};
 ghost use Rattle.definitions.specs.Scanning.{patterns_of};
 ghost use Rattle.definitions.specs.Schemas.{Schema};
@@ -38,6 +38,31 @@ impl<'a> Searches<'a> {
             → IfOk result (λ found. found ≡ has_match pattern.now text.now) }
         ensures err { IfErr result (λ f. f ≡ Fault.NoRoom) }
     {
-        Err(Fault::NoRoom)
+        let place = place_of(&self.searchers, pattern);
+        if is_at(&self.searchers, place, pattern) {
+            return Ok(self.searchers[place].is_match(text));
+        }
+        match linked.pattern(pattern) {
+            Some(built) => {
+                let mut searcher = built.searcher(alloc)?;
+                let found = searcher.is_match(text);
+                self.searchers.insert(place, searcher)?;
+                Ok(found)
+            }
+            None => Ok(false),
+        }
     }
+}
+
+// Where the searcher for the pattern stands or belongs: they stand in byte order of their patterns.
+fn place_of(searchers: &[Searcher<'_>], pattern: &str) -> usize
+    ensures { result ≤ length searchers.now }
+{
+    searchers.partition_point(|searcher| searcher.pattern() < pattern)
+}
+
+fn is_at(searchers: &[Searcher<'_>], place: usize, pattern: &str) -> bool
+    ensures { result ≡ true → (place < length searchers.now) × (slice_index_or searchers.now place pattern.now ≡ pattern.now) }
+{
+    place < searchers.len() && searchers[place].pattern() == pattern
 }

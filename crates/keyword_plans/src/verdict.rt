@@ -1,20 +1,27 @@
 //! Whether a keyword passes.
 
-ghost use Rattle.std.specs.Prelude.{◌≡◌, ℕ, List, Some, IfOk, IfErr, count_by, length, option_map};
-ghost use Rattle.definitions.specs.Values.{Text, get};
-ghost use Rattle.definitions.specs.Applied.{Application, Outcome, contains_outcomes};
-ghost use Rattle.definitions.specs.Evaluated.{keyword_passes, passing};
+ghost use Rattle.std.specs.Prelude.{◌≡◌, ◌||◌, ℕ, List, Option, Some, IfOk, IfErr, codes, count_by, length, nat_lt, not, option_map};
+ghost use Rattle.assertions.specs.AssertionView.{assertion_view};
+ghost use Rattle.assertions.specs.Limits.{size_of};
+ghost use Rattle.definitions.specs.Values.{Text, get, integer, is_array};
+ghost use Rattle.definitions.specs.Assertions.{holds, is_at_least, is_at_most};
+ghost use Rattle.definitions.specs.Patterns.{has_match};
+ghost use Rattle.definitions.specs.Applied.{Application, Outcome, beside, contains_outcomes};
+ghost use Rattle.definitions.specs.Evaluated.{contains_holds, keyword_passes, needs_none, passing, pattern_holds};
 ghost use Rattle.json_doc.specs.Docs.{value};
 ghost use Rattle.keyword_plans.specs.Plans.{outcomes_of};
 ghost use Rattle.keyword_plans.specs.Rows.{row_of};
 ghost use Rattle.keyword_plans.specs.Sites.{Shows, linked_rules};
+ghost use Rattle.keyword_plans.specs.Subjects.{subject_value};
 
 use crate::keyword::Keyword;
 use crate::searches::Searches;
 use crate::site::Site;
+use crate::subject::Subject;
+use assertions::{Keyword as Assertion, holds};
 use faults::Fault;
-use json_doc::Doc;
-use std::alloc::Global;
+use json_doc::{Doc, Whole};
+use std::alloc::{AllocError, Global};
 
 /// How many schemas a keyword applied, and how many of them passed.
 #[derive(Clone, Copy, Debug, PartialEq, Eq)]
@@ -46,5 +53,157 @@ pub fn passes<'a>(
         → IfOk result (λ b. b ≡ keyword_passes (linked_rules site.entry.linked.now) run a (row_of keyword).name (row_of keyword).meaning (value keyword_value.now) os) }
     ensures err { IfErr result (λ f. f ≡ Fault.NoRoom) }
 {
-    Err(Fault::NoRoom)
+    match keyword {
+        Keyword::Asserts(assertion) => Ok(holds_of(
+            alloc,
+            assertion,
+            keyword_value,
+            site.subject,
+        )?),
+        Keyword::Pattern => is_pattern_met(alloc, site, searches, keyword_value),
+        Keyword::Ref => Ok(tally.passing == 1),
+        Keyword::DynamicRef => Ok(tally.passing == 1),
+        Keyword::AllOf => Ok(tally.passing == tally.applied),
+        Keyword::AnyOf => Ok(tally.passing > 0),
+        Keyword::OneOf => Ok(tally.passing == 1),
+        Keyword::Not => Ok(tally.passing == 0),
+        Keyword::If => Ok(true),
+        Keyword::Then => Ok(tally.passing == tally.applied),
+        Keyword::Else => Ok(tally.passing == tally.applied),
+        Keyword::DependentSchemas => Ok(tally.passing == tally.applied),
+        Keyword::PrefixItems => Ok(tally.passing == tally.applied),
+        Keyword::Items => Ok(tally.passing == tally.applied),
+        Keyword::Contains => Ok(contains_enough(tally.passing, site)),
+        Keyword::MinContains => Ok(contains_at_least(site.subject, keyword_value, containing)),
+        Keyword::MaxContains => Ok(contains_at_most(site.subject, keyword_value, containing)),
+        Keyword::Properties => Ok(tally.passing == tally.applied),
+        Keyword::PatternProperties => Ok(tally.passing == tally.applied),
+        Keyword::AdditionalProperties => Ok(tally.passing == tally.applied),
+        Keyword::PropertyNames => Ok(tally.passing == tally.applied),
+        Keyword::UnevaluatedItems => Ok(tally.passing == tally.applied),
+        Keyword::UnevaluatedProperties => Ok(tally.passing == tally.applied),
+    }
+}
+
+fn holds_of(
+    alloc: Global,
+    assertion: Assertion,
+    keyword_value: &Doc,
+    subject: Subject<'_>,
+) -> Result<bool, AllocError>
+    ensures { IfOk result (λ b. b ≡ holds (assertion_view assertion) (value keyword_value.now) (subject_value subject.entry)) }
+{
+    match subject {
+        Subject::Value(doc) => Ok(holds(assertion, keyword_value, doc)),
+        Subject::Name(name) => {
+            let name = Doc::Str(String::from_str(alloc, name)?);
+            Ok(holds(assertion, keyword_value, &name))
+        }
+    }
+}
+
+// Whether the pattern matches the subject, where it is a string (Validation, 6.3.3).
+fn is_pattern_met<'a>(
+    alloc: Global,
+    site: Site<'_, 'a>,
+    searches: &mut Searches<'a>,
+    pattern: &Doc,
+) -> Result<bool, Fault>
+    ensures ok { (a : Application) → Shows site.entry a → get (codes "pattern") a.schema.value ≡ Some (value pattern.now)
+        → IfOk result (λ b. b ≡ pattern_holds has_match (value pattern.now) a.instance) }
+    ensures err { IfErr result (λ f. f ≡ Fault.NoRoom) }
+{
+    match pattern.as_str() {
+        Some(pattern) => match site.subject.as_str() {
+            Some(text) => searches.is_match(alloc, site.linked, pattern, text),
+            None => Ok(true),
+        },
+        None => Ok(true),
+    }
+}
+
+// Whether so many passing elements are enough for `contains` (Core, 10.3.1.3): one at least, unless `minContains` beside
+// is 0.
+fn contains_enough(passing: u64, site: Site<'_, '_>) -> bool
+    ensures { (a : Application) → Shows site.entry a
+        → result ≡ (not (is_array a.instance) || (nat_lt 0 passing || needs_none (beside a (codes "minContains")))) }
+{
+    !site.subject.is_array() || passing > 0 || needs_none(site.schema)
+}
+
+fn needs_none(schema: &Doc) -> bool
+    ensures { (a : Application) → a.schema.value ≡ value schema.now → result ≡ needs_none (beside a (codes "minContains")) }
+{
+    match schema.get("minContains") {
+        Some(least) => is_zero(least),
+        None => false,
+    }
+}
+
+fn is_zero(doc: &Doc) -> bool
+    ensures { result ≡ needs_none (value doc.now) }
+{
+    match doc {
+        Doc::Int(number) => is_zero_number(*number),
+        _ => false,
+    }
+}
+
+fn is_zero_number(number: Whole) -> bool
+    ensures { result ≡ needs_none (integer number) }
+{
+    match number.as_u64() {
+        Some(natural) => natural == 0,
+        None => false,
+    }
+}
+
+// Whether `contains` beside found at least so many elements of the array (Validation, 6.4.5).
+fn contains_at_least(subject: Subject<'_>, least: &Doc, containing: Option<u64>) -> bool
+    ensures { (os : Option (List Outcome)) → option_map (count_by (λ o. o.valid)) os ≡ containing
+        → result ≡ contains_holds (is_at_least (value least.now)) (is_array (subject_value subject.entry)) os }
+{
+    match containing {
+        Some(count) => !subject.is_array() || is_at_least(count, least),
+        None => true,
+    }
+}
+
+fn is_at_least(count: u64, least: &Doc) -> bool
+    ensures { result ≡ is_at_least (value least.now) count }
+{
+    match size_of(least) {
+        Some(size) => count >= size,
+        None => true,
+    }
+}
+
+// Whether `contains` beside found at most so many elements of the array (Validation, 6.4.4).
+fn contains_at_most(subject: Subject<'_>, most: &Doc, containing: Option<u64>) -> bool
+    ensures { (os : Option (List Outcome)) → option_map (count_by (λ o. o.valid)) os ≡ containing
+        → result ≡ contains_holds (is_at_most (value most.now)) (is_array (subject_value subject.entry)) os }
+{
+    match containing {
+        Some(count) => !subject.is_array() || is_at_most(count, most),
+        None => true,
+    }
+}
+
+fn is_at_most(count: u64, most: &Doc) -> bool
+    ensures { result ≡ is_at_most (value most.now) count }
+{
+    match size_of(most) {
+        Some(size) => count <= size,
+        None => true,
+    }
+}
+
+// The number, where it is one of at least 0.
+fn size_of(limit: &Doc) -> Option<u64>
+    ensures { result ≡ size_of (value limit.now) }
+{
+    match limit {
+        Doc::Int(number) => number.as_u64(),
+        _ => None,
+    }
 }

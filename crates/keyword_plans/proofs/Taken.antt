@@ -1,0 +1,22 @@
+-- Members that no keyword beside takes.
+use Rattle.std.proofs.Common.{◌≡◌, List, [], ◌∷◌, ◌||◌, Bool, false, is_some, codes, option_map, unwrap_or, refl, sym, ap, ◌∙◌}
+use Rattle.std.specs.List.{list_any}
+use Rattle.definitions.specs.Values.{Text, Value, entry, members}
+use Rattle.definitions.specs.Patterns.{has_match}
+use Rattle.definitions.specs.Applied.{Application, Part, named, at_part, beside, is_taken}
+use Rattle.json_doc.specs.Docs.{members_value}
+use Rattle.linker.specs.declared.linked.Linked.{Linked}
+use Rattle.keyword_plans.specs.Applications.{planned_others}
+use Rattle.keyword_plans.specs.Sites.{linked_rules}
+
+-- a name that `properties` beside lacks is taken by patterns alone
+pub taken_by_patterns : (l : Linked) (a : Application) (name : Text) (schemas patterns : List (Text × Value))
+    → schemas ≡ members (beside a (codes "properties")) → patterns ≡ members (beside a (codes "patternProperties"))
+    → is_some (entry name schemas) ≡ false → list_any (λ p. has_match p.0 name) patterns ≡ is_taken (linked_rules l) a name
+taken_by_patterns l a name schemas patterns e f none =
+    ap (list_any (λ (p : Text × Value). has_match p.0 name)) f
+    ∙ ap (λ b. b || list_any (λ (p : Text × Value). has_match p.0 name) (members (beside a (codes "patternProperties")))) (sym none ∙ ap (λ ms. is_some (entry name ms)) e)
+
+pub others-here : (l : Linked) (k : Text) (a : Application) (v : Value) (name : Text) (x : Value) (ms : List (Text × Value)) → is_taken (linked_rules l) a name ≡ false
+    → planned_others l k a v ((name, x) ∷ ms) ≡ at_part a (k ∷ []) v (named name) x ∷ planned_others l k a v ms
+others-here l k a v name x ms free = rw free refl

@@ -1,0 +1,16 @@
+use Rattle.std.proofs.Common.{◌≡◌, ◌++◌, map}
+use Rattle.definitions.specs.Values.{Text}
+use Rattle.definitions.specs.Applied.{Application}
+use Rattle.json_doc.specs.Docs.{value, members_value}
+use Rattle.json_doc.specs.Members.{members_left}
+use Rattle.keyword_plans.specs.Applications.{planned_others}
+use Rattle.keyword_plans.specs.Beside.{StandsBeside}
+use Rattle.keyword_plans.specs.Plans.{planned_view}
+use Rattle.keyword_plans.proofs.planning.others.plan_untaken.Given as goal
+
+-- what is planned, and what the members that are left add
+abbrev pub invariant-loop-name : goal.invariant-loop-name
+invariant-loop-name l =
+    (a : Application) (k : Text) → StandsBeside l.beside a
+    → map (planned_view k a) l.planned.items ++ planned_others l.beside.linked.now k a (value l.schema) (members_left l.name-iterator)
+    ≡ planned_others l.beside.linked.now k a (value l.schema) (members_value l.members)

@@ -1,0 +1,56 @@
+-- What a keyword applies, read off lists of schemas, elements and members.
+use Rattle.std.specs.Prelude.{ℕ, List, [], ◌∷◌, ◌==◌, decimal, map, flat_map, filter, zip, is_some, not, Contains}
+use Rattle.std.specs.List.{AllByRecursion, list_any, enumerate_from}
+use Rattle.definitions.specs.Values.{Text, Value, get, string}
+use Rattle.definitions.specs.Patterns.{has_match}
+use Rattle.definitions.specs.Scanning.{patterns_of}
+use Rattle.definitions.specs.Schemas.{Schema}
+use Rattle.definitions.specs.Applied.{Application, Part, named, indexed, name_of, at_part, in_place, at_present, at_members, is_taken, has}
+use Rattle.linker.specs.LinkedDocuments.{linked_schemas}
+use Rattle.linker.specs.declared.linked.Linked.{Linked}
+use Rattle.keyword_plans.specs.Sites.{linked_rules}
+
+-- these schemas, numbered from i, at the whole instance
+abbrev pub planned_listed : Text → Application → ℕ → List Value → List (Part × Application)
+planned_listed k a i vs = map (λ e. in_place a (k ∷ decimal e.0 ∷ []) e.1) (enumerate_from i vs)
+
+-- the members of the instance whose names stand among these schemas
+abbrev pub planned_members : Text → Application → List (Text × Value) → List (Part × Application)
+planned_members k a ms = flat_map (λ m. at_present a k m (get m.0 a.instance)) ms
+
+-- the schemas whose names the instance has, at the whole instance
+abbrev pub planned_dependents : Text → Application → List (Text × Value) → List (Part × Application)
+planned_dependents k a ms = map (λ m. in_place a (k ∷ m.0 ∷ []) m.1) (filter (λ m. is_some (get m.0 a.instance)) ms)
+
+-- each of these schemas, numbered from i, at the element beside it
+abbrev pub planned_pairs : Text → Application → ℕ → List Value → List Value → List (Part × Application)
+planned_pairs k a i vs xs = map (λ e. at_part a (k ∷ decimal (e.0).0 ∷ []) (e.0).1 (indexed (e.0).0) e.1) (zip (enumerate_from i vs) xs)
+
+-- the schemas under the patterns that match this name, at its member
+abbrev pub planned_matches : Text → Application → Text → Value → List (Text × Value) → List (Part × Application)
+planned_matches k a name x ps = map (λ p. at_part a (k ∷ p.0 ∷ []) p.1 (named name) x) (filter (λ p. has_match p.0 name) ps)
+
+-- the same, at each of these members
+abbrev pub planned_matched : Text → Application → List (Text × Value) → List (Text × Value) → List (Part × Application)
+planned_matched k a ps ms = flat_map (λ m. planned_matches k a m.0 m.1 ps) ms
+
+-- the schema v, at each of these members that no keyword beside takes
+abbrev pub planned_others : Linked → Text → Application → Value → List (Text × Value) → List (Part × Application)
+planned_others l k a v ms = at_members a k v (filter (λ m. not (is_taken (linked_rules l) a m.0)) ms)
+
+-- the schema v, at each of these names
+abbrev pub planned_names : Text → Application → Value → List (Text × Value) → List (Part × Application)
+planned_names k a v ms = map (λ m. at_part a (k ∷ []) v (name_of m.0) (string m.0)) ms
+
+-- the schema v, at each of these elements, numbered from i, whose index isn't among these
+abbrev pub planned_unevaluated : Text → Application → Value → List ℕ → ℕ → List Value → List (Part × Application)
+planned_unevaluated k a v is i xs = map (λ e. at_part a (k ∷ []) v (indexed e.0) e.1) (filter (λ e. not (list_any (λ i. i == e.0) is)) (enumerate_from i xs))
+
+-- the schema v, at each of these members whose name isn't among these
+abbrev pub planned_unnamed : Text → Application → Value → List Text → List (Text × Value) → List (Part × Application)
+planned_unnamed k a v ns ms = at_members a k v (filter (λ m. not (has m.0 ns)) ms)
+
+-- each of these names is a pattern of a schema of the linked documents
+pub record ArePatternsOf (l : Linked) (s : Schema) (ps : List (Text × Value)) : Type 0 where
+  pub inside : Contains (linked_schemas l) s
+  pub patterns : AllByRecursion (λ p. Contains (patterns_of s) p.0) ps

@@ -1,0 +1,137 @@
+//! Keywords that apply schemas to the whole instance (JSON Schema 2020-12 Core, 10.2).
+
+ghost use Rattle.std.specs.Prelude.{◌≡◌, [], ◌∷◌, Option, if◌then◌else◌, map, option_map, IfOk};
+ghost use Rattle.definitions.specs.Values.{Text, members};
+ghost use Rattle.definitions.specs.Applied.{Application, Outcome, in_place, each_listed, consequence_of};
+ghost use Rattle.json_doc.specs.Docs.{value, members_value};
+ghost use Rattle.keyword_plans.specs.Applications.{planned_listed, planned_dependents};
+ghost use Rattle.keyword_plans.specs.Plans.{planned_view};
+ghost use Rattle.keyword_plans.specs.Subjects.{subject_value};
+
+use crate::planned::{Chosen, Part, Planned};
+use crate::subject::Subject;
+use json_doc::{Doc, Members};
+use locations::Step;
+use std::alloc::{AllocError, Global};
+
+/// The keyword's value itself.
+pub(crate) fn plan_own<'a>(
+    alloc: Global,
+    schema: &'a Doc,
+    subject: Subject<'a>,
+) -> Result<Vec<Planned<'a>>, AllocError>
+    ensures { (a : Application) (k : Text) → a.instance ≡ subject_value subject.entry
+        → IfOk result (λ ps. map (planned_view k a) ps.items ≡ in_place a (k ∷ []) (value schema.now) ∷ []) }
+{
+    let mut planned = Vec::new(alloc);
+    planned.push(Planned {
+        chosen: Chosen::Below(None, schema),
+        part: Part::Whole,
+        subject,
+    })?;
+    Ok(planned)
+}
+
+/// Each schema of a list (10.2.1).
+pub(crate) fn plan_listed<'a>(
+    alloc: Global,
+    schemas: &'a Doc,
+    subject: Subject<'a>,
+) -> Result<Vec<Planned<'a>>, AllocError>
+    ensures { (a : Application) (k : Text) → a.instance ≡ subject_value subject.entry
+        → IfOk result (λ ps. map (planned_view k a) ps.items ≡ each_listed a k (value schemas.now)) }
+{
+    match schemas {
+        Doc::List(schemas) => plan_elements(alloc, schemas, subject),
+        _ => Ok(Vec::new(alloc)),
+    }
+}
+
+fn plan_elements<'a>(
+    alloc: Global,
+    schemas: &'a [Doc],
+    subject: Subject<'a>,
+) -> Result<Vec<Planned<'a>>, AllocError>
+    ensures { (a : Application) (k : Text) → a.instance ≡ subject_value subject.entry
+        → IfOk result (λ ps. map (planned_view k a) ps.items ≡ planned_listed k a 0 (map value schemas.now)) }
+{
+    let mut planned = Vec::new(alloc);
+    for (index, schema) in schemas.iter().enumerate() {
+        planned.push(Planned {
+            chosen: Chosen::Below(Some(Step::Index(index)), schema),
+            part: Part::Whole,
+            subject,
+        })?;
+    }
+    Ok(planned)
+}
+
+/// The keyword's value itself, where `if` beside passed as it is wanted (10.2.2).
+pub(crate) fn plan_consequence<'a>(
+    alloc: Global,
+    schema: &'a Doc,
+    subject: Subject<'a>,
+    condition: Option<bool>,
+    wanted: bool,
+) -> Result<Vec<Planned<'a>>, AllocError>
+    ensures { (a : Application) (k : Text) (o : Option Outcome) → a.instance ≡ subject_value subject.entry
+        → option_map (λ o. o.valid) o ≡ condition
+        → IfOk result (λ ps. map (planned_view k a) ps.items ≡ consequence_of a k wanted (value schema.now) o) }
+{
+    match condition {
+        Some(passed) => plan_if(alloc, schema, subject, passed == wanted),
+        None => Ok(Vec::new(alloc)),
+    }
+}
+
+fn plan_if<'a>(
+    alloc: Global,
+    schema: &'a Doc,
+    subject: Subject<'a>,
+    applies: bool,
+) -> Result<Vec<Planned<'a>>, AllocError>
+    ensures { (a : Application) (k : Text) → a.instance ≡ subject_value subject.entry
+        → IfOk result (λ ps. map (planned_view k a) ps.items ≡ (if applies then in_place a (k ∷ []) (value schema.now) ∷ [] else [])) }
+{
+    if applies {
+        plan_own(alloc, schema, subject)
+    } else {
+        Ok(Vec::new(alloc))
+    }
+}
+
+/// Each schema whose name the instance has (10.2.2.4).
+pub(crate) fn plan_dependents<'a>(
+    alloc: Global,
+    schemas: &'a Doc,
+    subject: Subject<'a>,
+) -> Result<Vec<Planned<'a>>, AllocError>
+    ensures { (a : Application) (k : Text) → a.instance ≡ subject_value subject.entry
+        → IfOk result (λ ps. map (planned_view k a) ps.items ≡ planned_dependents k a (members (value schemas.now))) }
+{
+    match schemas {
+        Doc::Dict(schemas) => plan_dependent_members(alloc, schemas, subject),
+        _ => Ok(Vec::new(alloc)),
+    }
+}
+
+fn plan_dependent_members<'a>(
+    alloc: Global,
+    schemas: &'a Members,
+    subject: Subject<'a>,
+) -> Result<Vec<Planned<'a>>, AllocError>
+    ensures { (a : Application) (k : Text) → a.instance ≡ subject_value subject.entry
+        → IfOk result (λ ps. map (planned_view k a) ps.items ≡ planned_dependents k a (members_value schemas.now)) }
+{
+    let mut planned = Vec::new(alloc);
+    for (name, schema) in schemas.iter() {
+        if subject.get(name).is_some() {
+            planned.push(Planned {
+                chosen: Chosen::Below(Some(Step::Name(name)), schema),
+                part: Part::Whole,
+                subject,
+            })?;
+        }
+    }
+    Ok(planned)
+}

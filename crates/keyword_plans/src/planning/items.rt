@@ -1,0 +1,92 @@
+//! Keywords that apply schemas to the elements of an array (JSON Schema 2020-12 Core, 10.3.1).
+
+ghost use Rattle.std.specs.Prelude.{◌≡◌, map, drop, length, codes, IfOk};
+ghost use Rattle.definitions.specs.Values.{Text, elements};
+ghost use Rattle.definitions.specs.Applied.{Application, at_items, beside};
+ghost use Rattle.json_doc.specs.Docs.{value};
+ghost use Rattle.keyword_plans.specs.Applications.{planned_pairs};
+ghost use Rattle.keyword_plans.specs.Plans.{planned_view};
+ghost use Rattle.keyword_plans.specs.Subjects.{subject_value};
+
+use crate::planned::{Chosen, Part, Planned};
+use crate::subject::{Subject, elements_of};
+use json_doc::Doc;
+use locations::Step;
+use std::alloc::{AllocError, Global};
+
+/// Each schema of a list, at the element of the same number (10.3.1.1).
+pub(crate) fn plan_prefix<'a>(
+    alloc: Global,
+    schemas: &'a Doc,
+    subject: Subject<'a>,
+) -> Result<Vec<Planned<'a>>, AllocError>
+    ensures { (a : Application) (k : Text) → a.instance ≡ subject_value subject.entry
+        → IfOk result (λ ps. map (planned_view k a) ps.items ≡ planned_pairs k a 0 (elements (value schemas.now)) (elements a.instance)) }
+{
+    plan_pairs(alloc, elements_of(schemas), subject.elements())
+}
+
+fn plan_pairs<'a>(
+    alloc: Global,
+    schemas: &'a [Doc],
+    items: &'a [Doc],
+) -> Result<Vec<Planned<'a>>, AllocError>
+    ensures { (a : Application) (k : Text)
+        → IfOk result (λ ps. map (planned_view k a) ps.items ≡ planned_pairs k a 0 (map value schemas.now) (map value items.now)) }
+{
+    let mut planned = Vec::new(alloc);
+    for (index, schema) in schemas.iter().enumerate() {
+        if index == items.len() {
+            return Ok(planned);
+        }
+        planned.push(Planned {
+            chosen: Chosen::Below(Some(Step::Index(index)), schema),
+            part: Part::Element(index),
+            subject: Subject::Value(&items[index]),
+        })?;
+    }
+    Ok(planned)
+}
+
+/// The schema, at each element from this number on (10.3.1.2 and 10.3.1.3).
+pub(crate) fn plan_items<'a>(
+    alloc: Global,
+    schema: &'a Doc,
+    start: usize,
+    subject: Subject<'a>,
+) -> Result<Vec<Planned<'a>>, AllocError>
+    ensures { (a : Application) (k : Text) → a.instance ≡ subject_value subject.entry
+        → IfOk result (λ ps. map (planned_view k a) ps.items ≡ at_items a k (value schema.now) start (drop start (elements a.instance))) }
+{
+    plan_from(alloc, schema, start, subject.elements())
+}
+
+fn plan_from<'a>(
+    alloc: Global,
+    schema: &'a Doc,
+    start: usize,
+    items: &'a [Doc],
+) -> Result<Vec<Planned<'a>>, AllocError>
+    ensures { (a : Application) (k : Text)
+        → IfOk result (λ ps. map (planned_view k a) ps.items ≡ at_items a k (value schema.now) start (map value (drop start items.now))) }
+{
+    let mut planned = Vec::new(alloc);
+    for index in start..items.len() {
+        planned.push(Planned {
+            chosen: Chosen::Below(None, schema),
+            part: Part::Element(index),
+            subject: Subject::Value(&items[index]),
+        })?;
+    }
+    Ok(planned)
+}
+
+/// How many elements `prefixItems` beside speaks of.
+pub(crate) fn prefix_length(schema: &Doc) -> usize
+    ensures { (a : Application) → a.schema.value ≡ value schema.now → result ≡ length (elements (beside a (codes "prefixItems"))) }
+{
+    match schema.get("prefixItems") {
+        Some(prefix) => elements_of(prefix).len(),
+        None => 0,
+    }
+}

@@ -1,0 +1,121 @@
+//! Members that no keyword beside takes (JSON Schema 2020-12 Core, 10.3.2.3).
+
+ghost use Rattle.std.specs.Prelude.{◌≡◌, [], map, option_map, unwrap_or, is_some, IfOk, IfErr};
+ghost use Rattle.std.specs.List.{list_any};
+ghost use Rattle.definitions.specs.Values.{Text, entry, members};
+ghost use Rattle.definitions.specs.Patterns.{has_match};
+ghost use Rattle.definitions.specs.Schemas.{Schema};
+ghost use Rattle.definitions.specs.Applied.{Application, beside, is_taken};
+ghost use Rattle.json_doc.specs.Docs.{value, members_value};
+ghost use Rattle.keyword_plans.specs.Applications.{ArePatternsOf, planned_others};
+ghost use Rattle.keyword_plans.specs.Beside.{StandsBeside};
+ghost use Rattle.keyword_plans.specs.Plans.{planned_view};
+ghost use Rattle.keyword_plans.specs.Sites.{Shows, linked_rules};
+
+use crate::planned::{Chosen, Part, Planned};
+use crate::planning::matching::is_matched;
+use crate::searches::Searches;
+use crate::site::Site;
+use crate::subject::{Subject, members_of};
+use faults::Fault;
+use json_doc::{Doc, Members};
+use linker::Linked;
+use std::alloc::Global;
+
+// The keywords beside `additionalProperties` that take members.
+#[derive(Clone, Copy)]
+struct Beside<'a> {
+    linked: &'a Linked,
+    // The members of `properties`, and of `patternProperties`.
+    properties: Option<&'a Members>,
+    patterns: Option<&'a Members>,
+}
+
+/// The schema, at each member of the instance that neither `properties` nor `patternProperties` beside takes.
+pub(crate) fn plan_others<'a>(
+    alloc: Global,
+    site: Site<'_, 'a>,
+    searches: &mut Searches<'a>,
+    schema: &'a Doc,
+) -> Result<Vec<Planned<'a>>, Fault>
+    ensures ok { (a : Application) (k : Text) → Shows site.entry a
+        → IfOk result (λ ps. map (planned_view k a) ps.items ≡ planned_others site.entry.linked.now k a (value schema.now) (members a.instance)) }
+    ensures err { IfErr result (λ f. f ≡ Fault.NoRoom) }
+{
+    match site.subject.members() {
+        Some(members) => plan_untaken(alloc, keywords_beside(site), searches, schema, members),
+        None => Ok(Vec::new(alloc)),
+    }
+}
+
+fn keywords_beside<'a>(site: Site<'_, 'a>) -> Beside<'a>
+    ensures linked { result.linked.now ≡ site.entry.linked.now }
+    ensures beside { (a : Application) → Shows site.entry a → StandsBeside result a }
+{
+    Beside {
+        linked: site.linked,
+        properties: members_beside(site.schema, "properties"),
+        patterns: members_beside(site.schema, "patternProperties"),
+    }
+}
+
+fn members_beside<'a>(schema: &'a Doc, keyword: &str) -> Option<&'a Members>
+    ensures { (a : Application) → a.schema.value ≡ value schema.now → unwrap_or (option_map (λ m. members_value m.now) result) [] ≡ members (beside a keyword.now) }
+{
+    match schema.get(keyword) {
+        Some(doc) => members_of(doc),
+        None => None,
+    }
+}
+
+fn plan_untaken<'a>(
+    alloc: Global,
+    beside: Beside<'a>,
+    searches: &mut Searches<'a>,
+    schema: &'a Doc,
+    members: &'a Members,
+) -> Result<Vec<Planned<'a>>, Fault>
+    ensures ok { (a : Application) (k : Text) → StandsBeside beside.entry a
+        → IfOk result (λ ps. map (planned_view k a) ps.items ≡ planned_others beside.entry.linked.now k a (value schema.now) (members_value members.now)) }
+    ensures err { IfErr result (λ f. f ≡ Fault.NoRoom) }
+{
+    let mut planned = Vec::new(alloc);
+    for (name, member) in members.iter() {
+        if !is_taken(alloc, beside, searches, name)? {
+            planned.push(Planned {
+                chosen: Chosen::Below(None, schema),
+                part: Part::Member(name),
+                subject: Subject::Value(member),
+            })?;
+        }
+    }
+    Ok(planned)
+}
+
+// Whether a keyword beside takes the member of this name.
+fn is_taken<'a>(
+    alloc: Global,
+    beside: Beside<'a>,
+    searches: &mut Searches<'a>,
+    name: &str,
+) -> Result<bool, Fault>
+    ensures ok { (a : Application) → StandsBeside beside.entry a → IfOk result (λ b. b ≡ is_taken (linked_rules beside.entry.linked.now) a name.now) }
+    ensures err { IfErr result (λ f. f ≡ Fault.NoRoom) }
+{
+    if is_named(beside.properties, name) {
+        return Ok(true);
+    }
+    match beside.patterns {
+        Some(patterns) => is_matched(alloc, beside.linked, searches, patterns, name),
+        None => Ok(false),
+    }
+}
+
+fn is_named(schemas: Option<&Members>, name: &str) -> bool
+    ensures { result ≡ is_some (entry name.now (unwrap_or (option_map (λ m. members_value m.now) schemas.entry) [])) }
+{
+    match schemas {
+        Some(schemas) => schemas.get(name).is_some(),
+        None => false,
+    }
+}

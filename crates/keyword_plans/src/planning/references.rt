@@ -1,0 +1,80 @@
+//! References (JSON Schema 2020-12 Core, 8.2.3).
+
+ghost use Rattle.std.specs.Prelude.{◌≡◌, Some, map, option_map, option_and_then, IfOk, IfErr};
+ghost use Rattle.definitions.specs.Values.{Text, get};
+ghost use Rattle.definitions.specs.Schemas.{reference_at};
+ghost use Rattle.definitions.specs.Targets.{target, dynamic_target};
+ghost use Rattle.definitions.specs.Applied.{Application, to_target};
+ghost use Rattle.json_doc.specs.Docs.{value};
+ghost use Rattle.linker.specs.LinkedDocuments.{linked_schemas};
+ghost use Rattle.keyword_plans.specs.Plans.{planned_view};
+ghost use Rattle.keyword_plans.specs.Sites.{Shows};
+ghost use Rattle.keyword_plans.specs.Subjects.{subject_value};
+ghost use Rattle.schema_index.specs.Locateds.{located_schema};
+
+use crate::planned::{Chosen, Part, Planned};
+use crate::site::Site;
+use crate::subject::Subject;
+use faults::Fault;
+use json_doc::Doc;
+use schema_index::Located;
+use std::alloc::{AllocError, Global};
+
+/// What a reference names (8.2.3.1).
+pub(crate) fn plan_reference<'a>(
+    alloc: Global,
+    site: Site<'_, 'a>,
+    reference: &'a Doc,
+) -> Result<Vec<Planned<'a>>, Fault>
+    ensures ok { (a : Application) (k : Text) → Shows site.entry a → get k a.schema.value ≡ Some (value reference.now)
+        → IfOk result (λ ps. map (planned_view k a) ps.items ≡ to_target a k (option_and_then (target (linked_schemas site.entry.linked.now)) (reference_at k a.schema))) }
+    ensures err { IfErr result (λ f. f ≡ Fault.NoRoom) }
+{
+    match reference {
+        Doc::Str(reference) => {
+            let target = site.linked.target(alloc, site.resource, reference)?;
+            Ok(plan_target(alloc, target, site.subject)?)
+        }
+        _ => Ok(Vec::new(alloc)),
+    }
+}
+
+/// What a dynamic reference names, in the dynamic scope (8.2.3.2).
+pub(crate) fn plan_dynamic_reference<'a>(
+    alloc: Global,
+    site: Site<'_, 'a>,
+    reference: &'a Doc,
+) -> Result<Vec<Planned<'a>>, Fault>
+    ensures ok { (a : Application) (k : Text) → Shows site.entry a → get k a.schema.value ≡ Some (value reference.now)
+        → IfOk result (λ ps. map (planned_view k a) ps.items ≡ to_target a k (option_and_then (dynamic_target (linked_schemas site.entry.linked.now) a.scope) (reference_at k a.schema))) }
+    ensures err { IfErr result (λ f. f ≡ Fault.NoRoom) }
+{
+    match reference {
+        Doc::Str(reference) => {
+            let target = site
+                .linked
+                .dynamic_target(alloc, site.scope, site.resource, reference)?;
+            Ok(plan_target(alloc, target, site.subject)?)
+        }
+        _ => Ok(Vec::new(alloc)),
+    }
+}
+
+fn plan_target<'a>(
+    alloc: Global,
+    target: Option<Located<'a>>,
+    subject: Subject<'a>,
+) -> Result<Vec<Planned<'a>>, AllocError>
+    ensures { (a : Application) (k : Text) → a.instance ≡ subject_value subject.entry
+        → IfOk result (λ ps. map (planned_view k a) ps.items ≡ to_target a k (option_map located_schema target.entry)) }
+{
+    let mut planned = Vec::new(alloc);
+    if let Some(located) = target {
+        planned.push(Planned {
+            chosen: Chosen::Target(located),
+            part: Part::Whole,
+            subject,
+        })?;
+    }
+    Ok(planned)
+}

@@ -1,0 +1,108 @@
+//! Elements and members that no other keyword evaluated (JSON Schema 2020-12 Core, 11).
+
+ghost use Rattle.std.specs.Prelude.{◌≡◌, map, IfOk};
+ghost use Rattle.std.specs.BTreeSet.{contains};
+ghost use Rattle.std.specs.List.{list_any};
+ghost use Rattle.std.specs.Ordering.{eq_by_cmp};
+ghost use Rattle.definitions.specs.Values.{Text, elements, members};
+ghost use Rattle.definitions.specs.Applied.{Application};
+ghost use Rattle.json_doc.specs.Docs.{value, members_value};
+ghost use Rattle.keyword_plans.specs.Applications.{planned_unevaluated, planned_unnamed};
+ghost use Rattle.keyword_plans.specs.Plans.{planned_view};
+ghost use Rattle.keyword_plans.specs.Subjects.{subject_value};
+
+use crate::planned::{Chosen, Part, Planned};
+use crate::subject::Subject;
+use json_doc::{Doc, Members};
+use std::alloc::{AllocError, Global};
+use std::collections::BTreeSet;
+
+/// The schema, at each element whose index isn't among these (11.2).
+pub(crate) fn plan_unevaluated_items<'a>(
+    alloc: Global,
+    schema: &'a Doc,
+    subject: Subject<'a>,
+    indexes: &[usize],
+) -> Result<Vec<Planned<'a>>, AllocError>
+    ensures { (a : Application) (k : Text) → a.instance ≡ subject_value subject.entry
+        → IfOk result (λ ps. map (planned_view k a) ps.items ≡ planned_unevaluated k a (value schema.now) indexes.now 0 (elements a.instance)) }
+{
+    plan_unevaluated_elements(alloc, schema, subject.elements(), indexes)
+}
+
+fn plan_unevaluated_elements<'a>(
+    alloc: Global,
+    schema: &'a Doc,
+    items: &'a [Doc],
+    indexes: &[usize],
+) -> Result<Vec<Planned<'a>>, AllocError>
+    ensures { (a : Application) (k : Text) → IfOk result (λ ps. map (planned_view k a) ps.items ≡ planned_unevaluated k a (value schema.now) indexes.now 0 (map value items.now)) }
+{
+    let evaluated = set_of(alloc, indexes)?;
+    let mut planned = Vec::new(alloc);
+    for (index, item) in items.iter().enumerate() {
+        if !is_in(&evaluated, index) {
+            planned.push(Planned {
+                chosen: Chosen::Below(None, schema),
+                part: Part::Element(index),
+                subject: Subject::Value(item),
+            })?;
+        }
+    }
+    Ok(planned)
+}
+
+/// The schema, at each member whose name isn't among these (11.3).
+pub(crate) fn plan_unevaluated_properties<'a>(
+    alloc: Global,
+    schema: &'a Doc,
+    subject: Subject<'a>,
+    names: &[&'a str],
+) -> Result<Vec<Planned<'a>>, AllocError>
+    ensures { (a : Application) (k : Text) → a.instance ≡ subject_value subject.entry
+        → IfOk result (λ ps. map (planned_view k a) ps.items ≡ planned_unnamed k a (value schema.now) (map (λ n. n.now) names.now) (members a.instance)) }
+{
+    match subject.members() {
+        Some(members) => plan_unevaluated_members(alloc, schema, members, names),
+        None => Ok(Vec::new(alloc)),
+    }
+}
+
+fn plan_unevaluated_members<'a>(
+    alloc: Global,
+    schema: &'a Doc,
+    members: &'a Members,
+    names: &[&'a str],
+) -> Result<Vec<Planned<'a>>, AllocError>
+    ensures { (a : Application) (k : Text) → IfOk result (λ ps. map (planned_view k a) ps.items ≡ planned_unnamed k a (value schema.now) (map (λ n. n.now) names.now) (members_value members.now)) }
+{
+    let evaluated = set_of(alloc, names)?;
+    let mut planned = Vec::new(alloc);
+    for (name, member) in members.iter() {
+        if !is_in(&evaluated, name) {
+            planned.push(Planned {
+                chosen: Chosen::Below(None, schema),
+                part: Part::Member(name),
+                subject: Subject::Value(member),
+            })?;
+        }
+    }
+    Ok(planned)
+}
+
+// The keys in order, to look up.
+fn set_of<K: Ord + Copy + Drop>(alloc: Global, keys: &[K]) -> Result<BTreeSet<K>, AllocError>
+    ensures { IfOk result (λ s. (q : K) → contains K.cmp s q ≡ list_any (λ k. eq_by_cmp K.cmp k q) keys.now) }
+{
+    let mut seen = BTreeSet::new(alloc);
+    for key in keys {
+        seen.insert(*key)?;
+    }
+    Ok(seen)
+}
+
+fn is_in<K: Ord + Copy + Drop>(seen: &BTreeSet<K>, key: K) -> bool
+    ensures { result ≡ contains K.cmp seen.now key }
+{
+    seen.contains(&key)
+}

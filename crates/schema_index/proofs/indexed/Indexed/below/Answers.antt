@@ -1,5 +1,5 @@
-use Rattle.std.proofs.Common.{◌≡◌, false, true, Some, codes, is_some, sym, ap, ap₂, ◌∙◌}
-use Rattle.definitions.specs.Values.{Text, Value, text_at}
+use Rattle.std.proofs.Common.{◌≡◌, false, true, is_some, sym, ap, ap₂, ◌∙◌}
+use Rattle.definitions.specs.Values.{Text, Value}
 use Rattle.definitions.specs.Pointers.{Pointer}
 use Rattle.definitions.specs.Resolution.{resolved}
 use Rattle.definitions.specs.Uris.{without_fragment}

@@ -1,4 +1,4 @@
-use Rattle.std.proofs.Common.{◌≡◌, ◌∷◌, [], map, length, Some, string_bytes, refl, sym, ap, subst, ◌∙◌, ◌≤◌, arith, Contains}
+use Rattle.std.proofs.Common.{◌≡◌, ◌∷◌, map, length, string_bytes, refl, sym, ap, subst, ◌∙◌, ◌≤◌, arith, Contains}
 use Rattle.definitions.specs.Schemas.{below, option_list}
 use Rattle.json_doc.specs.Docs.{value}
 use Rattle.locations.specs.Steps.{tokens}

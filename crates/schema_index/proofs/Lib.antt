@@ -2,5 +2,5 @@ pub mod Lookups
 pub mod Levels
 pub mod Descents
 pub mod HeldValues
-pub mod Standing
+pub mod Subschemas
 pub mod Holders

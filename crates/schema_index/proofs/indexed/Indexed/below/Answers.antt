@@ -10,7 +10,7 @@ use Rattle.locations.specs.Steps.{tokens}
 use Rattle.schema_index.specs.DescentViews.{tokens_taken}
 use Rattle.schema_index.specs.IndexedDocuments.{indexed_schemas}
 use Rattle.schema_index.specs.Locateds.{located_schema}
-use Rattle.schema_index.proofs.Standing.{below-opened, below-inside, root_held}
+use Rattle.schema_index.proofs.Subschemas.{below-opened, below-inside, root_held}
 use Rattle.schema_index.proofs.indexed.Indexed.below.Goals as goal
 
 pub unreachable-requires : goal.unreachable-requires

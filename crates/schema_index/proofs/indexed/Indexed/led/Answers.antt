@@ -8,7 +8,7 @@ use Rattle.schema_index.specs.IndexedDocuments.{indexed_base, indexed_value, ind
 use Rattle.schema_index.specs.Locateds.{located_schema}
 use Rattle.schema_index.proofs.Descents.{led_here, shorter}
 use Rattle.schema_index.proofs.HeldValues.{nothing}
-use Rattle.schema_index.proofs.Standing.{with_below}
+use Rattle.schema_index.proofs.Subschemas.{with_below}
 use Rattle.schema_index.proofs.indexed.Indexed.led.Goals as goal
 
 pub below-requires : goal.below-requires

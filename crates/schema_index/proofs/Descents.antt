@@ -1,5 +1,5 @@
 -- Where a pointer leads from a schema, by the keyword's name and shape.
-use Rattle.std.proofs.Common.{◌≡◌, ◌≢◌, ◌<◌, ◌≤◌, ◌+◌, ◌^◌, ◌||◌, ℕ, zero, suc, List, [], ◌∷◌, ◌++◌, map, length, Bool, true, false, cond, Option, Some, None, option_map, option_and_then, decimal, nat_cmp, Equal, refl, sym, ap, ap₂, subst, ◌∙◌, arith, inl, inr, append-nil}
+use Rattle.std.proofs.Common.{◌≡◌, ◌≢◌, ◌<◌, ◌≤◌, ◌+◌, ◌^◌, ◌||◌, ℕ, zero, suc, List, [], ◌∷◌, ◌++◌, map, length, Bool, true, false, cond, Some, None, option_map, decimal, nat_cmp, refl, sym, ap, ap₂, subst, ◌∙◌, arith, inl, inr, append-nil}
 use Rattle.std.proofs.lemmas.Bool.{false_from_ne_true}
 use Rattle.std.proofs.lemmas.Cmp.{nat_list_cmp_total, tied_itself}
 use Rattle.std.proofs.lemmas.Fmt.{decimal_injective}
@@ -10,12 +10,12 @@ use Rattle.std.specs.List.{find, flat_map, list_any, slice_get, enumerate_from, 
 use Rattle.definitions.specs.Values.{Text, Value, elements, members, entry, nesting, has_repeat, same_text}
 use Rattle.definitions.specs.Pointers.{Pointer}
 use Rattle.definitions.specs.Shapes.{Shape, one_schema, schema_list, schema_map}
-use Rattle.definitions.specs.Keywords.{Keyword, keywords, shape_in}
-use Rattle.definitions.specs.Schemas.{Schema, below, at_place, subschemas_by, schemas_within, schemas_from}
+use Rattle.definitions.specs.Keywords.{keywords, shape_in}
+use Rattle.definitions.specs.Schemas.{Schema, below, at_place, subschemas_by, schemas_within}
 use Rattle.definitions.specs.Targets.{pointed}
 use Rattle.json_doc.specs.Members.{HasNamesInOrder}
 use Rattle.definition_laws.proofs.Occurrences.{IsIn, contains_from_in, into_map}
-use Rattle.definition_laws.proofs.Places.{IsStep, step_to, value-below, places}
+use Rattle.definition_laws.proofs.Places.{step_to, value-below, places}
 use Rattle.definition_laws.proofs.Placing.{ascending_distinct}
 use Rattle.definition_laws.proofs.Roots.{same_text_itself, same_text_is}
 use Rattle.schema_index.specs.Descents.{led, LeadsNowhere, StepsTo, schemas_held, row, name_of, IsHeld}

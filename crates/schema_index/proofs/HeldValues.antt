@@ -1,5 +1,5 @@
 -- What values have, by their kind.
-use Rattle.std.proofs.Common.{◌≡◌, ◌≤◌, ◌<◌, ℕ, List, [], ◌∷◌, map, subst, length, get_or, Option, Some, None, Bor, option_map, refl, arith, sym, ap, ◌∙◌}
+use Rattle.std.proofs.Common.{◌≡◌, ◌<◌, ℕ, List, [], ◌∷◌, map, subst, length, get_or, Some, None, Bor, option_map, refl, arith, sym, ap, ◌∙◌}
 use Rattle.std.proofs.lemmas.Option.{slice_get-get_or, slice_get-map}
 use Rattle.std.specs.List.{slice_get}
 use Rattle.definitions.specs.Values.{Text, Value, null, boolean, integer, string, array, object, elements, members}

@@ -1,11 +1,11 @@
 -- The table of the keywords that hold schemas has those of the definitions.
-use Rattle.std.proofs.Common.{◌≡◌, ◌||◌, List, [], ◌∷◌, map, Bool, true, false, cond, Bor, Option, Some, None, option_map, option_and_then, unwrap_or, refl, sym, ap, ◌∙◌}
+use Rattle.std.proofs.Common.{◌≡◌, List, [], ◌∷◌, map, Bool, true, false, cond, Bor, Option, Some, None, option_map, option_and_then, unwrap_or, refl, sym, ap, ◌∙◌}
 use Rattle.std.specs.List.{find, list_any}
 use Rattle.definitions.specs.Values.{Text, has_repeat, same_text}
 use Rattle.definitions.specs.Shapes.{Shape, any_value}
 use Rattle.definitions.specs.Keywords.{Keyword, keywords, keyword_named, shape_in}
 use Rattle.definition_laws.proofs.Roots.{same_text_is, neither}
-use Rattle.schema_index.specs.Descents.{schemas_held, row}
+use Rattle.schema_index.specs.Descents.{schemas_held}
 use Rattle.schema_index.specs.Holdings.{holding_view}
 use Rattle.schema_index.specs.declared.pointing.holding.Holding.{Holding}
 use Rattle.schema_index.proofs.Lookups.{no_row}

@@ -2,8 +2,8 @@ pub mod Lookups
 pub mod Levels
 pub mod Descents
 pub mod HeldValues
-pub mod DocumentSchemas
 pub mod Standing
+pub mod Subschemas
 pub mod Holders
 pub mod TableOfHoldings
 pub mod Following

@@ -1,7 +1,5 @@
 -- What a pointer finds in a list of ways that begin with keys.
-use Rattle.std.proofs.Common.{◌≡◌, ◌&&◌, ◌||◌, List, [], ◌∷◌, ◌++◌, map, Bool, true, false, cond, Option, Some, None, option_map, refl, sym, ap, ap₂, ◌∙◌}
-use Rattle.std.proofs.lemmas.Bool.{false_from_ne_true}
-use Rattle.std.proofs.lemmas.List.{map-append}
+use Rattle.std.proofs.Common.{◌≡◌, ◌&&◌, ◌||◌, List, [], ◌∷◌, ◌++◌, map, Bool, true, false, cond, Option, Some, None, option_map, refl, ap, ◌∙◌}
 use Rattle.std.specs.List.{find, flat_map, list_any}
 use Rattle.definitions.specs.Values.{Text, has_repeat, same_text}
 use Rattle.definitions.specs.Pointers.{Pointer, same_pointer}

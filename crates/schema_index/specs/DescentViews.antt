@@ -1,5 +1,5 @@
 -- The steps of pointers in the code.
-use Rattle.std.specs.Prelude.{[], ◌∷◌, map, Option, Some, None, string_bytes}
+use Rattle.std.specs.Prelude.{◌∷◌, map, Option, Some, None, string_bytes}
 use Rattle.definitions.specs.Values.{Value}
 use Rattle.definitions.specs.Pointers.{Pointer}
 use Rattle.definitions.specs.Schemas.{option_list}

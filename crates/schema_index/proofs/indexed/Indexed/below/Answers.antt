@@ -1,5 +1,5 @@
-use Rattle.std.proofs.Common.{◌≡◌, false, true, Some, codes, is_some, sym, ap, ap₂, ◌∙◌}
-use Rattle.definitions.specs.Values.{Text, Value, text_at}
+use Rattle.std.proofs.Common.{◌≡◌, false, true, is_some, sym, ap, ap₂, ◌∙◌}
+use Rattle.definitions.specs.Values.{Text, Value}
 use Rattle.definitions.specs.Pointers.{Pointer}
 use Rattle.definitions.specs.Resolution.{resolved}
 use Rattle.definitions.specs.Uris.{without_fragment}
@@ -10,7 +10,7 @@ use Rattle.locations.specs.Steps.{tokens}
 use Rattle.schema_index.specs.DescentViews.{tokens_taken}
 use Rattle.schema_index.specs.IndexedDocuments.{indexed_schemas}
 use Rattle.schema_index.specs.Locateds.{located_schema}
-use Rattle.schema_index.proofs.DocumentSchemas.{below-opened, below-inside, root_held}
+use Rattle.schema_index.proofs.Subschemas.{below-opened, below-inside, root_held}
 use Rattle.schema_index.proofs.indexed.Indexed.below.Goals as goal
 
 pub unreachable-requires : goal.unreachable-requires

@@ -1,4 +1,4 @@
-use Rattle.std.proofs.Common.{◌≡◌, ◌∷◌, [], map, length, Some, string_bytes, refl, sym, ap, subst, ◌∙◌, ◌≤◌, arith, Contains}
+use Rattle.std.proofs.Common.{◌≡◌, ◌∷◌, map, length, string_bytes, refl, sym, ap, subst, ◌∙◌, ◌≤◌, arith, Contains}
 use Rattle.definitions.specs.Schemas.{below, option_list}
 use Rattle.json_doc.specs.Docs.{value}
 use Rattle.locations.specs.Steps.{tokens}
@@ -8,7 +8,7 @@ use Rattle.schema_index.specs.IndexedDocuments.{indexed_base, indexed_value, ind
 use Rattle.schema_index.specs.Locateds.{located_schema}
 use Rattle.schema_index.proofs.Descents.{led_here, shorter}
 use Rattle.schema_index.proofs.HeldValues.{nothing}
-use Rattle.schema_index.proofs.DocumentSchemas.{with_below}
+use Rattle.schema_index.proofs.Subschemas.{with_below}
 use Rattle.schema_index.proofs.indexed.Indexed.led.Goals as goal
 
 pub below-requires : goal.below-requires
@@ -44,3 +44,10 @@ loop-keyword-preserved c =
 pub returns-clause-ok : goal.returns-clause-ok
 returns-clause-ok c =
     sym (c.loop-keyword.invariant.leads ∙ ap (λ left. led (map string_bytes left) (located_schema c.loop-keyword.here)) (nothing c.loop-keyword.left.now c.in_default.ensures.cases) ∙ led_here (located_schema c.loop-keyword.here))
+
+pub returns-in_default-descend-clause-ok : goal.returns-in_default-descend-clause-ok
+returns-in_default-descend-clause-ok c =
+    let s = located_schema c.loop-keyword.here in
+    let whole : map string_bytes c.loop-keyword.left.now ≡ c.as_str.result.now ∷ map string_bytes c.in-Some.rest.now =
+    ap (map string_bytes) c.in-Some.ensures.cases.0 ∙ ap (λ k. k ∷ map string_bytes c.in-Some.rest.now) (sym c.as_str.ensures.value) in
+    sym (c.loop-keyword.invariant.leads ∙ ap (λ way. led way s) whole ∙ c.in_default-descend.ensures s refl)

@@ -1,9 +1,8 @@
-use Rattle.std.proofs.Common.{◌≡◌, ◌∷◌, [], map, None, Some, option_map, string_bytes, sym, ap, subst, ◌∙◌}
-use Rattle.definitions.specs.Values.{members}
+use Rattle.std.proofs.Common.{◌≡◌, ◌∷◌, [], map, Some, string_bytes, sym, ap, subst, ◌∙◌}
 use Rattle.definitions.specs.Keywords.{keywords, shape_in}
 use Rattle.definitions.specs.Shapes.{one_schema, schema_list, schema_map}
 use Rattle.json_doc.specs.Docs.{value, members_value}
-use Rattle.schema_index.specs.Descents.{LeadsNowhere, StepsTo, row, name_of, IsHeld, schemas_held}
+use Rattle.schema_index.specs.Descents.{StepsTo, row, name_of, IsHeld, schemas_held}
 use Rattle.schema_index.specs.DescentViews.{GoesOn}
 use Rattle.schema_index.specs.Holdings.{holding_view}
 use Rattle.schema_index.proofs.Descents.{from_no_member, from_other, to_one, shape_held}

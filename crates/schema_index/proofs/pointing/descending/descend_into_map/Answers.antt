@@ -1,7 +1,6 @@
-use Rattle.std.proofs.Common.{◌≡◌, ◌∷◌, [], map, None, Some, option_map, string_bytes, sym, ap, subst, ◌∙◌, arith}
+use Rattle.std.proofs.Common.{◌≡◌, ◌∷◌, [], map, None, string_bytes, sym, ap, subst, ◌∙◌}
 use Rattle.definitions.specs.Values.{members}
 use Rattle.json_doc.specs.Docs.{value, members_value}
-use Rattle.json_doc.specs.Members.{member_shown}
 use Rattle.schema_index.specs.Descents.{LeadsNowhere, StepsTo, row, name_of}
 use Rattle.schema_index.proofs.Descents.{from_map_itself, from_no_map, from_no_entry, to_entry}
 use Rattle.schema_index.proofs.HeldValues.{members_none, members_some, nothing, held}

@@ -1,4 +1,4 @@
-use Rattle.std.proofs.Common.{◌≡◌, ◌≢◌, [], ◌∷◌, map, None, Some, string_bytes, sym, ap, ◌∙◌, lit<}
+use Rattle.std.proofs.Common.{◌≡◌, ◌≢◌, [], ◌∷◌, map, None, Some, string_bytes, ap, ◌∙◌, lit<}
 use Rattle.std.proofs.lemmas.Str.Pattern.{strip_prefix_char}
 use Rattle.definitions.specs.Values.{Text}
 use Rattle.definitions.specs.Pointers.{Pointer, pointer_of}

@@ -1,8 +1,8 @@
-use Rattle.std.proofs.Common.{◌≡◌, ◌++◌, [], ◌∷◌, Some, None, string_bytes, refl, sym, ap, ap₂, ◌∙◌, lit<}
+use Rattle.std.proofs.Common.{◌≡◌, ◌++◌, [], ◌∷◌, Some, None, string_bytes, sym, ap, ap₂, ◌∙◌, lit<}
 use Rattle.std.proofs.lemmas.Str.{IsCharBoundary-after_ascii}
 use Rattle.std.proofs.lemmas.Str.Pattern.{split_parts}
 use Rattle.definitions.specs.Pointers.{unescaped}
-use Rattle.json_doc.proofs.Unescaped.{resumed-nil, token_more, token_none, token_last, escape-small, escape-first, text_after}
+use Rattle.json_doc.proofs.Unescaped.{resumed-nil, token_more, token_last, escape-small, escape-first, text_after}
 use Rattle.schema_index.proofs.pointing.tokens.token_of.Goals as goal
 
 pub loop-before-init : goal.loop-before-init

@@ -2,9 +2,8 @@ use Rattle.std.proofs.Common.{◌==◌, [], ◌∷◌, map, length, string_bytes
 use Rattle.std.proofs.lemmas.Iterator.Consumers.{YieldsList-turn, YieldsList-end}
 use Rattle.std.proofs.lemmas.Iterator.Splits.{YieldsList-from_str_split}
 use Rattle.std.proofs.lemmas.List.{length_push, map-append}
-use Rattle.std.proofs.lemmas.Result.{err_from_is_err_and}
 use Rattle.std.specs.List.{slice_split}
-use Rattle.json_doc.proofs.Unescaped.{tokens_more, tokens_none, tokens_all}
+use Rattle.json_doc.proofs.Unescaped.{tokens_more, tokens_all}
 use Rattle.schema_index.proofs.pointing.tokens.tokens_of.Goals as goal
 
 pub loop-part-preserved : goal.loop-part-preserved

@@ -1,5 +1,5 @@
 -- The schemas of a document: with one, those below it, and the URIs that they open.
-use Rattle.std.proofs.Common.{◌≡◌, ◌&&◌, ◌++◌, suc, List, [], ◌∷◌, Bool, true, false, cond, Option, Some, None, is_some, codes, refl, sym, ap, ap₂, subst, ◌∙◌, arith, inl, inr}
+use Rattle.std.proofs.Common.{◌≡◌, ◌&&◌, ◌++◌, suc, List, [], ◌∷◌, Bool, true, false, cond, Some, None, is_some, codes, refl, ap, subst, arith, inl, inr}
 use Rattle.std.specs.List.{find, Contains}
 use Rattle.definitions.specs.Values.{Text, Value, nesting, same_text, text_at}
 use Rattle.definitions.specs.Pointers.{Pointer}

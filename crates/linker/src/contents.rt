@@ -29,6 +29,7 @@ pub fn reached(alloc: Global, linked: &Linked) -> Result<Vec<String>, Fault>
 }
 
 /// The URI of the resource that was linked.
+#[tactic(auto, unfolding(crate::specs::LinkedDocuments::linked_uri))]
 pub fn asked(linked: &Linked) -> &str
     ensures { result.now ≡ linked_uri linked.now }
 {

@@ -9,3 +9,6 @@ mod running;
 mod running_objects;
 
 pub use context::{Context, Return};
+
+#[cfg(test)]
+mod tests;

@@ -1,9 +1,9 @@
 -- What a keyword annotates with, read off what it evaluated.
-use Rattle.std.proofs.Common.{◌≡◌, ℕ, zero, suc, ◌+◌, ◌-◌, ◌==◌, pos, List, [], ◌∷◌, ◌++◌, Bool, true, false, cond, Option, Some, None, length, get_or, filter, flat_map, Bor, map, refl, sym, ap, ap₂, ◌∙◌, append_assoc, arith, codes, not, zip, decimal}
+use Rattle.std.proofs.Common.{◌≡◌, ℕ, suc, ◌-◌, ◌==◌, List, [], ◌∷◌, ◌++◌, Bool, true, false, cond, Option, Some, None, length, get_or, filter, flat_map, Bor, map, refl, sym, ap, ◌∙◌, arith, not, zip, decimal}
 use Rattle.std.proofs.lemmas.Bool.Decides.{nat_tests}
-use Rattle.std.specs.List.{AllByRecursion, list_any, enumerate_from}
+use Rattle.std.specs.List.{AllByRecursion, enumerate_from}
 use Rattle.definitions.specs.Values.{Text, Value, string, get, members, elements}
-use Rattle.definitions.specs.Applied.{Application, Outcome, Part, Rules, whole, named, indexed, name_of, at_present, at_part, applied, is_taken, has}
+use Rattle.definitions.specs.Applied.{Application, Outcome, Part, Rules, named, indexed, at_present, at_part, applied, is_taken, has}
 use Rattle.definitions.specs.Keywords.{Meaning, properties, pattern_properties, other_properties, unevaluated_properties, prefix_items}
 use Rattle.definitions.specs.Evaluated.{evaluated_names, evaluated_indexes, part_names, part_indexes, passed, is_in_place, last_index, if_some_applied}
 
@@ -116,6 +116,7 @@ last-at (i ∷ j ∷ is) = ap (λ n. get_or (i ∷ j ∷ is) n 0) (one_less (len
   where
     one_less : (n : ℕ) → suc (suc n) - 1 ≡ suc n
     one_less n = omega arith
+
     none_less : (n : ℕ) → suc n - 1 ≡ n
     none_less n = omega arith
 

@@ -1,5 +1,5 @@
 -- What `then` and `else` apply, by what `if` said.
-use Rattle.std.proofs.Common.{◌≡◌, [], ◌∷◌, Bool, true, false, Option, Some, None, cond, option_map, refl, ap, ◌∙◌}
+use Rattle.std.proofs.Common.{◌≡◌, [], ◌∷◌, Bool, true, false, Option, Some, None, cond, option_map, refl}
 use mathlib.Core.Bool.{beq}
 use Rattle.definitions.specs.Values.{Text, Value}
 use Rattle.definitions.specs.Applied.{Application, Outcome, in_place, consequence_of}

@@ -1,5 +1,5 @@
 -- Patterns, one after another.
-use Rattle.std.proofs.Common.{◌≡◌, List, [], ◌∷◌, ◌++◌, map, filter, Bool, true, false, cond, ◌||◌, refl, sym, ap, ◌∙◌, append_assoc, subst, Contains}
+use Rattle.std.proofs.Common.{◌≡◌, List, [], ◌∷◌, ◌++◌, map, filter, Bool, true, false, cond, ◌||◌, sym, ap, ◌∙◌, append_assoc, subst, Contains}
 use Rattle.std.specs.List.{AllByRecursion, list_any}
 use Rattle.definitions.specs.Values.{Text, Value}
 use Rattle.definitions.specs.Patterns.{has_match}

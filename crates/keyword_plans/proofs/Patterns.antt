@@ -1,5 +1,5 @@
 -- The patterns of a schema of the linked documents.
-use Rattle.std.proofs.Common.{◌≡◌, ℕ, ◌<◌, List, [], ◌∷◌, ◌++◌, map, Option, Some, None, option_map, option_and_then, unwrap_or, codes, length, refl, sym, ap, ◌∙◌, append_assoc, subst, arith, Contains}
+use Rattle.std.proofs.Common.{◌≡◌, List, [], ◌∷◌, ◌++◌, map, Option, Some, None, option_map, option_and_then, unwrap_or, codes, refl, sym, ap, ◌∙◌, append_assoc, subst, arith, Contains}
 use Rattle.std.proofs.lemmas.List.Elements.{Contains-append_left, Contains-append_right}
 use Rattle.std.specs.List.{AllByRecursion}
 use Rattle.definitions.specs.Values.{Text, Value, null, boolean, integer, string, array, object, as_string, get, text_at, members}
@@ -7,7 +7,7 @@ use Rattle.definitions.specs.Evaluated.{pattern_holds}
 use Rattle.definitions.specs.Patterns.{has_match}
 use Rattle.definitions.specs.Scanning.{patterns_of}
 use Rattle.definitions.specs.Schemas.{Schema, option_list}
-use Rattle.definitions.specs.Applied.{Application, Part, beside}
+use Rattle.definitions.specs.Applied.{Application, beside}
 use Rattle.keyword_plans.specs.Sites.{Shows}
 use Rattle.keyword_plans.specs.declared.site.Site.{Site}
 use Rattle.keyword_plans.specs.Applications.{ArePatternsOf, planned_matched}
@@ -17,9 +17,10 @@ contains-first y ys = (0, omega arith, refl)
 
 all_in : {X Y : Type 0} (f : X → Y) (before : List Y) (xs : List X) → AllByRecursion (λ x. Contains (before ++ map f xs) (f x)) xs
 all_in f before [] = tt
-all_in f before (x ∷ xs) =
-    (Contains-append_right before (f x ∷ map f xs) (f x) (contains-first (f x) (map f xs)),
-    subst (λ ys. AllByRecursion (λ z. Contains ys (f z)) xs) (append_assoc before (f x ∷ []) (map f xs)) (all_in f (before ++ f x ∷ []) xs))
+all_in f before (x ∷ xs) = (
+  Contains-append_right before (f x ∷ map f xs) (f x) (contains-first (f x) (map f xs)),
+  subst (λ ys. AllByRecursion (λ z. Contains ys (f z)) xs) (append_assoc before (f x ∷ []) (map f xs)) (all_in f (before ++ f x ∷ []) xs),
+)
 
 pub patterns-of : (s : Schema) (v : Value) → get (codes "patternProperties") s.value ≡ Some v → AllByRecursion (λ p. Contains (patterns_of s) p.0) (members v)
 patterns-of s v e =

@@ -1,10 +1,9 @@
 -- Members that no keyword beside takes.
-use Rattle.std.proofs.Common.{◌≡◌, List, [], ◌∷◌, ◌||◌, Bool, false, is_some, codes, option_map, unwrap_or, refl, sym, ap, ◌∙◌}
+use Rattle.std.proofs.Common.{◌≡◌, List, [], ◌∷◌, ◌||◌, false, is_some, codes, refl, sym, ap, ◌∙◌}
 use Rattle.std.specs.List.{list_any}
 use Rattle.definitions.specs.Values.{Text, Value, entry, members}
 use Rattle.definitions.specs.Patterns.{has_match}
-use Rattle.definitions.specs.Applied.{Application, Part, named, at_part, beside, is_taken}
-use Rattle.json_doc.specs.Docs.{members_value}
+use Rattle.definitions.specs.Applied.{Application, named, at_part, beside, is_taken}
 use Rattle.linker.specs.declared.linked.Linked.{Linked}
 use Rattle.keyword_plans.specs.Applications.{planned_others}
 use Rattle.keyword_plans.specs.Sites.{linked_rules}

@@ -1,8 +1,8 @@
 -- Elements and members that no other keyword evaluated, one after another.
-use Rattle.std.proofs.Common.{◌≡◌, ℕ, ◌+◌, List, [], ◌∷◌, ◌++◌, Bool, true, false, ◌==◌, refl, sym, ap, ◌∙◌}
+use Rattle.std.proofs.Common.{◌≡◌, ℕ, ◌+◌, List, [], ◌∷◌, ◌++◌, true, false, ◌==◌, refl, sym, ap, ◌∙◌}
 use Rattle.std.specs.List.{list_any}
 use Rattle.definitions.specs.Values.{Text, Value}
-use Rattle.definitions.specs.Applied.{Application, Part, named, indexed, at_part, has}
+use Rattle.definitions.specs.Applied.{Application, named, indexed, at_part, has}
 use Rattle.keyword_plans.specs.Applications.{planned_unevaluated, planned_unnamed}
 
 pub skipped : {Y : Type 0} (done left rest all : List Y) → left ≡ rest → done ++ left ≡ all → done ++ rest ≡ all

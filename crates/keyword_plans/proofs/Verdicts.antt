@@ -7,7 +7,7 @@ use Rattle.definitions.specs.Applied.{Application, Outcome, Part, Rules}
 use Rattle.definitions.specs.Evaluated.{passing, all_pass, keyword_passes}
 use Rattle.keyword_plans.specs.Rows.{row_of}
 use Rattle.keyword_plans.specs.declared.keyword.Keyword.{Keyword}
-use Rattle.std.proofs.lemmas.List.Sums.{sum_by-append, sum_by-cons, count_by-le-length}
+use Rattle.std.proofs.lemmas.List.Sums.{sum_by-cons, count_by-le-length}
 
 differ : (m n : ℕ) → m < n → nat_eq m n ≡ false
 differ m n h = grind (arith, nat_tests)

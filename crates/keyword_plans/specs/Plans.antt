@@ -1,5 +1,5 @@
 -- What a keyword applies, as the definitions have it.
-use Rattle.std.specs.Prelude.{ℕ, List, [], ◌∷◌, Option, Some, None, decimal, map}
+use Rattle.std.specs.Prelude.{ℕ, List, [], ◌∷◌, Option, Some, None, map}
 use Rattle.definitions.specs.Values.{Text, Value}
 use Rattle.definitions.specs.Pointers.{Pointer}
 use Rattle.definitions.specs.Keywords.{Meaning}

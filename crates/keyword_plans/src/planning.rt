@@ -63,20 +63,8 @@ pub fn plan<'a>(
         Keyword::OneOf => Ok(plan_listed(alloc, keyword_value, subject)?),
         Keyword::Not => Ok(plan_own(alloc, keyword_value, subject)?),
         Keyword::If => Ok(plan_own(alloc, keyword_value, subject)?),
-        Keyword::Then => Ok(plan_consequence(
-            alloc,
-            keyword_value,
-            subject,
-            condition,
-            true,
-        )?),
-        Keyword::Else => Ok(plan_consequence(
-            alloc,
-            keyword_value,
-            subject,
-            condition,
-            false,
-        )?),
+        Keyword::Then => Ok(plan_consequence(alloc, keyword_value, subject, condition, true)?),
+        Keyword::Else => Ok(plan_consequence(alloc, keyword_value, subject, condition, false)?),
         Keyword::DependentSchemas => Ok(plan_dependents(alloc, keyword_value, subject)?),
         Keyword::PrefixItems => Ok(plan_prefix(alloc, keyword_value, subject)?),
         Keyword::Items => {

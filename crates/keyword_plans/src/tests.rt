@@ -41,7 +41,10 @@ fn an_object_has_its_members(rt: HostRuntime) -> Result<(), Fail> {
 #[test]
 fn keywords_have_their_names(rt: HostRuntime) -> Result<(), Fail> {
     assert_eq!(rt; Keyword::Ref.name(), "$ref");
-    assert_eq!(rt; Keyword::UnevaluatedProperties.name(), "unevaluatedProperties");
+    assert_eq!(rt;
+        Keyword::UnevaluatedProperties.name(),
+        "unevaluatedProperties"
+    );
     Ok(())
 }
 
@@ -54,7 +57,7 @@ fn pattern_properties_names_each_member_once(rt: HostRuntime) -> Result<(), Fail
     };
     let keyword = Keyword::PatternProperties;
     match annotate(rt.alloc(), keyword, Subject::Value(&doc), 3, evaluated)? {
-        Annotation::Names(names) => assert_eq!(rt; names.as_slice(), ["b", "a"]),
+        Annotation::Names(names) => assert_eq!(rt; names.as_slice(), ["b", "a"].as_slice()),
         _ => assert!(rt; false),
     }
     Ok(())

@@ -54,12 +54,7 @@ pub fn passes<'a>(
     ensures err { IfErr result (λ f. f ≡ Fault.NoRoom) }
 {
     match keyword {
-        Keyword::Asserts(assertion) => Ok(holds_of(
-            alloc,
-            assertion,
-            keyword_value,
-            site.subject,
-        )?),
+        Keyword::Asserts(assertion) => Ok(holds_of(alloc, assertion, keyword_value, site.subject)?),
         Keyword::Pattern => is_pattern_met(alloc, site, searches, keyword_value),
         Keyword::Ref => Ok(tally.passing == 1),
         Keyword::DynamicRef => Ok(tally.passing == 1),

@@ -54,7 +54,15 @@ fn plan_matched<'a>(
 {
     let mut planned = Vec::new(alloc);
     for (name, member) in members.iter() {
-        push_matches(alloc, linked, searches, patterns, name, member, &mut planned)?;
+        push_matches(
+            alloc,
+            linked,
+            searches,
+            patterns,
+            name,
+            member,
+            &mut planned,
+        )?;
     }
     Ok(planned)
 }

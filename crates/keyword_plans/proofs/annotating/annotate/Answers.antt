@@ -1,6 +1,6 @@
-use Rattle.std.proofs.Common.{◌≡◌, ◌∙◌, sym, ap, ap₂, map, if◌then◌else◌, Some, None, length, pos, ◌==◌, List, Option, ℕ, true, codes, refl}
+use Rattle.std.proofs.Common.{◌∙◌, sym, ap, ap₂, map, if◌then◌else◌, Some, None, length, pos, ◌==◌, List, Option, ℕ, true, codes, refl}
 use Rattle.definitions.specs.Values.{Text, Value, string, array, boolean, integer, to_elements, is_object, elements}
-use Rattle.definitions.specs.Keywords.{properties, pattern_properties, other_properties, unevaluated_properties, prefix_items}
+use Rattle.definitions.specs.Keywords.{prefix_items}
 use Rattle.definitions.specs.Evaluated.{last_index, once, part_indexes}
 use Rattle.keyword_plans.proofs.Annotated.{names-properties, names-patterns, names-others, names-unevaluated, indexes-prefix, if_some-by_count, all_of}
 use Rattle.keyword_plans.proofs.annotating.annotate.Goals as goal

@@ -1,5 +1,5 @@
-use Rattle.std.proofs.Common.{◌≡◌, ◌∙◌, sym, ap, map, true, cond, Some, None, Option, Bool, Bor}
-use Rattle.definitions.specs.Values.{Value, string, array, to_elements, is_object}
+use Rattle.std.proofs.Common.{◌≡◌, ◌∙◌, sym, ap, true, Some}
+use Rattle.definitions.specs.Values.{array, to_elements, is_object}
 use Rattle.keyword_plans.specs.Subjects.{subject_value}
 use Rattle.keyword_plans.proofs.Annotated.{string-names}
 use Rattle.keyword_plans.proofs.annotating.annotate_names.Goals as goal

@@ -1,4 +1,4 @@
-use Rattle.std.proofs.Common.{◌≡◌, ◌++◌, ◌∷◌, [], ◌+◌, ◌∙◌, Bool, not, true, false, cond, refl, sym, ap, map, drop, Bor, nat_cmp, List, get_or, BTreeSet}
+use Rattle.std.proofs.Common.{◌≡◌, ◌++◌, ◌∷◌, [], ◌+◌, ◌∙◌, Bool, not, true, false, cond, refl, ap, map, drop, Bor, nat_cmp, List, get_or, BTreeSet}
 use Rattle.std.proofs.lemmas.List.{map-append, drop_more}
 use Rattle.std.specs.BTreeSet.{contains_by}
 use Rattle.std.specs.Cmp.Lexicographic.{slice_cmp}
@@ -38,15 +38,15 @@ loop-name-preserved c =
     let left : texts (drop i c.args.names.now) ≡ x.now ∷ rest = ap texts (drop_more c.args.names.now i _ c.loop-name-test.true) in
     let now_seen = λ (m : Text). c.in_ok-insert.ensures.updates.0 (record { ref_ptr = (0, 0); now = m }) ∙ ap (λ b. cond b true (seen_by c.loop-name.seen m)) (is_eq-slice_cmp x.now m) in
     elim c.if-branch.branch [
-      then-branch+in_ok-push w ↦
-      ap (λ ks. texts ks.items ++ unseen (seen_by c.insert.new.self) rest) w.kept-is
-      ∙ grown (texts c.loop-name.kept.items) _ (x.now ∷ []) _ (unseen (seen_by c.insert.new.self) rest) _
-      (ap texts w.in_ok-push.ensures.items ∙ map-append (λ (n : Bor Text). n.now) c.loop-name.kept.items _)
-      (ap (unseen (seen_by c.loop-name.seen)) left ∙ unseen-new (seen_by c.loop-name.seen) (seen_by c.insert.new.self) x.now rest now_seen (was_new _ _ c.in_ok-insert.ensures.added w.if-branch.true))
-      c.loop-name.invariant
-    | else-branch w ↦
-      ap (λ ks. texts ks.items ++ unseen (seen_by c.insert.new.self) rest) w.kept-is
-      ∙ skipped (texts c.loop-name.kept.items) _ (unseen (seen_by c.insert.new.self) rest) _
-      (ap (unseen (seen_by c.loop-name.seen)) left ∙ unseen-old (seen_by c.loop-name.seen) (seen_by c.insert.new.self) x.now rest now_seen (was_old _ _ c.in_ok-insert.ensures.added w.if-branch.false))
-      c.loop-name.invariant
+      | then-branch+in_ok-push w ↦
+          ap (λ ks. texts ks.items ++ unseen (seen_by c.insert.new.self) rest) w.kept-is
+          ∙ grown (texts c.loop-name.kept.items) _ (x.now ∷ []) _ (unseen (seen_by c.insert.new.self) rest) _
+          (ap texts w.in_ok-push.ensures.items ∙ map-append (λ (n : Bor Text). n.now) c.loop-name.kept.items _)
+          (ap (unseen (seen_by c.loop-name.seen)) left ∙ unseen-new (seen_by c.loop-name.seen) (seen_by c.insert.new.self) x.now rest now_seen (was_new _ _ c.in_ok-insert.ensures.added w.if-branch.true))
+          c.loop-name.invariant
+      | else-branch w ↦
+          ap (λ ks. texts ks.items ++ unseen (seen_by c.insert.new.self) rest) w.kept-is
+          ∙ skipped (texts c.loop-name.kept.items) _ (unseen (seen_by c.insert.new.self) rest) _
+          (ap (unseen (seen_by c.loop-name.seen)) left ∙ unseen-old (seen_by c.loop-name.seen) (seen_by c.insert.new.self) x.now rest now_seen (was_old _ _ c.in_ok-insert.ensures.added w.if-branch.false))
+          c.loop-name.invariant
     ]

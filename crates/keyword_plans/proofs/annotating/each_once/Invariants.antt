@@ -1,4 +1,4 @@
-use Rattle.std.proofs.Common.{◌≡◌, ◌++◌, drop, map, Bor, nat_cmp}
+use Rattle.std.proofs.Common.{◌≡◌, ◌++◌, drop, map, nat_cmp}
 use Rattle.std.specs.BTreeSet.{contains_by}
 use Rattle.std.specs.Cmp.Lexicographic.{slice_cmp}
 use Rattle.definitions.specs.Evaluated.{once}

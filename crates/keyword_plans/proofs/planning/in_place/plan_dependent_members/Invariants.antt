@@ -2,7 +2,7 @@ use Rattle.std.proofs.Common.{◌≡◌, ◌++◌, map}
 use Rattle.definitions.specs.Values.{Text}
 use Rattle.definitions.specs.Applied.{Application}
 use Rattle.keyword_plans.specs.Applications.{planned_dependents}
-use Rattle.json_doc.specs.Docs.{value, members_value}
+use Rattle.json_doc.specs.Docs.{members_value}
 use Rattle.json_doc.specs.Members.{members_left}
 use Rattle.keyword_plans.specs.Subjects.{subject_value}
 use Rattle.keyword_plans.specs.Plans.{planned_view}

@@ -1,5 +1,5 @@
 use Rattle.std.proofs.Common.{ap, map}
-use Rattle.json_doc.specs.Docs.{value, members_value}
+use Rattle.json_doc.specs.Docs.{members_value}
 use Rattle.json_doc.specs.Members.{members_left}
 use Rattle.keyword_plans.specs.Applications.{planned_matched}
 use Rattle.keyword_plans.specs.Plans.{planned_view}

@@ -1,4 +1,4 @@
-use Rattle.std.proofs.Common.{◌≡◌, [], ◌∙◌, sym, ap, ap₂, map, subst}
+use Rattle.std.proofs.Common.{◌∙◌, sym, ap, ap₂, map, subst}
 use Rattle.std.proofs.lemmas.Result.{IfOk-weaker}
 use Rattle.definitions.specs.Values.{members}
 use Rattle.json_doc.specs.Docs.{value}

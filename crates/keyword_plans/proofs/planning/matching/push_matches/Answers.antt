@@ -1,7 +1,7 @@
-use Rattle.std.proofs.Common.{◌≡◌, ◌++◌, ◌∙◌, [], ◌∷◌, sym, ap, map}
+use Rattle.std.proofs.Common.{◌++◌, ◌∙◌, sym, ap, map}
 use Rattle.std.proofs.lemmas.List.{map-append}
 use Rattle.definitions.specs.Values.{Text, Value}
-use Rattle.json_doc.specs.Docs.{value, members_value}
+use Rattle.json_doc.specs.Docs.{value}
 use Rattle.json_doc.specs.Members.{members_left}
 use Rattle.keyword_plans.specs.Applications.{planned_matches}
 use Rattle.keyword_plans.specs.Plans.{planned_view}

@@ -1,4 +1,4 @@
-use Rattle.std.proofs.Common.{◌≡◌, ◌∙◌, sym, ap, map, false, not}
+use Rattle.std.proofs.Common.{◌≡◌, ◌∙◌, sym, ap, map, false}
 use Rattle.std.proofs.lemmas.List.{map-append}
 use Rattle.definitions.specs.Applied.{is_taken}
 use Rattle.json_doc.specs.Docs.{value}

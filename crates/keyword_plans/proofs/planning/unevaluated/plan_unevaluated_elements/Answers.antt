@@ -1,4 +1,4 @@
-use Rattle.std.proofs.Common.{◌≡◌, ◌+◌, ◌∙◌, ◌==◌, ◌∷◌, ◌++◌, refl, sym, ap, map, drop, true, false}
+use Rattle.std.proofs.Common.{◌≡◌, ◌+◌, ◌∙◌, ◌==◌, ◌∷◌, ◌++◌, refl, sym, ap, map, drop}
 use Rattle.std.specs.List.{list_any}
 use Rattle.std.proofs.lemmas.List.{map-append}
 use Rattle.json_doc.specs.Docs.{value}
@@ -22,14 +22,14 @@ loop-index-preserved c a k =
     ap (map value) (next_item c.args.items.now c.args.items.now i x refl c.loop-index-test.true c.index-items-index.is) in
     let found : c.is_in.result ≡ list_any (λ j. j == i) is = c.is_in.ensures ∙ c.in_ok-evaluated.ensures i ∙ is_in-by_order i is in
     elim c.if-not-is_in.branch [
-      then-not-is_in+in_ok-push w ↦
-      grown (map (planned_view k a) c.loop-index.planned.items) _ _ _ (planned_unevaluated k a v is (i + 1) rest) _
-      (ap (λ ps. map (planned_view k a) ps.items) w.planned-is ∙ ap (map (planned_view k a)) w.in_ok-push.ensures.items ∙ map-append (planned_view k a) c.loop-index.planned.items _)
-      (ap (planned_unevaluated k a v is i) left ∙ item-new k a v is i (value x) rest (sym found ∙ w.if-not-is_in.true))
-      (c.loop-index.invariant a k)
-    | else-not-is_in w ↦
-      ap (λ ps. map (planned_view k a) ps.items ++ planned_unevaluated k a v is (i + 1) rest) w.planned-is
-      ∙ skipped (map (planned_view k a) c.loop-index.planned.items) _ (planned_unevaluated k a v is (i + 1) rest) _
-      (ap (planned_unevaluated k a v is i) left ∙ item-old k a v is i (value x) rest (sym found ∙ w.if-not-is_in.false))
-      (c.loop-index.invariant a k)
+      | then-not-is_in+in_ok-push w ↦
+          grown (map (planned_view k a) c.loop-index.planned.items) _ _ _ (planned_unevaluated k a v is (i + 1) rest) _
+          (ap (λ ps. map (planned_view k a) ps.items) w.planned-is ∙ ap (map (planned_view k a)) w.in_ok-push.ensures.items ∙ map-append (planned_view k a) c.loop-index.planned.items _)
+          (ap (planned_unevaluated k a v is i) left ∙ item-new k a v is i (value x) rest (sym found ∙ w.if-not-is_in.true))
+          (c.loop-index.invariant a k)
+      | else-not-is_in w ↦
+          ap (λ ps. map (planned_view k a) ps.items ++ planned_unevaluated k a v is (i + 1) rest) w.planned-is
+          ∙ skipped (map (planned_view k a) c.loop-index.planned.items) _ (planned_unevaluated k a v is (i + 1) rest) _
+          (ap (planned_unevaluated k a v is i) left ∙ item-old k a v is i (value x) rest (sym found ∙ w.if-not-is_in.false))
+          (c.loop-index.invariant a k)
     ]

@@ -14,5 +14,8 @@ mod resources;
 mod visit;
 mod ways;
 
+#[cfg(test)]
+mod tests;
+
 pub use indexed::Indexed;
 pub use located::Located;

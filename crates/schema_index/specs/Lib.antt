@@ -5,3 +5,4 @@ pub mod Spots
 pub mod Ways
 pub mod Gathering
 pub mod Lookups
+pub mod AnchorNumbers

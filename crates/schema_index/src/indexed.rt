@@ -209,12 +209,7 @@ impl Indexed {
     }
 
     // The schema with this anchor in the resource with this URI.
-    fn anchored(
-        &self,
-        alloc: Global,
-        uri: &str,
-        name: &str,
-    ) -> Result<Option<Located<'_>>, Fault>
+    fn anchored(&self, alloc: Global, uri: &str, name: &str) -> Result<Option<Located<'_>>, Fault>
         ensures ok { IfOk result (λ t. option_map located_schema t ≡ anchored (indexed_schemas self.now) uri.now name.now) }
         ensures err { IfErr result (λ f. f ≡ Fault.NoRoom) }
     {

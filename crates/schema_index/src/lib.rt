@@ -12,11 +12,10 @@ mod located;
 mod numbers;
 mod pointing;
 mod resources;
-mod visit;
-mod ways;
-
 #[cfg(test)]
 mod tests;
+mod visit;
+mod ways;
 
 pub use indexed::Indexed;
 pub use located::Located;

@@ -1,16 +1,19 @@
 //! The index of a document with resources of its own, anchors and references.
 
-use crate::anchors::{find_anchor, find_dynamic_anchor, schema_of_anchor};
+use crate::anchor_numbers::{anchor_numbers_of, find_anchor};
+use crate::anchors::schema_of_anchor;
 use crate::gathered::Gathered;
 use crate::gathering::gather;
 use crate::holdings::{Holding, holding_named};
+use crate::indexed::Indexed;
 use crate::located::Located;
 use crate::numbers::{numbered, numbers_of};
 use crate::ways::{follow, way_of};
-use json_doc::{read, write};
+use json_doc::{Doc, Members, read, write};
 use locations::push_pointer;
 use std::alloc::Global;
 use std::test::Fail;
+use uri_ref::FragmentKind;
 
 const BASE: &str = "https://ex.org/a/base";
 
@@ -94,7 +97,9 @@ fn finds_anchors(rt: HostRuntime) -> Result<(), Fail> {
     let alloc = rt.alloc();
     let gathered = gathered(alloc)?;
     let document = read(alloc, DOCUMENT.as_bytes())?;
-    let plain = match find_anchor(&gathered.anchors, BASE, "x") {
+    let any = anchor_numbers_of(alloc, &gathered.anchors, true)?;
+    let dynamic_alone = anchor_numbers_of(alloc, &gathered.anchors, false)?;
+    let plain = match find_anchor(&gathered.anchors, &any, BASE, "x") {
         Some(anchor) => schema_of_anchor(alloc, anchor, &document)?,
         None => None,
     };
@@ -102,7 +107,12 @@ fn finds_anchors(rt: HostRuntime) -> Result<(), Fail> {
         shown(alloc, plain)?.as_str(),
         r##"https://ex.org/a/base#/allOf/1 {"$anchor":"x","$dynamicRef":"#y"}"##
     );
-    let dynamic = match find_dynamic_anchor(&gathered.anchors, "https://ex.org/b/inner", "y") {
+    let dynamic = match find_anchor(
+        &gathered.anchors,
+        &dynamic_alone,
+        "https://ex.org/b/inner",
+        "y",
+    ) {
         Some(anchor) => schema_of_anchor(alloc, anchor, &document)?,
         None => None,
     };
@@ -110,8 +120,39 @@ fn finds_anchors(rt: HostRuntime) -> Result<(), Fail> {
         shown(alloc, dynamic)?.as_str(),
         r#"https://ex.org/b/inner#/items {"$dynamicAnchor":"y","$ref":"deep"}"#
     );
-    assert_eq!(rt; find_dynamic_anchor(&gathered.anchors, BASE, "x").is_some(), false);
-    assert_eq!(rt; find_anchor(&gathered.anchors, BASE, "z").is_some(), false);
+    assert_eq!(rt;
+        find_anchor(&gathered.anchors, &dynamic_alone, BASE, "x").is_some(),
+        false
+    );
+    assert_eq!(rt;
+        find_anchor(&gathered.anchors, &any, BASE, "z").is_some(),
+        false
+    );
+    Ok(())
+}
+
+#[test]
+fn indexes_a_document(rt: HostRuntime) -> Result<(), Fail> {
+    let alloc = rt.alloc();
+    let base = String::from_str(alloc, BASE)?;
+    let indexed = Indexed::of(alloc, base, Doc::Dict(Members::new(alloc)))?;
+    assert_eq!(rt; indexed.base(), BASE);
+    assert_eq!(rt; indexed.canonical(), BASE);
+    assert_eq!(rt;
+        joined(alloc, indexed.resource_uris())?.as_str(),
+        " https://ex.org/a/base"
+    );
+    assert_eq!(rt; indexed.references().len(), 0);
+    assert_eq!(rt; indexed.resource_uri(BASE), Some(BASE));
+    let root = indexed.resource_root(alloc, BASE);
+    assert_eq!(rt; shown(alloc, root)?.as_str(), "https://ex.org/a/base# {}");
+    let whole = indexed.target(alloc, BASE, &FragmentKind::Empty)?;
+    assert_eq!(rt; shown(alloc, whole)?.as_str(), "https://ex.org/a/base# {}");
+    assert_eq!(rt;
+        indexed.dynamically_anchored(alloc, BASE, "x")?.is_some(),
+        false
+    );
+    assert_eq!(rt; write(alloc, indexed.document())?.as_str(), "{}");
     Ok(())
 }
 

@@ -52,7 +52,6 @@ document-canonical base (string t) = canonical-by base (string t) [] refl
 document-canonical base (array vs) = canonical-by base (array vs) [] refl
 
 module _ (base : Text) (v : Value) where
-
   module _ (formed : is_well_formed v ≡ true) where
     followed : AreFollowed v (standing base v)
     followed = spots-followed v [] 0 base v formed refl

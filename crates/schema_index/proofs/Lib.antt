@@ -13,3 +13,4 @@ pub mod Tables
 pub mod Indexing
 pub mod Marked
 pub mod Owned
+pub mod Paired

@@ -8,3 +8,4 @@ pub mod Spots
 pub mod Ways
 pub mod Gathering
 pub mod Lookups
+pub mod AnchorNumbers

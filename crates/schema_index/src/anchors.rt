@@ -1,10 +1,10 @@
 //! Anchors (JSON Schema 2020-12 Core, section 8.2.2).
 
-ghost use Rattle.std.specs.Prelude.{◌≡◌, IfOk, find, map, option_map};
+ghost use Rattle.std.specs.Prelude.{◌≡◌, IfOk, option_map};
 ghost use Rattle.json_doc.specs.Docs.{value};
 ghost use Rattle.schema_index.specs.Gathering.{anchor_mark};
 ghost use Rattle.schema_index.specs.Locateds.{located_schema};
-ghost use Rattle.schema_index.specs.Lookups.{has_dynamic_mark, has_mark, marked};
+ghost use Rattle.schema_index.specs.Lookups.{marked};
 
 use crate::located::Located;
 use crate::ways::{OwnedStep, follow, steps_after};
@@ -23,28 +23,6 @@ pub(crate) struct Anchor {
     pub(crate) start: usize,
     /// The way from the document's root to the schema.
     pub(crate) way: Vec<OwnedStep>,
-}
-
-/// The first anchor of this name in the resource with this URI.
-pub(crate) fn find_anchor<'a>(anchors: &'a [Anchor], uri: &str, name: &str) -> Option<&'a Anchor>
-    ensures { option_map (λ a. anchor_mark a.now) result ≡ find (has_mark uri.now name.now) (map anchor_mark anchors.now) }
-{
-    anchors
-        .iter()
-        .find(|anchor| uri == anchor.resource.as_str() && name == anchor.name.as_str())
-}
-
-/// The first dynamic anchor of this name in the resource with this URI.
-pub(crate) fn find_dynamic_anchor<'a>(
-    anchors: &'a [Anchor],
-    uri: &str,
-    name: &str,
-) -> Option<&'a Anchor>
-    ensures { option_map (λ a. anchor_mark a.now) result ≡ find (has_dynamic_mark uri.now name.now) (map anchor_mark anchors.now) }
-{
-    anchors.iter().find(|anchor| {
-        anchor.dynamic && uri == anchor.resource.as_str() && name == anchor.name.as_str()
-    })
 }
 
 /// The schema of the document that has the anchor.

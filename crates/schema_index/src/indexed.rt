@@ -1,6 +1,6 @@
 //! Documents with an index.
 
-ghost use Rattle.std.specs.Prelude.{◌≡◌, [], true, None, IfOk, IfErr, IfSome, is_some, find, map, option_and_then, option_map, string_bytes};
+ghost use Rattle.std.specs.Prelude.{◌≡◌, [], false, true, None, IfOk, IfErr, IfSome, is_some, find, map, option_and_then, option_map, string_bytes};
 ghost use Rattle.std.specs.BTreeMap.{get_by_text};
 ghost use Rattle.std.specs.List.{position_from};
 ghost use Rattle.definitions.specs.Reach.{holds_resource, references_in};
@@ -8,14 +8,16 @@ ghost use Rattle.definitions.specs.Scanning.{resource_uris, scan_fault};
 ghost use Rattle.definitions.specs.Targets.{resource_root, target_by, pointed, anchored, dynamically_anchored};
 ghost use Rattle.definitions.specs.Values.{Text, is_well_formed, same_text};
 ghost use Rattle.json_doc.specs.Docs.{value};
-ghost use Rattle.schema_index.specs.Gathering.{IsGathered, gathered_uris, gathered_ways};
+ghost use Rattle.schema_index.specs.AnchorNumbers.{is_marked, pair_number};
+ghost use Rattle.schema_index.specs.Gathering.{IsGathered, gathered_marks, gathered_uris, gathered_ways};
 ghost use Rattle.schema_index.specs.Locateds.{located_schema};
 ghost use Rattle.schema_index.specs.Lookups.{root_at, root_numbered};
 ghost use Rattle.schema_index.specs.Ways.{owned_hops};
 ghost use Rattle.schema_index.specs.Spots.{spots};
 ghost use Rattle.uri_ref.specs.FragmentViews.{fragment_shown};
 
-use crate::anchors::{find_anchor, find_dynamic_anchor, schema_of_anchor};
+use crate::anchor_numbers::{anchor_numbers_of, find_anchor};
+use crate::anchors::schema_of_anchor;
 use crate::gathered::Gathered;
 use crate::gathering::gather;
 use crate::located::Located;
@@ -37,10 +39,16 @@ pub struct Indexed {
     gathered: Gathered,
     /// The number of each resource's URI among those that were gathered.
     numbers: BTreeMap<String, usize>,
+    /// The number of each anchor among those that were gathered, by the URI of its resource and by its name.
+    anchor_numbers: BTreeMap<String, BTreeMap<String, usize>>,
+    /// The same of the dynamic anchors alone.
+    dynamic_numbers: BTreeMap<String, BTreeMap<String, usize>>,
     ghost faultless: { scan_fault (string_bytes base) (value document) ≡ None },
     ghost well_formed: { is_well_formed (value document) ≡ true },
     ghost of_document: { IsGathered gathered (spots [] 0 (string_bytes base) (value document)) },
     ghost by_uri: { (uri : Text) → get_by_text numbers uri ≡ position_from (same_text uri) 0 (gathered_uris gathered) },
+    ghost by_anchor: { (uri name : Text) → pair_number anchor_numbers uri name ≡ position_from (is_marked true uri name) 0 (gathered_marks gathered) },
+    ghost by_dynamic_anchor: { (uri name : Text) → pair_number dynamic_numbers uri name ≡ position_from (is_marked false uri name) 0 (gathered_marks gathered) },
 }
 
 impl Indexed {
@@ -56,11 +64,15 @@ impl Indexed {
         let _nesting = nesting(&document);
         let gathered = gather(alloc, base.as_str(), &document)?;
         let numbers = numbers_of(alloc, &gathered.uris)?;
+        let anchor_numbers = anchor_numbers_of(alloc, &gathered.anchors, true)?;
+        let dynamic_numbers = anchor_numbers_of(alloc, &gathered.anchors, false)?;
         Ok(Indexed {
             base,
             document,
             gathered,
             numbers,
+            anchor_numbers,
+            dynamic_numbers,
         })
     }
 
@@ -174,7 +186,7 @@ impl Indexed {
         ensures ok { IfOk result (λ t. option_map located_schema t ≡ dynamically_anchored (indexed_schemas self.now) uri.now name.now) }
         ensures err { IfErr result (λ f. f ≡ Fault.NoRoom) }
     {
-        match find_dynamic_anchor(&self.gathered.anchors, uri, name) {
+        match find_anchor(&self.gathered.anchors, &self.dynamic_numbers, uri, name) {
             Some(anchor) => Ok(schema_of_anchor(alloc, anchor, &self.document)?),
             None => Ok(None),
         }
@@ -197,16 +209,11 @@ impl Indexed {
     }
 
     // The schema with this anchor in the resource with this URI.
-    fn anchored(
-        &self,
-        alloc: Global,
-        uri: &str,
-        name: &str,
-    ) -> Result<Option<Located<'_>>, Fault>
+    fn anchored(&self, alloc: Global, uri: &str, name: &str) -> Result<Option<Located<'_>>, Fault>
         ensures ok { IfOk result (λ t. option_map located_schema t ≡ anchored (indexed_schemas self.now) uri.now name.now) }
         ensures err { IfErr result (λ f. f ≡ Fault.NoRoom) }
     {
-        match find_anchor(&self.gathered.anchors, uri, name) {
+        match find_anchor(&self.gathered.anchors, &self.anchor_numbers, uri, name) {
             Some(anchor) => Ok(schema_of_anchor(alloc, anchor, &self.document)?),
             None => Ok(None),
         }

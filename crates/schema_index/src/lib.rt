@@ -2,6 +2,7 @@
 //! Schema 2020-12 Core, section 8.2).
 #![tactic(auto)]
 
+mod anchor_numbers;
 mod anchors;
 mod gathered;
 mod gathering;
@@ -11,6 +12,8 @@ mod located;
 mod pointing;
 mod numbers;
 mod resources;
+#[cfg(test)]
+mod tests;
 mod visit;
 mod ways;
 

@@ -102,7 +102,15 @@ fn visit_keyword<'a>(
         Ok(()) => {}
         Err(fault) => return Err(fault),
     }
-    match visit_place(alloc, gathered, way, start, uri, holding_named(name), member) {
+    match visit_place(
+        alloc,
+        gathered,
+        way,
+        start,
+        uri,
+        holding_named(name),
+        member,
+    ) {
         Ok(()) => {}
         Err(fault) => return Err(fault),
     }

@@ -1,6 +1,6 @@
 //! JSON Pointers (RFC 6901).
 
-ghost use Rattle.std.specs.Prelude.{◌≡◌, ◌-◌, [], Some, ◌∷◌, ◌++◌, IsTrue, IfOk, IfErr, OnOk, OnErr, flat_map, length, position, string_bytes, take};
+ghost use Rattle.std.specs.Prelude.{◌≡◌, ◌-◌, [], Some, ◌∷◌, ◌++◌, IsTrue, IfOk, IfErr, OnOk, OnErr, flat_map, length, map, position, string_bytes, take};
 ghost use Rattle.definitions.specs.Pointers.{escaped_byte, pointer_of, pointer_text};
 ghost use Rattle.json_doc.specs.Escapes.{is_escaped};
 
@@ -38,6 +38,13 @@ impl Pointer {
         Pointer {
             tokens: Vec::new(alloc),
         }
+    }
+
+    /// The tokens, in order.
+    pub fn tokens(&self) -> &[String]
+        ensures { map string_bytes result.now ≡ self.now }
+    {
+        self.tokens.as_slice()
     }
 
     /// Puts a token last. The only error is want of memory, and then the pointer stays as it was.

@@ -1,5 +1,5 @@
 -- Shared documents from some place on.
-use Rattle.std.proofs.Common.{◌≡◌, ◌<◌, ◌≤◌, ◌+◌, ℕ, Bool, true, false, cond, List, Some, None, Contains, length, get_or, drop, find, sym, ap, subst, ◌∙◌, inl, inr}
+use Rattle.std.proofs.Common.{◌≡◌, ◌<◌, ◌≤◌, ◌+◌, ℕ, List, Contains, length, get_or, drop, ap, subst, ◌∙◌, inl, inr}
 use Rattle.std.proofs.lemmas.List.{at_drop_more, at_drop_all}
 use Rattle.std.specs.Global.{Global}
 use Rattle.std.specs.declared.rc.Rc.{Rc}
@@ -8,30 +8,6 @@ use Rattle.schema_scan.specs.CompiledDocuments.{compiled_document}
 use Rattle.schema_scan.specs.declared.compiled.Compiled.{Compiled}
 use Rattle.definition_laws.proofs.Membership.{nothing_in, first_or_later}
 use Rattle.linker.specs.SharedDocuments.{shared_documents}
-
-pub none_left : (p : Document → Bool) (xs : List (Rc Compiled Global)) (i : ℕ) → length xs ≤ i → find p (shared_documents (drop i xs)) ≡ None
-unfolding shared_documents
-none_left p xs i l = at_drop_all (λ ys. find p (shared_documents ys)) xs i l
-
-next : (p : Document → Bool) (xs : List (Rc Compiled Global)) (i : ℕ) (x : Rc Compiled Global) → i < length xs → x ≡ get_or xs i x
-    → find p (shared_documents (drop i xs)) ≡ cond (p (compiled_document x.value)) (Some (compiled_document x.value)) (find p (shared_documents (drop (i + 1) xs)))
-unfolding shared_documents
-next p xs i x l e =
-    at_drop_more (λ ys. find p (shared_documents ys)) xs i x l
-    ∙ ap (λ y. cond (p (compiled_document y.value)) (Some (compiled_document y.value)) (find p (shared_documents (drop (i + 1) xs)))) (sym e)
-
--- the document here passes
-pub found_here : (p : Document → Bool) (xs : List (Rc Compiled Global)) (i : ℕ) (x : Rc Compiled Global) (y : Compiled) → i < length xs → x ≡ get_or xs i x → y ≡ x.value
-    → p (compiled_document y) ≡ true → Some (compiled_document y) ≡ find p (shared_documents (drop i xs))
-found_here p xs i x y l e same passes =
-    ap (λ (z : Compiled). Some (compiled_document z)) same
-    ∙ sym (next p xs i x l e ∙ ap (λ b. cond b (Some (compiled_document x.value)) (find p (shared_documents (drop (i + 1) xs)))) (ap (λ (z : Compiled). p (compiled_document z)) (sym same) ∙ passes))
-
--- and here it doesn't
-pub passed_over : (p : Document → Bool) (xs : List (Rc Compiled Global)) (i : ℕ) (x : Rc Compiled Global) (y : Compiled) → i < length xs → x ≡ get_or xs i x → y ≡ x.value
-    → p (compiled_document y) ≡ false → find p (shared_documents (drop (i + 1) xs)) ≡ find p (shared_documents (drop i xs))
-passed_over p xs i x y l e same fails =
-    sym (next p xs i x l e ∙ ap (λ b. cond b (Some (compiled_document x.value)) (find p (shared_documents (drop (i + 1) xs)))) (ap (λ (z : Compiled). p (compiled_document z)) (sym same) ∙ fails))
 
 pub nothing_left : (xs : List (Rc Compiled Global)) (i : ℕ) → length xs ≤ i → (d : Document) → Contains (shared_documents (drop i xs)) d → ⊥
 unfolding shared_documents

@@ -15,6 +15,7 @@ ghost use Rattle.schema_index.specs.Locateds.{located_schema};
 ghost use Rattle.schema_scan.specs.CompiledDocuments.{compiled_document};
 ghost use Rattle.uri_ref.specs.FragmentViews.{fragment_shown};
 
+use crate::holders::holder;
 use crate::linked::Linked;
 use crate::references::{AbsoluteReference, opened_resource, resolve_reference};
 use faults::Fault;
@@ -93,7 +94,10 @@ impl Linked {
     fn holder(&self, uri: &str) -> Option<&Compiled>
         ensures { option_map (λ d. compiled_document d.now) result ≡ find (holds_resource uri.now) (linked_documents self.now) }
     {
-        first_holder(self.documents.as_slice(), uri)
+        match holder(self.documents.as_slice(), uri) {
+            Some(document) => Some(document),
+            None => None,
+        }
     }
 
     // The root of the resource with this URI.
@@ -241,18 +245,6 @@ fn first_pattern<'a>(documents: &'a [Rc<Compiled>], text: &str) -> Option<&'a Pa
     for document in documents {
         if let Some(pattern) = document.pattern(text) {
             return Some(pattern);
-        }
-    }
-    None
-}
-
-// The first document that has a resource with this URI.
-fn first_holder<'a>(documents: &'a [Rc<Compiled>], uri: &str) -> Option<&'a Compiled>
-    ensures { option_map (λ d. compiled_document d.now) result ≡ find (holds_resource uri.now) (shared_documents documents.now) }
-{
-    for document in documents {
-        if document.resource_uri(uri).is_some() {
-            return Some(document);
         }
     }
     None

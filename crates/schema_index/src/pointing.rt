@@ -22,10 +22,8 @@ use uri_ref::{recompose, resolve, split, without_fragment};
 
 mod descending;
 mod holding;
-mod tokens;
 
 use descending::{Descent, descend};
-use tokens::pointer_tokens;
 
 impl Indexed {
     ghost use Rattle.schema_index.specs.IndexedDocuments.{indexed_schemas};
@@ -46,8 +44,7 @@ impl Indexed {
         ensures ok { IfOk result (λ t. option_map located_schema t ≡ pointed pointer.now (located_schema root.entry)) }
         ensures err { IfErr result (λ f. f ≡ Fault.NoRoom) }
     {
-        let tokens = pointer_tokens(alloc, pointer)?;
-        self.led(alloc, root, tokens.as_slice())
+        self.led(alloc, root, pointer.tokens())
     }
 
     // The schema that a pointer with these tokens leads to from one of the document's.

@@ -114,7 +114,6 @@ fn index_of(token: &str, count: usize) -> Option<usize>
 
 #[cfg(test)]
 mod tests {
-    use super::super::tokens::pointer_tokens;
     use super::*;
     use faults::Fault;
     use json_doc::{Pointer, read};
@@ -125,8 +124,7 @@ mod tests {
     fn left(alloc: Global, schema: &str, pointer: &str) -> Result<Option<(usize, bool)>, Fault> {
         let schema = read(alloc, schema.as_bytes())?;
         let pointer = Pointer::parse(alloc, pointer)?;
-        let tokens = pointer_tokens(alloc, &pointer)?;
-        let Some((keyword, rest)) = tokens.as_slice().split_first() else {
+        let Some((keyword, rest)) = pointer.tokens().split_first() else {
             return Ok(None);
         };
         match descend(&schema, keyword.as_str(), rest) {

@@ -1,4 +1,4 @@
-use Rattle.std.proofs.Common.{◌≡◌, map, option_map, string_bytes, subst, ap, ◌∙◌, IfOk}
+use Rattle.std.proofs.Common.{◌≡◌, option_map, subst, IfOk}
 use Rattle.definitions.specs.Targets.{pointed}
 use Rattle.schema_index.specs.Descents.{led}
 use Rattle.schema_index.specs.Locateds.{located_schema}
@@ -8,4 +8,4 @@ pub returns-clause-ok : goal.returns-clause-ok
 unfolding led
 returns-clause-ok c =
     subst (λ way. IfOk c.led.result (λ t. option_map located_schema t ≡ pointed way (located_schema c.args.root)))
-    (ap (map string_bytes) c.as_slice.ensures.value ∙ c.in_ok-tokens.ensures.ok) c.led.ensures.ok
+    c.tokens.ensures c.led.ensures.ok

@@ -9,7 +9,7 @@ use Rattle.definitions.specs.Shapes.{Shape, any_value, truth, whole_number, size
 use Rattle.definitions.specs.Keywords.{keywords, shape_in}
 use Rattle.definitions.specs.Schemas.{Schema, opened, schema_at, below, at_place, schemas_within, schemas_of}
 use Rattle.schema_index.specs.Hops.{Hop, to_member, to_element, hop_token, hop_tokens}
-use Rattle.schema_index.specs.Spots.{Spot, spot_schema, spot_in, id_of, opened_uri, opened_start, resource_of, start_of, shape_holding, holding_named, spots, spots_below, spots_at, spots_in_list, spots_in_map}
+use Rattle.schema_index.specs.Spots.{spot_schema, spot_in, id_of, opened_uri, opened_start, resource_of, start_of, shape_holding, holding_named, spots, spots_below, spots_at, spots_in_list, spots_in_map}
 use Rattle.schema_index.specs.declared.holdings.Holding.TheVariants.{Schema as a_schema}
 
 abbrev schema_with : Text → Value → Pointer → Schema

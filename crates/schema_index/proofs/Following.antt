@@ -1,5 +1,5 @@
 -- Each way of the walk leads to its schema.
-use Rattle.std.proofs.Common.{◌≡◌, add-one, ℕ, zero, suc, ◌+◌, List, [], ◌∷◌, ◌++◌, map, length, Bool, true, false, cond, ◌&&◌, Option, Some, None, refl, sym, ap, ap₂, ◌∙◌, arith, inl, inr, ◌⊎◌, option_and_then, Ordering, Less, Equal, Greater, nat_cmp, subst}
+use Rattle.std.proofs.Common.{◌≡◌, add-one, ℕ, ◌+◌, List, [], ◌∷◌, ◌++◌, true, false, cond, ◌&&◌, Option, Some, None, refl, sym, ap, ◌∙◌, option_and_then, Ordering, Less, Equal, Greater, nat_cmp}
 use Rattle.std.proofs.lemmas.Bool.{and_parts}
 use Rattle.std.proofs.lemmas.Cmp.{nat_list_cmp_total}
 use Rattle.std.proofs.lemmas.Slice.Eq.{bytes_eq-Decides}
@@ -10,7 +10,7 @@ use Rattle.std.specs.Ordering.{is_lt, is_eq, ordering_reverse}
 use Rattle.std.specs.Str.{is_utf8}
 use Rattle.definitions.specs.Values.{Text, Value, null, boolean, integer, string, array, object, Elements, no_elements, element, elements_list, Members, no_members, member, members_list, entry, same_text, is_before, is_well_formed, are_well_formed, are_well_formed_members}
 use Rattle.schema_index.specs.Hops.{Hop, to_member, to_element, hop_value, follow}
-use Rattle.schema_index.specs.Spots.{Spot, spot_in, resource_of, start_of, holding_named, spots, spots_below, spots_at, spots_in_list, spots_in_map}
+use Rattle.schema_index.specs.Spots.{Spot, resource_of, start_of, holding_named, spots, spots_below, spots_at, spots_in_list, spots_in_map}
 use Rattle.schema_index.specs.declared.holdings.Holding.{Holding}
 use Rattle.schema_index.specs.declared.holdings.Holding.TheVariants.{Nothing, Schema as a_schema, Schemas, NamedSchemas}
 

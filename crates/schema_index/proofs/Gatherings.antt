@@ -1,10 +1,7 @@
 -- What is gathered of one schema, and of more.
-use Rattle.std.proofs.Common.{◌≡◌, List, [], ◌∷◌, ◌++◌, map, Bool, true, false, cond, filter, refl, sym, ap, ap₂, ◌∙◌, append_assoc, append-nil}
+use Rattle.std.proofs.Common.{◌≡◌, List, [], ◌∷◌, ◌++◌, map, Bool, true, false, cond, filter, refl, sym, ap, ◌∙◌, append_assoc, append-nil}
 use Rattle.std.proofs.lemmas.List.{map-append}
 use Rattle.std.proofs.lemmas.Grind.{flat_map-append}
-use Rattle.std.specs.List.{flat_map}
-use Rattle.definitions.specs.Values.{Text}
-use Rattle.schema_index.specs.Hops.{Hop}
 use Rattle.schema_index.specs.Spots.{Spot, at_root}
 use Rattle.schema_index.specs.Gathering.{Gathers, root_uris, root_ways, spot_references, marks}
 use Rattle.schema_index.specs.declared.gathered.Gathered.{Gathered}

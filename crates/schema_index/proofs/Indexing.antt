@@ -1,15 +1,14 @@
 -- What is gathered of a document, as the definitions find it.
-use Rattle.std.proofs.Common.{◌≡◌, ℕ, List, [], ◌∷◌, filter, ◌++◌, true, Some, map, nat_le, is_some, cond, option_and_then, refl, sym, ap, ap₂, ◌∙◌, arith}
+use Rattle.std.proofs.Common.{◌≡◌, ℕ, List, [], ◌∷◌, filter, true, Some, map, nat_le, is_some, cond, option_and_then, refl, sym, ap, ◌∙◌, arith}
 use Rattle.std.proofs.lemmas.Bool.Decides.{nat_tests}
 use Rattle.std.specs.List.{find, flat_map, position_from, slice_get}
 use Rattle.definitions.specs.Values.{Text, Value, null, boolean, integer, string, array, object, is_well_formed, same_text}
-use Rattle.definitions.specs.Schemas.{Schema, document_from, schema_at, schemas_of, references}
+use Rattle.definitions.specs.Schemas.{Schema, document_from, schemas_of, references}
 use Rattle.definitions.specs.Scanning.{resource_uris}
 use Rattle.definitions.specs.Reach.{holds_resource, references_in}
 use Rattle.definitions.specs.Targets.{resource_root, anchored, dynamically_anchored}
-use Rattle.schema_index.specs.Hops.{Hop}
-use Rattle.schema_index.specs.Spots.{Spot, spot_in, at_root, spot_schema, spots, resource_of, start_of}
-use Rattle.schema_index.specs.Gathering.{Mark, marks, root_uris, root_ways, spot_references}
+use Rattle.schema_index.specs.Spots.{Spot, spot_in, at_root, spots, resource_of, start_of}
+use Rattle.schema_index.specs.Gathering.{marks, root_uris, root_ways, spot_references}
 use Rattle.schema_index.specs.Lookups.{has_dynamic_mark, has_mark, marked, root_numbered}
 use Rattle.schema_index.proofs.Following.{AreFollowed, spots-followed}
 use Rattle.schema_index.proofs.Standing.{schema-spot, schemas_of-spots}

@@ -1,7 +1,7 @@
 -- What an indexed document owns, as the definitions find it.
-use Rattle.std.proofs.Common.{◌≡◌, ℕ, suc, List, [], ◌∷◌, Bool, true, false, cond, Bor, Option, Some, None, Contains, IfSome, map, length, is_some, option_and_then, option_map, string_bytes, refl, sym, ap, ap₂, ◌∙◌, arith}
+use Rattle.std.proofs.Common.{◌≡◌, ℕ, suc, List, [], ◌∷◌, Bool, true, false, cond, Bor, Option, Some, None, Contains, IfSome, is_some, option_and_then, option_map, string_bytes, refl, sym, ap, ap₂, ◌∙◌, arith}
 use Rattle.std.specs.List.{find, position_from, slice_get}
-use Rattle.definitions.specs.Values.{Text, Value, same_text}
+use Rattle.definitions.specs.Values.{Text, same_text}
 use Rattle.definitions.specs.Reach.{holds_resource, references_in}
 use Rattle.definitions.specs.Scanning.{resource_uris}
 use Rattle.definitions.specs.Targets.{resource_root, anchored, dynamically_anchored}

@@ -2,7 +2,7 @@
 use Rattle.std.proofs.Common.{◌≡◌, List, [], ◌∷◌, map, Bool, true, false, cond, Bor, Option, Some, None, option_map, unwrap_or, refl, sym, ap, ◌∙◌}
 use Rattle.std.specs.List.{find}
 use Rattle.definitions.specs.Values.{Text, same_text}
-use Rattle.definitions.specs.Shapes.{Shape, any_value}
+use Rattle.definitions.specs.Shapes.{any_value}
 use Rattle.definitions.specs.Keywords.{Keyword, keywords}
 use Rattle.schema_index.specs.Spots.{shape_holding, holding_named}
 use Rattle.schema_index.specs.declared.holdings.Holding.{Holding}

@@ -1,15 +1,14 @@
 -- What is gathered of the schemas is what the definitions find in them.
-use Rattle.std.proofs.Common.{◌≡◌, ◌≤◌, ◌<◌, ◌==◌, ◌&&◌, ◌||◌, ◌⊎◌, ℕ, zero, suc, ◌+◌, ◌-◌, List, [], ◌∷◌, ◌++◌, Bool, true, false, cond, Option, Some, None, codes, drop, length, map, filter, nat_le, is_some, option_and_then, option_map, unwrap_or, refl, sym, ap, ap₂, ◌∙◌, arith, inl, inr, append_assoc}
+use Rattle.std.proofs.Common.{◌≡◌, ◌==◌, ◌&&◌, ◌||◌, ◌⊎◌, ℕ, suc, ◌+◌, ◌-◌, List, [], ◌∷◌, ◌++◌, Bool, true, false, cond, Option, Some, None, codes, drop, length, map, filter, nat_le, is_some, option_and_then, option_map, unwrap_or, refl, sym, ap, ◌∙◌, arith, inl, inr, append_assoc}
 use Rattle.std.proofs.lemmas.Bool.Decides.{nat_tests}
-use Rattle.std.proofs.lemmas.List.{drop_all, length-drop, length-map, map-append}
-use Rattle.std.proofs.lemmas.Grind.{flat_map-append}
+use Rattle.std.proofs.lemmas.List.{drop_all, length-drop, length-map}
 use Rattle.std.proofs.lemmas.Slice.Eq.{bytes_eq-Decides}
-use Rattle.std.specs.List.{AllByRecursion, find, flat_map, position_from, slice_get}
+use Rattle.std.specs.List.{find, flat_map, position_from, slice_get}
 use Rattle.definitions.specs.Values.{Text, Value, same_text, text_at}
 use Rattle.definitions.specs.Schemas.{Schema, is_root, option_list, references}
 use Rattle.definitions.specs.Scanning.{resource_uris}
-use Rattle.definitions.specs.Targets.{resource_root, has_text, is_anchor, is_dynamic_anchor, anchored, dynamically_anchored}
-use Rattle.schema_index.specs.Hops.{Hop, follow, hop_token, hop_tokens}
+use Rattle.definitions.specs.Targets.{resource_root, is_anchor, is_dynamic_anchor, anchored, dynamically_anchored}
+use Rattle.schema_index.specs.Hops.{Hop, hop_token, hop_tokens}
 use Rattle.schema_index.specs.Spots.{Spot, at_root, spot_schema}
 use Rattle.schema_index.specs.Gathering.{Mark, mark, marks, marks_under, references_at, root_uris, root_ways, spot_references}
 use Rattle.schema_index.specs.Lookups.{has_dynamic_mark, has_mark, marked, root_at, root_numbered, rooted}

@@ -1,5 +1,5 @@
 -- The way from a document's root to a value in it.
-use Rattle.std.specs.Prelude.{ℕ, List, [], ◌∷◌, Option, Some, option_and_then, slice_get, map, decimal, string_bytes}
+use Rattle.std.specs.Prelude.{ℕ, List, [], ◌∷◌, Option, Some, option_and_then, slice_get, map, decimal}
 use Rattle.definitions.specs.Values.{Text, Value, elements, get}
 use Rattle.definitions.specs.Pointers.{Pointer}
 use Rattle.locations.specs.declared.step.Step.{Step}

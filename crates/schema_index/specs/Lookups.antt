@@ -1,5 +1,5 @@
 -- What is found by number, by URI and by name.
-use Rattle.std.specs.Prelude.{ℕ, List, [], ◌∷◌, Bool, ◌&&◌, ◌||◌, Option, None, drop, find, if◌then◌else◌, not, option_and_then, option_map, slice_get}
+use Rattle.std.specs.Prelude.{ℕ, List, [], Bool, ◌&&◌, Option, drop, option_and_then, option_map, slice_get}
 use Rattle.definitions.specs.Values.{Text, Value, same_text}
 use Rattle.definitions.specs.Schemas.{Schema}
 use Rattle.schema_index.specs.Hops.{Hop, follow, hop_tokens}

@@ -1,6 +1,6 @@
 -- The schemas of a document in the order of a walk, each with the way to it: a schema before those below it, these in
 -- byte order of keywords, lists by index and maps by name.
-use Rattle.std.specs.Prelude.{ℕ, ◌+◌, List, [], ◌∷◌, ◌++◌, Bool, nat_le, Option, Some, None, codes, drop, length, map}
+use Rattle.std.specs.Prelude.{ℕ, ◌+◌, List, [], ◌∷◌, ◌++◌, Bool, nat_le, Option, Some, None, codes, drop, length}
 use Rattle.definitions.specs.Values.{Text, Value, array, object, Elements, no_elements, element, Members, no_members, member, text_at}
 use Rattle.definitions.specs.Uris.{without_fragment}
 use Rattle.definitions.specs.Resolution.{resolved}

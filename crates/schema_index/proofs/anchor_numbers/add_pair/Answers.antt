@@ -1,4 +1,4 @@
-use Rattle.std.proofs.Common.{◌≡◌, cond, Some, string_bytes, ap, ◌∙◌}
+use Rattle.std.proofs.Common.{cond, Some, string_bytes, ap, ◌∙◌}
 use Rattle.std.proofs.lemmas.Map.Text.{btree_map_updates_text}
 use Rattle.std.specs.BTreeMap.{get_by_text}
 use Rattle.definitions.specs.Values.{same_text}

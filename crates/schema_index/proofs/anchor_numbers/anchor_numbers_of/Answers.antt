@@ -1,7 +1,7 @@
-use Rattle.std.proofs.Common.{◌≡◌, ◌<◌, ◌≤◌, ◌+◌, ◌-◌, ℕ, List, ◌∷◌, cond, Some, drop, get_or, length, map, refl, sym, ap, ap₂, ◌∙◌, arith}
+use Rattle.std.proofs.Common.{◌≡◌, ◌<◌, ◌+◌, ◌-◌, ℕ, List, ◌∷◌, cond, Some, drop, get_or, length, map, sym, ap, ap₂, ◌∙◌, arith}
 use Rattle.std.proofs.lemmas.List.{drop_more, drop-map}
 use Rattle.std.specs.List.{position_from}
-use Rattle.schema_index.specs.AnchorNumbers.{is_marked, pair_number}
+use Rattle.schema_index.specs.AnchorNumbers.{is_marked}
 use Rattle.schema_index.specs.Gathering.{anchor_mark}
 use Rattle.schema_index.specs.declared.anchors.Anchor.{Anchor}
 use Rattle.schema_index.proofs.anchor_numbers.anchor_numbers_of.Goals as goal

@@ -1,7 +1,7 @@
 use Rattle.std.proofs.Common.{◌≡◌, [], None, refl, string_bytes, sym, ap, ◌∙◌}
 use Rattle.definitions.specs.Scanning.{scan_fault}
 use Rattle.definitions.specs.Values.{Text, no_members, object}
-use Rattle.json_doc.specs.Docs.{members_view, value}
+use Rattle.json_doc.specs.Docs.{members_view}
 use Rattle.json_doc.proofs.Views.{to_members-value, value-Dict}
 use Rattle.schema_index.proofs.tests.indexes_a_document.Goals as goal
 

@@ -1,4 +1,4 @@
-use Rattle.std.proofs.Common.{◌≡◌, ◌++◌, ◌∷◌, [], ◌+◌, List, map, drop, Some, None, option_map, length, subst, sym, ap, ap₂, ◌∙◌, arith, append_assoc}
+use Rattle.std.proofs.Common.{◌≡◌, ◌++◌, ◌∷◌, [], ◌+◌, List, map, drop, Some, None, length, subst, sym, ap, ap₂, ◌∙◌, arith, append_assoc}
 use Rattle.std.proofs.lemmas.List.{drop_more, length-map}
 use Rattle.std.specs.Result.{OnOk}
 use Rattle.definitions.specs.Uris.{without_fragment}
@@ -8,7 +8,7 @@ use Rattle.json_doc.specs.Docs.{value, members_view}
 use Rattle.json_doc.specs.Members.{members_left}
 use Rattle.json_doc.proofs.Views.{to_members-value}
 use Rattle.schema_index.specs.Gathering.{Gathers}
-use Rattle.schema_index.specs.Hops.{Hop, step_hop, step_hops, to_element, to_member}
+use Rattle.schema_index.specs.Hops.{step_hop, step_hops, to_element, to_member}
 use Rattle.schema_index.specs.Spots.{Spot, holding_named, spots, spots_from, spots_at, spots_below, spots_in_list, spots_in_map}
 use Rattle.schema_index.proofs.Gatherings.{gathers-none, gathers-append}
 use Rattle.schema_index.proofs.Visiting.{spots-by, spots-index}

@@ -1,12 +1,12 @@
-use Rattle.std.proofs.Common.{◌≡◌, ◌<◌, ◌≤◌, ℕ, List, [], ◌∷◌, ◌++◌, Bool, true, false, length, map, nat_le, string_bytes, sym, ap, ◌∙◌, arith, append-nil}
+use Rattle.std.proofs.Common.{◌≡◌, ◌<◌, ◌≤◌, ℕ, List, [], ◌++◌, true, false, length, map, nat_le, string_bytes, sym, ap, ◌∙◌, arith, append-nil}
 use Rattle.std.proofs.lemmas.Bool.Decides.{nat_tests}
 use Rattle.std.proofs.lemmas.List.{length-map}
 use Rattle.json_doc.specs.Docs.{value}
 use Rattle.locations.specs.declared.step.Step.{Step}
-use Rattle.schema_index.specs.Hops.{step_hop, step_hops}
+use Rattle.schema_index.specs.Hops.{step_hops}
 use Rattle.schema_index.specs.Spots.{Spot, at_root, spot_in}
 use Rattle.schema_index.specs.Ways.{owned_hops}
-use Rattle.schema_index.specs.Gathering.{Gathers, anchor_mark, gathered_uris, gathered_ways, gathered_references, gathered_marks, references_at, marks}
+use Rattle.schema_index.specs.Gathering.{anchor_mark, gathered_uris, gathered_ways, gathered_references, gathered_marks, references_at, marks}
 use Rattle.schema_index.proofs.Gatherings.{root_uri-one, root_way-one}
 use Rattle.schema_index.proofs.gathered.Gathered.add.Goals as goal
 use Rattle.schema_index.proofs.gathered.Gathered.add.Goals.{then-way-start+in_ok-push_root, else-way-start}

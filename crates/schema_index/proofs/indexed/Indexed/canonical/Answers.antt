@@ -1,7 +1,6 @@
-use Rattle.std.proofs.Common.{◌≡◌, Some, map, string_bytes, ap, ◌∙◌}
+use Rattle.std.proofs.Common.{map, string_bytes, ap, ◌∙◌}
 use Rattle.std.specs.List.{slice_get}
 use Rattle.schema_index.specs.Gathering.{gathered_uris}
-use Rattle.schema_index.specs.IndexedDocuments.{indexed_document}
 use Rattle.schema_index.proofs.Owned.{owned-canonical, some-same, none-some}
 use Rattle.schema_index.proofs.indexed.Indexed.canonical.Goals as goal
 

@@ -1,4 +1,4 @@
-use Rattle.std.proofs.Common.{◌≡◌, false, map, option_and_then, ap, ◌∙◌}
+use Rattle.std.proofs.Common.{false, map, option_and_then, ap, ◌∙◌}
 use Rattle.std.specs.List.{slice_get}
 use Rattle.json_doc.specs.Docs.{value}
 use Rattle.schema_index.specs.AnchorNumbers.{is_marked, pair_number}

@@ -1,4 +1,4 @@
-use Rattle.std.proofs.Common.{◌≡◌, [], false, true, map, string_bytes, subst, refl, sym, ap, ◌∙◌}
+use Rattle.std.proofs.Common.{[], false, true, map, string_bytes, subst, refl, ap, ◌∙◌}
 use Rattle.std.specs.List.{position_from}
 use Rattle.definitions.specs.Values.{same_text}
 use Rattle.json_doc.specs.Docs.{value}

@@ -1,4 +1,4 @@
-use Rattle.std.proofs.Common.{◌≡◌, None, Some, option_and_then, ap, ◌∙◌}
+use Rattle.std.proofs.Common.{option_and_then, ap, ◌∙◌}
 use Rattle.json_doc.specs.Docs.{value}
 use Rattle.schema_index.specs.Gathering.{gathered_uris, gathered_ways}
 use Rattle.schema_index.specs.Lookups.{root_numbered}

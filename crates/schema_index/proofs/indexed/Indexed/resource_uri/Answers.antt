@@ -1,6 +1,5 @@
-use Rattle.std.proofs.Common.{◌≡◌, Bor, None, Some, map, option_map, string_bytes, ap, ◌∙◌}
-use Rattle.std.specs.List.{find, slice_get}
-use Rattle.definitions.specs.Values.{Text, same_text}
+use Rattle.std.proofs.Common.{None, Some, map, string_bytes, ap, ◌∙◌}
+use Rattle.std.specs.List.{slice_get}
 use Rattle.schema_index.specs.Gathering.{gathered_uris}
 use Rattle.schema_index.proofs.Owned.{held-uri, same-uri, uri-at}
 use Rattle.schema_index.proofs.indexed.Indexed.resource_uri.Goals as goal

@@ -8,7 +8,7 @@ ghost use Rattle.checks.specs.Judgements.{judgement_of_texts, judgement_of_value
 
 use evaluator::{Report, evaluate_one};
 use json_doc::{Doc, Fault, read};
-use schema_scan::scan;
+use schema_scan::scan_supported;
 use std::alloc::Global;
 use uri_ref::{base_form, split};
 
@@ -16,7 +16,7 @@ use uri_ref::{base_form, split};
 /// (RFC 3986, section 5.1): the URI without dot segments.
 ///
 /// The first of these faults is answered: `BadUri`, where `uri` has a fragment, no scheme or no base form; of the schema
-/// `BadJson`, `BadNumber` and those of [`scan`]; of the instance `BadJson` and `BadNumber`; and `Costly` and `Deep`. `NoRoom`
+/// `BadJson`, `BadNumber` and those of [`scan_supported`]; of the instance `BadJson` and `BadNumber`; and `Costly` and `Deep`. `NoRoom`
 /// may take the place of any answer.
 #[tactic(auto, unfolding(crate::specs::Judgements::judgement))]
 pub fn check_bytes(
@@ -30,9 +30,9 @@ pub fn check_bytes(
 {
     let base = base_form(alloc, uri)?;
     let schema = read(alloc, schema)?;
-    let scanned = scan(alloc, &split(base.as_str()), &schema)?;
+    let supported = scan_supported(alloc, &split(base.as_str()), &schema)?;
     let instance = read(alloc, instance)?;
-    evaluate_one(alloc, &scanned, &instance)
+    evaluate_one(alloc, &supported, &instance)
 }
 
 /// The same of two values.
@@ -47,6 +47,6 @@ pub(crate) fn check_docs(
     ensures err { IfErr result (λ f. f ≢ Fault.NoRoom → judgement_of_values uri.now (value schema.now) (value instance.now) ≡ Err (fault f)) }
 {
     let uri = base_form(alloc, uri)?;
-    let scanned = scan(alloc, &split(uri.as_str()), schema)?;
-    evaluate_one(alloc, &scanned, instance)
+    let supported = scan_supported(alloc, &split(uri.as_str()), schema)?;
+    evaluate_one(alloc, &supported, instance)
 }

@@ -3,7 +3,7 @@
 ghost use Rattle.std.specs.Prelude.{◌≡◌, ◌≢◌, true, false, Ok, Err, IfOk, IfErr};
 ghost use Rattle.faults.specs.View.{fault};
 ghost use Rattle.json_doc.specs.Docs.{value};
-ghost use Rattle.schema_scan.specs.Scans.{scanned_base, scanned_value};
+ghost use Rattle.schema_scan.specs.Supporting.{supported_base, supported_value};
 ghost use Rattle.schema_scan.specs.UnknownNames.{has_unknown};
 ghost use Rattle.evaluator.specs.Reports.{is_valid, answer_one, verdict};
 
@@ -12,7 +12,7 @@ use crate::found::Found;
 use crate::output::output_text;
 use crate::units::Log;
 use json_doc::{Doc, Fault};
-use schema_scan::Scanned;
+use schema_scan::Supported;
 use std::alloc::Global;
 
 /// How many applications may nest, the root's among them.
@@ -47,17 +47,17 @@ impl Report {
     }
 }
 
-/// Applies a scanned document to an instance, by `properties` (JSON Schema 2020-12 Core, 10.3.2.1) and the keywords that
+/// Applies a document to an instance, by `properties` (JSON Schema 2020-12 Core, 10.3.2.1) and the keywords that
 /// look at their own value and the instance (Validation, 6). Of these faults the first that arises is answered:
 ///
 /// - [`Fault::Costly`]: there are more than 100,000 applications of schemas.
 /// - [`Fault::Deep`]: more than 1,000 applications nest.
 /// - [`Fault::NoRoom`]: memory ran out, at whichever step.
-pub fn evaluate_one(alloc: Global, scanned: &Scanned<'_>, instance: &Doc) -> Result<Report, Fault>
-    ensures ok { IfOk result (λ r. verdict (answer_one (scanned_base scanned.now) (scanned_value scanned.now) (value instance.now)) ≡ Ok (is_valid r)) }
-    ensures err { IfErr result (λ f. f ≢ Fault.NoRoom → verdict (answer_one (scanned_base scanned.now) (scanned_value scanned.now) (value instance.now)) ≡ Err (fault f)) }
+pub fn evaluate_one(alloc: Global, supported: &Supported<'_>, instance: &Doc) -> Result<Report, Fault>
+    ensures ok { IfOk result (λ r. verdict (answer_one (supported_base supported.now) (supported_value supported.now) (value instance.now)) ≡ Ok (is_valid r)) }
+    ensures err { IfErr result (λ f. f ≢ Fault.NoRoom → verdict (answer_one (supported_base supported.now) (supported_value supported.now) (value instance.now)) ≡ Err (fault f)) }
 {
-    judge(alloc, scanned.base(), scanned.document(), instance)
+    judge(alloc, supported.base(), supported.document(), instance)
 }
 
 // Nothing loops where the schema's names are all in.

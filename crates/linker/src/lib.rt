@@ -5,11 +5,11 @@ mod contents;
 mod holders;
 mod judging;
 mod linked;
-mod lookups;
-mod references;
 mod linking;
 mod list_source;
+mod lookups;
 mod placing;
+mod references;
 mod source;
 mod visiting;
 

@@ -1,4 +1,4 @@
-use crate::{Fault, Linked, ListSource, asked, link, reached, value_of};
+use crate::{Fault, Linked, ListSource, Source, asked, link, reached, value_of};
 use json_doc::read;
 use schema_scan::{Compiled, compile, scan};
 use std::alloc::Global;
@@ -101,5 +101,45 @@ fn a_held_resource_is_not_added(rt: HostRuntime) -> Result<(), Fail> {
     let other = r#"{"$defs":{"d":{"$id":"inner"}}}"#;
     assert!(rt; !source.add(compiled(alloc, "https://ex.org/d", other)?)?);
     assert!(rt; source.add(compiled(alloc, "https://ex.org/d", "{}")?)?);
+    Ok(())
+}
+
+// The least reference without a target is named, until each has one.
+#[test]
+fn references_are_resolved_one_by_one(rt: HostRuntime) -> Result<(), Fail> {
+    let alloc = rt.alloc();
+    let mut source = ListSource::new(alloc);
+    let uri = "https://ex.org/s";
+    let schema = r#"{"$defs":{"u":{"$ref":"q"},"v":{"$ref":"p"}}}"#;
+    source.add(compiled(alloc, uri, schema)?)?;
+    let linked = link(alloc, &mut source, uri);
+    assert_eq!(rt;
+        answer(alloc, linked)?.as_str(),
+        "15 Unresolved https://ex.org/p"
+    );
+    source.add(compiled(alloc, "https://ex.org/p", "{}")?)?;
+    let linked = link(alloc, &mut source, uri);
+    assert_eq!(rt;
+        answer(alloc, linked)?.as_str(),
+        "15 Unresolved https://ex.org/q"
+    );
+    source.add(compiled(alloc, "https://ex.org/q", "{}")?)?;
+    let linked = link(alloc, &mut source, uri);
+    assert_eq!(rt;
+        answer(alloc, linked)?.as_str(),
+        "https://ex.org/s https://ex.org/p https://ex.org/q https://ex.org/s"
+    );
+    Ok(())
+}
+
+#[test]
+fn a_list_holds_each_resource_once(rt: HostRuntime) -> Result<(), Fail> {
+    let alloc = rt.alloc();
+    let mut source = ListSource::new(alloc);
+    let uri = "https://ex.org/s";
+    assert!(rt; source.add(compiled(alloc, uri, "{}")?)?);
+    assert!(rt; !source.add(compiled(alloc, uri, "{}")?)?);
+    assert!(rt; source.holding(alloc, uri)?.is_some());
+    assert!(rt; source.holding(alloc, "https://ex.org/t")?.is_none());
     Ok(())
 }

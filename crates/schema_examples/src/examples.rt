@@ -1,5 +1,5 @@
 use json_doc::read;
-use schema_scan::scan;
+use schema_scan::{scan, scan_supported};
 use std::alloc::Global;
 use std::test::Fail;
 use uri_ref::split;
@@ -15,6 +15,15 @@ fn answer_under(alloc: Global, base: &str, document: &str) -> Result<String, Fai
 
 fn answer(alloc: Global, document: &str) -> Result<String, Fail> {
     answer_under(alloc, "https://ex.org/s", document)
+}
+
+// The same where the names that aren't in are refused.
+fn stage_answer(alloc: Global, document: &str) -> Result<String, Fail> {
+    let document = read(alloc, document.as_bytes())?;
+    match scan_supported(alloc, &split("https://ex.org/s"), &document) {
+        Ok(supported) => Ok(String::from_str(alloc, supported.base())?),
+        Err(fault) => Ok(format!(in alloc; "{fault}")?),
+    }
 }
 
 // `{"const":[[..]]}`, with so many lists, one in the other.
@@ -111,18 +120,27 @@ fn refuses_names_that_stand_twice(rt: HostRuntime) -> Result<(), Fail> {
 #[test]
 fn names_that_are_not_in_come_last(rt: HostRuntime) -> Result<(), Fail> {
     let alloc = rt.alloc();
-    assert_eq!(rt;
-        answer(alloc, r#"{"allOf":[true]}"#)?.as_str(),
-        "33 Unsupported"
-    );
+    let list = r#"{"allOf":[true]}"#;
+    assert_eq!(rt; stage_answer(alloc, list)?.as_str(), "33 Unsupported");
+    assert_eq!(rt; answer(alloc, list)?.as_str(), "https://ex.org/s");
+    let empty = r#"{"allOf":[]}"#;
+    assert_eq!(rt; stage_answer(alloc, empty)?.as_str(), "8 BadKeyword /allOf");
     let uri = r#"{"allOf":[true],"$defs":{"d":{"$id":"s"}}}"#;
-    assert_eq!(rt; answer(alloc, uri)?.as_str(), "12 DuplicateUri");
+    assert_eq!(rt; stage_answer(alloc, uri)?.as_str(), "12 DuplicateUri");
+    let known = r#"{"type":"null"}"#;
+    assert_eq!(rt; stage_answer(alloc, known)?.as_str(), "https://ex.org/s");
+    Ok(())
+}
+
+#[test]
+fn anchors_stand_once_in_a_resource(rt: HostRuntime) -> Result<(), Fail> {
+    let alloc = rt.alloc();
     // One name in two resources is two anchors.
     let apart = r#"{"$anchor":"n","$defs":{"d":{"$id":"e","$dynamicAnchor":"n"}}}"#;
-    assert_eq!(rt; answer(alloc, apart)?.as_str(), "33 Unsupported");
+    assert_eq!(rt; answer(alloc, apart)?.as_str(), "https://ex.org/s");
     // One name under both keywords of one schema is one anchor.
     let one = r#"{"$anchor":"n","$dynamicAnchor":"n"}"#;
-    assert_eq!(rt; answer(alloc, one)?.as_str(), "33 Unsupported");
+    assert_eq!(rt; answer(alloc, one)?.as_str(), "https://ex.org/s");
     Ok(())
 }
 

@@ -1,5 +1,7 @@
-//! Scans of schema documents, on texts: tests alone, for the crate `schema_scan`.
+//! Scans and compiled forms of schema documents, on texts: tests alone, for the crate `schema_scan`.
 #![tactic(auto)]
 
+#[cfg(test)]
+mod documents;
 #[cfg(test)]
 mod examples;

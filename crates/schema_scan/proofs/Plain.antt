@@ -1,14 +1,18 @@
--- The keywords that are in: none of their shapes has schemas anywhere but in the members of an object.
+-- The keywords that are in: none of their shapes looks at the base or the schema, or has schemas anywhere but in the
+-- members of an object.
 use Rattle.std.proofs.Common.{◌≡◌, List, [], ◌∷◌, Bool, true, false, ◌&&◌, cond, Option, Some, None, refl}
 use Rattle.std.specs.List.{list_all}
 use Rattle.definitions.specs.Values.{Text, same_text}
-use Rattle.definitions.specs.Shapes.{Shape, one_schema, schema_list}
+use Rattle.definitions.specs.Shapes.{Shape, one_schema, schema_list, identifier, anchor_name, dialect}
 use Rattle.definitions.specs.Keywords.{Keyword, keyword_named}
 use Rattle.schema_scan.specs.FirstKeywords.{first_keywords}
 
 abbrev pub is_plain : Shape → Bool
 is_plain one_schema = false
 is_plain schema_list = false
+is_plain identifier = false
+is_plain anchor_name = false
+is_plain dialect = false
 is_plain _ = true
 
 -- what a name can be

@@ -106,9 +106,9 @@ module _ (n : ℕ) (finds : Finds n) (way : Pointer) (s : Schema) where
   shape_names one_schema h name v l = cc
   shape_names schema_list h name v l = cc
   shape_names schema_map h name v l = properties_names name v l
-  shape_names identifier h name v l = refl
-  shape_names anchor_name h name v l = refl
-  shape_names dialect h name v l = refl
+  shape_names identifier h name v l = cc
+  shape_names anchor_name h name v l = cc
+  shape_names dialect h name v l = cc
 
   place_names : (k : Option Keyword) → IsPlain k → (name : Text) (v : Value) → nesting v < n
       → list_any has_unsupported (flat_map within (at_place s name v (shape_of_row k))) ≡ has_unknown_at (shape_of_row k) v

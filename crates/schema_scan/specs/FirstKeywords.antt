@@ -1,8 +1,8 @@
 -- The keywords that are in, in the order of evaluation.
 use Rattle.std.specs.Prelude.{List, [], ◌∷◌, codes}
 use Rattle.definitions.specs.Assertions.{type_is, enum_of, const_is, multiple_of, maximum, exclusive_maximum, minimum, exclusive_minimum, max_length, min_length, max_properties, min_properties, required, dependent_required, max_items, min_items, unique_items}
-use Rattle.definitions.specs.Keywords.{Keyword, row, asserting, matches_pattern, properties, declares}
-use Rattle.definitions.specs.Shapes.{any_text, schema_map, identifier, anchor_name, dialect}
+use Rattle.definitions.specs.Keywords.{Keyword, row, asserting, properties}
+use Rattle.definitions.specs.Shapes.{schema_map}
 
 abbrev pub first_keywords : List Keyword
 first_keywords =
@@ -16,7 +16,6 @@ first_keywords =
     ∷ asserting (codes "exclusiveMinimum") exclusive_minimum
     ∷ asserting (codes "maxLength") max_length
     ∷ asserting (codes "minLength") min_length
-    ∷ row (codes "pattern") any_text matches_pattern
     ∷ asserting (codes "maxProperties") max_properties
     ∷ asserting (codes "minProperties") min_properties
     ∷ asserting (codes "required") required
@@ -24,10 +23,4 @@ first_keywords =
     ∷ asserting (codes "maxItems") max_items
     ∷ asserting (codes "minItems") min_items
     ∷ asserting (codes "uniqueItems") unique_items
-    ∷ row (codes "properties") schema_map properties
-    ∷ row (codes "$defs") schema_map declares
-    ∷ row (codes "definitions") schema_map declares
-    ∷ row (codes "$id") identifier declares
-    ∷ row (codes "$anchor") anchor_name declares
-    ∷ row (codes "$dynamicAnchor") anchor_name declares
-    ∷ row (codes "$schema") dialect declares ∷ []
+    ∷ row (codes "properties") schema_map properties ∷ []

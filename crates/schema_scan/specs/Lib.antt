@@ -14,3 +14,4 @@ pub mod PatternTexts
 pub mod BuiltPatterns
 pub mod PatternTables
 pub mod CompiledDocuments
+pub mod Supporting

@@ -15,6 +15,8 @@ mod repeats;
 mod resources;
 mod scanned;
 mod scanning;
+mod stage;
+mod supported;
 mod table;
 mod unsupported;
 mod visit;
@@ -25,6 +27,8 @@ pub use faults::Fault;
 pub use scanned::Scanned;
 pub use scanning::scan;
 pub use schema_index::Located;
+pub use stage::scan_supported;
+pub use supported::Supported;
 
 #[cfg(test)]
 mod tests;

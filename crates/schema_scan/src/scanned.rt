@@ -1,10 +1,9 @@
 //! Documents that were scanned.
 
 ghost use Rattle.std.specs.Prelude.{◌≡◌, None, IfOk, map};
-ghost use Rattle.definitions.specs.Scanning.{patterns};
+ghost use Rattle.definitions.specs.Scanning.{patterns, scan_fault};
 ghost use Rattle.json_doc.specs.Docs.{value};
 ghost use Rattle.schema_scan.specs.PatternTexts.{patterns_in};
-ghost use Rattle.schema_scan.specs.Stages.{stage_fault};
 ghost use Rattle.schema_scan.specs.Tables.{uris_of, places_of};
 ghost use Rattle.schema_scan.specs.Uris.{uri_at};
 
@@ -19,7 +18,7 @@ use std::alloc::{AllocError, Global};
 pub struct Scanned<'a> {
     table: Table<'a>,
     document: &'a Doc,
-    ghost faultless: { stage_fault (uri_at (uris_of table) 0) (value document.now) ≡ None },
+    ghost faultless: { scan_fault (uri_at (uris_of table) 0) (value document.now) ≡ None },
     ghost all_patterns: { patterns_in (places_of table) ≡ patterns (value document.now) },
 }
 
@@ -27,7 +26,7 @@ impl<'a> Scanned<'a> {
     ghost use Rattle.schema_scan.specs.Scans.{scanned_base, scanned_value};
 
     pub(crate) fn new(table: Table<'a>, document: &'a Doc) -> Scanned<'a>
-        requires faultless { stage_fault (uri_at (uris_of table) 0) (value document.now) ≡ None }
+        requires faultless { scan_fault (uri_at (uris_of table) 0) (value document.now) ≡ None }
         requires patterns { patterns_in (places_of table) ≡ patterns (value document.now) }
         ensures base { scanned_base result ≡ uri_at (uris_of table.entry) 0 }
         ensures value { scanned_value result ≡ value document.now }
@@ -45,7 +44,7 @@ impl<'a> Scanned<'a> {
     /// The document.
     pub fn document(&self) -> &'a Doc
         ensures value { value result.now ≡ scanned_value self.now }
-        ensures faultless { stage_fault (scanned_base self.now) (scanned_value self.now) ≡ None }
+        ensures faultless { scan_fault (scanned_base self.now) (scanned_value self.now) ≡ None }
     {
         self.document
     }

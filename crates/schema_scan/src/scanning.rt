@@ -8,14 +8,12 @@ ghost use Rattle.faults.specs.View.{fault};
 ghost use Rattle.json_doc.specs.Docs.{value};
 ghost use Rattle.schema_scan.specs.Scans.{scanned_base, scanned_value};
 ghost use Rattle.schema_scan.specs.Places.{places};
-ghost use Rattle.schema_scan.specs.Stages.{stage_fault};
 ghost use Rattle.schema_scan.specs.Tables.{uris_of, places_of};
 ghost use Rattle.schema_scan.specs.Uris.{uri_at};
 
 use crate::names::{has_repeated_anchor, has_repeated_uri};
 use crate::scanned::Scanned;
 use crate::table::Table;
-use crate::unsupported::has_unknown;
 use crate::visit::visit_schema;
 use faults::Fault;
 use json_doc::{Doc, nesting};
@@ -38,21 +36,16 @@ const MOST_NESTED: usize = 120;
 ///   both in byte order of names.
 /// - [`Fault::DuplicateUri`]: two schemas open a resource of one URI.
 /// - [`Fault::DuplicateAnchor`]: two schemas of one resource have an anchor of one name.
-/// - [`Fault::Unsupported`]: a schema has a name that is no keyword that is in. A name that begins with `$` and is no
-///   keyword is ignored, and so is `$schema` below the root of a resource.
 /// - [`Fault::NoRoom`]: memory ran out.
 pub fn scan<'a>(alloc: Global, base: &Parts, document: &'a Doc) -> Result<Scanned<'a>, Fault>
     ensures ok { IfOk result (λ s. (scanned_base s ≡ recompose base.now) × (scanned_value s ≡ value document.now)) }
-    ensures sound { OnOk result (stage_fault (recompose base.now) (value document.now) ≡ None) }
-    ensures err { IfErr result (λ f. f ≢ Fault.NoRoom → stage_fault (recompose base.now) (value document.now) ≡ Some (fault f)) }
+    ensures sound { OnOk result (scan_fault (recompose base.now) (value document.now) ≡ None) }
+    ensures err { IfErr result (λ f. f ≢ Fault.NoRoom → scan_fault (recompose base.now) (value document.now) ≡ Some (fault f)) }
 {
     let table = match read_schemas(alloc, base, document) {
         Ok(table) => table,
         Err(fault) => return Err(fault),
     };
-    if has_unknown(document, true) {
-        return Err(Fault::Unsupported);
-    }
     Ok(Scanned::new(table, document))
 }
 

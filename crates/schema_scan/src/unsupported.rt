@@ -3,11 +3,10 @@
 ghost use Rattle.std.specs.Prelude.{◌≡◌, option_map, unwrap_or};
 ghost use Rattle.definitions.specs.Shapes.{any_value};
 ghost use Rattle.json_doc.specs.Docs.{value, members_view};
-ghost use Rattle.schema_scan.specs.Forms.{form_view};
+ghost use Rattle.keyword_shapes.specs.ShapeView.{shape_view};
 ghost use Rattle.schema_scan.specs.UnknownNames.{is_unknown, opens_resource, has_unknown_name, has_unknown, has_unknown_below, has_unknown_at, has_unknown_in};
 
-use crate::forms::Form;
-use crate::keywords::{is_unknown, keyword_form};
+use crate::keywords::{is_unknown, keyword_shape};
 use json_doc::{Doc, Members};
 use keyword_shapes::Shape;
 
@@ -30,20 +29,20 @@ fn has_unknown_below(members: &Members) -> bool
     ensures { result ≡ has_unknown_below (members_view members.now) }
 {
     for (name, member) in members.iter() {
-        if has_unknown_at(keyword_form(name), member) {
+        if has_unknown_at(keyword_shape(name), member) {
             return true;
         }
     }
     false
 }
 
-// In the schemas at the value of a keyword of this form.
+// In the schemas at the value of a keyword of this shape.
 #[cycle(unsupported)]
-fn has_unknown_at(form: Option<Form>, member: &Doc) -> bool
-    ensures { result ≡ has_unknown_at (unwrap_or (option_map form_view form) any_value) (value member.now) }
+fn has_unknown_at(shape: Option<Shape>, member: &Doc) -> bool
+    ensures { result ≡ has_unknown_at (unwrap_or (option_map shape_view shape) any_value) (value member.now) }
 {
-    match (form, member) {
-        (Some(Form::Of(Shape::SchemaMap)), Doc::Dict(schemas)) => has_unknown_in(schemas),
+    match (shape, member) {
+        (Some(Shape::SchemaMap), Doc::Dict(schemas)) => has_unknown_in(schemas),
         _ => false,
     }
 }
@@ -76,7 +75,7 @@ fn has_unknown_name(members: &Members, at_root: bool) -> bool
 fn is_unknown_name(name: &str, at_root: bool) -> bool
     ensures { result ≡ is_unknown at_root name.now }
 {
-    is_unknown(keyword_form(name), name, at_root)
+    is_unknown(keyword_shape(name), name, at_root)
 }
 
 // Whether the schema opens a resource: its `$id` is a text (JSON Schema 2020-12 Core, section 8.2.1).

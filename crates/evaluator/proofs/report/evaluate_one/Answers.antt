@@ -1,8 +1,8 @@
 use Rattle.std.proofs.Common.{true, ap, ◌∙◌}
-use Rattle.schema_scan.specs.Scans.{scanned_base, scanned_value}
+use Rattle.schema_scan.specs.Supporting.{supported_base, supported_value}
 use Rattle.schema_scan.specs.UnknownNames.{has_unknown}
 use Rattle.schema_scan.proofs.StageFaults.{faultless_known}
 use Rattle.evaluator.proofs.report.evaluate_one.Goals as goal
 
 pub judge-requires : goal.judge-requires
-judge-requires c = ap (has_unknown true) c.document.ensures.value ∙ faultless_known (scanned_base c.args.scanned.now) (scanned_value c.args.scanned.now) c.document.ensures.faultless
+judge-requires c = ap (has_unknown true) c.document.ensures.value ∙ faultless_known (supported_base c.args.supported.now) (supported_value c.args.supported.now) c.document.ensures.faultless

@@ -53,7 +53,11 @@ impl Report {
 /// - [`Fault::Costly`]: there are more than 100,000 applications of schemas.
 /// - [`Fault::Deep`]: more than 1,000 applications nest.
 /// - [`Fault::NoRoom`]: memory ran out, at whichever step.
-pub fn evaluate_one(alloc: Global, supported: &Supported<'_>, instance: &Doc) -> Result<Report, Fault>
+pub fn evaluate_one(
+    alloc: Global,
+    supported: &Supported<'_>,
+    instance: &Doc,
+) -> Result<Report, Fault>
     ensures ok { IfOk result (λ r. verdict (answer_one (supported_base supported.now) (supported_value supported.now) (value instance.now)) ≡ Ok (is_valid r)) }
     ensures err { IfErr result (λ f. f ≢ Fault.NoRoom → verdict (answer_one (supported_base supported.now) (supported_value supported.now) (value instance.now)) ≡ Err (fault f)) }
 {

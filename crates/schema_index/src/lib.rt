@@ -9,8 +9,8 @@ mod gathering;
 mod holdings;
 mod indexed;
 mod located;
-mod pointing;
 mod numbers;
+mod pointing;
 mod resources;
 #[cfg(test)]
 mod tests;

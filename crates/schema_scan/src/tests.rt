@@ -80,9 +80,9 @@ fn the_canonical_uri_is_that_of_the_root(rt: HostRuntime) -> Result<(), Fail> {
 }
 
 #[test]
-fn names_of_definitions_are_scanned(rt: HostRuntime) -> Result<(), Fail> {
-    let text = r#"{"$defs":{"d":{"properties":{"p":{"unknown":1}}}}}"#;
+fn schemas_of_definitions_are_scanned(rt: HostRuntime) -> Result<(), Fail> {
+    let text = r#"{"definitions":{"d":{"properties":{"p":{"type":"int"}}}}}"#;
     let refused = compiled(rt.alloc(), "https://ex.org/s", text);
-    assert!(rt; matches!(refused, Err(Fault::Unsupported)));
+    assert!(rt; matches!(refused, Err(Fault::BadKeyword(_))));
     Ok(())
 }

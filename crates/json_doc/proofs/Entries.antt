@@ -1,7 +1,8 @@
 -- The entries of a map beside the members that they stand for.
-use Rattle.std.proofs.Common.{◌≡◌, List, [], ◌∷◌, map, length, Option, Some, None, option_map, String, Global, Ordering, Less, Equal, Greater, string_bytes, string_cmp, nat_cmp, is_eq, cond, Bool, true, false, Bor, refl, ap, ◌∙◌}
+use Rattle.std.proofs.Common.{◌≡◌, List, [], ◌∷◌, map, length, Option, Some, None, option_map, String, Global, Ordering, Less, Equal, Greater, string_bytes, string_cmp, nat_cmp, is_eq, cond, Bool, true, false, Bor, refl, sym, ap, ◌∙◌}
 use Rattle.std.proofs.lemmas.Str.{is_utf8-from_IsUtf8, IsUtf8-string_bytes}
 use Rattle.std.proofs.lemmas.Map.Text.{is_eq-slice_cmp}
+use Rattle.std.proofs.lemmas.Slice.Eq.{bytes_eq-Decides}
 use Rattle.std.specs.BTreeMap.{is_at, insert_entry}
 use Rattle.std.specs.Cmp.Lexicographic.{slice_cmp}
 use Rattle.std.specs.List.{AllByRecursion}
@@ -29,6 +30,18 @@ value-lookup name (e ∷ es) =
 pub value_of_ref : (r : Option (Bor Doc)) → option_map (λ d. value d.now) r ≡ option_map value (option_map (λ d. d.now) r)
 value_of_ref None = refl
 value_of_ref (Some d) = refl
+
+pub key_is : (name : Text) (k : String Global) → slice_cmp nat_cmp name (string_bytes k) ≡ Equal → string_bytes k ≡ name
+key_is name k e = sym ((bytes_eq-Decides name (string_bytes k)).0 (sym (is_eq-slice_cmp name (string_bytes k)) ∙ ap is_eq e))
+
+pub pair_found : (name k : Text) (d : Doc) (es : List Entry) → k ≡ name → Some d ≡ lookup (is_at (λ l. slice_cmp nat_cmp name (string_bytes l))) es
+    → Some (k, value d) ≡ option_map {U = Text × Value} (λ v. (name, v)) (entry name (map member_value es))
+pair_found name k d es is e =
+    ap {B = Option (Text × Value)} (λ n. Some (n, value d)) is ∙ ap (option_map {U = Text × Value} (λ v. (name, v))) (ap (option_map value) e ∙ value-lookup name es)
+
+pub none_found : (name : Text) (es : List Entry) → None ≡ lookup (is_at (λ l. slice_cmp nat_cmp name (string_bytes l))) es
+    → None ≡ option_map {U = Text × Value} (λ v. (name, v)) (entry name (map member_value es))
+none_found name es e = ap (option_map {U = Text × Value} (λ v. (name, v))) (ap (option_map value) e ∙ value-lookup name es)
 
 -- ---- putting an entry in
 members-match_ordering : (o : Ordering) (a b c : List Entry) → map member_value (match_ordering o a b c) ≡ match_ordering o (map member_value a) (map member_value b) (map member_value c)

@@ -51,6 +51,21 @@ impl Members {
         self.entries.get(name)
     }
 
+    /// The member of this name, with its name as it stands here. The time grows with the logarithm of the number of
+    /// members, as that of `get` does.
+    pub fn get_key_value(&self, name: &str) -> Option<(&str, &Doc)>
+        ensures found { option_map member_shown result ≡ option_map (λ v. (name.now, v)) (entry name.now (members_value self.now)) }
+        ensures ordered { HasNamesInOrder (members_value self.now) }
+    {
+        let entries = &self.entries;
+        // The contract of a map's length says that its names are in order.
+        let _ = entries.len();
+        match entries.get_key_value(name) {
+            Some((key, member)) => Some((key.as_str(), member)),
+            None => None,
+        }
+    }
+
     /// The members with their names, in byte order of names.
     pub fn iter(&self) -> MembersIter<'_>
         ensures all { members_left result ≡ members_value self.now }

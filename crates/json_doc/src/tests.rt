@@ -56,6 +56,18 @@ fn the_last_of_repeated_names_wins(rt: HostRuntime) -> Result<(), Fail> {
 }
 
 #[test]
+fn a_member_is_found_with_its_name(rt: HostRuntime) -> Result<(), Fail> {
+    let members = sample(rt.alloc())?;
+    assert!(rt; members.get_key_value("b").is_some());
+    if let Some((name, member)) = members.get_key_value("b") {
+        assert_eq!(rt; name, "b");
+        assert_eq!(rt; member.as_bool(), Some(true));
+    }
+    assert!(rt; members.get_key_value("c").is_none());
+    Ok(())
+}
+
+#[test]
 fn a_value_tells_what_it_holds(rt: HostRuntime) -> Result<(), Fail> {
     assert_eq!(rt; Doc::Int(Whole::of(7)).as_int(), Some(Whole::of(7)));
     assert_eq!(rt; Doc::Null.as_bool(), None);

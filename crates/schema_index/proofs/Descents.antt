@@ -1,12 +1,12 @@
 -- Where a pointer leads from a schema, by the keyword's name and shape.
-use Rattle.std.proofs.Common.{◌≡◌, ◌≢◌, ◌<◌, ◌≤◌, ◌+◌, ◌^◌, ◌||◌, ℕ, zero, suc, List, [], ◌∷◌, ◌++◌, map, length, Bool, true, false, cond, Some, None, option_map, decimal, nat_cmp, refl, sym, ap, ap₂, subst, ◌∙◌, arith, inl, inr, append-nil}
+use Rattle.std.proofs.Common.{◌≡◌, ◌≢◌, ◌<◌, ◌≤◌, ◌+◌, ◌^◌, ◌||◌, ℕ, zero, suc, List, [], ◌∷◌, ◌++◌, map, length, Bool, true, false, cond, Option, Some, None, option_map, decimal, nat_cmp, refl, sym, ap, ap₂, subst, ◌∙◌, arith, inl, inr, append-nil}
 use Rattle.std.proofs.lemmas.Bool.{false_from_ne_true}
 use Rattle.std.proofs.lemmas.Cmp.{nat_list_cmp_total, tied_itself}
 use Rattle.std.proofs.lemmas.Fmt.{decimal_injective}
 use Rattle.std.proofs.lemmas.Grind.{flat_map-append}
 use Rattle.std.proofs.lemmas.List.{map-append, length-append, length-map}
 use Rattle.std.specs.Cmp.Lexicographic.{slice_cmp}
-use Rattle.std.specs.List.{find, flat_map, list_any, slice_get, enumerate_from, Contains}
+use Rattle.std.specs.List.{flat_map, list_any, slice_get, enumerate_from, Contains}
 use Rattle.definitions.specs.Values.{Text, Value, elements, members, entry, nesting, has_repeat, same_text}
 use Rattle.definitions.specs.Pointers.{Pointer}
 use Rattle.definitions.specs.Shapes.{Shape, one_schema, schema_list, schema_map}
@@ -60,15 +60,17 @@ looked : (k : Text) (rest : Pointer) (s : Schema)
 looked k rest s = ap (look (k ∷ rest)) (by_keyword (nesting s.value) s (members s.value))
 
 -- ---- the row of a name
-pub row-some : (name : Text) (ms : List (Text × Value)) (v : Value) → entry name ms ≡ Some v → row name_of name ms ≡ Some (name, v)
-row-some name [] v e = cc
-row-some name (m ∷ ms) v e = by (same_text name m.0) refl e (row-some name ms v)
+pub row-entry : (name : Text) (ms : List (Text × Value)) → row name_of name ms ≡ option_map {U = Text × Value} (λ v. (name, v)) (entry name ms)
+row-entry name [] = refl
+row-entry name (m ∷ ms) = by (same_text name m.0) refl (row-entry name ms)
   where
-    by : (b : Bool) → same_text name m.0 ≡ b → cond b (Some m.1) (entry name ms) ≡ Some v
-        → (entry name ms ≡ Some v → find (λ (l : Text × Value). same_text name l.0) ms ≡ Some (name, v))
-        → cond b (Some m) (find (λ (l : Text × Value). same_text name l.0) ms) ≡ Some (name, v)
-    by true h f more = let is : name ≡ m.0 = same_text_is name m.0 h in let same : m.1 ≡ v = cc in ap₂ (λ x y. Some (x, y)) (sym is) same
-    by false h f more = more f
+    by : (b : Bool) → same_text name m.0 ≡ b → row name_of name ms ≡ option_map {U = Text × Value} (λ v. (name, v)) (entry name ms)
+        → cond b (Some m) (row name_of name ms) ≡ option_map {U = Text × Value} (λ v. (name, v)) (cond b (Some m.1) (entry name ms))
+    by true h more = ap {B = Option (Text × Value)} (λ n. Some (n, m.1)) (sym (same_text_is name m.0 h))
+    by false h more = more
+
+pub row-some : (name : Text) (ms : List (Text × Value)) (v : Value) → entry name ms ≡ Some v → row name_of name ms ≡ Some (name, v)
+row-some name ms v e = row-entry name ms ∙ ap (option_map {U = Text × Value} (λ w. (name, w))) e
 
 pub row-in : {X : Type 0} (key : X → Text) (name : Text) (xs : List X) (x : X) → row key name xs ≡ Some x → IsIn x xs
 row-in key name [] x e = cc

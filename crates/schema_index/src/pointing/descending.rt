@@ -84,17 +84,12 @@ fn descend_into_map<'a, 't>(
     })
 }
 
-// The member of this name, with its name in the object. The time grows with the number of members.
+// The member of this name, with its name in the object. The time grows with the logarithm of the number of members.
 fn named<'a>(members: &'a Members, name: &str) -> Option<(&'a str, &'a Doc)>
     ensures found { option_map member_shown result ≡ row name_of name.now (members_value members.now) }
     ensures ordered { HasNamesInOrder (members_value members.now) }
 {
-    for (key, member) in members.iter() {
-        if key == name {
-            return Some((key, member));
-        }
-    }
-    None
+    members.get_key_value(name)
 }
 
 // The index below this count that the token writes: no zero leads it, unless it is `0`.

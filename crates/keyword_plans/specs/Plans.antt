@@ -1,8 +1,8 @@
 -- What a keyword applies, as the definitions have it.
-use Rattle.std.specs.Prelude.{ℕ, List, [], ◌∷◌, Option, Some, None, map}
+use Rattle.std.specs.Prelude.{ℕ, Bool, true, false, List, [], ◌∷◌, Option, Some, None, map}
 use Rattle.definitions.specs.Values.{Text, Value}
 use Rattle.definitions.specs.Pointers.{Pointer}
-use Rattle.definitions.specs.Keywords.{Meaning}
+use Rattle.definitions.specs.Keywords.{Meaning, consequence, at_least_items, at_most_items}
 use Rattle.definitions.specs.Applied as definition
 use Rattle.definitions.specs.Applied.{Application, Outcome, Rules, whole, named, indexed, name_of, applied, applying, at_part}
 use Rattle.json_doc.specs.Docs.{value}
@@ -37,3 +37,14 @@ planned_view k a p = (part_view p.part, chosen_application k a p.chosen (part_vi
 -- what the keyword with this value applied, each with its outcome
 abbrev pub outcomes_of : Rules → (Application → Outcome) → List Text → List ℕ → Application → Text → Meaning → Value → List (definition.Part × Outcome)
 outcomes_of rules run names indexes a k meaning v = map (λ e. (e.0, run e.1)) (applied rules run names indexes a k meaning v)
+
+-- asks what `if` beside said
+abbrev pub is_consequence : Meaning → Bool
+is_consequence (consequence wanted) = true
+is_consequence _ = false
+
+-- asks what `contains` beside found
+abbrev pub counts_contained : Meaning → Bool
+counts_contained at_least_items = true
+counts_contained at_most_items = true
+counts_contained _ = false

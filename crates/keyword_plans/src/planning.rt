@@ -1,10 +1,10 @@
 //! What each keyword applies, to which part of the instance.
 
-ghost use Rattle.std.specs.Prelude.{◌≡◌, ℕ, List, Some, IfOk, IfErr, map, option_map};
+ghost use Rattle.std.specs.Prelude.{◌≡◌, ℕ, List, Some, true, IfOk, IfErr, map, option_map};
 ghost use Rattle.definitions.specs.Values.{get};
 ghost use Rattle.definitions.specs.Applied.{Application, Outcome, applied, condition_outcome};
 ghost use Rattle.json_doc.specs.Docs.{value};
-ghost use Rattle.keyword_plans.specs.Plans.{planned_view};
+ghost use Rattle.keyword_plans.specs.Plans.{is_consequence, planned_view};
 ghost use Rattle.keyword_plans.specs.Rows.{row_of};
 ghost use Rattle.keyword_plans.specs.Sites.{Shows, linked_rules};
 
@@ -33,8 +33,8 @@ use std::alloc::Global;
 
 /// What the keyword of the schema, with this value, applies, in order (JSON Schema 2020-12 Core, 7.1, 10 and 11).
 ///
-/// `condition` says whether `if` beside passed, where it is there; `evaluated` is what the keywords but `unevaluatedItems`
-/// and `unevaluatedProperties` evaluated. The only error is want of memory.
+/// `then` and `else` need `condition`, which says whether `if` beside passed, where it is there; `evaluated` is what the
+/// keywords but `unevaluatedItems` and `unevaluatedProperties` evaluated. The only error is want of memory.
 pub fn plan<'a>(
     alloc: Global,
     site: Site<'_, 'a>,
@@ -46,7 +46,7 @@ pub fn plan<'a>(
 ) -> Result<Vec<Planned<'a>>, Fault>
     ensures ok { (a : Application) (run : Application → Outcome) → Shows site.entry a
         → get (row_of keyword).name a.schema.value ≡ Some (value keyword_value.now)
-        → option_map (λ o. o.valid) (condition_outcome run a) ≡ condition
+        → (is_consequence (row_of keyword).meaning ≡ true → option_map (λ o. o.valid) (condition_outcome run a) ≡ condition)
         → IfOk result (λ ps. map (planned_view (row_of keyword).name a) ps.items
         ≡ applied (linked_rules site.entry.linked.now) run (map (λ n. n.now) evaluated.entry.names.now) evaluated.entry.indexes.now a
         (row_of keyword).name (row_of keyword).meaning (value keyword_value.now)) }

@@ -8,7 +8,7 @@ ghost use Rattle.linker.specs.LinkedDocuments.{linked_schemas};
 
 use faults::Fault;
 use linker::Linked;
-use patterns::Searcher;
+use patterns::{Pattern, Searcher};
 use std::alloc::Global;
 
 /// The searches of one evaluation: each pattern has one machine, which is made when it is first asked for.
@@ -43,14 +43,28 @@ impl<'a> Searches<'a> {
             return Ok(self.searchers[place].is_match(text));
         }
         match linked.pattern(pattern) {
-            Some(built) => {
-                let mut searcher = built.searcher(alloc)?;
-                let found = searcher.is_match(text);
-                self.searchers.insert(place, searcher)?;
-                Ok(found)
-            }
+            Some(built) => self.first_match(alloc, place, built, text),
             None => Ok(false),
         }
+    }
+
+    // The first search for a pattern, whose machine is put at this place. It stands apart, since a machine is large.
+    #[inline(never)]
+    fn first_match(
+        &mut self,
+        alloc: Global,
+        place: usize,
+        pattern: &'a Pattern,
+        text: &str,
+    ) -> Result<bool, Fault>
+        requires { place ≤ length self.now.searchers.items }
+        ensures ok { IfOk result (λ found. found ≡ has_match pattern.now text.now) }
+        ensures err { IfErr result (λ f. f ≡ Fault.NoRoom) }
+    {
+        let mut searcher = pattern.searcher(alloc)?;
+        let found = searcher.is_match(text);
+        self.searchers.insert(place, searcher)?;
+        Ok(found)
     }
 }
 

@@ -1,15 +1,15 @@
 //! Whether a keyword passes.
 
-ghost use Rattle.std.specs.Prelude.{◌≡◌, ◌||◌, ℕ, List, Option, Some, IfOk, IfErr, codes, count_by, length, nat_lt, not, option_map};
+ghost use Rattle.std.specs.Prelude.{◌≡◌, ◌||◌, ℕ, List, Option, Some, true, IfOk, IfErr, codes, count_by, length, nat_lt, not, option_map};
 ghost use Rattle.assertions.specs.AssertionView.{assertion_view};
 ghost use Rattle.assertions.specs.Limits.{size_of};
 ghost use Rattle.definitions.specs.Values.{Text, get, integer, is_array};
-ghost use Rattle.definitions.specs.Assertions.{holds, is_at_least, is_at_most};
+ghost use Rattle.definitions.specs.Assertions.{holds, is_at_least, is_at_most, unique_items};
 ghost use Rattle.definitions.specs.Patterns.{has_match};
 ghost use Rattle.definitions.specs.Applied.{Application, Outcome, beside, contains_outcomes};
 ghost use Rattle.definitions.specs.Evaluated.{contains_holds, keyword_passes, needs_none, passing, pattern_holds};
 ghost use Rattle.json_doc.specs.Docs.{value};
-ghost use Rattle.keyword_plans.specs.Plans.{outcomes_of};
+ghost use Rattle.keyword_plans.specs.Plans.{counts_contained, outcomes_of};
 ghost use Rattle.keyword_plans.specs.Rows.{row_of};
 ghost use Rattle.keyword_plans.specs.Sites.{Shows, linked_rules};
 ghost use Rattle.keyword_plans.specs.Subjects.{subject_value};
@@ -19,6 +19,7 @@ use crate::searches::Searches;
 use crate::site::Site;
 use crate::subject::Subject;
 use assertions::{Keyword as Assertion, holds};
+use distinct_values::is_unique;
 use faults::Fault;
 use json_doc::{Doc, Whole};
 use std::alloc::{AllocError, Global};
@@ -34,8 +35,8 @@ pub struct Tally {
 
 /// Whether the keyword of the schema, with this value, passes, by what the schemas that it applied said.
 ///
-/// `containing` is the number of elements that `contains` beside found, where it is there. The only error is want of
-/// memory.
+/// `minContains` and `maxContains` need `containing`, the number of elements that `contains` beside found, where it is
+/// there. The only error is want of memory.
 pub fn passes<'a>(
     alloc: Global,
     site: Site<'_, 'a>,
@@ -47,7 +48,7 @@ pub fn passes<'a>(
 ) -> Result<bool, Fault>
     ensures ok { (a : Application) (run : Application → Outcome) (names : List Text) (indexes : List ℕ) → Shows site.entry a
         → get (row_of keyword).name a.schema.value ≡ Some (value keyword_value.now)
-        → option_map (count_by (λ o. o.valid)) (contains_outcomes run a) ≡ containing
+        → (counts_contained (row_of keyword).meaning ≡ true → option_map (count_by (λ o. o.valid)) (contains_outcomes run a) ≡ containing)
         → let os = outcomes_of (linked_rules site.entry.linked.now) run names indexes a (row_of keyword).name (row_of keyword).meaning (value keyword_value.now) in
         tally.applied ≡ length os → tally.passing ≡ passing os
         → IfOk result (λ b. b ≡ keyword_passes (linked_rules site.entry.linked.now) run a (row_of keyword).name (row_of keyword).meaning (value keyword_value.now) os) }
@@ -89,11 +90,35 @@ fn holds_of(
     ensures { IfOk result (λ b. b ≡ holds (assertion_view assertion) (value keyword_value.now) (subject_value subject.entry)) }
 {
     match subject {
-        Subject::Value(doc) => Ok(holds(assertion, keyword_value, doc)),
+        Subject::Value(doc) => holds_of_value(alloc, assertion, keyword_value, doc),
         Subject::Name(name) => {
             let name = Doc::Str(String::from_str(alloc, name)?);
             Ok(holds(assertion, keyword_value, &name))
         }
+    }
+}
+
+fn holds_of_value(
+    alloc: Global,
+    assertion: Assertion,
+    keyword_value: &Doc,
+    instance: &Doc,
+) -> Result<bool, AllocError>
+    ensures { IfOk result (λ b. b ≡ holds (assertion_view assertion) (value keyword_value.now) (value instance.now)) }
+{
+    match assertion {
+        Assertion::UniqueItems => is_unique_if(alloc, keyword_value, instance),
+        _ => Ok(holds(assertion, keyword_value, instance)),
+    }
+}
+
+// Whether no two elements are equal, where the keyword's value is `true` (Validation, 6.4.3).
+fn is_unique_if(alloc: Global, asked: &Doc, instance: &Doc) -> Result<bool, AllocError>
+    ensures { IfOk result (λ b. b ≡ holds unique_items (value asked.now) (value instance.now)) }
+{
+    match asked {
+        Doc::Bool(true) => is_unique(alloc, instance),
+        _ => Ok(true),
     }
 }
 

@@ -1,0 +1,3 @@
+pub mod Ordered
+pub mod Sorting
+pub mod Ended

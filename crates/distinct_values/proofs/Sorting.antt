@@ -1,0 +1,40 @@
+-- References sorted by the values that they lead to.
+use Rattle.std.proofs.Common.{◌≡◌, ◌+◌, ◌<◌, List, [], ◌∷◌, map, length, get_or, not, Bool, is_lt, ap, ap₂, ◌∙◌, arith, Vec, Global, IsSorted}
+use Rattle.std.proofs.lemmas.List.{get_or-map, length-map}
+use Rattle.std.proofs.lemmas.List.Sorted.{ranks_by}
+use Rattle.std.specs.Borrow.{Bor}
+use Rattle.std.specs.Cmp.{IsStrictWeakOrder}
+use Rattle.std.specs.List.Sorted.{IsSortedBy}
+use Rattle.definitions.specs.Values.{Value, same, has_repeat, elements}
+use Rattle.definitions.specs.Assertions.{is_unique}
+use Rattle.definition_laws.specs.Uniqueness.{has_same_neighbours}
+use Rattle.definition_laws.proofs.NeighbourRepeats.{neighbours}
+use Rattle.json_doc.specs.Docs.{value}
+use Rattle.json_doc.specs.declared.doc.Doc.{Doc, List as DocList}
+use Rattle.json_doc.proofs.Views.{value-List, elements_list-to_elements}
+use Rattle.distinct_values.specs.Orders.{compared}
+use Rattle.distinct_values.specs.Sorts.{values_behind, IsSortedFrom}
+use Rattle.distinct_values.proofs.Ordered.{compared_total, tied}
+
+abbrev pub behind : Bor Doc → Value
+behind r = value r.now
+
+abbrev pub is_before : Bor Doc → Bor Doc → Bool
+is_before r s = is_lt (compared (behind r) (behind s))
+
+pub before_ranks : IsStrictWeakOrder is_before
+before_ranks = ranks_by compared_total behind
+
+pub values_sorted : (refs : List (Bor Doc)) → IsSortedBy is_before refs → IsSorted compared (values_behind refs)
+values_sorted [] sorted k d l h = absurd (omega arith)
+values_sorted (r ∷ refs) sorted k d l h =
+    let short : k + 1 < length (r ∷ refs) = omega (arith, length-map (r ∷ refs) behind) in
+    let later : get_or (values_behind (r ∷ refs)) (k + 1) d ≡ behind (get_or (r ∷ refs) (k + 1) r) = get_or-map behind (r ∷ refs) (k + 1) r d short in
+    let sooner : get_or (values_behind (r ∷ refs)) k d ≡ behind (get_or (r ∷ refs) k r) = get_or-map behind (r ∷ refs) k r d (omega arith) in
+    ap₂ (λ v w. is_lt (compared v w)) later sooner ∙ sorted k r l short
+
+pub repeats_as_neighbours : (vs ws : List Value) → IsSortedFrom vs ws → has_repeat same vs ≡ has_same_neighbours ws
+repeats_as_neighbours vs ws sorted = neighbours compared compared_total tied vs ws sorted.0 sorted.1
+
+pub is_unique-List : (v : Vec Doc Global) → is_unique (value (DocList v)) ≡ not (has_repeat same (map value v.items))
+is_unique-List v = ap (λ w. not (has_repeat same (elements w))) (value-List v) ∙ ap (λ vs. not (has_repeat same vs)) (elements_list-to_elements (map value v.items))

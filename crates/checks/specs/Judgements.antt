@@ -1,38 +1,62 @@
--- Whether an instance is valid by a schema, or the first fault, where both are judged at once and without a registry. Of
--- the keywords only those are judged that are in.
-use Rattle.std.specs.Prelude.{Bool, Option, Some, None, Result, Ok, Err, codes}
-use Rattle.definitions.specs.Values.{Text, Value, string, get}
-use Rattle.definitions.specs.Texts.{reading}
-use Rattle.definitions.specs.Faults.{Fault, bad_input}
+-- What a schema says of an instance, or the first fault, where both are judged at once and without a registry.
+use Rattle.std.specs.Prelude.{List, [], ◌∷◌, Bool, false, if◌then◌else◌, Option, Some, None, Result, Ok, Err, option_map, codes}
+use Rattle.definitions.specs.Answers.{answer}
+use Rattle.definitions.specs.Faults.{Fault, bad_input, bad_pattern, unresolved}
+use Rattle.definitions.specs.Patterns.{has_match, regular_search}
+use Rattle.definitions.specs.Reach.{least, missing}
+use Rattle.definitions.specs.Registries.{is_regular}
 use Rattle.definitions.specs.Resolution.{base_form}
-use Rattle.schema_scan.specs.Stages.{stage_fault}
-use Rattle.evaluator.specs.Reports.{answer_one, verdict}
+use Rattle.definitions.specs.Runs.{builds}
+use Rattle.definitions.specs.Scanning.{scan_fault}
+use Rattle.definitions.specs.Schemas.{Document, document_from}
+use Rattle.definitions.specs.Texts.{reading}
+use Rattle.definitions.specs.Values.{Text, Value, string, get}
+use Rattle.evaluator.specs.Reports.{reported}
+
+-- whether the instance is valid, and the text of the output
+abbrev pub Judgement : Type 0
+Judgement = Result (Bool × Text) Fault
 
 abbrev pub after : {A B : Type 0} → Result A Fault → (A → Result B Fault) → Result B Fault
 after (Ok x) f = f x
 after (Err e) f = Err e
 
-abbrev pub unless_fault : {A : Type 0} → Option Fault → A → Result A Fault
-unless_fault None x = Ok x
-unless_fault (Some f) x = Err f
+abbrev pub unless_fault : {A : Type 0} → Option Fault → Result A Fault → Result A Fault
+unless_fault None r = r
+unless_fault (Some f) r = Err f
 
--- the schema, where its scan finds no fault
-abbrev pub scanned : Text → Value → Result Value Fault
-scanned uri v = unless_fault (stage_fault uri v) v
+-- the schema, where its scan finds no fault and the grammar reads its patterns
+unfoldable pub accepted : Text → Value → Result Value Fault
+accepted base v = unless_fault (scan_fault base v) (if is_regular regular_search v then Ok v else Err bad_pattern)
 
--- the URI's fault comes before the schema's, these before the instance's, and these before those of the evaluation. The
--- schema stands under the base form of the URI
-unfoldable pub judgement : Text → Result Value Fault → Result Value Fault → Result Bool Fault
+-- what one document says, where all its references name schemas
+unfoldable pub said_by : Document → Value → Judgement
+said_by d x = unless_fault (option_map unresolved (least (missing (d ∷ [])))) (reported (answer has_match (d ∷ []) d.canonical x))
+
+-- the URI's fault comes before the schema's, these before the instance's, and these before those of references and of the
+-- evaluation. The schema stands under the base form of the URI
+unfoldable pub judgement : Text → Result Value Fault → Result Value Fault → Judgement
 judgement uri schema instance =
-    after (base_form uri) (λ base. after schema (λ v. after (scanned base v) (λ v. after instance (λ x. verdict (answer_one base v x)))))
+    after (base_form uri) (λ base. after schema (λ v. after (accepted base v) (λ v. after instance (λ x. said_by (document_from base v) x))))
 
-abbrev pub judgement_of_values : Text → Value → Value → Result Bool Fault
-judgement_of_values uri v x = judgement uri (Ok v) (Ok x)
+-- ---- a pattern that the grammar reads may be refused, where it is too big once it is built
+abbrev pub is_for_pattern : Fault → Bool → Bool
+is_for_pattern bad_pattern has_patterns = has_patterns
+is_for_pattern _ has_patterns = false
 
-abbrev pub judgement_of_texts : Text → Text → Text → Result Bool Fault
-judgement_of_texts uri schema instance = judgement uri (reading schema) (reading instance)
+-- nothing is wrong with the schema under this base, and it has patterns
+unfoldable pub builds_under : Result Text Fault → Result Value Fault → Bool
+builds_under base schema = builds regular_search base schema
+
+abbrev pub builds_patterns : Text → Result Value Fault → Bool
+builds_patterns uri schema = builds_under (base_form uri) schema
 
 -- ---- one object that holds them
+pub record Input : Type 0 where
+  pub uri : Text
+  pub schema : Value
+  pub instance : Value
+
 abbrev pub default_uri : Text
 default_uri = codes "urn:schemareg:root"
 
@@ -45,10 +69,17 @@ abbrev pub member_in : Option Value → Result Value Fault
 member_in (Some v) = Ok v
 member_in None = Err bad_input
 
-abbrev pub judgement_of_object : Value → Result Bool Fault
-judgement_of_object v =
+abbrev pub input_in : Value → Result Input Fault
+input_in v =
     after (uri_in (get (codes "uri") v)) (λ uri. after (member_in (get (codes "schema") v)) (λ schema. after (member_in (get (codes "instance") v))
-    (λ instance. judgement_of_values uri schema instance)))
+    (λ instance. Ok (record { uri = uri; schema = schema; instance = instance }))))
 
-abbrev pub judgement_of_input : Text → Result Bool Fault
-judgement_of_input bytes = after (reading bytes) judgement_of_object
+abbrev pub input_of : Text → Result Input Fault
+input_of bytes = after (reading bytes) input_in
+
+abbrev pub judgement_of : Result Input Fault → Judgement
+judgement_of input = after input (λ i. judgement i.uri (Ok i.schema) (Ok i.instance))
+
+abbrev pub builds_patterns_of : Result Input Fault → Bool
+builds_patterns_of (Ok i) = builds_patterns i.uri (Ok i.schema)
+builds_patterns_of (Err f) = false

@@ -1,11 +1,11 @@
 //! A check of one text that holds the schema, the instance and the URI.
 
-ghost use Rattle.std.specs.Prelude.{◌≡◌, ◌≢◌, Ok, Err, IfOk, IfErr, option_map, codes};
+ghost use Rattle.std.specs.Prelude.{◌≡◌, ◌≢◌, false, Ok, Err, IfOk, IfErr, option_map, codes};
 ghost use Rattle.definitions.specs.Values.{get};
-ghost use Rattle.evaluator.specs.Reports.{is_valid};
+ghost use Rattle.evaluator.specs.Reports.{is_valid, report_text};
 ghost use Rattle.faults.specs.View.{fault};
 ghost use Rattle.json_doc.specs.Docs.{value};
-ghost use Rattle.checks.specs.Judgements.{judgement_of_input, judgement_of_object, uri_in, member_in};
+ghost use Rattle.checks.specs.Judgements.{is_for_pattern, input_of, input_in, judgement_of, builds_patterns_of, uri_in, member_in};
 
 use crate::check::check_docs;
 use evaluator::Report;
@@ -22,16 +22,16 @@ pub const DEFAULT_URI: &str = "urn:schemareg:root";
 /// with both members or `uri` is no text, then `BadUri`, and those of a check from `NotObject` on. `NoRoom` may take the
 /// place of any answer.
 pub fn check_input(alloc: Global, bytes: &[u8]) -> Result<Report, Fault>
-    ensures ok { IfOk result (λ r. judgement_of_input bytes.now ≡ Ok (is_valid r)) }
-    ensures err { IfErr result (λ f. f ≢ Fault.NoRoom → judgement_of_input bytes.now ≡ Err (fault f)) }
+    ensures ok { IfOk result (λ r. judgement_of (input_of bytes.now) ≡ Ok (is_valid r, report_text r)) }
+    ensures err { IfErr result (λ f. f ≢ Fault.NoRoom → is_for_pattern (fault f) (builds_patterns_of (input_of bytes.now)) ≡ false → judgement_of (input_of bytes.now) ≡ Err (fault f)) }
 {
     let input = read(alloc, bytes)?;
     check_object(alloc, &input)
 }
 
 fn check_object(alloc: Global, input: &Doc) -> Result<Report, Fault>
-    ensures ok { IfOk result (λ r. judgement_of_object (value input.now) ≡ Ok (is_valid r)) }
-    ensures err { IfErr result (λ f. f ≢ Fault.NoRoom → judgement_of_object (value input.now) ≡ Err (fault f)) }
+    ensures ok { IfOk result (λ r. judgement_of (input_in (value input.now)) ≡ Ok (is_valid r, report_text r)) }
+    ensures err { IfErr result (λ f. f ≢ Fault.NoRoom → is_for_pattern (fault f) (builds_patterns_of (input_in (value input.now))) ≡ false → judgement_of (input_in (value input.now)) ≡ Err (fault f)) }
 {
     let uri = uri_in(input)?;
     let schema = member_in(input, "schema")?;

@@ -1,3 +1,15 @@
+pub mod AnnotatingLaws
+pub mod LogLaws
 pub mod OutcomeLaws
-pub mod NoLoops
-pub mod Plans
+pub mod PlannedLaws
+pub mod UseLaws
+pub mod AloneLaws
+pub mod BesideLaws
+pub mod ReportLaws
+pub mod ObjectLaws
+pub mod UnevaluatedLaws
+pub mod CombinedLaws
+pub mod KeywordsLaws
+pub mod PartLaws
+pub mod SettlingLaws
+pub mod PresentLaws

@@ -1,3 +1,7 @@
-pub mod Rows
-pub mod Views
+pub mod Notes
+pub mod Logs
+pub mod Findings
+pub mod Groups
+pub mod Rounds
 pub mod Reports
+pub mod Annotations

@@ -1,21 +1,25 @@
 -- What a report shows.
-use Rattle.std.specs.Prelude.{[], Bool, Some, Result, Ok, Err}
-use Rattle.definitions.specs.Values.{Text, Value}
+use Rattle.std.specs.Prelude.{◌≡◌, ◌≢◌, Bool, Result, Ok, Err, string_bytes}
+use Rattle.definitions.specs.Values.{Text}
 use Rattle.definitions.specs.Faults.{Fault}
-use Rattle.definitions.specs.Schemas.{schema_at}
 use Rattle.definitions.specs.Applied.{Outcome}
-use Rattle.definitions.specs.Answers.{limits, answer_from}
-use Rattle.evaluator.specs.Rows.{first_rules}
+use Rattle.definitions.specs.Answers.{output_text}
+use Rattle.faults.specs.View.{fault}
+use Rattle.faults.specs.declared.Fault as code
 use Rattle.evaluator.specs.declared.report.Report.{Report}
 
 abbrev pub is_valid : Report → Bool
 is_valid r = r.valid
 
--- what the document with this base and value says of the instance, by the keywords that are in
-abbrev pub answer_one : Text → Value → Value → Result Outcome Fault
-answer_one base v x = answer_from limits first_rules x (Some (schema_at base [] v))
+abbrev pub report_text : Report → Text
+report_text r = string_bytes r.text
 
--- whether the instance is valid
-abbrev pub verdict : Result Outcome Fault → Result Bool Fault
-verdict (Ok o) = Ok o.valid
-verdict (Err f) = Err f
+-- whether the instance is valid, and the basic output
+abbrev pub reported : Result Outcome Fault → Result (Bool × Text) Fault
+reported (Ok o) = Ok (o.valid, output_text o)
+reported (Err f) = Err f
+
+-- the answer is given, want of memory aside
+abbrev pub Gives : Result Report code.Fault → Result Outcome Fault → Type 0
+Gives (Ok r) answer = reported answer ≡ Ok (is_valid r, report_text r)
+Gives (Err f) answer = f ≢ code.Fault.NoRoom → answer ≡ Err (fault f)

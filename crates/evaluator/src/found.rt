@@ -1,6 +1,6 @@
 //! What applications of schemas found, beside their units.
 
-ghost use Rattle.std.specs.Prelude.{◌≡◌, ◌+◌, ◌<◌, ◌^◌, ◌&&◌, ◌||◌, true, false, if◌then◌else◌};
+ghost use Rattle.std.specs.Prelude.{◌≡◌, ◌+◌, ◌<◌, ◌^◌, ◌&&◌, ◌||◌, true, false, if◌then◌else◌, nat_lt, option_map};
 
 /// What the application of a schema found: whether the instance is valid, how many applications there were, this one
 /// among them, and whether one of them looped or nested too deep.
@@ -25,15 +25,16 @@ impl Found {
         }
     }
 
-    /// A schema that was not applied, since the applications nest too deep.
-    pub(crate) fn too_deep() -> Found
-        ensures { result ≡ record { valid = false; count = 1; looped = false; deep = true } }
+    /// A schema that was not applied, since it is being applied at this place, or else since the applications nest too
+    /// deep.
+    pub(crate) fn leaf(looped: bool, deep: bool) -> Found
+        ensures { result ≡ record { valid = false; count = 1; looped = looped; deep = deep } }
     {
         Found {
             valid: false,
             count: 1,
-            looped: false,
-            deep: true,
+            looped,
+            deep,
         }
     }
 
@@ -105,6 +106,25 @@ impl Applied {
             count: self.count,
             looped: self.looped,
             deep: self.deep,
+        }
+    }
+}
+
+/// What the use of one keyword found; and how many schemas passed that it applied, where it is there.
+#[derive(Clone, Copy, Debug, PartialEq, Eq)]
+pub(crate) struct Used {
+    pub(crate) found: Found,
+    pub(crate) passing: Option<u64>,
+}
+
+impl Used {
+    /// Whether some schema passed that the keyword applied, where the keyword is there.
+    pub(crate) fn some_passed(self) -> Option<bool>
+        ensures { result ≡ option_map (λ n. nat_lt 0 n) self.passing }
+    {
+        match self.passing {
+            Some(passing) => Some(passing > 0),
+            None => None,
         }
     }
 }

@@ -1,17 +1,17 @@
-//! Applies a schema to an instance and answers with the basic output (JSON Schema 2020-12 Core, 10 to 12).
+//! Applies the schemas of linked documents to an instance and answers with the basic output (JSON Schema 2020-12 Core, 10
+//! to 12).
 #![tactic(auto)]
 
-mod apply;
+mod annotating;
+mod applying;
+mod beside;
 mod found;
-mod keyword;
-mod output;
-mod plan;
+mod groups;
+mod log;
+mod present;
 mod report;
-mod units;
-mod verdict;
+mod settling;
+mod settling_object;
 
-pub use json_doc::Fault;
-pub use report::{Report, evaluate_one};
-
-#[cfg(test)]
-mod tests;
+pub use faults::Fault;
+pub use report::{Report, evaluate};

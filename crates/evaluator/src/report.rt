@@ -1,18 +1,27 @@
 //! What a schema says of an instance.
 
-ghost use Rattle.std.specs.Prelude.{◌≡◌, ◌≢◌, true, false, Ok, Err, IfOk, IfErr};
+ghost use Rattle.std.specs.Prelude.{◌≡◌, ◌≢◌, List, Ok, Err, IfOk, IfErr, string_bytes};
+ghost use Rattle.definitions.specs.Answers.{answer, output_text};
+ghost use Rattle.definitions.specs.Reach.{reach};
+ghost use Rattle.definitions.specs.Schemas.{Document};
+ghost use Rattle.definitions.specs.Applied.{Outcome};
+ghost use Rattle.definitions.specs.Patterns.{has_match};
+ghost use Rattle.definition_laws.specs.Reaching.{HaveDistinctResources};
 ghost use Rattle.faults.specs.View.{fault};
 ghost use Rattle.json_doc.specs.Docs.{value};
-ghost use Rattle.schema_scan.specs.Supporting.{supported_base, supported_value};
-ghost use Rattle.schema_scan.specs.UnknownNames.{has_unknown};
-ghost use Rattle.evaluator.specs.Reports.{is_valid, answer_one, verdict};
+ghost use Rattle.linker.specs.LinkedDocuments.{linked_documents, linked_uri};
+ghost use Rattle.evaluator.specs.Logs.{notes};
+ghost use Rattle.evaluator.specs.Notes.{outcome_notes};
+ghost use Rattle.evaluator.specs.Reports.{Gives, is_valid, report_text, reported};
 
-use crate::apply::apply;
-use crate::found::Found;
-use crate::output::output_text;
-use crate::units::Log;
-use json_doc::{Doc, Fault};
-use schema_scan::Supported;
+use crate::applying::Evaluation;
+use crate::log::Log;
+use applications::Context;
+use basic_output::output_text;
+use faults::Fault;
+use json_doc::Doc;
+use keyword_plans::{Searches, Subject};
+use linker::Linked;
 use std::alloc::Global;
 
 /// How many applications may nest, the root's among them.
@@ -37,74 +46,71 @@ impl Report {
     }
 
     /// The text of the basic output: compact JSON, with the names of each object in byte order.
-    pub fn text(&self) -> &str {
+    pub fn text(&self) -> &str
+        ensures { result.now ≡ report_text self.now }
+    {
         self.text.as_str()
     }
 
     /// The same text, handed over.
-    pub fn into_text(self) -> String {
+    pub fn into_text(self) -> String
+        ensures { string_bytes result ≡ report_text self }
+    {
         self.text
     }
 }
 
-/// Applies a document to an instance, by `properties` (JSON Schema 2020-12 Core, 10.3.2.1) and the keywords that
-/// look at their own value and the instance (Validation, 6). Of these faults the first that arises is answered:
+/// Applies the linked resource's root to the instance (JSON Schema 2020-12 Core, 7.1, 10 and 11). Of these faults the
+/// first that holds is answered:
 ///
 /// - [`Fault::Costly`]: there are more than 100,000 applications of schemas.
+/// - [`Fault::Loop`]: a schema is applied to a place of the instance while it is being applied there.
 /// - [`Fault::Deep`]: more than 1,000 applications nest.
-/// - [`Fault::NoRoom`]: memory ran out, at whichever step.
-pub fn evaluate_one(
-    alloc: Global,
-    supported: &Supported<'_>,
-    instance: &Doc,
-) -> Result<Report, Fault>
-    ensures ok { IfOk result (λ r. verdict (answer_one (supported_base supported.now) (supported_value supported.now) (value instance.now)) ≡ Ok (is_valid r)) }
-    ensures err { IfErr result (λ f. f ≢ Fault.NoRoom → verdict (answer_one (supported_base supported.now) (supported_value supported.now) (value instance.now)) ≡ Err (fault f)) }
+///
+/// [`Fault::NoRoom`] is answered where memory ran out, at whichever step.
+///
+/// No document that the linked resource doesn't reach changes the answer.
+pub fn evaluate<'a>(alloc: Global, linked: &'a Linked, instance: &'a Doc) -> Result<Report, Fault>
+    ensures ok { IfOk result (λ r. reported (answer has_match (linked_documents linked.now) (linked_uri linked.now) (value instance.now)) ≡ Ok (is_valid r, report_text r)) }
+    ensures err { IfErr result (λ f. f ≢ Fault.NoRoom → answer has_match (linked_documents linked.now) (linked_uri linked.now) (value instance.now) ≡ Err (fault f)) }
+    ensures whole { (G : List Document) → HaveDistinctResources G → linked_documents linked.now ≡ reach G (linked_uri linked.now) → Gives result (answer has_match G (linked_uri linked.now) (value instance.now)) }
 {
-    judge(alloc, supported.base(), supported.document(), instance)
-}
-
-// Nothing loops where the schema's names are all in.
-fn judge(alloc: Global, uri: &str, schema: &Doc, instance: &Doc) -> Result<Report, Fault>
-    requires { has_unknown true (value schema.now) ≡ false }
-    ensures ok { IfOk result (λ r. verdict (answer_one uri.now (value schema.now) (value instance.now)) ≡ Ok (is_valid r)) }
-    ensures err { IfErr result (λ f. f ≢ Fault.NoRoom → verdict (answer_one uri.now (value schema.now) (value instance.now)) ≡ Err (fault f)) }
-{
-    let mut log = Log::new(alloc);
-    let found = apply(
+    let root = linked.root(alloc);
+    let schema = root.schema;
+    let context = Context::new(alloc, root)?;
+    let mut evaluation = Evaluation {
         alloc,
+        linked,
+        searches: Searches::new(alloc),
+        context,
+        log: Log::new(alloc),
+    };
+    match evaluation.apply(
         schema,
-        instance,
+        Subject::Value(instance),
         MOST_NESTED,
         MOST_APPLICATIONS,
-        &mut log,
-    )?;
-    if found.looped {
-        return Err(Fault::Loop);
+    ) {
+        Ok(found) => {
+            if found.looped {
+                return Err(Fault::Loop);
+            }
+            if found.deep {
+                return Err(Fault::Deep);
+            }
+            made(alloc, found.valid, &evaluation.log)
+        }
+        Err(fault) => Err(fault),
     }
-    if found.deep {
-        return Err(Fault::Deep);
-    }
-    made(alloc, uri, found, &log)
 }
 
-pub(crate) fn made<'a>(
-    alloc: Global,
-    uri: &str,
-    found: Found,
-    log: &Log<'a>,
-) -> Result<Report, Fault>
-    ensures ok { IfOk result (λ r. is_valid r ≡ found.valid) }
+// The report of all that was noted.
+fn made<'a>(alloc: Global, valid: bool, log: &Log<'a>) -> Result<Report, Fault>
+    ensures valid { IfOk result (λ r. is_valid r ≡ valid) }
+    ensures text { (o : Outcome) → valid ≡ o.valid → notes log.now ≡ outcome_notes o → IfOk result (λ r. output_text o ≡ report_text r) }
     ensures err { IfErr result (λ f. f ≡ Fault.NoRoom) }
 {
-    let units = if found.valid {
-        &log.annotations
-    } else {
-        &log.errors
-    };
-    let text = output_text(alloc, uri, found.valid, units)?;
-    Ok(Report {
-        valid: found.valid,
-        text,
-    })
+    let units = if valid { &log.annotations } else { &log.errors };
+    let text = output_text(alloc, valid, units)?;
+    Ok(Report { valid, text })
 }

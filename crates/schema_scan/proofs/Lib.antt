@@ -1,5 +1,3 @@
-pub mod Plain
-pub mod Unknown
 pub mod Opened
 pub mod Placed
 pub mod Walked
@@ -12,6 +10,5 @@ pub mod SeenKeys
 pub mod ScanFaults
 pub mod Gathered
 pub mod SameNames
-pub mod StageFaults
 pub mod HeldPatterns
 pub mod Patterned

@@ -1,5 +1,3 @@
-pub mod FirstKeywords
-pub mod UnknownNames
 pub mod Places
 pub mod Missteps
 pub mod Forms
@@ -8,10 +6,8 @@ pub mod Uris
 pub mod Tables
 pub mod Names
 pub mod AnchorViews
-pub mod Stages
 pub mod Scans
 pub mod PatternTexts
 pub mod BuiltPatterns
 pub mod PatternTables
 pub mod CompiledDocuments
-pub mod Supporting

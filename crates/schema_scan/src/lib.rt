@@ -6,7 +6,6 @@ mod compiled;
 mod compiling;
 mod forms;
 mod keyword_values;
-mod keywords;
 mod names;
 mod pattern_table;
 mod pattern_texts;
@@ -15,10 +14,7 @@ mod repeats;
 mod resources;
 mod scanned;
 mod scanning;
-mod stage;
-mod supported;
 mod table;
-mod unsupported;
 mod visit;
 
 pub use compiled::Compiled;
@@ -27,8 +23,6 @@ pub use faults::Fault;
 pub use scanned::Scanned;
 pub use scanning::scan;
 pub use schema_index::Located;
-pub use stage::scan_supported;
-pub use supported::Supported;
 
 #[cfg(test)]
 mod tests;

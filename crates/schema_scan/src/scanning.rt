@@ -37,6 +37,8 @@ const MOST_NESTED: usize = 120;
 /// - [`Fault::DuplicateUri`]: two schemas open a resource of one URI.
 /// - [`Fault::DuplicateAnchor`]: two schemas of one resource have an anchor of one name.
 /// - [`Fault::NoRoom`]: memory ran out.
+///
+/// Names that are no keywords are no fault, nor is `$schema` below the root of a resource.
 pub fn scan<'a>(alloc: Global, base: &Parts, document: &'a Doc) -> Result<Scanned<'a>, Fault>
     ensures ok { IfOk result (λ s. (scanned_base s ≡ recompose base.now) × (scanned_value s ≡ value document.now)) }
     ensures sound { OnOk result (scan_fault (recompose base.now) (value document.now) ≡ None) }

@@ -1,6 +1,7 @@
 //! The program, by the form of its command line.
 ghost use Rattle.std.specs.Prelude.{◌≡◌, IfOk, IfErr, IfSome};
-ghost use Rattle.checks.specs.Judgements.{judgement_of_input, judgement_of_texts};
+ghost use Rattle.checks.specs.Judgements.{input_of, judgement, judgement_of, builds_patterns, builds_patterns_of};
+ghost use Rattle.definitions.specs.Texts.{reading};
 ghost use Rattle.evaluator.specs.Reports.{is_valid};
 ghost use Rattle.schemareg.specs.Answers.{EndsBy, IsUnprinted, check_status};
 
@@ -46,7 +47,7 @@ pub fn check_input<'a, I: Read, O: Write>(
     input: &mut I,
     out: &mut O,
 ) -> Result<u8, Stop<'a>>
-    ensures { IfSome (I.remaining input.old) (λ bytes. EndsBy (judgement_of_input bytes) result) }
+    ensures { IfSome (I.remaining input.old) (λ bytes. EndsBy (judgement_of (input_of bytes)) (builds_patterns_of (input_of bytes)) result) }
 {
     let bytes = reading::whole(alloc, input, "-")?;
     check_text(alloc, bytes.as_slice(), out)
@@ -54,7 +55,7 @@ pub fn check_input<'a, I: Read, O: Write>(
 
 /// Answers the check that the text holds.
 pub fn check_text<'a, O: Write>(alloc: Global, text: &[u8], out: &mut O) -> Result<u8, Stop<'a>>
-    ensures { EndsBy (judgement_of_input text.now) result }
+    ensures { EndsBy (judgement_of (input_of text.now)) (builds_patterns_of (input_of text.now)) result }
 {
     let report = checks::check_input(alloc, text)?;
     print(report, out)
@@ -82,7 +83,7 @@ pub fn check_texts<'a, O: Write>(
     instance: &[u8],
     out: &mut O,
 ) -> Result<u8, Stop<'a>>
-    ensures { EndsBy (judgement_of_texts uri.now schema.now instance.now) result }
+    ensures { EndsBy (judgement uri.now (reading schema.now) (reading instance.now)) (builds_patterns uri.now (reading schema.now)) result }
 {
     let report = checks::check_bytes(alloc, uri, schema, instance)?;
     print(report, out)

@@ -1,0 +1,87 @@
+-- Laws of keywords that ask for nothing that keywords beside say or evaluate.
+use Rattle.std.proofs.Common.{◌≡◌, ℕ, List, [], ◌∷◌, map, Bool, true, false, not, ◌||◌, Option, Some, None, refl, sym, ap, ◌∙◌, append-nil}
+use Rattle.definitions.specs.Values.{Text, Value, get}
+use Rattle.definitions.specs.Keywords as table
+use Rattle.definitions.specs.Keywords.{Meaning, looks_at_evaluated, asserts, matches_pattern, refers, refers_dynamically, all_of, any_of, one_of, negated, condition, consequence, dependent_schemas, prefix_items, rest_items, some_item, at_least_items, at_most_items, properties, pattern_properties, other_properties, property_names, unevaluated_items, unevaluated_properties, declares}
+use Rattle.definitions.specs.Applied.{Application, Outcome, Rules, applied}
+use Rattle.definitions.specs.Outcomes.{used, use_of}
+use Rattle.linker.specs.declared.linked.Linked.{Linked}
+use Rattle.keyword_plans.specs.Rows.{row_of}
+use Rattle.keyword_plans.specs.Sites.{linked_rules}
+use Rattle.keyword_plans.specs.declared.keyword.Keyword.{Keyword}
+use Rattle.keyword_plans.specs.Plans.{is_consequence, counts_contained}
+use Rattle.evaluator.specs.Groups.{stands_alone}
+use Rattle.evaluator.specs.Notes.{Notes}
+use Rattle.evaluator.specs.Rounds.{Knows, group_uses, said, uses_since, names_since, indexes_since}
+use Rattle.evaluator.specs.declared.beside.Beside.{Beside}
+use Rattle.evaluator.specs.declared.groups.Group.TheVariants.{One}
+use Rattle.evaluator.specs.declared.log.Before.{Before}
+
+same_applied : (rules : Rules) (run : Application → Outcome) (names : List Text) (indexes : List ℕ) (a : Application) (k : Text) (m : Meaning) (v : Value)
+    → looks_at_evaluated m ≡ false → applied rules run names indexes a k m v ≡ applied rules run [] [] a k m v
+same_applied rules run names indexes a k (asserts x) v e = refl
+same_applied rules run names indexes a k matches_pattern v e = refl
+same_applied rules run names indexes a k refers v e = refl
+same_applied rules run names indexes a k refers_dynamically v e = refl
+same_applied rules run names indexes a k all_of v e = refl
+same_applied rules run names indexes a k any_of v e = refl
+same_applied rules run names indexes a k one_of v e = refl
+same_applied rules run names indexes a k negated v e = refl
+same_applied rules run names indexes a k condition v e = refl
+same_applied rules run names indexes a k (consequence b) v e = refl
+same_applied rules run names indexes a k dependent_schemas v e = refl
+same_applied rules run names indexes a k prefix_items v e = refl
+same_applied rules run names indexes a k rest_items v e = refl
+same_applied rules run names indexes a k some_item v e = refl
+same_applied rules run names indexes a k at_least_items v e = refl
+same_applied rules run names indexes a k at_most_items v e = refl
+same_applied rules run names indexes a k properties v e = refl
+same_applied rules run names indexes a k pattern_properties v e = refl
+same_applied rules run names indexes a k other_properties v e = refl
+same_applied rules run names indexes a k property_names v e = refl
+same_applied rules run names indexes a k unevaluated_items v e = absurd (cc)
+same_applied rules run names indexes a k unevaluated_properties v e = absurd (cc)
+same_applied rules run names indexes a k declares v e = refl
+
+-- it doesn't matter to them what others evaluated
+pub same_used : (rules : Rules) (run : Application → Outcome) (names : List Text) (indexes : List ℕ) (a : Application) (k : table.Keyword) (o : Option Value)
+    → looks_at_evaluated k.meaning ≡ false → used rules run names indexes a k o ≡ used rules run [] [] a k o
+same_used rules run names indexes a k None e = refl
+same_used rules run names indexes a k (Some v) e =
+    ap (λ es. use_of rules run a k.name k.meaning v (map (λ e. (e.0, run e.1)) es) ∷ []) (same_applied rules run names indexes a k.name k.meaning v e)
+
+first_not : (p q r : Bool) → not (p || (q || r)) ≡ true → p ≡ false
+first_not true q r h = cc
+first_not false q r h = refl
+
+second_not : (p q r : Bool) → not (p || (q || r)) ≡ true → q ≡ false
+second_not true q r h = absurd (cc)
+second_not false true r h = cc
+second_not false false r h = refl
+
+third_not : (p q r : Bool) → not (p || (q || r)) ≡ true → r ≡ false
+third_not true q r h = absurd (cc)
+third_not false true r h = absurd (cc)
+third_not false false true h = cc
+third_not false false false h = refl
+
+never_both : (b : Bool) → b ≡ false → b ≡ true → false ≡ true
+never_both b e f = sym e ∙ f
+
+pub alone_knows : (l : Linked) (left : ℕ) (a : Application) (k : Keyword) (beside : Beside) → stands_alone (One k) ≡ true → Knows l left a (row_of k).meaning beside
+alone_knows l left a k beside alone =
+    let m = (row_of k).meaning in
+    record {
+      condition =
+          λ is. absurd (let e = never_both (is_consequence m) (first_not (is_consequence m) (counts_contained m) (looks_at_evaluated m) alone) is in cc);
+      containing =
+          λ is. absurd (let e = never_both (counts_contained m) (second_not (is_consequence m) (counts_contained m) (looks_at_evaluated m) alone) is in cc);
+    }
+
+pub alone_uses : (l : Linked) (left : ℕ) (a : Application) (k : Keyword) (before : Before) (n : Notes) → stands_alone (One k) ≡ true
+    → uses_since l left a k before n ≡ group_uses l left a (One k)
+alone_uses l left a k before n alone =
+    let m = (row_of k).meaning in
+    same_used (linked_rules l) (said l left) (names_since before n) (indexes_since before n) a (row_of k) (get (row_of k).name a.schema.value)
+    (third_not (is_consequence m) (counts_contained m) (looks_at_evaluated m) alone)
+    ∙ sym (append-nil (used (linked_rules l) (said l left) [] [] a (row_of k) (get (row_of k).name a.schema.value)))

@@ -1,0 +1,95 @@
+-- Laws of keywords that ask what a keyword beside them found.
+use Rattle.std.proofs.Common.{◌≡◌, ℕ, ◌+◌, List, [], ◌∷◌, ◌++◌, map, cond, Bool, true, false, nat_lt, Option, Some, None, option_map, refl, sym, ap, ◌∙◌, append-nil, codes, fold, count_by}
+use Rattle.definitions.specs.Values.{Text, Value, elements, get}
+use Rattle.definitions.specs.Keywords.{Meaning, consequence, looks_at_evaluated}
+use Rattle.definitions.specs.Applied.{Application, Outcome, Part, Rules, at_items, in_place}
+use Rattle.definitions.specs.Outcomes.{Use, used, uses_of}
+use Rattle.linker.specs.declared.linked.Linked.{Linked}
+use Rattle.keyword_plans.specs.Rows.{row_of}
+use Rattle.keyword_plans.specs.Sites.{linked_rules}
+use Rattle.keyword_plans.specs.declared.keyword.Keyword.{Keyword}
+use Rattle.keyword_plans.specs.declared.keyword.Keyword.TheVariants.{If, Then, Else, Contains, MinContains, MaxContains}
+use Rattle.evaluator.specs.Findings.{FindsUse, passing_first}
+use Rattle.keyword_plans.specs.Plans.{is_consequence, counts_contained}
+use Rattle.evaluator.specs.Notes.{Notes, added, uses_notes}
+use Rattle.evaluator.specs.Rounds.{Knows, group_uses, indexes_since, keyword_uses, names_since, said, two_uses, uses_since}
+use Rattle.evaluator.specs.declared.beside.Beside.{Beside}
+use Rattle.evaluator.specs.declared.found.Used.{Used}
+use Rattle.evaluator.specs.declared.groups.Group.TheVariants.{Conditional, Counted}
+use Rattle.evaluator.specs.declared.log.Before.{Before}
+use Rattle.evaluator.proofs.AloneLaws.{same_used}
+
+-- ---- what `if` and `contains` found
+tells : (b : Bool) → nat_lt 0 (0 + cond b 1 0) ≡ b
+tells true = refl
+tells false = refl
+
+condition_told : (rules : Rules) (run : Application → Outcome) (names : List Text) (indexes : List ℕ) (a : Application) (o : Option Value)
+    → option_map (λ n. nat_lt 0 n) (passing_first (used rules run names indexes a (row_of If) o))
+    ≡ option_map (λ (p : Outcome). p.valid) (option_map (λ v. run (in_place a (codes "if" ∷ []) v).1) o)
+condition_told rules run names indexes a None = refl
+condition_told rules run names indexes a (Some v) = ap Some (tells (run (in_place a (codes "if" ∷ []) v).1).valid)
+
+same_count : (run : Application → Outcome) (es : List (Part × Application)) (n : ℕ)
+    → fold (λ (m : ℕ) (e : Part × Outcome). m + cond e.1.valid 1 0) n (map (λ (e : Part × Application). (e.0, run e.1)) es)
+    ≡ fold (λ (m : ℕ) (o : Outcome). m + cond o.valid 1 0) n (map (λ (e : Part × Application). run e.1) es)
+same_count run [] n = refl
+same_count run (e ∷ es) n = same_count run es (n + cond (run e.1).valid 1 0)
+
+containing_told : (rules : Rules) (run : Application → Outcome) (names : List Text) (indexes : List ℕ) (a : Application) (o : Option Value)
+    → passing_first (used rules run names indexes a (row_of Contains) o)
+    ≡ option_map (count_by (λ (p : Outcome). p.valid)) (option_map (λ v. map (λ (e : Part × Application). run e.1) (at_items a (codes "contains") v 0 (elements a.instance))) o)
+containing_told rules run names indexes a None = refl
+containing_told rules run names indexes a (Some v) = ap Some (same_count run (at_items a (codes "contains") v 0 (elements a.instance)) 0)
+
+-- ---- what a keyword knows then
+pub knows_nothing : (l : Linked) (left : ℕ) (a : Application) (m : Meaning) (beside : Beside) → is_consequence m ≡ false → counts_contained m ≡ false → Knows l left a m beside
+knows_nothing l left a m beside e f = record {
+  condition = λ is. absurd (let g = sym e ∙ is in cc);
+  containing = λ is. absurd (let g = sym f ∙ is in cc);
+}
+
+pub knows_condition : (l : Linked) (left budget : ℕ) (a : Application) (u : Used) (wanted : Bool) (before : Before) (n : Notes) (beside : Beside)
+    → FindsUse u budget (uses_since l left a If before n) → beside.condition ≡ option_map (λ n. nat_lt 0 n) u.passing → Knows l left a (consequence wanted) beside
+knows_condition l left budget a u wanted before n beside found is = record {
+  condition =
+      λ t. sym (is ∙ ap (option_map (λ n. nat_lt 0 n)) found.passing
+      ∙ condition_told (linked_rules l) (said l left) (names_since before n) (indexes_since before n) a (get (codes "if") a.schema.value));
+  containing = λ t. absurd (let g : false ≡ true = t in cc);
+}
+
+pub knows_containing : (l : Linked) (left budget : ℕ) (a : Application) (u : Used) (m : Meaning) (before : Before) (n : Notes) (beside : Beside)
+    → FindsUse u budget (uses_since l left a Contains before n) → beside.containing ≡ u.passing → is_consequence m ≡ false → Knows l left a m beside
+knows_containing l left budget a u m before n beside found is apart = record {
+  condition = λ t. absurd (let g = sym apart ∙ t in cc);
+  containing =
+      λ t. sym (is ∙ found.passing
+      ∙ containing_told (linked_rules l) (said l left) (names_since before n) (indexes_since before n) a (get (codes "contains") a.schema.value));
+}
+
+-- ---- three keywords, none of which sees what others evaluated
+three_uses : (l : Linked) (left : ℕ) (a : Application) (first second third : Keyword) (before : Before) (n m : Notes)
+    → looks_at_evaluated (row_of first).meaning ≡ false → looks_at_evaluated (row_of second).meaning ≡ false → looks_at_evaluated (row_of third).meaning ≡ false
+    → uses_since l left a first before n ++ two_uses l left a second third before m
+    ≡ uses_of (linked_rules l) (said l left) (row_of first ∷ row_of second ∷ row_of third ∷ []) [] [] a
+three_uses l left a first second third before n m e f g =
+    let us = keyword_uses l left a first [] [] in
+    let vs = keyword_uses l left a second [] [] in
+    let ws = keyword_uses l left a third [] [] in
+    let last = added m (uses_notes a (uses_since l left a second before m)) in
+    let one : uses_since l left a first before n ≡ us =
+    same_used (linked_rules l) (said l left) (names_since before n) (indexes_since before n) a (row_of first) (get (row_of first).name a.schema.value) e in
+    let two : uses_since l left a second before m ≡ vs =
+    same_used (linked_rules l) (said l left) (names_since before m) (indexes_since before m) a (row_of second) (get (row_of second).name a.schema.value) f in
+    let three : uses_since l left a third before last ≡ ws =
+    same_used (linked_rules l) (said l left) (names_since before last) (indexes_since before last) a (row_of third) (get (row_of third).name a.schema.value) g in
+    ap (λ (xs : List Use). xs ++ (uses_since l left a second before m ++ uses_since l left a third before last)) one
+    ∙ ap (λ (xs : List Use). us ++ (xs ++ uses_since l left a third before last)) two ∙ ap (λ (xs : List Use). us ++ (vs ++ xs)) (three ∙ sym (append-nil ws))
+
+pub conditional_uses : (l : Linked) (left : ℕ) (a : Application) (before : Before) (n m : Notes)
+    → uses_since l left a If before n ++ two_uses l left a Then Else before m ≡ group_uses l left a Conditional
+conditional_uses l left a before n m = three_uses l left a If Then Else before n m refl refl refl
+
+pub counted_uses : (l : Linked) (left : ℕ) (a : Application) (before : Before) (n m : Notes)
+    → uses_since l left a Contains before n ++ two_uses l left a MinContains MaxContains before m ≡ group_uses l left a Counted
+counted_uses l left a before n m = three_uses l left a Contains MinContains MaxContains before n m refl refl refl

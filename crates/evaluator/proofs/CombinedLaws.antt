@@ -1,0 +1,71 @@
+-- Laws of the outcome of a schema object, from the uses of its keywords.
+use Rattle.std.proofs.Common.{◌≡◌, ℕ, List, [], ◌∷◌, ◌++◌, Bool, true, false, ◌&&◌, refl, sym, ap, ◌∙◌, arith, append-nil, flat_map}
+use Rattle.std.specs.List.{list_all}
+use Rattle.definitions.specs.Values.{Value}
+use Rattle.definitions.specs.Applied.{Application, entered}
+use Rattle.definitions.specs.Outcomes.{Use, combined, other_annotations, use_annotations, use_errors}
+use Rattle.linker.specs.declared.linked.Linked.{Linked}
+use Rattle.applications.specs.Frames.{Frame, standing}
+use Rattle.applications.specs.Standings.{Standing, application_at, standing_of, within_object}
+use Rattle.evaluator.specs.Findings.{Finds, FindsObject}
+use Rattle.evaluator.specs.Notes.{added, kept_annotations, outcome_notes, uses_notes}
+use Rattle.evaluator.specs.Rounds.{IsAt}
+use Rattle.evaluator.specs.declared.found.Found.{Found}
+use Rattle.evaluator.proofs.LogLaws.{annotated, same_notes}
+
+left_passes : (b c : Bool) → (b && c) ≡ true → b ≡ true
+left_passes true c h = refl
+left_passes false c h = h
+
+right_passes : (b c : Bool) → (b && c) ≡ true → c ≡ true
+right_passes true c h = h
+right_passes false c h = cc
+
+-- ---- uses that all pass
+no_errors : (a : Application) (us : List Use) → list_all (λ u. u.passes) us ≡ true → flat_map (use_errors a) us ≡ []
+no_errors a [] h = refl
+no_errors a (u ∷ us) h = rw (left_passes u.passes (list_all (λ u. u.passes) us) h) (no_errors a us (right_passes u.passes (list_all (λ u. u.passes) us) h))
+
+all_kept : (a : Application) (us : List Use) → list_all (λ u. u.passes) us ≡ true → flat_map (kept_annotations a) us ≡ flat_map (use_annotations a) us
+all_kept a [] h = refl
+all_kept a (u ∷ us) h =
+    rw (left_passes u.passes (list_all (λ u. u.passes) us) h)
+    (ap (λ l. use_annotations a u ++ l) (all_kept a us (right_passes u.passes (list_all (λ u. u.passes) us) h)))
+
+-- ---- what the object notes
+pub passing_object : (a : Application) (us : List Use) → list_all (λ u. u.passes) us ≡ true
+    → added (uses_notes a us) (annotated (other_annotations a)) ≡ outcome_notes (combined a us)
+unfolding added
+passing_object a us h =
+    same_notes (append-nil _ ∙ no_errors a us h) (ap (λ l. l ++ other_annotations a) (all_kept a us h)) (append-nil _) (append-nil _) ∙ rw h refl
+
+pub failing_object : (a : Application) (us : List Use) → list_all (λ u. u.passes) us ≡ false
+    → record (uses_notes a us) { annotations = []; names = []; indexes = [] } ≡ outcome_notes (combined a us)
+failing_object a us h = rw h refl
+
+-- ---- what was found
+pub object_found : (f : Found) (budget : ℕ) (a : Application) (us : List Use) → FindsObject f budget us → Finds f budget (combined a us)
+object_found f budget a us h = record {
+  valid = h.valid;
+  count = h.count;
+  looped = h.looped;
+  deep = h.deep;
+  within = omega (arith, h.count, h.within);
+}
+
+-- ---- within the object
+entered_there : (st : Standing) (s x : Value) → entered (application_at st s x) ≡ application_at (within_object st) s x
+entered_there st s x = refl
+
+pub entered_at : (l : Linked) (f g : Frame) (s x : Value) (a : Application) → IsAt l f s x a → standing g ≡ within_object (standing f) → IsAt l g s x (entered a)
+entered_at l f g s x a at e = record {
+  there = ap entered at.there ∙ entered_there (standing f) s x ∙ ap (λ st. application_at st s x) (sym e);
+  inside = at.inside;
+}
+
+pub stands_there : (st : Standing) (s x : Value) (a : Application) → a ≡ application_at st s x → st ≡ standing_of a
+stands_there st s x a e = sym (ap standing_of e)
+
+-- the same units, and the same names and indexes
+pub entered_notes : (a : Application) (us : List Use) → uses_notes (entered a) us ≡ uses_notes a us
+entered_notes a us = refl

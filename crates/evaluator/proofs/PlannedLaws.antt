@@ -1,0 +1,151 @@
+-- Laws of planned applications, and of what they found and noted so far.
+use Rattle.std.proofs.Common.{◌≡◌, ℕ, ◌+◌, ◌-◌, ◌<◌, ◌≤◌, List, [], ◌∷◌, ◌++◌, map, length, cond, Bool, true, false, ◌||◌, refl, sym, ap, ◌∙◌, arith, length-append, append_assoc, append-nil, take, drop, get_or, Option, Some, None, flat_map}
+use Rattle.std.specs.List.{list_any}
+use Rattle.std.proofs.lemmas.List.{map-append, take_more, take-append-drop}
+use Rattle.std.proofs.lemmas.Grind.{flat_map-append}
+use Rattle.std.proofs.lemmas.List.Sums.{sum_by-append, sum_by-cons}
+use Rattle.definitions.specs.Values.{Text, Value}
+use Rattle.definitions.specs.Pointers.{Pointer}
+use Rattle.definitions.specs.Keywords.{Meaning}
+use Rattle.definitions.specs.Schemas.{opened}
+use Rattle.definitions.specs.Applied as definition
+use Rattle.definitions.specs.Applied.{Application, Outcome}
+use Rattle.definitions.specs.Evaluated.{passing}
+use Rattle.json_doc.specs.Docs.{value}
+use Rattle.linker.specs.declared.linked.Linked.{Linked}
+use Rattle.keyword_plans.specs.Plans.{chosen_application, part_view, planned_view}
+use Rattle.keyword_plans.specs.Subjects.{subject_value}
+use Rattle.keyword_plans.specs.declared.planned.Planned.{Planned}
+use Rattle.keyword_plans.specs.declared.planned.Chosen.{Chosen}
+use Rattle.keyword_plans.specs.declared.planned.Chosen.TheVariants.{Below, Target}
+use Rattle.applications.specs.Frames.{Frame, standing}
+use Rattle.applications.specs.Standings.{Standing, application_at, standing_of}
+use Rattle.evaluator.specs.Findings.{Finds, IsWithin, AreWithin, FindsAll, Outcomes, count_of}
+use Rattle.evaluator.specs.Notes.{Notes, added, part_notes, parts_notes}
+use Rattle.evaluator.specs.Rounds.{IsAt, IsKnown, chosen_value}
+use Rattle.evaluator.specs.declared.found.Found.{Found}
+use Rattle.evaluator.specs.declared.found.Applied as found
+use Rattle.evaluator.proofs.LogLaws.{added_twice, same_notes}
+use Rattle.evaluator.proofs.OutcomeLaws.{or_false}
+
+-- ---- where a planned application stands
+value-opened : (base : Text) (p : Pointer) (v : Value) (id : Option Text) → (opened base p v id).value ≡ v
+value-opened base p v None = refl
+value-opened base p v (Some id) = refl
+
+chosen_schema_value : (k : Text) (a : Application) (chosen : Chosen) (part : definition.Part) (x : Value) → (chosen_application k a chosen part x).schema.value ≡ chosen_value chosen
+chosen_schema_value k a (Below step schema) part x = value-opened a.schema.resource _ (value schema.now) _
+chosen_schema_value k a (Target located) part x = refl
+
+chosen_instance : (k : Text) (a : Application) (chosen : Chosen) (part : definition.Part) (x : Value) → (chosen_application k a chosen part x).instance ≡ x
+chosen_instance k a (Below step schema) part x = refl
+chosen_instance k a (Target located) part x = refl
+
+at_itself : (a : Application) → application_at (standing_of a) a.schema.value a.instance ≡ a
+at_itself a = refl
+
+at_same : (a : Application) (st : Standing) (s x : Value) → st ≡ standing_of a → a.schema.value ≡ s → a.instance ≡ x → a ≡ application_at st s x
+at_same a st s x e v i = sym (at_itself a) ∙ ap (λ u. application_at (standing_of a) u a.instance) v ∙ ap (application_at (standing_of a) s) i ∙ ap (λ t. application_at t s x) (sym e)
+
+pub planned_at : (l : Linked) (f : Frame) (k : Text) (a : Application) (p : Planned) (s : Value) → standing f ≡ standing_of (planned_view k a p).1 → s ≡ chosen_value p.chosen
+    → IsKnown l k a p → IsAt l f s (subject_value p.subject) (planned_view k a p).1
+planned_at l f k a p s e v known = record {
+  there =
+      at_same (planned_view k a p).1 (standing f) s (subject_value p.subject) e
+      (chosen_schema_value k a p.chosen (part_view p.part) (subject_value p.subject) ∙ sym v) (chosen_instance k a p.chosen (part_view p.part) (subject_value p.subject));
+  inside = known;
+}
+
+-- ---- one more
+or_assoc : (a b c : Bool) → (a || (b || c)) ≡ ((a || b) || c)
+or_assoc true b c = refl
+or_assoc false b c = refl
+
+list_any-snoc : {A : Type 0} (p : A → Bool) (xs : List A) (x : A) → list_any p (xs ++ x ∷ []) ≡ (list_any p xs || p x)
+list_any-snoc p [] x = or_false (p x)
+list_any-snoc p (y ∷ ys) x = ap (λ b. p y || b) (list_any-snoc p ys x) ∙ or_assoc (p y) (list_any p ys) (p x)
+
+passing_more : (b : Bool) (n : ℕ) → (cond b (n + 1) n) ≡ n + (cond b 1 0)
+passing_more true n = omega arith
+passing_more false n = omega arith
+
+at_most_one : (b : Bool) → cond {A = ℕ} b 1 0 ≤ 1
+at_most_one true = omega arith
+at_most_one false = omega arith
+
+pub finds_more : (a : found.Applied) (f : Found) (budget : ℕ) (os : Outcomes) (e : definition.Part × Outcome) → FindsAll a budget os → Finds f (budget - a.count) e.1
+    → FindsAll (record { number = a.number + 1; passing = cond f.valid (a.passing + 1) a.passing; count = a.count + f.count; looped = a.looped || f.looped; deep = a.deep || f.deep }) budget (os ++ e ∷ [])
+finds_more a f budget os (part, o) all one =
+    let c : count_of (os ++ (part, o) ∷ []) ≡ count_of os + (0 + o.count) = sum_by-append _ os ((part, o) ∷ []) in
+    let l : length (os ++ (part, o) ∷ []) ≡ length os + 1 = length-append os ((part, o) ∷ []) in
+    let p : passing (os ++ (part, o) ∷ []) ≡ passing os + (0 + cond o.valid 1 0) = sum_by-append _ os ((part, o) ∷ []) in
+    let v : cond f.valid (a.passing + 1) a.passing ≡ a.passing + cond f.valid 1 0 = passing_more f.valid a.passing in
+    let w : ◌≡◌ {A = ℕ} (cond f.valid 1 0) (cond o.valid 1 0) = ap (λ b. cond b 1 0) one.valid in
+    record {
+      number = omega (arith, all.number, l);
+      passing = omega (arith, all.passing, p, v, w);
+      count = omega (arith, all.count, one.count, c);
+      looped = rw (all.looped, one.looped) (sym (list_any-snoc _ os (part, o)));
+      deep = rw (all.deep, one.deep) (sym (list_any-snoc _ os (part, o)));
+      within = omega (arith, all.count, all.within, one.within, c);
+    }
+
+pub within_more : (a : found.Applied) (f : Found) (budget : ℕ) → AreWithin a budget → IsWithin f (budget - a.count)
+    → AreWithin (record { number = a.number + 1; passing = cond f.valid (a.passing + 1) a.passing; count = a.count + f.count; looped = a.looped || f.looped; deep = a.deep || f.deep }) budget
+within_more a f budget all one =
+    let v : cond f.valid (a.passing + 1) a.passing ≡ a.passing + cond f.valid 1 0 = passing_more f.valid a.passing in
+    record {
+      passing = omega (arith, all.passing, v, at_most_one f.valid);
+      number = omega (arith, all.number, one.some);
+      within = omega (arith, all.within, one.within);
+    }
+
+pub split_at : {X : Type 0} (xs : List X) (i : ℕ) (d : X) → i < length xs → take i xs ++ get_or xs i d ∷ drop (i + 1) xs ≡ xs
+split_at xs i d h =
+    sym (append_assoc (take i xs) (get_or xs i d ∷ []) (drop (i + 1) xs)) ∙ ap (λ ys. ys ++ drop (i + 1) xs) (sym (take_more xs i d h)) ∙ take-append-drop (i + 1) xs
+
+-- the element that the code read is one more
+pub map_more : {X Y : Type 0} (g : X → Y) (xs : List X) (i : ℕ) (x : X) → i < length xs → x ≡ get_or xs i x → map g (take (i + 1) xs) ≡ map g (take i xs) ++ g x ∷ []
+map_more g xs i x h is = ap (map g) (take_more xs i x h) ∙ map-append g (take i xs) (get_or xs i x ∷ []) ∙ ap (λ y. map g (take i xs) ++ g y ∷ []) (sym is)
+
+pub map_split : {X Y : Type 0} (g : X → Y) (xs : List X) (i : ℕ) (x : X) → i < length xs → x ≡ get_or xs i x → map g xs ≡ map g (take i xs) ++ g x ∷ map g (drop (i + 1) xs)
+map_split g xs i x h is =
+    sym (ap (map g) (split_at xs i x h)) ∙ map-append g (take i xs) _ ∙ ap (λ y. map g (take i xs) ++ g y ∷ map g (drop (i + 1) xs)) (sym is)
+
+-- where one is over what is left, all are over the budget
+pub over : (a : found.Applied) (budget : ℕ) (before : Outcomes) (e : definition.Part × Outcome) (after : Outcomes) → FindsAll a budget before → budget - a.count < e.1.count
+    → budget < count_of (before ++ e ∷ after)
+over a budget before e after all h =
+    let c : count_of (before ++ e ∷ after) ≡ count_of before + count_of (e ∷ after) = sum_by-append _ before (e ∷ after) in
+    let d : count_of (e ∷ after) ≡ e.1.count + count_of after = sum_by-cons _ e after in
+    omega (arith, all.count, all.within, c, d)
+
+flat_one : {X Y : Type 0} (f : X → List Y) (xs : List X) (x : X) → flat_map f (xs ++ x ∷ []) ≡ flat_map f xs ++ f x
+flat_one f xs x = flat_map-append f xs (x ∷ []) ∙ ap (λ ys. flat_map f xs ++ ys) (append-nil (f x))
+
+pub notes_more : (m : Meaning) (es : Outcomes) (e : definition.Part × Outcome) → added (parts_notes m es) (part_notes m e) ≡ parts_notes m (es ++ e ∷ [])
+unfolding added
+notes_more m es e = same_notes (sym (flat_one _ es e)) (sym (flat_one _ es e)) (sym (flat_one _ es e)) (sym (flat_one _ es e))
+
+-- ---- the loop over what a keyword applies
+pub none_found : (a : found.Applied) (budget : ℕ) → a ≡ record { number = 0; passing = 0; count = 0; looped = false; deep = false } → FindsAll a budget []
+none_found a budget e = rw e (record { number = refl; passing = refl; count = refl; looped = refl; deep = refl; within = omega arith })
+
+pub none_within : (a : found.Applied) (budget : ℕ) → a ≡ record { number = 0; passing = 0; count = 0; looped = false; deep = false } → AreWithin a budget
+none_within a budget e = rw e (record { passing = omega arith; number = omega arith; within = omega arith })
+
+pub child_more : {X : Type 0} (a b : found.Applied) (f : Found) (budget : ℕ) (g : X → definition.Part × Outcome) (xs : List X) (i : ℕ) (x : X) → i < length xs → x ≡ get_or xs i x
+    → FindsAll a budget (map g (take i xs)) → Finds f (budget - a.count) (g x).1
+    → b ≡ record { number = a.number + 1; passing = cond f.valid (a.passing + 1) a.passing; count = a.count + f.count; looped = a.looped || f.looped; deep = a.deep || f.deep }
+    → FindsAll b budget (map g (take (i + 1) xs))
+child_more a b f budget g xs i x h is all one e = rw (e, map_more g xs i x h is) (finds_more a f budget (map g (take i xs)) (g x) all one)
+
+pub child_noted : {X : Type 0} (m : Meaning) (older old new : Notes) (g : X → definition.Part × Outcome) (xs : List X) (i : ℕ) (x : X) → i < length xs → x ≡ get_or xs i x
+    → old ≡ added older (parts_notes m (map g (take i xs))) → new ≡ added old (part_notes m (g x)) → new ≡ added older (parts_notes m (map g (take (i + 1) xs)))
+child_noted m older old new g xs i x h is e f =
+    f ∙ ap (λ n. added n (part_notes m (g x))) e ∙ added_twice older (parts_notes m (map g (take i xs))) (part_notes m (g x))
+    ∙ ap (added older) (notes_more m (map g (take i xs)) (g x) ∙ ap (parts_notes m) (sym (map_more g xs i x h is)))
+
+pub child_over : {X : Type 0} (a : found.Applied) (budget : ℕ) (g : X → definition.Part × Outcome) (xs : List X) (i : ℕ) (x : X) → i < length xs → x ≡ get_or xs i x
+    → FindsAll a budget (map g (take i xs)) → budget - a.count < (g x).1.count → budget < count_of (map g xs)
+child_over a budget g xs i x h is all more = rw (map_split g xs i x h is) (over a budget (map g (take i xs)) (g x) (map g (drop (i + 1) xs)) all more)

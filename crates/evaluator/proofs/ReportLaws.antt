@@ -1,0 +1,97 @@
+-- Laws of the answer, and of the report of it.
+use Rattle.std.proofs.Common.{◌≡◌, ◌<◌, ◌≤◌, ℕ, List, [], Bool, ◌&&◌, true, false, Some, Ok, Err, nat_lt, refl, sym, ap, ◌∙◌, arith, Result, IfOk, IfErr}
+use Rattle.std.proofs.lemmas.Bool.Decides.{nat_tests}
+use Rattle.definitions.specs.Values.{Value, same_text}
+use Rattle.definitions.specs.Faults as meaning
+use Rattle.faults.specs.declared.Fault.{Fault}
+use Rattle.definitions.specs.Faults.{costly, loop, deep}
+use Rattle.definitions.specs.Reach.{missing, reach}
+use Rattle.definitions.specs.Schemas.{Document, Schema, is_root}
+use Rattle.definition_laws.specs.Reaching.{HaveDistinctResources}
+use Rattle.definition_laws.proofs.ReachedTables.{reach_is_enough}
+use Rattle.definitions.specs.Targets.{resource_root}
+use Rattle.definitions.specs.Patterns.{has_match}
+use Rattle.definitions.specs.Applied.{Outcome}
+use Rattle.definitions.specs.Answers.{answer, answer_of, answer_from, first_application, limits, output_text}
+use Rattle.basic_output.specs.Outputs as output
+use Rattle.basic_output.specs.Units.{units_view}
+use Rattle.linker.specs.LinkedDocuments.{linked_documents, linked_schemas, linked_uri}
+use Rattle.linker.specs.declared.linked.Linked.{Linked}
+use Rattle.linker.proofs.Positions.{found_there}
+use Rattle.keyword_plans.specs.Sites.{linked_rules}
+use Rattle.applications.specs.Frames.{Frame, standing}
+use Rattle.applications.specs.Standings.{application_at}
+use Rattle.evaluator.specs.Logs.{notes}
+use Rattle.evaluator.specs.Notes.{Notes, added, nothing, outcome_notes}
+use Rattle.evaluator.specs.declared.report.Report.{Report}
+use Rattle.evaluator.specs.Reports.{Gives, is_valid, report_text, reported}
+use Rattle.evaluator.specs.Rounds.{IsAt, said}
+use Rattle.evaluator.specs.declared.log.Log.{Log}
+use Rattle.evaluator.proofs.LogLaws.{nothing_added}
+
+-- ---- the answer of an outcome
+within_not_over : (m n : ℕ) → m ≤ n → nat_lt n m ≡ false
+within_not_over m n h = grind (arith, nat_tests)
+
+over_is_over : (m n : ℕ) → n < m → nat_lt n m ≡ true
+over_is_over m n h = grind (arith, nat_tests)
+
+pub answer_ok : (most : ℕ) (o : Outcome) → o.count ≤ most → o.looped ≡ false → o.deep ≡ false → answer_of most o ≡ Ok o
+answer_ok most o h l d = rw (within_not_over o.count most h, l, d) refl
+
+pub answer_costly : (most : ℕ) (o : Outcome) → most < o.count → answer_of most o ≡ Err costly
+answer_costly most o h = rw (over_is_over o.count most h) refl
+
+pub answer_loop : (most : ℕ) (o : Outcome) → o.count ≤ most → o.looped ≡ true → answer_of most o ≡ Err loop
+answer_loop most o h l = rw (within_not_over o.count most h, l) refl
+
+pub answer_deep : (most : ℕ) (o : Outcome) → o.count ≤ most → o.looped ≡ false → o.deep ≡ true → answer_of most o ≡ Err deep
+answer_deep most o h l d = rw (within_not_over o.count most h, l, d) refl
+
+-- ---- the first application
+pub first_outcome : (l : Linked) (s : Schema) (x : Value) → resource_root (linked_schemas l) (linked_uri l) ≡ Some s
+    → answer has_match (linked_documents l) (linked_uri l) x ≡ answer_of 100000 (said l 1000 (first_application s x))
+first_outcome l s x e = ap (answer_from limits (linked_rules l) x) e
+
+pub first_is_at : (l : Linked) (f : Frame) (s : Schema) (x : Value) → resource_root (linked_schemas l) (linked_uri l) ≡ Some s
+    → application_at (standing f) s.value x ≡ first_application s x → IsAt l f s.value x (first_application s x)
+first_is_at l f s x e there = record {
+  there = sym there;
+  inside = (found_there (λ t. same_text (linked_uri l) t.resource && is_root t) (linked_schemas l) s e).0;
+}
+
+-- ---- what was noted from nothing on
+pub noted_first : (n older : Notes) (o : Outcome) → older ≡ nothing → n ≡ added older (outcome_notes o) → n ≡ outcome_notes o
+noted_first n older o e h = h ∙ ap (λ m. added m (outcome_notes o)) e ∙ nothing_added (outcome_notes o)
+
+pub logged_annotations : (l : Log) (o : Outcome) → notes l ≡ outcome_notes o → o.valid ≡ true → output.reported o ≡ units_view l.annotations
+unfolding notes
+logged_annotations l o e v = rw v (sym (ap (λ (n : Notes). n.annotations) e))
+
+pub logged_errors : (l : Log) (o : Outcome) → notes l ≡ outcome_notes o → o.valid ≡ false → output.reported o ≡ units_view l.errors
+unfolding notes
+logged_errors l o e v = rw v (sym (ap (λ (n : Notes). n.errors) e))
+
+-- ---- the report
+pub reported_ok : (o : Outcome) (r : Report) → is_valid r ≡ o.valid → output_text o ≡ report_text r → reported (Ok o) ≡ Ok (is_valid r, report_text r)
+reported_ok o r v t = rw (v, sym t) refl
+
+pub made_ok : (e : Result Report Fault) (o : Outcome) (b : Bool) {answered : Result Outcome meaning.Fault} → b ≡ o.valid → answered ≡ Ok o
+    → IfOk e (λ r. output_text o ≡ report_text r) → IfOk e (λ r. is_valid r ≡ b) → IfOk e (λ r. reported answered ≡ Ok (is_valid r, report_text r))
+made_ok (Ok r) o b f is t v = ap reported is ∙ reported_ok o r (v ∙ f) t
+made_ok (Err f) o b g is t v = tt
+
+-- ---- what isn't reached
+none_missing : (l : Linked) → missing (linked_documents l) ≡ []
+unfolding linked_documents
+none_missing l = l.whole
+
+pub unreached_changes_nothing : (l : Linked) (G : List Document) (x : Value) → HaveDistinctResources G → linked_documents l ≡ reach G (linked_uri l)
+    → answer has_match G (linked_uri l) x ≡ answer has_match (linked_documents l) (linked_uri l) x
+unreached_changes_nothing l G x distinct same =
+    reach_is_enough has_match G (linked_uri l) x distinct (ap missing (sym same) ∙ none_missing l) ∙ ap (λ ds. answer has_match ds (linked_uri l) x) (sym same)
+
+pub made_gives : (e : Result Report Fault) {answered : Result Outcome meaning.Fault} (a : Result Outcome meaning.Fault) → a ≡ answered
+    → IfOk e (λ r. reported answered ≡ Ok (is_valid r, report_text r)) → IfErr e (λ f. f ≡ Fault.NoRoom) → Gives e a
+made_gives (Ok r) a same is err = ap reported same ∙ is
+made_gives (Err f) a same is err = λ other. absurd (other err)

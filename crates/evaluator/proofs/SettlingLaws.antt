@@ -1,0 +1,168 @@
+-- Laws of what a keyword itself notes, once its schemas were applied.
+use Rattle.std.proofs.Common.{◌≡◌, ◌<◌, ℕ, List, [], ◌∷◌, ◌++◌, map, if◌then◌else◌, Bool, true, false, Contains, refl, sym, ap, ◌∙◌, append-nil, subst, flat_map, arith, ◌&&◌}
+use Rattle.std.specs.Prelude.{Some, None, codes}
+use Rattle.definitions.specs.Values.{Text, Value, string, get}
+use Rattle.definitions.specs.Keywords.{keywords}
+use Rattle.definitions.specs.Applied.{Application, OutputUnit, applied}
+use Rattle.definitions.specs.Evaluated.{failed, may_annotate, passed}
+use Rattle.definitions.specs.Outcomes.{Use, own_annotation, unit}
+use Rattle.definition_laws.proofs.Evaluations.{failing_nothing}
+use Rattle.definition_laws.proofs.AppliedSchemas.{applied_schemas_are_known}
+use Rattle.definition_laws.proofs.Occurrences.{contains_from_in, in_from_contains, into_map}
+use Rattle.definition_laws.proofs.Reports.{failing_annotates_nothing, passing_reports_no_error}
+use Rattle.linker.specs.LinkedDocuments.{linked_documents, linked_schemas}
+use Rattle.linker.specs.declared.linked.Linked.{Linked}
+use Rattle.keyword_plans.specs.Plans.{planned_view}
+use Rattle.keyword_plans.specs.Rows.{row_of}
+use Rattle.keyword_plans.specs.Sites.{linked_rules}
+use Rattle.keyword_plans.specs.declared.keyword.Keyword.{Keyword}
+use Rattle.keyword_plans.specs.declared.keyword.Keyword.TheVariants as keyword
+use Rattle.keyword_plans.specs.declared.keyword.Keyword.TheVariants.{Ref, DynamicRef, Asserts, Pattern, AllOf, AnyOf, OneOf, Not, If, Then, Else, DependentSchemas, PrefixItems, Items, MinContains, MaxContains, Properties, PatternProperties, AdditionalProperties, PropertyNames, UnevaluatedItems, UnevaluatedProperties}
+use Rattle.keyword_plans.specs.declared.planned.Planned.{Planned}
+use Rattle.assertions.specs.declared.keyword.Keyword.TheVariants.{TypeIs, EnumOf, ConstIs, MultipleOf, Maximum, ExclusiveMaximum, Minimum, ExclusiveMinimum, MaxLength, MinLength, MaxProperties, MinProperties, Required, DependentRequired, MaxItems, MinItems, UniqueItems}
+use Rattle.applications.specs.Frames.{Frame, standing}
+use Rattle.applications.specs.Standings.{at_keyword, standing_of}
+use Rattle.evaluator.specs.Findings.{FindsAll, FindsUse, count_of, use_count}
+use Rattle.evaluator.specs.declared.found.Applied as found
+use Rattle.evaluator.specs.declared.found.Found.{Found}
+use Rattle.evaluator.specs.declared.beside.Beside.{Beside}
+use Rattle.evaluator.specs.declared.found.Used.{Used}
+use Rattle.evaluator.specs.Notes.{Notes, parts_notes, shown, uses_notes}
+use Rattle.evaluator.specs.Rounds.{IsAt, IsAtKeyword, IsKnown, Knows, part_outcomes, said, use_there}
+use Rattle.evaluator.proofs.LogLaws.{same_notes}
+use Rattle.evaluator.proofs.OutcomeLaws.{or_false}
+use Rattle.evaluator.proofs.PartLaws.{annotations_of_passed, errors_of_failed, indexes_of_use, names_of_use}
+
+module _ (l : Linked) (left : ℕ) (a : Application) (keyword : Keyword) (names : List Text) (indexes : List ℕ) (v : Value) where
+  abbrev this : Use
+  this = use_there l left a keyword names indexes v
+
+  abbrev noted : Notes
+  noted = shown (row_of keyword).meaning (parts_notes (row_of keyword).meaning this.outcomes)
+
+  pub names_settled : noted.names ≡ this.names
+  names_settled = names_of_use (linked_rules l) (said l left) (failing_nothing (linked_rules l) left) names indexes a (row_of keyword).name (row_of keyword).meaning v
+
+  pub indexes_settled : noted.indexes ≡ this.indexes
+  indexes_settled = indexes_of_use (linked_rules l) (said l left) (failing_nothing (linked_rules l) left) names indexes a (row_of keyword).name (row_of keyword).meaning v
+
+  annotations_settled : noted.annotations ≡ (if this.annotates then flat_map (λ o. o.1.annotations) (passed this.outcomes) else [])
+  annotations_settled =
+      ap (λ us. if may_annotate (row_of keyword).meaning then us else [])
+      (annotations_of_passed (said l left) (failing_annotates_nothing (linked_rules l) left) (applied (linked_rules l) (said l left) names indexes a (row_of keyword).name (row_of keyword).meaning v))
+
+  errors_settled : noted.errors ≡ flat_map (λ o. o.1.errors) (failed this.outcomes)
+  errors_settled = errors_of_failed (said l left) (passing_reports_no_error (linked_rules l) left) (applied (linked_rules l) (said l left) names indexes a (row_of keyword).name (row_of keyword).meaning v)
+
+  pub passing_settled : true ≡ this.passes
+      → record noted { errors = []; annotations = own_annotation a this this.annotation ++ noted.annotations } ≡ uses_notes a (this ∷ [])
+  passing_settled e =
+      same_notes (rw (← e) refl) (rw (← e) (ap (λ us. own_annotation a this this.annotation ++ us) annotations_settled ∙ sym (append-nil _)))
+      (names_settled ∙ sym (append-nil this.names)) (indexes_settled ∙ sym (append-nil this.indexes))
+
+  pub failing_settled : false ≡ this.passes
+      → record noted { errors = unit a (row_of keyword).name (string ((row_of keyword).name ++ codes " is not met")) ∷ noted.errors; annotations = [] } ≡ uses_notes a (this ∷ [])
+  failing_settled e =
+      same_notes
+      (rw (← e) (ap (λ us. unit a (row_of keyword).name (string ((row_of keyword).name ++ codes " is not met")) ∷ us) (errors_settled ∙ sym (append-nil _))))
+      (rw (← e) refl) (names_settled ∙ sym (append-nil this.names)) (indexes_settled ∙ sym (append-nil this.indexes))
+
+-- ---- what it says itself
+pub own_none : (a : Application) (u : Use) (more : Notes) → None ≡ u.annotation → more ≡ record more { annotations = own_annotation a u u.annotation ++ more.annotations }
+own_none a u more e = rw (← e) refl
+
+pub own_some : (a : Application) (u : Use) (v : Value) (us : List OutputUnit) → Some v ≡ u.annotation → unit a u.keyword v ∷ us ≡ own_annotation a u u.annotation ++ us
+own_some a u v us e = rw (← e) refl
+
+-- ---- what is planned is what the definitions apply
+pub planned_outcomes : (l : Linked) (left : ℕ) (k : Text) (a : Application) (ps : List Planned)
+    → part_outcomes l left k a ps ≡ map (λ e. (e.0, said l left e.1)) (map (planned_view k a) ps)
+planned_outcomes l left k a [] = refl
+planned_outcomes l left k a (p ∷ ps) = ap (λ os. (let e = planned_view k a p in (e.0, said l left e.1)) ∷ os) (planned_outcomes l left k a ps)
+
+row_in : (k : Keyword) → Contains keywords (row_of k)
+row_in Ref = (0, omega arith, refl)
+row_in DynamicRef = (1, omega arith, refl)
+row_in (Asserts TypeIs) = (2, omega arith, refl)
+row_in (Asserts EnumOf) = (3, omega arith, refl)
+row_in (Asserts ConstIs) = (4, omega arith, refl)
+row_in (Asserts MultipleOf) = (5, omega arith, refl)
+row_in (Asserts Maximum) = (6, omega arith, refl)
+row_in (Asserts ExclusiveMaximum) = (7, omega arith, refl)
+row_in (Asserts Minimum) = (8, omega arith, refl)
+row_in (Asserts ExclusiveMinimum) = (9, omega arith, refl)
+row_in (Asserts MaxLength) = (10, omega arith, refl)
+row_in (Asserts MinLength) = (11, omega arith, refl)
+row_in Pattern = (12, omega arith, refl)
+row_in (Asserts MaxProperties) = (13, omega arith, refl)
+row_in (Asserts MinProperties) = (14, omega arith, refl)
+row_in (Asserts Required) = (15, omega arith, refl)
+row_in (Asserts DependentRequired) = (16, omega arith, refl)
+row_in (Asserts MaxItems) = (17, omega arith, refl)
+row_in (Asserts MinItems) = (18, omega arith, refl)
+row_in (Asserts UniqueItems) = (19, omega arith, refl)
+row_in AllOf = (20, omega arith, refl)
+row_in AnyOf = (21, omega arith, refl)
+row_in OneOf = (22, omega arith, refl)
+row_in Not = (23, omega arith, refl)
+row_in If = (24, omega arith, refl)
+row_in Then = (25, omega arith, refl)
+row_in Else = (26, omega arith, refl)
+row_in DependentSchemas = (27, omega arith, refl)
+row_in PrefixItems = (28, omega arith, refl)
+row_in Items = (29, omega arith, refl)
+row_in keyword.Contains = (30, omega arith, refl)
+row_in MinContains = (31, omega arith, refl)
+row_in MaxContains = (32, omega arith, refl)
+row_in Properties = (33, omega arith, refl)
+row_in PatternProperties = (34, omega arith, refl)
+row_in AdditionalProperties = (35, omega arith, refl)
+row_in PropertyNames = (36, omega arith, refl)
+row_in UnevaluatedItems = (37, omega arith, refl)
+row_in UnevaluatedProperties = (38, omega arith, refl)
+
+pub planned_known : (l : Linked) (left : ℕ) (keyword : Keyword) (a : Application) (ps : List Planned) (names : List Text) (indexes : List ℕ) (v : Value)
+    → Contains (linked_schemas l) a.schema → get (row_of keyword).name a.schema.value ≡ Some v
+    → map (planned_view (row_of keyword).name a) ps ≡ applied (linked_rules l) (said l left) names indexes a (row_of keyword).name (row_of keyword).meaning v
+    → (p : Planned) → Contains ps p → IsKnown l (row_of keyword).name a p
+planned_known l left keyword a ps names indexes v inside found same p here =
+    let k = (row_of keyword).name in
+    let e = planned_view k a p in
+    let there : Contains (map (planned_view k a) ps) e = contains_from_in (map (planned_view k a) ps) e (into_map (planned_view k a) ps p (in_from_contains ps p here)) in
+    applied_schemas_are_known (linked_rules l) (linked_documents l) refl (said l left) names indexes a (row_of keyword) v e (row_in keyword) inside found
+    (subst (λ es. Contains es e) same there)
+
+-- ---- one use
+and_true : (b : Bool) → (b && true) ≡ b
+and_true true = refl
+and_true false = refl
+
+pub use_found : (all : found.Applied) (f : Found) (u : Used) (budget : ℕ) (this : Use) (passes : Bool) → FindsAll all budget this.outcomes → passes ≡ this.passes
+    → f ≡ record { valid = passes; count = all.count; looped = all.looped; deep = all.deep } → u ≡ record { found = f; passing = Some all.passing } → FindsUse u budget (this ∷ [])
+use_found all f u budget this passes finds same e r =
+    rw (r, e) (record {
+      found = record {
+        valid = same ∙ sym (and_true this.passes);
+        count = omega (arith, finds.count);
+        looped = finds.looped ∙ sym (or_false _);
+        deep = finds.deep ∙ sym (or_false _);
+        within = omega (arith, finds.within);
+      };
+      passing = ap Some finds.passing;
+    })
+
+pub use_over : (budget : ℕ) (this : Use) → budget < count_of this.outcomes → budget < use_count (this ∷ [])
+use_over budget this h = omega (arith, h)
+
+-- ---- at the keyword
+pub at_keyword_of : (l : Linked) (left : ℕ) (f g : Frame) (s x : Value) (keyword : Keyword) (v : Value) (beside : Beside) (a : Application)
+    → IsAt l f s x a → standing g ≡ at_keyword (row_of keyword).name (standing f) → Knows l left a (row_of keyword).meaning beside
+    → get (row_of keyword).name a.schema.value ≡ Some v → IsAtKeyword l left g s x keyword v beside a
+at_keyword_of l left f g s x keyword v beside a at e knows valued = record {
+  under = e ∙ ap (at_keyword (row_of keyword).name) (sym (ap standing_of at.there));
+  schema = ap (λ (b : Application). b.schema.value) at.there;
+  instance = ap (λ (b : Application). b.instance) at.there;
+  inside = at.inside;
+  knows = knows;
+  valued = valued;
+}

@@ -1,0 +1,83 @@
+use Rattle.std.proofs.Common.{◌≡◌, take, Contains, ◌+◌, ◌*◌}
+use Rattle.definitions.specs.Applied.{Application}
+use Rattle.json_doc.specs.Docs.{value}
+use Rattle.keyword_plans.specs.Subjects.{subject_value}
+use Rattle.applications.specs.Frames.{frame}
+use Rattle.evaluator.specs.Findings.{IsWithin, FindsObject, AreWithin, FindsAll}
+use Rattle.evaluator.specs.Logs.{notes}
+use Rattle.evaluator.specs.Notes.{added, uses_notes, parts_notes}
+use Rattle.evaluator.specs.Rounds.{IsAt, groups_uses, IsKnown, IsUnder, part_outcomes}
+use Rattle.keyword_plans.specs.Rows.{row_of}
+use Rattle.keyword_plans.specs.declared.planned.Planned.{Planned}
+use Rattle.evaluator.proofs.applying.Evaluation.+apply.Given as goal
+
+abbrev pub decreases-apply_object : goal.decreases-apply_object
+decreases-apply_object l = 14 * l.left + 13
+
+abbrev pub decreases-use_keywords : goal.decreases-use_keywords
+decreases-use_keywords l = 14 * l.left + 12
+
+abbrev pub decreases-use_groups : goal.decreases-use_groups
+decreases-use_groups l = 14 * l.left + 11
+
+abbrev pub decreases-use_group : goal.decreases-use_group
+decreases-use_group l = 14 * l.left + 10
+
+abbrev pub decreases-use_conditional : goal.decreases-use_conditional
+decreases-use_conditional l = 14 * l.left + 9
+
+abbrev pub decreases-use_counted : goal.decreases-use_counted
+decreases-use_counted l = 14 * l.left + 8
+
+abbrev pub decreases-use_one : goal.decreases-use_one
+decreases-use_one l = 14 * l.left + 7
+
+abbrev pub decreases-use_two : goal.decreases-use_two
+decreases-use_two l = 14 * l.left + 6
+
+abbrev pub decreases-use_named : goal.decreases-use_named
+decreases-use_named l = 14 * l.left + 5
+
+abbrev pub decreases-use_keyword : goal.decreases-use_keyword
+decreases-use_keyword l = 14 * l.left + 4
+
+abbrev pub decreases-apply_all : goal.decreases-apply_all
+decreases-apply_all l = 14 * l.left + 3
+
+abbrev pub decreases-apply_planned : goal.decreases-apply_planned
+decreases-apply_planned l = 14 * l.left + 2
+
+abbrev pub decreases-apply : goal.decreases-apply
+decreases-apply l = 14 * l.left + 1
+
+abbrev pub decreases-apply_other : goal.decreases-apply_other
+decreases-apply_other l = 14 * l.left
+
+-- what the groups so far found and noted
+abbrev pub invariant-use_groups-loop-place : goal.invariant-use_groups-loop-place
+invariant-use_groups-loop-place l =
+    record {
+      linked : l.self.linked ≡ l.fn.self.linked;
+      back : frame l.self.context ≡ frame l.fn.self.context;
+      within : IsWithin l.found l.budget;
+      found : (a : Application) → IsAt l.fn.self.linked.now (frame l.fn.self.context) (value l.schema) (subject_value l.subject) a
+          → FindsObject l.found l.budget (groups_uses l.fn.self.linked.now l.left a (take l.place l.group-items));
+      noted : (a : Application) → IsAt l.fn.self.linked.now (frame l.fn.self.context) (value l.schema) (subject_value l.subject) a
+          → notes l.self.log ≡ added (notes l.fn.self.log) (uses_notes a (groups_uses l.fn.self.linked.now l.left a (take l.place l.group-items)));
+    }
+
+-- what the schemas applied so far found and noted
+abbrev pub invariant-apply_all-loop-one : goal.invariant-apply_all-loop-one
+invariant-apply_all-loop-one l =
+    record {
+      linked : l.self.linked ≡ l.fn.self.linked;
+      back : frame l.self.context ≡ frame l.fn.self.context;
+      within : AreWithin l.applied l.budget;
+      found : (a : Application) → IsUnder (frame l.fn.self.context) (row_of l.keyword).name a
+          → ((p : Planned) → Contains l.planned.items p → IsKnown l.fn.self.linked.now (row_of l.keyword).name a p)
+          → FindsAll l.applied l.budget (part_outcomes l.fn.self.linked.now l.left (row_of l.keyword).name a (take l.one-index l.one-items));
+      noted : (a : Application) → IsUnder (frame l.fn.self.context) (row_of l.keyword).name a
+          → ((p : Planned) → Contains l.planned.items p → IsKnown l.fn.self.linked.now (row_of l.keyword).name a p)
+          → notes l.self.log
+          ≡ added (notes l.fn.self.log) (parts_notes (row_of l.keyword).meaning (part_outcomes l.fn.self.linked.now l.left (row_of l.keyword).name a (take l.one-index l.one-items)));
+    }

@@ -1,0 +1,12 @@
+use Rattle.std.proofs.Common.{◌∙◌, ap, sym, append-nil}
+use Rattle.evaluator.specs.Notes.{Lengths, added}
+use Rattle.evaluator.specs.Logs.{notes}
+use Rattle.evaluator.proofs.LogLaws.{same_notes, cut_list, errors_of, annotations_of, names_of, indexes_of}
+use Rattle.evaluator.proofs.log.Log.cut_annotations.Goals as goal
+
+pub returns : goal.returns
+unfolding notes added
+returns c older more m e =
+    same_notes (errors_of _ older more e)
+    (c.cut_back.ensures ∙ cut_list c.args.mark.now.annotations older.annotations more.annotations _ (ap (λ (l : Lengths). l.annotations) m) (annotations_of _ older more e) ∙ sym (append-nil _))
+    (names_of _ older more e) (indexes_of _ older more e)

@@ -1,0 +1,15 @@
+use Rattle.std.proofs.Common.{◌∙◌, ap}
+use Rattle.std.proofs.lemmas.Result.{on_ok_weaker}
+use Rattle.basic_output.specs.Sayings.{unit_at}
+use Rattle.evaluator.specs.Notes.{Lengths, added}
+use Rattle.evaluator.specs.Logs.{notes}
+use Rattle.evaluator.proofs.LogLaws.{same_notes, inserted_list, errors_of, annotations_of, names_of, indexes_of}
+use Rattle.evaluator.proofs.log.Log.insert_annotation.Goals as goal
+
+pub returns : goal.returns
+unfolding notes added
+returns c older more m e =
+    on_ok_weaker c.insert.result (λ new.
+    same_notes (errors_of _ older more e)
+    (new ∙ inserted_list c.args.mark.now.annotations older.annotations more.annotations _ (unit_at c.args.location c.args.says) (ap (λ (l : Lengths). l.annotations) m) (annotations_of _ older more e))
+    (names_of _ older more e) (indexes_of _ older more e)) c.insert.ensures.ok

@@ -1,0 +1,21 @@
+use Rattle.std.proofs.Common.{◌≡◌, true, ◌∙◌, sym, ap}
+use Rattle.std.specs.List.{list_all}
+use Rattle.std.proofs.lemmas.Result.{on_ok_weaker}
+use Rattle.definitions.specs.Applied.{Application}
+use Rattle.definitions.specs.Outcomes.{Use, other_annotations}
+use Rattle.json_doc.specs.Docs.{value}
+use Rattle.keyword_plans.specs.Subjects.{subject_value}
+use Rattle.applications.specs.Frames.{frame, standing}
+use Rattle.evaluator.specs.Notes.{Notes, added, uses_notes}
+use Rattle.evaluator.proofs.CombinedLaws.{passing_object, stands_there}
+use Rattle.evaluator.proofs.LogLaws.{added_twice, annotated}
+use Rattle.evaluator.proofs.settling_object.settle_object.Goals as goal
+
+pub returns-then-valid-clause-noted : goal.returns-then-valid-clause-noted
+returns-then-valid-clause-noted c a older us at m n v =
+    let others = annotated (other_annotations a) in
+    let all : list_all (λ (u : Use). u.passes) us ≡ true = sym v ∙ c.if-valid.true in
+    on_ok_weaker c.note_others.result (λ e.
+    e ∙ ap (λ (k : Notes). added k others) n ∙ added_twice older (uses_notes a us) others ∙ ap (added older) (passing_object a us all))
+    (c.note_others.ensures.noted a (stands_there (standing (frame c.args.context.now)) (value c.args.schema.now) (subject_value c.args.subject) a at)
+    (ap (λ (b : Application). b.schema.value) at) (ap (λ (b : Application). b.instance) at))

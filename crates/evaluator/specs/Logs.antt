@@ -1,0 +1,17 @@
+-- What a log shows.
+use Rattle.std.specs.Prelude.{map}
+use Rattle.basic_output.specs.Units.{units_view}
+use Rattle.evaluator.specs.Notes.{Notes, Lengths}
+use Rattle.evaluator.specs.declared.log.Log.{Log}
+use Rattle.evaluator.specs.declared.log.LogMark.{LogMark}
+
+unfoldable pub notes : Log → Notes
+notes l = record {
+  errors = units_view l.errors;
+  annotations = units_view l.annotations;
+  names = map (λ name. name.now) l.names.items;
+  indexes = l.indexes.items;
+}
+
+abbrev pub marked : LogMark → Lengths
+marked m = record { errors = m.errors; annotations = m.annotations; names = m.names; indexes = m.indexes }

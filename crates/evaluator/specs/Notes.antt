@@ -1,0 +1,96 @@
+-- What an evaluation notes: units of the output, and the names and indexes that were evaluated.
+use Rattle.std.specs.Prelude.{ℕ, List, [], ◌∷◌, ◌++◌, Bool, true, false, ◌&&◌, not, if◌then◌else◌, length, flat_map}
+use Rattle.definitions.specs.Values.{Text}
+use Rattle.definitions.specs.Keywords.{Meaning, negated, some_item}
+use Rattle.definitions.specs.Applied.{Application, Outcome, OutputUnit, Part, whole, named, indexed}
+use Rattle.definitions.specs.Evaluated.{may_annotate}
+use Rattle.definitions.specs.Outcomes.{Use, use_annotations, use_errors}
+
+pub record Notes : Type 0 where
+  pub errors : List OutputUnit
+  pub annotations : List OutputUnit
+  pub names : List Text
+  pub indexes : List ℕ
+
+abbrev pub nothing : Notes
+nothing = record { errors = []; annotations = []; names = []; indexes = [] }
+
+-- these, and then those
+unfoldable pub added : Notes → Notes → Notes
+added older newer = record {
+  errors = older.errors ++ newer.errors;
+  annotations = older.annotations ++ newer.annotations;
+  names = older.names ++ newer.names;
+  indexes = older.indexes ++ newer.indexes;
+}
+
+-- ---- of an application
+abbrev pub outcome_notes : Outcome → Notes
+outcome_notes o = record { errors = o.errors; annotations = o.annotations; names = o.names; indexes = o.indexes }
+
+-- ---- of what a keyword applied: its units, and what of the instance it evaluated
+abbrev pub names_from : Part → Outcome → List Text
+names_from whole o = o.names
+names_from (named n) o = n ∷ []
+names_from _ o = []
+
+-- of `contains` alone an element counts only where it passed
+abbrev pub needs_to_pass : Meaning → Bool
+needs_to_pass some_item = true
+needs_to_pass _ = false
+
+abbrev pub indexes_from : Meaning → Part → Outcome → List ℕ
+indexes_from meaning whole o = o.indexes
+indexes_from meaning (indexed i) o = if needs_to_pass meaning && not o.valid then [] else i ∷ []
+indexes_from meaning _ o = []
+
+abbrev pub part_notes : Meaning → Part × Outcome → Notes
+part_notes meaning e = record {
+  errors = e.1.errors;
+  annotations = e.1.annotations;
+  names = names_from e.0 e.1;
+  indexes = indexes_from meaning e.0 e.1;
+}
+
+abbrev pub parts_notes : Meaning → List (Part × Outcome) → Notes
+parts_notes meaning es = record {
+  errors = flat_map (λ e. e.1.errors) es;
+  annotations = flat_map (λ e. e.1.annotations) es;
+  names = flat_map (λ e. names_from e.0 e.1) es;
+  indexes = flat_map (λ e. indexes_from meaning e.0 e.1) es;
+}
+
+-- `not` evaluates nothing
+abbrev pub evaluates : Meaning → Bool
+evaluates negated = false
+evaluates _ = true
+
+-- what the keyword lets be seen of that
+abbrev pub shown : Meaning → Notes → Notes
+shown meaning n = record n {
+  annotations = (if may_annotate meaning then n.annotations else []);
+  names = (if evaluates meaning then n.names else []);
+  indexes = (if evaluates meaning then n.indexes else []);
+}
+
+-- ---- of uses of keywords: what fails annotates nothing, and evaluates all the same
+abbrev pub kept_annotations : Application → Use → List OutputUnit
+kept_annotations a u = if u.passes then use_annotations a u else []
+
+abbrev pub uses_notes : Application → List Use → Notes
+uses_notes a us = record {
+  errors = flat_map (use_errors a) us;
+  annotations = flat_map (kept_annotations a) us;
+  names = flat_map (λ u. u.names) us;
+  indexes = flat_map (λ u. u.indexes) us;
+}
+
+-- ---- how much there is
+pub record Lengths : Type 0 where
+  pub errors : ℕ
+  pub annotations : ℕ
+  pub names : ℕ
+  pub indexes : ℕ
+
+abbrev pub lengths : Notes → Lengths
+lengths n = record { errors = length n.errors; annotations = length n.annotations; names = length n.names; indexes = length n.indexes }

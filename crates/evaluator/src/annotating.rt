@@ -1,0 +1,142 @@
+//! The names of a schema object that annotate with their own value.
+
+ghost use Rattle.std.specs.Prelude.{◌≡◌, [], ◌∷◌, OnOk};
+ghost use Rattle.definitions.specs.Applied.{Application};
+ghost use Rattle.definitions.specs.Evaluated.{is_annotation};
+ghost use Rattle.definitions.specs.Keywords.{is_keyword_of, keywords};
+ghost use Rattle.definitions.specs.Outcomes.{other_annotations, unit};
+ghost use Rattle.json_doc.specs.Docs.{value, members_value};
+ghost use Rattle.applications.specs.Frames.{frame, standing};
+ghost use Rattle.applications.specs.Standings.{standing_of};
+ghost use Rattle.evaluator.specs.Annotations.{annotations_among};
+ghost use Rattle.evaluator.specs.Logs.{notes};
+ghost use Rattle.evaluator.specs.Notes.{added, nothing};
+ghost use Rattle.keyword_plans.specs.Subjects.{subject_value};
+
+use crate::log::Log;
+use applications::Context;
+use basic_output::Says;
+use json_doc::{Doc, Members};
+use keyword_plans::Subject;
+use std::alloc::AllocError;
+
+/// The annotations of the names of a schema object that annotate with their own value, in byte order. The only error is
+/// want of memory.
+pub(crate) fn note_others<'a>(
+    context: &mut Context<'a>,
+    log: &mut Log<'a>,
+    schema: &'a Doc,
+    subject: Subject<'a>,
+) -> Result<(), AllocError>
+    ensures back { OnOk result (frame context.new ≡ frame context.old) }
+    ensures noted { (a : Application) → standing (frame context.old) ≡ standing_of a → a.schema.value ≡ value schema.now → a.instance ≡ subject_value subject.entry
+        → OnOk result (notes log.new ≡ added (notes log.old) (record nothing { annotations = other_annotations a })) }
+{
+    match schema.as_dict() {
+        Some(members) => note_members(context, log, schema, members, subject),
+        None => Ok(()),
+    }
+}
+
+fn note_members<'a>(
+    context: &mut Context<'a>,
+    log: &mut Log<'a>,
+    schema: &'a Doc,
+    members: &'a Members,
+    subject: Subject<'a>,
+) -> Result<(), AllocError>
+    ensures back { OnOk result (frame context.new ≡ frame context.old) }
+    ensures noted { (a : Application) → standing (frame context.old) ≡ standing_of a → a.schema.value ≡ value schema.now → a.instance ≡ subject_value subject.entry
+        → OnOk result (notes log.new ≡ added (notes log.old) (record nothing { annotations = annotations_among a (members_value members.now) })) }
+{
+    for (name, member) in members.iter() {
+        if annotates(name, schema, subject) {
+            note_member(context, log, name, member)?;
+        }
+    }
+    Ok(())
+}
+
+fn note_member<'a>(
+    context: &mut Context<'a>,
+    log: &mut Log<'a>,
+    name: &'a str,
+    member: &'a Doc,
+) -> Result<(), AllocError>
+    ensures back { OnOk result (frame context.new ≡ frame context.old) }
+    ensures noted { (a : Application) → standing (frame context.old) ≡ standing_of a
+        → OnOk result (notes log.new ≡ added (notes log.old) (record nothing { annotations = unit a name.now (value member.now) ∷ [] })) }
+{
+    context.enter_keyword(name)?;
+    log.push_annotation(context.location(), Says::Value(member))?;
+    context.leave_keyword();
+    Ok(())
+}
+
+// Whether a name of the schema object annotates with its value: those of the contents of strings (JSON Schema 2020-12
+// Validation, 8), and all that are no keywords and don't begin with `$` (Core, 6.5).
+fn annotates(name: &str, schema: &Doc, subject: Subject<'_>) -> bool
+    ensures { result ≡ is_annotation (value schema.now) (subject_value subject.entry) name.now }
+{
+    match name {
+        "contentSchema" => subject.as_str().is_some() && schema.get("contentMediaType").is_some(),
+        "contentEncoding" => subject.as_str().is_some(),
+        "contentMediaType" => subject.as_str().is_some(),
+        _ => !(is_keyword(name) || name.as_bytes().starts_with(b"$")),
+    }
+}
+
+// The keywords that are evaluated, and those that only declare.
+fn is_keyword(name: &str) -> bool
+    ensures { result ≡ is_keyword_of keywords name.now }
+{
+    match name {
+        "$ref" => true,
+        "$dynamicRef" => true,
+        "type" => true,
+        "enum" => true,
+        "const" => true,
+        "multipleOf" => true,
+        "maximum" => true,
+        "exclusiveMaximum" => true,
+        "minimum" => true,
+        "exclusiveMinimum" => true,
+        "maxLength" => true,
+        "minLength" => true,
+        "pattern" => true,
+        "maxProperties" => true,
+        "minProperties" => true,
+        "required" => true,
+        "dependentRequired" => true,
+        "maxItems" => true,
+        "minItems" => true,
+        "uniqueItems" => true,
+        "allOf" => true,
+        "anyOf" => true,
+        "oneOf" => true,
+        "not" => true,
+        "if" => true,
+        "then" => true,
+        "else" => true,
+        "dependentSchemas" => true,
+        "prefixItems" => true,
+        "items" => true,
+        "contains" => true,
+        "minContains" => true,
+        "maxContains" => true,
+        "properties" => true,
+        "patternProperties" => true,
+        "additionalProperties" => true,
+        "propertyNames" => true,
+        "unevaluatedItems" => true,
+        "unevaluatedProperties" => true,
+        "$defs" => true,
+        "definitions" => true,
+        "contentSchema" => true,
+        "$id" => true,
+        "$anchor" => true,
+        "$dynamicAnchor" => true,
+        "$schema" => true,
+        _ => false,
+    }
+}

@@ -1,0 +1,215 @@
+//! The units of an evaluation so far, and what it evaluated of the instance.
+
+ghost use Rattle.std.specs.Prelude.{◌≡◌, ◌&&◌, not};
+ghost use Rattle.keyword_plans.specs.Rows.{row_of};
+ghost use Rattle.evaluator.specs.Notes.{needs_to_pass};
+
+use basic_output::{Location, Mark, Says, Units};
+use keyword_plans::{Keyword, Part};
+use std::alloc::{AllocError, Global};
+
+/// The errors, should what is being applied fail; the annotations, should it pass; and the names and the indexes of the
+/// instance that were evaluated.
+///
+/// Contracts see all four by `notes`.
+#[derive(Drop)]
+pub(crate) struct Log<'a> {
+    pub(crate) errors: Units<'a>,
+    pub(crate) annotations: Units<'a>,
+    pub(crate) names: Vec<&'a str>,
+    pub(crate) indexes: Vec<usize>,
+}
+
+/// How much there is of each, so that what comes later can be cut off.
+#[derive(Clone, Copy, Debug)]
+pub(crate) struct LogMark {
+    pub(crate) errors: Mark,
+    pub(crate) annotations: Mark,
+    pub(crate) names: usize,
+    pub(crate) indexes: usize,
+}
+
+/// How many names and indexes there were before a schema object.
+#[derive(Clone, Copy, Debug, PartialEq, Eq)]
+pub(crate) struct Before {
+    pub(crate) names: usize,
+    pub(crate) indexes: usize,
+}
+
+impl LogMark {
+    /// The names and indexes alone.
+    pub(crate) fn before(&self) -> Before
+        ensures { result ≡ record { names = self.now.names; indexes = self.now.indexes } }
+    {
+        Before {
+            names: self.names,
+            indexes: self.indexes,
+        }
+    }
+}
+
+impl<'a> Log<'a> {
+    ghost use Rattle.std.specs.Prelude.{◌≡◌, [], ◌∷◌, ◌++◌, OnOk};
+    ghost use Rattle.basic_output.specs.Sayings.{unit_at};
+    ghost use Rattle.definitions.specs.Applied.{Outcome};
+    ghost use Rattle.keyword_plans.specs.Plans.{part_view};
+    ghost use Rattle.evaluator.specs.Notes.{Notes, added, lengths, nothing, outcome_notes, part_notes};
+    ghost use Rattle.evaluator.specs.Logs.{marked, notes};
+
+    /// Nothing yet.
+    pub(crate) fn new(alloc: Global) -> Log<'a>
+        ensures { notes result ≡ nothing }
+    {
+        Log {
+            errors: Units::new(alloc),
+            annotations: Units::new(alloc),
+            names: Vec::new(alloc),
+            indexes: Vec::new(alloc),
+        }
+    }
+
+    /// All that there is.
+    pub(crate) fn mark(&self) -> LogMark
+        ensures { marked result ≡ lengths (notes self.now) }
+    {
+        LogMark {
+            errors: self.errors.mark(),
+            annotations: self.annotations.mark(),
+            names: self.names.len(),
+            indexes: self.indexes.len(),
+        }
+    }
+
+    /// Puts an error last. The only error is want of memory.
+    pub(crate) fn push_error(
+        &mut self,
+        location: Location<'_, 'a>,
+        says: Says<'_, 'a>,
+    ) -> Result<(), AllocError>
+        ensures { OnOk result (notes self.new ≡ added (notes self.old) (record nothing { errors = unit_at location.entry says.entry ∷ [] })) }
+    {
+        self.errors.push(location, says)
+    }
+
+    /// Puts an annotation last. The only error is want of memory.
+    pub(crate) fn push_annotation(
+        &mut self,
+        location: Location<'_, 'a>,
+        says: Says<'_, 'a>,
+    ) -> Result<(), AllocError>
+        ensures { OnOk result (notes self.new ≡ added (notes self.old) (record nothing { annotations = unit_at location.entry says.entry ∷ [] })) }
+    {
+        self.annotations.push(location, says)
+    }
+
+    /// A name was evaluated. The only error is want of memory.
+    pub(crate) fn push_name(&mut self, name: &'a str) -> Result<(), AllocError>
+        ensures { OnOk result (notes self.new ≡ added (notes self.old) (record nothing { names = name.now ∷ [] })) }
+    {
+        self.names.push(name)?;
+        Ok(())
+    }
+
+    /// An index was evaluated. The only error is want of memory.
+    pub(crate) fn push_index(&mut self, index: usize) -> Result<(), AllocError>
+        ensures { OnOk result (notes self.new ≡ added (notes self.old) (record nothing { indexes = index ∷ [] })) }
+    {
+        self.indexes.push(index)?;
+        Ok(())
+    }
+
+    /// Puts an error at the mark, before those that came later. The only error is want of memory.
+    pub(crate) fn insert_error(
+        &mut self,
+        mark: &LogMark,
+        location: Location<'_, 'a>,
+        says: Says<'_, 'a>,
+    ) -> Result<(), AllocError>
+        ensures { (older more : Notes) → marked mark.now ≡ lengths older → notes self.old ≡ added older more
+            → OnOk result (notes self.new ≡ added older (record more { errors = unit_at location.entry says.entry ∷ more.errors })) }
+    {
+        self.errors.insert(mark.errors, location, says)
+    }
+
+    /// Puts an annotation at the mark, before those that came later. The only error is want of memory.
+    pub(crate) fn insert_annotation(
+        &mut self,
+        mark: &LogMark,
+        location: Location<'_, 'a>,
+        says: Says<'_, 'a>,
+    ) -> Result<(), AllocError>
+        ensures { (older more : Notes) → marked mark.now ≡ lengths older → notes self.old ≡ added older more
+            → OnOk result (notes self.new ≡ added older (record more { annotations = unit_at location.entry says.entry ∷ more.annotations })) }
+    {
+        self.annotations.insert(mark.annotations, location, says)
+    }
+
+    /// Cuts off the errors that came after the mark.
+    pub(crate) fn cut_errors(&mut self, mark: &LogMark)
+        ensures { (older more : Notes) → marked mark.now ≡ lengths older → notes self.old ≡ added older more
+            → notes self.new ≡ added older (record more { errors = [] }) }
+    {
+        self.errors.cut_back(mark.errors);
+    }
+
+    /// Cuts off the annotations that came after the mark.
+    pub(crate) fn cut_annotations(&mut self, mark: &LogMark)
+        ensures { (older more : Notes) → marked mark.now ≡ lengths older → notes self.old ≡ added older more
+            → notes self.new ≡ added older (record more { annotations = [] }) }
+    {
+        self.annotations.cut_back(mark.annotations);
+    }
+
+    /// Cuts off the names and the indexes that came after the mark.
+    pub(crate) fn cut_evaluated(&mut self, mark: &LogMark)
+        ensures { (older more : Notes) → marked mark.now ≡ lengths older → notes self.old ≡ added older more
+            → notes self.new ≡ added older (record more { names = []; indexes = [] }) }
+    {
+        self.names.truncate(mark.names);
+        self.indexes.truncate(mark.indexes);
+    }
+
+    /// Of what a keyword applied to a part of the instance, once it was applied: what it evaluated in place stays; else
+    /// the part's name, or its index, takes the place of that. The index of an element that failed `contains` isn't
+    /// evaluated. The only error is want of memory.
+    pub(crate) fn settle_part(
+        &mut self,
+        keyword: Keyword,
+        part: Part<'a>,
+        mark: &LogMark,
+        passed: bool,
+    ) -> Result<(), AllocError>
+        ensures { (older : Notes) (o : Outcome) → marked mark.now ≡ lengths older → notes self.old ≡ added older (outcome_notes o) → passed ≡ o.valid
+            → OnOk result (notes self.new ≡ added older (part_notes (row_of keyword).meaning (part_view part.entry, o))) }
+    {
+        match part {
+            Part::Whole => Ok(()),
+            Part::Member(name) => {
+                self.cut_evaluated(mark);
+                self.push_name(name)
+            }
+            Part::Element(index) => {
+                self.cut_evaluated(mark);
+                if is_left_out(keyword, passed) {
+                    Ok(())
+                } else {
+                    self.push_index(index)
+                }
+            }
+            Part::NameOf(_) => {
+                self.cut_evaluated(mark);
+                Ok(())
+            }
+        }
+    }
+}
+
+// Of `contains` alone an element counts only where it passed.
+fn is_left_out(keyword: Keyword, passed: bool) -> bool
+    ensures { result ≡ (needs_to_pass (row_of keyword).meaning && not passed) }
+{
+    match keyword {
+        Keyword::Contains => !passed,
+        _ => false,
+    }
+}

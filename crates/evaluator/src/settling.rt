@@ -1,0 +1,121 @@
+//! What a keyword itself reports, annotates and evaluates, once its schemas were applied (JSON Schema 2020-12 Core, 7.7,
+//! 11 and 12.4.2).
+
+ghost use Rattle.std.specs.Prelude.{◌≡◌, ◌++◌, [], ◌∷◌, ℕ, List, drop, if◌then◌else◌, length, map, IfErr, OnOk};
+ghost use Rattle.definitions.specs.Values.{Text, Value};
+ghost use Rattle.definitions.specs.Applied.{Application, Outcome, Rules};
+ghost use Rattle.definitions.specs.Evaluated.{evaluated_indexes, evaluated_names, may_annotate};
+ghost use Rattle.definitions.specs.Outcomes.{Use, own_annotation, unit};
+ghost use Rattle.basic_output.specs.declared.says.Says as output;
+ghost use Rattle.basic_output.specs.Sayings.{says_value, unit_at};
+ghost use Rattle.keyword_plans.specs.Plans.{outcomes_of};
+ghost use Rattle.keyword_plans.specs.Rows.{row_of};
+ghost use Rattle.keyword_plans.specs.Subjects.{subject_value};
+ghost use Rattle.linker.specs.declared.linked.Linked.{Linked};
+ghost use Rattle.evaluator.specs.Logs.{marked, notes};
+ghost use Rattle.evaluator.specs.Notes.{Notes, added, evaluates, lengths, parts_notes, shown, uses_notes};
+ghost use Rattle.evaluator.specs.Rounds.{said, use_there};
+
+use crate::log::{Before, Log, LogMark};
+use basic_output::{Location, Says};
+use faults::Fault;
+use keyword_plans::{Annotation, Evaluated, Keyword, Subject, annotate};
+use std::alloc::Global;
+
+/// Puts what the keyword itself says in the place of what it applied said: `applied` is the number of schemas that it
+/// applied, after the mark. The only error is want of memory.
+pub(crate) fn settle<'a>(
+    alloc: Global,
+    log: &mut Log<'a>,
+    location: Location<'_, 'a>,
+    keyword: Keyword,
+    subject: Subject<'a>,
+    mark: &LogMark,
+    applied: u64,
+    passes: bool,
+) -> Result<(), Fault>
+    ensures noted { (l : Linked) (left : ℕ) (a : Application) (names : List Text) (indexes : List ℕ) (v : Value) (older : Notes)
+        → let u = use_there l left a keyword names indexes v in
+        a.instance ≡ subject_value subject.entry → applied ≡ length u.outcomes → passes ≡ u.passes
+        → ((says : output.Says) → unit_at location.entry says ≡ unit a (row_of keyword).name (says_value says))
+        → marked mark.now ≡ lengths older → notes log.old ≡ added older (parts_notes (row_of keyword).meaning u.outcomes)
+        → OnOk result (notes log.new ≡ added older (uses_notes a (u ∷ []))) }
+    ensures err { IfErr result (λ f. f ≡ Fault.NoRoom) }
+{
+    hide(log, keyword, mark);
+    if passes {
+        log.cut_errors(mark);
+        note_own(alloc, log, location, keyword, subject, mark, applied)
+    } else {
+        log.cut_annotations(mark);
+        log.insert_error(mark, location, Says::NotMet(keyword.name()))?;
+        Ok(())
+    }
+}
+
+// What `not` and `propertyNames` apply doesn't annotate, and `not` evaluates nothing.
+fn hide(log: &mut Log<'_>, keyword: Keyword, mark: &LogMark)
+    ensures { (older more : Notes) → marked mark.now ≡ lengths older → notes log.old ≡ added older more
+        → notes log.new ≡ added older (shown (row_of keyword).meaning more) }
+{
+    match keyword {
+        Keyword::Not => {
+            log.cut_annotations(mark);
+            log.cut_evaluated(mark);
+        }
+        Keyword::PropertyNames => log.cut_annotations(mark),
+        _ => {}
+    }
+}
+
+// The keyword's own annotation stands before those of what it applied.
+fn note_own<'a>(
+    alloc: Global,
+    log: &mut Log<'a>,
+    location: Location<'_, 'a>,
+    keyword: Keyword,
+    subject: Subject<'a>,
+    mark: &LogMark,
+    applied: u64,
+) -> Result<(), Fault>
+    ensures noted { (l : Linked) (left : ℕ) (a : Application) (names : List Text) (indexes : List ℕ) (v : Value) (older more : Notes)
+        → let u = use_there l left a keyword names indexes v in
+        a.instance ≡ subject_value subject.entry → applied ≡ length u.outcomes
+        → ((says : output.Says) → unit_at location.entry says ≡ unit a (row_of keyword).name (says_value says))
+        → marked mark.now ≡ lengths older → notes log.old ≡ added older more → more.names ≡ u.names → more.indexes ≡ u.indexes
+        → OnOk result (notes log.new ≡ added older (record more { annotations = own_annotation a u u.annotation ++ more.annotations })) }
+    ensures err { IfErr result (λ f. f ≡ Fault.NoRoom) }
+{
+    let evaluated = evaluated_since(&log.names, &log.indexes, mark.before());
+    match annotate(alloc, keyword, subject, applied, evaluated)? {
+        Annotation::None => Ok(()),
+        Annotation::Says(says) => Ok(log.annotations.insert(mark.annotations, location, says)?),
+        Annotation::Names(names) => {
+            Ok(
+                log.annotations
+                    .insert(mark.annotations, location, Says::Names(&names))?,
+            )
+        }
+    }
+}
+
+/// The names and the indexes that were evaluated later.
+pub(crate) fn evaluated_since<'s, 'a>(
+    names: &'s [&'a str],
+    indexes: &'s [usize],
+    before: Before,
+) -> Evaluated<'s, 'a>
+    ensures names { map (λ n. n.now) result.names.now ≡ drop before.names (map (λ n. n.now) names.now) }
+    ensures indexes { result.indexes.now ≡ drop before.indexes indexes.now }
+{
+    Evaluated {
+        names: since(names, before.names),
+        indexes: since(indexes, before.indexes),
+    }
+}
+
+fn since<T>(items: &[T], number: usize) -> &[T]
+    ensures { result.now ≡ drop number items.now }
+{
+    &items[number.min(items.len())..]
+}

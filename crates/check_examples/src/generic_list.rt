@@ -1,0 +1,55 @@
+//! The examples in `examples/generic-list`, written by `examples/write_tests.py`.
+
+use crate::answers::check_files;
+use checks::DEFAULT_URI;
+use std::test::Fail;
+
+const SCHEMA: &str = r##"{
+  "$id": "https://example.com/list-of-dates",
+  "$ref": "list-of-t",
+  "$defs": {
+    "date": {
+      "$dynamicAnchor": "t",
+      "type": "string",
+      "pattern": "^[0-9]{4}-[0-9]{2}-[0-9]{2}$"
+    },
+    "list-of-t": {
+      "$id": "list-of-t",
+      "type": "object",
+      "required": ["items"],
+      "properties": {
+        "items": {
+          "type": "array",
+          "items": { "$dynamicRef": "#t" }
+        }
+      },
+      "$defs": {
+        "anything": { "$dynamicAnchor": "t" }
+      }
+    }
+  }
+}"##;
+
+#[test]
+fn files_have_their_answers(rt: HostRuntime) -> Result<(), Fail> {
+    for (uri, schema, instance, answer) in [
+        (
+            DEFAULT_URI,
+            SCHEMA,
+            r#"{ "items": ["2024-02-29", "2025-01-01"] }"#,
+            r#"{"annotations":[{"absoluteKeywordLocation":"https://example.com/list-of-t#/properties","annotation":["items"],"instanceLocation":"","keywordLocation":"/$ref/properties"},{"absoluteKeywordLocation":"https://example.com/list-of-t#/properties/items/items","annotation":true,"instanceLocation":"/items","keywordLocation":"/$ref/properties/items/items"}],"valid":true}"#,
+        ),
+        (
+            DEFAULT_URI,
+            SCHEMA,
+            r#"{ "items": ["2024-02-29", "tomorrow"] }"#,
+            r#"{"errors":[{"absoluteKeywordLocation":"https://example.com/list-of-dates#/$ref","error":"$ref is not met","instanceLocation":"","keywordLocation":"/$ref"},{"absoluteKeywordLocation":"https://example.com/list-of-t#/properties","error":"properties is not met","instanceLocation":"","keywordLocation":"/$ref/properties"},{"absoluteKeywordLocation":"https://example.com/list-of-t#/properties/items/items","error":"items is not met","instanceLocation":"/items","keywordLocation":"/$ref/properties/items/items"},{"absoluteKeywordLocation":"https://example.com/list-of-t#/properties/items/items/$dynamicRef","error":"$dynamicRef is not met","instanceLocation":"/items/1","keywordLocation":"/$ref/properties/items/items/$dynamicRef"},{"absoluteKeywordLocation":"https://example.com/list-of-dates#/$defs/date/pattern","error":"pattern is not met","instanceLocation":"/items/1","keywordLocation":"/$ref/properties/items/items/$dynamicRef/pattern"}],"valid":false}"#,
+        ),
+    ] {
+        assert_eq!(rt;
+            check_files(rt.alloc(), uri, schema, instance)?.as_str(),
+            answer
+        );
+    }
+    Ok(())
+}

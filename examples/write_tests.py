@@ -1,0 +1,152 @@
+#!/usr/bin/env python3
+"""Writes the crate `check_examples`, whose tests are the examples of this folder.
+
+    python3 examples/write_tests.py
+
+Run it after an example was added or changed. `run.py` says where the crate is behind.
+"""
+
+from pathlib import Path
+
+FOLDER = Path(__file__).resolve().parent
+SOURCES = FOLDER.parent / "crates" / "check_examples" / "src"
+WIDTH = 100
+NARROW = 60
+WRITTEN = "written by `examples/write_tests.py`"
+
+
+def text_of(file):
+    """The text of a file without its last line feed."""
+    return file.read_text(encoding="utf-8").removesuffix("\n")
+
+
+def literal(text):
+    """The text as a literal of Rattle."""
+    if '"' not in text and "\\" not in text:
+        return f'"{text}"'
+    hashes = ""
+    while '"' + hashes in text:
+        hashes += "#"
+    return f'r{hashes}"{text}"{hashes}'
+
+
+def constant(name, text):
+    head = f"const {name}: &str ="
+    value = literal(text) + ";"
+    fits = len(f"{head} {value}".splitlines()[0]) <= WIDTH
+    return f"{head} {value}" if fits else f"{head}\n    {value}"
+
+
+def rust_name(path):
+    return path.replace("-", "_").replace("/", "_")
+
+
+def leaves(folder):
+    """The folders at or below this one that hold instances, by name."""
+    found = {file.parent for file in folder.rglob("*.json")}
+    return sorted(found)
+
+
+def instances(leaf):
+    return [file for file in sorted(leaf.glob("*.json")) if file.name != "schema.json"]
+
+
+def table(names, call, rows):
+    """A test that goes over a table, in the layout of `rt fmt`."""
+    head = f"    for ({', '.join(names)}) in ["
+    if len(rows) == 1:
+        lines = [f"{head}(", *(f"        {part}," for part in rows[0]), "    )] {"]
+    else:
+        lines = [head]
+        for row in rows:
+            inner = ", ".join(row)
+            if "\n" not in inner and len(inner) <= NARROW:
+                lines.append(f"        ({inner}),")
+            else:
+                lines += ["        (", *(f"            {part}," for part in row), "        ),"]
+        lines.append("    ] {")
+    if len(f"{call}, answer") <= NARROW:
+        lines.append(f"        assert_eq!(rt; {call}, answer);")
+    else:
+        lines += ["        assert_eq!(rt;", f"            {call},", "            answer", "        );"]
+    return [*lines, "    }"]
+
+
+def test(name, body):
+    head = f"fn {name}(rt: HostRuntime) -> Result<(), Fail> {{"
+    return ["#[test]", head, *body, "    Ok(())", "}", ""]
+
+
+def module(folder):
+    """The source of the tests of one use."""
+    constants, files, inputs = [], [], []
+    has_default = False
+    for leaf in leaves(folder):
+        within = str(leaf.relative_to(folder))
+        schema = leaf / "schema.json"
+        if schema.exists():
+            name = "SCHEMA" if within == "." else rust_name(within).upper()
+            constants += [constant(name, text_of(schema)), ""]
+        for instance in instances(leaf):
+            texts = [literal(text_of(instance)), literal(text_of(instance.with_suffix(".answer")))]
+            if not schema.exists():
+                inputs.append(texts)
+                continue
+            uri = leaf / "uri"
+            has_default = has_default or not uri.exists()
+            files.append([literal(text_of(uri)) if uri.exists() else "DEFAULT_URI", name, *texts])
+    helpers = ["check_files"] * bool(files) + ["check_standard_input"] * bool(inputs)
+    imported = helpers[0] if len(helpers) == 1 else "{" + ", ".join(helpers) + "}"
+    lines = [f"//! The examples in `examples/{folder.name}`, {WRITTEN}.", ""]
+    lines.append(f"use crate::answers::{imported};")
+    lines += ["use checks::DEFAULT_URI;"] * has_default
+    lines += ["use std::test::Fail;", "", *constants]
+    if files:
+        call = "check_files(rt.alloc(), uri, schema, instance)?.as_str()"
+        rows = table(["uri", "schema", "instance", "answer"], call, files)
+        lines += test("files_have_their_answers", rows)
+    if inputs:
+        call = "check_standard_input(rt.alloc(), input)?.as_str()"
+        rows = table(["input", "answer"], call, inputs)
+        lines += test("inputs_have_their_answers", rows)
+    return "\n".join(lines)
+
+
+def library(names):
+    lines = [
+        "//! The examples of the folder `examples` as tests of the crate `checks`: each file but `answers.rt` is",
+        f"//! {WRITTEN}.",
+        "#![tactic(auto)]",
+        "",
+    ]
+    for name in sorted(["answers", *names]):
+        lines += ["#[cfg(test)]", f"mod {name};"]
+    return "\n".join(lines) + "\n"
+
+
+def sources():
+    """The text of each file that is written, by its name."""
+    folders = [it for it in sorted(FOLDER.iterdir()) if it.is_dir() and leaves(it)]
+    texts = {f"{rust_name(it.name)}.rt": module(it) for it in folders}
+    texts["lib.rt"] = library([name.removesuffix(".rt") for name in texts])
+    return texts
+
+
+def stale():
+    """The files of the crate that aren't what the examples give."""
+    wanted = sources()
+    there = {file.name for file in SOURCES.glob("*.rt")} - {"answers.rt"}
+    changed = [it for it, text in wanted.items() if it in there and (SOURCES / it).read_text(encoding="utf-8") != text]
+    return sorted({*changed, *(there ^ wanted.keys())})
+
+
+def main():
+    SOURCES.mkdir(parents=True, exist_ok=True)
+    for name in stale():
+        (SOURCES / name).unlink(missing_ok=True)
+    for name, text in sources().items():
+        (SOURCES / name).write_text(text, encoding="utf-8")
+
+
+if __name__ == "__main__":
+    main()

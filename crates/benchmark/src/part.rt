@@ -1,0 +1,25 @@
+//! The parts of a check.
+
+/// A part of a check.
+#[derive(Clone, Copy, Debug, PartialEq, Eq)]
+pub enum Part {
+    /// The text of the instance is read.
+    Read,
+    /// The schema is scanned, compiled and linked.
+    Compile,
+    /// The instance is evaluated by the linked schema, up to the text of the output.
+    Validate,
+    /// All of it, from the text that holds the schema and the instance.
+    Check,
+}
+
+/// The part that has this name.
+pub fn named(name: &str) -> Option<Part> {
+    match name {
+        "read" => Some(Part::Read),
+        "compile" => Some(Part::Compile),
+        "validate" => Some(Part::Validate),
+        "check" => Some(Part::Check),
+        _ => None,
+    }
+}

@@ -1,0 +1,37 @@
+//! Why the program ends without a number.
+
+use faults::Fault;
+use std::{fmt, io};
+
+/// Why the program ends without a number. Its `Display` is what is printed.
+#[derive(Debug, Drop)]
+pub enum Stop {
+    /// The words of the command line are not a part of a check and a number of at most 32 bits.
+    Words,
+    /// The words or standard input cannot be read, or standard output cannot be written.
+    Unmoved,
+    /// The check is refused.
+    Refused(Fault),
+}
+
+impl fmt::Display for Stop {
+    fn fmt<W: fmt::Write>(&self, f: &mut fmt::Formatter<W>) -> fmt::Result {
+        match self {
+            Stop::Words => f.write_str("usage: benchmark read|compile|validate|check TIMES"),
+            Stop::Unmoved => f.write_str("cannot read or write"),
+            Stop::Refused(fault) => write!(f, "refused: {fault}"),
+        }
+    }
+}
+
+impl From<Fault> for Stop {
+    fn from(fault: Fault) -> Self {
+        Stop::Refused(fault)
+    }
+}
+
+impl From<io::Error> for Stop {
+    fn from(_error: io::Error) -> Self {
+        Stop::Unmoved
+    }
+}

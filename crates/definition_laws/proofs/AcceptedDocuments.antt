@@ -83,7 +83,7 @@ scanned_by object others uris anchors e =
 pub scanned : (d : Document) → scan_faults d.base d.value ≡ [] → IsScanned d
 scanned d e =
     let parts = scanned_by (is_object d.value)
-    (when (nat_lt most_nested_schema (nesting d.value)) too_nested ++ walked keywords (suc (nesting d.value)) d.base [] (schema_at d.base [] d.value))
+    (when (nat_lt most_nested_schema (nesting d.value)) too_nested ++ walked (suc (nesting d.value)) d.base [] (schema_at d.base [] d.value))
     (has_repeat same_text (resources_of d)) (has_repeat same_anchor (flat_map anchors_of (schemas_of d.base d.value))) e in
     record { object = parts.0; uris = parts.1.0; anchors = parts.1.1 }
 

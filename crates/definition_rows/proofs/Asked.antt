@@ -6,8 +6,7 @@ use Rattle.definitions.specs.Texts.{text, reading}
 use Rattle.definitions.specs.Faults.{Fault, name_of, carried}
 use Rattle.definitions.specs.Pointers.{fragment_text}
 use Rattle.definitions.specs.Schemas.{Document, document_from, table_of}
-use Rattle.definitions.specs.Keywords.{Keyword}
-use Rattle.definitions.specs.Scanning.{scan_fault, scan_fault_by}
+use Rattle.definitions.specs.Scanning.{scan_fault}
 use Rattle.definitions.specs.Targets.{target}
 use Rattle.definitions.specs.Registries as registry
 use Rattle.definitions.specs.Registries.{Request, Reply}
@@ -42,9 +41,6 @@ rewritten t = read_again (reading t)
 -- ---- scanning
 abbrev pub scanned : Text → Text → Option (Option Told)
 scanned base t = option_map (λ v. option_map told (scan_fault base v)) (parsed t)
-
-abbrev pub scanned_by : List Keyword → Text → Text → Option (Option Told)
-scanned_by rows base t = option_map (λ v. option_map told (scan_fault_by rows base v)) (parsed t)
 
 -- ---- validation
 -- the documents with these bases and texts

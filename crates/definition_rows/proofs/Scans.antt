@@ -1,13 +1,10 @@
 -- The first fault of a schema document.
 use Rattle.std.proofs.Common.{◌≡◌, refl}
-use Rattle.std.specs.Prelude.{List, [], ◌∷◌, codes, Some, None}
+use Rattle.std.specs.Prelude.{codes, Some, None}
 use Rattle.std.specs.Fmt.{digits}
 use Rattle.std.specs.Str.{is_utf8, chars}
 use Rattle.serde_json.proofs.OnLiterals.{serde_json_on_literals}
-use Rattle.definitions.specs.Keywords.{Keyword, asserting, row, properties}
-use Rattle.definitions.specs.Assertions.{type_is, required}
-use Rattle.definitions.specs.Shapes.{schema_map}
-use Rattle.definition_rows.proofs.Asked.{scanned, scanned_by, refused}
+use Rattle.definition_rows.proofs.Asked.{scanned, refused}
 
 keyword_that_is_no_schema : scanned (codes "https://ex.org/s") (codes "{\"not\":5}")
     ≡ Some (Some (refused (codes "BadKeyword") (Some (codes "/not"))))
@@ -74,42 +71,12 @@ both_anchors_of_one_object : scanned (codes "https://ex.org/s") (codes "{\"$anch
 unfolding serde_json_on_literals digits is_utf8 chars
 both_anchors_of_one_object = refl
 
--- ---- by a table that has three keywords
-abbrev three_keywords : List Keyword
-three_keywords =
-    asserting (codes "type") type_is ∷ asserting (codes "required") required ∷ row (codes "properties") schema_map properties ∷ []
-
-title : scanned_by three_keywords (codes "https://ex.org/s") (codes "{\"title\":\"t\"}")
-    ≡ Some (Some (refused (codes "Unsupported") None))
-unfolding serde_json_on_literals digits is_utf8 chars
-title = refl
-
-other_keyword : scanned_by three_keywords (codes "https://ex.org/s") (codes "{\"not\":5}")
-    ≡ Some (Some (refused (codes "Unsupported") None))
-unfolding serde_json_on_literals digits is_utf8 chars
-other_keyword = refl
-
-other_keyword_below : scanned_by three_keywords (codes "https://ex.org/s") (codes "{\"properties\":{\"a\":{\"$id\":\"e\"}}}")
-    ≡ Some (Some (refused (codes "Unsupported") None))
-unfolding serde_json_on_literals digits is_utf8 chars
-other_keyword_below = refl
-
-dialect_at_the_root : scanned_by three_keywords (codes "https://ex.org/s") (codes "{\"$schema\":\"x:y\"}")
-    ≡ Some (Some (refused (codes "Unsupported") None))
-unfolding serde_json_on_literals digits is_utf8 chars
-dialect_at_the_root = refl
-
-shape_before_unsupported : scanned_by three_keywords (codes "https://ex.org/s") (codes "{\"properties\":{\"d\":{\"type\":\"int\"}},\"title\":\"t\"}")
-    ≡ Some (Some (refused (codes "BadKeyword") (Some (codes "/properties/d/type"))))
-unfolding serde_json_on_literals digits is_utf8 chars
-shape_before_unsupported = refl
-
-shape_above_before_below : scanned_by three_keywords (codes "https://ex.org/s") (codes "{\"properties\":{\"d\":{\"type\":\"int\"}},\"required\":1}")
+shape_above_before_below : scanned (codes "https://ex.org/s") (codes "{\"properties\":{\"d\":{\"type\":\"int\"}},\"required\":1}")
     ≡ Some (Some (refused (codes "BadKeyword") (Some (codes "/required"))))
 unfolding serde_json_on_literals digits is_utf8 chars
 shape_above_before_below = refl
 
-ignored_names : scanned_by three_keywords (codes "https://ex.org/s") (codes "{\"$comment\":1,\"properties\":{\"a\":{\"$schema\":5}}}")
+ignored_names : scanned (codes "https://ex.org/s") (codes "{\"$comment\":1,\"properties\":{\"a\":{\"$schema\":5}}}")
     ≡ Some None
 unfolding serde_json_on_literals digits is_utf8 chars
 ignored_names = refl

@@ -39,7 +39,6 @@ pub data Fault : Type 0 where
   no_room : Fault
   id_in_use : Fault
   no_session : Fault
-  unsupported : Fault
   library_owned : Fault
   bad_tenants : Fault
   bad_route : Fault
@@ -49,7 +48,7 @@ pub data Fault : Type 0 where
   read_bound : Fault
   bad_input : Fault
 
--- the number and the name
+-- the number and the name; 33 is no fault's
 abbrev pub label_of : Fault → ℕ × Text
 label_of bad_json = (1, codes "BadJson")
 label_of bad_number = (2, codes "BadNumber")
@@ -83,7 +82,6 @@ label_of quota_bytes = (29, codes "QuotaBytes")
 label_of no_room = (30, codes "NoRoom")
 label_of id_in_use = (31, codes "IdInUse")
 label_of no_session = (32, codes "NoSession")
-label_of unsupported = (33, codes "Unsupported")
 label_of library_owned = (34, codes "LibraryOwned")
 label_of bad_tenants = (35, codes "BadTenants")
 label_of bad_route = (36, codes "BadRoute")

@@ -2,14 +2,14 @@
 use Rattle.std.specs.Prelude.{ℕ, suc, zero, List, [], ◌∷◌, ◌++◌, Bool, true, false, ◌&&◌, ◌||◌, not, if◌then◌else◌, Option, Some, None, nat_lt, unwrap_or, option_map, codes, map, flat_map, filter}
 use Rattle.std.specs.List.{list_any}
 use Rattle.definitions.specs.Values.{Text, has_repeat, Value, string, same_text, text_at, members, is_object, nesting, get}
-use Rattle.definitions.specs.Faults.{Fault, not_object, too_nested, bad_keyword, bad_id, bad_anchor, dialect, duplicate_uri, duplicate_anchor, unsupported}
+use Rattle.definitions.specs.Faults.{Fault, not_object, too_nested, bad_keyword, bad_id, bad_anchor, dialect, duplicate_uri, duplicate_anchor}
 use Rattle.definitions.specs.Pointers.{Pointer, pointer_text}
-use Rattle.definitions.specs.Uris.{split, is_identifier, begins}
+use Rattle.definitions.specs.Uris.{split, is_identifier}
 use Rattle.definitions.specs.Resolution.{resolve}
 use Rattle.definitions.specs.Shapes.{Shape, has_shape, is_anchor_name, identifier, anchor_name}
 use Rattle.definitions.specs.Shapes as shapes
-use Rattle.definitions.specs.Keywords.{Keyword, keywords, keyword_named, is_keyword_of}
-use Rattle.definitions.specs.Schemas.{Schema, schema_at, schemas_of, schemas_by, subschemas_by, is_root, option_list}
+use Rattle.definitions.specs.Keywords.{Keyword, keywords, keyword_named}
+use Rattle.definitions.specs.Schemas.{Schema, schema_at, schemas_of, subschemas_by, is_root, option_list}
 
 abbrev pub most_nested_schema : ℕ
 most_nested_schema = 120
@@ -53,18 +53,18 @@ keyword_faults None base way s v = []
 keyword_faults (Some k) base way s v = shape_faults k.shape base way s v
 
 -- so many levels; `way` leads from the document's root to the schema, and the base is that of the schema around
-abbrev pub walked : List Keyword → ℕ → Text → Pointer → Schema → List Fault
-walked rows zero base way s = []
-walked rows (suc n) base way s =
-    flat_map (λ m. keyword_faults (keyword_named m.0 rows) base (way ++ m.0 ∷ []) s m.1) (members s.value)
-    ++ flat_map (λ t. walked rows n s.resource (way ++ t.0) t.1) (subschemas_by rows s)
+abbrev pub walked : ℕ → Text → Pointer → Schema → List Fault
+walked zero base way s = []
+walked (suc n) base way s =
+    flat_map (λ m. keyword_faults (keyword_named m.0 keywords) base (way ++ m.0 ∷ []) s m.1) (members s.value)
+    ++ flat_map (λ t. walked n s.resource (way ++ t.0) t.1) (subschemas_by keywords s)
 
--- of the document's form, by the keywords of a table
-abbrev pub form_faults : List Keyword → Text → Value → List Fault
-form_faults rows base v =
+-- of the document's form
+abbrev pub form_faults : Text → Value → List Fault
+form_faults base v =
     unless (is_object v) not_object
     ++ (when (nat_lt most_nested_schema (nesting v)) too_nested
-    ++ walked rows (suc (nesting v)) base [] (schema_at base [] v))
+    ++ walked (suc (nesting v)) base [] (schema_at base [] v))
 
 -- ---- names that stand twice
 -- the URIs that the schemas open
@@ -87,33 +87,16 @@ name_faults table =
     when (has_repeat same_text (resource_uris table)) duplicate_uri
     ++ when (has_repeat same_anchor (flat_map anchors_of table)) duplicate_anchor
 
--- ---- names that a table of keywords doesn't have yet
--- `$schema` below a resource's root, and what begins with `$` (36) and is no keyword
-abbrev pub is_ignored : Schema → Text → Bool
-is_ignored s name =
-    if same_text name (codes "$schema") then not (is_root s) else begins name (codes "$") && not (is_keyword_of keywords name)
-
-abbrev pub is_unsupported : List Keyword → Schema → Text → Bool
-is_unsupported rows s name = not (is_keyword_of rows name || is_ignored s name)
-
-abbrev pub unsupported_faults : List Keyword → Text → Value → List Fault
-unsupported_faults rows base v =
-    when (list_any (λ t. list_any (λ m. is_unsupported rows t.1 m.0) (members t.1.value)) (schemas_by rows (schema_at base [] v))) unsupported
-
 -- ---- all of them, in the order in which the first one counts
 abbrev pub first : {A : Type 0} → List A → Option A
 first [] = None
 first (x ∷ xs) = Some x
 
 abbrev pub scan_faults : Text → Value → List Fault
-scan_faults base v = form_faults keywords base v ++ name_faults (schemas_of base v)
+scan_faults base v = form_faults base v ++ name_faults (schemas_of base v)
 
 abbrev pub scan_fault : Text → Value → Option Fault
 scan_fault base v = first (scan_faults base v)
-
--- the same where only the keywords of a table are in that name no anchor and open no resource
-abbrev pub scan_fault_by : List Keyword → Text → Value → Option Fault
-scan_fault_by rows base v = first (form_faults rows base v ++ unsupported_faults rows base v)
 
 -- ---- the patterns: what stands under `pattern`, and the names under `patternProperties`
 abbrev pub patterns_of : Schema → List Text

@@ -3,7 +3,7 @@ use Rattle.std.specs.Prelude.{Option, Some, None, [], ◌∷◌, ◌++◌, strin
 use Rattle.definitions.specs.Values.{Text}
 use Rattle.definitions.specs.Faults as meaning
 use Rattle.faults.specs.declared.Fault.{Fault}
-use Rattle.faults.specs.declared.Fault.TheVariants.{BadJson, BadNumber, BadPointer, BadFragment, BadPattern, NotObject, TooNested, BadKeyword, BadId, BadAnchor, Dialect, DuplicateUri, DuplicateAnchor, NotFound, Unresolved, Costly, Loop, Deep, BundleClash, BundleTooLarge, BadCapacity, DuplicateTenant, TooManyTenants, UnknownTenant, BadUri, TooLarge, Taken, QuotaDocuments, QuotaBytes, NoRoom, IdInUse, NoSession, Unsupported, LibraryOwned, BadTenants, BadRoute, BadRequest, ReadFailed, WriteFailed, ReadBound, BadInput}
+use Rattle.faults.specs.declared.Fault.TheVariants.{BadJson, BadNumber, BadPointer, BadFragment, BadPattern, NotObject, TooNested, BadKeyword, BadId, BadAnchor, Dialect, DuplicateUri, DuplicateAnchor, NotFound, Unresolved, Costly, Loop, Deep, BundleClash, BundleTooLarge, BadCapacity, DuplicateTenant, TooManyTenants, UnknownTenant, BadUri, TooLarge, Taken, QuotaDocuments, QuotaBytes, NoRoom, IdInUse, NoSession, LibraryOwned, BadTenants, BadRoute, BadRequest, ReadFailed, WriteFailed, ReadBound, BadInput}
 
 abbrev pub fault : Fault → meaning.Fault
 fault BadJson = meaning.bad_json
@@ -38,7 +38,6 @@ fault QuotaBytes = meaning.quota_bytes
 fault NoRoom = meaning.no_room
 fault IdInUse = meaning.id_in_use
 fault NoSession = meaning.no_session
-fault Unsupported = meaning.unsupported
 fault LibraryOwned = meaning.library_owned
 fault BadTenants = meaning.bad_tenants
 fault BadRoute = meaning.bad_route

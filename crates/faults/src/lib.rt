@@ -77,8 +77,6 @@ pub enum Fault {
     IdInUse,
     /// No connection of this id is open.
     NoSession,
-    /// The schema holds a keyword that is not supported.
-    Unsupported,
     /// The document belongs to the fixed library.
     LibraryOwned,
     /// The tenants' file, or a tenant's key, has the wrong shape.
@@ -162,7 +160,6 @@ impl Fault {
             Fault::NoRoom => (30, "NoRoom"),
             Fault::IdInUse => (31, "IdInUse"),
             Fault::NoSession => (32, "NoSession"),
-            Fault::Unsupported => (33, "Unsupported"),
             Fault::LibraryOwned => (34, "LibraryOwned"),
             Fault::BadTenants => (35, "BadTenants"),
             Fault::BadRoute => (36, "BadRoute"),

@@ -72,9 +72,8 @@ impl Members {
         ensures ordered { HasNamesInOrder (members_value self.now) }
         ensures utf8 { HasTextsAsNames (members_value self.now) }
     {
-        MembersIter {
-            entries: self.entries.iter(),
-        }
+        let entries = self.entries.iter();
+        MembersIter { entries }
     }
 
     /// Puts a member in, in place of the one of the same name, if there is one: the last of repeated names wins

@@ -1,8 +1,9 @@
 -- Laws of the groups that a schema object has keywords of.
-use Rattle.std.proofs.Common.{◌≡◌, ◌+◌, ◌<◌, ◌≤◌, ◌==◌, ◌&&◌, ◌||◌, ℕ, zero, suc, List, [], ◌∷◌, ◌++◌, Bool, true, false, None, append-nil, length, get_or, set, cond, refl, sym, ap, subst, ◌∙◌, arith}
-use Rattle.std.specs.List.{list_all}
+use Rattle.std.proofs.Common.{◌≡◌, ◌+◌, ◌<◌, ◌≤◌, ◌==◌, ◌&&◌, ◌||◌, ℕ, zero, suc, List, [], ◌∷◌, ◌++◌, Bool, true, false, None, append-nil, length, get_or, set, cond, nat_lt, refl, sym, ap, subst, ◌∙◌, arith}
+use Rattle.std.specs.List.{list_all, list_any}
 use Rattle.std.proofs.Math.ListN.{get_or-append}
 use Rattle.std.proofs.lemmas.List.{length-set, get_or-set_same}
+use Rattle.std.proofs.lemmas.Bool.{ltb-true, lt-ltb, ltb_from_iff}
 use Rattle.std.proofs.lemmas.Bool.Decides.{Decides-eqb}
 use Rattle.std.proofs.lemmas.Slice.Eq.{bytes_eq-Decides}
 use Rattle.definitions.specs.Values.{Text, Value, entry, get, members, same_text}
@@ -72,6 +73,21 @@ place_within : (name : Text) (gs : List Group) → place_in name gs ≤ length g
 unfolding place_in
 place_within name [] = omega arith
 place_within name (g ∷ gs) = next_place (has_name name g) (place_in name gs) (length gs) (place_within name gs)
+
+one_less : (p n : ℕ) → nat_lt p n ≡ nat_lt (suc p) (suc n)
+one_less p n = ltb_from_iff ((λ e. let l : p < n = ltb-true p n e in omega (arith, l)), (λ l. let m : p < n = omega (arith, l) in lt-ltb p n m))
+
+nearer : (b r : Bool) (p n : ℕ) → nat_lt p n ≡ r → nat_lt (cond b 0 (suc p)) (suc n) ≡ (b || r)
+nearer true r p n h = lt-ltb 0 (suc n) (omega arith)
+nearer false r p n h = sym (one_less p n) ∙ h
+
+has_place : (name : Text) (gs : List Group) → nat_lt (place_in name gs) (length gs) ≡ list_any (has_name name) gs
+unfolding place_in
+has_place name [] = refl
+has_place name (g ∷ gs) = nearer (has_name name g) (list_any (has_name name) gs) (place_in name gs) (length gs) (has_place name gs)
+
+pub place_tells : (name : Text) → nat_lt (place_in name places) 35 ≡ list_any (has_name name) places
+place_tells name = ap (nat_lt (place_in name places)) (sym how_many) ∙ has_place name places
 
 -- ---- the marks of all members
 abbrev pub marked : List Bool → List (Text × Value) → List Bool

@@ -8,12 +8,13 @@ ghost use Rattle.definitions.specs.Outcomes.{other_annotations, unit};
 ghost use Rattle.json_doc.specs.Docs.{value, members_value};
 ghost use Rattle.applications.specs.Frames.{frame, standing};
 ghost use Rattle.applications.specs.Standings.{standing_of};
-ghost use Rattle.evaluator.specs.Annotations.{annotations_among};
+ghost use Rattle.evaluator.specs.Annotations.{annotations_among, declaring};
 ghost use Rattle.evaluator.specs.Logs.{notes};
 ghost use Rattle.evaluator.specs.Notes.{added, nothing};
 ghost use Rattle.keyword_plans.specs.Subjects.{subject_value};
 
 use crate::log::Log;
+use crate::places::is_evaluated;
 use applications::Context;
 use basic_output::Says;
 use json_doc::{Doc, Members};
@@ -90,46 +91,14 @@ fn annotates(name: &str, schema: &Doc, subject: Subject<'_>) -> bool
 fn is_keyword(name: &str) -> bool
     ensures { result ≡ is_keyword_of keywords name.now }
 {
+    is_evaluated(name) || only_declares(name)
+}
+
+#[tactic(auto, unfolding(crate::specs::Annotations::declaring))]
+fn only_declares(name: &str) -> bool
+    ensures { result ≡ is_keyword_of declaring name.now }
+{
     match name {
-        "$ref" => true,
-        "$dynamicRef" => true,
-        "type" => true,
-        "enum" => true,
-        "const" => true,
-        "multipleOf" => true,
-        "maximum" => true,
-        "exclusiveMaximum" => true,
-        "minimum" => true,
-        "exclusiveMinimum" => true,
-        "maxLength" => true,
-        "minLength" => true,
-        "pattern" => true,
-        "maxProperties" => true,
-        "minProperties" => true,
-        "required" => true,
-        "dependentRequired" => true,
-        "maxItems" => true,
-        "minItems" => true,
-        "uniqueItems" => true,
-        "allOf" => true,
-        "anyOf" => true,
-        "oneOf" => true,
-        "not" => true,
-        "if" => true,
-        "then" => true,
-        "else" => true,
-        "dependentSchemas" => true,
-        "prefixItems" => true,
-        "items" => true,
-        "contains" => true,
-        "minContains" => true,
-        "maxContains" => true,
-        "properties" => true,
-        "patternProperties" => true,
-        "additionalProperties" => true,
-        "propertyNames" => true,
-        "unevaluatedItems" => true,
-        "unevaluatedProperties" => true,
         "$defs" => true,
         "definitions" => true,
         "contentSchema" => true,

@@ -8,6 +8,7 @@ mod beside;
 mod found;
 mod groups;
 mod log;
+mod places;
 mod present;
 mod report;
 mod settling;

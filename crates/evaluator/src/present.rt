@@ -1,17 +1,18 @@
 //! Which keywords a schema object has, found in one walk over its members.
 
-ghost use Rattle.std.specs.Prelude.{◌≡◌, ◌≤◌, ◌||◌, true, false, get_or};
+ghost use Rattle.std.specs.Prelude.{◌≡◌, ◌||◌, true, false, get_or};
 ghost use Rattle.definitions.specs.Values.{members};
 ghost use Rattle.json_doc.specs.Docs.{value, members_value};
-ghost use Rattle.evaluator.specs.Groups.{are_marked, place_in, places};
+ghost use Rattle.evaluator.specs.Groups.{are_marked};
 
+use crate::places::{PLACES, UNEVALUATED_ITEMS, UNEVALUATED_PROPERTIES, place_of};
 use json_doc::{Doc, Members};
 
 /// The groups of which a schema object has a keyword: each group has a place, and after them stands one for the names that
 /// belong to none.
 #[derive(Drop)]
 pub(crate) struct Present {
-    marks: [bool; 36],
+    marks: [bool; PLACES],
 }
 
 impl Present {
@@ -23,7 +24,9 @@ impl Present {
             Some(members) => Present {
                 marks: marks_of(members),
             },
-            None => Present { marks: [false; 36] },
+            None => Present {
+                marks: [false; PLACES],
+            },
         }
     }
 
@@ -41,108 +44,16 @@ impl Present {
     pub(crate) fn looks_at_evaluated(&self) -> bool
         ensures { result ≡ (get_or self.now.marks 33 false || get_or self.now.marks 34 false) }
     {
-        self.has(33) || self.has(34)
+        self.has(UNEVALUATED_ITEMS) || self.has(UNEVALUATED_PROPERTIES)
     }
 }
 
-fn marks_of(members: &Members) -> [bool; 36]
+fn marks_of(members: &Members) -> [bool; PLACES]
     ensures { are_marked result (members_value members.now) ≡ true }
 {
-    let mut marks = [false; 36];
+    let mut marks = [false; PLACES];
     for (name, _) in members.iter() {
         marks[place_of(name)] = true;
     }
     marks
-}
-
-// The place of the group that a name belongs to. Few names have the same length.
-#[tactic(auto, unfolding(crate::specs::Groups::in_order, crate::specs::Groups::places, crate::specs::Groups::place_in))]
-fn place_of(name: &str) -> usize
-    ensures place { result ≡ place_in name.now places }
-    ensures within { result ≤ 35 }
-{
-    match name.len() {
-        2 => match name {
-            "if" => 24,
-            _ => 35,
-        },
-        3 => match name {
-            "not" => 23,
-            _ => 35,
-        },
-        4 => match name {
-            "$ref" => 0,
-            "type" => 2,
-            "enum" => 3,
-            "then" => 24,
-            "else" => 24,
-            _ => 35,
-        },
-        5 => match name {
-            "const" => 4,
-            "allOf" => 20,
-            "anyOf" => 21,
-            "oneOf" => 22,
-            "items" => 27,
-            _ => 35,
-        },
-        7 => match name {
-            "maximum" => 6,
-            "minimum" => 8,
-            "pattern" => 12,
-            _ => 35,
-        },
-        8 => match name {
-            "required" => 15,
-            "maxItems" => 17,
-            "minItems" => 18,
-            "contains" => 28,
-            _ => 35,
-        },
-        9 => match name {
-            "maxLength" => 10,
-            "minLength" => 11,
-            _ => 35,
-        },
-        10 => match name {
-            "multipleOf" => 5,
-            "properties" => 29,
-            _ => 35,
-        },
-        11 => match name {
-            "$dynamicRef" => 1,
-            "uniqueItems" => 19,
-            "prefixItems" => 26,
-            "minContains" => 28,
-            "maxContains" => 28,
-            _ => 35,
-        },
-        13 => match name {
-            "maxProperties" => 13,
-            "minProperties" => 14,
-            "propertyNames" => 32,
-            _ => 35,
-        },
-        16 => match name {
-            "exclusiveMaximum" => 7,
-            "exclusiveMinimum" => 9,
-            "dependentSchemas" => 25,
-            "unevaluatedItems" => 33,
-            _ => 35,
-        },
-        17 => match name {
-            "dependentRequired" => 16,
-            "patternProperties" => 30,
-            _ => 35,
-        },
-        20 => match name {
-            "additionalProperties" => 31,
-            _ => 35,
-        },
-        21 => match name {
-            "unevaluatedProperties" => 34,
-            _ => 35,
-        },
-        _ => 35,
-    }
 }

@@ -1,7 +1,7 @@
 use Rattle.std.proofs.Common.{rules}
 use Rattle.evaluator.specs.Groups.{in_order, places}
 use Rattle.evaluator.proofs.PresentLaws.{no_place_at}
-use Rattle.evaluator.proofs.present.place_of.Goals as goal
+use Rattle.evaluator.proofs.places.place_of.Goals as goal
 
 pub returns-in_default-name-3-clause-place : goal.returns-in_default-name-3-clause-place
 unfolding in_order places

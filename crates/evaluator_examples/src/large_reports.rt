@@ -6,13 +6,17 @@ use std::test::Fail;
 // The number of elements, none of which is null.
 const COUNT: usize = 10_000;
 
-const HEAD: &str = r#"{"errors":[{"absoluteKeywordLocation":"https://ex.org/s#/items","error":"items is not met","instanceLocation":"","keywordLocation":"/items"}"#;
+const HEAD: &str =
+    r#"{"errors":[{"absoluteKeywordLocation":"https://ex.org/s#/items","error":"items is not met","instanceLocation":"","keywordLocation":"/items"}"#;
 
-const FIRST: &str = r#",{"absoluteKeywordLocation":"https://ex.org/s#/items/type","error":"type is not met","instanceLocation":"/0","keywordLocation":"/items/type"}"#;
+const FIRST: &str =
+    r#",{"absoluteKeywordLocation":"https://ex.org/s#/items/type","error":"type is not met","instanceLocation":"/0","keywordLocation":"/items/type"}"#;
 
-const SECOND: &str = r#",{"absoluteKeywordLocation":"https://ex.org/s#/items/type","error":"type is not met","instanceLocation":"/1","keywordLocation":"/items/type"}"#;
+const SECOND: &str =
+    r#",{"absoluteKeywordLocation":"https://ex.org/s#/items/type","error":"type is not met","instanceLocation":"/1","keywordLocation":"/items/type"}"#;
 
-const LAST: &str = r#",{"absoluteKeywordLocation":"https://ex.org/s#/items/type","error":"type is not met","instanceLocation":"/9999","keywordLocation":"/items/type"}],"valid":false}"#;
+const LAST: &str =
+    r#",{"absoluteKeywordLocation":"https://ex.org/s#/items/type","error":"type is not met","instanceLocation":"/9999","keywordLocation":"/items/type"}],"valid":false}"#;
 
 // The head has 140 bytes, the end 16; a unit and the comma before it have 140 bytes and the digits of the index. The ten
 // indexes below 10 have one digit, 90 have two, 900 three and 9,000 four.

@@ -33,7 +33,11 @@ fn steps_lead_to_schemas(rt: HostRuntime) -> Result<(), Fail> {
     let base = "https://ex.org/s";
     for (document, pointer, text) in [
         (r#"{"not":true}"#, "/not", "https://ex.org/s#/not true"),
-        (r#"{"items":true}"#, "/items", "https://ex.org/s#/items true"),
+        (
+            r#"{"items":true}"#,
+            "/items",
+            "https://ex.org/s#/items true",
+        ),
         (
             r#"{"$defs":{"a/b":true}}"#,
             "/$defs/a~1b",

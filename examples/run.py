@@ -5,8 +5,8 @@
 
 PROGRAM is the path of the program; without it, it is crates/schemareg/out/schemareg, where `rt run` leaves it.
 An example passes where the program prints what the file NAME.answer holds, byte for byte, on the right stream, nothing on
-the other, and ends with the right status. The crate `check_examples` passes where its tests are those that the examples
-give. The exit status is 0 where all pass, and else 1.
+the other, and ends with the right status. The crate `checks_examples` passes where its module `examples` has the tests that
+the examples give. The exit status is 0 where all pass, and else 1.
 """
 
 import subprocess
@@ -77,10 +77,10 @@ def main():
     behind = write_tests.stale()
     if behind:
         failed += 1
-        print(f"FAILED  check_examples: run examples/write_tests.py for {', '.join(behind)}")
+        print(f"FAILED  checks_examples: run examples/write_tests.py for {', '.join(behind)}")
     else:
         passed += 1
-        print("passed  check_examples")
+        print("passed  checks_examples")
     print(f"{passed} passed, {failed} failed")
     sys.exit(1 if failed or not passed else 0)
 

@@ -1,15 +1,15 @@
 #!/usr/bin/env python3
-"""Writes the crate `check_examples`, whose tests are the examples of this folder.
+"""Writes the examples of this folder as tests: the module `examples` of the crate `checks_examples`.
 
     python3 examples/write_tests.py
 
-Run it after an example was added or changed. `run.py` says where the crate is behind.
+Run it after an example was added or changed. `run.py` says where the tests are behind.
 """
 
 from pathlib import Path
 
 FOLDER = Path(__file__).resolve().parent
-SOURCES = FOLDER.parent / "crates" / "check_examples" / "src"
+SOURCES = FOLDER.parent / "crates" / "checks_examples" / "src"
 WIDTH = 100
 NARROW = 60
 WRITTEN = "written by `examples/write_tests.py`"
@@ -112,36 +112,31 @@ def module(folder):
     return "\n".join(lines)
 
 
-def library(names):
-    lines = [
-        "//! The examples of the folder `examples` as tests of the crate `checks`: each file but `answers.rt` is",
-        f"//! {WRITTEN}.",
-        "#![tactic(auto)]",
-        "",
-    ]
-    for name in sorted(["answers", *names]):
-        lines += ["#[cfg(test)]", f"mod {name};"]
-    return "\n".join(lines) + "\n"
+def listing(names):
+    """The source of the module that the tests of each use stand in."""
+    lines = [f"//! The examples of the folder `examples`, a module each, {WRITTEN}.", ""]
+    return "\n".join(lines + [f"mod {name};" for name in sorted(names)]) + "\n"
 
 
 def sources():
-    """The text of each file that is written, by its name."""
+    """The text of each file that is written, by its path below the crate's sources."""
     folders = [it for it in sorted(FOLDER.iterdir()) if it.is_dir() and leaves(it)]
-    texts = {f"{rust_name(it.name)}.rt": module(it) for it in folders}
-    texts["lib.rt"] = library([name.removesuffix(".rt") for name in texts])
+    texts = {f"examples/{rust_name(it.name)}.rt": module(it) for it in folders}
+    texts["examples.rt"] = listing([rust_name(it.name) for it in folders])
     return texts
 
 
 def stale():
-    """The files of the crate that aren't what the examples give."""
+    """The files that aren't what the examples give."""
     wanted = sources()
-    there = {file.name for file in SOURCES.glob("*.rt")} - {"answers.rt"}
+    written = [*SOURCES.glob("examples.rt"), *SOURCES.glob("examples/*.rt")]
+    there = {str(file.relative_to(SOURCES)) for file in written}
     changed = [it for it, text in wanted.items() if it in there and (SOURCES / it).read_text(encoding="utf-8") != text]
     return sorted({*changed, *(there ^ wanted.keys())})
 
 
 def main():
-    SOURCES.mkdir(parents=True, exist_ok=True)
+    (SOURCES / "examples").mkdir(parents=True, exist_ok=True)
     for name in stale():
         (SOURCES / name).unlink(missing_ok=True)
     for name, text in sources().items():

@@ -9,6 +9,3 @@ mod running;
 mod running_objects;
 
 pub use context::{Context, Return};
-
-#[cfg(test)]
-mod tests;

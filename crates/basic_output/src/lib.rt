@@ -13,6 +13,3 @@ pub use locations::Step;
 pub use output::output_text;
 pub use says::Says;
 pub use units::{Mark, Units};
-
-#[cfg(test)]
-mod tests;

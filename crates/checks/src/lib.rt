@@ -8,6 +8,3 @@ pub use check::check_bytes;
 pub use evaluator::Report;
 pub use input::{DEFAULT_URI, check_input};
 pub use json_doc::Fault;
-
-#[cfg(test)]
-mod tests;

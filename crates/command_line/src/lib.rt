@@ -8,6 +8,3 @@ mod values;
 
 pub use call::Call;
 pub use program::read;
-
-#[cfg(test)]
-mod tests;

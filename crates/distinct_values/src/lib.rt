@@ -6,6 +6,3 @@ mod uniqueness;
 
 pub use ordering::compare;
 pub use uniqueness::is_unique;
-
-#[cfg(test)]
-mod tests;

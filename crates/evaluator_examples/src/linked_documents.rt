@@ -1,49 +1,9 @@
-use evaluator::{Fault, Report, evaluate};
-use json_doc::read;
-use linker::{ListSource, link};
-use schema_scan::{compile, scan};
-use std::alloc::Global;
-use std::rc::Rc;
+//! Evaluations over several linked documents.
+
+use crate::documents::answer;
 use std::test::Fail;
-use uri_ref::split;
 
 const EMPTY_REPORT: &str = r#"{"annotations":[],"valid":true}"#;
-
-// A list of documents, each with the URI that it stands under.
-fn listed(alloc: Global, documents: &[(&str, &str)]) -> Result<ListSource, Fail> {
-    let mut source = ListSource::new(alloc);
-    for (base, text) in documents {
-        let document = read(alloc, text.as_bytes())?;
-        let document = compile(alloc, scan(alloc, &split(base), &document)?)?;
-        source.add(Rc::new(alloc, document)?)?;
-    }
-    Ok(source)
-}
-
-fn evaluated(
-    alloc: Global,
-    source: &mut ListSource,
-    uri: &str,
-    instance: &str,
-) -> Result<Report, Fault> {
-    let linked = link(alloc, source, uri)?;
-    let instance = read(alloc, instance.as_bytes())?;
-    evaluate(alloc, &linked, &instance)
-}
-
-// What the resource with this URI says of the instance, or the fault.
-fn answer(
-    alloc: Global,
-    documents: &[(&str, &str)],
-    uri: &str,
-    instance: &str,
-) -> Result<String, Fail> {
-    let mut source = listed(alloc, documents)?;
-    match evaluated(alloc, &mut source, uri, instance) {
-        Ok(report) => Ok(report.into_text()),
-        Err(fault) => Ok(format!(in alloc; "{fault}")?),
-    }
-}
 
 // A tree, and the same tree without other members.
 const TREES: [(&str, &str); 2] = [

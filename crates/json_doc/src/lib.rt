@@ -21,6 +21,3 @@ pub use reading::read;
 pub use sameness::same;
 pub use whole::Whole;
 pub use writing::{write, write_doc};
-
-#[cfg(test)]
-mod tests;

@@ -120,20 +120,3 @@ fn escape_of(byte: u8) -> &'static str
 {
     if byte == b'~' { "~0" } else { "~1" }
 }
-
-#[cfg(test)]
-mod tests {
-    use super::*;
-    use std::test::Fail;
-
-    #[test]
-    fn escapes_tokens(rt: HostRuntime) -> Result<(), Fail> {
-        let mut pointer = Pointer::new(rt.alloc());
-        assert_eq!(rt; pointer.text(rt.alloc())?.as_str(), "");
-        pointer.push("a/b")?;
-        pointer.push("m~n")?;
-        pointer.push("ä b")?;
-        assert_eq!(rt; pointer.text(rt.alloc())?.as_str(), "/a~1b/m~0n/ä b");
-        Ok(())
-    }
-}

@@ -89,6 +89,3 @@ fn whole_of(number: Number) -> Option<Whole>
         },
     }
 }
-
-#[cfg(test)]
-mod tests;

@@ -19,6 +19,3 @@ pub use searches::Searches;
 pub use site::{Evaluated, Site};
 pub use subject::Subject;
 pub use verdict::{Tally, passes};
-
-#[cfg(test)]
-mod tests;

@@ -19,6 +19,3 @@ pub use linked::Linked;
 pub use linking::link;
 pub use list_source::ListSource;
 pub use source::Source;
-
-#[cfg(test)]
-mod tests;

@@ -7,6 +7,3 @@ mod searcher;
 pub use faults::Fault;
 pub use pattern::Pattern;
 pub use searcher::Searcher;
-
-#[cfg(test)]
-mod tests;

@@ -12,8 +12,6 @@ mod located;
 mod numbers;
 mod pointing;
 mod resources;
-#[cfg(test)]
-mod tests;
 mod visit;
 mod ways;
 

@@ -134,23 +134,3 @@ fn opened_uri(alloc: Global, base: &str, id: &str) -> Result<String, Fault>
     let text = recompose(alloc, &resolved.parts())?;
     Ok(String::from_str(alloc, without_fragment(text.as_str()))?)
 }
-
-#[cfg(test)]
-mod tests {
-    use super::*;
-    use json_doc::read;
-    use std::test::Fail;
-
-    #[test]
-    fn identifiers_open_resources(rt: HostRuntime) -> Result<(), Fail> {
-        let schema = read(rt.alloc(), br#"{"$id":"c#"}"#)?;
-        assert_eq!(rt; id_of(&schema), Some("c#"));
-        assert_eq!(rt;
-            opened_uri(rt.alloc(), "https://ex.org/a/b", "c#")?.as_str(),
-            "https://ex.org/a/c"
-        );
-        let schema = read(rt.alloc(), br#"{"$id":1}"#)?;
-        assert_eq!(rt; id_of(&schema), None);
-        Ok(())
-    }
-}

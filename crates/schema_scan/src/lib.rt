@@ -23,6 +23,3 @@ pub use faults::Fault;
 pub use scanned::Scanned;
 pub use scanning::scan;
 pub use schema_index::Located;
-
-#[cfg(test)]
-mod tests;

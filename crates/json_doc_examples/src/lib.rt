@@ -1,0 +1,20 @@
+//! Values, their texts, order and places, pointers, faults and the text of the output, on texts: tests alone, for the
+//! crate `json_doc` and those beside it.
+#![tactic(auto)]
+
+#[cfg(test)]
+mod fault_texts;
+#[cfg(test)]
+mod large_texts;
+#[cfg(test)]
+mod outputs;
+#[cfg(test)]
+mod pointers;
+#[cfg(test)]
+mod reading;
+#[cfg(test)]
+mod steps;
+#[cfg(test)]
+mod unique_values;
+#[cfg(test)]
+mod values;

@@ -1,7 +1,0 @@
-//! Scans and compiled forms of schema documents, on texts: tests alone, for the crate `schema_scan`.
-#![tactic(auto)]
-
-#[cfg(test)]
-mod documents;
-#[cfg(test)]
-mod examples;

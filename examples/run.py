@@ -21,7 +21,8 @@ SECONDS = 60
 
 
 def cases():
-    """Each instance: its name, the words of the command line, the standard input, and the file of the answer."""
+    """Each instance and each list of words: its name, the words of the command line, the standard input, and the file of
+    the answer."""
     for instance in sorted(FOLDER.rglob("*.json")):
         if instance.name == "schema.json":
             continue
@@ -37,18 +38,21 @@ def cases():
         if uri.exists():
             words += ["--uri", uri.read_text().strip()]
         yield name, [*words, str(schema), str(instance)], b"", answer
+    for file in sorted(FOLDER.rglob("*.words")):
+        name = str(file.relative_to(FOLDER).with_suffix(""))
+        yield name, file.read_text().splitlines(), b"", file.with_suffix(".answer")
 
 
 def expected(answer):
     """What has to come on standard output and standard error, and the status: all three follow from the answer."""
     text = answer.read_bytes()
-    if text.startswith(b"refused: "):
+    if text.startswith((b"refused: ", b"cannot read ", b"error: ")):
         return b"", text, 2
-    return text, b"", 0 if text.endswith(b'"valid":true}\n') else 1
+    return text, b"", 1 if text.endswith(b'"valid":false}\n') else 0
 
 
 def found(program, words, given):
-    done = subprocess.run([program, *words], input=given, capture_output=True, timeout=SECONDS)
+    done = subprocess.run([program, *words], input=given, capture_output=True, timeout=SECONDS, cwd=FOLDER)
     return done.stdout, done.stderr, done.returncode
 
 

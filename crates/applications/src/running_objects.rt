@@ -1,6 +1,6 @@
 //! The schema objects that are being applied.
 
-ghost use Rattle.std.specs.Prelude.{◌≡◌, ◌≤◌, ◌++◌, ◌∷◌, ◌&&◌, [], true, length, option_map, OnOk, List};
+ghost use Rattle.std.specs.Prelude.{◌≡◌, ◌≤◌, ◌++◌, ◌∷◌, ◌&&◌, [], true, length, option_map, take, OnOk, List};
 ghost use Rattle.std.specs.List.{list_any};
 ghost use Rattle.definitions.specs.Schemas.{Identity, same_identity};
 ghost use Rattle.definitions.specs.Applied.{Place};
@@ -61,9 +61,11 @@ impl<'a> RunningObjects<'a> {
         Ok(())
     }
 
-    /// One object less.
+    /// One object less, the innermost, with the steps that were kept for it.
     pub(crate) fn pop(&mut self)
-        ensures { (older : List (Identity × Place)) (e : Identity × Place) → running_objects self.old ≡ older ++ e ∷ [] → running_objects self.new ≡ older }
+        ensures running { (older : List (Identity × Place)) (e : Identity × Place) → running_objects self.old ≡ older ++ e ∷ [] → running_objects self.new ≡ older }
+        ensures steps { (older : List Running) (e : Running) → self.old.entries.items ≡ older ++ e ∷ []
+            → self.new.steps.items ≡ take e.pointer self.old.steps.items }
     {
         match self.entries.pop() {
             Some(entry) => self.steps.truncate(entry.pointer),

@@ -2,7 +2,7 @@
 use Rattle.std.proofs.Common.{◌≡◌, ◌≤◌, ◌<◌, ◌+◌, ◌-◌, ℕ, zero, suc, min, List, [], ◌∷◌, ◌++◌, Bool, true, false, Result, Ok, Err, OnErr, map, take, drop, length, get_or, replicate, refl, sym, ap, ap₂, ◌∙◌, arith, inl, inr}
 use Rattle.std.proofs.lemmas.Bool.{and_parts, cases_lt}
 use Rattle.std.proofs.lemmas.List.{take-take, take-append-le, take_all, length-take, length-append, length-take-le, length-map, length-replicate, map-append, take-map, get_or-take, get_or-replicate, get_or_append_left, get_or-append_right, take_min, drop_min, take-append-drop, drop_all}
-use Rattle.std.specs.Prelude.{if◌then◌else◌}
+use Rattle.std.specs.Prelude.{if◌then◌else◌, nat_lt}
 use Rattle.std.specs.List.{list_all, insert}
 use Rattle.definitions.specs.Applied.{OutputUnit}
 use Rattle.basic_output.specs.Entries.{Grows, entry_view, fits}
@@ -195,3 +195,10 @@ reached_cut m es fs reach left h e f i less =
 
 pub cut_views : (n : ℕ) (xs : List Step) (es : List Entry) → list_all (fits n) es ≡ true → map (entry_view (take n xs)) es ≡ map (entry_view xs) es
 cut_views n xs es h = views_same (take n xs) xs n es (take-take n n xs (omega arith)) h
+
+pub lt_true : (m n : ℕ) → m < n → nat_lt m n ≡ true
+lt_true m n less = grind (arith, less)
+
+pub if_true : {A : Type 0} (b : Bool) (x y : A) → b ≡ true → (if b then x else y) ≡ x
+if_true true x y h = refl
+if_true false x y h = cc

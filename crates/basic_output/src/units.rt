@@ -49,7 +49,7 @@ impl<'a> Units<'a> {
     ghost use Rattle.std.specs.Prelude.{[], ◌∷◌};
     ghost use Rattle.std.specs.List.{insert};
     ghost use Rattle.basic_output.specs.Sayings.{unit_at};
-    ghost use Rattle.basic_output.specs.Units.{units_view};
+    ghost use Rattle.basic_output.specs.Units.{kept, kept_for, units_view};
 
     /// No units. This takes no memory; the units that come later take it from `alloc`.
     pub fn new(alloc: Global) -> Units<'a>
@@ -98,9 +98,10 @@ impl<'a> Units<'a> {
         Ok(())
     }
 
-    /// Cuts off the units that came after the mark.
+    /// Cuts off the units that came after the mark, with all that was kept for them alone.
     pub fn cut_back(&mut self, mark: Mark)
-        ensures { units_view self.new ≡ take mark (units_view self.old) }
+        ensures units { units_view self.new ≡ take mark (units_view self.old) }
+        ensures kept { kept self.new ≡ kept_for mark self.old }
     {
         if mark.units < self.entries.len() {
             let steps = reach_before(self.reach.as_slice(), mark.units);

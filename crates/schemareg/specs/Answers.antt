@@ -1,9 +1,14 @@
 -- How a check ends.
-use Rattle.std.specs.Prelude.{◌≡◌, ◌≢◌, ◌⊎◌, ℕ, Bool, true, false, Result, Ok, Err, ⊤, codes}
+use Rattle.std.specs.Prelude.{◌≡◌, ◌≢◌, ◌≤◌, ◌⊎◌, ℕ, ◌++◌, ◌∷◌, [], List, Bool, true, false, Option, Some, None, Result, Ok, Err, IfOk, IfSome, ⊤, codes}
+use Rattle.std.specs.Io.KnownBytes.{Appends, Keeps}
 use Rattle.definitions.specs.Faults as meaning
-use Rattle.checks.specs.Judgements.{Judgement, is_for_pattern}
+use Rattle.definitions.specs.Texts.{reading}
+use Rattle.definitions.specs.Values.{Text}
+use Rattle.checks.specs.Judgements.{Judgement, judgement, judgement_of, input_of, builds_patterns, builds_patterns_of, is_for_pattern}
 use Rattle.faults.specs.View.{fault}
 use Rattle.faults.specs.declared.Fault.TheVariants.{NoRoom}
+use Rattle.command_line.specs.Calls.{Asked}
+use Rattle.command_line.specs.Calls as call
 use Rattle.schemareg.specs.declared.stop.Stop.{Stop}
 use Rattle.schemareg.specs.declared.stop.Stop.TheVariants.{CannotRead, Refused, CannotWrite}
 
@@ -16,15 +21,64 @@ abbrev pub status_after : Judgement → Result ℕ meaning.Fault
 status_after (Ok report) = Ok (check_status report.0)
 status_after (Err f) = Err f
 
--- the check ends as it was judged, or refuses a pattern of the schema, where standard input and output did not fail and
--- there was memory
-abbrev pub EndsBy : Judgement → Bool → Result ℕ Stop → Type 0
-EndsBy judgement has_patterns (Ok status) = status_after judgement ≡ Ok status
-EndsBy judgement has_patterns (Err (Refused f)) = f ≢ NoRoom → is_for_pattern (fault f) has_patterns ≡ false → judgement ≡ Err (fault f)
-EndsBy judgement has_patterns (Err (CannotRead name)) = name.now ≡ codes "-"
-EndsBy judgement has_patterns (Err CannotWrite) = ⊤
-EndsBy judgement has_patterns (Err _) = ⊥
+-- how a check is judged, and whether patterns of its schema are built
+pub record Check : Type 0 where
+  pub judgement : Judgement
+  pub has_patterns : Bool
+
+-- of the text of the instance by the text of the schema, which stands under the URI
+abbrev pub check_of_texts : Text → Text → Text → Check
+check_of_texts uri schema instance = record {
+  judgement = judgement uri (reading schema) (reading instance);
+  has_patterns = builds_patterns uri (reading schema);
+}
+
+-- of one text that holds all three
+abbrev pub check_of_input : Text → Check
+check_of_input bytes = record {
+  judgement = judgement_of (input_of bytes);
+  has_patterns = builds_patterns_of (input_of bytes);
+}
+
+-- what holds of the check that is asked for, where it is known what the files and standard input hold
+abbrev pub OnCheck : (Text → Option Text) → Option Text → Asked → (Check → Type 0) → Type 0
+OnCheck files bytes call.input P = IfSome bytes (λ b. P (check_of_input b))
+OnCheck files bytes (call.check uri schema instance) P =
+    IfSome (files schema) (λ s. IfSome (files instance) (λ i. P (check_of_texts uri s i)))
+
+-- The check ends as it was judged, with its output as a line; or it refuses a pattern of the schema. Else something that it
+-- reads or writes failed, or memory ran out. Nothing is written but a report
+abbrev pub EndsBy : Check → Option Text → Option Text → Result ℕ Stop → Type 0
+EndsBy check old new (Ok status) = (status_after check.judgement ≡ Ok status) × IfOk check.judgement (λ report. Appends old new (report.1 ++ 10 ∷ []))
+EndsBy check old new (Err (Refused f)) = Keeps old new × (f ≢ NoRoom → is_for_pattern (fault f) check.has_patterns ≡ false → check.judgement ≡ Err (fault f))
+EndsBy check old new (Err (CannotRead name)) = Keeps old new
+EndsBy check old new (Err CannotWrite) = ⊤
+EndsBy check old new (Err _) = ⊥
+
+-- the status is that of the judgement, or says that there is no report
+abbrev pub IsStatusOf : Check → ℕ → Type 0
+IsStatusOf check status = (status_after check.judgement ≡ Ok status) ⊎ (status ≡ 2)
 
 -- the report was not printed
-abbrev pub IsUnprinted : Stop → Type 0
-IsUnprinted stop = (stop ≡ CannotWrite) ⊎ (stop ≡ Refused NoRoom)
+abbrev pub IsUnprinted : Option Text → Option Text → Stop → Type 0
+IsUnprinted old new CannotWrite = ⊤
+IsUnprinted old new (Refused f) = (f ≡ NoRoom) × Keeps old new
+IsUnprinted old new _ = ⊥
+
+-- ---- whatever is read
+abbrev pub IsNamed : Text → List Text → Type 0
+IsNamed name [] = ⊥
+IsNamed name (n ∷ ns) = (name ≡ n) ⊎ IsNamed name ns
+
+-- what a call reads, by name
+abbrev pub names_of : Asked → List Text
+names_of call.input = codes "-" ∷ []
+names_of (call.check uri schema instance) = schema ∷ instance ∷ []
+
+-- the status of a check, or why there is none: what cannot be read has one of these names
+abbrev pub EndsReading : List Text → Result ℕ Stop → Type 0
+EndsReading names (Ok status) = status ≤ 1
+EndsReading names (Err (CannotRead name)) = IsNamed name.now names
+EndsReading names (Err (Refused f)) = ⊤
+EndsReading names (Err CannotWrite) = ⊤
+EndsReading names (Err _) = ⊥

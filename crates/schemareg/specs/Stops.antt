@@ -1,9 +1,11 @@
 -- Why the program ends without a report: what is printed, where, and with which status.
-use Rattle.std.specs.Prelude.{◌≡◌, ℕ, ◌++◌, ◌∷◌, [], Bool, true, false, not, Option, Some, None, if◌then◌else◌, codes}
+use Rattle.std.specs.Prelude.{◌≡◌, ◌≢◌, ℕ, ◌++◌, ◌∷◌, [], Bool, true, false, not, Option, Some, None, Result, Ok, Err, IfSome, if◌then◌else◌, ⊤, codes}
+use Rattle.std.specs.Io.KnownBytes.{Appends, Keeps}
+use Rattle.std.specs.List.{list_any}
 use Rattle.definitions.specs.Values.{Text}
 use Rattle.faults.specs.View.{fault, printed}
 use Rattle.faults.specs.declared.Fault.TheVariants.{NoRoom}
-use Rattle.clap.specs.Words.{kind_of}
+use Rattle.clap.specs.Words.{IsAmong, Kinds, kind_of}
 use Rattle.clap.specs.declared.error.Error.{Error}
 use Rattle.clap.specs.declared.error.kind.ErrorKind.{ErrorKind}
 use Rattle.clap.specs.declared.error.kind.ErrorKind.TheVariants.{DisplayHelp, DisplayVersion, OutOfMemory}
@@ -45,3 +47,25 @@ abbrev pub IsUnread : Text → Stop → Type 0
 IsUnread name (CannotRead n) = n.now ≡ name
 IsUnread name (Refused f) = f ≡ NoRoom
 IsUnread name _ = ⊥
+
+-- a stream to which the text goes, or not
+abbrev pub Tells : Bool → Option Text → Option Text → Option Text → Type 0
+Tells true text old new = IfSome text (Appends old new)
+Tells false text old new = Keeps old new
+
+-- ---- words that are no call
+-- the request was found, unless memory ran out
+abbrev pub StopsBy : ErrorKind → Result ℕ Stop → Type 0
+StopsBy kind (Err (Words e)) = kind_of e ≡ kind
+StopsBy kind (Err (Refused f)) = f ≡ NoRoom
+StopsBy kind _ = ⊥
+
+-- something wrong with the words is one of these, and there is a status only where nothing is
+abbrev pub IsFoundIn : Kinds → Result ℕ Stop → Type 0
+IsFoundIn kinds (Ok status) = kinds ≡ []
+IsFoundIn kinds (Err (Words e)) = IsAmong (kind_of e) kinds
+IsFoundIn kinds (Err _) = ⊤
+
+-- something is wrong with the words, and they ask for neither help nor the version
+abbrev pub AreMistakes : Kinds → Type 0
+AreMistakes kinds = (kinds ≢ []) × (list_any is_request kinds ≡ false)

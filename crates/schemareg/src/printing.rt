@@ -1,12 +1,12 @@
 //! Printing a report, or why there is none.
-ghost use Rattle.std.specs.Prelude.{◌≡◌, ◌++◌, ◌∷◌, [], true, IfOk, IfErr, OnOk, string_bytes};
+ghost use Rattle.std.specs.Prelude.{◌≡◌, ◌++◌, ◌∷◌, ◌⊎◌, [], true, not, IfOk, IfErr, OnOk, string_bytes};
 ghost use Rattle.std.specs.Io.KnownBytes.{Appends};
 ghost use Rattle.schemareg.specs.Answers.{IsUnprinted, check_status};
-ghost use Rattle.schemareg.specs.Stops.{is_error, status_of};
+ghost use Rattle.schemareg.specs.Stops.{Tells, is_error, status_of, text_of};
 
 use crate::stop::Stop;
 use faults::Fault;
-use std::io::Write;
+use std::io::{self, Write};
 
 /// The status of a check: 0 where the instance is valid, and else 1.
 fn status(is_valid: bool) -> u8
@@ -40,31 +40,47 @@ pub fn report<'a, O: Write>(out: &mut O, is_valid: bool, text: String) -> Result
     ensures status { IfOk result (λ status. status ≡ check_status is_valid) }
     ensures written { OnOk result (Appends (O.contents out.old) (O.contents out.new)
         (string_bytes text ++ 10 ∷ [])) }
-    ensures err { IfErr result IsUnprinted }
+    ensures err { IfErr result (IsUnprinted (O.contents out.old) (O.contents out.new)) }
 {
     let line = line(text)?;
     write(out, line.as_str())?;
     Ok(status(is_valid))
 }
 
-/// Prints why there is no report on standard error, and gives the program's status. Standard error
-/// that cannot be written is left at that, since there is nowhere to say so.
-fn complain<R: Eprint>(rt: &R, stop: &Stop<'_>) -> u8
-    ensures { result ≡ status_of stop.now }
-{
-    let _ = rt.eprint(stop);
-    stop.status()
-}
-
-/// Prints why there is no report, and gives the program's status.
-pub fn explain<R: Print + Eprint>(rt: &R, stop: &Stop<'_>) -> u8
-    ensures { is_error stop.now ≡ true → result ≡ 2 }
+/// Prints why there is no report on the stream that it goes to, and gives the program's status.
+fn tell<O: Write, E: Write>(out: &mut O, errors: &mut E, stop: &Stop<'_>) -> io::Result<u8>
+    ensures status { IfOk result (λ status. status ≡ status_of stop.now) }
+    ensures errors { OnOk result (Tells (is_error stop.now) (text_of stop.now)
+        (E.contents errors.old) (E.contents errors.new)) }
+    ensures out { OnOk result (Tells (not (is_error stop.now)) (text_of stop.now)
+        (O.contents out.old) (O.contents out.new)) }
 {
     if stop.is_error() {
-        return complain(rt, stop);
+        errors.write_fmt(stop)?;
+    } else {
+        out.write_fmt(stop)?;
     }
-    match rt.print(stop) {
-        Ok(()) => stop.status(),
-        Err(_) => complain(rt, &Stop::CannotWrite),
+    Ok(stop.status())
+}
+
+/// The same, where a stream may fail. A failure of standard output is told on standard error; one of standard error
+/// isn't, since there is nowhere to say so.
+pub fn explain<O: Write, E: Write>(out: &mut O, errors: &mut E, stop: &Stop<'_>) -> u8
+    ensures error { is_error stop.now ≡ true → result ≡ 2 }
+    ensures status { (result ≡ status_of stop.now) ⊎ (result ≡ 2) }
+{
+    match tell(out, errors, stop) {
+        Ok(status) => status,
+        Err(_) => unwritten(out, errors, stop),
     }
+}
+
+/// The status where a text could not be written.
+fn unwritten<O: Write, E: Write>(out: &mut O, errors: &mut E, stop: &Stop<'_>) -> u8
+    ensures { result ≡ 2 }
+{
+    if !stop.is_error() {
+        let _ = tell(out, errors, &Stop::CannotWrite);
+    }
+    2
 }

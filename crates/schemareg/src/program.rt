@@ -1,99 +1,107 @@
 //! The program, by the form of its command line.
-ghost use Rattle.std.specs.Prelude.{◌≡◌, IfOk, IfErr, IfSome};
-ghost use Rattle.checks.specs.Judgements.{input_of, judgement, judgement_of, builds_patterns, builds_patterns_of};
-ghost use Rattle.definitions.specs.Texts.{reading};
-ghost use Rattle.evaluator.specs.Reports.{is_valid};
-ghost use Rattle.schemareg.specs.Answers.{EndsBy, IsUnprinted, check_status};
+ghost use Rattle.std.specs.Prelude.{◌≡◌, ◌≤◌, ◌⊎◌, IfOk, IfErr, map};
+ghost use Rattle.clap.specs.Words.{fault_of};
+ghost use Rattle.command_line.specs.Calls.{Asked, asked};
+ghost use Rattle.command_line.specs.Commands.{program};
+ghost use Rattle.command_line.specs.Forms.{Asks, Spells};
+ghost use Rattle.schemareg.specs.Answers.{EndsBy, EndsReading, IsStatusOf, OnCheck, names_of};
+ghost use Rattle.schemareg.specs.Stops.{AreMistakes, IsFoundIn, StopsBy};
 
+use crate::files::{FileSystem, Texts};
 use crate::stop::Stop;
-use crate::{printing, reading};
-use checks::Report;
+use crate::{checking, printing, reading};
+use clap::error::ErrorKind;
 use command_line::Call;
 use std::alloc::Global;
 use std::convert::AsStr;
-use std::io::{self, Read, Write};
+use std::io::{Read, Write};
 use std::rt::{Env, Files};
 
 /// Runs the program on its words, and gives its status.
-pub fn run<R: Env + Files + Input + Print + Eprint + AllocGlobal>(rt: &R) -> u8 {
-    let words = match reading::words(rt) {
-        Ok(words) => words,
-        Err(stop) => return printing::explain(rt, &stop),
-    };
-    match obey(rt, words.as_slice()) {
+pub fn run<R: Env + Files + Input + AllocGlobal, O: Write, E: Write>(
+    rt: &R,
+    out: &mut O,
+    errors: &mut E,
+) -> u8
+    ensures { result ≤ 2 }
+{
+    let files = FileSystem { rt };
+    match reading::words(rt) {
+        Ok(words) => answer(
+            rt.alloc(),
+            words.as_slice(),
+            &files,
+            &mut rt.reader(),
+            out,
+            errors,
+        ),
+        Err(stop) => printing::explain(out, errors, &stop),
+    }
+}
+
+/// Runs the program on these words, the program's own name first, and gives its status.
+fn answer<S: AsStr, F: Texts, I: Read, O: Write, E: Write>(
+    alloc: Global,
+    words: &[S],
+    files: &F,
+    input: &mut I,
+    out: &mut O,
+    errors: &mut E,
+) -> u8
+    ensures calls { (call : Asked) → Spells (map S.text words.now) call
+        → OnCheck (F.text_at files.now) (I.remaining input.old) call
+        (λ check. IsStatusOf check result) }
+    ensures requests { (kind : ErrorKind) → Asks (map S.text words.now) kind
+        → (result ≡ 0) ⊎ (result ≡ 2) }
+    ensures mistakes { AreMistakes (fault_of program (map S.text words.now)) → result ≡ 2 }
+    ensures status { result ≤ 2 }
+{
+    match obey(alloc, words, files, input, out) {
         Ok(status) => status,
-        Err(stop) => printing::explain(rt, &stop),
+        Err(stop) => printing::explain(out, errors, &stop),
     }
 }
 
 /// Carries out the call that the words spell, and gives the status.
-pub fn obey<'a, R: Files + Input + Print + AllocGlobal, S: AsStr>(
-    rt: &R,
+fn obey<'a, S: AsStr, F: Texts, I: Read, O: Write>(
+    alloc: Global,
     words: &'a [S],
-) -> Result<u8, Stop<'a>> {
-    match command_line::read(rt.alloc(), words)? {
-        Call::Input => check_input(rt.alloc(), &mut rt.reader(), &mut io::writer(rt)),
+    files: &F,
+    input: &mut I,
+    out: &mut O,
+) -> Result<u8, Stop<'a>>
+    ensures calls { (call : Asked) → Spells (map S.text words.now) call
+        → OnCheck (F.text_at files.now) (I.remaining input.old) call
+        (λ check. EndsBy check (O.contents out.old) (O.contents out.new) result) }
+    ensures requests { (kind : ErrorKind) → Asks (map S.text words.now) kind
+        → StopsBy kind result }
+    ensures reading { (call : Asked) → Spells (map S.text words.now) call
+        → EndsReading (names_of call) result }
+    ensures found { IsFoundIn (fault_of program (map S.text words.now)) result }
+    ensures status { IfOk result (λ status. status ≤ 1) }
+{
+    let call = command_line::read(alloc, words)?;
+    carry_out(alloc, call, files, input, out)
+}
+
+/// Carries out the call, and gives the status.
+fn carry_out<'a, F: Texts, I: Read, O: Write>(
+    alloc: Global,
+    call: Call<'a>,
+    files: &F,
+    input: &mut I,
+    out: &mut O,
+) -> Result<u8, Stop<'a>>
+    ensures ends { OnCheck (F.text_at files.now) (I.remaining input.old) (asked call.entry)
+        (λ check. EndsBy check (O.contents out.old) (O.contents out.new) result) }
+    ensures reading { EndsReading (names_of (asked call.entry)) result }
+{
+    match call {
+        Call::Input => checking::check_input(alloc, input, out),
         Call::Check {
             uri,
             schema,
             instance,
-        } => check_files(rt, uri, schema, instance),
+        } => checking::check_files(alloc, files, uri, schema, instance, out),
     }
-}
-
-/// Answers the check that `input` holds.
-pub fn check_input<'a, I: Read, O: Write>(
-    alloc: Global,
-    input: &mut I,
-    out: &mut O,
-) -> Result<u8, Stop<'a>>
-    ensures { IfSome (I.remaining input.old) (λ bytes. EndsBy (judgement_of (input_of bytes)) (builds_patterns_of (input_of bytes)) result) }
-{
-    let bytes = reading::whole(alloc, input, "-")?;
-    check_text(alloc, bytes.as_slice(), out)
-}
-
-/// Answers the check that the text holds.
-pub fn check_text<'a, O: Write>(alloc: Global, text: &[u8], out: &mut O) -> Result<u8, Stop<'a>>
-    ensures { EndsBy (judgement_of (input_of text.now)) (builds_patterns_of (input_of text.now)) result }
-{
-    let report = checks::check_input(alloc, text)?;
-    print(report, out)
-}
-
-/// Answers the check of the file `instance` by the file `schema`. Both are read before either is
-/// judged.
-fn check_files<'a, R: Files + Print + AllocGlobal>(
-    rt: &R,
-    uri: &str,
-    schema: &'a str,
-    instance: &'a str,
-) -> Result<u8, Stop<'a>> {
-    let schema = reading::file(rt, schema)?;
-    let instance = reading::file(rt, instance)?;
-    let out = &mut io::writer(rt);
-    check_texts(rt.alloc(), uri, schema.as_slice(), instance.as_slice(), out)
-}
-
-/// Answers the check of the text `instance` by the text `schema`, which stands under `uri`.
-pub fn check_texts<'a, O: Write>(
-    alloc: Global,
-    uri: &str,
-    schema: &[u8],
-    instance: &[u8],
-    out: &mut O,
-) -> Result<u8, Stop<'a>>
-    ensures { EndsBy (judgement uri.now (reading schema.now) (reading instance.now)) (builds_patterns uri.now (reading schema.now)) result }
-{
-    let report = checks::check_bytes(alloc, uri, schema, instance)?;
-    print(report, out)
-}
-
-/// Prints the report, and gives the status of its check.
-fn print<'a, O: Write>(report: Report, out: &mut O) -> Result<u8, Stop<'a>>
-    ensures ok { IfOk result (λ status. status ≡ check_status (is_valid report)) }
-    ensures err { IfErr result IsUnprinted }
-{
-    let is_valid = report.valid();
-    printing::report(out, is_valid, report.into_text())
 }

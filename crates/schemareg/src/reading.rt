@@ -61,11 +61,11 @@ pub fn whole<'a, R: Read>(alloc: Global, reader: &mut R, name: &'a str) -> Resul
 }
 
 /// All bytes of a file.
-pub fn file<'a, R: Files + AllocGlobal>(rt: &R, path: &'a str) -> Result<Vec<u8>, Stop<'a>>
+pub fn file<'a, R: Files>(alloc: Global, rt: &R, path: &'a str) -> Result<Vec<u8>, Stop<'a>>
     ensures err { IfErr result (IsUnread path.now) }
 {
     match fs::open(rt, path) {
-        Ok(mut file) => whole(rt.alloc(), &mut file, path),
+        Ok(mut file) => whole(alloc, &mut file, path),
         Err(error) => Err(unread(&error, path)),
     }
 }

@@ -60,11 +60,6 @@ pub grown_length : {A : Type 0} (xs ys : List A) → Grows xs ys → length xs �
 grown_length xs ys g = omega (arith, ap length g.1, length-append xs g.0)
 
 -- ---- one put among them
-drop_map : {A B : Type 0} (f : A → B) (n : ℕ) (xs : List A) → drop n (map f xs) ≡ map f (drop n xs)
-drop_map f zero xs = refl
-drop_map f (suc n) [] = refl
-drop_map f (suc n) (x ∷ xs) = drop_map f n xs
-
 -- a place past the end is the end
 pub insert_min : {A : Type 0} (xs : List A) (i : ℕ) (x : A) → insert xs (min i (length xs)) x ≡ insert xs i x
 insert_min xs i x = ap₂ (λ a b. a ++ x ∷ b) (take_min i xs) (drop_min i xs)

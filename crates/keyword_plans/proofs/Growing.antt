@@ -1,5 +1,5 @@
 -- A list that a loop makes, and what is left to add.
-use Rattle.std.proofs.Common.{◌≡◌, List, [], ◌∷◌, ◌++◌, refl, sym, ap, ◌∙◌, append_assoc, append-nil}
+use Rattle.std.proofs.Common.{◌≡◌, List, [], ◌++◌, sym, ap, ◌∙◌, append_assoc, append-nil}
 
 pub grown : {Y : Type 0} (done next here left rest all : List Y) → next ≡ done ++ here → left ≡ here ++ rest → done ++ left ≡ all → next ++ rest ≡ all
 grown done next here left rest all e f so_far = ap (λ ys. ys ++ rest) e ∙ append_assoc done here rest ∙ ap (λ ys. done ++ ys) (sym f) ∙ so_far

@@ -1,13 +1,10 @@
 -- Sets of keys: those that a loop has put in, and those that are left.
-use Rattle.std.proofs.Common.{◌≡◌, ℕ, List, [], ◌∷◌, ◌||◌, Bool, true, false, cond, ◌==◌, Ordering, nat_cmp, Bor, map, refl, sym, ap, ap₂, ◌∙◌, rules}
+use Rattle.std.proofs.Common.{◌≡◌, ℕ, List, [], ◌∷◌, ◌||◌, Bool, true, false, cond, ◌==◌, nat_cmp, Bor, map, refl, sym, ap, ap₂, ◌∙◌, rules}
 use Rattle.std.proofs.Math.Bool.{or-false}
-use Rattle.std.proofs.lemmas.Bool.Decides.{same_from_decides, Decides-like}
 use Rattle.std.proofs.lemmas.Map.Text.{is_eq-slice_cmp}
-use Rattle.std.proofs.lemmas.Slice.Eq.{bytes_eq-Decides}
-use Rattle.std.specs.Cmp.Lexicographic.{slice_cmp}
 use Rattle.std.specs.List.{list_any}
 use Rattle.std.specs.Ordering.{eq_by_cmp}
-use Rattle.definitions.specs.Values.{Text, same_text}
+use Rattle.definitions.specs.Values.{Text}
 use Rattle.definitions.specs.Applied.{has}
 use Rattle.lemmas.proofs.Texts.{text_order, same_text_turned}
 

@@ -24,9 +24,6 @@ use Rattle.linker.specs.SharedDocuments.{shared_documents}
 use Rattle.linker.specs.Positions.{StandsAt, IsGap}
 use Rattle.linker.specs.Sources.{Ascend}
 
-less_is_greater : Less ≡ Greater → ⊥
-less_is_greater e = cc
-
 less_is_equal : Less ≡ Equal → ⊥
 less_is_equal e = cc
 

@@ -1,4 +1,4 @@
-use Rattle.std.proofs.Common.{◌≡◌, ◌++◌, ◌∷◌, [], ◌+◌, ◌∙◌, Bool, not, true, false, cond, refl, ap, map, drop, Bor, nat_cmp, List, get_or, BTreeSet, sym}
+use Rattle.std.proofs.Common.{◌≡◌, ◌++◌, ◌∷◌, [], ◌+◌, ◌∙◌, Bool, true, cond, ap, map, drop, Bor, nat_cmp, List, get_or, BTreeSet, sym}
 use Rattle.std.proofs.lemmas.List.{map-append, drop_more}
 use Rattle.std.specs.BTreeSet.{contains_by}
 use Rattle.std.specs.Cmp.Lexicographic.{slice_cmp}

@@ -1,7 +1,7 @@
 -- The schema objects that are being applied, beside the steps that are kept for them.
-use Rattle.std.proofs.Common.{◌≡◌, ◌≤◌, ◌<◌, ◌-◌, ◌+◌, ◌++◌, ◌∷◌, ◌&&◌, [], ℕ, zero, suc, List, Bool, true, false, length, nat_le, map, option_map, get_or, take, drop, append_assoc, refl, sym, ap, ap₂, ◌∙◌, arith}
+use Rattle.std.proofs.Common.{◌≡◌, ◌≤◌, ◌<◌, ◌++◌, ◌∷◌, ◌&&◌, [], ℕ, zero, suc, List, Bool, true, false, length, nat_le, map, option_map, get_or, take, drop, append_assoc, refl, sym, ap, ap₂, ◌∙◌, arith}
 use Rattle.std.proofs.lemmas.Bool.{and_parts, and_from, leb-true, le-leb}
-use Rattle.std.proofs.lemmas.List.{drop-take, take-take, take_all, take_rest, map_push, same_from_push, length-append, length-map, length-take-le, get_or-map, nil_from_length, drop_at, take_at}
+use Rattle.std.proofs.lemmas.List.{take-take, take_all, take_rest, map_push, same_from_push, length-append, length-map, length-take-le, get_or-map, nil_from_length, drop_at, take_at}
 use Rattle.std.proofs.lemmas.List.Folds.{list_any_at}
 use Rattle.std.specs.Prelude.{slice_range, if◌then◌else◌}
 use Rattle.std.specs.List.{list_any}

@@ -1,5 +1,5 @@
 -- A list with one document: what is added to an empty list, and what its canonical URI reaches.
-use Rattle.std.proofs.Common.{◌≡◌, ◌||◌, Bool, true, false, List, [], ◌∷◌, Option, Some, None, Result, Ok, Err, filter, not, cond, option_map, refl, sym, ap, ◌∙◌, subst}
+use Rattle.std.proofs.Common.{◌≡◌, ◌||◌, Bool, true, false, List, [], ◌∷◌, Option, Some, None, Result, Err, filter, not, cond, option_map, refl, sym, ap, ◌∙◌}
 use Rattle.std.specs.List.{list_any}
 use Rattle.definitions.specs.Answers.{answer}
 use Rattle.definitions.specs.Applied.{Outcome}

@@ -1,5 +1,5 @@
 -- Laws of outcomes, and of what was found so far.
-use Rattle.std.proofs.Common.{◌≡◌, ℕ, zero, suc, ◌-◌, ◌<◌, ◌≤◌, Some, None, cond, Bool, true, false, ◌||◌, refl, sym, ap, ◌∙◌, arith}
+use Rattle.std.proofs.Common.{◌≡◌, ℕ, zero, suc, ◌-◌, ◌<◌, ◌≤◌, Some, None, cond, Bool, true, false, refl, sym, ap, ◌∙◌, arith}
 use Rattle.std.proofs.Math.Numerals.{sub-one}
 use Rattle.definitions.specs.Values.{Value, null, boolean, integer, string, array, object, is_object}
 use Rattle.definitions.specs.Applied.{Application, Outcome, Rules}

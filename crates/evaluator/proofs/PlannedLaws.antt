@@ -1,14 +1,11 @@
 -- Laws of planned applications, and of what they found and noted so far.
-use Rattle.std.proofs.Common.{◌≡◌, ℕ, ◌+◌, ◌-◌, ◌<◌, ◌≤◌, List, [], ◌∷◌, ◌++◌, map, length, cond, Bool, true, false, ◌||◌, refl, sym, ap, ◌∙◌, arith, length-append, append_assoc, append-nil, take, drop, get_or, Option, Some, None, flat_map}
+use Rattle.std.proofs.Common.{◌≡◌, ℕ, ◌+◌, ◌-◌, ◌<◌, ◌≤◌, List, [], ◌∷◌, ◌++◌, map, length, cond, Bool, true, false, ◌||◌, refl, sym, ap, ◌∙◌, arith, length-append, append_assoc, take, drop, get_or}
 use Rattle.std.proofs.Math.Bool.{or-false, or_assoc}
 use Rattle.std.specs.List.{list_any}
 use Rattle.std.proofs.lemmas.List.{map-append, take_more, take-append-drop}
-use Rattle.std.proofs.lemmas.Grind.{flat_map-append}
 use Rattle.std.proofs.lemmas.List.Sums.{sum_by-append, sum_by-cons}
 use Rattle.definitions.specs.Values.{Text, Value}
-use Rattle.definitions.specs.Pointers.{Pointer}
 use Rattle.definitions.specs.Keywords.{Meaning}
-use Rattle.definitions.specs.Schemas.{opened}
 use Rattle.definitions.specs.Applied as definition
 use Rattle.definitions.specs.Applied.{Application, Outcome}
 use Rattle.definitions.specs.Evaluated.{passing}

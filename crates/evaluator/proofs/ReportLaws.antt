@@ -1,6 +1,5 @@
 -- Laws of the answer, and of the report of it.
-use Rattle.std.proofs.Common.{◌≡◌, ◌<◌, ◌≤◌, ℕ, List, [], Bool, ◌&&◌, true, false, Some, Ok, Err, nat_lt, refl, sym, ap, ◌∙◌, arith, Result, IfOk, IfErr}
-use Rattle.std.proofs.lemmas.Bool.Decides.{nat_tests}
+use Rattle.std.proofs.Common.{◌≡◌, ◌<◌, ◌≤◌, ℕ, List, [], Bool, ◌&&◌, true, false, Some, Ok, Err, refl, sym, ap, ◌∙◌, Result, IfOk, IfErr}
 use Rattle.std.proofs.lemmas.Bool.{lt-ltb, le-ltb}
 use Rattle.definitions.specs.Values.{Value, same_text}
 use Rattle.definitions.specs.Faults as meaning

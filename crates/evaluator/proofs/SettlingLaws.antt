@@ -1,5 +1,5 @@
 -- Laws of what a keyword itself notes, once its schemas were applied.
-use Rattle.std.proofs.Common.{◌≡◌, ◌<◌, ℕ, List, [], ◌∷◌, ◌++◌, map, if◌then◌else◌, Bool, true, false, Contains, refl, sym, ap, ◌∙◌, append-nil, subst, flat_map, arith, ◌&&◌}
+use Rattle.std.proofs.Common.{◌≡◌, ◌<◌, ℕ, List, [], ◌∷◌, ◌++◌, map, if◌then◌else◌, Bool, true, false, Contains, refl, sym, ap, ◌∙◌, append-nil, subst, flat_map, arith}
 use Rattle.std.proofs.Math.Bool.{and-true, or-false}
 use Rattle.std.specs.Prelude.{Some, None, codes}
 use Rattle.definitions.specs.Values.{Text, Value, string, get}

@@ -1,23 +1,18 @@
 -- The schema objects that are being applied, beside the steps that are kept for them.
-use Rattle.std.proofs.Common.{◌≡◌, ◌≤◌, ◌<◌, ◌-◌, ◌+◌, ◌++◌, ◌∷◌, ◌&&◌, [], ℕ, zero, suc, List, Bool, true, false, length, nat_le, map, option_map, get_or, take, drop, append_assoc, refl, sym, ap, ap₂, ◌∙◌, arith}
-use Rattle.std.proofs.lemmas.Bool.{and_parts, and_from}
-use Rattle.std.proofs.lemmas.List.{drop-take, take-take, take_all, take_rest, map_push, same_from_push, length-append, length-map, length-take-le, get_or-map, nil_from_length, drop_at, take_at}
+use Rattle.std.proofs.Common.{◌≡◌, ◌≤◌, ◌<◌, ◌++◌, ◌∷◌, ◌&&◌, [], ℕ, zero, suc, List, Bool, true, false, length, nat_le, map, option_map, get_or, take, drop, append_assoc, refl, sym, ap, ap₂, ◌∙◌, arith}
+use Rattle.std.proofs.lemmas.Bool.{and_parts, and_from, leb-true, le-leb}
+use Rattle.std.proofs.lemmas.List.{take-take, take_all, take_rest, map_push, same_from_push, length-append, length-map, length-take-le, get_or-map, nil_from_length, drop_at, take_at}
 use Rattle.std.proofs.lemmas.List.Folds.{list_any_at}
 use Rattle.std.specs.Prelude.{slice_range, if◌then◌else◌}
 use Rattle.std.specs.List.{list_any}
 use Rattle.definitions.specs.Schemas.{Identity}
 use Rattle.definitions.specs.Applied.{Place}
+use Rattle.lemmas.proofs.Lists.{range_is, range_same}
 use Rattle.locations.specs.Steps.{tokens}
 use Rattle.locations.specs.declared.step.Step.{Step}
 use Rattle.applications.proofs.PointerLaws.{no_push}
 use Rattle.applications.specs.Runnings.{running_view, are_laid}
 use Rattle.applications.specs.declared.running.Running.{Running}
-
-le_true : (a b : ℕ) → nat_le a b ≡ true → a ≤ b
-le_true a b h = grind (arith, h)
-
-true_le : (a b : ℕ) → a ≤ b → nat_le a b ≡ true
-true_le a b h = grind (arith, h)
 
 -- where the steps of one stand
 pub record Laid (from to : ℕ) (r : Running) : Type 0 where
@@ -30,7 +25,7 @@ own_parts : (from : ℕ) (r : Running) → (nat_le from r.pointer && (nat_le r.p
 own_parts from r h =
     let p = and_parts (nat_le from r.pointer) _ h in
     let q = and_parts (nat_le r.pointer r.place) (nat_le r.place r.end) p.1 in
-    record { pointer = le_true _ _ p.0; place = le_true _ _ q.0; end = le_true _ _ q.1; within = omega arith }
+    record { pointer = leb-true _ _ p.0; place = leb-true _ _ q.0; end = leb-true _ _ q.1; within = omega arith }
 
 -- the first one, and the rest
 pub record Parts (from to : ℕ) (r : Running) (rs : List Running) : Type 0 where
@@ -44,10 +39,10 @@ parts from to r rs h =
 
 whole : (from to : ℕ) (r : Running) (rs : List Running) → Laid from r.end r → are_laid r.end to rs ≡ true → are_laid from to (r ∷ rs) ≡ true
 whole from to r rs own rest =
-    and_from _ (are_laid r.end to rs) (and_from (nat_le from r.pointer) _ (true_le _ _ own.pointer) (and_from (nat_le r.pointer r.place) (nat_le r.place r.end) (true_le _ _ own.place) (true_le _ _ own.end))) rest
+    and_from _ (are_laid r.end to rs) (and_from (nat_le from r.pointer) _ (le-leb _ _ own.pointer) (and_from (nat_le r.pointer r.place) (nat_le r.place r.end) (le-leb _ _ own.place) (le-leb _ _ own.end))) rest
 
 laid_bound : (from to : ℕ) (rs : List Running) → are_laid from to rs ≡ true → from ≤ to
-laid_bound from to [] h = le_true from to h
+laid_bound from to [] h = leb-true from to h
 laid_bound from to (r ∷ rs) h =
     let p = parts from to r rs h in
     let rest = laid_bound r.end to rs p.rest in
@@ -55,7 +50,7 @@ laid_bound from to (r ∷ rs) h =
 
 -- ---- more steps
 pub laid_more : (from to more : ℕ) (rs : List Running) → to ≤ more → are_laid from to rs ≡ true → are_laid from more rs ≡ true
-laid_more from to more [] le h = true_le from more (omega (arith, le_true from to h))
+laid_more from to more [] le h = le-leb from more (omega (arith, leb-true from to h))
 laid_more from to more (r ∷ rs) le h =
     let p = parts from to r rs h in
     whole from more r rs p.own (laid_more r.end to more rs le p.rest)
@@ -63,8 +58,8 @@ laid_more from to more (r ∷ rs) le h =
 -- ---- one more, and one less
 pub laid_push : (from to more : ℕ) (rs : List Running) (r : Running) → are_laid from to rs ≡ true → Laid to more r → are_laid from more (rs ++ r ∷ []) ≡ true
 laid_push from to more [] r h own =
-    let first : Laid from r.end r = record { pointer = omega (arith, le_true from to h, own.pointer); place = own.place; end = own.end; within = omega arith } in
-    whole from more r [] first (true_le r.end more own.within)
+    let first : Laid from r.end r = record { pointer = omega (arith, leb-true from to h, own.pointer); place = own.place; end = own.end; within = omega arith } in
+    whole from more r [] first (le-leb r.end more own.within)
 laid_push from to more (s ∷ rs) r h own =
     let p = parts from to s rs h in
     whole from more s (rs ++ r ∷ []) p.own (laid_push s.end to more rs r p.rest own)
@@ -72,7 +67,7 @@ laid_push from to more (s ∷ rs) r h own =
 pub laid_pop : (from to : ℕ) (rs : List Running) (r : Running) → are_laid from to (rs ++ r ∷ []) ≡ true → (are_laid from r.pointer rs ≡ true) × Laid from to r
 laid_pop from to [] r h =
     let p = parts from to r [] h in
-    (true_le from r.pointer p.own.pointer, record { pointer = p.own.pointer; place = p.own.place; end = p.own.end; within = le_true r.end to p.rest })
+    (le-leb from r.pointer p.own.pointer, record { pointer = p.own.pointer; place = p.own.place; end = p.own.end; within = leb-true r.end to p.rest })
 laid_pop from to (s ∷ rs) r h =
     let p = parts from to s (rs ++ r ∷ []) h in
     let q = laid_pop s.end to rs r p.rest in
@@ -90,15 +85,6 @@ laid_at from to (r ∷ rs) (suc i) d less h =
     record { pointer = omega (arith, q.pointer, p.own.pointer, p.own.place, p.own.end); place = q.place; end = q.end; within = q.within }
 
 -- ---- the same beside any steps whose first ones are those that are kept
-range_is : {X : Type 0} (xs : List X) (a b : ℕ) → a ≤ b → slice_range xs a b ≡ drop a (take b xs)
-range_is xs a b le =
-    let sum : a + (b - a) ≡ b = omega arith in
-    sym (drop-take a (b - a) xs) ∙ ap (λ n. drop a (take n xs)) sum
-
-range_same : {X : Type 0} (xs ys : List X) (n a b : ℕ) → take n xs ≡ take n ys → a ≤ b → b ≤ n → slice_range xs a b ≡ slice_range ys a b
-range_same xs ys n a b same le within =
-    range_is xs a b le ∙ ap (drop a) (sym (take-take b n xs within) ∙ ap (take b) same ∙ take-take b n ys within) ∙ sym (range_is ys a b le)
-
 pub views_same : (xs ys : List Step) (from to : ℕ) (rs : List Running) → take to xs ≡ take to ys → are_laid from to rs ≡ true → map (running_view xs) rs ≡ map (running_view ys) rs
 views_same xs ys from to [] same h = refl
 views_same xs ys from to (r ∷ rs) same h =

@@ -3,15 +3,15 @@ use Rattle.std.proofs.Common.{◌≡◌, ℕ, suc, ◌+◌, ◌-◌, ◌<◌, Li
 use Rattle.std.proofs.lemmas.List.{take_rest}
 use Rattle.std.specs.List.{list_any}
 use Rattle.definitions.specs.Values.{has_repeat, same}
+use Rattle.lemmas.proofs.Lists.{list_any-map}
 use Rattle.json_doc.specs.Docs.{value}
 use Rattle.json_doc.specs.declared.doc.Doc.{Doc}
-use Rattle.assertions.proofs.Elements.{list_any-value}
 
 abbrev pub repeats : List Doc → Bool
 repeats ds = has_repeat same (map value ds)
 
 repeats-cons : (d : Doc) (ds : List Doc) → repeats (d ∷ ds) ≡ (list_any (λ e. same (value d) (value e)) ds || repeats ds)
-repeats-cons d ds = ap (λ b. b || repeats ds) (list_any-value (same (value d)) ds)
+repeats-cons d ds = ap (λ b. b || repeats ds) (list_any-map (same (value d)) value ds)
 
 left_from : (ds : List Doc) (i : ℕ) (d : Doc) → i < length ds → d ≡ get_or ds i d → drop i ds ≡ d ∷ drop (i + 1) ds
 left_from ds i d h e = drop-cons ds i d h ∙ ap (λ x. x ∷ drop (suc i) ds) (sym e) ∙ ap (λ n. d ∷ drop n ds) (sym (add-one i))

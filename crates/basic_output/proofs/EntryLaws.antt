@@ -1,9 +1,10 @@
 -- An entry shows the same beside any steps whose first ones are those that it refers to.
-use Rattle.std.proofs.Common.{◌≡◌, ◌≤◌, ◌+◌, ◌-◌, ℕ, List, [], ◌∷◌, ◌++◌, true, nat_le, map, take, drop, length, pos, Bor, refl, sym, ap, ◌∙◌, arith}
-use Rattle.std.proofs.lemmas.Bool.{and_parts}
-use Rattle.std.proofs.lemmas.List.{drop-take, take-take, drop_at, take_all, length-append}
+use Rattle.std.proofs.Common.{◌≡◌, ◌≤◌, ◌-◌, ℕ, List, [], ◌∷◌, ◌++◌, true, nat_le, map, take, drop, length, pos, Bor, refl, ap, ◌∙◌, arith}
+use Rattle.std.proofs.lemmas.Bool.{and_parts, leb-true, le-leb}
+use Rattle.std.proofs.lemmas.List.{drop_at, take_all, length-append}
 use Rattle.std.specs.Prelude.{slice_range}
 use Rattle.definitions.specs.Values.{Text, integer, string, array, to_elements}
+use Rattle.lemmas.proofs.Lists.{range_same}
 use Rattle.basic_output.specs.Entries.{steps_of, said_value, entry_view, is_within, said_fits, fits}
 use Rattle.locations.specs.Steps.{tokens, step_value, named_steps, indexed_steps}
 use Rattle.locations.specs.declared.step.Step.{Step}
@@ -12,25 +13,10 @@ use Rattle.basic_output.specs.declared.entry.Said.{Said}
 use Rattle.basic_output.specs.declared.entry.Said.TheVariants as said
 use Rattle.basic_output.specs.declared.entry.Entry.{Entry}
 
-range_is : {X : Type 0} (xs : List X) (a b : ℕ) → a ≤ b → slice_range xs a b ≡ drop a (take b xs)
-range_is xs a b le =
-    let sum : a + (b - a) ≡ b = omega arith in
-    sym (drop-take a (b - a) xs) ∙ ap (λ n. drop a (take n xs)) sum
-
-pub le_true : (a b : ℕ) → nat_le a b ≡ true → a ≤ b
-le_true a b h = grind (arith, h)
-
-pub true_le : (a b : ℕ) → a ≤ b → nat_le a b ≡ true
-true_le a b h = grind (arith, h)
-
-pub range_same : {X : Type 0} (xs ys : List X) (n a b : ℕ) → take n xs ≡ take n ys → a ≤ b → b ≤ n → slice_range xs a b ≡ slice_range ys a b
-range_same xs ys n a b same le within =
-    range_is xs a b le ∙ ap (drop a) (sym (take-take b n xs within) ∙ ap (take b) same ∙ take-take b n ys within) ∙ sym (range_is ys a b le)
-
 pub steps_same : (xs ys : List Step) (n : ℕ) (s : Segment) → take n xs ≡ take n ys → is_within n s ≡ true → steps_of xs s ≡ steps_of ys s
 steps_same xs ys n s same h =
     let p = and_parts (nat_le s.start s.end) (nat_le s.end n) h in
-    range_same xs ys n s.start s.end same (le_true s.start s.end p.0) (le_true s.end n p.1)
+    range_same xs ys n s.start s.end same (leb-true s.start s.end p.0) (leb-true s.end n p.1)
 
 said_same : (xs ys : List Step) (n : ℕ) (s : Said) → take n xs ≡ take n ys → said_fits n s ≡ true → said_value xs s ≡ said_value ys s
 said_same xs ys n (said.NotMet keyword) same h = refl
@@ -73,7 +59,7 @@ view_same xs ys n e same h =
 within_more : (m n : ℕ) (s : Segment) → m ≤ n → is_within m s ≡ true → is_within n s ≡ true
 within_more m n s le h =
     let p = and_parts (nat_le s.start s.end) (nat_le s.end m) h in
-    let last = true_le s.end n (omega (arith, le_true s.end m p.1)) in
+    let last = le-leb s.end n (omega (arith, leb-true s.end m p.1)) in
     rw (p.0, last) refl
 
 pub said_more : (m n : ℕ) (s : Said) → m ≤ n → said_fits m s ≡ true → said_fits n s ≡ true
@@ -96,7 +82,7 @@ fits_more m n e le h =
 
 -- the segment of what was appended
 pub within_appended : (a b n : ℕ) → a ≤ b → b ≤ n → is_within n (record { start = a; end = b }) ≡ true
-within_appended a b n le within = rw (true_le a b le, true_le b n within) refl
+within_appended a b n le within = rw (le-leb a b le, le-leb b n within) refl
 
 pub range_appended : {X : Type 0} (xs ys zs : List X) → zs ≡ xs ++ ys → slice_range zs (length xs) (length zs) ≡ ys
 range_appended xs ys zs e =

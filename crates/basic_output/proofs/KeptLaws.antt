@@ -5,6 +5,7 @@ use Rattle.std.proofs.lemmas.List.{take-take, take-append-le, take_all, length-t
 use Rattle.std.specs.Prelude.{if◌then◌else◌, nat_lt}
 use Rattle.std.specs.List.{list_all, insert}
 use Rattle.definitions.specs.Applied.{OutputUnit}
+use Rattle.lemmas.proofs.Lists.{map-insert}
 use Rattle.basic_output.specs.Entries.{Grows, entry_view, fits}
 use Rattle.basic_output.specs.Kept.{AreReached, raised, reach_before}
 use Rattle.locations.specs.declared.step.Step.{Step}
@@ -59,14 +60,6 @@ pub grown_length : {A : Type 0} (xs ys : List A) → Grows xs ys → length xs �
 grown_length xs ys g = omega (arith, ap length g.1, length-append xs g.0)
 
 -- ---- one put among them
-drop_map : {A B : Type 0} (f : A → B) (n : ℕ) (xs : List A) → drop n (map f xs) ≡ map f (drop n xs)
-drop_map f zero xs = refl
-drop_map f (suc n) [] = refl
-drop_map f (suc n) (x ∷ xs) = drop_map f n xs
-
-pub map_insert : {A B : Type 0} (f : A → B) (xs : List A) (i : ℕ) (x : A) → map f (insert xs i x) ≡ insert (map f xs) i (f x)
-map_insert f xs i x = map-append f (take i xs) (x ∷ drop i xs) ∙ ap₂ (λ a b. a ++ f x ∷ b) (sym (take-map f i xs)) (sym (drop_map f i xs))
-
 -- a place past the end is the end
 pub insert_min : {A : Type 0} (xs : List A) (i : ℕ) (x : A) → insert xs (min i (length xs)) x ≡ insert xs i x
 insert_min xs i x = ap₂ (λ a b. a ++ x ∷ b) (take_min i xs) (drop_min i xs)
@@ -158,7 +151,7 @@ pub inserted_views : (xs ys : List Step) (es : List Entry) (e : Entry) (u : Outp
     → entry_view ys e ≡ u → i ≡ min m (length es) → map (entry_view ys) (insert es i e) ≡ insert (map (entry_view xs) es) m u
 inserted_views xs ys es e u i m grown h view place =
     let us = map (entry_view xs) es in
-    map_insert (entry_view ys) es i e ∙ ap₂ (λ vs v. insert vs i v) (grown_views xs ys es grown h) view
+    map-insert (entry_view ys) es i e ∙ ap₂ (λ vs v. insert vs i v) (grown_views xs ys es grown h) view
     ∙ ap (λ k. insert us k u) (place ∙ ap (min m) (sym (length-map es (entry_view xs)))) ∙ insert_min us m u
 
 pub on_err : {T E : Type 0} {P : Type 0} (r : Result T E) → P → OnErr r P

@@ -1,5 +1,5 @@
 -- A list with one document: what is added to an empty list, and what its canonical URI reaches.
-use Rattle.std.proofs.Common.{◌≡◌, ◌||◌, Bool, true, false, List, [], ◌∷◌, Option, Some, None, Result, Ok, Err, filter, not, cond, option_map, refl, sym, ap, ◌∙◌, subst}
+use Rattle.std.proofs.Common.{◌≡◌, ◌||◌, Bool, true, false, List, [], ◌∷◌, Option, Some, None, Result, Err, filter, not, cond, option_map, refl, sym, ap, ◌∙◌}
 use Rattle.std.specs.List.{list_any}
 use Rattle.definitions.specs.Answers.{answer}
 use Rattle.definitions.specs.Applied.{Outcome}
@@ -9,7 +9,7 @@ use Rattle.definitions.specs.Reach.{holds_resource, refers_to, grown, reach, lea
 use Rattle.definitions.specs.Registries.{placed, resources_of}
 use Rattle.definitions.specs.Schemas.{Document, document_from}
 use Rattle.definitions.specs.Values.{Text, Value, same_text}
-use Rattle.definition_laws.proofs.ReachedSets.{same_text-itself}
+use Rattle.lemmas.proofs.Texts.{same_text_itself}
 use Rattle.definition_laws.proofs.StoredDocuments.{holds_itself}
 use Rattle.evaluator.specs.Reports.{reported}
 use Rattle.linker.specs.LinkFaults.{link_fault}
@@ -40,7 +40,7 @@ kept_one p d e = ap (λ b. cond b (d ∷ []) []) e
 grows_no_more : (d : Document) → grown (d ∷ []) (d ∷ []) ≡ d ∷ []
 grows_no_more d =
     kept_one (λ e. list_any (λ x. same_text x.canonical e.canonical || refers_to x e) (d ∷ [])) d
-    (ap (λ b. (b || refers_to d d) || false) (same_text-itself d.canonical))
+    (ap (λ b. (b || refers_to d d) || false) (same_text_itself d.canonical))
 
 pub reaches_itself : (base : Text) (v : Value)
     → reach (document_from base v ∷ []) (document_from base v).canonical ≡ document_from base v ∷ []

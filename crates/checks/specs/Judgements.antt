@@ -1,5 +1,5 @@
 -- What a schema says of an instance, or the first fault, where both are judged at once and without a registry.
-use Rattle.std.specs.Prelude.{List, [], ◌∷◌, Bool, false, if◌then◌else◌, Option, Some, None, Result, Ok, Err, option_map, codes}
+use Rattle.std.specs.Prelude.{[], ◌∷◌, Bool, false, if◌then◌else◌, Option, Some, None, Result, Ok, Err, option_map, codes}
 use Rattle.definitions.specs.Answers.{answer}
 use Rattle.definitions.specs.Faults.{Fault, bad_input, bad_pattern, unresolved}
 use Rattle.definitions.specs.Patterns.{has_match, regular_search}

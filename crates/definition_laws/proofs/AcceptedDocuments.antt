@@ -7,7 +7,6 @@ use Rattle.std.specs.List.{list_any}
 use Rattle.std.specs.Ordering.{nat_cmp}
 use Rattle.definitions.specs.Values.{Text, has_repeat, same_text, is_object, nesting}
 use Rattle.definitions.specs.Faults.{Fault, bad_pattern, taken, quota_documents, quota_bytes, not_object, too_nested, duplicate_uri, duplicate_anchor}
-use Rattle.definitions.specs.Keywords.{keywords}
 use Rattle.definitions.specs.Schemas.{Document, schemas_of, schema_at, option_list}
 use Rattle.definitions.specs.Scanning.{first, when, unless, scan_faults, same_anchor, anchors_of, most_nested_schema, walked}
 use Rattle.definitions.specs.Reach.{holds_resource}

@@ -10,9 +10,9 @@ use Rattle.definitions.specs.Targets.{resource_root, target, dynamically_anchore
 use Rattle.definitions.specs.Applied.{Application, Outcome, Rules, entered}
 use Rattle.definitions.specs.Outcomes.{outcome, schema_outcome, object_outcome, boolean_outcome, false_unit, leaf, is_running, same_place}
 use Rattle.definition_laws.specs.Likeness.{AlikeTablesGiveTheSame, AlikeTablesAnswerTheSame}
-use Rattle.definition_laws.proofs.Occurrences.{IsIn, in_from_contains, contains_from_in, in_append}
+use Rattle.definition_laws.proofs.Occurrences.{IsIn, in_from_contains, contains_from_in, in_append, found_in}
 use Rattle.definition_laws.proofs.Unbundled.{as_truth, as_truth_alike, is_object_alike}
-use Rattle.definition_laws.proofs.Tables.{IsClosed, table_closed, step_closed, target_held, dynamically_anchored_in, found_in}
+use Rattle.definition_laws.proofs.Tables.{IsClosed, table_closed, step_closed, target_held, dynamically_anchored_in}
 use Rattle.definition_laws.proofs.Targets.{alike_resource, alike_pointer, AlikeIn, alike_in, AnchorsAlike, dynamic_alike}
 use Rattle.definition_laws.proofs.Applying.{of_schema, IsSetting}
 use Rattle.definition_laws.proofs.Gathering.{object_same}

@@ -1,6 +1,7 @@
 -- Alike schemas, applied in the same way, apply the same schemas, or alike ones.
 use Rattle.std.proofs.Common.{◌≡◌, ◌||◌, ◌++◌, ◌==◌, ℕ, List, [], ◌∷◌, Bool, true, false, not, cond, Option, Some, None, map, length, drop, decimal, is_some, option_map, option_and_then, unwrap_or, codes, refl, sym, ap, ap₂, subst, ◌∙◌, inl, inr}
 use Rattle.std.proofs.lemmas.List.{map-append}
+use Rattle.std.proofs.lemmas.List.Elements.{filter_agree}
 use Rattle.std.specs.List.{flat_map, filter, enumerate_from, list_any, zip}
 use Rattle.definitions.specs.Values.{Text, Value, null, string, same_text, get, entry, elements, members}
 use Rattle.definitions.specs.Alike.{IsAlikeSchema}
@@ -10,10 +11,10 @@ use Rattle.definitions.specs.Keywords.{keywords, shape_in, Meaning, refers, refe
 use Rattle.definitions.specs.Schemas.{Schema, below, reference_at, references}
 use Rattle.definitions.specs.Targets.{target, dynamic_target}
 use Rattle.definitions.specs.Applied.{Application, Outcome, Part, whole, named, indexed, name_of, Rules, applying, at_part, in_place, to_target, each_listed, at_items, at_members, at_present, has, beside, consequence_of, condition_outcome, contains_outcomes, is_taken, applied}
+use Rattle.lemmas.proofs.Texts.{same_text_is}
 use Rattle.definition_laws.proofs.Occurrences.{IsIn, into_map, from_filter, zipped_first}
 use Rattle.definition_laws.proofs.Places.{IsStep, places}
 use Rattle.definition_laws.proofs.Unbundled.{is_changed}
-use Rattle.definition_laws.proofs.Roots.{same_text_is}
 use Rattle.definition_laws.proofs.Targets.{AlikeIn, equal_alike, below_alike, alike_get, alike_reference, referred_alike, static_reference, dynamic_reference}
 
 -- ---- one step down by a keyword's shape
@@ -146,10 +147,6 @@ got_in name (m ∷ ms) v e = by (same_text name m.0) refl e (got_in name ms v)
 
 pub get_in : (name : Text) (x : Value) (v : Value) → get name x ≡ Some v → IsIn (name, v) (members x)
 get_in name x v e = got_in name (members x) v e
-
-pub filter_same : {X : Type 0} (p q : X → Bool) (xs : List X) → ((x : X) → p x ≡ q x) → filter p xs ≡ filter q xs
-filter_same p q [] h = refl
-filter_same p q (x ∷ xs) h = ap₂ (λ b rest. cond b (x ∷ rest) rest) (h x) (filter_same p q xs h)
 
 module _ (table other : List Schema) (run again : Application → Outcome) (a : Application) (t : Schema) (c : IsSetting table other run again a t) where
   part_same : (way : Pointer) (u : Value) (part : Part) (x : Value) → IsStep keywords a.schema (below a.schema way u) way
@@ -297,8 +294,8 @@ module _ (table other : List Schema) (run again : Application → Outcome) (a : 
       (λ p l. part_same (k ∷ p.0 ∷ []) p.1 (named m.0) m.1 (step_named a.schema k v p i (map_is _ h) (from_filter _ (members v) p l))))
   applied_same rules names indexes k other_properties v i h =
       ap (λ ms. outcomes again (at_members (of_schema a t) k v ms))
-      (filter_same (λ m. not (is_taken (record rules { schemas = other }) (of_schema a t) m.0)) (λ m. not (is_taken (record rules { schemas = table }) a m.0)) (members a.instance)
-      (λ m. ap not (taken_same rules m.0)))
+      (filter_agree (λ m. not (is_taken (record rules { schemas = other }) (of_schema a t) m.0)) (λ m. not (is_taken (record rules { schemas = table }) a m.0))
+      (λ m. ap not (taken_same rules m.0)) (members a.instance))
       ∙ members_same k v (filter (λ m. not (is_taken (record rules { schemas = table }) a m.0)) (members a.instance)) i h
   applied_same rules names indexes k property_names v i h =
       mapped_same run again (λ m. at_part a (k ∷ []) v (name_of m.0) (string m.0)) (λ m. at_part (of_schema a t) (k ∷ []) v (name_of m.0) (string m.0)) (members a.instance)

@@ -11,19 +11,20 @@ use Rattle.definitions.specs.Scanning.{resource_uris}
 use Rattle.definitions.specs.Alike.{IsAlikeSchema}
 use Rattle.definition_laws.proofs.Targets.{alike_resource, alike_pointer}
 use Rattle.definitions.specs.Registries.{resources_of}
-use Rattle.definitions.specs.Reach.{least}
 use Rattle.definitions.specs.Bundles.{document_of, others_of, under_its_uri, defs_of, bundle_of, clash, most_bundle_bytes, most_bundle_nesting, sized, bundle_unless, bundle_from, bundle}
+use Rattle.lemmas.proofs.Texts.{same_text_itself, same_text_is}
 use Rattle.definition_laws.specs.Identities.{IsDefinite}
 use Rattle.definition_laws.specs.Bundling.{IsAbsolute, AreWhole, BundlesKeepTheirUri, BundlesKeepTheResources, BundlesAreDefinite, BundlesAreAlike, BundlesAnswerTheSame}
-use Rattle.definition_laws.proofs.Occurrences.{IsIn, in_from_contains, contains_from_in, in_flat_map, into_flat_map, in_map, into_map, into_filter, from_filter, filter_passes}
+use Rattle.definition_laws.proofs.Occurrences.{IsIn, in_from_contains, contains_from_in, in_flat_map, into_flat_map, in_map, into_map, into_filter, from_filter, filter_passes, found_in, found_passes}
 use Rattle.definition_laws.proofs.Places.{value-opened, IsStep, IsBelow, here, further}
-use Rattle.definition_laws.proofs.Roots.{same_text_itself, same_text_is, within_from, root_opened, table_definite}
-use Rattle.definition_laws.proofs.Tables.{table_closed, step_closed, found_in}
-use Rattle.definition_laws.proofs.ReachedTables.{found_passes, one_has, own_uri}
+use Rattle.definition_laws.proofs.Roots.{within_from, root_opened, table_definite}
+use Rattle.definition_laws.proofs.Tables.{table_closed, step_closed}
+use Rattle.definition_laws.proofs.ReachedTables.{one_has, own_uri}
 use Rattle.definition_laws.proofs.Extending.{Extends, extends_itself, extends_by, extends_below, Correspond, IsPrepared, prepared_alike, roots_alike}
 use Rattle.definition_laws.proofs.AlikeTables.{alike_tables_answer_the_same}
 use Rattle.definition_laws.proofs.BundledValues.{bundle_definite}
 use Rattle.definition_laws.proofs.BundledDocuments.{root_schema, step_moved, opened_there, under_id, under_keeps, under_had, under_unbundled, bundle_id, bundle_keeps, bundle_had, bundle_embeds, bundle_unbundled, entry_found, IsApart, HaveOwnUris}
+use Rattle.definition_laws.proofs.LeastTexts.{no_least}
 
 -- ---- a document's own root
 schema_equal : (s t : Schema) → s.resource ≡ t.resource → s.pointer ≡ t.pointer → s.value ≡ t.value → s ≡ t
@@ -198,16 +199,12 @@ bundle_parts : (o : Option Document) (others : List Document) (v : Value) → bu
 bundle_parts None others v e = absurd (cc)
 bundle_parts (Some root) others v e = (root, refl, bundle_unless_is (clash root others) root others v e)
 
-least_none : (ts : List Text) → least ts ≡ None → ts ≡ []
-least_none [] e = refl
-least_none (t ∷ ts) e = absurd (cc)
-
 no_clash : (root : Document) (others : List Document) → clash root others ≡ None → IsApart root others
 no_clash root others e d i x j =
     let taken : IsIn d.canonical (filter (λ n. is_some (entry n (defs_of root.value))) (map (λ c. c.canonical) others)) =
     into_filter (λ n. is_some (entry n (defs_of root.value))) (map (λ c. c.canonical) others) d.canonical (into_map (λ c. c.canonical) others d i)
     (entry_found d.canonical x (defs_of root.value) j) in
-    subst (IsIn d.canonical) (least_none (filter (λ n. is_some (entry n (defs_of root.value))) (map (λ c. c.canonical) others)) e) taken
+    subst (IsIn d.canonical) (no_least (filter (λ n. is_some (entry n (defs_of root.value))) (map (λ c. c.canonical) others)) e) taken
 
 own_uris : (ds : List Document) → AreWhole ds → HaveOwnUris ds
 own_uris ds whole d e i j same =

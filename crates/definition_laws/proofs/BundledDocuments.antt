@@ -6,11 +6,11 @@ use Rattle.definitions.specs.Pointers.{Pointer}
 use Rattle.definitions.specs.Keywords.{keywords, shape_in}
 use Rattle.definitions.specs.Schemas.{Schema, Document, opened, schema_at}
 use Rattle.definitions.specs.Bundles.{put_member, under_its_uri, embedded, defs_of, bundle_of}
+use Rattle.lemmas.proofs.Texts.{same_text_itself, same_text_is}
 use Rattle.definition_laws.specs.Identities.{IsDefinite}
 use Rattle.definition_laws.specs.Bundling.{IsAbsolute}
 use Rattle.definition_laws.proofs.Occurrences.{IsIn, in_map, into_map}
 use Rattle.definition_laws.proofs.Places.{places, members_once, IsStep}
-use Rattle.definition_laws.proofs.Roots.{same_text_itself, same_text_is}
 use Rattle.definition_laws.proofs.Targets.{below_alike}
 use Rattle.definition_laws.proofs.Applying.{get_in}
 use Rattle.definition_laws.proofs.MembersPut.{put_in, put_beside, put_from, put_entry, put_other_entry, members_with, is_object-with, unbundled-with}

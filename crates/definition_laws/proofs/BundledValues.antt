@@ -7,17 +7,14 @@ use Rattle.std.specs.Cmp.Lexicographic.{slice_cmp}
 use Rattle.std.specs.Ordering.{match_ordering, is_lt, ordering_reverse}
 use Rattle.std.specs.Str.{is_utf8, chars}
 use lib.Utf8.{encode}
-use Rattle.definitions.specs.Values.{Text, Value, null, boolean, integer, string, array, object, Members, no_members, member, members, members_list, to_members, get, is_well_formed, are_well_formed_members, is_before}
+use Rattle.definitions.specs.Values.{Text, Value, null, boolean, integer, string, array, object, no_members, members, members_list, to_members, get, is_well_formed, are_well_formed_members, is_before}
 use Rattle.definitions.specs.Schemas.{Document}
 use Rattle.definitions.specs.Bundles.{put_member, with_member, under_its_uri, embedded, defs_of, bundle_of}
+use Rattle.lemmas.proofs.Members.{to_members-members_list}
 use Rattle.definition_laws.specs.Identities.{has_short_arrays, members_have_short_arrays, IsDefinite}
 use Rattle.definition_laws.proofs.Occurrences.{IsIn}
 use Rattle.definition_laws.proofs.Places.{definite_members}
 use Rattle.definition_laws.proofs.Applying.{get_in}
-
-list_back : (ms : Members) → to_members (members_list ms) ≡ ms
-list_back no_members = refl
-list_back (member n v ms) = ap (member n v) (list_back ms)
 
 -- ---- members in order
 abbrev IsOrdered : List (Text × Value) → Type 0
@@ -83,7 +80,7 @@ put_definite : (n : Text) (v : Value) (ms : List (Text × Value)) → is_utf8 n 
 put_definite n v ms a d h = record { well_formed = put_ordered n v ms a d.well_formed h.well_formed; short_arrays = put_short n v ms d.short_arrays h.short_arrays }
 
 listed_definite : (v : Value) → IsDefinite v → IsDefinite (of_list (members v))
-listed_definite (object ms) d = subst (λ ns. IsDefinite (object ns)) (sym (list_back ms)) d
+listed_definite (object ms) d = subst (λ ns. IsDefinite (object ns)) (sym (to_members-members_list ms)) d
 listed_definite _ d = record { well_formed = refl; short_arrays = refl }
 
 definite-with : (n : Text) (v x : Value) → is_utf8 n ≡ true → IsDefinite v → IsDefinite x → IsDefinite (with_member n v x)

@@ -1,6 +1,6 @@
 -- Tables whose schemas correspond, each to one that has all that it has below it, are alike.
 use Rattle.std.proofs.Common.{◌≡◌, ◌&&◌, suc, ◌||◌, ◌==◌, List, [], ◌∷◌, Bool, true, false, cond, Option, Some, None, Result, Ok, Err, is_some, length, option_map, option_and_then, unwrap_or, codes, refl, sym, ap, ap₂, subst, ◌∙◌, inl, inr}
-use Rattle.std.proofs.lemmas.Bool.{and_parts}
+use Rattle.std.proofs.lemmas.Bool.{and_parts, or_right}
 use Rattle.std.specs.List.{flat_map, find}
 use Rattle.definitions.specs.Values.{Text, Value, nesting, has_repeat, same_text, as_string, text_at, members}
 use Rattle.definitions.specs.Alike.{IsAlikeSchema, IsAlike, AreAlike}
@@ -15,14 +15,15 @@ use Rattle.definitions.specs.Registries.{resources_of}
 use Rattle.definitions.specs.Reach.{missing}
 use Rattle.definitions.specs.Runs.{resource_uris_of}
 use Rattle.definitions.specs.Targets.{resource_root, has_text, is_anchor, is_dynamic_anchor, anchored, dynamically_anchored, pointed, target_in, fragment_of}
+use Rattle.lemmas.proofs.Texts.{same_text_itself, same_text_is}
 use Rattle.definition_laws.specs.Identities.{IsDefinite}
-use Rattle.definition_laws.proofs.Occurrences.{IsIn, in_from_contains, contains_from_in, in_flat_map, into_map}
+use Rattle.definition_laws.proofs.Occurrences.{IsIn, in_from_contains, contains_from_in, in_flat_map, into_map, found_somewhere, found_in, found_passes}
 use Rattle.definition_laws.proofs.Places.{IsStep, places, IsBelow, here, further}
-use Rattle.definition_laws.proofs.Roots.{same_text_itself, same_text_is, same_pointer_is, within_from, pointed_from, roots_once, root_pointer, table_uris}
-use Rattle.definition_laws.proofs.Tables.{found_in}
+use Rattle.definition_laws.proofs.Roots.{same_pointer_is, within_from, pointed_from, roots_once, root_pointer}
 use Rattle.definition_laws.proofs.Unbundled.{is_changed}
 use Rattle.definition_laws.proofs.Targets.{alike_resource, alike_pointer, equal_alike, below_alike, alike_get}
-use Rattle.definition_laws.proofs.ReachedTables.{found_passes, found_somewhere, one_has, own_uri, has_target}
+use Rattle.definition_laws.proofs.ReachedTables.{one_has, own_uri, has_target}
+use Rattle.definition_laws.proofs.Resources.{table_uris}
 
 -- ---- an alike schema with all that stands below the first
 pub record Extends (s t : Schema) : Type 0 where
@@ -157,11 +158,7 @@ anchors_once ds distinct own uri name s r i j h k =
         (anchor_named name (text_at (codes "$anchor") q.value) (text_at (codes "$dynamicAnchor") q.value) l)
 
 dynamic_is_anchor : (name : Text) (s : Schema) → is_dynamic_anchor name s ≡ true → is_anchor name s ≡ true
-dynamic_is_anchor name s h = by (has_text (codes "$anchor") name s) h
-  where
-    by : (b : Bool) {c : Bool} → c ≡ true → (b || c) ≡ true
-    by true e = refl
-    by false e = e
+dynamic_is_anchor name s h = or_right (has_text (codes "$anchor") name s) _ h
 
 -- ---- what a pointer leads to
 pointed_below : (way : Pointer) (r s : Schema) → pointed way r ≡ Some s → IsBelow keywords r s way

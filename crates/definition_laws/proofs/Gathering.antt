@@ -4,6 +4,7 @@ use Rattle.std.proofs.lemmas.Bool.{and_parts}
 use Rattle.std.proofs.lemmas.Grind.{flat_map-append}
 use Rattle.std.proofs.lemmas.List.Folds.{list_all-append, list_any-append}
 use Rattle.std.proofs.lemmas.List.Sums.{sum_by-append}
+use Rattle.std.proofs.lemmas.List.Elements.{filter_agree}
 use Rattle.std.specs.List.{flat_map, filter, list_any, list_all, sum_by}
 use Rattle.definitions.specs.Values.{Text, Value, string, same_text, get, members, is_array, is_string}
 use Rattle.definitions.specs.Uris.{begins}
@@ -14,11 +15,11 @@ use Rattle.definitions.specs.Applied.{Application, Outcome, Part, Rules, entered
 use Rattle.definitions.specs.Evaluated.{passing, failed, passed, needs_none, contains_holds, keyword_passes, evaluated_names, evaluated_indexes, annotation_of, may_annotate, is_annotation}
 use Rattle.definitions.specs.Assertions.{is_at_least, is_at_most}
 use Rattle.definitions.specs.Outcomes.{Use, unit, own_annotation, use_annotations, other_annotations, use_errors, combined, use_of, used, uses_of, object_outcome}
+use Rattle.lemmas.proofs.Texts.{same_text_is}
 use Rattle.definition_laws.proofs.Occurrences.{IsIn, all_pass_in, from_filter}
 use Rattle.definition_laws.proofs.Unbundled.{is_changed, kept_alike, filter_kept}
-use Rattle.definition_laws.proofs.Roots.{same_text_is}
 use Rattle.definition_laws.proofs.Targets.{alike_resource, alike_pointer, alike_get}
-use Rattle.definition_laws.proofs.Applying.{fits, outcomes, of_schema, IsSetting, beside_same, contains_same, get_in, filter_same, applied_same}
+use Rattle.definition_laws.proofs.Applying.{fits, outcomes, of_schema, IsSetting, beside_same, contains_same, get_in, applied_same}
 
 -- ---- each row applies by its shape, and those of members that a bundle may change apply nothing
 abbrev declares_only : Meaning → Bool
@@ -240,7 +241,7 @@ others_same a t h =
     let none : (m : Text × Value) → is_changed m.0 ≡ true → is_annotation a.schema.value a.instance m.0 ≡ false = λ m e. not_changed_annotation a.schema.value a.instance m.0 e in
     units_same a t h (filter (λ m. is_annotation t.value a.instance m.0) (members t.value))
     ∙ ap (map (λ m. unit a m.0 m.1))
-    (filter_same (λ m. is_annotation t.value a.instance m.0) p (members t.value) (λ m. annotation_by m.0)
+    (filter_agree (λ m. is_annotation t.value a.instance m.0) p (λ m. annotation_by m.0) (members t.value)
     ∙ sym (filter_kept p (members t.value) none)
     ∙ ap (filter p) (kept_alike a.schema.value t.value h.1)
     ∙ filter_kept p (members a.schema.value) none)

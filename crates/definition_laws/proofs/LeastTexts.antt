@@ -7,6 +7,7 @@ use Rattle.definitions.specs.Values.{Text}
 use Rattle.definitions.specs.Schemas.{Document, table_of}
 use Rattle.definitions.specs.Targets.{target}
 use Rattle.definitions.specs.Reach.{references_in, missing, least, lesser}
+use Rattle.lemmas.proofs.Options.{none_from_is_none}
 use Rattle.definition_laws.specs.Linking.{IsLeast, IsMissing}
 use Rattle.definition_laws.proofs.Membership.{nothing_in, is_first, is_later, first_or_later, in_filter, from_filter}
 use Rattle.definition_laws.proofs.Repeats.{in_flat_map, from_flat_map}
@@ -84,10 +85,6 @@ pub no_texts : (ts : List Text) → (least ts ≡ None) ↔ (ts ≡ [])
 no_texts ts = (no_least ts, λ e. ap least e)
 
 -- ---- references without a target
-is_nothing : {A : Type 0} (o : Option A) → is_none o ≡ true → o ≡ None
-is_nothing None e = refl
-is_nothing (Some x) e = absurd (true≢false (sym e))
-
 pub missing_name_nothing : (ds : List Document) (reference : Text) → Contains (missing ds) reference ↔ IsMissing ds reference
 missing_name_nothing ds r = (from_missing, to_missing)
   where
@@ -95,7 +92,7 @@ missing_name_nothing ds r = (from_missing, to_missing)
     from_missing c =
         let kept = from_filter (λ x. is_none (target (table_of ds) x)) r (flat_map references_in ds) c in
         let by : (d : Document) × (Contains ds d × Contains (references_in d) r) = from_flat_map references_in r ds kept.0 in
-        record { document = by.0; inside = by.1.0; refers = by.1.1; names_nothing = is_nothing (target (table_of ds) r) kept.1 }
+        record { document = by.0; inside = by.1.0; refers = by.1.1; names_nothing = none_from_is_none (target (table_of ds) r) kept.1 }
 
     to_missing : IsMissing ds r → Contains (missing ds) r
     to_missing m =

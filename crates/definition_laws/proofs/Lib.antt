@@ -10,7 +10,6 @@ pub mod Applying
 pub mod Gathering
 pub mod AlikeTables
 pub mod ReachedTables
-pub mod PointerTexts
 pub mod Membership
 pub mod Repeats
 pub mod NeighbourRepeats

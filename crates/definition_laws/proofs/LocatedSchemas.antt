@@ -16,7 +16,7 @@ use Rattle.definition_laws.specs.Identities.{IsDefinite}
 use Rattle.definition_laws.specs.Locations.{LocationsNameSchemas}
 use Rattle.definition_laws.proofs.Occurrences.{IsIn, in_from_contains, contains_from_in, in_map, numbered_within}
 use Rattle.definition_laws.proofs.Places.{IsStep, IsBelow, here, further, places, short_array, definite_members, step_definite}
-use Rattle.definition_laws.proofs.PointerTexts.{read_back}
+use Rattle.lemmas.proofs.PointerTexts.{read_back}
 use Rattle.definition_laws.proofs.FragmentTexts.{AreTexts, fragment_back}
 use Rattle.definition_laws.proofs.Roots.{table_roots, table_definite, pointer_root, roots_found, schemas_pointed_to}
 

@@ -8,8 +8,8 @@ use Rattle.std.specs.Ordering.{match_ordering, is_eq}
 use Rattle.definitions.specs.Values.{Text, Value, object, members, members_list, to_members, entry, is_object, same_text}
 use Rattle.definitions.specs.Alike.{unbundled}
 use Rattle.definitions.specs.Bundles.{put_member, with_member}
+use Rattle.lemmas.proofs.Texts.{same_text_itself}
 use Rattle.definition_laws.proofs.Occurrences.{IsIn}
-use Rattle.definition_laws.proofs.Roots.{same_text_itself}
 use Rattle.definition_laws.proofs.Unbundled.{is_changed, is_kept, members_back}
 
 abbrev put_by : Ordering → Text → Value → Text × Value → List (Text × Value) → List (Text × Value)

@@ -1,8 +1,10 @@
 -- What stands in a list, in what a filter keeps of it, and in a list without repeats.
-use Rattle.std.proofs.Common.{◌≡◌, ℕ, zero, suc, ◌<◌, ◌≤◌, Bool, true, false, cond, ◌||◌, ◌⊎◌, List, [], ◌∷◌, map, length, get_or, Contains, filter, sym, refl, ap, ◌∙◌, subst, inl, inr, true≢false, arith}
+use Rattle.std.proofs.Common.{◌≡◌, ℕ, zero, suc, ◌<◌, ◌≤◌, Bool, true, false, cond, ◌⊎◌, List, [], ◌∷◌, map, length, get_or, Contains, filter, sym, refl, ap, ◌∙◌, inl, inr, true≢false, arith, find, Some, None}
 use Rattle.std.proofs.lemmas.Bool.{or_parts, or_cases}
 use Rattle.std.specs.List.{list_any}
 use Rattle.definitions.specs.Values.{has_repeat}
+use Rattle.lemmas.proofs.Options.{some_from_is_some}
+use Rattle.definition_laws.proofs.Occurrences.{in_from_contains, contains_from_in, into_map, into_filter, from_filter as out_of_filter, filter_passes, any_of_in, found_in, found_passes, found_somewhere}
 
 -- ---- membership, element by element
 pub nothing_in : {X : Type 0} (x : X) → Contains [] x → ⊥
@@ -22,23 +24,11 @@ pub first_or_later : {X : Type 0} (x y : X) (xs : List X) → Contains (x ∷ xs
 first_or_later x y xs c = at_index x y xs c.0 c.1 c.2
 
 pub in_map : {X Y : Type 0} (f : X → Y) (x : X) (xs : List X) → Contains xs x → Contains (map f xs) (f x)
-in_map f x [] c = absurd (nothing_in x c)
-in_map f x (y ∷ ys) c = elim (first_or_later y x ys c) [
-  | inl same ↦ subst (λ z. Contains (f y ∷ map f ys) (f z)) same (is_first (f y) (map f ys))
-  | inr later ↦ is_later (f y) (f x) (map f ys) (in_map f x ys later)
-]
+in_map f x xs c = contains_from_in (map f xs) (f x) (into_map f xs x (in_from_contains xs x c))
 
 -- ---- a test of some element
 pub any_at : {X : Type 0} (p : X → Bool) (x : X) (xs : List X) → Contains xs x → p x ≡ true → list_any p xs ≡ true
-any_at p x [] c e = absurd (nothing_in x c)
-any_at p x (y ∷ ys) c e = elim (first_or_later y x ys c) [
-  | inl same ↦ rw (same, e) refl
-  | inr later ↦ rw (any_at p x ys later e) (or_true (p y))
-]
-  where
-    or_true : (b : Bool) → (b || true) ≡ true
-    or_true true = refl
-    or_true false = refl
+any_at p x xs c e = any_of_in p xs x (in_from_contains xs x c) e
 
 pub any_where : {X : Type 0} (p : X → Bool) (xs : List X) → list_any p xs ≡ true → (x : X) × (Contains xs x × (p x ≡ true))
 any_where p [] e = absurd (true≢false (sym e))
@@ -47,29 +37,25 @@ any_where {X} p (y ∷ ys) e = elim (or_cases (p y) (list_any p ys) e) [
   | inr later ↦ let found : (x : X) × (Contains ys x × (p x ≡ true)) = any_where p ys later in (found.0, (is_later y found.0 ys found.1.0, found.1.1))
 ]
 
+-- ---- the first that passes
+pub found_there : {X : Type 0} (p : X → Bool) (xs : List X) (y : X) → find p xs ≡ Some y → Contains xs y × (p y ≡ true)
+found_there p xs y e = (contains_from_in xs y (found_in p xs y e), found_passes p xs y e)
+
+pub found_none : {X : Type 0} (p : X → Bool) (xs : List X) → ((y : X) → Contains xs y → p y ≡ false) → find p xs ≡ None
+found_none p [] h = refl
+found_none p (x ∷ xs) h = rw (h x (is_first x xs)) (found_none p xs (λ y c. h y (is_later x y xs c)))
+
+pub found_some : {X : Type 0} (p : X → Bool) (y : X) (xs : List X) → Contains xs y → p y ≡ true → (z : X) × (find p xs ≡ Some z)
+found_some p y xs c e = some_from_is_some (find p xs) (found_somewhere p xs y (in_from_contains xs y c) e)
+
 -- ---- a filter
 pub in_filter : {X : Type 0} (p : X → Bool) (x : X) (xs : List X) → Contains xs x → p x ≡ true → Contains (filter p xs) x
-in_filter p x [] c e = absurd (nothing_in x c)
-in_filter {X} p x (y ∷ ys) c e = elim (first_or_later y x ys c) [
-  | inl same ↦ rw (same, e) (is_first x (filter p ys))
-  | inr later ↦ kept (p y) (in_filter p x ys later e)
-]
-  where
-    kept : (b : Bool) → Contains (filter p ys) x → Contains (cond b (y ∷ filter p ys) (filter p ys)) x
-    kept true d = is_later y x (filter p ys) d
-    kept false d = d
-
-from_filter_at : {X : Type 0} (p : X → Bool) (x y : X) (ys : List X) (b : Bool) → p y ≡ b → (Contains (filter p ys) x → Contains ys x × (p x ≡ true))
-    → Contains (cond b (y ∷ filter p ys) (filter p ys)) x → Contains (y ∷ ys) x × (p x ≡ true)
-from_filter_at p x y ys true e more c = elim (first_or_later y x (filter p ys) c) [
-  | inl same ↦ (subst (Contains (y ∷ ys)) same (is_first y ys), ap p (sym same) ∙ e)
-  | inr later ↦ (is_later y x ys (more later).0, (more later).1)
-]
-from_filter_at p x y ys false e more c = (is_later y x ys (more c).0, (more c).1)
+in_filter p x xs c e = contains_from_in (filter p xs) x (into_filter p xs x (in_from_contains xs x c) e)
 
 pub from_filter : {X : Type 0} (p : X → Bool) (x : X) (xs : List X) → Contains (filter p xs) x → Contains xs x × (p x ≡ true)
-from_filter p x [] c = absurd (nothing_in x c)
-from_filter p x (y ∷ ys) c = from_filter_at p x y ys (p y) refl (from_filter p x ys) c
+from_filter p x xs c =
+    let i = in_from_contains (filter p xs) x c in
+    (contains_from_in xs x (out_of_filter p xs x i), filter_passes p xs x i)
 
 pub record IsWider {X : Type 0} (p q : X → Bool) (xs : List X) : Type 0 where
   pub longer : length (filter p xs) ≤ length (filter q xs)

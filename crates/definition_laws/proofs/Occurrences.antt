@@ -1,6 +1,6 @@
 -- What stands in a list, by recursion.
-use Rattle.std.proofs.Common.{◌≡◌, ◌<◌, ◌≤◌, ◌+◌, ◌⊎◌, ◌||◌, ℕ, zero, suc, List, [], ◌∷◌, ◌++◌, map, length, Bool, true, false, cond, Some, refl, sym, ap, ◌∙◌, arith, inl, inr}
-use Rattle.std.proofs.lemmas.Bool.{and_parts}
+use Rattle.std.proofs.Common.{◌≡◌, ◌<◌, ◌≤◌, ◌+◌, ◌⊎◌, ◌||◌, ℕ, zero, suc, List, [], ◌∷◌, ◌++◌, map, length, Bool, true, false, cond, Some, refl, sym, ap, ◌∙◌, arith, inl, inr, is_some}
+use Rattle.std.proofs.lemmas.Bool.{and_parts, or_right}
 use Rattle.std.specs.List.{Contains, flat_map, filter, find, enumerate_from, list_any, list_all, zip}
 
 abbrev pub IsIn : {A : Type 0} → A → List A → Type 0
@@ -73,6 +73,31 @@ finds_only {A} p (y ∷ xs) x h passes only = go (p y) refl h (λ k. finds_only 
     go false e (inl k) later = absurd (let other : p x ≡ false = rw (← k) e in cc)
     go false e (inr k) later = later k
 
+pub found_somewhere : {A : Type 0} (p : A → Bool) (xs : List A) (x : A) → IsIn x xs → p x ≡ true → is_some (find p xs) ≡ true
+found_somewhere p [] x i e = absurd i
+found_somewhere {A} p (y ∷ ys) x (inl same) e = rw (same, e) refl
+found_somewhere {A} p (y ∷ ys) x (inr i) e = by (p y) (found_somewhere p ys x i e)
+  where
+    by : (b : Bool) → is_some (find p ys) ≡ true → is_some (cond b (Some y) (find p ys)) ≡ true
+    by true h = refl
+    by false h = h
+
+pub found_in : {A : Type 0} (p : A → Bool) (xs : List A) (x : A) → find p xs ≡ Some x → IsIn x xs
+found_in p [] x e = absurd (cc)
+found_in {A} p (y ∷ ys) x e = by (p y) e (found_in p ys x)
+  where
+    by : (b : Bool) → cond b (Some y) (find p ys) ≡ Some x → (find p ys ≡ Some x → IsIn x ys) → IsIn x (y ∷ ys)
+    by true f later = inl cc
+    by false f later = inr (later f)
+
+pub found_passes : {A : Type 0} (p : A → Bool) (xs : List A) (x : A) → find p xs ≡ Some x → p x ≡ true
+found_passes p [] x e = absurd (cc)
+found_passes {A} p (y ∷ ys) x e = by (p y) refl e (found_passes p ys x)
+  where
+    by : (b : Bool) → p y ≡ b → cond b (Some y) (find p ys) ≡ Some x → (find p ys ≡ Some x → p x ≡ true) → p x ≡ true
+    by true q f later = let same : y ≡ x = cc in rw (← same) q
+    by false q f later = later f
+
 -- ---- elements with their places
 pub numbered_within : {A : Type 0} (n : ℕ) (xs : List A) (i : ℕ) (x : A) → IsIn (i, x) (enumerate_from n xs) → (n ≤ i) × (i < n + length xs)
 numbered_within n [] i x h = absurd h
@@ -95,11 +120,7 @@ numbered_in n (y ∷ xs) i x (inr h) = inr (numbered_in (n + 1) xs i x h)
 pub any_of_in : {A : Type 0} (p : A → Bool) (xs : List A) (x : A) → IsIn x xs → p x ≡ true → list_any p xs ≡ true
 any_of_in p [] x h passes = absurd h
 any_of_in p (y ∷ xs) x (inl e) passes = let here : p y ≡ true = rw e passes in rw here refl
-any_of_in p (y ∷ xs) x (inr h) passes = later (p y) (any_of_in p xs x h passes)
-  where
-    later : (b : Bool) {c : Bool} → c ≡ true → (b || c) ≡ true
-    later true e = refl
-    later false e = e
+any_of_in p (y ∷ xs) x (inr h) passes = or_right (p y) (list_any p xs) (any_of_in p xs x h passes)
 
 pub from_filter : {A : Type 0} (p : A → Bool) (xs : List A) (x : A) → IsIn x (filter p xs) → IsIn x xs
 from_filter p [] x h = absurd h

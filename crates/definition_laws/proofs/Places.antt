@@ -1,18 +1,19 @@
 -- The schemas directly below one, and those below at any depth, by the tokens that lead to them.
-use Rattle.std.proofs.Common.{◌≡◌, ◌<◌, ◌^◌, ◌&&◌, List, [], ◌∷◌, ◌++◌, map, length, true, Option, Some, None, decimal, nat_cmp, Ordering, Less, Equal, Greater, refl, sym, ap, ap₂, subst, ◌∙◌, arith, inl, inr, append_assoc, append-nil}
+use Rattle.std.proofs.Common.{◌≡◌, ◌<◌, ◌^◌, List, [], ◌∷◌, ◌++◌, map, length, true, Option, Some, None, decimal, nat_cmp, Less, Greater, refl, sym, ap, ap₂, subst, ◌∙◌, arith, inl, inr, append_assoc, append-nil}
 use Rattle.std.proofs.lemmas.Bool.{and_parts, ltb-true}
 use Rattle.std.proofs.lemmas.Cmp.{nat_list_cmp_total}
 use Rattle.std.proofs.lemmas.Fmt.{decimal_injective}
 use Rattle.std.proofs.lemmas.List.{append_cancel_left}
 use Rattle.std.specs.Cmp.Lexicographic.{slice_cmp}
 use Rattle.std.specs.List.{enumerate_from}
-use Rattle.std.specs.Ordering.{is_lt, ordering_reverse}
-use Rattle.std.specs.Str.{is_utf8}
+use Rattle.std.specs.Ordering.{ordering_reverse}
 use Rattle.definitions.specs.Values.{Text, Value, null, boolean, integer, string, array, object, Elements, no_elements, element, Members, no_members, member, elements_list, members_list, elements, members, is_well_formed, are_well_formed, are_well_formed_members, is_before}
 use Rattle.definitions.specs.Pointers.{Pointer}
 use Rattle.definitions.specs.Shapes.{Shape, one_schema, schema_list, schema_map}
 use Rattle.definitions.specs.Keywords.{Keyword, shape_in}
 use Rattle.definitions.specs.Schemas.{Schema, opened, below, at_place, subschemas_by}
+use Rattle.lemmas.proofs.Orders.{is_less}
+use Rattle.lemmas.proofs.Members.{member_parts}
 use Rattle.definition_laws.specs.Identities.{has_short_arrays, have_short_arrays, members_have_short_arrays, IsDefinite}
 use Rattle.definition_laws.proofs.Occurrences.{IsIn, in_flat_map, into_flat_map, in_map, into_map, numbered_within, numbered_once, numbered_in}
 
@@ -35,13 +36,6 @@ definite_element (element u us) v h k (inr i) =
     let p = and_parts (is_well_formed u) (are_well_formed us) h in
     let q = and_parts (has_short_arrays u) (have_short_arrays us) k in
     definite_element us v p.1 q.1 i
-
-member_parts : (n : Text) (v : Value) (ms : Members) → are_well_formed_members (member n v ms) ≡ true → (is_before n ms ≡ true) × (is_well_formed v ≡ true) × (are_well_formed_members ms ≡ true)
-member_parts n v ms h =
-    let p = and_parts (is_utf8 n) (is_before n ms && (is_well_formed v && are_well_formed_members ms)) h in
-    let q = and_parts (is_before n ms) (is_well_formed v && are_well_formed_members ms) p.1 in
-    let r = and_parts (is_well_formed v) (are_well_formed_members ms) q.1 in
-    (q.0, r.0, r.1)
 
 definite_member : (ms : Members) (n : Text) (v : Value) → are_well_formed_members ms ≡ true → members_have_short_arrays ms ≡ true → IsIn (n, v) (members_list ms) → IsDefinite v
 definite_member no_members n v h k i = absurd i
@@ -79,11 +73,6 @@ short_array (array vs) d = ltb-true (length (elements_list vs)) (2 ^ 64) (and_pa
 short_array (object ms) d = omega arith
 
 -- ---- a name stands once
-is_less : (o : Ordering) → is_lt o ≡ true → o ≡ Less
-is_less Less h = refl
-is_less Equal h = cc
-is_less Greater h = cc
-
 not_before_itself : (n : Text) → slice_cmp nat_cmp n n ≡ Less → ⊥
 not_before_itself n h = let other : Less ≡ Greater = sym h ∙ (nat_list_cmp_total.antisymm n n ∙ ap ordering_reverse h) in cc
 

@@ -1,26 +1,23 @@
 -- The computed reach is the least set that is closed under references.
 use Rattle.std.proofs.Common.{◌≡◌, ℕ, zero, suc, Bool, true, false, ◌||◌, ◌↔◌, List, [], map, length, Contains, filter, sym, refl, ap, ◌∙◌, subst, inl, inr}
 use Rattle.std.proofs.lemmas.Bool.{false_from_ne_true, or_cases, or_left, or_right}
-use Rattle.std.specs.Cmp.Lexicographic.{bytes_decides}
 use Rattle.std.specs.List.{list_any}
 use Rattle.definitions.specs.Values.{Text, same_text, has_repeat}
 use Rattle.definitions.specs.Schemas.{Document}
 use Rattle.definitions.specs.Reach.{IsReached, holds, referred, holds_resource, refers_to, grown, grown_times, reach, ReachIsLeast}
+use Rattle.lemmas.proofs.Texts.{same_text_itself, same_text_turned}
 use Rattle.definition_laws.proofs.Membership.{nothing_in, from_filter, any_where, one_of}
 use Rattle.definition_laws.proofs.Growing.{after, nothing_from_nothing, as_filter, inside, led, kept_from_start, stands_still}
 
-pub same_text-itself : (t : Text) → same_text t t ≡ true
-same_text-itself t = (bytes_decides t t).1 refl
-
 pub same_text-back : (t u : Text) → same_text t u ≡ true → same_text u t ≡ true
-same_text-back t u e = (bytes_decides u t).1 (sym ((bytes_decides t u).0 e))
+same_text-back t u e = same_text_turned u t ∙ e
 
 -- the document itself, or one that it refers to
 abbrev leads : Document → Document → Bool
 leads d e = same_text d.canonical e.canonical || refers_to d e
 
 own : (d : Document) → leads d d ≡ true
-own d = or_left (same_text d.canonical d.canonical) (refers_to d d) (same_text-itself d.canonical)
+own d = or_left (same_text d.canonical d.canonical) (refers_to d d) (same_text_itself d.canonical)
 
 as_steps : (n : ℕ) (G : List Document) (uri : Text) → grown_times n G (filter (holds_resource uri) G) ≡ after leads own (holds_resource uri) G n
 as_steps zero G uri = refl

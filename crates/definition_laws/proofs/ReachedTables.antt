@@ -1,6 +1,6 @@
 -- What is reached without a missing reference is a table alike to the whole one.
 use Rattle.std.proofs.Common.{◌≡◌, ◌&&◌, ◌||◌, ◌++◌, ℕ, zero, suc, List, [], ◌∷◌, Bool, true, false, cond, Option, Some, None, Result, Ok, Err, is_some, is_none, length, option_and_then, refl, sym, ap, subst, ◌∙◌, inl, inr}
-use Rattle.std.proofs.lemmas.Bool.{and_parts}
+use Rattle.std.proofs.lemmas.Bool.{and_parts, or_parts, or_right}
 use Rattle.std.specs.List.{flat_map, filter, find, list_any}
 use Rattle.definitions.specs.Values.{Text, Value, has_repeat, same_text}
 use Rattle.definitions.specs.Answers.{answer}
@@ -13,21 +13,13 @@ use Rattle.definitions.specs.Registries.{resources_of}
 use Rattle.definitions.specs.Runs.{resource_uris_of}
 use Rattle.definitions.specs.Targets.{resource_root, dynamically_anchored, is_anchor, is_dynamic_anchor, pointed, target_in, target, fragment_of}
 use Rattle.definitions.specs.Reach.{holds_resource, references_in, refers_to, grown_times, reach, missing}
+use Rattle.lemmas.proofs.Texts.{same_text_itself, same_text_is}
 use Rattle.definition_laws.specs.Likeness.{ReachIsEnough}
-use Rattle.definition_laws.proofs.Occurrences.{IsIn, in_from_contains, contains_from_in, in_flat_map, into_flat_map, into_map, from_filter, into_filter, filter_passes, any_of_in, in_right}
-use Rattle.definition_laws.proofs.Roots.{same_text_itself, same_text_is, pointer_root, neither, document_roots}
-use Rattle.definition_laws.proofs.Tables.{found_in}
+use Rattle.definition_laws.proofs.Occurrences.{IsIn, in_from_contains, contains_from_in, in_flat_map, into_flat_map, into_map, from_filter, into_filter, filter_passes, any_of_in, in_right, found_somewhere, found_in, found_passes}
+use Rattle.definition_laws.proofs.Roots.{pointer_root, document_roots}
 use Rattle.definition_laws.proofs.AlikeTables.{alike_tables_answer_the_same}
 
 -- ---- what a search finds in a part of a list
-pub found_passes : {A : Type 0} (p : A → Bool) (xs : List A) (x : A) → find p xs ≡ Some x → p x ≡ true
-found_passes p [] x e = absurd (cc)
-found_passes {A} p (y ∷ ys) x e = by (p y) refl e (found_passes p ys x)
-  where
-    by : (b : Bool) → p y ≡ b → cond b (Some y) (find p ys) ≡ Some x → (find p ys ≡ Some x → p x ≡ true) → p x ≡ true
-    by true q f later = let same : y ≡ x = cc in rw (← same) q
-    by false q f later = later f
-
 find_after : {A : Type 0} (p : A → Bool) (xs ys zs : List A) → find p ys ≡ find p zs → find p (xs ++ ys) ≡ find p (xs ++ zs)
 find_after p [] ys zs e = e
 find_after p (x ∷ xs) ys zs e = ap (cond (p x) (Some x)) (find_after p xs ys zs e)
@@ -52,15 +44,11 @@ repeats_across alike itself [] ys t i j = absurd i
 repeats_across alike itself (x ∷ xs) ys t (inl e) j =
     let some : list_any (alike x) (xs ++ ys) ≡ true = any_of_in (alike x) (xs ++ ys) t (in_right xs ys t j) (subst (λ u. alike x u ≡ true) e (itself x)) in
     rw some refl
-repeats_across alike itself (x ∷ xs) ys t (inr i) j = later (list_any (alike x) (xs ++ ys)) (repeats_across alike itself xs ys t i j)
-  where
-    later : (b : Bool) {c : Bool} → c ≡ true → (b || c) ≡ true
-    later true e = refl
-    later false e = e
+repeats_across alike itself (x ∷ xs) ys t (inr i) j = or_right (list_any (alike x) (xs ++ ys)) (has_repeat alike (xs ++ ys)) (repeats_across alike itself xs ys t i j)
 
 repeats_after : {A : Type 0} (alike : A → A → Bool) (xs ys : List A) → has_repeat alike (xs ++ ys) ≡ false → has_repeat alike ys ≡ false
 repeats_after alike [] ys h = h
-repeats_after alike (x ∷ xs) ys h = repeats_after alike xs ys (neither (list_any (alike x) (xs ++ ys)) (has_repeat alike (xs ++ ys)) h).1
+repeats_after alike (x ∷ xs) ys h = repeats_after alike xs ys (or_parts (list_any (alike x) (xs ++ ys)) (has_repeat alike (xs ++ ys)) h).1
 
 pub one_has : {A B : Type 0} (alike : B → B → Bool) → ((x : B) → alike x x ≡ true) → (f : A → List B) (xs : List A) (x y : A) (t : B) → has_repeat alike (flat_map f xs) ≡ false
     → IsIn x xs → IsIn y xs → IsIn t (f x) → IsIn t (f y) → x ≡ y
@@ -175,15 +163,6 @@ holder_reached (suc n) ds uri d i h =
     into_filter (λ e. list_any (λ c. same_text c.canonical e.canonical || refers_to c e) (grown_times n ds (filter (holds_resource uri) ds))) ds d i
     (any_of_in (λ c. same_text c.canonical d.canonical || refers_to c d) (grown_times n ds (filter (holds_resource uri) ds)) d (holder_reached n ds uri d i h)
     (rw (same_text_itself d.canonical) refl))
-
-pub found_somewhere : {A : Type 0} (p : A → Bool) (xs : List A) (x : A) → IsIn x xs → p x ≡ true → is_some (find p xs) ≡ true
-found_somewhere p [] x i h = absurd i
-found_somewhere {A} p (y ∷ ys) x i h = by (p y) refl i (found_somewhere p ys x)
-  where
-    by : (b : Bool) → p y ≡ b → IsIn x (y ∷ ys) → (IsIn x ys → p x ≡ true → is_some (find p ys) ≡ true) → is_some (cond b (Some y) (find p ys)) ≡ true
-    by true e j later = refl
-    by false e (inl f) later = absurd (let no : p x ≡ false = rw (← f) e in cc)
-    by false e (inr j) later = later j h
 
 root_same : (ds : List Document) (uri : Text) (q : Document → Bool) → has_repeat same_text (resource_uris_of ds) ≡ false → ((d : Document) → IsIn d ds → holds_resource uri d ≡ true → IsIn d (filter q ds))
     → resource_root (table_of ds) uri ≡ resource_root (table_of (filter q ds)) uri

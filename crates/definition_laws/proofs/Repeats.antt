@@ -1,11 +1,11 @@
 -- Lists in which nothing is alike: joined, cut out of one another, and with one list a member.
 use Rattle.std.proofs.Common.{◌≡◌, Bool, true, false, cond, List, [], ◌∷◌, ◌++◌, Contains, filter, flat_map, sym, refl, ap, ◌∙◌, subst, inl, inr, true≢false}
 use Rattle.std.proofs.lemmas.Bool.{or_parts, or_from, false_from_ne_true}
-use Rattle.std.proofs.lemmas.List.Elements.{Contains-append_left, Contains-append_right, Contains-append_cases}
 use Rattle.std.proofs.lemmas.List.Folds.{list_any-append}
 use Rattle.std.specs.List.{list_any}
 use Rattle.definitions.specs.Values.{has_repeat}
 use Rattle.definition_laws.proofs.Membership.{nothing_in, is_first, is_later, first_or_later, any_at, any_where, from_filter}
+use Rattle.definition_laws.proofs.Occurrences.{in_from_contains, contains_from_in, into_flat_map, in_flat_map as out_of_flat_map}
 
 -- ---- tests that nothing passes
 pub none_of : {X : Type 0} (p : X → Bool) (x : X) (xs : List X) → list_any p xs ≡ false → Contains xs x → p x ≡ false
@@ -18,18 +18,12 @@ any_none {X} p xs h = false_from_ne_true (list_any p xs) (λ e.
 
 -- ---- lists of lists
 pub in_flat_map : {X Y : Type 0} (f : X → List Y) (x : X) (y : Y) (xs : List X) → Contains xs x → Contains (f x) y → Contains (flat_map f xs) y
-in_flat_map f x y [] c d = absurd (nothing_in x c)
-in_flat_map f x y (z ∷ zs) c d = elim (first_or_later z x zs c) [
-  | inl same ↦ Contains-append_left (f z) (flat_map f zs) y (subst (λ u. Contains (f u) y) (sym same) d)
-  | inr later ↦ Contains-append_right (f z) (flat_map f zs) y (in_flat_map f x y zs later d)
-]
+in_flat_map f x y xs c d = contains_from_in (flat_map f xs) y (into_flat_map f xs x y (in_from_contains xs x c) (in_from_contains (f x) y d))
 
 pub from_flat_map : {X Y : Type 0} (f : X → List Y) (y : Y) (xs : List X) → Contains (flat_map f xs) y → (x : X) × (Contains xs x × Contains (f x) y)
-from_flat_map f y [] c = absurd (nothing_in y c)
-from_flat_map {X} {Y} f y (z ∷ zs) c = elim (Contains-append_cases (f z) (flat_map f zs) y c) [
-  | inl here ↦ (z, (is_first z zs, here))
-  | inr later ↦ let found : (x : X) × (Contains zs x × Contains (f x) y) = from_flat_map f y zs later in (found.0, (is_later z found.0 zs found.1.0, found.1.1))
-]
+from_flat_map f y xs c =
+    let r = out_of_flat_map f xs y (in_from_contains (flat_map f xs) y c) in
+    (r.0, (contains_from_in xs r.0 r.1, contains_from_in (f r.0) y r.2))
 
 -- ---- lists without repeats
 abbrev pub AreApart : {Y : Type 0} → (Y → Y → Bool) → List Y → List Y → Type 0

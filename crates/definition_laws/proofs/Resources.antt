@@ -1,5 +1,5 @@
 -- The resources of documents and of their tables.
-use Rattle.std.proofs.Common.{◌≡◌, Bool, true, false, cond, ◌&&◌, List, [], ◌∷◌, ◌++◌, map, is_some, IsTrue, Some, Contains, filter, find, sym, refl, ap, ◌∙◌, subst, inl, inr, true≢false}
+use Rattle.std.proofs.Common.{◌≡◌, Bool, true, false, ◌&&◌, List, [], ◌∷◌, ◌++◌, map, is_some, IsTrue, Contains, filter, find, sym, refl, ap, ◌∙◌, subst, true≢false}
 use Rattle.std.proofs.lemmas.Bool.{false_from_ne_true, and_from, and_parts}
 use Rattle.std.proofs.lemmas.List.{map-append}
 use Rattle.std.proofs.lemmas.List.Elements.{filter-append}
@@ -11,37 +11,21 @@ use Rattle.definitions.specs.Scanning.{resource_uris}
 use Rattle.definitions.specs.Reach.{holds_resource, reach}
 use Rattle.definitions.specs.Registries.{resources_of}
 use Rattle.definitions.specs.Runs.{resource_uris_of}
+use Rattle.lemmas.proofs.Texts.{same_text_turned}
+use Rattle.lemmas.proofs.Options.{some_from_is_some}
 use Rattle.definition_laws.specs.Reaching.{HaveDistinctResources}
-use Rattle.definition_laws.proofs.Membership.{nothing_in, is_first, is_later, first_or_later, in_filter, from_filter, in_map}
+use Rattle.definition_laws.proofs.Membership.{in_filter, in_map, found_there}
 use Rattle.definition_laws.proofs.Repeats.{filtered, one_with}
-use Rattle.definition_laws.proofs.ReachedSets.{same_text-back, reach_as_filter}
+use Rattle.definition_laws.proofs.ReachedSets.{reach_as_filter}
+use Rattle.definition_laws.proofs.Occurrences.{in_from_contains, found_somewhere, in_map as out_of_map, from_filter as out_of_filter, filter_passes}
 
 -- ---- a document's resources
-found : {X : Type 0} (p : X → Bool) (x : X) (xs : List X) → Contains xs x → p x ≡ true → is_some (find p xs) ≡ true
-found p x [] c e = absurd (nothing_in x c)
-found {X} p x (y ∷ ys) c e = elim (first_or_later y x ys c) [
-  | inl same ↦ rw (same, e) refl
-  | inr later ↦ at_first (p y) (found p x ys later e)
-]
-  where
-    at_first : (b : Bool) → is_some (find p ys) ≡ true → is_some (cond b (Some y) (find p ys)) ≡ true
-    at_first true h = refl
-    at_first false h = h
-
-from_map : {X Y : Type 0} (f : X → Y) (y : Y) (xs : List X) → Contains (map f xs) y → (x : X) × (Contains xs x × (f x ≡ y))
-from_map f y [] c = absurd (nothing_in y c)
-from_map {X} f y (x ∷ xs) c = elim (first_or_later (f x) y (map f xs) c) [
-  | inl same ↦ (x, (is_first x xs, same))
-  | inr later ↦ let rest : (z : X) × (Contains xs z × (f z ≡ y)) = from_map f y xs later in (rest.0, (is_later x rest.0 xs rest.1.0, rest.1.1))
-]
-
 -- a URI that a table's schemas open has a root
 pub opened_is_root : (table : List Schema) (u v : Text) → Contains (resource_uris table) v → same_text u v ≡ true → is_some (resource_root table u) ≡ true
 opened_is_root table u v c e =
-    let s : (s : Schema) × (Contains (filter is_root table) s × (s.resource ≡ v)) = from_map (λ (s : Schema). s.resource) v (filter is_root table) c in
-    let stands = from_filter is_root s.0 table s.1.0 in
-    found (λ t. same_text u t.resource && is_root t) s.0 table stands.0
-    (and_from (same_text u s.0.resource) (is_root s.0) (ap (same_text u) s.1.1 ∙ e) stands.1)
+    let s = out_of_map (λ (s : Schema). s.resource) (filter is_root table) v (in_from_contains (resource_uris table) v c) in
+    found_somewhere (λ t. same_text u t.resource && is_root t) table s.0 (out_of_filter is_root table s.0 s.1)
+    (and_from (same_text u s.0.resource) (is_root s.0) (ap (same_text u) s.2 ∙ e) (filter_passes is_root table s.0 s.1))
 
 pub apart_from_held : (d e : Document) → ((u : Text) → Contains (resources_of d) u → holds_resource u e ≡ false)
     → (u v : Text) → Contains (resources_of d) u → Contains (resources_of e) v → same_text u v ≡ false
@@ -49,17 +33,11 @@ apart_from_held d e free u v c k =
     false_from_ne_true (same_text u v) (λ same. true≢false (sym (opened_is_root (schemas_of e.base e.value) u v k same) ∙ free u c))
 
 pub same_text-unlike : (t u : Text) → same_text t u ≡ false → same_text u t ≡ false
-same_text-unlike t u e = false_from_ne_true (same_text u t) (λ same. true≢false (sym (same_text-back u t same) ∙ e))
+same_text-unlike t u e = same_text_turned u t ∙ e
 
 -- ---- the other way round
-where_found_at : {X : Type 0} (p : X → Bool) (y : X) (ys : List X) (b : Bool) → p y ≡ b → (is_some (find p ys) ≡ true → (x : X) × (Contains ys x × (p x ≡ true)))
-    → is_some (cond b (Some y) (find p ys)) ≡ true → (x : X) × (Contains (y ∷ ys) x × (p x ≡ true))
-where_found_at p y ys true here more e = (y, (is_first y ys, here))
-where_found_at p y ys false here more e = let rest = more e in (rest.0, (is_later y rest.0 ys rest.1.0, rest.1.1))
-
 where_found : {X : Type 0} (p : X → Bool) (xs : List X) → is_some (find p xs) ≡ true → (x : X) × (Contains xs x × (p x ≡ true))
-where_found p [] e = absurd (true≢false (sym e))
-where_found p (y ∷ ys) e = where_found_at p y ys (p y) refl (where_found p ys) e
+where_found p xs e = let s = some_from_is_some (find p xs) e in (s.0, found_there p xs s.0 s.1)
 
 -- a URI that has a root in a table is opened by one of its schemas
 pub root_opens : (table : List Schema) (u : Text) → is_some (resource_root table u) ≡ true → Contains (resource_uris table) u

@@ -1,8 +1,6 @@
 -- In a table with distinct resource URIs an identity names one schema.
-use Rattle.std.proofs.Common.{◌≡◌, ◌<◌, ◌≤◌, ◌==◌, ◌&&◌, ◌||◌, ℕ, zero, suc, List, [], ◌∷◌, ◌++◌, map, length, Bool, true, false, cond, Option, Some, None, option_map, option_and_then, codes, refl, sym, ap, ap₂, subst, ◌∙◌, arith, inl, inr, append_assoc, append-nil}
-use Rattle.std.proofs.lemmas.Bool.{and_parts, eqb-true}
-use Rattle.std.proofs.lemmas.Slice.Eq.{bytes_eq-Decides}
-use Rattle.std.proofs.lemmas.List.{map-append}
+use Rattle.std.proofs.Common.{◌≡◌, ◌<◌, ◌≤◌, ◌==◌, ◌&&◌, ℕ, zero, suc, List, [], ◌∷◌, ◌++◌, map, length, true, false, Option, Some, None, option_map, option_and_then, codes, refl, sym, ap, ap₂, subst, ◌∙◌, arith, inl, inr, append_assoc, append-nil}
+use Rattle.std.proofs.lemmas.Bool.{and_parts, eqb-true, or_parts}
 use Rattle.std.specs.List.{filter, enumerate_from, list_any}
 use Rattle.definitions.specs.Values.{Text, Value, null, boolean, integer, string, array, object, Elements, no_elements, element, Members, no_members, member, elements, members, elements_list, members_list, nesting, elements_nesting, members_nesting, text_at, has_repeat, same_text}
 use Rattle.definitions.specs.Pointers.{Pointer, same_pointer}
@@ -10,20 +8,13 @@ use Rattle.definitions.specs.Shapes.{Shape, one_schema, schema_list, schema_map}
 use Rattle.definitions.specs.Keywords.{Keyword, keywords, shape_in}
 use Rattle.definitions.specs.Schemas.{Schema, Document, opened, schema_at, subschemas_by, schemas_within, schemas_from, schemas_of, table_of, is_root}
 use Rattle.definitions.specs.Scanning.{resource_uris}
-use Rattle.definitions.specs.Registries.{resources_of}
-use Rattle.definitions.specs.Runs.{resource_uris_of}
 use Rattle.definitions.specs.Targets.{resource_root, pointed}
+use Rattle.lemmas.proofs.Texts.{same_text_itself, same_text_is}
 use Rattle.definition_laws.specs.Identities.{IsDefinite, IsDistinct, IdentityNamesOneSchema, RootsAreFound, SchemasArePointedTo}
 use Rattle.definition_laws.proofs.Occurrences.{IsIn, in_from_contains, contains_from_in, in_flat_map, into_flat_map, in_map, into_map, into_filter, finds_only, any_of_in, numbered_in}
 use Rattle.definition_laws.proofs.Places.{IsStep, step_from, step_to, step_definite, value-opened, value-below, places, IsBelow, here, further, below_once, below_more}
 
--- ---- equal texts and pointers
-pub same_text_itself : (t : Text) → same_text t t ≡ true
-same_text_itself t = (bytes_eq-Decides t t).1 refl
-
-pub same_text_is : (t u : Text) → same_text t u ≡ true → t ≡ u
-same_text_is t u = (bytes_eq-Decides t u).0
-
+-- ---- equal pointers
 pub same_pointer_itself : (p : Pointer) → same_pointer p p ≡ true
 same_pointer_itself [] = refl
 same_pointer_itself (t ∷ ts) = rw (same_text_itself t) (same_pointer_itself ts)
@@ -35,22 +26,18 @@ same_pointer_is (t ∷ ts) [] h = cc
 same_pointer_is (t ∷ ts) (u ∷ us) h = let p = and_parts (same_text t u) (same_pointer ts us) h in ap₂ (λ x y. x ∷ y) (same_text_is t u p.0) (same_pointer_is ts us p.1)
 
 -- ---- roots with distinct URIs
-pub neither : (a b : Bool) → (a || b) ≡ false → (a ≡ false) × (b ≡ false)
-neither true b h = cc
-neither false b h = (refl, h)
-
 once_by : {A : Type 0} (f : A → Text) (xs : List A) (x y : A) → has_repeat same_text (map f xs) ≡ false → IsIn x xs → IsIn y xs → f x ≡ f y → x ≡ y
 once_by f [] x y h i j e = absurd i
 once_by f (z ∷ zs) x y h (inl a) (inl b) e = sym a ∙ b
 once_by f (z ∷ zs) x y h (inl a) (inr j) e =
-    let none : list_any (same_text (f z)) (map f zs) ≡ false = (neither (list_any (same_text (f z)) (map f zs)) (has_repeat same_text (map f zs)) h).0 in
+    let none : list_any (same_text (f z)) (map f zs) ≡ false = (or_parts (list_any (same_text (f z)) (map f zs)) (has_repeat same_text (map f zs)) h).0 in
     let some : list_any (same_text (f z)) (map f zs) ≡ true = any_of_in (same_text (f z)) (map f zs) (f y) (into_map f zs y j) (subst (λ t. same_text (f z) t ≡ true) (ap f a ∙ e) (same_text_itself (f z))) in
     absurd (cc)
 once_by f (z ∷ zs) x y h (inr i) (inl b) e =
-    let none : list_any (same_text (f z)) (map f zs) ≡ false = (neither (list_any (same_text (f z)) (map f zs)) (has_repeat same_text (map f zs)) h).0 in
+    let none : list_any (same_text (f z)) (map f zs) ≡ false = (or_parts (list_any (same_text (f z)) (map f zs)) (has_repeat same_text (map f zs)) h).0 in
     let some : list_any (same_text (f z)) (map f zs) ≡ true = any_of_in (same_text (f z)) (map f zs) (f x) (into_map f zs x i) (subst (λ t. same_text (f z) t ≡ true) (ap f b ∙ sym e) (same_text_itself (f z))) in
     absurd (cc)
-once_by f (z ∷ zs) x y h (inr i) (inr j) e = once_by f zs x y (neither (list_any (same_text (f z)) (map f zs)) (has_repeat same_text (map f zs)) h).1 i j e
+once_by f (z ∷ zs) x y h (inr i) (inr j) e = once_by f zs x y (or_parts (list_any (same_text (f z)) (map f zs)) (has_repeat same_text (map f zs)) h).1 i j e
 
 pub root_pointer : (s : Schema) → is_root s ≡ true → s.pointer ≡ []
 root_pointer s h = none s.pointer h
@@ -77,7 +64,7 @@ member_nesting no_members n v i = absurd i
 member_nesting (member m u ms) n v (inl e) = let same : nesting u ≡ nesting v = ap (λ x. nesting x.1) e in omega arith
 member_nesting (member m u ms) n v (inr i) = omega (arith, member_nesting ms n v i)
 
-elements_nest : (v u : Value) → IsIn u (elements v) → nesting u < nesting v
+pub elements_nest : (v u : Value) → IsIn u (elements v) → nesting u < nesting v
 elements_nest null u i = absurd i
 elements_nest (boolean b) u i = absurd i
 elements_nest (integer z) u i = absurd i
@@ -85,7 +72,7 @@ elements_nest (string s) u i = absurd i
 elements_nest (array vs) u i = omega (arith, element_nesting vs u i)
 elements_nest (object ms) u i = absurd i
 
-members_nest : (v : Value) (n : Text) (u : Value) → IsIn (n, u) (members v) → nesting u < nesting v
+pub members_nest : (v : Value) (n : Text) (u : Value) → IsIn (n, u) (members v) → nesting u < nesting v
 members_nest null n u i = absurd i
 members_nest (boolean b) n u i = absurd i
 members_nest (integer z) n u i = absurd i
@@ -104,7 +91,7 @@ places_nest v schema_map way u i =
     omega (arith, members_nest v (r.0).0 u (subst (λ x. IsIn ((r.0).0, x) (members v)) (ap (λ x. x.1) r.2) r.1))
 places_nest v _ way u i = absurd i
 
-step_nests : (rows : List Keyword) (s t : Schema) (way : Pointer) → IsStep rows s t way → nesting t.value < nesting s.value
+pub step_nests : (rows : List Keyword) (s t : Schema) (way : Pointer) → IsStep rows s t way → nesting t.value < nesting s.value
 step_nests rows s t way h =
     let value_is : nesting t.value ≡ nesting h.part = ap (λ x. nesting x.value) h.is ∙ ap nesting (value-below s way h.part) in
     omega (arith, members_nest s.value h.name h.value h.inside, places_nest h.value (shape_in rows h.name) h.rest h.part h.place)
@@ -222,22 +209,6 @@ table_definite ds definite s i =
     let o = within_from keywords (suc (nesting top.value)) [] top q.0 q.1 in
     let value_is : d.value ≡ top.value = sym (value-opened d.base [] d.value _) in
     below_definite keywords top s o.0 (subst (λ x. IsBelow keywords top x o.0) q.2 o.2) (subst IsDefinite value_is (definite d r.1))
-
--- ---- the URIs of a table are those of its documents
-filter-append : {A : Type 0} (p : A → Bool) (xs ys : List A) → filter p (xs ++ ys) ≡ filter p xs ++ filter p ys
-filter-append p [] ys = refl
-filter-append {A} p (x ∷ xs) ys = by (p x) (filter-append p xs ys)
-  where
-    by : (b : Bool) → filter p (xs ++ ys) ≡ filter p xs ++ filter p ys → cond b (x ∷ filter p (xs ++ ys)) (filter p (xs ++ ys)) ≡ cond b (x ∷ filter p xs) (filter p xs) ++ filter p ys
-    by true e = ap (λ rest. x ∷ rest) e
-    by false e = e
-
-pub table_uris : (ds : List Document) → resource_uris (table_of ds) ≡ resource_uris_of ds
-table_uris [] = refl
-table_uris (d ∷ ds) =
-    ap (map (λ s. s.resource)) (filter-append is_root (schemas_of d.base d.value) (table_of ds))
-    ∙ map-append (λ s. s.resource) (filter is_root (schemas_of d.base d.value)) (filter is_root (table_of ds))
-    ∙ ap (λ rest. resources_of d ++ rest) (table_uris ds)
 
 -- ---- the laws
 values_in : (ds : List Document) → IsDistinct ds → (d : Document) → IsIn d ds → IsDefinite d.value

@@ -1,5 +1,5 @@
 -- The documents of a registry, by their canonical URIs.
-use Rattle.std.proofs.Common.{◌≡◌, ◌≢◌, ◌↔◌, ◌&&◌, List, [], ◌∷◌, Bool, true, false, not, cond, Option, Some, None, is_some, filter, find, codes, Contains, refl, sym, ap, ◌∙◌, subst, inl, inr, true≢false}
+use Rattle.std.proofs.Common.{◌≡◌, ◌≢◌, ◌↔◌, ◌&&◌, List, [], ◌∷◌, Bool, true, false, not, cond, Option, Some, None, is_some, filter, find, codes, Contains, refl, sym, ap, ◌∙◌, subst, true≢false}
 use Rattle.std.proofs.lemmas.Bool.{and_from, not-true}
 use Rattle.std.specs.Cmp.Lexicographic.{bytes_decides}
 use Rattle.std.specs.List.{list_any}
@@ -9,9 +9,10 @@ use Rattle.definitions.specs.Reach.{holds_resource, reach, holds}
 use Rattle.definitions.specs.Bundles.{document_of, others_of}
 use Rattle.definitions.specs.Registries.{Search, Registry, resources_of, taken_uri}
 use Rattle.definitions.specs.Runs.{IsKept}
+use Rattle.lemmas.proofs.Texts.{same_text_itself}
 use Rattle.definition_laws.specs.Storing.{IsHeldByAnother, IsTaken}
-use Rattle.definition_laws.proofs.Membership.{nothing_in, is_first, is_later, first_or_later, any_at, any_where, in_filter, from_filter, one_of}
-use Rattle.definition_laws.proofs.ReachedSets.{same_text-itself, same_text-back}
+use Rattle.definition_laws.proofs.Membership.{nothing_in, any_at, any_where, in_filter, from_filter, one_of, found_there, found_some}
+use Rattle.definition_laws.proofs.ReachedSets.{same_text-back}
 use Rattle.definition_laws.proofs.LeastTexts.{least_is_least, no_least}
 use Rattle.definition_laws.proofs.KeptReaches.{kept_distinct, kept_reach_is_least}
 
@@ -27,7 +28,7 @@ pub holds_itself : (base : Text) (v : Value) → holds_resource (document_from b
 holds_itself base v =
     let root = schema_at base [] v in
     first_found (λ s. same_text root.resource s.resource && is_root s) root _
-    (and_from (same_text root.resource root.resource) (is_root root) (same_text-itself root.resource) (root_at base v (text_at (codes "$id") v)))
+    (and_from (same_text root.resource root.resource) (is_root root) (same_text_itself root.resource) (root_at base v (text_at (codes "$id") v)))
 
 pub reaches_itself : (search : Search) (g : Registry) (d : Document) → IsKept search g → Contains g.documents d → Contains (reach g.documents d.canonical) d
 reaches_itself search g d kept c =
@@ -35,40 +36,20 @@ reaches_itself search g d kept c =
     (kept_reach_is_least search g kept d.canonical d).1 (holds c own)
 
 -- ---- the document with a URI
-found_there_at : {X : Type 0} (p : X → Bool) (x y : X) (xs : List X) (b : Bool) → p x ≡ b → (find p xs ≡ Some y → Contains xs y × (p y ≡ true))
-    → cond b (Some x) (find p xs) ≡ Some y → Contains (x ∷ xs) y × (p y ≡ true)
-found_there_at p x y xs true e more h = let is : x ≡ y = cc in (subst (Contains (x ∷ xs)) is (is_first x xs), ap p (sym is) ∙ e)
-found_there_at p x y xs false e more h = (is_later x y xs (more h).0, (more h).1)
-
-found_there : {X : Type 0} (p : X → Bool) (y : X) (xs : List X) → find p xs ≡ Some y → Contains xs y × (p y ≡ true)
-found_there p y [] e = cc
-found_there p y (x ∷ xs) e = found_there_at p x y xs (p x) refl (found_there p y xs) e
-
-found_some_at : {X : Type 0} (p : X → Bool) (x : X) (xs : List X) (b : Bool) → ((y : X) × (find p xs ≡ Some y)) → (z : X) × (cond b (Some x) (find p xs) ≡ Some z)
-found_some_at p x xs true more = (x, refl)
-found_some_at p x xs false more = more
-
-found_some : {X : Type 0} (p : X → Bool) (y : X) (xs : List X) → Contains xs y → p y ≡ true → (z : X) × (find p xs ≡ Some z)
-found_some p y [] c e = absurd (nothing_in y c)
-found_some {X} p y (x ∷ xs) c e = elim (first_or_later x y xs c) [
-  | inl same ↦ (x, ap (λ b. cond b (Some x) (find p xs)) (ap p same ∙ e))
-  | inr later ↦ found_some_at p x xs (p x) (found_some p y xs later e)
-]
-
 pub found_by_uri : (search : Search) (g : Registry) (uri : Text) (d : Document) → IsKept search g
     → (document_of g.documents uri ≡ Some d) ↔ (Contains g.documents d × (d.canonical ≡ uri))
 found_by_uri search g uri d kept = (from_found, to_found)
   where
     from_found : document_of g.documents uri ≡ Some d → Contains g.documents d × (d.canonical ≡ uri)
     from_found e =
-        let there = found_there (λ (x : Document). same_text uri x.canonical) d g.documents e in
+        let there = found_there (λ (x : Document). same_text uri x.canonical) g.documents d e in
         (there.0, sym ((bytes_decides uri d.canonical).0 there.1))
 
     to_found : Contains g.documents d × (d.canonical ≡ uri) → document_of g.documents uri ≡ Some d
     to_found h =
         let some_one : (z : Document) × (document_of g.documents uri ≡ Some z) =
         found_some (λ (x : Document). same_text uri x.canonical) d g.documents h.0 ((bytes_decides uri d.canonical).1 (sym h.1)) in
-        let there = found_there (λ (x : Document). same_text uri x.canonical) some_one.0 g.documents some_one.1 in
+        let there = found_there (λ (x : Document). same_text uri x.canonical) g.documents some_one.0 some_one.1 in
         let same : some_one.0 ≡ d =
         one_of same_text (λ (x : Document). x.canonical) same_text-back g.documents (kept_distinct search g kept) some_one.0 d there.0 h.0
         (same_text-back d.canonical some_one.0.canonical (ap (λ t. same_text t some_one.0.canonical) h.1 ∙ there.1)) in

@@ -1,5 +1,5 @@
 -- What stands below a schema of a table stands in it too, and so does what a reference names.
-use Rattle.std.proofs.Common.{◌≡◌, suc, List, [], ◌∷◌, ◌++◌, Bool, true, false, cond, Option, Some, None, Result, Ok, Err, option_map, option_and_then, refl, sym, ap, ap₂, subst, ◌∙◌, arith, inl, inr, append_assoc}
+use Rattle.std.proofs.Common.{◌≡◌, suc, List, [], ◌++◌, Option, Some, None, Result, Ok, Err, option_map, option_and_then, refl, sym, ap, ap₂, subst, ◌∙◌, arith, append_assoc}
 use Rattle.std.specs.List.{find}
 use Rattle.definitions.specs.Values.{Text, nesting}
 use Rattle.definitions.specs.Faults.{Fault}
@@ -9,7 +9,7 @@ use Rattle.definitions.specs.Keywords.{Keyword, keywords}
 use Rattle.definitions.specs.Schemas.{Schema, Document, schema_at, schemas_of, schemas_from, table_of}
 use Rattle.definitions.specs.Uris.{without_fragment}
 use Rattle.definitions.specs.Targets.{resource_root, dynamically_anchored, pointed, target_in, target, fragment_of}
-use Rattle.definition_laws.proofs.Occurrences.{IsIn, in_flat_map, into_flat_map, in_map, into_map}
+use Rattle.definition_laws.proofs.Occurrences.{IsIn, in_flat_map, into_flat_map, in_map, into_map, found_in}
 use Rattle.definition_laws.proofs.Places.{IsStep, IsBelow, here, further}
 use Rattle.definition_laws.proofs.Roots.{within_from, within_to}
 
@@ -37,14 +37,6 @@ pub step_closed : (table : List Schema) → IsClosed table → (s t : Schema) (w
 step_closed table closed s t way i step = closed s t (way ++ []) i (further step (here refl refl) refl)
 
 -- ---- what a search finds
-pub found_in : {A : Type 0} (p : A → Bool) (xs : List A) (x : A) → find p xs ≡ Some x → IsIn x xs
-found_in p [] x e = absurd (cc)
-found_in {A} p (y ∷ ys) x e = by (p y) e (found_in p ys x)
-  where
-    by : (b : Bool) → cond b (Some y) (find p ys) ≡ Some x → (find p ys ≡ Some x → IsIn x ys) → IsIn x (y ∷ ys)
-    by true f later = inl cc
-    by false f later = inr (later f)
-
 pointed_in : (table : List Schema) → IsClosed table → (r s : Schema) (way : Pointer) → IsIn r table → pointed way r ≡ Some s → IsIn s table
 pointed_in table closed r s way i e = by (find (λ t. same_pointer way t.0) (schemas_from r)) refl e
   where

@@ -3,7 +3,7 @@ use Rattle.std.proofs.Common.{◌≡◌, ◌||◌, List, [], ◌∷◌, Bool, tr
 use Rattle.std.specs.List.{filter}
 use Rattle.definitions.specs.Values.{Text, Value, null, boolean, integer, string, array, object, members_list, members, to_members, entry, get, is_object, same_text}
 use Rattle.definitions.specs.Alike.{unbundled}
-use Rattle.definition_laws.proofs.Roots.{same_text_is}
+use Rattle.lemmas.proofs.Texts.{same_text_is}
 
 abbrev pub is_changed : Text → Bool
 is_changed name = same_text name (codes "$id") || same_text name (codes "$defs")

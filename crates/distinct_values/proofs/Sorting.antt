@@ -1,17 +1,15 @@
 -- References sorted by the values that they lead to.
-use Rattle.std.proofs.Common.{◌≡◌, ◌+◌, ◌<◌, List, [], ◌∷◌, map, length, get_or, not, Bool, is_lt, ap, ap₂, ◌∙◌, arith, Vec, Global, IsSorted}
+use Rattle.std.proofs.Common.{◌≡◌, ◌+◌, ◌<◌, List, [], ◌∷◌, length, get_or, Bool, is_lt, ap₂, ◌∙◌, arith, IsSorted}
 use Rattle.std.proofs.lemmas.List.{get_or-map, length-map}
 use Rattle.std.proofs.lemmas.List.Sorted.{ranks_by}
 use Rattle.std.specs.Borrow.{Bor}
 use Rattle.std.specs.Cmp.{IsStrictWeakOrder}
 use Rattle.std.specs.List.Sorted.{IsSortedBy}
-use Rattle.definitions.specs.Values.{Value, same, has_repeat, elements}
-use Rattle.definitions.specs.Assertions.{is_unique}
+use Rattle.definitions.specs.Values.{Value, same, has_repeat}
 use Rattle.definition_laws.specs.Uniqueness.{has_same_neighbours}
 use Rattle.definition_laws.proofs.NeighbourRepeats.{neighbours}
 use Rattle.json_doc.specs.Docs.{value}
-use Rattle.json_doc.specs.declared.doc.Doc.{Doc, List as DocList}
-use Rattle.json_doc.proofs.Views.{value-List, elements_list-to_elements}
+use Rattle.json_doc.specs.declared.doc.Doc.{Doc}
 use Rattle.distinct_values.specs.Orders.{compared}
 use Rattle.distinct_values.specs.Sorts.{values_behind, IsSortedFrom}
 use Rattle.distinct_values.proofs.Ordered.{compared_total, tied}
@@ -35,6 +33,3 @@ values_sorted (r ∷ refs) sorted k d l h =
 
 pub repeats_as_neighbours : (vs ws : List Value) → IsSortedFrom vs ws → has_repeat same vs ≡ has_same_neighbours ws
 repeats_as_neighbours vs ws sorted = neighbours compared compared_total tied vs ws sorted.0 sorted.1
-
-pub is_unique-List : (v : Vec Doc Global) → is_unique (value (DocList v)) ≡ not (has_repeat same (map value v.items))
-is_unique-List v = ap (λ w. not (has_repeat same (elements w))) (value-List v) ∙ ap (λ vs. not (has_repeat same vs)) (elements_list-to_elements (map value v.items))

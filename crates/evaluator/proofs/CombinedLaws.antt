@@ -1,5 +1,6 @@
 -- Laws of the outcome of a schema object, from the uses of its keywords.
-use Rattle.std.proofs.Common.{◌≡◌, ℕ, List, [], ◌∷◌, ◌++◌, Bool, true, false, ◌&&◌, refl, sym, ap, ◌∙◌, arith, append-nil, flat_map}
+use Rattle.std.proofs.Common.{◌≡◌, ℕ, List, [], ◌∷◌, ◌++◌, true, false, refl, sym, ap, ◌∙◌, arith, append-nil, flat_map}
+use Rattle.std.proofs.lemmas.Bool.{and_parts}
 use Rattle.std.specs.List.{list_all}
 use Rattle.definitions.specs.Values.{Value}
 use Rattle.definitions.specs.Applied.{Application, entered}
@@ -13,24 +14,16 @@ use Rattle.evaluator.specs.Rounds.{IsAt}
 use Rattle.evaluator.specs.declared.found.Found.{Found}
 use Rattle.evaluator.proofs.LogLaws.{annotated, same_notes}
 
-left_passes : (b c : Bool) → (b && c) ≡ true → b ≡ true
-left_passes true c h = refl
-left_passes false c h = h
-
-right_passes : (b c : Bool) → (b && c) ≡ true → c ≡ true
-right_passes true c h = h
-right_passes false c h = cc
-
 -- ---- uses that all pass
 no_errors : (a : Application) (us : List Use) → list_all (λ u. u.passes) us ≡ true → flat_map (use_errors a) us ≡ []
 no_errors a [] h = refl
-no_errors a (u ∷ us) h = rw (left_passes u.passes (list_all (λ u. u.passes) us) h) (no_errors a us (right_passes u.passes (list_all (λ u. u.passes) us) h))
+no_errors a (u ∷ us) h = rw (and_parts u.passes (list_all (λ u. u.passes) us) h).0 (no_errors a us (and_parts u.passes (list_all (λ u. u.passes) us) h).1)
 
 all_kept : (a : Application) (us : List Use) → list_all (λ u. u.passes) us ≡ true → flat_map (kept_annotations a) us ≡ flat_map (use_annotations a) us
 all_kept a [] h = refl
 all_kept a (u ∷ us) h =
-    rw (left_passes u.passes (list_all (λ u. u.passes) us) h)
-    (ap (λ l. use_annotations a u ++ l) (all_kept a us (right_passes u.passes (list_all (λ u. u.passes) us) h)))
+    rw (and_parts u.passes (list_all (λ u. u.passes) us) h).0
+    (ap (λ l. use_annotations a u ++ l) (all_kept a us (and_parts u.passes (list_all (λ u. u.passes) us) h).1))
 
 -- ---- what the object notes
 pub passing_object : (a : Application) (us : List Use) → list_all (λ u. u.passes) us ≡ true

@@ -1,6 +1,7 @@
 -- Laws of what a schema object says: its keywords in groups, those that look at what others evaluated, and those that
 -- only declare.
 use Rattle.std.proofs.Common.{◌≡◌, ℕ, List, [], ◌∷◌, ◌++◌, Bool, true, false, ◌&&◌, ◌||◌, not, Option, Some, None, refl, sym, ap, ◌∙◌, arith, append-nil, codes, flat_map, sum_by, filter, map}
+use Rattle.std.proofs.Math.Bool.{and-true, or-false}
 use Rattle.std.specs.List.{list_all, list_any}
 use Rattle.std.proofs.lemmas.Grind.{flat_map-append}
 use Rattle.std.proofs.lemmas.List.Sums.{sum_by-append}
@@ -30,14 +31,6 @@ pub record Idle (a : Application) (us : List Use) : Type 0 where
   pub looped : list_any (λ u. list_any (λ o. o.1.looped) u.outcomes) us ≡ false
   pub deep : list_any (λ u. list_any (λ o. o.1.deep) u.outcomes) us ≡ false
 
-true_and : (b : Bool) → (b && true) ≡ b
-true_and true = refl
-true_and false = refl
-
-no_or : (b : Bool) → (b || false) ≡ b
-no_or true = refl
-no_or false = refl
-
 without_some : {X : Type 0} (f : Use → List X) (us ds : List Use) → flat_map f ds ≡ [] → flat_map f (us ++ ds) ≡ flat_map f us
 without_some f us ds e = flat_map-append f us ds ∙ ap (λ l. flat_map f us ++ l) e ∙ append-nil (flat_map f us)
 
@@ -47,12 +40,12 @@ without_between f us ds vs e =
 
 all_between : (p : Use → Bool) (us ds vs : List Use) → list_all p ds ≡ true → list_all p ((us ++ ds) ++ vs) ≡ list_all p (us ++ vs)
 all_between p us ds vs e =
-    list_all-append p (us ++ ds) vs ∙ ap (λ b. b && list_all p vs) (list_all-append p us ds ∙ ap (λ b. list_all p us && b) e ∙ true_and (list_all p us))
+    list_all-append p (us ++ ds) vs ∙ ap (λ b. b && list_all p vs) (list_all-append p us ds ∙ ap (λ b. list_all p us && b) e ∙ and-true (list_all p us))
     ∙ sym (list_all-append p us vs)
 
 any_between : (p : Use → Bool) (us ds vs : List Use) → list_any p ds ≡ false → list_any p ((us ++ ds) ++ vs) ≡ list_any p (us ++ vs)
 any_between p us ds vs e =
-    list_any-append p (us ++ ds) vs ∙ ap (λ b. b || list_any p vs) (list_any-append p us ds ∙ ap (λ b. list_any p us || b) e ∙ no_or (list_any p us))
+    list_any-append p (us ++ ds) vs ∙ ap (λ b. b || list_any p vs) (list_any-append p us ds ∙ ap (λ b. list_any p us || b) e ∙ or-false (list_any p us))
     ∙ sym (list_any-append p us vs)
 
 sum_between : (f : Use → ℕ) (us ds vs : List Use) → sum_by f ds ≡ 0 → sum_by f ((us ++ ds) ++ vs) ≡ sum_by f (us ++ vs)

@@ -1,5 +1,5 @@
 -- Laws of outcomes, and of what was found so far.
-use Rattle.std.proofs.Common.{◌≡◌, ℕ, zero, suc, ◌-◌, ◌<◌, ◌≤◌, Some, None, cond, Bool, true, false, ◌||◌, refl, sym, ap, ◌∙◌, arith}
+use Rattle.std.proofs.Common.{◌≡◌, ℕ, zero, suc, ◌-◌, ◌<◌, ◌≤◌, Some, None, cond, Bool, true, false, refl, sym, ap, ◌∙◌, arith}
 use Rattle.std.proofs.Math.Numerals.{sub-one}
 use Rattle.definitions.specs.Values.{Value, null, boolean, integer, string, array, object, is_object}
 use Rattle.definitions.specs.Applied.{Application, Outcome, Rules}
@@ -10,14 +10,6 @@ use Rattle.evaluator.specs.Notes.{Notes, added, outcome_notes}
 use Rattle.evaluator.specs.Rounds.{boolean_found, boolean_notes}
 use Rattle.evaluator.specs.declared.found.Found.{Found}
 use Rattle.json_doc.specs.Kinds.{as_boolean}
-
-pub or_false : (b : Bool) → (b || false) ≡ b
-or_false true = refl
-or_false false = refl
-
-or_assoc : (a b c : Bool) → (a || (b || c)) ≡ ((a || b) || c)
-or_assoc true b c = refl
-or_assoc false b c = refl
 
 -- ---- one outcome
 object_count : (rules : Rules) (run : Application → Outcome) (a : Application) → 0 < (object_outcome rules run a).count

@@ -11,14 +11,6 @@ use Rattle.definitions.specs.Applied.{Application, Outcome, OutputUnit, Part, Ru
 use Rattle.definitions.specs.Evaluated.{passed, failed, part_names, part_indexes, is_in_place, evaluated_names, evaluated_indexes}
 use Rattle.evaluator.specs.Notes.{names_from, indexes_from, needs_to_pass, evaluates}
 
-both_left : (a b : Bool) → (a && b) ≡ true → a ≡ true
-both_left true b h = refl
-both_left false b h = h
-
-both_right : (a b : Bool) → (a && b) ≡ true → b ≡ true
-both_right true b h = h
-both_right false b h = cc
-
 -- ---- the parts that a keyword applies schemas to: all in place, or none
 abbrev same : Bool → Bool → Bool
 same true b = b

@@ -1,16 +1,16 @@
 -- Laws of planned applications, and of what they found and noted so far.
-use Rattle.std.proofs.Common.{◌≡◌, ℕ, ◌+◌, ◌-◌, ◌<◌, ◌≤◌, List, [], ◌∷◌, ◌++◌, map, length, cond, Bool, true, false, ◌||◌, refl, sym, ap, ◌∙◌, arith, length-append, append_assoc, append-nil, take, drop, get_or, Option, Some, None, flat_map}
+use Rattle.std.proofs.Common.{◌≡◌, ℕ, ◌+◌, ◌-◌, ◌<◌, ◌≤◌, List, [], ◌∷◌, ◌++◌, map, length, cond, Bool, true, false, ◌||◌, refl, sym, ap, ◌∙◌, arith, length-append, append_assoc, take, drop, get_or}
+use Rattle.std.proofs.Math.Bool.{or-false, or_assoc}
 use Rattle.std.specs.List.{list_any}
 use Rattle.std.proofs.lemmas.List.{map-append, take_more, take-append-drop}
-use Rattle.std.proofs.lemmas.Grind.{flat_map-append}
 use Rattle.std.proofs.lemmas.List.Sums.{sum_by-append, sum_by-cons}
 use Rattle.definitions.specs.Values.{Text, Value}
-use Rattle.definitions.specs.Pointers.{Pointer}
 use Rattle.definitions.specs.Keywords.{Meaning}
-use Rattle.definitions.specs.Schemas.{opened}
 use Rattle.definitions.specs.Applied as definition
 use Rattle.definitions.specs.Applied.{Application, Outcome}
 use Rattle.definitions.specs.Evaluated.{passing}
+use Rattle.lemmas.proofs.Lists.{flat_map-push, map-take_more}
+use Rattle.definition_laws.proofs.Places.{value-opened}
 use Rattle.json_doc.specs.Docs.{value}
 use Rattle.linker.specs.declared.linked.Linked.{Linked}
 use Rattle.keyword_plans.specs.Plans.{chosen_application, part_view, planned_view}
@@ -26,13 +26,8 @@ use Rattle.evaluator.specs.Rounds.{IsAt, IsKnown, chosen_value}
 use Rattle.evaluator.specs.declared.found.Found.{Found}
 use Rattle.evaluator.specs.declared.found.Applied as found
 use Rattle.evaluator.proofs.LogLaws.{added_twice, same_notes}
-use Rattle.evaluator.proofs.OutcomeLaws.{or_false}
 
 -- ---- where a planned application stands
-value-opened : (base : Text) (p : Pointer) (v : Value) (id : Option Text) → (opened base p v id).value ≡ v
-value-opened base p v None = refl
-value-opened base p v (Some id) = refl
-
 chosen_schema_value : (k : Text) (a : Application) (chosen : Chosen) (part : definition.Part) (x : Value) → (chosen_application k a chosen part x).schema.value ≡ chosen_value chosen
 chosen_schema_value k a (Below step schema) part x = value-opened a.schema.resource _ (value schema.now) _
 chosen_schema_value k a (Target located) part x = refl
@@ -57,13 +52,9 @@ planned_at l f k a p s e v known = record {
 }
 
 -- ---- one more
-or_assoc : (a b c : Bool) → (a || (b || c)) ≡ ((a || b) || c)
-or_assoc true b c = refl
-or_assoc false b c = refl
-
 list_any-snoc : {A : Type 0} (p : A → Bool) (xs : List A) (x : A) → list_any p (xs ++ x ∷ []) ≡ (list_any p xs || p x)
-list_any-snoc p [] x = or_false (p x)
-list_any-snoc p (y ∷ ys) x = ap (λ b. p y || b) (list_any-snoc p ys x) ∙ or_assoc (p y) (list_any p ys) (p x)
+list_any-snoc p [] x = or-false (p x)
+list_any-snoc p (y ∷ ys) x = ap (λ b. p y || b) (list_any-snoc p ys x) ∙ sym (or_assoc (p y) (list_any p ys) (p x))
 
 passing_more : (b : Bool) (n : ℕ) → (cond b (n + 1) n) ≡ n + (cond b 1 0)
 passing_more true n = omega arith
@@ -104,10 +95,6 @@ pub split_at : {X : Type 0} (xs : List X) (i : ℕ) (d : X) → i < length xs �
 split_at xs i d h =
     sym (append_assoc (take i xs) (get_or xs i d ∷ []) (drop (i + 1) xs)) ∙ ap (λ ys. ys ++ drop (i + 1) xs) (sym (take_more xs i d h)) ∙ take-append-drop (i + 1) xs
 
--- the element that the code read is one more
-pub map_more : {X Y : Type 0} (g : X → Y) (xs : List X) (i : ℕ) (x : X) → i < length xs → x ≡ get_or xs i x → map g (take (i + 1) xs) ≡ map g (take i xs) ++ g x ∷ []
-map_more g xs i x h is = ap (map g) (take_more xs i x h) ∙ map-append g (take i xs) (get_or xs i x ∷ []) ∙ ap (λ y. map g (take i xs) ++ g y ∷ []) (sym is)
-
 pub map_split : {X Y : Type 0} (g : X → Y) (xs : List X) (i : ℕ) (x : X) → i < length xs → x ≡ get_or xs i x → map g xs ≡ map g (take i xs) ++ g x ∷ map g (drop (i + 1) xs)
 map_split g xs i x h is =
     sym (ap (map g) (split_at xs i x h)) ∙ map-append g (take i xs) _ ∙ ap (λ y. map g (take i xs) ++ g y ∷ map g (drop (i + 1) xs)) (sym is)
@@ -120,12 +107,9 @@ over a budget before e after all h =
     let d : count_of (e ∷ after) ≡ e.1.count + count_of after = sum_by-cons _ e after in
     omega (arith, all.count, all.within, c, d)
 
-flat_one : {X Y : Type 0} (f : X → List Y) (xs : List X) (x : X) → flat_map f (xs ++ x ∷ []) ≡ flat_map f xs ++ f x
-flat_one f xs x = flat_map-append f xs (x ∷ []) ∙ ap (λ ys. flat_map f xs ++ ys) (append-nil (f x))
-
 pub notes_more : (m : Meaning) (es : Outcomes) (e : definition.Part × Outcome) → added (parts_notes m es) (part_notes m e) ≡ parts_notes m (es ++ e ∷ [])
 unfolding added
-notes_more m es e = same_notes (sym (flat_one _ es e)) (sym (flat_one _ es e)) (sym (flat_one _ es e)) (sym (flat_one _ es e))
+notes_more m es e = same_notes (sym (flat_map-push _ es e)) (sym (flat_map-push _ es e)) (sym (flat_map-push _ es e)) (sym (flat_map-push _ es e))
 
 -- ---- the loop over what a keyword applies
 pub none_found : (a : found.Applied) (budget : ℕ) → a ≡ record { number = 0; passing = 0; count = 0; looped = false; deep = false } → FindsAll a budget []
@@ -138,13 +122,13 @@ pub child_more : {X : Type 0} (a b : found.Applied) (f : Found) (budget : ℕ) (
     → FindsAll a budget (map g (take i xs)) → Finds f (budget - a.count) (g x).1
     → b ≡ record { number = a.number + 1; passing = cond f.valid (a.passing + 1) a.passing; count = a.count + f.count; looped = a.looped || f.looped; deep = a.deep || f.deep }
     → FindsAll b budget (map g (take (i + 1) xs))
-child_more a b f budget g xs i x h is all one e = rw (e, map_more g xs i x h is) (finds_more a f budget (map g (take i xs)) (g x) all one)
+child_more a b f budget g xs i x h is all one e = rw (e, map-take_more g xs i x h is) (finds_more a f budget (map g (take i xs)) (g x) all one)
 
 pub child_noted : {X : Type 0} (m : Meaning) (older old new : Notes) (g : X → definition.Part × Outcome) (xs : List X) (i : ℕ) (x : X) → i < length xs → x ≡ get_or xs i x
     → old ≡ added older (parts_notes m (map g (take i xs))) → new ≡ added old (part_notes m (g x)) → new ≡ added older (parts_notes m (map g (take (i + 1) xs)))
 child_noted m older old new g xs i x h is e f =
     f ∙ ap (λ n. added n (part_notes m (g x))) e ∙ added_twice older (parts_notes m (map g (take i xs))) (part_notes m (g x))
-    ∙ ap (added older) (notes_more m (map g (take i xs)) (g x) ∙ ap (parts_notes m) (sym (map_more g xs i x h is)))
+    ∙ ap (added older) (notes_more m (map g (take i xs)) (g x) ∙ ap (parts_notes m) (sym (map-take_more g xs i x h is)))
 
 pub child_over : {X : Type 0} (a : found.Applied) (budget : ℕ) (g : X → definition.Part × Outcome) (xs : List X) (i : ℕ) (x : X) → i < length xs → x ≡ get_or xs i x
     → FindsAll a budget (map g (take i xs)) → budget - a.count < (g x).1.count → budget < count_of (map g xs)

@@ -3,13 +3,13 @@ use Rattle.std.proofs.Common.{◌≡◌, ◌+◌, ◌<◌, ◌≤◌, ◌==◌, 
 use Rattle.std.specs.List.{list_all, list_any}
 use Rattle.std.proofs.Math.ListN.{get_or-append}
 use Rattle.std.proofs.lemmas.List.{length-set, get_or-set_same}
-use Rattle.std.proofs.lemmas.Bool.{ltb-true, lt-ltb, ltb_from_iff}
+use Rattle.std.proofs.lemmas.Bool.{ltb-true, lt-ltb, ltb_from_iff, and_parts, or_parts}
 use Rattle.std.proofs.lemmas.Bool.Decides.{Decides-eqb}
-use Rattle.std.proofs.lemmas.Slice.Eq.{bytes_eq-Decides}
 use Rattle.definitions.specs.Values.{Text, Value, entry, get, members, same_text}
 use Rattle.definitions.specs.Keywords as table
 use Rattle.definitions.specs.Applied.{Application, Outcome, Rules}
 use Rattle.definitions.specs.Outcomes.{Use, uses_of}
+use Rattle.lemmas.proofs.Texts.{same_text_differs}
 use Rattle.linker.specs.declared.linked.Linked.{Linked}
 use Rattle.keyword_plans.specs.Rows.{row_of}
 use Rattle.keyword_plans.specs.Sites.{linked_rules}
@@ -19,16 +19,8 @@ use Rattle.evaluator.specs.Groups.{are_marked, has_name, in_order, place_in, pla
 use Rattle.evaluator.specs.Rounds.{IsAt, group_uses, groups_uses, object_uses, said, unevaluated_uses}
 use Rattle.evaluator.specs.declared.groups.Group.{Group}
 use Rattle.evaluator.specs.declared.groups.Group.TheVariants.{One, Conditional, Counted}
-use Rattle.evaluator.proofs.UseLaws.{both_left, both_right}
 
 -- ---- a name of no group
-not_true : (b : Bool) → (b ≡ true → ⊥) → b ≡ false
-not_true true h = absurd (h refl)
-not_true false h = refl
-
-differs : (s t : Text) → (s ≡ t → ⊥) → same_text s t ≡ false
-differs s t apart = not_true (same_text s t) (λ e. apart ((bytes_eq-Decides s t).0 e))
-
 -- what is asked of a name that has the length of this one, and of another
 abbrev Needs : Bool → Text → Text → Type 0
 Needs true s t = s ≡ t → ⊥
@@ -43,8 +35,8 @@ AvoidsAt n name (Counted ∷ gs) =
     Needs (8 == n) name (row_of Contains).name × Needs (11 == n) name (row_of MinContains).name × Needs (11 == n) name (row_of MaxContains).name × AvoidsAt n name gs
 
 differs_by : (b : Bool) (n : ℕ) (s t : Text) → (length t == n) ≡ b → length s ≡ n → Needs b s t → same_text s t ≡ false
-differs_by true n s t k e h = differs s t h
-differs_by false n s t k e h = differs s t (λ same. let long : (length t == n) ≡ true = (Decides-eqb (length t) n).1 (ap length (sym same) ∙ e) in absurd (cc))
+differs_by true n s t k e h = same_text_differs s t h
+differs_by false n s t k e h = same_text_differs s t (λ same. let long : (length t == n) ≡ true = (Decides-eqb (length t) n).1 (ap length (sym same) ∙ e) in absurd (cc))
 
 differs_at : (n : ℕ) (s t : Text) → length s ≡ n → Needs (length t == n) s t → same_text s t ≡ false
 differs_at n s t = differs_by (length t == n) n s t refl
@@ -116,9 +108,9 @@ all_marked (m ∷ ms) marks e =
 pub absent : (k : Text) (marks : List Bool) (ms : List (Text × Value)) → get_or marks (place_in k places) false ≡ false → are_marked marks ms ≡ true → entry k ms ≡ None
 absent k marks [] gone all = refl
 absent k marks (m ∷ ms) gone all =
-    let here : get_or marks (place_in m.0 places) false ≡ true = both_left (get_or marks (place_in m.0 places) false) (are_marked marks ms) all in
-    let other : same_text k m.0 ≡ false = differs k m.0 (λ e. let both : true ≡ false = sym here ∙ ap (λ t. get_or marks (place_in t places) false) (sym e) ∙ gone in absurd (cc)) in
-    rw other (absent k marks ms gone (both_right (get_or marks (place_in m.0 places) false) (are_marked marks ms) all))
+    let here : get_or marks (place_in m.0 places) false ≡ true = (and_parts (get_or marks (place_in m.0 places) false) (are_marked marks ms) all).0 in
+    let other : same_text k m.0 ≡ false = same_text_differs k m.0 (λ e. let both : true ≡ false = sym here ∙ ap (λ t. get_or marks (place_in t places) false) (sym e) ∙ gone in absurd (cc)) in
+    rw other (absent k marks ms gone (and_parts (get_or marks (place_in m.0 places) false) (are_marked marks ms) all).1)
 
 abbrev stand_at : ℕ → List table.Keyword → Bool
 stand_at i ks = list_all (λ k. place_in k.name places == i) ks
@@ -135,18 +127,18 @@ placed_at : (gs : List Group) (j i : ℕ) (d : Group) → are_placed j gs ≡ tr
 placed_at [] j i d all h = absurd (omega (arith, h))
 placed_at (g ∷ gs) j zero d all h =
     let same : j ≡ j + 0 = omega arith in
-    subst (λ n. stand_at n (rows_of g) ≡ true) same (both_left (stand_at j (rows_of g)) (are_placed (suc j) gs) all)
+    subst (λ n. stand_at n (rows_of g) ≡ true) same (and_parts (stand_at j (rows_of g)) (are_placed (suc j) gs) all).0
 placed_at (g ∷ gs) j (suc i) d all h =
     let same : suc j + i ≡ j + suc i = omega arith in
-    subst (λ n. stand_at n (rows_of (get_or gs i d)) ≡ true) same (placed_at gs (suc j) i d (both_right (stand_at j (rows_of g)) (are_placed (suc j) gs) all) (omega (arith, h)))
+    subst (λ n. stand_at n (rows_of (get_or gs i d)) ≡ true) same (placed_at gs (suc j) i d (and_parts (stand_at j (rows_of g)) (are_placed (suc j) gs) all).1 (omega (arith, h)))
 
 no_uses : (rules : Rules) (run : Application → Outcome) (marks : List Bool) (i : ℕ) (names : List Text) (indexes : List ℕ) (a : Application) (ks : List table.Keyword)
     → get_or marks i false ≡ false → are_marked marks (members a.schema.value) ≡ true → stand_at i ks ≡ true → uses_of rules run ks names indexes a ≡ []
 no_uses rules run marks i names indexes a [] gone all here = refl
 no_uses rules run marks i names indexes a (k ∷ ks) gone all here =
-    let at : place_in k.name places ≡ i = (Decides-eqb (place_in k.name places) i).0 (both_left (place_in k.name places == i) (stand_at i ks) here) in
+    let at : place_in k.name places ≡ i = (Decides-eqb (place_in k.name places) i).0 (and_parts (place_in k.name places == i) (stand_at i ks) here).0 in
     let none : get k.name a.schema.value ≡ None = absent k.name marks (members a.schema.value) (ap (λ n. get_or marks n false) at ∙ gone) all in
-    rw none (no_uses rules run marks i names indexes a ks gone all (both_right (place_in k.name places == i) (stand_at i ks) here))
+    rw none (no_uses rules run marks i names indexes a ks gone all (and_parts (place_in k.name places == i) (stand_at i ks) here).1)
 
 in_places : (i : ℕ) → i < length in_order → get_or places i (One Ref) ≡ get_or in_order i (One Ref)
 unfolding places
@@ -176,22 +168,14 @@ marked_there l f s x a marks at all =
     subst (λ v. are_marked marks (members v) ≡ true) (sym same) all
 
 -- ---- the keywords that look at what others evaluated
-neither_left : (a b : Bool) → (a || b) ≡ false → a ≡ false
-neither_left true b h = h
-neither_left false b h = refl
-
-neither_right : (a b : Bool) → (a || b) ≡ false → b ≡ false
-neither_right true b h = cc
-neither_right false b h = h
-
 unused_last : (l : Linked) (left : ℕ) (a : Application) (marks : List Bool) (us : List Use) → (get_or marks 33 false || get_or marks 34 false) ≡ false
     → are_marked marks (members a.schema.value) ≡ true → unevaluated_uses l left a us ≡ []
 unfolding places in_order place_in
 unused_last l left a marks us gone all =
     let items : get (row_of UnevaluatedItems).name a.schema.value ≡ None =
-    absent (row_of UnevaluatedItems).name marks (members a.schema.value) (neither_left (get_or marks 33 false) (get_or marks 34 false) gone) all in
+    absent (row_of UnevaluatedItems).name marks (members a.schema.value) (or_parts (get_or marks 33 false) (get_or marks 34 false) gone).0 all in
     let properties : get (row_of UnevaluatedProperties).name a.schema.value ≡ None =
-    absent (row_of UnevaluatedProperties).name marks (members a.schema.value) (neither_right (get_or marks 33 false) (get_or marks 34 false) gone) all in
+    absent (row_of UnevaluatedProperties).name marks (members a.schema.value) (or_parts (get_or marks 33 false) (get_or marks 34 false) gone).1 all in
     rw (items, properties) refl
 
 pub groups_alone : (l : Linked) (left : ℕ) (a : Application) (marks : List Bool) → (get_or marks 33 false || get_or marks 34 false) ≡ false → are_marked marks (members a.schema.value) ≡ true

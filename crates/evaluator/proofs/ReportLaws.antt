@@ -1,6 +1,6 @@
 -- Laws of the answer, and of the report of it.
-use Rattle.std.proofs.Common.{◌≡◌, ◌<◌, ◌≤◌, ℕ, List, [], Bool, ◌&&◌, true, false, Some, Ok, Err, nat_lt, refl, sym, ap, ◌∙◌, arith, Result, IfOk, IfErr}
-use Rattle.std.proofs.lemmas.Bool.Decides.{nat_tests}
+use Rattle.std.proofs.Common.{◌≡◌, ◌<◌, ◌≤◌, ℕ, List, [], Bool, ◌&&◌, true, false, Some, Ok, Err, refl, sym, ap, ◌∙◌, Result, IfOk, IfErr}
+use Rattle.std.proofs.lemmas.Bool.{lt-ltb, le-ltb}
 use Rattle.definitions.specs.Values.{Value, same_text}
 use Rattle.definitions.specs.Faults as meaning
 use Rattle.faults.specs.declared.Fault.{Fault}
@@ -13,11 +13,11 @@ use Rattle.definitions.specs.Targets.{resource_root}
 use Rattle.definitions.specs.Patterns.{has_match}
 use Rattle.definitions.specs.Applied.{Outcome}
 use Rattle.definitions.specs.Answers.{answer, answer_of, answer_from, first_application, limits, output_text}
+use Rattle.definition_laws.proofs.Membership.{found_there}
 use Rattle.basic_output.specs.Outputs as output
 use Rattle.basic_output.specs.Units.{units_view}
 use Rattle.linker.specs.LinkedDocuments.{linked_documents, linked_schemas, linked_uri}
 use Rattle.linker.specs.declared.linked.Linked.{Linked}
-use Rattle.linker.proofs.Positions.{found_there}
 use Rattle.keyword_plans.specs.Sites.{linked_rules}
 use Rattle.applications.specs.Frames.{Frame, standing}
 use Rattle.applications.specs.Standings.{application_at}
@@ -30,23 +30,17 @@ use Rattle.evaluator.specs.declared.log.Log.{Log}
 use Rattle.evaluator.proofs.LogLaws.{nothing_added}
 
 -- ---- the answer of an outcome
-within_not_over : (m n : ℕ) → m ≤ n → nat_lt n m ≡ false
-within_not_over m n h = grind (arith, nat_tests)
-
-over_is_over : (m n : ℕ) → n < m → nat_lt n m ≡ true
-over_is_over m n h = grind (arith, nat_tests)
-
 pub answer_ok : (most : ℕ) (o : Outcome) → o.count ≤ most → o.looped ≡ false → o.deep ≡ false → answer_of most o ≡ Ok o
-answer_ok most o h l d = rw (within_not_over o.count most h, l, d) refl
+answer_ok most o h l d = rw (le-ltb most o.count h, l, d) refl
 
 pub answer_costly : (most : ℕ) (o : Outcome) → most < o.count → answer_of most o ≡ Err costly
-answer_costly most o h = rw (over_is_over o.count most h) refl
+answer_costly most o h = rw (lt-ltb most o.count h) refl
 
 pub answer_loop : (most : ℕ) (o : Outcome) → o.count ≤ most → o.looped ≡ true → answer_of most o ≡ Err loop
-answer_loop most o h l = rw (within_not_over o.count most h, l) refl
+answer_loop most o h l = rw (le-ltb most o.count h, l) refl
 
 pub answer_deep : (most : ℕ) (o : Outcome) → o.count ≤ most → o.looped ≡ false → o.deep ≡ true → answer_of most o ≡ Err deep
-answer_deep most o h l d = rw (within_not_over o.count most h, l, d) refl
+answer_deep most o h l d = rw (le-ltb most o.count h, l, d) refl
 
 -- ---- the first application
 pub first_outcome : (l : Linked) (s : Schema) (x : Value) → resource_root (linked_schemas l) (linked_uri l) ≡ Some s

@@ -1,5 +1,6 @@
 -- Laws of what a keyword itself notes, once its schemas were applied.
-use Rattle.std.proofs.Common.{◌≡◌, ◌<◌, ℕ, List, [], ◌∷◌, ◌++◌, map, if◌then◌else◌, Bool, true, false, Contains, refl, sym, ap, ◌∙◌, append-nil, subst, flat_map, arith, ◌&&◌}
+use Rattle.std.proofs.Common.{◌≡◌, ◌<◌, ℕ, List, [], ◌∷◌, ◌++◌, map, if◌then◌else◌, Bool, true, false, Contains, refl, sym, ap, ◌∙◌, append-nil, subst, flat_map, arith}
+use Rattle.std.proofs.Math.Bool.{and-true, or-false}
 use Rattle.std.specs.Prelude.{Some, None, codes}
 use Rattle.definitions.specs.Values.{Text, Value, string, get}
 use Rattle.definitions.specs.Keywords.{keywords}
@@ -30,7 +31,6 @@ use Rattle.evaluator.specs.declared.found.Used.{Used}
 use Rattle.evaluator.specs.Notes.{Notes, parts_notes, shown, uses_notes}
 use Rattle.evaluator.specs.Rounds.{IsAt, IsAtKeyword, IsKnown, Knows, part_outcomes, said, use_there}
 use Rattle.evaluator.proofs.LogLaws.{same_notes}
-use Rattle.evaluator.proofs.OutcomeLaws.{or_false}
 use Rattle.evaluator.proofs.PartLaws.{annotations_of_passed, errors_of_failed, indexes_of_use, names_of_use}
 
 module _ (l : Linked) (left : ℕ) (a : Application) (keyword : Keyword) (names : List Text) (indexes : List ℕ) (v : Value) where
@@ -133,19 +133,15 @@ planned_known l left keyword a ps names indexes v inside found same p here =
     (subst (λ es. Contains es e) same there)
 
 -- ---- one use
-and_true : (b : Bool) → (b && true) ≡ b
-and_true true = refl
-and_true false = refl
-
 pub use_found : (all : found.Applied) (f : Found) (u : Used) (budget : ℕ) (this : Use) (passes : Bool) → FindsAll all budget this.outcomes → passes ≡ this.passes
     → f ≡ record { valid = passes; count = all.count; looped = all.looped; deep = all.deep } → u ≡ record { found = f; passing = Some all.passing } → FindsUse u budget (this ∷ [])
 use_found all f u budget this passes finds same e r =
     rw (r, e) (record {
       found = record {
-        valid = same ∙ sym (and_true this.passes);
+        valid = same ∙ sym (and-true this.passes);
         count = omega (arith, finds.count);
-        looped = finds.looped ∙ sym (or_false _);
-        deep = finds.deep ∙ sym (or_false _);
+        looped = finds.looped ∙ sym (or-false _);
+        deep = finds.deep ∙ sym (or-false _);
         within = omega (arith, finds.within);
       };
       passing = ap Some finds.passing;

@@ -1,10 +1,11 @@
 -- Laws of the uses of keywords, so far and one group more.
-use Rattle.std.proofs.Common.{◌≡◌, ℕ, zero, suc, ◌+◌, ◌-◌, ◌<◌, ◌≤◌, List, [], ◌∷◌, ◌++◌, length, Bool, true, false, ◌&&◌, ◌||◌, refl, sym, ap, ◌∙◌, arith, append-nil, take, drop, get_or, flat_map}
+use Rattle.std.proofs.Common.{◌≡◌, ℕ, zero, suc, ◌+◌, ◌-◌, ◌<◌, ◌≤◌, List, [], ◌∷◌, ◌++◌, length, Bool, true, ◌&&◌, ◌||◌, refl, sym, ap, ◌∙◌, arith, append-nil, take, drop, get_or, flat_map}
 use Rattle.std.specs.List.{list_all}
 use Rattle.std.proofs.lemmas.List.{take_more}
 use Rattle.std.proofs.lemmas.Grind.{flat_map-append}
 use Rattle.std.proofs.lemmas.List.Sums.{sum_by-append}
 use Rattle.std.proofs.lemmas.List.Folds.{list_all-append, list_any-append}
+use Rattle.std.proofs.lemmas.Bool.{and_parts}
 use Rattle.definitions.specs.Applied.{Application}
 use Rattle.definitions.specs.Outcomes.{Use, use_errors}
 use Rattle.evaluator.specs.Findings.{FindsObject, FindsUses, IsWithin, use_count}
@@ -14,18 +15,10 @@ use Rattle.evaluator.specs.declared.found.Found.{Found}
 use Rattle.evaluator.proofs.LogLaws.{added_twice, same_notes}
 use Rattle.evaluator.proofs.PlannedLaws.{split_at}
 
-pub both_left : (a b : Bool) → (a && b) ≡ true → a ≡ true
-both_left true b h = refl
-both_left false b h = h
-
-pub both_right : (a b : Bool) → (a && b) ≡ true → b ≡ true
-both_right true b h = h
-both_right false b h = cc
-
 pub all_at : {X : Type 0} (p : X → Bool) (xs : List X) (i : ℕ) (d : X) → list_all p xs ≡ true → i < length xs → p (get_or xs i d) ≡ true
 all_at p [] i d all h = absurd (omega arith)
-all_at p (x ∷ xs) zero d all h = both_left (p x) (list_all p xs) all
-all_at p (x ∷ xs) (suc i) d all h = all_at p xs i d (both_right (p x) (list_all p xs) all) (omega arith)
+all_at p (x ∷ xs) zero d all h = (and_parts (p x) (list_all p xs) all).0
+all_at p (x ∷ xs) (suc i) d all h = all_at p xs i d (and_parts (p x) (list_all p xs) all).1 (omega arith)
 
 pub all_alone : list_all stands_alone in_order ≡ true
 unfolding in_order

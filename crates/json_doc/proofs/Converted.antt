@@ -1,5 +1,5 @@
 -- What has been read of a list or an object, beside what it was read from.
-use Rattle.std.proofs.Common.{◌≡◌, List, [], ◌∷◌, ◌++◌, length, map, String, Global, Some, None, Less, Greater, string_bytes, string_cmp, nat_cmp, refl, ap, ◌∙◌, arith}
+use Rattle.std.proofs.Common.{◌≡◌, List, [], ◌∷◌, ◌++◌, map, String, Global, Some, None, Less, Greater, string_bytes, string_cmp, nat_cmp, refl, ap, ◌∙◌}
 use Rattle.std.proofs.lemmas.Cmp.{nat_list_cmp_total}
 use Rattle.std.specs.Cmp.Lexicographic.{slice_cmp}
 use Rattle.std.specs.List.{AllByRecursion}
@@ -83,7 +83,3 @@ next_is_last (a ∷ done) e more (m ∷ ms) v sorted h =
     let above : slice_cmp nat_cmp (string_bytes e.0) m.0 ≡ Greater =
     rw (← h.0) (nat_list_cmp_total.antisymm (string_bytes e.0) (string_bytes a.0) ∙ ap ordering_reverse (below_middle a done e more sorted.0)) in
     rw above (ap (λ r. m ∷ r) (next_is_last done e more ms v sorted.1 h.2))
-
-pub nothing_left : {X : Type 0} (xs : List X) → length xs ≡ 0 → xs ≡ []
-nothing_left [] h = refl
-nothing_left (x ∷ xs) h = absurd (omega arith)

@@ -1,7 +1,8 @@
 -- The definitions' test of equality is equality.
-use Rattle.std.proofs.Common.{◌≡◌, ◌≢◌, ◌&&◌, suc, List, [], ◌∷◌, map, length, Bool, true, false, refl, ap, ap₂}
+use Rattle.std.proofs.Common.{◌≡◌, ◌≢◌, suc, List, [], ◌∷◌, map, length, Bool, true, false, refl, ap, ap₂}
 use Rattle.std.proofs.lemmas.Bool.Decides.{Decides-int_eq}
 use Rattle.std.proofs.lemmas.Slice.Eq.{bytes_eq-Decides}
+use Rattle.std.proofs.lemmas.Bool.{and_right, and_parts}
 use Rattle.std.specs.Bool.{Decides}
 use Rattle.definitions.specs.Values as json
 use Rattle.definitions.specs.Values.{Value, null, boolean, integer, string, array, object, Elements, no_elements, element, no_members, member, same, same_boolean, same_elements, same_members, to_elements}
@@ -13,14 +14,6 @@ boolean-sound true true h = refl
 boolean-sound true false h = cc
 boolean-sound false true h = cc
 boolean-sound false false h = refl
-
-first_of : (b c : Bool) → (b && c) ≡ true → b ≡ true
-first_of true c h = refl
-first_of false c h = cc
-
-second_of : (b c : Bool) → (b && c) ≡ true → c ≡ true
-second_of true c h = h
-second_of false c h = cc
 
 mutual
   same-sound : (u v : Value) → same u v ≡ true → u ≡ v
@@ -66,16 +59,16 @@ mutual
   same_elements-sound no_elements (element v vs) h = cc
   same_elements-sound (element u us) no_elements h = cc
   same_elements-sound (element u us) (element v vs) h =
-      ap₂ element (same-sound u v (first_of _ _ h)) (same_elements-sound us vs (second_of (same u v) _ h))
+      ap₂ element (same-sound u v (and_parts _ _ h).0) (same_elements-sound us vs (and_parts (same u v) _ h).1)
 
   same_members-sound : (ls ms : json.Members) → same_members ls ms ≡ true → ls ≡ ms
   same_members-sound no_members no_members h = refl
   same_members-sound no_members (member m v ms) h = cc
   same_members-sound (member l u ls) no_members h = cc
   same_members-sound (member l u ls) (member m v ms) h =
-      let name : l ≡ m = (bytes_eq-Decides l m).0 (first_of _ _ h) in
-      let rest = second_of (json.same_text l m) _ h in
-      rw name (ap₂ (member m) (same-sound u v (first_of _ _ rest)) (same_members-sound ls ms (second_of (same u v) _ rest)))
+      let name : l ≡ m = (bytes_eq-Decides l m).0 (and_parts _ _ h).0 in
+      let rest = (and_parts (json.same_text l m) _ h).1 in
+      rw name (ap₂ (member m) (same-sound u v (and_parts _ _ rest).0) (same_members-sound ls ms (and_parts (same u v) _ rest).1))
 
 boolean-refl : (b : Bool) → same_boolean b b ≡ true
 boolean-refl true = refl
@@ -101,12 +94,8 @@ mutual
 pub same-Decides : (u v : Value) → Decides (same u v) (u ≡ v)
 same-Decides u v = (same-sound u v, λ e. rw (← e) (same-refl u))
 
-and_false : (b : Bool) (c : Bool) → c ≡ false → (b && c) ≡ false
-and_false true c h = h
-and_false false c h = refl
-
 pub same_elements-lengths : (us vs : List Doc) → length us ≢ length vs → same_elements (to_elements (map value us)) (to_elements (map value vs)) ≡ false
 same_elements-lengths [] [] h = absurd (h refl)
 same_elements-lengths [] (v ∷ vs) h = refl
 same_elements-lengths (u ∷ us) [] h = refl
-same_elements-lengths (u ∷ us) (v ∷ vs) h = and_false (same (value u) (value v)) _ (same_elements-lengths us vs (λ e. h (ap suc e)))
+same_elements-lengths (u ∷ us) (v ∷ vs) h = and_right (same (value u) (value v)) _ (same_elements-lengths us vs (λ e. h (ap suc e)))

@@ -1,12 +1,12 @@
 -- The text of a reference token, run by run: what stands as it is, one escape, and the rest.
-use Rattle.std.proofs.Common.{◌≡◌, ℕ, suc, ◌+◌, ◌<◌, ◌≤◌, ◌==◌, ◌||◌, List, [], ◌∷◌, ◌++◌, Bool, true, false, not, cond, Some, None, get_or, take, drop, length, nat_lt, codes, flat_map, refl, sym, ap, ◌∙◌, arith, append-nil, append_assoc, inl, inr, ◌⊎◌}
+use Rattle.std.proofs.Common.{◌≡◌, ℕ, suc, ◌+◌, ◌<◌, ◌≤◌, ◌==◌, ◌||◌, List, [], ◌∷◌, ◌++◌, Bool, true, false, not, cond, Some, None, get_or, take, drop, length, nat_lt, codes, flat_map, refl, sym, ap, ◌∙◌, arith, append-nil, append_assoc}
 use Rattle.std.proofs.Math.Seq.{drop-cons}
-use Rattle.std.proofs.lemmas.Bool.{ltb-false}
 use Rattle.std.proofs.lemmas.List.{take_all, drop_all}
 use Rattle.std.proofs.lemmas.List.Quantifiers.{position-Some}
 use Rattle.std.proofs.lemmas.List.Concat.{flat_map-append}
 use Rattle.std.specs.List.{position, position_or_len}
 use Rattle.definitions.specs.Pointers.{escaped_byte, pointer_text}
+use Rattle.lemmas.proofs.Options.{past_from_none}
 use Rattle.json_doc.specs.Escapes.{is_escaped}
 
 as_it_is : (x : ℕ) (a b : Bool) → (a || b) ≡ false → cond a (codes "~0") (cond b (codes "~1") (x ∷ [])) ≡ x ∷ []
@@ -30,10 +30,6 @@ found_at : (b : Bool) (n i : ℕ) → cond b (Some n) None ≡ Some i → n ≡ 
 found_at true n i e = cc
 found_at false n i e = cc
 
-found_none : (n m : ℕ) (b : Bool) → nat_lt n m ≡ b → cond b (Some n) None ≡ None → m ≤ n
-found_none n m true e h = cc
-found_none n m false e h = ltb-false n m e
-
 -- the first escape, and what stands before and after it
 pub escape_at : (bs : List ℕ) (i : ℕ) → position is_escaped bs ≡ Some i
     → flat_map escaped_byte bs ≡ take i bs ++ (escaped_byte (get_or bs i 0) ++ flat_map escaped_byte (drop (i + 1) bs))
@@ -47,12 +43,8 @@ escape_at bs i e =
 pub no_escape : (bs : List ℕ) → position is_escaped bs ≡ None → flat_map escaped_byte bs ≡ bs
 no_escape bs e =
     let n = position_or_len is_escaped bs in
-    let past : length bs ≤ n = found_none n (length bs) _ refl e in
+    let past : length bs ≤ n = past_from_none n (length bs) _ refl e in
     runs bs ∙ rw (take_all n bs past, drop_all n bs past) (append-nil bs)
-
-either : (a b : Bool) → (a || b) ≡ true → (a ≡ true) ⊎ (b ≡ true)
-either true b h = inl refl
-either false b h = inr h
 
 pub is_ascii : (x : ℕ) → is_escaped x ≡ true → x < 128
 is_ascii x h = grind (arith, h)

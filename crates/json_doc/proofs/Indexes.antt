@@ -1,6 +1,6 @@
 -- What a token finds in an array: the index that it writes, and the element there.
 use Rattle.std.proofs.Common.{◌≡◌, ◌≢◌, ℕ, ◌<◌, ◌≤◌, ◌^◌, ◌==◌, ◌&&◌, ◌||◌, not, List, [], ◌∷◌, Bool, true, false, cond, Option, Some, None, Result, Ok, Err, option_map, option_and_then, get_or, length, map, nat_lt, MatchOption, Bor, refl, sym, ap, ◌∙◌, arith, rules}
-use Rattle.std.proofs.lemmas.Bool.{ltb-true, ltb-false}
+use Rattle.std.proofs.lemmas.Bool.{ltb-true, ltb-false, ne_eqb}
 use Rattle.std.proofs.lemmas.Option.{slice_get_past, slice_get-get_or, slice_get-map}
 use Rattle.std.proofs.lemmas.Str.Parse.{IsNumeralModel, numerals_by_fold, parse_plain}
 use Rattle.std.specs.List.{list_all, slice_get, HoldsAt}
@@ -11,7 +11,6 @@ use Rattle.definitions.specs.Pointers.{is_digit, number_from, array_index, child
 use Rattle.json_doc.specs.Docs.{value}
 use Rattle.json_doc.specs.Indexes.{in_64_bits}
 use Rattle.json_doc.specs.declared.doc.Doc.{Doc}
-use Rattle.json_doc.proofs.Unescaped.{is_other}
 use Rattle.json_doc.proofs.Views.{elements_list-to_elements}
 
 -- ---- the index
@@ -46,7 +45,7 @@ index_parsed (c ∷ cs) r low h =
     let plus : c ≢ 43 = omega arith in
     let zero : c ≢ 48 = omega arith in
     by_parse (list_all is_digit (c ∷ cs)) (number_from 0 (c ∷ cs)) (length (c ∷ cs)) r (parse_plain digits 64 (c ∷ cs) r h plus) (omega arith)
-    ∙ ap (option_and_then in_64_bits) (no_zero (list_all is_digit (c ∷ cs)) (length cs == 0) (c == 48) (number_from 0 (c ∷ cs)) (is_other c 48 zero))
+    ∙ ap (option_and_then in_64_bits) (no_zero (list_all is_digit (c ∷ cs)) (length cs == 0) (c == 48) (number_from 0 (c ∷ cs)) (ne_eqb c 48 zero))
 
 -- ---- the element
 by_word : (vs : List Value) (n : ℕ) (b : Bool) → nat_lt n (2 ^ 64) ≡ b → length vs ≤ 2 ^ 64

@@ -1,9 +1,9 @@
 -- A value is read back from the tokens of its text, where it is well formed and nests no deeper than a reader follows.
-use Rattle.std.proofs.Common.{◌≡◌, ◌≤◌, ◌^◌, suc, max, ℤ, pos, negsuc, List, [], true, Option, Some, option_map, option_and_then, Ordering, Less, Equal, Greater, nat_cmp, refl, sym, ap, ap₂, ◌∙◌, arith, append-nil}
+use Rattle.std.proofs.Common.{◌≡◌, ◌≤◌, ◌^◌, suc, max, ℤ, pos, negsuc, List, [], true, Option, Some, option_map, option_and_then, Less, Greater, nat_cmp, refl, sym, ap, ap₂, ◌∙◌, arith, append-nil}
 use Rattle.std.proofs.lemmas.Bool.{and_parts, ltb-true}
 use Rattle.std.proofs.lemmas.Cmp.{nat_list_cmp_total}
 use Rattle.std.specs.Cmp.Lexicographic.{slice_cmp}
-use Rattle.std.specs.Ordering.{is_lt, ordering_reverse}
+use Rattle.std.specs.Ordering.{ordering_reverse}
 use Rattle.json.specs.Json as json
 use Rattle.json.specs.Lex.{tokens}
 use Rattle.json.specs.Token.{Token}
@@ -16,6 +16,7 @@ use Rattle.serde_json.specs.Written.{number_text, outline, items_outline, member
 use Rattle.serde_json.proofs.Numbers.{number_of-decimal, number_of-negative}
 use Rattle.definitions.specs.Values.{Text, Value, null, boolean, integer, string, array, object, Elements, no_elements, element, Members, no_members, member, nesting, elements_nesting, members_nesting, fits_64_bits, is_before, is_well_formed, are_well_formed, are_well_formed_members}
 use Rattle.definitions.specs.Texts.{data_of, items_of, json_members_of, value_of, elements_of, members_of}
+use Rattle.lemmas.proofs.Orders.{is_less}
 use Rattle.json_doc.specs.Tokens.{value_tokens}
 
 -- ---- nesting
@@ -89,11 +90,6 @@ precede-first (member n v ms) = tt
 precede-next : (done : Members) (n m : Text) (v : Value) → Precede done n → slice_cmp nat_cmp n m ≡ Less → Precede (append done (member n v no_members)) m
 precede-next no_members n m v h less = (less, tt)
 precede-next (member k w done) n m v h less = (nat_list_cmp_total.trans k n m h.0 less, precede-next done n m v h.1 less)
-
-is_less : (o : Ordering) → is_lt o ≡ true → o ≡ Less
-is_less Less h = refl
-is_less Equal h = cc
-is_less Greater h = cc
 
 precede-rest : (done : Members) (n : Text) (v : Value) (ms : Members) → Precede done n → is_before n ms ≡ true → PrecedeAll (append done (member n v no_members)) ms
 precede-rest done n v no_members h before = tt

@@ -1,16 +1,14 @@
 -- A token read from its text, escape by escape, and the tokens of a text one by one.
-use Rattle.std.proofs.Common.{◌≡◌, ◌≢◌, ℕ, suc, ◌+◌, ◌<◌, ◌≤◌, ◌==◌, List, [], ◌∷◌, ◌++◌, Bool, true, false, cond, Option, Some, None, option_map, option_and_then, get_or, drop, length, map, flat_map, refl, sym, ap, ◌∙◌, arith, append-nil, append_assoc, length-append, inl, inr}
-use Rattle.std.proofs.lemmas.Bool.{eqb-true}
-use Rattle.std.proofs.lemmas.Bool.Decides.{eqb_tells}
+use Rattle.std.proofs.Common.{◌≡◌, ◌≢◌, ℕ, suc, ◌+◌, ◌<◌, ◌≤◌, ◌==◌, List, [], ◌∷◌, ◌++◌, Bool, true, false, cond, Option, Some, None, option_map, option_and_then, get_or, drop, length, refl, sym, ap, ◌∙◌, arith, append-nil, append_assoc, length-append}
+use Rattle.std.proofs.lemmas.Bool.{eqb-true, ne_eqb}
 use Rattle.std.proofs.lemmas.List.{at_drop_more, at_drop_all}
-use Rattle.std.proofs.lemmas.List.Elements.{All-nil, All-cons}
-use Rattle.std.proofs.lemmas.List.Splits.{slice_split_none, slice_split_at}
 use Rattle.std.proofs.lemmas.Str.{IsUtf8-drop, IsCharBoundary-after_ascii}
 use Rattle.std.proofs.Math.Seq.{drop-append-add, get_or-append_seam}
-use Rattle.std.specs.List.{All, slice_split}
+use Rattle.std.specs.List.{slice_split}
 use Rattle.std.specs.Str.{IsUtf8}
 use Rattle.definitions.specs.Values.{Text}
-use Rattle.definitions.specs.Pointers.{Pointer, escaped_byte, pointer_text, unescaped, each, pointer_of}
+use Rattle.definitions.specs.Pointers.{unescaped, each, pointer_of}
+use Rattle.lemmas.proofs.PointerTexts.{kept_byte}
 use Rattle.json_doc.specs.Escapes.{escape_before}
 
 -- what is done, and then what is left
@@ -29,19 +27,12 @@ resumed-nil (Some r) = refl
 abbrev pub HasNoTilde : Text → Type 0
 HasNoTilde bs = (i : ℕ) → i < length bs → get_or bs i 0 ≢ 126
 
-pub is_other : (b c : ℕ) → b ≢ c → (b == c) ≡ false
-is_other b c ne = elim (eqb_tells b c) [ inl same ↦ absurd (ne same.1) | inr other ↦ other.0 ]
-
-kept_byte : (c : ℕ) (cs : Text) → (c == 126) ≡ false → unescaped (c ∷ cs) ≡ resumed (c ∷ []) (unescaped cs)
-kept_byte c [] e = rw e refl
-kept_byte c (d ∷ cs) e = rw e refl
-
 -- up to the first `~` a token stands as it is
 kept : (xs ys : Text) → HasNoTilde xs → unescaped (xs ++ ys) ≡ resumed xs (unescaped ys)
 kept [] ys h = sym (resumed-nil (unescaped ys))
 kept (x ∷ xs) ys h =
     let first : x ≢ 126 = h 0 (omega arith) in
-    kept_byte x (xs ++ ys) (is_other x 126 first)
+    kept_byte x (xs ++ ys) (ne_eqb x 126 first)
     ∙ ap (resumed (x ∷ [])) (kept xs ys (λ i within. h (suc i) (omega arith)))
     ∙ sym (resumed-more (x ∷ []) xs (unescaped ys))
 
@@ -116,46 +107,6 @@ tokens_none done parts n part within is e =
 
 pub tokens_all : (done parts : List Text) (n : ℕ) → length parts ≤ n → resumed done (each unescaped (drop n parts)) ≡ Some done
 tokens_all done parts n past = ap (resumed done) (at_drop_all (each unescaped) parts n past) ∙ ap Some (append-nil done)
-
--- ---- a pointer's text, read back
-back_byte : (c : ℕ) (cs rest : Text) (a b : Bool) → (c == 126) ≡ a → (c == 47) ≡ b → unescaped rest ≡ Some cs
-    → unescaped (cond a (126 ∷ 48 ∷ []) (cond b (126 ∷ 49 ∷ []) (c ∷ [])) ++ rest) ≡ Some (c ∷ cs)
-back_byte c cs rest true b ea eb e = ap (resumed (126 ∷ [])) e ∙ ap (λ x. Some (x ∷ cs)) (sym (eqb-true c 126 ea))
-back_byte c cs rest false true ea eb e = ap (resumed (47 ∷ [])) e ∙ ap (λ x. Some (x ∷ cs)) (sym (eqb-true c 47 eb))
-back_byte c cs rest false false ea eb e = kept_byte c rest ea ∙ ap (resumed (c ∷ [])) e
-
-back : (token : Text) → unescaped (flat_map escaped_byte token) ≡ Some token
-back [] = refl
-back (c ∷ cs) = back_byte c cs (flat_map escaped_byte cs) (c == 126) (c == 47) refl refl (back cs)
-
-abbrev IsNoSlash : ℕ → Type 0
-IsNoSlash b = (b == 47) ≡ false
-
-no_slash_byte : (c : ℕ) (rest : Text) (a b : Bool) → (c == 126) ≡ a → (c == 47) ≡ b → All IsNoSlash rest
-    → All IsNoSlash (cond a (126 ∷ 48 ∷ []) (cond b (126 ∷ 49 ∷ []) (c ∷ [])) ++ rest)
-no_slash_byte c rest true b ea eb h = All-cons IsNoSlash 126 (48 ∷ rest) refl (All-cons IsNoSlash 48 rest refl h)
-no_slash_byte c rest false true ea eb h = All-cons IsNoSlash 126 (49 ∷ rest) refl (All-cons IsNoSlash 49 rest refl h)
-no_slash_byte c rest false false ea eb h = All-cons IsNoSlash c rest eb h
-
-no_slash : (token : Text) → All IsNoSlash (flat_map escaped_byte token)
-no_slash [] = All-nil IsNoSlash
-no_slash (c ∷ cs) = no_slash_byte c (flat_map escaped_byte cs) (c == 126) (c == 47) refl refl (no_slash cs)
-
-cut : (token : Text) (tokens : Pointer) → slice_split (λ d. d == 47) (flat_map escaped_byte token ++ pointer_text tokens) ≡ map (flat_map escaped_byte) (token ∷ tokens)
-cut token [] =
-    ap (slice_split (λ d. d == 47)) (append-nil (flat_map escaped_byte token)) ∙ slice_split_none (λ d. d == 47) (flat_map escaped_byte token) (no_slash token)
-cut token (next ∷ tokens) =
-    slice_split_at (λ d. d == 47) (flat_map escaped_byte token) 47 (flat_map escaped_byte next ++ pointer_text tokens) (no_slash token) refl
-    ∙ ap (λ parts. flat_map escaped_byte token ∷ parts) (cut next tokens)
-
-each_back : (tokens : Pointer) → each unescaped (map (flat_map escaped_byte) tokens) ≡ Some tokens
-each_back [] = refl
-each_back (token ∷ tokens) = rw (back token, each_back tokens) refl
-
--- the pointer whose text a pointer's text is
-pub text_back : (p : Pointer) → pointer_of (pointer_text p) ≡ Some p
-text_back [] = refl
-text_back (token ∷ tokens) = ap (each unescaped) (cut token tokens) ∙ each_back (token ∷ tokens)
 
 -- ---- a text after its first `~`
 pub text_after : (before after rest : Text) → rest ≡ before ++ 126 ∷ after → IsUtf8 rest → IsUtf8 after

@@ -1,7 +1,9 @@
 -- What a `Doc` and `Members` stand for, one level at a time.
-use Rattle.std.proofs.Common.{◌≡◌, List, [], ◌∷◌, map, String, Vec, Global, string_bytes, refl, sym, ap, ◌∙◌, rules}
+use Rattle.std.proofs.Common.{◌≡◌, List, [], ◌∷◌, map, String, Vec, Global, string_bytes, refl, sym, ap, ◌∙◌, rules, not}
 use Rattle.definitions.specs.Values as json
-use Rattle.definitions.specs.Values.{Text, Value, string, array, object, no_members, member, to_elements, to_members, elements_list, members_list}
+use Rattle.definitions.specs.Values.{Text, Value, string, array, object, no_members, member, to_elements, to_members, elements_list, members_list, elements, same, has_repeat}
+use Rattle.definitions.specs.Assertions.{is_unique}
+use Rattle.lemmas.proofs.Members.{to_members-members_list}
 use Rattle.json_doc.specs.Docs.{value, value_step, members_step, object_members, members_view, members_value}
 use Rattle.json_doc.specs.Members.{member_value}
 use Rattle.json_doc.specs.declared.doc.Doc.{Doc, Str, List as DocList, Dict, the_lemmas}
@@ -45,12 +47,14 @@ pub elements_list-to_elements : (vs : List Value) → elements_list (to_elements
 elements_list-to_elements [] = refl
 elements_list-to_elements (v ∷ vs) = ap (λ r. v ∷ r) (elements_list-to_elements vs)
 
-pub to_members-members_list : (ms : json.Members) → to_members (members_list ms) ≡ ms
-to_members-members_list no_members = refl
-to_members-members_list (member n v ms) = ap (member n v) (to_members-members_list ms)
-
 pub to_members-value : (m : json.Members) (ms : List (Text × Value)) → ms ≡ members_list m → to_members ms ≡ m
 to_members-value m ms e = ap to_members e ∙ to_members-members_list m
+
+pub elements-List : (v : Vec Doc Global) → elements (value (DocList v)) ≡ map value v.items
+elements-List v = ap elements (value-List v) ∙ elements_list-to_elements (map value v.items)
+
+pub is_unique-List : (v : Vec Doc Global) → is_unique (value (DocList v)) ≡ not (has_repeat same (map value v.items))
+is_unique-List v = ap (λ vs. not (has_repeat same vs)) (elements-List v)
 
 -- objects of the same members are the same value
 pub value-Dict-same : (m n : Members) → members_value m ≡ members_value n → value (Dict m) ≡ value (Dict n)

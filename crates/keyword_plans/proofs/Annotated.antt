@@ -1,5 +1,5 @@
 -- What a keyword annotates with, read off what it evaluated.
-use Rattle.std.proofs.Common.{◌≡◌, ℕ, suc, ◌-◌, ◌==◌, List, [], ◌∷◌, ◌++◌, Bool, true, false, cond, Option, Some, None, length, get_or, filter, flat_map, Bor, map, refl, sym, ap, ◌∙◌, arith, not, zip, decimal}
+use Rattle.std.proofs.Common.{◌≡◌, ℕ, suc, ◌-◌, ◌==◌, List, [], ◌∷◌, ◌++◌, Bool, true, false, cond, Option, Some, None, length, get_or, filter, flat_map, Bor, map, refl, sym, ap, ◌∙◌, arith, not, zip, decimal, append-nil}
 use Rattle.std.proofs.lemmas.Bool.Decides.{nat_tests}
 use Rattle.std.specs.List.{AllByRecursion, enumerate_from}
 use Rattle.definitions.specs.Values.{Text, Value, string, get, members, elements}
@@ -30,17 +30,13 @@ none-whole : {X : Type 0} (of : Outcome → List X) (run : Application → Outco
 none-whole of run [] h = refl
 none-whole of run (e ∷ es) h = whole-first of e.0 (run e.1) (passed (outs run es)) (run e.1).valid h.0 (none-whole of run es h.1)
 
-append-none : {Y : Type 0} (ys : List Y) → ys ++ [] ≡ ys
-append-none [] = refl
-append-none (y ∷ ys) = ap (λ zs. y ∷ zs) (append-none ys)
-
 pub names-of_parts : (run : Application → Outcome) (es : List (Part × Application)) → NoneWhole es
     → part_names (outs run es) ++ from_whole (λ o. o.names) (passed (outs run es)) ≡ part_names (outs run es)
-names-of_parts run es h = ap (λ ns. part_names (outs run es) ++ ns) (none-whole (λ o. o.names) run es h) ∙ append-none (part_names (outs run es))
+names-of_parts run es h = ap (λ ns. part_names (outs run es) ++ ns) (none-whole (λ o. o.names) run es h) ∙ append-nil (part_names (outs run es))
 
 pub indexes-of_parts : (run : Application → Outcome) (es : List (Part × Application)) → NoneWhole es
     → part_indexes (outs run es) ++ from_whole (λ o. o.indexes) (passed (outs run es)) ≡ part_indexes (outs run es)
-indexes-of_parts run es h = ap (λ ns. part_indexes (outs run es) ++ ns) (none-whole (λ o. o.indexes) run es h) ∙ append-none (part_indexes (outs run es))
+indexes-of_parts run es h = ap (λ ns. part_indexes (outs run es) ++ ns) (none-whole (λ o. o.indexes) run es h) ∙ append-nil (part_indexes (outs run es))
 
 pub none-map : {X : Type 0} (f : X → Part × Application) → ((x : X) → is_in_place (f x).0 ≡ false) → (xs : List X) → NoneWhole (map f xs)
 none-map f h [] = tt

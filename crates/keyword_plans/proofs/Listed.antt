@@ -4,8 +4,8 @@ use Rattle.definitions.specs.Values.{Text}
 use Rattle.definitions.specs.Applied.{Application, each_listed}
 use Rattle.json_doc.specs.Docs.{value}
 use Rattle.json_doc.specs.declared.doc.Doc.{Doc, List as DocList}
-use Rattle.assertions.proofs.Elements.{elements-List}
 use Rattle.keyword_plans.specs.Applications.{planned_listed}
+use Rattle.json_doc.proofs.Views.{elements-List}
 
 pub each_listed-List : (a : Application) (k : Text) (v : Vec Doc Global) → each_listed a k (value (DocList v)) ≡ planned_listed k a 0 (map value v.items)
 each_listed-List a k v = ap (planned_listed k a 0) (elements-List v)

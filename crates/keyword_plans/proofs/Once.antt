@@ -1,15 +1,9 @@
 -- The names that were not seen before.
-use Rattle.std.proofs.Common.{◌≡◌, List, [], ◌∷◌, Bool, true, false, not, ◌&&◌, cond, filter, Bor, refl, sym, ap, ap₂, ◌∙◌, subst}
+use Rattle.std.proofs.Common.{◌≡◌, List, [], ◌∷◌, Bool, true, false, not, ◌&&◌, cond, filter, refl, sym, ap, ap₂, ◌∙◌, subst}
 use Rattle.std.proofs.lemmas.Slice.Eq.{bytes_eq-Decides}
-use Rattle.std.proofs.lemmas.Map.Text.{is_eq-slice_cmp}
-use Rattle.std.specs.Ordering.{eq_by_cmp}
+use Rattle.std.proofs.lemmas.List.Elements.{filter_agree}
 use Rattle.definitions.specs.Values.{Text, same_text}
 use Rattle.definitions.specs.Evaluated.{once}
-use Rattle.keyword_plans.proofs.Seen.{text_order}
-
-filter-same : {X : Type 0} (f g : X → Bool) → ((x : X) → f x ≡ g x) → (xs : List X) → filter f xs ≡ filter g xs
-filter-same f g same [] = refl
-filter-same f g same (x ∷ xs) = ap₂ (λ b ys. cond b (x ∷ ys) ys) (same x) (filter-same f g same xs)
 
 by_two : {X : Type 0} (f : X → Bool) (b : Bool) (x : X) (ys : List X) → filter f (cond b (x ∷ ys) ys) ≡ cond (f x && b) (x ∷ filter f ys) (filter f ys)
 by_two f true x ys = by_one (f x) x (filter f ys)
@@ -41,7 +35,7 @@ pub unseen-new : (seen more : Text → Bool) (n : Text) (ns : List Text) → ((m
 unseen-new seen more n ns e new =
     ap (λ b. cond (not b) (n ∷ filter (λ m. not (seen m)) (filter (λ m. not (same_text n m)) (once ns))) (filter (λ m. not (seen m)) (filter (λ m. not (same_text n m)) (once ns)))) new
     ∙ ap (λ ys. n ∷ ys) (filter-filter (λ m. not (seen m)) (λ m. not (same_text n m)) (once ns)
-    ∙ filter-same _ (λ m. not (more m)) (λ m. both_new (same_text n m) (seen m) ∙ ap not (sym (e m))) (once ns))
+    ∙ filter_agree _ (λ m. not (more m)) (λ m. both_new (same_text n m) (seen m) ∙ ap not (sym (e m))) (once ns))
 
 stays : (same old : Bool) → (same ≡ true → old ≡ true) → (not old && not same) ≡ not old
 stays true true h = refl
@@ -59,7 +53,7 @@ unseen-old seen more n ns e old =
     let known = λ (m : Text) (h : same_text n m ≡ true). subst (λ (t : Text). seen t ≡ true) ((bytes_eq-Decides n m).0 h) old in
     ap (λ b. cond (not b) (n ∷ filter (λ m. not (seen m)) (filter (λ m. not (same_text n m)) (once ns))) (filter (λ m. not (seen m)) (filter (λ m. not (same_text n m)) (once ns)))) old
     ∙ filter-filter (λ m. not (seen m)) (λ m. not (same_text n m)) (once ns)
-    ∙ filter-same _ (λ m. not (more m))
+    ∙ filter_agree _ (λ m. not (more m))
     (λ m. stays (same_text n m) (seen m) (known m) ∙ ap not (sym (e m ∙ same-stays (same_text n m) (seen m) (known m)))) (once ns)
 
 filter-all : {X : Type 0} (f : X → Bool) → ((x : X) → f x ≡ true) → (xs : List X) → filter f xs ≡ xs
@@ -68,6 +62,3 @@ filter-all f all (x ∷ xs) = ap₂ (λ b ys. cond b (x ∷ ys) ys) (all x) (fil
 
 pub unseen-first : (seen : Text → Bool) → ((m : Text) → seen m ≡ false) → (ns : List Text) → unseen seen ns ≡ once ns
 unseen-first seen none ns = filter-all (λ m. not (seen m)) (λ m. ap not (none m)) (once ns)
-
-pub text_order-same : (x y : Bor Text) → eq_by_cmp text_order x y ≡ same_text x.now y.now
-text_order-same x y = is_eq-slice_cmp x.now y.now

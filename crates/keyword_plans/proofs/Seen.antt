@@ -1,20 +1,15 @@
 -- Sets of keys: those that a loop has put in, and those that are left.
-use Rattle.std.proofs.Common.{◌≡◌, ℕ, List, [], ◌∷◌, ◌||◌, Bool, true, false, cond, ◌==◌, Ordering, nat_cmp, Bor, map, refl, sym, ap, ap₂, ◌∙◌, rules}
-use Rattle.std.proofs.lemmas.Bool.Decides.{same_from_decides, Decides-like}
+use Rattle.std.proofs.Common.{◌≡◌, ℕ, List, [], ◌∷◌, ◌||◌, Bool, true, false, cond, ◌==◌, nat_cmp, Bor, map, refl, sym, ap, ap₂, ◌∙◌, rules}
+use Rattle.std.proofs.Math.Bool.{or-false}
 use Rattle.std.proofs.lemmas.Map.Text.{is_eq-slice_cmp}
-use Rattle.std.proofs.lemmas.Slice.Eq.{bytes_eq-Decides}
-use Rattle.std.specs.Cmp.Lexicographic.{slice_cmp}
 use Rattle.std.specs.List.{list_any}
 use Rattle.std.specs.Ordering.{eq_by_cmp}
-use Rattle.definitions.specs.Values.{Text, same_text}
+use Rattle.definitions.specs.Values.{Text}
 use Rattle.definitions.specs.Applied.{has}
-
-or-none : (b : Bool) → (b || false) ≡ b
-or-none true = refl
-or-none false = refl
+use Rattle.lemmas.proofs.Texts.{text_order, same_text_turned}
 
 pub seen-all : {K : Type 0} (b : Bool) (test : K → Bool) (left : List K) (all : Bool) → left ≡ [] → (b || list_any test left) ≡ all → b ≡ all
-seen-all b test left all none same = sym (or-none b) ∙ ap (λ ks. b || list_any test ks) (sym none) ∙ same
+seen-all b test left all none same = sym (or-false b) ∙ ap (λ ks. b || list_any test ks) (sym none) ∙ same
 
 moved : (b c r : Bool) → (cond b true c || r) ≡ (c || (b || r))
 moved true true r = refl
@@ -28,15 +23,9 @@ seen-more old new test k left rest all e f same =
     ap (λ b. b || list_any test rest) f ∙ moved (test k) old (list_any test rest) ∙ ap (λ ks. old || list_any test ks) (sym e) ∙ same
 
 -- ---- names
-flipped : (x y : Text) → same_text x y ≡ same_text y x
-flipped x y = same_from_decides (same_text x y) (same_text y x) (bytes_eq-Decides x y) (Decides-like (same_text y x) sym sym (bytes_eq-Decides y x))
-
-abbrev pub text_order : Bor Text → Bor Text → Ordering
-text_order x y = slice_cmp nat_cmp x.now y.now
-
 pub has-by_order : (q : Bor Text) (ns : List (Bor Text)) → list_any (λ n. eq_by_cmp text_order n q) ns ≡ has q.now (map (λ (n : Bor Text). n.now) ns)
 has-by_order q [] = refl
-has-by_order q (n ∷ ns) = ap₂ (λ a b. a || b) (is_eq-slice_cmp n.now q.now ∙ flipped n.now q.now) (has-by_order q ns)
+has-by_order q (n ∷ ns) = ap₂ (λ a b. a || b) (is_eq-slice_cmp n.now q.now ∙ same_text_turned n.now q.now) (has-by_order q ns)
 
 -- ---- indexes
 same_index : (i j : ℕ) → eq_by_cmp nat_cmp i j ≡ (i == j)

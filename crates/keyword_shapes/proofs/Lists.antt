@@ -1,6 +1,7 @@
 -- The shapes of lists and objects, read off the documents that stand for them.
-use Rattle.std.proofs.Common.{◌≡◌, List, [], ◌∷◌, map, length, nat_lt, Bool, ◌&&◌, Vec, Global, refl, ap, ◌∙◌}
+use Rattle.std.proofs.Common.{◌≡◌, List, map, length, nat_lt, Bool, ◌&&◌, Vec, Global, ap, ◌∙◌}
 use Rattle.std.proofs.lemmas.List.{length-map}
+use Rattle.std.proofs.lemmas.List.Folds.{list_all-map}
 use Rattle.std.specs.List.{list_all}
 use Rattle.definitions.specs.Values.{Value, is_string, to_elements, elements_list}
 use Rattle.definitions.specs.Shapes.{is_type_name, are_type_names, is_text_list, are_text_lists, is_schema, is_schema_list, is_schema_map}
@@ -9,12 +10,8 @@ use Rattle.json_doc.specs.declared.doc.Doc.{Doc, List as DocList, Dict}
 use Rattle.json_doc.specs.declared.members.Members.{Members}
 use Rattle.json_doc.proofs.Views.{value-List, value-Dict, elements_list-to_elements}
 
-list_all-value : (test : Value → Bool) (ds : List Doc) → list_all test (map value ds) ≡ list_all (λ d. test (value d)) ds
-list_all-value test [] = refl
-list_all-value test (d ∷ ds) = ap (λ b. test (value d) && b) (list_all-value test ds)
-
 list_all-elements : (test : Value → Bool) (ds : List Doc) → list_all test (elements_list (to_elements (map value ds))) ≡ list_all (λ d. test (value d)) ds
-list_all-elements test ds = ap (list_all test) (elements_list-to_elements (map value ds)) ∙ list_all-value test ds
+list_all-elements test ds = ap (list_all test) (elements_list-to_elements (map value ds)) ∙ list_all-map test value ds
 
 length-elements : (ds : List Doc) → length (elements_list (to_elements (map value ds))) ≡ length ds
 length-elements ds = ap length (elements_list-to_elements (map value ds)) ∙ length-map ds value

@@ -13,13 +13,12 @@ use Rattle.definitions.specs.Bundles.{document_of}
 use Rattle.definitions.specs.Registries.{placed, resources_of}
 use Rattle.definitions.specs.Runs.{resource_uris_of}
 use Rattle.definition_laws.proofs.AcceptedDocuments.{first_none, scanned}
-use Rattle.definition_laws.proofs.Membership.{any_at}
+use Rattle.definition_laws.proofs.Membership.{any_at, found_there}
 use Rattle.definition_laws.proofs.PlacedDocuments.{key_of, as_inserted}
 use Rattle.definition_laws.proofs.Placing.{ascending, distinct}
 use Rattle.definition_laws.proofs.Repeats.{none_of}
 use Rattle.definition_laws.proofs.Resources.{apart_from_held, same_text-unlike, root_opens}
 use Rattle.definition_laws.proofs.StoredDocuments.{holds_itself}
-use Rattle.linker.proofs.Positions.{found_there}
 use Rattle.linker.specs.Sources.{Ascend, is_faultless, shares_resource}
 
 -- ---- tests of images
@@ -35,16 +34,7 @@ pub is_some-map : {X Y : Type 0} (f : X → Y) (o : Option X) → is_some (optio
 is_some-map f None = refl
 is_some-map f (Some x) = refl
 
-pub any-map : {X Y : Type 0} (p : Y → Bool) (f : X → Y) (xs : List X) → list_any p (map f xs) ≡ list_any (λ x. p (f x)) xs
-any-map p f [] = refl
-any-map p f (x ∷ xs) = ap (λ b. p (f x) || b) (any-map p f xs)
-
 -- ---- an element that is put in
-pub insert-map : {X Y : Type 0} (f : X → Y) (xs : List X) (at : ℕ) (x : X) → map f (insert xs at x) ≡ insert (map f xs) at (f x)
-insert-map f xs zero x = refl
-insert-map f [] (suc at) x = refl
-insert-map f (y ∷ ys) (suc at) x = ap (λ zs. f y ∷ zs) (insert-map f ys at x)
-
 all_placed_at : (p : Document → Bool) (d e : Document) (es : List Document) (o : Ordering) → p d ≡ true → p e ≡ true → list_all p es ≡ true → list_all p (placed d es) ≡ true
     → list_all p (match_ordering o (d ∷ e ∷ es) (d ∷ es) (e ∷ placed d es)) ≡ true
 all_placed_at p d e es Less here there rest more = and_from (p d) (list_all p (e ∷ es)) here (and_from (p e) (list_all p es) there rest)

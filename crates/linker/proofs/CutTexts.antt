@@ -6,21 +6,9 @@ use Rattle.definitions.specs.Targets.{fragment_of}
 use Rattle.definitions.specs.Uris.{Parts, split, recompose, cut_at, is_free_of, is_scheme, led_by, ended_by, option_all, without_fragment}
 use Rattle.definitions.specs.Resolution.{resolve, resolved}
 use Rattle.uri_ref.specs.Soundness.{AreSound}
-use Rattle.uri_ref.proofs.Missing.{Misses, misses_from, joined_misses, one_missed, scheme_misses, cut_apart}
+use Rattle.uri_ref.proofs.Missing.{Misses, misses_from, joined_misses, one_missed, scheme_misses, cut_apart, of_option, led_misses, ended_misses}
 use Rattle.uri_ref.proofs.Recomposed.{joined, recomposes}
 use Rattle.uri_ref.proofs.Sound.{split_sound, resolve_sound}
-
-of_option : (f : Text → Bool) (o : Option Text) → option_all f o ≡ true → (t : Text) → o ≡ Some t → f t ≡ true
-of_option f None h t e = cc
-of_option f (Some s) h t e = let same : s ≡ t = cc in ap f (sym same) ∙ h
-
-led_misses : (p : ℕ → Bool) (sign : Text) (o : Option Text) → Misses p sign → ((t : Text) → o ≡ Some t → Misses p t) → Misses p (led_by sign o)
-led_misses p sign None h k = refl
-led_misses p sign (Some t) h k = joined_misses p sign t h (k t refl)
-
-ended_misses : (p : ℕ → Bool) (sign : Text) (o : Option Text) → Misses p sign → ((t : Text) → o ≡ Some t → Misses p t) → Misses p (ended_by o sign)
-ended_misses p sign None h k = refl
-ended_misses p sign (Some t) h k = joined_misses p t sign (k t refl) h
 
 -- no `#` stands before the fragment
 before_misses : (p : Parts) → AreSound p

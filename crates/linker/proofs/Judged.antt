@@ -49,7 +49,3 @@ missing_by_documents all [] = refl
 missing_by_documents all (d ∷ ds) =
     filter-append (λ r. is_none (target (table_of all) r)) (references_in d) (flat_map references_in ds)
     ∙ ap (λ ts. missing_in all d ++ ts) (missing_by_documents all ds)
-
-pub flat_map_more : {X Y : Type 0} (f : X → List Y) (xs : List X) (x : X) → flat_map f (xs ++ x ∷ []) ≡ flat_map f xs ++ f x
-flat_map_more f [] x = append-nil (f x)
-flat_map_more f (y ∷ ys) x = ap (λ zs. f y ++ zs) (flat_map_more f ys x) ∙ sym (append_assoc (f y) (flat_map f ys) (f x))

@@ -3,7 +3,7 @@ use Rattle.std.proofs.Common.{◌≡◌, ℕ, zero, suc, ◌<◌, ◌≤◌, Lis
 use Rattle.std.proofs.lemmas.List.{length-map}
 use Rattle.std.proofs.lemmas.Bool.{false_from_ne_true}
 use Rattle.std.proofs.lemmas.Cmp.{nat_list_cmp_total, tied_itself}
-use Rattle.std.proofs.lemmas.List.Elements.{All-from_recursion, All-contains}
+use Rattle.std.proofs.lemmas.List.Elements.{All-from_recursion, All-contains, Contains-get_or}
 use Rattle.std.specs.Cmp.{IsTotalOrder}
 use Rattle.std.specs.Cmp.Lexicographic.{slice_cmp, bytes_decides}
 use Rattle.std.specs.Ordering.{nat_cmp, ordering_index, ordering_reverse, match_ordering}
@@ -12,7 +12,7 @@ use Rattle.std.specs.List.Sorted.{IsStrictlySortedBy, IsSearchInRange, IsBinaryS
 use Rattle.definitions.specs.Values.{Text, has_repeat, same_text}
 use Rattle.definitions.specs.Schemas.{Document}
 use Rattle.definitions.specs.Bundles.{document_of}
-use Rattle.definition_laws.proofs.Membership.{nothing_in, is_first, is_later, first_or_later, in_map, one_of}
+use Rattle.definition_laws.proofs.Membership.{nothing_in, is_first, is_later, first_or_later, in_map, one_of, found_there, found_some, found_none}
 use Rattle.definition_laws.proofs.Placing.{inserted, ascending_distinct}
 use Rattle.definition_laws.proofs.PlacedDocuments.{key_of, as_inserted, tied}
 use Rattle.definition_laws.proofs.ReachedSets.{same_text-back}
@@ -23,9 +23,6 @@ use Rattle.schema_scan.specs.declared.compiled.Compiled.{Compiled}
 use Rattle.linker.specs.SharedDocuments.{shared_documents}
 use Rattle.linker.specs.Positions.{StandsAt, IsGap}
 use Rattle.linker.specs.Sources.{Ascend}
-
-less_is_greater : Less ≡ Greater → ⊥
-less_is_greater e = cc
 
 less_is_equal : Less ≡ Equal → ⊥
 less_is_equal e = cc
@@ -65,15 +62,10 @@ module _ {X Y K : Type 0} (cmp : K → K → Ordering) (order : IsTotalOrder cmp
   unfolding IsStrictlySortedBy
   tail_sorted x xs h = h.1
 
-  stands : (xs : List X) (j : ℕ) (d : X) → j < length xs → Contains xs (get_or xs j d)
-  stands [] j d l = absurd (omega (arith, l))
-  stands (x ∷ xs) zero d l = is_first x xs
-  stands (x ∷ xs) (suc j) d l = is_later x (get_or xs j d) xs (stands xs j d (omega arith))
-
   answers_rise : (u : K) (xs : List X) → IsStrictlySortedBy cmp (map key (map f xs)) → IsNonDecreasingBy (λ x. ordering_index (at_key u x)) xs
   answers_rise u [] h i j d le l = absurd (omega (arith, l))
   answers_rise u (x ∷ xs) h zero zero d le l = omega arith
-  answers_rise u (x ∷ xs) h zero (suc j) d le l = rise (key (f x)) (key (f (get_or xs j d))) u (first_below x xs h (get_or xs j d) (stands xs j d (omega arith)))
+  answers_rise u (x ∷ xs) h zero (suc j) d le l = rise (key (f x)) (key (f (get_or xs j d))) u (first_below x xs h (get_or xs j d) (Contains-get_or xs j d (omega arith)))
   answers_rise u (x ∷ xs) h (suc i) zero d le l = absurd (omega arith)
   answers_rise u (x ∷ xs) h (suc i) (suc j) d le l = answers_rise u xs (tail_sorted x xs h) i j d (omega arith) (omega arith)
 
@@ -152,42 +144,9 @@ module _ {X : Type 0} (f : X → Document) (xs : List X) (uri : Text) (h : IsStr
   searched (Err at) within parted = (tt, as_gap at (found_cut (slice_cmp nat_cmp) nat_list_cmp_total f key_of uri xs at h within parted))
 
 -- ---- the document with a canonical URI
-found_first_at : {X : Type 0} (p : X → Bool) (x : X) (xs : List X) (b : Bool) → p x ≡ b → ((y : X) → find p xs ≡ Some y → Contains xs y × (p y ≡ true))
-    → (y : X) → cond b (Some x) (find p xs) ≡ Some y → Contains (x ∷ xs) y × (p y ≡ true)
-found_first_at p x xs true e more y h = let is : x ≡ y = cc in (subst (Contains (x ∷ xs)) is (is_first x xs), ap p (sym is) ∙ e)
-found_first_at p x xs false e more y h = (is_later x y xs (more y h).0, (more y h).1)
-
-pub found_there : {X : Type 0} (p : X → Bool) (xs : List X) (y : X) → find p xs ≡ Some y → Contains xs y × (p y ≡ true)
-found_there p [] y e = cc
-found_there p (x ∷ xs) y e = found_first_at p x xs (p x) refl (found_there p xs) y e
-
-not_found_at : {X : Type 0} (p : X → Bool) (x : X) (xs : List X) (b : Bool) → p x ≡ b → b ≡ false → find p xs ≡ None → cond b (Some x) (find p xs) ≡ None
-not_found_at p x xs true is h e = absurd (true≢false h)
-not_found_at p x xs false is h e = e
-
-pub not_found : {X : Type 0} (p : X → Bool) (xs : List X) → ((y : X) → Contains xs y → p y ≡ false) → find p xs ≡ None
-not_found p [] h = refl
-not_found p (x ∷ xs) h = not_found_at p x xs (p x) refl (h x (is_first x xs)) (not_found p xs (λ y c. h y (is_later x y xs c)))
-
-some_found_at : {X : Type 0} (p : X → Bool) (x : X) (xs : List X) (b : Bool) → (y : X) × (find p xs ≡ Some y) → (z : X) × (cond b (Some x) (find p xs) ≡ Some z)
-some_found_at p x xs true more = (x, refl)
-some_found_at p x xs false more = more
-
-pub some_found : {X : Type 0} (p : X → Bool) (y : X) (xs : List X) → Contains xs y → p y ≡ true → (z : X) × (find p xs ≡ Some z)
-some_found p y [] c e = absurd (nothing_in y c)
-some_found {X} p y (x ∷ xs) c e = elim (first_or_later x y xs c) [
-  | inl same ↦ (x, ap (λ b. cond b (Some x) (find p xs)) (ap p same ∙ e))
-  | inr later ↦ some_found_at p x xs (p x) (some_found p y xs later e)
-]
-
 pub absent_unfound : (ds : List Document) (uri : Text) (at : ℕ) → IsGap ds uri at → document_of ds uri ≡ None
 absent_unfound ds uri at gap =
-    not_found (λ d. same_text uri d.canonical) ds (λ d c. false_from_ne_true (same_text uri d.canonical) (λ same. gap.absent d c (sym ((bytes_decides uri d.canonical).0 same))))
-
-there : (ds : List Document) (at : ℕ) (d : Document) → at < length ds → Contains ds (get_or ds at d)
-there [] at d l = absurd (omega (arith, l))
-there (e ∷ es) zero d l = is_first e es
-there (e ∷ es) (suc at) d l = is_later e (get_or es at d) es (there es at d (omega arith))
+    found_none (λ d. same_text uri d.canonical) ds (λ d c. false_from_ne_true (same_text uri d.canonical) (λ same. gap.absent d c (sym ((bytes_decides uri d.canonical).0 same))))
 
 pub ascend_distinct : (ds : List Document) → Ascend ds → has_repeat same_text (map key_of ds) ≡ false
 ascend_distinct ds ascend =
@@ -197,10 +156,10 @@ ascend_distinct ds ascend =
 
 pub standing_found : (ds : List Document) (uri : Text) (at : ℕ) → Ascend ds → StandsAt ds uri at → (d : Document) → document_of ds uri ≡ Some (get_or ds at d)
 standing_found ds uri at ascend stands d =
-    let some_one = some_found (λ (e : Document). same_text uri e.canonical) (get_or ds at d) ds (there ds at d stands.inside) ((bytes_decides uri (get_or ds at d).canonical).1 (sym (stands.named d))) in
+    let some_one = found_some (λ (e : Document). same_text uri e.canonical) (get_or ds at d) ds (Contains-get_or ds at d stands.inside) ((bytes_decides uri (get_or ds at d).canonical).1 (sym (stands.named d))) in
     let found = found_there (λ (e : Document). same_text uri e.canonical) ds some_one.0 some_one.1 in
     some_one.1
-    ∙ ap Some (one_of same_text key_of same_text-back ds (ascend_distinct ds ascend) some_one.0 (get_or ds at d) found.0 (there ds at d stands.inside)
+    ∙ ap Some (one_of same_text key_of same_text-back ds (ascend_distinct ds ascend) some_one.0 (get_or ds at d) found.0 (Contains-get_or ds at d stands.inside)
     ((bytes_decides some_one.0.canonical (get_or ds at d).canonical).1 (sym ((bytes_decides uri some_one.0.canonical).0 found.1) ∙ sym (stands.named d))))
 
 pub standing_some : (ds : List Document) (uri : Text) (at : ℕ) → StandsAt ds uri at → is_none (document_of ds uri) ≡ false
@@ -209,7 +168,7 @@ standing_some ds uri at stands = some_one ds at stands.inside stands.named
     some_one : (es : List Document) (k : ℕ) → k < length es → HoldsAt (λ d. d.canonical ≡ uri) es k → is_none (document_of es uri) ≡ false
     some_one [] k l named = absurd (omega (arith, l))
     some_one (e ∷ es) k l named =
-        let there_is = some_found (λ (x : Document). same_text uri x.canonical) (get_or (e ∷ es) k e) (e ∷ es) (there (e ∷ es) k e l) ((bytes_decides uri (get_or (e ∷ es) k e).canonical).1 (sym (named e))) in
+        let there_is = found_some (λ (x : Document). same_text uri x.canonical) (get_or (e ∷ es) k e) (e ∷ es) (Contains-get_or (e ∷ es) k e l) ((bytes_decides uri (get_or (e ∷ es) k e).canonical).1 (sym (named e))) in
         ap is_none there_is.1
 
 -- ---- shared documents

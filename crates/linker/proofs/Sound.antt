@@ -6,6 +6,7 @@ use Rattle.std.specs.Global.{Global}
 use Rattle.std.specs.declared.rc.Rc.{Rc}
 use Rattle.definitions.specs.Schemas.{Document, document_from}
 use Rattle.definitions.specs.Scanning.{scan_fault}
+use Rattle.lemmas.proofs.Options.{none_from_is_none}
 use Rattle.definition_laws.proofs.Membership.{nothing_in, first_or_later}
 use Rattle.schema_scan.specs.CompiledDocuments.{compiled_document}
 use Rattle.schema_scan.specs.declared.compiled.Compiled.{Compiled}
@@ -23,16 +24,12 @@ shared_made (x ∷ xs) d c = elim (first_or_later (compiled_document x.value) d 
   | inr later ↦ shared_made xs d later
 ]
 
-nothing : {A : Type 0} (o : Option A) → is_none o ≡ true → o ≡ None
-nothing None e = refl
-nothing (Some x) e = absurd (true≢false (sym e))
-
 pub all_faultless : (ds : List Document) → list_all is_faultless ds ≡ true → (d : Document) → Contains ds d → scan_fault d.base d.value ≡ None
 all_faultless [] h d c = absurd (nothing_in d c)
 all_faultless (e ∷ es) h d c =
     let parts = and_parts (is_faultless e) (list_all is_faultless es) h in
     elim (first_or_later e d es c) [
-      | inl same ↦ subst (λ (x : Document). scan_fault x.base x.value ≡ None) same (nothing (scan_fault e.base e.value) parts.0)
+      | inl same ↦ subst (λ (x : Document). scan_fault x.base x.value ≡ None) same (none_from_is_none (scan_fault e.base e.value) parts.0)
       | inr later ↦ all_faultless es parts.1 d later
     ]
 

@@ -9,16 +9,12 @@ use Rattle.definitions.specs.Schemas.{Schema, Document, is_root, schemas_of, tab
 use Rattle.definitions.specs.Scanning.{resource_uris}
 use Rattle.definitions.specs.Targets.{resource_root, anchored, dynamically_anchored, is_anchor, is_dynamic_anchor, pointed, target_by}
 use Rattle.definitions.specs.Reach.{holds_resource}
-use Rattle.definition_laws.proofs.Membership.{nothing_in, is_first, is_later, first_or_later, in_map, in_filter}
+use Rattle.definition_laws.proofs.Membership.{nothing_in, is_first, is_later, first_or_later, in_map, in_filter, found_none}
 use Rattle.definition_laws.proofs.Occurrences.{in_from_contains, contains_from_in}
 use Rattle.definition_laws.proofs.Resources.{one_document, opened_is_root, table_uris}
 use Rattle.definition_laws.proofs.Roots.{document_roots, pointer_root}
 
 -- ---- the first element of a list that passes a test
-find_none : {X : Type 0} (p : X → Bool) (xs : List X) → ((x : X) → Contains xs x → p x ≡ false) → find p xs ≡ None
-find_none p [] h = refl
-find_none p (x ∷ xs) h = rw (h x (is_first x xs)) (find_none p xs (λ y c. h y (is_later x y xs c)))
-
 find_in_none : {X Y : Type 0} (f : X → List Y) (p : Y → Bool) (xs : List X) → ((x : X) → Contains xs x → find p (f x) ≡ None) → find p (flat_map f xs) ≡ None
 find_in_none f p [] h = refl
 find_in_none f p (x ∷ xs) h =
@@ -61,7 +57,7 @@ in_resource uri test s = same_text uri s.resource && test s
 
 -- a document without the resource has no schema in it
 pub unheld : (d : Document) (uri : Text) (test : Schema → Bool) → holds_resource uri d ≡ false → find (in_resource uri test) (schemas_of d.base d.value) ≡ None
-unheld d uri test e = find_none (in_resource uri test) schemas (λ s c. false_from_ne_true (in_resource uri test s) (λ passes.
+unheld d uri test e = found_none (in_resource uri test) schemas (λ s c. false_from_ne_true (in_resource uri test s) (λ passes.
     true≢false (sym (held s c (and_parts (same_text uri s.resource) (test s) passes).0) ∙ e)))
   where
     schemas : List Schema

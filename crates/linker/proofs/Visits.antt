@@ -11,14 +11,15 @@ use Rattle.definitions.specs.Schemas.{Document}
 use Rattle.definitions.specs.Bundles.{document_of}
 use Rattle.definitions.specs.Registries.{placed}
 use Rattle.definitions.specs.Reach.{IsReached, holds, referred, holds_resource, refers_to, reach}
-use Rattle.definition_laws.proofs.Membership.{nothing_in, is_first, is_later, first_or_later, in_filter, from_filter, filter_short, one_of}
+use Rattle.lemmas.proofs.Options.{some_from_is_some}
+use Rattle.definition_laws.proofs.Membership.{nothing_in, is_first, is_later, first_or_later, in_filter, from_filter, filter_short, one_of, found_there, found_some}
 use Rattle.definition_laws.proofs.PlacedDocuments.{key_of, as_inserted, from_placed, in_placed, tied}
 use Rattle.definition_laws.proofs.Placing.{ascending, kept_ascending, same_ascending}
 use Rattle.definition_laws.proofs.ReachedSets.{reach_is_least, reach_as_filter, same_text-back}
 use Rattle.definition_laws.proofs.Resources.{one_document}
 use Rattle.linker.specs.Sources.{Ascend, AreSound}
 use Rattle.linker.specs.Visits.{IsPart, Keeps, Adds}
-use Rattle.linker.proofs.Positions.{ascend_distinct, found_there, some_found}
+use Rattle.linker.proofs.Positions.{ascend_distinct}
 
 -- ---- nothing is added, or two times something
 pub adds_none : (all : List Document) (p : Document → Bool) (reached waiting : List Document) → Ascend reached → ((d : Document) → Contains all d → p d ≡ false) → Adds all p reached waiting reached waiting
@@ -83,17 +84,13 @@ longer d (e ∷ es) other =
 
 nothing_found : (ds : List Document) (d : Document) → is_some (document_of ds d.canonical) ≡ false → (e : Document) → Contains ds e → e.canonical ≢ d.canonical
 nothing_found ds d none e c same =
-    let found = some_found (λ (x : Document). same_text d.canonical x.canonical) e ds c ((bytes_decides d.canonical e.canonical).1 (sym same)) in
+    let found = found_some (λ (x : Document). same_text d.canonical x.canonical) e ds c ((bytes_decides d.canonical e.canonical).1 (sym same)) in
     true≢false (sym (ap is_some found.1) ∙ none)
-
-found_some : (o : Option Document) → is_some o ≡ true → (d : Document) × (o ≡ Some d)
-found_some None e = absurd (true≢false (sym e))
-found_some (Some d) e = (d, refl)
 
 -- in part of all documents stands the document itself, where one with its canonical URI does
 found_itself : (reached all : List Document) (d : Document) → Ascend all → IsPart reached all → Contains all d → is_some (document_of reached d.canonical) ≡ true → Contains reached d
 found_itself reached all d ascend part c there =
-    let some_one = found_some (document_of reached d.canonical) there in
+    let some_one = some_from_is_some (document_of reached d.canonical) there in
     let found = found_there (λ (x : Document). same_text d.canonical x.canonical) reached some_one.0 some_one.1 in
     subst (Contains reached)
     (sym (one_of same_text key_of same_text-back all (ascend_distinct all ascend) d some_one.0 c (part.inside some_one.0 found.0) found.1)) found.0
@@ -217,7 +214,7 @@ no_more reached all ascend part =
     same_ascending (slice_cmp nat_cmp) nat_list_cmp_total key_of reached (filter (λ d. is_some (document_of reached d.canonical)) all) part.ascend
     (kept_ascending (slice_cmp nat_cmp) key_of (λ d. is_some (document_of reached d.canonical)) all ascend)
     (λ d c. in_filter (λ e. is_some (document_of reached e.canonical)) d all (part.inside d c)
-    (ap is_some (some_found (λ (x : Document). same_text d.canonical x.canonical) d reached c ((bytes_decides d.canonical d.canonical).1 refl)).1))
+    (ap is_some (found_some (λ (x : Document). same_text d.canonical x.canonical) d reached c ((bytes_decides d.canonical d.canonical).1 refl)).1))
     (λ d c. let kept = from_filter (λ e. is_some (document_of reached e.canonical)) d all c in found_itself reached all d ascend part kept.0 kept.1) in
     omega (arith, ap length same, filter_short (λ d. is_some (document_of reached d.canonical)) all)
 

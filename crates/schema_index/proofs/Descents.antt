@@ -1,6 +1,5 @@
 -- Where a pointer leads from a schema, by the keyword's name and shape.
 use Rattle.std.proofs.Common.{◌≡◌, ◌≢◌, ◌<◌, ◌≤◌, ◌+◌, ◌^◌, ◌||◌, ℕ, zero, suc, List, [], ◌∷◌, ◌++◌, map, length, Bool, true, false, cond, Option, Some, None, option_map, decimal, nat_cmp, refl, sym, ap, ap₂, subst, ◌∙◌, arith, inl, inr, append-nil}
-use Rattle.std.proofs.lemmas.Bool.{false_from_ne_true}
 use Rattle.std.proofs.lemmas.Cmp.{nat_list_cmp_total, tied_itself}
 use Rattle.std.proofs.lemmas.Fmt.{decimal_injective}
 use Rattle.std.proofs.lemmas.Grind.{flat_map-append}
@@ -13,14 +12,15 @@ use Rattle.definitions.specs.Shapes.{Shape, one_schema, schema_list, schema_map}
 use Rattle.definitions.specs.Keywords.{keywords, shape_in}
 use Rattle.definitions.specs.Schemas.{Schema, below, at_place, subschemas_by, schemas_within}
 use Rattle.definitions.specs.Targets.{pointed}
+use Rattle.lemmas.proofs.Texts.{same_text_itself, same_text_is, same_text_differs}
 use Rattle.json_doc.specs.Members.{HasNamesInOrder}
 use Rattle.definition_laws.proofs.Occurrences.{IsIn, contains_from_in, into_map}
 use Rattle.definition_laws.proofs.Places.{step_to, value-below, places}
 use Rattle.definition_laws.proofs.Placing.{ascending_distinct}
-use Rattle.definition_laws.proofs.Roots.{same_text_itself, same_text_is}
+use Rattle.definition_laws.proofs.Roots.{elements_nest, members_nest}
 use Rattle.schema_index.specs.Descents.{led, LeadsNowhere, StepsTo, schemas_held, row, name_of, IsHeld}
 use Rattle.schema_index.proofs.Lookups.{look, prefixed, keyed, look_keyed-none, look_keyed-some, look_keyed-empty}
-use Rattle.schema_index.proofs.Levels.{within_behind, within_levels, elements_nest, members_nest}
+use Rattle.schema_index.proofs.Levels.{within_behind, within_levels}
 
 -- ---- the schemas below, by keyword
 abbrev pub inner : ℕ → Schema → Text → Value → Shape → List (Pointer × Schema)
@@ -89,9 +89,6 @@ row-key {X} key name (y ∷ ys) x e = by (same_text name (key y)) refl e (row-ke
     by false s h more = more h
 
 -- ---- keys stand once
-unlike_itself : (t u : Text) → (t ≡ u → ⊥) → same_text t u ≡ false
-unlike_itself t u h = false_from_ne_true (same_text t u) (λ e. h (same_text_is t u e))
-
 pub names_once : (ms : List (Text × Value)) → HasNamesInOrder ms → has_repeat same_text (map (λ (m : Text × Value). m.0) ms) ≡ false
 names_once ms h =
     ascending_distinct (slice_cmp nat_cmp) same_text
@@ -101,7 +98,7 @@ names_once ms h =
 later_decimal : (i n : ℕ) (us : List Value) → i < n → n + length us ≤ 2 ^ 64 → list_any (same_text (decimal i)) (map (λ (e : ℕ × Value). decimal e.0) (enumerate_from n us)) ≡ false
 later_decimal i n [] h k = refl
 later_decimal i n (u ∷ us) h k =
-    let here : same_text (decimal i) (decimal n) ≡ false = unlike_itself (decimal i) (decimal n) (λ e. let is : i ≡ n = decimal_injective i n (omega arith) (omega arith) e in omega arith) in
+    let here : same_text (decimal i) (decimal n) ≡ false = same_text_differs (decimal i) (decimal n) (λ e. let is : i ≡ n = decimal_injective i n (omega arith) (omega arith) e in omega arith) in
     ap₂ (λ a b. a || b) here (later_decimal i (n + 1) us (omega arith) (omega arith))
 
 decimals_once : (n : ℕ) (us : List Value) → n + length us ≤ 2 ^ 64 → has_repeat same_text (map (λ (e : ℕ × Value). decimal e.0) (enumerate_from n us)) ≡ false
@@ -113,14 +110,14 @@ row-decimal : (n j m : ℕ) (us : List Value) → m ≡ n + j → n + length us 
 row-decimal n j m [] e h k = refl
 row-decimal n zero m (u ∷ us) e h k = let is : m ≡ n = omega arith in rw (is, same_text_itself (decimal n)) refl
 row-decimal n (suc j) m (u ∷ us) e h k =
-    let other : same_text (decimal m) (decimal n) ≡ false = unlike_itself (decimal m) (decimal n) (λ f. let is : m ≡ n = decimal_injective m n k (omega arith) f in omega arith) in
+    let other : same_text (decimal m) (decimal n) ≡ false = same_text_differs (decimal m) (decimal n) (λ f. let is : m ≡ n = decimal_injective m n k (omega arith) f in omega arith) in
     rw other (row-decimal (n + 1) j m us (omega arith) (omega arith) k)
 
 row-no_index : (t : Text) (n m : ℕ) (us : List Value) → ((i : ℕ) → i < m → decimal i ≢ t) → n + length us ≤ m
     → row (λ (e : ℕ × Value). decimal e.0) t (enumerate_from n us) ≡ None
 row-no_index t n m [] h k = refl
 row-no_index t n m (u ∷ us) h k =
-    let other : same_text t (decimal n) ≡ false = unlike_itself t (decimal n) (λ f. h n (omega arith) (sym f)) in
+    let other : same_text t (decimal n) ≡ false = same_text_differs t (decimal n) (λ f. h n (omega arith) (sym f)) in
     rw other (row-no_index t (n + 1) m us h (omega arith))
 
 -- ---- from a schema to where a keyword of it leads

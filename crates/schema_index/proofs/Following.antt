@@ -1,14 +1,15 @@
 -- Each way of the walk leads to its schema.
-use Rattle.std.proofs.Common.{◌≡◌, add-one, ℕ, ◌+◌, List, [], ◌∷◌, ◌++◌, true, false, cond, ◌&&◌, Option, Some, None, refl, sym, ap, ◌∙◌, option_and_then, Ordering, Less, Equal, Greater, nat_cmp}
+use Rattle.std.proofs.Common.{◌≡◌, add-one, ℕ, ◌+◌, List, [], ◌∷◌, ◌++◌, true, false, cond, Option, Some, None, refl, sym, ap, ◌∙◌, option_and_then, Less, nat_cmp}
 use Rattle.std.proofs.lemmas.Bool.{and_parts}
 use Rattle.std.proofs.lemmas.Cmp.{nat_list_cmp_total}
 use Rattle.std.proofs.lemmas.Slice.Eq.{bytes_eq-Decides}
 use Rattle.std.proofs.lemmas.Map.Text.{is_eq-slice_cmp}
 use Rattle.std.specs.Cmp.Lexicographic.{slice_cmp}
 use Rattle.std.specs.List.{AllByRecursion, slice_get}
-use Rattle.std.specs.Ordering.{is_lt, is_eq, ordering_reverse}
-use Rattle.std.specs.Str.{is_utf8}
+use Rattle.std.specs.Ordering.{is_eq, ordering_reverse}
 use Rattle.definitions.specs.Values.{Text, Value, null, boolean, integer, string, array, object, Elements, no_elements, element, elements_list, Members, no_members, member, members_list, entry, same_text, is_before, is_well_formed, are_well_formed, are_well_formed_members}
+use Rattle.lemmas.proofs.Orders.{is_less}
+use Rattle.lemmas.proofs.Members.{member_parts}
 use Rattle.schema_index.specs.Hops.{Hop, to_member, to_element, hop_value, follow}
 use Rattle.schema_index.specs.Spots.{Spot, resource_of, start_of, holding_named, spots, spots_below, spots_at, spots_in_list, spots_in_map}
 use Rattle.schema_index.specs.declared.holdings.Holding.{Holding}
@@ -32,21 +33,9 @@ follow-more [] h v u e = some-again (hop_value h v) ∙ ap (hop_value h) (same e
 follow-more (k ∷ hs) h v u e = after (hop_value k v) hs h u (λ w f. follow-more hs h w u f) e
 
 -- ---- a name stands once
-is_less : (o : Ordering) → is_lt o ≡ true → o ≡ Less
-is_less Less h = refl
-is_less Equal h = cc
-is_less Greater h = cc
-
 abbrev Below : Text → Members → Type 0
 Below n no_members = Unit {0}
 Below n (member m v ms) = (slice_cmp nat_cmp n m ≡ Less) × Below n ms
-
-member_parts : (n : Text) (v : Value) (ms : Members) → are_well_formed_members (member n v ms) ≡ true → (is_before n ms ≡ true) × (is_well_formed v ≡ true) × (are_well_formed_members ms ≡ true)
-member_parts n v ms h =
-    let p = and_parts (is_utf8 n) (is_before n ms && (is_well_formed v && are_well_formed_members ms)) h in
-    let q = and_parts (is_before n ms) (is_well_formed v && are_well_formed_members ms) p.1 in
-    let r = and_parts (is_well_formed v) (are_well_formed_members ms) q.1 in
-    (q.0, r.0, r.1)
 
 below-through : (n k : Text) (ms : Members) → slice_cmp nat_cmp n k ≡ Less → Below k ms → Below n ms
 below-through n k no_members h b = tt

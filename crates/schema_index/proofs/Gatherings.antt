@@ -2,6 +2,7 @@
 use Rattle.std.proofs.Common.{◌≡◌, List, [], ◌∷◌, ◌++◌, map, Bool, true, false, cond, filter, refl, sym, ap, ◌∙◌, append_assoc, append-nil}
 use Rattle.std.proofs.lemmas.List.{map-append}
 use Rattle.std.proofs.lemmas.Grind.{flat_map-append}
+use Rattle.std.proofs.lemmas.List.Elements.{filter-append}
 use Rattle.schema_index.specs.Spots.{Spot, at_root}
 use Rattle.schema_index.specs.Gathering.{Gathers, root_uris, root_ways, spot_references, marks}
 use Rattle.schema_index.specs.declared.gathered.Gathered.{Gathered}
@@ -16,15 +17,6 @@ root_uri-one s b e = map-first (λ (t : Spot). t.resource) (at_root s) s ∙ ap 
 pub root_way-one : (s : Spot) (b : Bool) → at_root s ≡ b → root_ways (s ∷ []) ≡ cond b (s.way ∷ []) []
 root_way-one s b e = map-first (λ (t : Spot). t.way) (at_root s) s ∙ ap (λ k. cond k (s.way ∷ []) []) e
 
-filter-append : (ss ts : List Spot) → filter at_root (ss ++ ts) ≡ filter at_root ss ++ filter at_root ts
-filter-append [] ts = refl
-filter-append (s ∷ ss) ts = by (at_root s) (filter-append ss ts)
-  where
-    by : (b : Bool) → filter at_root (ss ++ ts) ≡ filter at_root ss ++ filter at_root ts
-        → cond b (s ∷ filter at_root (ss ++ ts)) (filter at_root (ss ++ ts)) ≡ cond b (s ∷ filter at_root ss) (filter at_root ss) ++ filter at_root ts
-    by true e = ap (λ us. s ∷ us) e
-    by false e = e
-
 two : {A : Type 0} (x y z a b c : List A) → y ≡ x ++ a → z ≡ y ++ b → c ≡ a ++ b → z ≡ x ++ c
 two x y z a b c e f g = f ∙ ap (λ w. w ++ b) e ∙ append_assoc x a b ∙ ap (λ w. x ++ w) (sym g)
 
@@ -37,8 +29,8 @@ gathers-none g = record { uris = none _; ways = none _; references = none _; mar
 pub gathers-append : (g h k : Gathered) (ss ts : List Spot) → Gathers g h ss → Gathers h k ts → Gathers g k (ss ++ ts)
 gathers-append g h k ss ts a b =
     record {
-      uris = two _ _ _ _ _ _ a.uris b.uris (ap (map (λ (s : Spot). s.resource)) (filter-append ss ts) ∙ map-append (λ (s : Spot). s.resource) (filter at_root ss) (filter at_root ts));
-      ways = two _ _ _ _ _ _ a.ways b.ways (ap (map (λ (s : Spot). s.way)) (filter-append ss ts) ∙ map-append (λ (s : Spot). s.way) (filter at_root ss) (filter at_root ts));
+      uris = two _ _ _ _ _ _ a.uris b.uris (ap (map (λ (s : Spot). s.resource)) (filter-append at_root ss ts) ∙ map-append (λ (s : Spot). s.resource) (filter at_root ss) (filter at_root ts));
+      ways = two _ _ _ _ _ _ a.ways b.ways (ap (map (λ (s : Spot). s.way)) (filter-append at_root ss ts) ∙ map-append (λ (s : Spot). s.way) (filter at_root ss) (filter at_root ts));
       references = two _ _ _ _ _ _ a.references b.references (flat_map-append spot_references ss ts);
       marks = two _ _ _ _ _ _ a.marks b.marks (flat_map-append marks ss ts);
     }

@@ -1,5 +1,5 @@
 -- What values have, by their kind.
-use Rattle.std.proofs.Common.{◌≡◌, ◌<◌, ℕ, List, [], ◌∷◌, map, subst, length, get_or, Some, None, Bor, option_map, refl, arith, sym, ap, ◌∙◌}
+use Rattle.std.proofs.Common.{◌≡◌, ◌<◌, ℕ, List, [], map, subst, length, get_or, Some, None, Bor, option_map, refl, sym, ap, ◌∙◌}
 use Rattle.std.proofs.lemmas.Option.{slice_get-get_or, slice_get-map}
 use Rattle.std.specs.List.{slice_get}
 use Rattle.definitions.specs.Values.{Text, Value, null, boolean, integer, string, array, object, elements, members}
@@ -41,10 +41,6 @@ members_some (integer z) ms e = cc
 members_some (string s) ms e = cc
 members_some (array vs) ms e = cc
 members_some (object ns) ms e = cc
-
-pub nothing : {A : Type 0} (xs : List A) → length xs ≡ 0 → xs ≡ []
-nothing [] e = refl
-nothing (x ∷ xs) e = absurd (omega arith)
 
 pub element_of : (w : Value) (items : List Doc) (i : ℕ) (d : Doc) → elements w ≡ map value items → i < length items → d ≡ get_or items i d → slice_get (elements w) i ≡ Some (value d)
 element_of w items i d is h e =

@@ -1,10 +1,12 @@
 -- The table of the keywords that hold schemas has those of the definitions.
 use Rattle.std.proofs.Common.{◌≡◌, List, [], ◌∷◌, map, Bool, true, false, cond, Bor, Option, Some, None, option_map, option_and_then, unwrap_or, refl, sym, ap, ◌∙◌}
+use Rattle.std.proofs.lemmas.Bool.{or_parts}
 use Rattle.std.specs.List.{find, list_any}
 use Rattle.definitions.specs.Values.{Text, has_repeat, same_text}
 use Rattle.definitions.specs.Shapes.{Shape, any_value}
 use Rattle.definitions.specs.Keywords.{Keyword, keywords, keyword_named, shape_in}
-use Rattle.definition_laws.proofs.Roots.{same_text_is, neither}
+use Rattle.lemmas.proofs.Texts.{same_text_is}
+use Rattle.lemmas.proofs.Lists.{option_map-find-map}
 use Rattle.schema_index.specs.Descents.{schemas_held}
 use Rattle.schema_index.specs.Holdings.{holding_view}
 use Rattle.schema_index.specs.declared.pointing.holding.Holding.{Holding}
@@ -46,7 +48,7 @@ held_at name k rows o false None e f more none = more
 found_held : (name : Text) (ks : List Keyword) → has_repeat same_text (map (λ (k : Keyword). k.name) ks) ≡ false → held_by name (holders ks) ≡ held_of (keyword_named name ks)
 found_held name [] once = refl
 found_held name (k ∷ ks) once =
-    let apart = neither (list_any (same_text k.name) (map (λ (l : Keyword). l.name) ks)) (has_repeat same_text (map (λ (l : Keyword). l.name) ks)) once in
+    let apart = or_parts (list_any (same_text k.name) (map (λ (l : Keyword). l.name) ks)) (has_repeat same_text (map (λ (l : Keyword). l.name) ks)) once in
     held_at name k (holders ks) (keyword_named name ks) (same_text name k.name) (schemas_held k.shape) refl refl (found_held name ks apart.1)
     (λ e. ap (λ n. keyword_named n ks) (same_text_is name k.name e) ∙ no_row (λ (l : Keyword). l.name) k.name ks apart.0)
 
@@ -55,20 +57,11 @@ held_in None = refl
 held_in (Some k) = refl
 
 -- ---- the rows in the code
-view_at : (r : Row) (rows : Option Row) (views : Option (Text × Shape)) (b : Bool) → option_map (λ (v : Text × Shape). v.1) views ≡ option_map (λ (q : Row). holding_view q.1) rows
-    → option_map (λ (v : Text × Shape). v.1) (cond b (Some (row_view r)) views) ≡ option_map (λ (q : Row). holding_view q.1) (cond b (Some r) rows)
-view_at r rows views true e = refl
-view_at r rows views false e = e
-
-held_view : (name : Text) (rows : List Row) → held_by name (map row_view rows) ≡ option_map (λ (r : Row). holding_view r.1) (row_named name rows)
-held_view name [] = refl
-held_view name (r ∷ rs) = view_at r (row_named name rs) (find (λ (v : Text × Shape). same_text name v.0) (map row_view rs)) (same_text name r.0.now) (held_view name rs)
-
 names_apart : has_repeat same_text (map (λ (k : Keyword). k.name) keywords) ≡ false
 names_apart = refl
 
 pub holding_found : (name : Text) (rows : List Row) (r : Option Row) → map row_view rows ≡ holders keywords → r ≡ row_named name rows
     → option_map (λ (q : Row). holding_view q.1) r ≡ schemas_held (shape_in keywords name)
 holding_found name rows r same e =
-    ap (option_map (λ (q : Row). holding_view q.1)) e ∙ sym (held_view name rows) ∙ ap (held_by name) same
+    ap (option_map (λ (q : Row). holding_view q.1)) e ∙ sym (option_map-find-map (λ (v : Text × Shape). v.1) (λ (v : Text × Shape). same_text name v.0) row_view rows) ∙ ap (held_by name) same
     ∙ found_held name keywords names_apart ∙ held_in (keyword_named name keywords)

@@ -1,14 +1,14 @@
 -- The schemas below one: their ways after a token, and the levels that are enough for all.
-use Rattle.std.proofs.Common.{◌≡◌, ◌<◌, ◌≤◌, ℕ, zero, suc, List, [], ◌∷◌, ◌++◌, map, refl, sym, ap, ap₂, subst, ◌∙◌, arith, inl, inr}
+use Rattle.std.proofs.Common.{◌≡◌, ◌<◌, ℕ, zero, suc, List, [], ◌∷◌, ◌++◌, map, refl, sym, ap, ap₂, ◌∙◌, arith, inl, inr}
 use Rattle.std.proofs.lemmas.List.{map-append}
-use Rattle.std.specs.List.{flat_map, enumerate_from}
-use Rattle.definitions.specs.Values.{Text, Value, null, boolean, integer, string, array, object, Elements, no_elements, element, Members, no_members, member, elements, members, elements_list, members_list, nesting, elements_nesting, members_nesting}
+use Rattle.std.specs.List.{flat_map}
+use Rattle.definitions.specs.Values.{Text, nesting}
 use Rattle.definitions.specs.Pointers.{Pointer}
-use Rattle.definitions.specs.Shapes.{Shape, one_schema, schema_list, schema_map}
-use Rattle.definitions.specs.Keywords.{Keyword, shape_in}
+use Rattle.definitions.specs.Keywords.{Keyword}
 use Rattle.definitions.specs.Schemas.{Schema, subschemas_by, schemas_within}
-use Rattle.definition_laws.proofs.Occurrences.{IsIn, in_map, numbered_in}
-use Rattle.definition_laws.proofs.Places.{IsStep, step_from, value-below, places}
+use Rattle.definition_laws.proofs.Occurrences.{IsIn}
+use Rattle.definition_laws.proofs.Places.{step_from}
+use Rattle.definition_laws.proofs.Roots.{step_nests}
 use Rattle.schema_index.proofs.Lookups.{prefixed}
 
 -- ---- after a token
@@ -25,48 +25,8 @@ within_behind rows zero key way s = refl
 within_behind rows (suc n) key way s = ap (λ ts. (key ∷ way, s) ∷ ts) (shift_each rows key n (within_behind rows n key) way (subschemas_by rows s))
 
 -- ---- a schema below nests less
-element_nesting : (vs : Elements) (v : Value) → IsIn v (elements_list vs) → nesting v ≤ elements_nesting vs
-element_nesting no_elements v i = absurd i
-element_nesting (element u us) v (inl e) = let same : nesting u ≡ nesting v = ap nesting e in omega arith
-element_nesting (element u us) v (inr i) = omega (arith, element_nesting us v i)
-
-member_nesting : (ms : Members) (n : Text) (v : Value) → IsIn (n, v) (members_list ms) → nesting v ≤ members_nesting ms
-member_nesting no_members n v i = absurd i
-member_nesting (member m u ms) n v (inl e) = let same : nesting u ≡ nesting v = ap (λ x. nesting x.1) e in omega arith
-member_nesting (member m u ms) n v (inr i) = omega (arith, member_nesting ms n v i)
-
-pub elements_nest : (v u : Value) → IsIn u (elements v) → nesting u < nesting v
-elements_nest null u i = absurd i
-elements_nest (boolean b) u i = absurd i
-elements_nest (integer z) u i = absurd i
-elements_nest (string s) u i = absurd i
-elements_nest (array vs) u i = omega (arith, element_nesting vs u i)
-elements_nest (object ms) u i = absurd i
-
-pub members_nest : (v : Value) (n : Text) (u : Value) → IsIn (n, u) (members v) → nesting u < nesting v
-members_nest null n u i = absurd i
-members_nest (boolean b) n u i = absurd i
-members_nest (integer z) n u i = absurd i
-members_nest (string s) n u i = absurd i
-members_nest (array vs) n u i = absurd i
-members_nest (object ms) n u i = omega (arith, member_nesting ms n u i)
-
-places_nest : (v : Value) (shape : Shape) (way : Pointer) (u : Value) → IsIn (way, u) (places v shape) → nesting u ≤ nesting v
-places_nest v one_schema way u (inl e) = let same : nesting v ≡ nesting u = ap (λ x. nesting x.1) e in omega arith
-places_nest v one_schema way u (inr i) = absurd i
-places_nest v schema_list way u i =
-    let r = in_map _ _ _ i in
-    omega (arith, elements_nest v u (numbered_in 0 (elements v) (r.0).0 u (subst (λ x. IsIn ((r.0).0, x) (enumerate_from 0 (elements v))) (ap (λ x. x.1) r.2) r.1)))
-places_nest v schema_map way u i =
-    let r = in_map _ _ _ i in
-    omega (arith, members_nest v (r.0).0 u (subst (λ x. IsIn ((r.0).0, x) (members v)) (ap (λ x. x.1) r.2) r.1))
-places_nest v _ way u i = absurd i
-
 pub subschema_nests : (rows : List Keyword) (s : Schema) (t : Pointer × Schema) → IsIn t (subschemas_by rows s) → nesting t.1.value < nesting s.value
-subschema_nests rows s t i =
-    let h : IsStep rows s t.1 t.0 = step_from rows s t.1 t.0 i in
-    let value_is : nesting t.1.value ≡ nesting h.part = ap (λ x. nesting x.value) h.is ∙ ap nesting (value-below s t.0 h.part) in
-    omega (arith, members_nest s.value h.name h.value h.inside, places_nest h.value (shape_in rows h.name) h.rest h.part h.place)
+subschema_nests rows s t i = step_nests rows s t.1 t.0 (step_from rows s t.1 t.0 i)
 
 -- ---- more levels than a schema nests show no more
 same_flat_map : {A B : Type 0} (f g : A → List B) (xs : List A) → ((x : A) → IsIn x xs → f x ≡ g x) → flat_map f xs ≡ flat_map g xs

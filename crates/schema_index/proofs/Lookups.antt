@@ -1,10 +1,11 @@
 -- What a pointer finds in a list of ways that begin with keys.
 use Rattle.std.proofs.Common.{◌≡◌, ◌&&◌, ◌||◌, List, [], ◌∷◌, ◌++◌, map, Bool, true, false, cond, Option, Some, None, option_map, refl, ap, ◌∙◌}
+use Rattle.std.proofs.lemmas.Bool.{or_parts}
 use Rattle.std.specs.List.{find, flat_map, list_any}
 use Rattle.definitions.specs.Values.{Text, has_repeat, same_text}
 use Rattle.definitions.specs.Pointers.{Pointer, same_pointer}
+use Rattle.lemmas.proofs.Texts.{same_text_itself, same_text_is}
 use Rattle.schema_index.specs.Descents.{row}
-use Rattle.definition_laws.proofs.Roots.{same_text_itself, same_text_is, neither}
 
 abbrev pub look : {A : Type 0} → Pointer → List (Pointer × A) → Option A
 look p xs = option_map (λ t. t.1) (find (λ t. same_pointer p t.0) xs)
@@ -90,7 +91,7 @@ module _ {X A : Type 0} (key : X → Text) (inner : X → List (Pointer × A)) w
       let is : name ≡ key x = same_text_is name (key x) e in
       let same : x ≡ y = cc in
       let none : look (key x ∷ p) (keyed xs) ≡ None =
-      look_keyed-none (key x) p xs (no_row key (key x) xs (neither (list_any (same_text (key x)) (map key xs)) (has_repeat same_text (map key xs)) once).0) in
+      look_keyed-none (key x) p xs (no_row key (key x) xs (or_parts (list_any (same_text (key x)) (map key xs)) (has_repeat same_text (map key xs)) once).0) in
       ap (λ n. look (n ∷ p) (keyed (x ∷ xs))) is
       ∙ look_before (key x ∷ p) (map (prefixed (key x)) (inner x)) (keyed xs) none
       ∙ look_behind (key x) p (inner x) ∙ ap (λ z. look p (inner z)) same
@@ -99,7 +100,7 @@ module _ {X A : Type 0} (key : X → Text) (inner : X → List (Pointer × A)) w
   pub look_keyed-some : (name : Text) (p : Pointer) (xs : List X) (y : X) → has_repeat same_text (map key xs) ≡ false → row key name xs ≡ Some y → look (name ∷ p) (keyed xs) ≡ look p (inner y)
   look_keyed-some name p [] y once h = cc
   look_keyed-some name p (x ∷ xs) y once h =
-      some_at name p x y xs (same_text name (key x)) refl once (look_keyed-some name p xs y (neither (list_any (same_text (key x)) (map key xs)) (has_repeat same_text (map key xs)) once).1) h
+      some_at name p x y xs (same_text name (key x)) refl once (look_keyed-some name p xs y (or_parts (list_any (same_text (key x)) (map key xs)) (has_repeat same_text (map key xs)) once).1) h
 
   pub look_keyed-empty : (xs : List X) → look [] (keyed xs) ≡ None
   look_keyed-empty [] = refl

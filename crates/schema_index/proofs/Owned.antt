@@ -1,5 +1,5 @@
 -- What an indexed document owns, as the definitions find it.
-use Rattle.std.proofs.Common.{◌≡◌, ℕ, suc, List, [], ◌∷◌, Bool, true, false, cond, Bor, Option, Some, None, Contains, IfSome, is_some, option_and_then, option_map, string_bytes, refl, sym, ap, ap₂, ◌∙◌, arith}
+use Rattle.std.proofs.Common.{◌≡◌, ℕ, List, Bor, Option, Some, None, IfSome, is_some, option_and_then, option_map, string_bytes, refl, sym, ap, ap₂, ◌∙◌}
 use Rattle.std.specs.List.{find, position_from, slice_get}
 use Rattle.definitions.specs.Values.{Text, same_text}
 use Rattle.definitions.specs.Reach.{holds_resource, references_in}
@@ -65,18 +65,3 @@ held-uri d uri r e = borrowed-there r ∙ ap is_some e ∙ owned-held d uri
 
 pub uri-at : (uri : Text) (us : List Text) (n : Option ℕ) → n ≡ position_from (same_text uri) 0 us → option_and_then (slice_get us) n ≡ find (same_text uri) us
 uri-at uri us n e = ap (option_and_then (slice_get us)) e ∙ uri-by_number uri us
-
--- ---- what is found is there
-first-there : {X : Type 0} (p : X → Bool) (x y : X) (xs : List X) (b : Bool) → (find p xs ≡ Some x → Contains xs x) → cond b (Some y) (find p xs) ≡ Some x → Contains (y ∷ xs) x
-first-there p x y xs true more e = let same : y ≡ x = cc in (0, omega arith, same)
-first-there p x y xs false more e = let c = more e in (suc c.0, omega (arith, c.1), c.2)
-
-pub found-there : {X : Type 0} (p : X → Bool) (x : X) (xs : List X) → find p xs ≡ Some x → Contains xs x
-found-there p x [] e = absurd (cc)
-found-there p x (y ∷ xs) e = first-there p x y xs (p y) (found-there p x xs) e
-
-pub some-same : {X : Type 0} {x y : X} → Some x ≡ Some y → x ≡ y
-some-same e = cc
-
-pub none-some : {X : Type 0} {x : X} → None ≡ Some x → ⊥
-none-some e = cc

@@ -4,18 +4,8 @@ use Rattle.std.proofs.lemmas.Slice.Eq.{bytes_eq-Decides}
 use Rattle.std.specs.BTreeMap.{BTreeMap, get_by_text}
 use Rattle.std.specs.List.{find, position_from, slice_get}
 use Rattle.definitions.specs.Values.{Text, same_text}
+use Rattle.lemmas.proofs.Texts.{same_text_turned}
 use Rattle.schema_index.specs.AnchorNumbers.{name_number, pair_number}
-
-alike : (a b : Bool) → (a ≡ true → b ≡ true) → (b ≡ true → a ≡ true) → a ≡ b
-alike true b f g = sym (f refl)
-alike false true f g = g refl
-alike false false f g = refl
-
-pub either-way : (t u : Text) → same_text t u ≡ same_text u t
-either-way t u =
-    alike (same_text t u) (same_text u t)
-    (λ e. (bytes_eq-Decides u t).1 (sym ((bytes_eq-Decides t u).0 e)))
-    (λ e. (bytes_eq-Decides t u).1 (sym ((bytes_eq-Decides u t).0 e)))
 
 abbrev pub Names : Type 0
 Names = BTreeMap (String Global) ℕ
@@ -28,12 +18,12 @@ pub pair-added : (old rest new : BTreeMap (String Global) Names) (before names :
     → ((u : Text) → same_text u uri ≡ false → get_by_text rest u ≡ get_by_text old u)
     → (u n : Text) → pair_number new u n ≡ cond (same_text u uri && same_text n name) (Some number) (pair_number old u n)
 pair-added old rest new before names uri name number put added taken others u n =
-    ap (option_and_then (name_number n)) (put u ∙ ap (λ b. cond b (Some names) (get_by_text rest u)) (either-way uri u)) ∙ by (same_text u uri) refl
+    ap (option_and_then (name_number n)) (put u ∙ ap (λ b. cond b (Some names) (get_by_text rest u)) (same_text_turned uri u)) ∙ by (same_text u uri) refl
   where
     by : (b : Bool) → same_text u uri ≡ b → option_and_then (name_number n) (cond b (Some names) (get_by_text rest u)) ≡ cond (b && same_text n name) (Some number) (pair_number old u n)
     by true e =
         added n
-        ∙ ap₂ (λ b o. cond b (Some number) o) (either-way name n) (taken n ∙ ap (λ x. pair_number old x n) (sym ((bytes_eq-Decides u uri).0 e)))
+        ∙ ap₂ (λ b o. cond b (Some number) o) (same_text_turned name n) (taken n ∙ ap (λ x. pair_number old x n) (sym ((bytes_eq-Decides u uri).0 e)))
     by false e = ap (option_and_then (name_number n)) (others u e)
 
 -- ---- the first that passes, by its number

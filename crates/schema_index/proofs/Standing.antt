@@ -8,6 +8,7 @@ use Rattle.definitions.specs.Pointers.{Pointer}
 use Rattle.definitions.specs.Shapes.{Shape, any_value, truth, whole_number, size, divisor, any_text, value_list, text_list, text_lists, type_names, reference, one_schema, schema_list, schema_map, identifier, anchor_name, dialect}
 use Rattle.definitions.specs.Keywords.{keywords, shape_in}
 use Rattle.definitions.specs.Schemas.{Schema, opened, schema_at, below, at_place, schemas_within, schemas_of}
+use Rattle.definition_laws.proofs.Places.{value-opened}
 use Rattle.schema_index.specs.Hops.{Hop, to_member, to_element, hop_token, hop_tokens}
 use Rattle.schema_index.specs.Spots.{spot_schema, spot_in, id_of, opened_uri, opened_start, resource_of, start_of, shape_holding, holding_named, spots, spots_below, spots_at, spots_in_list, spots_in_map}
 use Rattle.schema_index.specs.declared.holdings.Holding.TheVariants.{Schema as a_schema}
@@ -162,10 +163,6 @@ schemas_within-spots zero w way start base v k h = absurd (omega arith)
 schemas_within-spots (suc n) w way start base v k h =
     ap (λ s. map of_schema (schemas_within keywords (suc n) w s)) (schema-spot base way start v)
     ∙ level_spots n (schemas_within-spots n) w way start base v k h
-
-value-opened : (base : Text) (p : Pointer) (v : Value) (id : Option Text) → (opened base p v id).value ≡ v
-value-opened base p v None = refl
-value-opened base p v (Some id) = refl
 
 -- the schemas of a document
 pub schemas_of-spots : (base : Text) (v : Value) → schemas_of base v ≡ map spot_schema (spots [] 0 base v)

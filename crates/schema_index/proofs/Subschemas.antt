@@ -1,6 +1,6 @@
 -- The schemas of a document: with one, those below it, and the URIs that they open.
-use Rattle.std.proofs.Common.{◌≡◌, ◌&&◌, ◌++◌, suc, List, [], ◌∷◌, Bool, true, false, cond, Some, None, is_some, codes, refl, ap, subst, arith, inl, inr}
-use Rattle.std.specs.List.{find, Contains}
+use Rattle.std.proofs.Common.{◌≡◌, ◌&&◌, ◌++◌, suc, List, [], true, Some, None, is_some, codes, ap, subst, arith}
+use Rattle.std.specs.List.{Contains}
 use Rattle.definitions.specs.Values.{Text, Value, nesting, same_text, text_at}
 use Rattle.definitions.specs.Pointers.{Pointer}
 use Rattle.definitions.specs.Uris.{without_fragment}
@@ -8,9 +8,10 @@ use Rattle.definitions.specs.Resolution.{resolved}
 use Rattle.definitions.specs.Keywords.{keywords}
 use Rattle.definitions.specs.Schemas.{Schema, schema_at, below, opened, subschemas_by, schemas_from, schemas_of, is_root}
 use Rattle.definitions.specs.Targets.{resource_root}
-use Rattle.definition_laws.proofs.Occurrences.{IsIn, in_from_contains, contains_from_in, in_map, into_map}
+use Rattle.lemmas.proofs.Texts.{same_text_itself}
+use Rattle.definition_laws.proofs.Occurrences.{in_from_contains, contains_from_in, in_map, into_map, found_somewhere}
 use Rattle.definition_laws.proofs.Places.{step_from, IsBelow, below_more}
-use Rattle.definition_laws.proofs.Roots.{within_from, within_to, same_text_itself, pointer_root}
+use Rattle.definition_laws.proofs.Roots.{within_from, within_to, pointer_root}
 
 pub with_below : (base : Text) (v : Value) (s t : Schema) (way : Pointer) → Contains (schemas_of base v) s → Contains (subschemas_by keywords s) (way, t) → Contains (schemas_of base v) t
 with_below base v s t way c d =
@@ -22,18 +23,9 @@ with_below base v s t way c d =
     contains_from_in (schemas_of base v) t
     (into_map (λ (x : Pointer × Schema). x.1) (schemas_from top) (q.0 ++ way, t) (within_to keywords (suc (nesting top.value)) [] top t (q.0 ++ way) (omega arith) more))
 
-found : {X : Type 0} (p : X → Bool) (xs : List X) (x : X) → IsIn x xs → p x ≡ true → is_some (find p xs) ≡ true
-found p [] x i e = absurd i
-found {X} p (y ∷ ys) x (inl same) e = rw (same, e) refl
-found {X} p (y ∷ ys) x (inr i) e = by (p y) (found p ys x i e)
-  where
-    by : (b : Bool) → is_some (find p ys) ≡ true → is_some (cond b (Some y) (find p ys)) ≡ true
-    by true h = refl
-    by false h = h
-
 pub root_held : (table : List Schema) (s : Schema) → Contains table s → s.pointer ≡ [] → is_some (resource_root table s.resource) ≡ true
 root_held table s c e =
-    found (λ t. same_text s.resource t.resource && is_root t) table s (in_from_contains table s c) (rw (same_text_itself s.resource) (pointer_root s e))
+    found_somewhere (λ t. same_text s.resource t.resource && is_root t) table s (in_from_contains table s c) (rw (same_text_itself s.resource) (pointer_root s e))
 
 -- ---- the schema below, by its `$id`
 pub below-opened : (s : Schema) (way : Pointer) (v : Value) (id : Text) → text_at (codes "$id") v ≡ Some id

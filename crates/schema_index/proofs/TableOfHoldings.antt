@@ -1,9 +1,10 @@
 -- The table of keywords in the code is that of the definitions.
-use Rattle.std.proofs.Common.{◌≡◌, List, [], ◌∷◌, map, Bool, true, false, cond, Bor, Option, Some, None, option_map, unwrap_or, refl, sym, ap, ◌∙◌}
+use Rattle.std.proofs.Common.{◌≡◌, List, map, Bool, Bor, Option, Some, None, option_map, unwrap_or, refl, sym, ap, ◌∙◌}
 use Rattle.std.specs.List.{find}
 use Rattle.definitions.specs.Values.{Text, same_text}
 use Rattle.definitions.specs.Shapes.{any_value}
 use Rattle.definitions.specs.Keywords.{Keyword, keywords}
+use Rattle.lemmas.proofs.Lists.{option_map-find-map}
 use Rattle.schema_index.specs.Spots.{shape_holding, holding_named}
 use Rattle.schema_index.specs.declared.holdings.Holding.{Holding}
 use Rattle.schema_index.specs.declared.holdings.Holding.TheVariants.{Nothing}
@@ -24,17 +25,6 @@ has_name name row = same_text name row.0
 abbrev pub row_named : Text → List Row → Option Row
 row_named name = find (λ (r : Row). same_text name r.0.now)
 
-module _ {A : Type 0} (view : A → Text × Holding) (name : Text) where
-  found : (x : A) (xs : List A) (b : Bool)
-      → option_map (λ (r : Text × Holding). r.1) (find (has_name name) (map view xs)) ≡ option_map (λ y. (view y).1) (find (λ y. has_name name (view y)) xs)
-      → option_map (λ (r : Text × Holding). r.1) (cond b (Some (view x)) (find (has_name name) (map view xs))) ≡ option_map (λ y. (view y).1) (cond b (Some x) (find (λ y. has_name name (view y)) xs))
-  found x xs true e = refl
-  found x xs false e = e
-
-  find-map : (xs : List A) → option_map (λ (r : Text × Holding). r.1) (find (has_name name) (map view xs)) ≡ option_map (λ y. (view y).1) (find (λ y. has_name name (view y)) xs)
-  find-map [] = refl
-  find-map (x ∷ xs) = found x xs (has_name name (view x)) (find-map xs)
-
 held-row : (k : Option Keyword) → unwrap_or (option_map (λ (r : Keyword). shape_holding r.shape) k) Nothing ≡ shape_holding (unwrap_or (option_map (λ (r : Keyword). r.shape) k) any_value)
 held-row None = refl
 held-row (Some k) = refl
@@ -44,5 +34,5 @@ pub holding_found : (name : Text) (rows : List Row) (row : Option Row) → map r
 unfolding holding_named
 holding_found name rows row same e =
     ap (λ o. unwrap_or (option_map (λ (r : Row). r.1) o) Nothing) e
-    ∙ ap (λ o. unwrap_or o Nothing) (sym (find-map row_view name rows) ∙ ap (λ rs. option_map (λ (r : Text × Holding). r.1) (find (has_name name) rs)) same ∙ find-map keyword_view name keywords)
+    ∙ ap (λ o. unwrap_or o Nothing) (sym (option_map-find-map (λ (r : Text × Holding). r.1) (has_name name) row_view rows) ∙ ap (λ rs. option_map (λ (r : Text × Holding). r.1) (find (has_name name) rs)) same ∙ option_map-find-map (λ (r : Text × Holding). r.1) (has_name name) keyword_view keywords)
     ∙ held-row (find (λ (k : Keyword). same_text name k.name) keywords)

@@ -1,15 +1,13 @@
 -- The schema that stands at a place: its value, its resource, and whether it is that resource's root.
-use Rattle.std.proofs.Common.{◌≡◌, ℕ, suc, [], ◌∷◌, ◌++◌, length, Bool, true, false, ◌||◌, ◌==◌, Option, Some, None, is_some, codes, refl, sym, ap, ◌∙◌, arith}
+use Rattle.std.proofs.Common.{◌≡◌, ℕ, suc, [], ◌∷◌, ◌++◌, length, Bool, false, ◌||◌, ◌==◌, Option, Some, None, is_some, codes, refl, sym, ap, ◌∙◌, arith}
+use Rattle.std.proofs.Math.Bool.{or-false, or-true}
 use Rattle.std.proofs.lemmas.Bool.Decides.{nat_tests}
 use Rattle.definitions.specs.Values.{Text, Value, text_at}
 use Rattle.definitions.specs.Pointers.{Pointer}
 use Rattle.definitions.specs.Keywords.{keywords, shape_in}
 use Rattle.definitions.specs.Schemas.{opened, schema_at, is_root}
+use Rattle.definition_laws.proofs.Places.{value-opened}
 use Rattle.schema_scan.specs.Places.{shape_named, opened_uri, resource_of, opens_resource}
-
-value-opened : (base : Text) (p : Pointer) (v : Value) (id : Option Text) → (opened base p v id).value ≡ v
-value-opened base p v None = refl
-value-opened base p v (Some id) = refl
 
 pub value-at : (base : Text) (p : Pointer) (v : Value) → (schema_at base p v).value ≡ v
 value-at base p v = value-opened base p v (text_at (codes "$id") v)
@@ -22,17 +20,9 @@ pub resource-at : (base : Text) (p : Pointer) (v : Value) → (schema_at base p 
 unfolding resource_of
 resource-at base p v = resource-opened base p v (text_at (codes "$id") v)
 
-or-false : (b : Bool) → (b || false) ≡ b
-or-false true = refl
-or-false false = refl
-
-or-true : (b : Bool) → true ≡ (b || true)
-or-true true = refl
-or-true false = refl
-
 is_root-opened : (base : Text) (p : Pointer) (v : Value) (id : Option Text) → is_root (opened base p v id) ≡ ((length p == 0) || is_some id)
 is_root-opened base p v None = sym (or-false (length p == 0))
-is_root-opened base p v (Some id) = or-true (length p == 0)
+is_root-opened base p v (Some id) = sym (or-true (length p == 0))
 
 pub is_root-at : (base : Text) (p : Pointer) (v : Value) (at_root : Bool) → (length p == 0) ≡ at_root → is_root (schema_at base p v) ≡ (at_root || opens_resource v)
 unfolding opens_resource

@@ -1,8 +1,10 @@
 -- The rows of a table, where URIs and schemas are added.
-use Rattle.std.proofs.Common.{◌≡◌, ◌<◌, ◌≤◌, ℕ, List, [], ◌∷◌, ◌++◌, map, length, Bool, true, false, cond, ◌&&◌, ◌||◌, nat_lt, Some, None, is_some, refl, ap, ap₂, ◌∙◌, arith}
+use Rattle.std.proofs.Common.{◌≡◌, ◌<◌, ◌≤◌, ℕ, List, [], ◌∷◌, ◌++◌, map, length, Bool, true, false, cond, ◌&&◌, ◌||◌, nat_lt, Some, None, is_some, refl, ap, ap₂, ◌∙◌, arith, sym}
+use Rattle.std.proofs.Math.Bool.{or-false, or-true}
 use Rattle.std.proofs.lemmas.Bool.Decides.{nat_tests}
 use Rattle.std.proofs.lemmas.List.{length-append}
 use Rattle.std.proofs.lemmas.List.Folds.{list_all-append}
+use Rattle.std.proofs.lemmas.Bool.{lt-ltb}
 use Rattle.std.specs.List.{list_all}
 use Rattle.definitions.specs.Values.{Text, Value}
 use Rattle.definitions.specs.Uris.{without_fragment}
@@ -22,21 +24,13 @@ pub resource-none : (base : Text) (v : Value) → None ≡ id_of v → base ≡ 
 unfolding resource_of
 resource-none base v e = ap (opened_uri base) e
 
-or-true : (b : Bool) → true ≡ (b || true)
-or-true true = refl
-or-true false = refl
-
-or-false : (b : Bool) → b ≡ (b || false)
-or-false true = refl
-or-false false = refl
-
 pub opens-some : (b : Bool) (v : Value) (id : Text) → Some id ≡ id_of v → true ≡ (b || opens_resource v)
 unfolding opens_resource
-opens-some b v id e = or-true b ∙ ap (λ o. b || is_some o) e
+opens-some b v id e = sym (or-true b) ∙ ap (λ o. b || is_some o) e
 
 pub opens-none : (b : Bool) (v : Value) → None ≡ id_of v → b ≡ (b || opens_resource v)
 unfolding opens_resource
-opens-none b v e = or-false b ∙ ap (λ o. b || is_some o) e
+opens-none b v e = sym (or-false b) ∙ ap (λ o. b || is_some o) e
 
 -- ---- every resource has a URI
 abbrev pub have_uris : ℕ → List Position → Bool
@@ -54,12 +48,9 @@ pub have_uris-more : (m n : ℕ) (ps : List Position) → m ≤ n → have_uris 
 have_uris-more m n [] h e = refl
 have_uris-more m n (p ∷ ps) h e = both (nat_lt p.resource m) (have_uris m ps) (nat_lt p.resource n) (have_uris n ps) (less p.resource m n h) (have_uris-more m n ps h) e
 
-below : (r n : ℕ) → r < n → nat_lt r n ≡ true
-below r n h = grind (arith, nat_tests)
-
 pub have_uris-push : (n : ℕ) (ps qs : List Position) (p : Position) (b : Bool) → qs ≡ cond b (ps ++ p ∷ []) ps → p.resource < n → have_uris n ps ≡ true → have_uris n qs ≡ true
 have_uris-push n ps qs p true e h k =
-    ap (have_uris n) e ∙ list_all-append (λ q. nat_lt q.resource n) ps (p ∷ []) ∙ ap₂ (λ a c. a && (c && true)) k (below p.resource n h)
+    ap (have_uris n) e ∙ list_all-append (λ q. nat_lt q.resource n) ps (p ∷ []) ∙ ap₂ (λ a c. a && (c && true)) k (lt-ltb p.resource n h)
 have_uris-push n ps qs p false e h k = ap (have_uris n) e ∙ k
 
 pub longer-push : {A : Type 0} (xs ys : List A) (x : A) (b : Bool) → ys ≡ cond b (xs ++ x ∷ []) xs → length xs ≤ length ys

@@ -1,20 +1,14 @@
 -- What the orders of texts, and of pairs of texts, take for the same.
-use Rattle.std.proofs.Common.{◌≡◌, ◌&&◌, Bor, Less, Equal, Greater, Ordering, nat_cmp, refl, ap₂, ◌∙◌}
+use Rattle.std.proofs.Common.{◌≡◌, ◌&&◌, Bor, Less, Equal, Greater, Ordering, refl, ap₂, ◌∙◌}
 use Rattle.std.proofs.lemmas.Map.Text.{is_eq-slice_cmp}
-use Rattle.std.specs.Cmp.Lexicographic.{slice_cmp}
 use Rattle.std.specs.Ordering.{is_eq, eq_by_cmp, ordering_then}
-use Rattle.definitions.specs.Values.{Text, same_text}
+use Rattle.definitions.specs.Values.{Text}
 use Rattle.definitions.specs.Scanning.{same_anchor}
+use Rattle.lemmas.proofs.Texts.{text_order}
 use Rattle.schema_scan.specs.AnchorViews.{anchor_view}
-
-abbrev pub text_order : Bor Text → Bor Text → Ordering
-text_order x y = slice_cmp nat_cmp x.now y.now
 
 abbrev pub pair_order : Bor Text × Bor Text → Bor Text × Bor Text → Ordering
 pair_order x y = ordering_then (text_order x.0 y.0) (text_order x.1 y.1)
-
-pub same-texts : (x y : Bor Text) → eq_by_cmp text_order x y ≡ same_text x.now y.now
-same-texts x y = is_eq-slice_cmp x.now y.now
 
 both_equal : (a b : Ordering) → is_eq (ordering_then a b) ≡ (is_eq a && is_eq b)
 both_equal Less b = refl

@@ -11,6 +11,7 @@ use Rattle.schema_scan.specs.Missteps.{Misstep, misstep_fault, missteps}
 use Rattle.schema_scan.specs.Names.{uris_opened, anchors_at, anchors_in}
 use Rattle.schema_scan.proofs.Placed.{placed, schemas_of-places}
 use Rattle.schema_scan.proofs.Walked.{document-missteps}
+use Rattle.schema_scan.proofs.Visits.{first-append}
 
 -- ---- names
 kept_root : (s : Schema) (table : List Schema) (b : Bool) → map (λ (t : Schema). t.resource) (filter is_root table) ≡ uris_opened (map placed table)
@@ -52,10 +53,6 @@ pub scan_fault-parts : (base : Text) (v : Value)
     → scan_fault base v ≡ first (all_faults (is_object v) (nat_lt 120 (nesting v)) (missteps base true v) (uris_repeat base v) (anchors_repeat base v))
 scan_fault-parts base v =
     ap₂ (λ fs gs. first ((unless (is_object v) not_object ++ (when (nat_lt 120 (nesting v)) too_nested ++ fs)) ++ gs)) (document-missteps base v) (name_faults-places base v)
-
-first-append : (xs ys : List Fault) (x : Fault) → first xs ≡ Some x → first (xs ++ ys) ≡ Some x
-first-append [] ys x e = cc
-first-append (z ∷ xs) ys x e = e
 
 -- ---- the fault at each exit of a scan
 pub fault_of_value : (base : Text) (v : Value) → is_object v ≡ false → scan_fault base v ≡ Some not_object

@@ -1,11 +1,8 @@
 -- Keys that stand twice, found by the set of those seen so far.
 use Rattle.std.proofs.Common.{◌≡◌, List, [], ◌∷◌, Bool, true, false, cond, ◌||◌, map, refl, ap, ap₂, ◌∙◌, sym}
+use Rattle.std.proofs.Math.Bool.{or-true}
 use Rattle.std.specs.List.{list_any}
 use Rattle.definitions.specs.Values.{has_repeat}
-
-or-true : (b : Bool) → (b || true) ≡ true
-or-true true = refl
-or-true false = refl
 
 four : (a b c d : Bool) → (cond a true b || (c || d)) ≡ ((a || c) || (b || d))
 four true b c d = refl

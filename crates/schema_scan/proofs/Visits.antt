@@ -14,9 +14,9 @@ use Rattle.schema_scan.specs.declared.refusal.Refusal.TheVariants.{NoRoom, Shape
 pub places-step : (start now next here rest whole : List Place) → start ++ whole ≡ now ++ (here ++ rest) → next ≡ now ++ here → start ++ whole ≡ next ++ rest
 places-step start now next here rest whole e f = e ∙ sym (append_assoc now here rest) ∙ ap (λ ps. ps ++ rest) (sym f)
 
-first-append : (ms ns : List Misstep) (m : Misstep) → first ms ≡ Some m → first (ms ++ ns) ≡ Some m
-first-append [] ns m e = cc
-first-append (n ∷ ms) ns m e = e
+pub first-append : {X : Type 0} (xs ys : List X) (x : X) → first xs ≡ Some x → first (xs ++ ys) ≡ Some x
+first-append [] ys x e = cc
+first-append (z ∷ xs) ys x e = e
 
 -- what comes later doesn't matter
 pub Refuses-append : (r : Refusal) (ms ns : List Misstep) → Refuses r ms → Refuses r (ms ++ ns)

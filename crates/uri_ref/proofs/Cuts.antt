@@ -1,9 +1,10 @@
 -- Where a text is cut: before, or at, the first byte that is a sign.
-use Rattle.std.proofs.Common.{◌≡◌, ℕ, zero, suc, ◌+◌, ◌<◌, ◌≤◌, ◌==◌, List, [], ◌∷◌, ◌++◌, Bool, true, false, not, cond, Option, Some, None, get_or, take, drop, length, nat_lt, refl, ap, ◌∙◌, arith, position, eq-eqb}
-use Rattle.std.proofs.lemmas.Bool.{ltb-false, ne_eqb}
+use Rattle.std.proofs.Common.{◌≡◌, ℕ, zero, suc, ◌+◌, ◌<◌, ◌≤◌, ◌==◌, List, [], ◌∷◌, ◌++◌, Bool, true, false, not, cond, Option, Some, None, get_or, take, drop, length, refl, ap, ◌∙◌, arith, position, eq-eqb}
+use Rattle.std.proofs.lemmas.Bool.{ne_eqb}
 use Rattle.std.proofs.lemmas.List.Quantifiers.{position-Some}
 use Rattle.std.specs.List.{position_or_len}
 use Rattle.definitions.specs.Uris.{cut_at, split_before}
+use Rattle.lemmas.proofs.Options.{past_from_none}
 use Rattle.uri_ref.specs.Places.{Lacks}
 
 cut_before : (c : ℕ) (xs ys : List ℕ) → Lacks c xs → cut_at (λ d. d == c) (xs ++ c ∷ ys) ≡ (xs, Some ys)
@@ -35,15 +36,11 @@ before_end : (p : ℕ → Bool) (xs : List ℕ) → length xs ≤ position_or_le
 before_end p [] l = refl
 before_end p (x ∷ xs) l = before_step p x xs (position_or_len p xs) (p x) refl (before_end p xs) l
 
-found_none : (n m : ℕ) (b : Bool) → nat_lt n m ≡ b → cond b (Some n) None ≡ None → m ≤ n
-found_none n m true e h = cc
-found_none n m false e h = ltb-false n m e
-
 pub before_some : (p : ℕ → Bool) (xs : List ℕ) (i : ℕ) → position p xs ≡ Some i → split_before p xs ≡ (take i xs, drop i xs)
 before_some p xs i e = let at = position-Some p xs i 0 e in before_at p xs i at.0 at.1 at.2
 
 pub before_none : (p : ℕ → Bool) (xs : List ℕ) → position p xs ≡ None → split_before p xs ≡ (xs, [])
-before_none p xs e = before_end p xs (found_none (position_or_len p xs) (length xs) _ refl e)
+before_none p xs e = before_end p xs (past_from_none (position_or_len p xs) (length xs) _ refl e)
 
 pub slash_is_ascii : (x : ℕ) → (x == 47) ≡ true → x < 128
 slash_is_ascii x h = grind (arith, h)

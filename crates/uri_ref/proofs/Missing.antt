@@ -1,12 +1,11 @@
 -- Texts that miss some bytes, and where they are cut.
 use Rattle.std.proofs.Common.{◌≡◌, ℕ, ◌==◌, [], ◌∷◌, ◌++◌, Bool, true, false, true≢false, not, ◌||◌, cond, Option, Some, None, nat_eq, take, drop, codes, inl, inr, refl, sym, ap, ◌∙◌, take-append-drop, eq-eqb}
-use Rattle.std.proofs.lemmas.Bool.{and_from, or_from, or_parts, eqb-true}
+use Rattle.std.proofs.lemmas.Bool.{and_from, or_from, or_parts, eqb-true, and_parts, not-true}
 use Rattle.std.proofs.lemmas.Bool.Decides.{eqb_tells}
 use Rattle.std.proofs.lemmas.List.Folds.{list_any-append}
 use Rattle.std.specs.List.{list_all, list_any}
 use Rattle.definitions.specs.Values.{Text, same_text}
-use Rattle.definitions.specs.Uris.{begins, cut_at, is_free_of, is_letter, is_scheme, is_scheme_byte, led_by, split_before}
-use Rattle.uri_ref.proofs.Rules.{both}
+use Rattle.definitions.specs.Uris.{begins, cut_at, is_free_of, is_letter, is_scheme, is_scheme_byte, led_by, split_before, ended_by, option_all}
 
 abbrev pub one_of : Text → ℕ → Bool
 one_of signs c = list_any (λ d. d == c) signs
@@ -14,12 +13,8 @@ one_of signs c = list_any (λ d. d == c) signs
 abbrev pub Misses : (ℕ → Bool) → Text → Type 0
 Misses p t = list_any p t ≡ false
 
-pub negated : (b : Bool) → not b ≡ true → b ≡ false
-negated true h = cc
-negated false h = refl
-
 pub misses_from : (signs t : Text) → is_free_of signs t ≡ true → Misses (one_of signs) t
-misses_from signs t h = negated (list_any (one_of signs) t) h
+misses_from signs t h = not-true (list_any (one_of signs) t) h
 
 pub free_from : (signs t : Text) → Misses (one_of signs) t → is_free_of signs t ≡ true
 free_from signs t h = ap not h
@@ -38,6 +33,19 @@ fewer_missed p q w [] h = refl
 fewer_missed p q w (x ∷ xs) h =
     let parts = or_parts (p x) (list_any p xs) h in
     or_from (q x) (list_any q xs) (w x parts.0) (fewer_missed p q w xs parts.1)
+
+-- ---- what may be absent
+pub of_option : (f : Text → Bool) (o : Option Text) → option_all f o ≡ true → (t : Text) → o ≡ Some t → f t ≡ true
+of_option f None h t e = cc
+of_option f (Some s) h t e = let same : s ≡ t = cc in ap f (sym same) ∙ h
+
+pub led_misses : (p : ℕ → Bool) (sign : Text) (o : Option Text) → Misses p sign → ((t : Text) → o ≡ Some t → Misses p t) → Misses p (led_by sign o)
+led_misses p sign None h k = refl
+led_misses p sign (Some t) h k = joined_misses p sign t h (k t refl)
+
+pub ended_misses : (p : ℕ → Bool) (sign : Text) (o : Option Text) → Misses p sign → ((t : Text) → o ≡ Some t → Misses p t) → Misses p (ended_by o sign)
+ended_misses p sign None h k = refl
+ended_misses p sign (Some t) h k = joined_misses p t sign (k t refl) h
 
 -- ---- one sign, and signs
 -- a byte that a test tells from another is another
@@ -69,13 +77,13 @@ more_missed a signs (x ∷ xs) h k =
 all_miss : (a : ℕ) (s : Text) → is_scheme_byte a ≡ false → list_all is_scheme_byte s ≡ true → Misses (λ d. d == a) s
 all_miss a [] b h = refl
 all_miss a (x ∷ xs) b h =
-    let parts = both (is_scheme_byte x) (list_all is_scheme_byte xs) h in
+    let parts = and_parts (is_scheme_byte x) (list_all is_scheme_byte xs) h in
     or_from (x == a) (list_any (λ d. d == a) xs) (is_another is_scheme_byte a x b parts.0) (all_miss a xs b parts.1)
 
 pub scheme_misses : (a : ℕ) (s : Text) → is_letter a ≡ false → is_scheme_byte a ≡ false → is_scheme s ≡ true → Misses (λ d. d == a) s
 scheme_misses a [] l b h = cc
 scheme_misses a (x ∷ xs) l b h =
-    let parts = both (is_letter x) (list_all is_scheme_byte xs) h in
+    let parts = and_parts (is_letter x) (list_all is_scheme_byte xs) h in
     or_from (x == a) (list_any (λ d. d == a) xs) (is_another is_letter a x l parts.0) (all_miss a xs b parts.1)
 
 -- ---- what stands before a cut misses the sign
@@ -104,7 +112,7 @@ is_rooted (c ∷ cs) = 47 == c
 
 pub rooted_from : (t : Text) → (same_text t [] || begins t (codes "/")) ≡ true → is_rooted t ≡ true
 rooted_from [] h = refl
-rooted_from (c ∷ cs) h = (both (nat_eq 47 c) true h).0
+rooted_from (c ∷ cs) h = (and_parts (nat_eq 47 c) true h).0
 
 pub rooted_text : (t : Text) → is_rooted t ≡ true → (same_text t [] || begins t (codes "/")) ≡ true
 rooted_text [] h = refl

@@ -1,6 +1,6 @@
 -- Removing dot segments: the rules one by one, and that each shortens what is left.
 use Rattle.std.proofs.Common.{◌≡◌, ℕ, zero, suc, ◌+◌, ◌<◌, ◌≤◌, ◌==◌, [], ◌∷◌, ◌++◌, Bool, true, false, not, cond, ◌&&◌, ◌||◌, Option, Some, None, MatchOption, unwrap_or, nat_eq, get_or, take, drop, length, codes, refl, sym, ap, ◌∙◌, arith, append-nil, length-drop, eq-eqb}
-use Rattle.std.proofs.lemmas.Bool.{ne_eqb, eqb-true}
+use Rattle.std.proofs.lemmas.Bool.{ne_eqb, eqb-true, and_parts}
 use Rattle.std.proofs.lemmas.List.Folds.{list_any_at}
 use Rattle.std.proofs.lemmas.List.Quantifiers.{position-Some}
 use Rattle.std.proofs.lemmas.List.Prefix.{front_fits, front_reads}
@@ -15,15 +15,11 @@ use Rattle.uri_ref.specs.Places.{Lacks, IsLast}
 use Rattle.uri_ref.proofs.Cuts.{before_some, before_none, slash_is_ascii}
 
 -- ---- a text that begins with another
-pub both : (a b : Bool) → (a && b) ≡ true → (a ≡ true) × (b ≡ true)
-both true b h = (refl, h)
-both false b h = cc
-
 pub front : (p s : Text) → begins s p ≡ true → s ≡ p ++ drop (length p) s
 front [] s h = refl
 front (c ∷ p) [] h = cc
 front (c ∷ p) (x ∷ s) h =
-    let parts = both (nat_eq c x) (pointwise nat_eq p (take (length p) s)) h in
+    let parts = and_parts (nat_eq c x) (pointwise nat_eq p (take (length p) s)) h in
     let same : x ≡ c = sym (eqb-true c x parts.0) in
     rw same (ap (λ r. c ∷ r) (front p s parts.1))
 
@@ -128,7 +124,7 @@ same_length : (s t : Text) → same_text s t ≡ true → length s ≡ length t
 same_length [] [] h = refl
 same_length [] (y ∷ t) h = cc
 same_length (x ∷ s) [] h = cc
-same_length (x ∷ s) (y ∷ t) h = ap (λ n. suc n) (same_length s t (both (nat_eq x y) (pointwise nat_eq s t) h).1)
+same_length (x ∷ s) (y ∷ t) h = ap (λ n. suc n) (same_length s t (and_parts (nat_eq x y) (pointwise nat_eq s t) h).1)
 
 cut_within : (p : ℕ → Bool) (b : Bool) (x : ℕ) (xs : Text) (r : Text × Text) → length r.1 ≤ length xs → length (cond {A = Text × Text} b ([], x ∷ xs) (x ∷ r.0, r.1)).1 ≤ suc (length xs)
 cut_within p true x xs r h = omega arith

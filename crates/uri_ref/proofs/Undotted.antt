@@ -1,12 +1,12 @@
 -- A path with no dot segment stays as it is.
-use Rattle.std.proofs.Common.{◌≡◌, ℕ, zero, suc, ◌≤◌, ◌==◌, List, [], ◌∷◌, ◌++◌, Bool, true, false, ◌||◌, cond, nat_eq, drop, length, codes, refl, sym, ap, ◌∙◌, arith, append-nil, append_assoc}
-use Rattle.std.proofs.lemmas.Bool.{eqb-true}
-use Rattle.std.specs.Cmp.Lexicographic.{pointwise}
+use Rattle.std.proofs.Common.{◌≡◌, ℕ, zero, suc, ◌≤◌, ◌==◌, List, [], ◌∷◌, ◌++◌, Bool, true, false, ◌||◌, cond, drop, length, codes, refl, sym, ap, ◌∙◌, arith, append-nil, append_assoc}
+use Rattle.std.proofs.lemmas.Bool.{or_parts, or_from}
 use Rattle.std.specs.List.{list_any, slice_split, onto_first}
 use Rattle.definitions.specs.Values.{Text, same_text}
 use Rattle.definitions.specs.Uris.{begins, split_before, is_dot_segment}
 use Rattle.definitions.specs.Resolution.{rewritten, rewritten_times, remove_dot_segments, first_segment}
-use Rattle.uri_ref.proofs.Rules.{both, front, rule_e, before_within}
+use Rattle.lemmas.proofs.Texts.{same_text_is}
+use Rattle.uri_ref.proofs.Rules.{front, rule_e, before_within}
 use Rattle.uri_ref.proofs.Recomposed.{before_joined}
 
 abbrev has_dots : Text → Bool
@@ -15,14 +15,6 @@ has_dots path = list_any is_dot_segment (slice_split (λ c. c == 47) path)
 false_unless : (b : Bool) → (b ≡ true → true ≡ false) → b ≡ false
 false_unless true h = h refl
 false_unless false h = refl
-
-same : (s t : Text) → same_text s t ≡ true → s ≡ t
-same [] [] h = refl
-same [] (y ∷ t) h = cc
-same (x ∷ s) [] h = cc
-same (x ∷ s) (y ∷ t) h =
-    let parts = both (nat_eq x y) (pointwise nat_eq s t) h in
-    rw (eqb-true x y parts.0) (ap (λ r. y ∷ r) (same s t parts.1))
 
 -- where the path begins so, it has a dot segment
 no_a : (i : Text) → has_dots i ≡ false → begins i (codes "../") ≡ false
@@ -35,23 +27,19 @@ no_b : (i : Text) → has_dots i ≡ false → begins i (codes "/./") ≡ false
 no_b i h = false_unless _ (λ e. sym (ap has_dots (front (codes "/./") i e)) ∙ h)
 
 no_b_end : (i : Text) → has_dots i ≡ false → same_text i (codes "/.") ≡ false
-no_b_end i h = false_unless _ (λ e. sym (ap has_dots (same i (codes "/.") e)) ∙ h)
+no_b_end i h = false_unless _ (λ e. sym (ap has_dots (same_text_is i (codes "/.") e)) ∙ h)
 
 no_c : (i : Text) → has_dots i ≡ false → begins i (codes "/../") ≡ false
 no_c i h = false_unless _ (λ e. sym (ap has_dots (front (codes "/../") i e)) ∙ h)
 
 no_c_end : (i : Text) → has_dots i ≡ false → same_text i (codes "/..") ≡ false
-no_c_end i h = false_unless _ (λ e. sym (ap has_dots (same i (codes "/..") e)) ∙ h)
-
-either : (a b : Bool) → a ≡ false → b ≡ false → (a || b) ≡ false
-either true b h k = h
-either false b h k = k
+no_c_end i h = false_unless _ (λ e. sym (ap has_dots (same_text_is i (codes "/..") e)) ∙ h)
 
 no_d : (i : Text) → has_dots i ≡ false → (same_text i (codes ".") || same_text i (codes "..")) ≡ false
 no_d i h =
-    either (same_text i (codes ".")) (same_text i (codes ".."))
-    (false_unless _ (λ e. sym (ap has_dots (same i (codes ".") e)) ∙ h))
-    (false_unless _ (λ e. sym (ap has_dots (same i (codes "..") e)) ∙ h))
+    or_from (same_text i (codes ".")) (same_text i (codes ".."))
+    (false_unless _ (λ e. sym (ap has_dots (same_text_is i (codes ".") e)) ∙ h))
+    (false_unless _ (λ e. sym (ap has_dots (same_text_is i (codes "..") e)) ∙ h))
 
 -- ---- what follows the first segment has no dot segment either
 drop_onto : (x : ℕ) (ps : List Text) → drop 1 (onto_first x ps) ≡ drop 1 ps
@@ -67,13 +55,9 @@ tail_dots : (xs : Text) → has_dots (split_before (λ c. c == 47) xs).1 ≡ lis
 tail_dots [] = refl
 tail_dots (x ∷ xs) = tail_step x xs (x == 47) (split_before (λ c. c == 47) xs) refl (tail_dots xs)
 
-second : (a b : Bool) → (a || b) ≡ false → b ≡ false
-second true b h = cc
-second false b h = h
-
 any_tail : (ps : List Text) → list_any is_dot_segment ps ≡ false → list_any is_dot_segment (drop 1 ps) ≡ false
 any_tail [] h = refl
-any_tail (p ∷ ps) h = second (is_dot_segment p) (list_any is_dot_segment ps) h
+any_tail (p ∷ ps) h = (or_parts (is_dot_segment p) (list_any is_dot_segment ps) h).1
 
 rest_step : (x : ℕ) (ps : List Text) (b : Bool) → list_any is_dot_segment (cond {A = List Text} b ([] ∷ ps) (onto_first x ps)) ≡ false → list_any is_dot_segment (drop 1 ps) ≡ false
 rest_step x ps true h = any_tail ps h

@@ -1,28 +1,15 @@
 -- The parts of a text are the only ones that recompose to it.
-use Rattle.std.proofs.Common.{◌≡◌, ℕ, ◌==◌, [], ◌∷◌, ◌++◌, Bool, true, false, not, ◌||◌, ◌&&◌, cond, Option, Some, None, is_some, is_none, unwrap_or, drop, codes, refl, sym, ap, ◌∙◌, append_assoc}
-use Rattle.std.proofs.lemmas.Bool.{and_from}
+use Rattle.std.proofs.Common.{◌≡◌, ◌==◌, [], ◌∷◌, ◌++◌, Bool, true, false, not, ◌||◌, ◌&&◌, cond, Option, Some, None, is_some, is_none, unwrap_or, drop, codes, refl, sym, ap, ◌∙◌, append_assoc}
+use Rattle.std.proofs.lemmas.Bool.{and_from, and_parts, not-true}
 use Rattle.std.specs.List.{list_any, slice_split}
 use Rattle.definitions.specs.Values.{Text, same_text}
 use Rattle.definitions.specs.Uris.{Parts, SplitsOnce, split, recompose, begins, cut_at, split_before, is_free_of, is_dot_segment, is_identifier, is_path_of, is_scheme, are_parts, led_by, ended_by, option_all, scheme_and_rest, authority_and_path}
 use Rattle.uri_ref.specs.Soundness.{AreSound}
 use Rattle.uri_ref.specs.Views.{made}
-use Rattle.uri_ref.proofs.Missing.{Misses, negated, misses_from, joined_misses, one_missed, scheme_misses, is_rooted, rest_is_rooted, rooted_from, rooted_text, cut_apart, before_apart}
+use Rattle.uri_ref.proofs.Missing.{Misses, misses_from, joined_misses, one_missed, scheme_misses, is_rooted, rest_is_rooted, rooted_from, rooted_text, cut_apart, before_apart, of_option, led_misses, ended_misses}
 use Rattle.uri_ref.proofs.Recomposed.{joined, recomposes}
-use Rattle.uri_ref.proofs.Rules.{both}
 use Rattle.uri_ref.proofs.Sound.{split_sound}
 use Rattle.uri_ref.proofs.Splits.{split_from}
-
-of_option : (f : Text → Bool) (o : Option Text) → option_all f o ≡ true → (t : Text) → o ≡ Some t → f t ≡ true
-of_option f None h t e = cc
-of_option f (Some s) h t e = let same : s ≡ t = cc in ap f (sym same) ∙ h
-
-led_misses : (p : ℕ → Bool) (sign : Text) (o : Option Text) → Misses p sign → ((t : Text) → o ≡ Some t → Misses p t) → Misses p (led_by sign o)
-led_misses p sign None h k = refl
-led_misses p sign (Some t) h k = joined_misses p sign t h (k t refl)
-
-ended_misses : (p : ℕ → Bool) (sign : Text) (o : Option Text) → Misses p sign → ((t : Text) → o ≡ Some t → Misses p t) → Misses p (ended_by o sign)
-ended_misses p sign None h k = refl
-ended_misses p sign (Some t) h k = joined_misses p t sign (k t refl) h
 
 -- ---- where a text is cut that was put together
 taken : (a rest : Text) (s : Text) (b : Bool) → is_none (cond {A = Option Text × Text} b (Some a, rest) (None, s)).0 ≡ true → cond {A = Option Text × Text} b (Some a, rest) (None, s) ≡ (None, s)
@@ -115,17 +102,17 @@ only p h =
     let a = option_all (is_free_of (codes "/?#")) p.authority in
     let free = is_free_of (codes "?#") p.path in
     let q = option_all (is_free_of (codes "#")) p.query in
-    let all = both (s && a && (free && is_path_of p)) q h in
-    let front = both (s && a) (free && is_path_of p) all.0 in
-    let names = both s a front.0 in
-    let path = both free (is_path_of p) front.1 in
+    let all = and_parts (s && a && (free && is_path_of p)) q h in
+    let front = and_parts (s && a) (free && is_path_of p) all.0 in
+    let names = and_parts s a front.0 in
+    let path = and_parts free (is_path_of p) front.1 in
     let root = same_text p.path [] || begins p.path (codes "/") in
     let led = not (begins p.path (codes "//")) in
     let named = is_some p.scheme || is_none (scheme_and_rest p.path).0 in
-    let none = λ (e : is_none p.authority ≡ true). both led named (path_none p.authority root (led && named) path.1 e) in
+    let none = λ (e : is_none p.authority ≡ true). and_parts led named (path_none p.authority root (led && named) path.1 e) in
     split_of p.scheme p.authority p.path p.query p.fragment names.0 names.1 path.0 all.1
     (λ e. rooted_from p.path (path_some (is_some p.authority) root (led && named) path.1 e))
-    (λ e. negated (begins p.path (codes "//")) (none e).0)
+    (λ e. not-true (begins p.path (codes "//")) (none e).0)
     (λ e. (none e).1)
 
 -- ---- the parts of a text are such
@@ -173,9 +160,9 @@ path_of false n s x u h k e = rw (k, e) refl
 pub identified : (p : Parts) → AreSound p → is_identifier p ≡ true → split (recompose p) ≡ p
 identified p sound h =
     let dots = list_any is_dot_segment (slice_split (λ c. c == 47) p.path) in
-    let whole = both (is_some p.scheme && is_none p.fragment && not dots) (is_some p.authority || not (begins p.path (codes "//"))) h in
-    let undotted = both (is_some p.scheme && is_none p.fragment) (not dots) whole.0 in
-    let scheme = (both (is_some p.scheme) (is_none p.fragment) undotted.0).0 in
+    let whole = and_parts (is_some p.scheme && is_none p.fragment && not dots) (is_some p.authority || not (begins p.path (codes "//"))) h in
+    let undotted = and_parts (is_some p.scheme && is_none p.fragment) (not dots) whole.0 in
+    let scheme = (and_parts (is_some p.scheme) (is_none p.fragment) undotted.0).0 in
     only p
     (gathered (option_all is_scheme p.scheme) (option_all (is_free_of (codes "/?#")) p.authority) (is_free_of (codes "?#") p.path) (is_path_of p) (option_all (is_free_of (codes "#")) p.query)
     sound.scheme sound.authority sound.path

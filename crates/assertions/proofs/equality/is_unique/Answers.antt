@@ -2,8 +2,8 @@ use Rattle.std.proofs.Common.{sym, ap, ◌∙◌, map, not}
 use Rattle.definitions.specs.Values.{same, has_repeat}
 use Rattle.definitions.specs.Assertions.{is_unique}
 use Rattle.json_doc.specs.Docs.{value}
-use Rattle.assertions.proofs.Elements.{is_unique-List}
 use Rattle.assertions.proofs.equality.is_unique.Goals as goal
+use Rattle.json_doc.proofs.Views.{is_unique-List}
 
 pub returns-in-List : goal.returns-in-List
 returns-in-List c =

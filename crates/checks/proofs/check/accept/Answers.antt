@@ -1,7 +1,5 @@
-use Rattle.std.proofs.Common.{◌≡◌, ◌<◌, true, None, Ok, length, sym, ap, ◌∙◌, subst}
+use Rattle.std.proofs.Common.{◌≡◌, ◌<◌, None, Ok, length, sym, ap, ◌∙◌, subst}
 use Rattle.std.proofs.lemmas.Result.{IfErr-weaker}
-use Rattle.definitions.specs.Patterns.{regular_search}
-use Rattle.definitions.specs.Registries.{is_regular}
 use Rattle.definitions.specs.Scanning.{scan_fault, patterns}
 use Rattle.faults.specs.View.{fault}
 use Rattle.json_doc.specs.Docs.{value}

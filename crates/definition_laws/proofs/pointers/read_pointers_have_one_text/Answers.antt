@@ -1,4 +1,4 @@
-use Rattle.definition_laws.proofs.PointerTexts.{read_text}
+use Rattle.lemmas.proofs.PointerTexts.{read_text}
 use Rattle.definition_laws.proofs.pointers.read_pointers_have_one_text.Goals as goal
 
 pub returns : goal.returns

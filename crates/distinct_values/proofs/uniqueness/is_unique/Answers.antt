@@ -2,8 +2,8 @@ use Rattle.std.proofs.Common.{◌≡◌, IfOk, map, not, Bool, subst, sym, ap, �
 use Rattle.definitions.specs.Values.{has_repeat, same}
 use Rattle.definitions.specs.Assertions.{is_unique}
 use Rattle.json_doc.specs.Docs.{value}
-use Rattle.distinct_values.proofs.Sorting.{is_unique-List}
 use Rattle.distinct_values.proofs.uniqueness.is_unique.Goals as goal
+use Rattle.json_doc.proofs.Views.{is_unique-List}
 
 pub returns-in-List : goal.returns-in-List
 returns-in-List c =

@@ -1,8 +1,9 @@
 use Rattle.std.proofs.Common.{◌≡◌, ◌∷◌, [], ◌++◌, sym, ap, ap₂, ◌∙◌, subst, append_assoc, arith}
 use Rattle.definitions.specs.Values.{to_members}
+use Rattle.lemmas.proofs.Members.{to_members-members_list}
 use Rattle.json_doc.specs.Docs.{value, members_view, members_value}
 use Rattle.json_doc.specs.Members.{members_left, member_shown, put, HasNamesInOrder}
-use Rattle.json_doc.proofs.Views.{value-Dict-same, to_members-members_list}
+use Rattle.json_doc.proofs.Views.{value-Dict-same}
 use Rattle.json_doc.proofs.Nestings.{element_nesting, member_nesting}
 use Rattle.json_doc.proofs.Puts.{put_last}
 use Rattle.json_doc.proofs.copying.+copy.Goals as goal

@@ -1,12 +1,13 @@
 use Rattle.std.proofs.Common.{◌≡◌, [], ◌∷◌, ◌++◌, length, Some, sym, ap, ◌∙◌, subst, append_assoc, append-nil, arith, string_bytes}
 use Rattle.std.proofs.lemmas.Result.{err_from_is_err_and}
+use Rattle.std.proofs.lemmas.List.{nil_from_length}
 use Rattle.std.specs.List.Sorted.{IsStrictlySortedBy}
 use Rattle.std.specs.Map.{keys_of}
 use Rattle.std.specs.String.{string_cmp}
 use Rattle.std.specs.Vec.Iter.{into_iter_items}
+use Rattle.lemmas.proofs.Members.{to_members-members_list}
 use Rattle.json_doc.specs.Docs.{value, members_view, members_value}
-use Rattle.json_doc.proofs.Converted.{Entry, AreItems-snoc, AreItems-whole, AreItems-none, AreMembers, AreMembers-snoc, AreMembers-whole, AreMembers-none, next_is_last, nothing_left}
-use Rattle.json_doc.proofs.Views.{to_members-members_list}
+use Rattle.json_doc.proofs.Converted.{Entry, AreItems-snoc, AreItems-whole, AreItems-none, AreMembers, AreMembers-snoc, AreMembers-whole, AreMembers-none, next_is_last}
 use Rattle.json_doc.proofs.reading.+read.Goals as goal
 
 pub docs_of-returns-in_err-doc_of-clause-err : goal.docs_of-returns-in_err-doc_of-clause-err
@@ -34,7 +35,7 @@ docs_of-loop-item-preserved t c =
 pub docs_of-returns-clause-ok : goal.docs_of-returns-clause-ok
 docs_of-returns-clause-ok t c =
     let l = c.loop-item in
-    let none : into_iter_items l.item-iterator ≡ [] = nothing_left _ (sym l.invariant.left ∙ c.in-None.ensures.steps.0) in
+    let none : into_iter_items l.item-iterator ≡ [] = nil_from_length _ (sym l.invariant.left ∙ c.in-None.ensures.steps.0) in
     let all : l.yielded ≡ c.args.items.items = sym (append-nil l.yielded) ∙ rw none at l.invariant.all ∙ c.into_iter-item-iterator.ensures.into_iter_gives.0 in
     rw (← all) (AreItems-whole l.yielded l.docs.items l.invariant.read)
 

@@ -1,4 +1,4 @@
-use Rattle.std.proofs.Common.{◌≡◌, ◌++◌, ◌∷◌, [], ◌+◌, ◌∙◌, Bool, not, true, false, cond, refl, ap, map, drop, Bor, nat_cmp, List, get_or, BTreeSet}
+use Rattle.std.proofs.Common.{◌≡◌, ◌++◌, ◌∷◌, [], ◌+◌, ◌∙◌, Bool, true, cond, ap, map, drop, Bor, nat_cmp, List, get_or, BTreeSet, sym}
 use Rattle.std.proofs.lemmas.List.{map-append, drop_more}
 use Rattle.std.specs.BTreeSet.{contains_by}
 use Rattle.std.specs.Cmp.Lexicographic.{slice_cmp}
@@ -7,6 +7,7 @@ use Rattle.keyword_plans.proofs.Growing.{grown}
 use Rattle.keyword_plans.proofs.Unevaluated.{skipped}
 use Rattle.keyword_plans.proofs.Once.{unseen, unseen-new, unseen-old, unseen-first}
 use Rattle.std.proofs.lemmas.Map.Text.{is_eq-slice_cmp}
+use Rattle.std.proofs.lemmas.Bool.{not-true, not-false}
 use Rattle.keyword_plans.proofs.annotating.each_once.Goals as goal
 use Rattle.keyword_plans.proofs.annotating.each_once.Goals.{then-branch+in_ok-push, else-branch}
 
@@ -15,14 +16,6 @@ loop-name-init c =
     let none = λ (m : Text). ap (λ ks. contains_by (λ (k : Bor Text). slice_cmp nat_cmp m k.now) (record { keys = ks })) c.new-seen.ensures.empty in
     ap (λ ks. map (λ (n : Bor Text). n.now) ks ++ unseen (λ m. contains_by (λ k. slice_cmp nat_cmp m k.now) c.new-seen.result) (map (λ (n : Bor Text). n.now) c.args.names.now)) c.new-kept.ensures.items
     ∙ unseen-first (λ m. contains_by (λ k. slice_cmp nat_cmp m k.now) c.new-seen.result) none (map (λ (n : Bor Text). n.now) c.args.names.now)
-
-was_new : (b added : Bool) → added ≡ not b → added ≡ true → b ≡ false
-was_new true added e f = cc
-was_new false added e f = refl
-
-was_old : (b added : Bool) → added ≡ not b → added ≡ false → b ≡ true
-was_old true added e f = refl
-was_old false added e f = cc
 
 abbrev texts : List (Bor Text) → List Text
 texts ns = map (λ n. n.now) ns
@@ -42,11 +35,11 @@ loop-name-preserved c =
           ap (λ ks. texts ks.items ++ unseen (seen_by c.insert.new.self) rest) w.kept-is
           ∙ grown (texts c.loop-name.kept.items) _ (x.now ∷ []) _ (unseen (seen_by c.insert.new.self) rest) _
           (ap texts w.in_ok-push.ensures.items ∙ map-append (λ (n : Bor Text). n.now) c.loop-name.kept.items _)
-          (ap (unseen (seen_by c.loop-name.seen)) left ∙ unseen-new (seen_by c.loop-name.seen) (seen_by c.insert.new.self) x.now rest now_seen (was_new _ _ c.in_ok-insert.ensures.added w.if-branch.true))
+          (ap (unseen (seen_by c.loop-name.seen)) left ∙ unseen-new (seen_by c.loop-name.seen) (seen_by c.insert.new.self) x.now rest now_seen (not-true _ (sym c.in_ok-insert.ensures.added ∙ w.if-branch.true)))
           c.loop-name.invariant
       | else-branch w ↦
           ap (λ ks. texts ks.items ++ unseen (seen_by c.insert.new.self) rest) w.kept-is
           ∙ skipped (texts c.loop-name.kept.items) _ (unseen (seen_by c.insert.new.self) rest) _
-          (ap (unseen (seen_by c.loop-name.seen)) left ∙ unseen-old (seen_by c.loop-name.seen) (seen_by c.insert.new.self) x.now rest now_seen (was_old _ _ c.in_ok-insert.ensures.added w.if-branch.false))
+          (ap (unseen (seen_by c.loop-name.seen)) left ∙ unseen-old (seen_by c.loop-name.seen) (seen_by c.insert.new.self) x.now rest now_seen (not-false _ (sym c.in_ok-insert.ensures.added ∙ w.if-branch.false)))
           c.loop-name.invariant
     ]

@@ -5,9 +5,9 @@ use Rattle.std.specs.Global.{Global}
 use Rattle.std.specs.List.{list_any}
 use Rattle.std.specs.declared.string.String.{String}
 use Rattle.definitions.specs.Reach.{holds_resource}
+use Rattle.lemmas.proofs.Lists.{list_any-map}
 use Rattle.linker.specs.SharedDocuments.{shared_documents}
 use Rattle.linker.specs.Sources.{shares_resource}
-use Rattle.linker.proofs.Adding.{any-map}
 use Rattle.linker.proofs.holders.shares_resource.Goals as goal
 
 pub returns : goal.returns
@@ -17,5 +17,5 @@ returns c =
     let some_one : c.any.result ≡ list_any (λ (s : String Global). list_any (holds_resource (string_bytes s)) (shared_documents c.args.documents.now)) items =
     any_from_yields_List (λ (s : String Global). list_any (holds_resource (string_bytes s)) (shared_documents c.args.documents.now)) _ _ c.any.result c.any.ensures.ran (YieldsList-from_slice items refl) (λ x b q k. search (rules, tests)) in
     some_one
-    ∙ sym (any-map (λ uri. list_any (holds_resource uri) (shared_documents c.args.documents.now)) string_bytes items)
+    ∙ sym (list_any-map (λ uri. list_any (holds_resource uri) (shared_documents c.args.documents.now)) string_bytes items)
     ∙ ap (list_any (λ uri. list_any (holds_resource uri) (shared_documents c.args.documents.now))) (ap (map string_bytes) c.iter.ensures.rest ∙ c.resource_uris.ensures)

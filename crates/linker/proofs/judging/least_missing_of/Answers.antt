@@ -4,11 +4,11 @@ use Rattle.std.specs.Global.{Global}
 use Rattle.definitions.specs.Reach.{least, lesser, references_in}
 use Rattle.definitions.specs.Schemas.{table_of}
 use Rattle.definitions.specs.Targets.{target}
+use Rattle.lemmas.proofs.Lists.{map-take_more}
 use Rattle.schema_scan.specs.CompiledDocuments.{compiled_document}
 use Rattle.linker.specs.Missing.{missing_in}
 use Rattle.linker.specs.SharedDocuments.{shared_documents}
 use Rattle.linker.proofs.Judged.{judged_more}
-use Rattle.linker.proofs.Shared.{map_take_more}
 use Rattle.linker.proofs.judging.least_missing_of.Goals as goal
 
 pub loop-reference-preserved : goal.loop-reference-preserved
@@ -21,7 +21,7 @@ loop-reference-preserved c = λ before e.
     ∙ ap (λ r. cond (is_some (target table r)) so_far (Some (lesser r so_far))) c.deref.ensures
     ∙ ap (λ l. cond (is_some (target table s)) l (Some (lesser s l))) (c.loop-reference.invariant before e)
     ∙ sym (judged_more (target table) before (map string_bytes (take c.loop-reference.reference-index items)) s)
-    ∙ sym (ap (λ rs. least (before ++ filter (λ r. is_none (target table r)) rs)) (map_take_more string_bytes items c.loop-reference.reference-index c.reference-item.result c.loop-reference-test.true c.reference-item.is))
+    ∙ sym (ap (λ rs. least (before ++ filter (λ r. is_none (target table r)) rs)) (map-take_more string_bytes items c.loop-reference.reference-index c.reference-item.result c.loop-reference-test.true c.reference-item.is))
 
 pub returns-clause-ok : goal.returns-clause-ok
 unfolding missing_in

@@ -3,11 +3,11 @@ use Rattle.std.specs.Global.{Global}
 use Rattle.std.specs.declared.rc.Rc.{Rc}
 use Rattle.definitions.specs.Values.{Text}
 use Rattle.definitions.specs.Schemas.{Document}
+use Rattle.lemmas.proofs.Lists.{map-insert}
 use Rattle.schema_scan.specs.CompiledDocuments.{compiled_document}
 use Rattle.schema_scan.specs.declared.compiled.Compiled.{Compiled}
 use Rattle.linker.specs.Positions.{StandsAt, IsGap}
 use Rattle.linker.specs.SharedDocuments.{shared_documents}
-use Rattle.linker.proofs.Adding.{insert-map}
 use Rattle.linker.proofs.Positions.{absent_unfound, standing_some, shared_as_long}
 use Rattle.linker.proofs.placing.place.Goals as goal
 
@@ -34,5 +34,5 @@ unfolding shared_documents
 returns-in_ok-insert-in-Err-clause-put c =
     let gap = carried IsGap c.deref.ensures.value c.canonical.ensures c.deref-2.ensures c.in-Err.ensures.absent in
     ap shared_documents c.in_ok-insert-in-Err.ensures.items
-    ∙ insert-map (λ (d : Rc Compiled Global). compiled_document d.value) c.args.documents.now.items c.in-Err.at c.args.document
+    ∙ map-insert (λ (d : Rc Compiled Global). compiled_document d.value) c.args.documents.now.items c.in-Err.at c.args.document
     ∙ gap.put (compiled_document c.args.document.value) refl

@@ -7,10 +7,10 @@ use Rattle.definitions.specs.Values.{Text}
 use Rattle.definitions.specs.Uris.{without_fragment}
 use Rattle.definitions.specs.Schemas.{Document}
 use Rattle.definitions.specs.Reach.{holds_resource, references_in}
+use Rattle.lemmas.proofs.Lists.{map-take_more}
 use Rattle.schema_scan.specs.CompiledDocuments.{compiled_document}
 use Rattle.linker.specs.SharedDocuments.{shared_documents}
 use Rattle.linker.specs.Visits.{Adds, IsPart}
-use Rattle.linker.proofs.Shared.{map_take_more}
 use Rattle.linker.proofs.Visits.{adds_then, part_after}
 use Rattle.linker.proofs.visiting.follow.Goals as goal
 
@@ -26,7 +26,7 @@ or_false false false = refl
 named_more : (items : List (String Global)) (i : ℕ) (s : String Global) (uri : Text) → i < length items → s ≡ get_or items i s → uri ≡ without_fragment (string_bytes s)
     → (e : Document) → named_by (map string_bytes (take (i + 1) items)) e ≡ (named_by (map string_bytes (take i items)) e || holds_resource uri e)
 named_more items i s uri l is named e =
-    ap (λ rs. named_by rs e) (map_take_more string_bytes items i s l is)
+    ap (λ rs. named_by rs e) (map-take_more string_bytes items i s l is)
     ∙ list_any-append (λ r. holds_resource (without_fragment r) e) (map string_bytes (take i items)) (string_bytes s ∷ [])
     ∙ or_false (named_by (map string_bytes (take i items)) e) (holds_resource (without_fragment (string_bytes s)) e)
     ∙ ap (λ u. named_by (map string_bytes (take i items)) e || holds_resource u e) (sym named)

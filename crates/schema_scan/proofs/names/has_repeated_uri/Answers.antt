@@ -1,12 +1,12 @@
 use Rattle.std.proofs.Common.{Bor, ap, ◌∙◌}
 use Rattle.std.specs.Ordering.{eq_by_cmp}
 use Rattle.definitions.specs.Values.{Text, same_text, has_repeat}
-use Rattle.schema_scan.proofs.SameNames.{text_order, same-texts}
+use Rattle.lemmas.proofs.Texts.{text_order, text_order-same}
 use Rattle.schema_scan.proofs.SeenKeys.{has_repeat-view}
 use Rattle.schema_scan.proofs.names.has_repeated_uri.Goals as goal
 
 pub returns : goal.returns
 returns c =
     c.in_ok-has_repeat.ensures ∙ ap (has_repeat (eq_by_cmp text_order)) c.deref.ensures.value
-    ∙ has_repeat-view (λ (u : Bor Text). u.now) (eq_by_cmp text_order) same_text same-texts c.in_ok-uris.uris.items
+    ∙ has_repeat-view (λ (u : Bor Text). u.now) (eq_by_cmp text_order) same_text text_order-same c.in_ok-uris.uris.items
     ∙ ap (has_repeat same_text) c.in_ok-uris.ensures

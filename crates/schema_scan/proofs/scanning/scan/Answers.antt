@@ -1,4 +1,4 @@
-use Rattle.std.proofs.Common.{◌≡◌, sym, ap, ◌∙◌}
+use Rattle.std.proofs.Common.{sym, ap, ◌∙◌}
 use Rattle.definitions.specs.Uris.{recompose}
 use Rattle.definitions.specs.Scanning.{scan_fault}
 use Rattle.json_doc.specs.Docs.{value}

@@ -1,8 +1,8 @@
 use Rattle.std.proofs.Common.{◌≡◌, [], ◌∷◌, ◌++◌, map, take, string_bytes, flat_map, sym, ap, ap₂, ◌∙◌, append_assoc}
 use Rattle.std.proofs.lemmas.List.{map-append, take_more, take_all}
 use Rattle.definitions.specs.Pointers.{escaped_byte, pointer_of, pointer_text}
+use Rattle.lemmas.proofs.PointerTexts.{read_back}
 use Rattle.json_doc.proofs.Escaped.{pointer_text-more}
-use Rattle.json_doc.proofs.Unescaped.{text_back}
 use Rattle.json_doc.proofs.pointer.Pointer.text.Goals as goal
 
 pub loop-token-preserved : goal.loop-token-preserved
@@ -22,4 +22,4 @@ returns-clause-text c =
     c.loop-token.invariant ∙ ap (λ ts. pointer_text (map string_bytes ts)) all ∙ ap pointer_text c.self.view_is
 
 pub returns-clause-read_back : goal.returns-clause-read_back
-returns-clause-read_back c = ap pointer_of (returns-clause-text c) ∙ text_back c.args.self.now
+returns-clause-read_back c = ap pointer_of (returns-clause-text c) ∙ read_back c.args.self.now

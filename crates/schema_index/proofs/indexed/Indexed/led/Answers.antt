@@ -1,4 +1,5 @@
 use Rattle.std.proofs.Common.{◌≡◌, ◌∷◌, map, length, string_bytes, refl, sym, ap, subst, ◌∙◌, ◌≤◌, arith, Contains}
+use Rattle.std.proofs.lemmas.List.{nil_from_length}
 use Rattle.definitions.specs.Schemas.{below, option_list}
 use Rattle.json_doc.specs.Docs.{value}
 use Rattle.locations.specs.Steps.{tokens}
@@ -7,7 +8,6 @@ use Rattle.schema_index.specs.DescentViews.{tokens_taken}
 use Rattle.schema_index.specs.IndexedDocuments.{indexed_base, indexed_value, indexed_schemas}
 use Rattle.schema_index.specs.Locateds.{located_schema}
 use Rattle.schema_index.proofs.Descents.{led_here, shorter}
-use Rattle.schema_index.proofs.HeldValues.{nothing}
 use Rattle.schema_index.proofs.Subschemas.{with_below}
 use Rattle.schema_index.proofs.indexed.Indexed.led.Goals as goal
 
@@ -43,7 +43,7 @@ loop-keyword-preserved c =
 
 pub returns-clause-ok : goal.returns-clause-ok
 returns-clause-ok c =
-    sym (c.loop-keyword.invariant.leads ∙ ap (λ left. led (map string_bytes left) (located_schema c.loop-keyword.here)) (nothing c.loop-keyword.left.now c.in_default.ensures.cases) ∙ led_here (located_schema c.loop-keyword.here))
+    sym (c.loop-keyword.invariant.leads ∙ ap (λ left. led (map string_bytes left) (located_schema c.loop-keyword.here)) (nil_from_length c.loop-keyword.left.now c.in_default.ensures.cases) ∙ led_here (located_schema c.loop-keyword.here))
 
 pub returns-in_default-descend-clause-ok : goal.returns-in_default-descend-clause-ok
 returns-in_default-descend-clause-ok c =

@@ -1,15 +1,15 @@
 use Rattle.std.proofs.Common.{◌≡◌, ◌∷◌, [], map, length, decimal, string_bytes, sym, ap, subst, ◌∙◌, arith}
-use Rattle.std.proofs.lemmas.List.{length-map}
+use Rattle.std.proofs.lemmas.List.{length-map, nil_from_length}
 use Rattle.definitions.specs.Values.{elements}
 use Rattle.json_doc.specs.Docs.{value}
 use Rattle.schema_index.specs.Descents.{LeadsNowhere, StepsTo}
 use Rattle.schema_index.proofs.Descents.{from_list_itself, from_no_list, from_no_index, to_element}
-use Rattle.schema_index.proofs.HeldValues.{elements_none, elements_some, nothing, element_of}
+use Rattle.schema_index.proofs.HeldValues.{elements_none, elements_some, element_of}
 use Rattle.schema_index.proofs.pointing.descending.descend_into_list.Goals as goal
 
 pub returns-in_err-token : goal.returns-in_err-token
 returns-in_err-token c = rw c.from_residual.ensures (λ v h e.
-    subst (λ r. LeadsNowhere (c.args.keyword.now ∷ map string_bytes r) v) (sym (nothing c.args.rest.now c.in_err-token.ensures.cases))
+    subst (λ r. LeadsNowhere (c.args.keyword.now ∷ map string_bytes r) v) (sym (nil_from_length c.args.rest.now c.in_err-token.ensures.cases))
     (from_list_itself c.args.keyword.now v (value c.args.list.now) h e))
 
 pub returns-in_err-schemas : goal.returns-in_err-schemas

@@ -1,14 +1,15 @@
 use Rattle.std.proofs.Common.{◌≡◌, ◌∷◌, [], map, None, string_bytes, sym, ap, subst, ◌∙◌}
+use Rattle.std.proofs.lemmas.List.{nil_from_length}
 use Rattle.definitions.specs.Values.{members}
 use Rattle.json_doc.specs.Docs.{value, members_value}
 use Rattle.schema_index.specs.Descents.{LeadsNowhere, StepsTo, row, name_of}
 use Rattle.schema_index.proofs.Descents.{from_map_itself, from_no_map, from_no_entry, to_entry}
-use Rattle.schema_index.proofs.HeldValues.{members_none, members_some, nothing, held}
+use Rattle.schema_index.proofs.HeldValues.{members_none, members_some, held}
 use Rattle.schema_index.proofs.pointing.descending.descend_into_map.Goals as goal
 
 pub returns-in_err-token : goal.returns-in_err-token
 returns-in_err-token c = rw c.from_residual.ensures (λ v h e.
-    subst (λ r. LeadsNowhere (c.args.keyword.now ∷ map string_bytes r) v) (sym (nothing c.args.rest.now c.in_err-token.ensures.cases))
+    subst (λ r. LeadsNowhere (c.args.keyword.now ∷ map string_bytes r) v) (sym (nil_from_length c.args.rest.now c.in_err-token.ensures.cases))
     (from_map_itself c.args.keyword.now v (value c.args.object.now) h e))
 
 pub returns-in_err-as_dict : goal.returns-in_err-as_dict

@@ -23,7 +23,7 @@ led = flat_map (λ part. 47 ∷ part)
 abbrev escape : Bool → Bool → ℕ → Text
 escape is_tilde is_slash c = cond is_tilde (codes "~0") (cond is_slash (codes "~1") (c ∷ []))
 
-kept_byte : (c : ℕ) (rest : Text) → (c == 126) ≡ false → unescaped (c ∷ rest) ≡ option_map (λ r. c ∷ r) (unescaped rest)
+pub kept_byte : (c : ℕ) (rest : Text) → (c == 126) ≡ false → unescaped (c ∷ rest) ≡ option_map (λ r. c ∷ r) (unescaped rest)
 kept_byte c [] e = rw e refl
 kept_byte c (d ∷ rest) e = rw e refl
 

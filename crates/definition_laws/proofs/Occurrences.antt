@@ -1,5 +1,5 @@
 -- What stands in a list, by recursion.
-use Rattle.std.proofs.Common.{◌≡◌, ◌<◌, ◌≤◌, ◌+◌, ◌⊎◌, ◌||◌, ℕ, zero, suc, List, [], ◌∷◌, ◌++◌, map, length, Bool, true, false, cond, Some, refl, sym, ap, ◌∙◌, arith, inl, inr, is_some}
+use Rattle.std.proofs.Common.{◌≡◌, ◌<◌, ◌≤◌, ◌+◌, ◌⊎◌, ℕ, zero, suc, List, [], ◌∷◌, ◌++◌, map, length, Bool, true, false, cond, Some, refl, sym, ap, ◌∙◌, arith, inl, inr, is_some}
 use Rattle.std.proofs.lemmas.Bool.{and_parts, or_right}
 use Rattle.std.specs.List.{Contains, flat_map, filter, find, enumerate_from, list_any, list_all, zip}
 

@@ -1,9 +1,9 @@
 -- A document that is put among others with which it shares no resource.
-use Rattle.std.proofs.Common.{◌≡◌, Bool, true, false, ◌||◌, cond, not, List, [], ◌∷◌, map, find, is_some, is_none, Option, Some, None, option_map, Result, Ok, Err, IfOk, OnErr, ◌⊎◌, Contains, Ordering, Less, Equal, Greater, ℕ, suc, zero, sym, refl, ap, ◌∙◌, subst, inl, inr, true≢false}
+use Rattle.std.proofs.Common.{◌≡◌, Bool, true, false, ◌||◌, cond, not, List, [], ◌∷◌, find, is_some, is_none, Option, Some, None, option_map, Result, Ok, Err, IfOk, OnErr, ◌⊎◌, Contains, Ordering, Less, Equal, Greater, sym, refl, ap, ◌∙◌, subst, inl, inr, true≢false}
 use Rattle.std.proofs.lemmas.Bool.{and_from, and_parts}
 use Rattle.std.proofs.lemmas.Cmp.{nat_list_cmp_total}
 use Rattle.std.specs.Cmp.Lexicographic.{slice_cmp, bytes_decides}
-use Rattle.std.specs.List.{list_any, list_all, insert}
+use Rattle.std.specs.List.{list_any, list_all}
 use Rattle.std.specs.Ordering.{nat_cmp, match_ordering}
 use Rattle.definitions.specs.Values.{Text, has_repeat, same_text}
 use Rattle.definitions.specs.Schemas.{Document, document_from, schemas_of}

@@ -1,5 +1,5 @@
 -- What a binary search finds among elements that ascend by a key.
-use Rattle.std.proofs.Common.{◌≡◌, ℕ, zero, suc, ◌<◌, ◌≤◌, List, [], ◌∷◌, map, length, get_or, Contains, Ordering, Less, Equal, Greater, Result, Ok, Err, IfOk, IfErr, Bool, true, false, cond, Some, None, is_none, find, true≢false, sym, refl, ap, ◌∙◌, subst, inl, inr, arith}
+use Rattle.std.proofs.Common.{◌≡◌, ℕ, zero, suc, ◌<◌, ◌≤◌, List, [], ◌∷◌, map, length, get_or, Contains, Ordering, Less, Equal, Greater, Result, Ok, Err, IfOk, IfErr, false, Some, None, is_none, sym, refl, ap, ◌∙◌, subst, inl, inr, arith}
 use Rattle.std.proofs.lemmas.List.{length-map}
 use Rattle.std.proofs.lemmas.Bool.{false_from_ne_true}
 use Rattle.std.proofs.lemmas.Cmp.{nat_list_cmp_total, tied_itself}
@@ -12,7 +12,7 @@ use Rattle.std.specs.List.Sorted.{IsStrictlySortedBy, IsSearchInRange, IsBinaryS
 use Rattle.definitions.specs.Values.{Text, has_repeat, same_text}
 use Rattle.definitions.specs.Schemas.{Document}
 use Rattle.definitions.specs.Bundles.{document_of}
-use Rattle.definition_laws.proofs.Membership.{nothing_in, is_first, is_later, first_or_later, in_map, one_of, found_there, found_some, found_none}
+use Rattle.definition_laws.proofs.Membership.{nothing_in, first_or_later, in_map, one_of, found_there, found_some, found_none}
 use Rattle.definition_laws.proofs.Placing.{inserted, ascending_distinct}
 use Rattle.definition_laws.proofs.PlacedDocuments.{key_of, as_inserted, tied}
 use Rattle.definition_laws.proofs.ReachedSets.{same_text-back}

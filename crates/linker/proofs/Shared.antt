@@ -1,6 +1,6 @@
 -- Lists of shared documents.
-use Rattle.std.proofs.Common.{◌≡◌, ℕ, ◌+◌, ◌<◌, ◌++◌, take, length, get_or, Bool, true, false, cond, List, [], ◌∷◌, Option, Some, None, map, find, option_map, sym, refl, ap, ◌∙◌, arith}
-use Rattle.std.proofs.lemmas.List.{take_more, map-append}
+use Rattle.std.proofs.Common.{◌≡◌, ℕ, ◌+◌, ◌<◌, ◌++◌, take, length, get_or, Bool, List, [], ◌∷◌, Option, map, find, option_map, sym, refl, ap, ◌∙◌, arith}
+use Rattle.std.proofs.lemmas.List.{map-append}
 use Rattle.std.specs.Borrow.{Bor}
 use Rattle.std.specs.Global.{Global}
 use Rattle.std.specs.declared.rc.Rc.{Rc}

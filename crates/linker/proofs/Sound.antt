@@ -1,5 +1,5 @@
 -- The documents of a list source are sound.
-use Rattle.std.proofs.Common.{◌≡◌, true, List, [], ◌∷◌, Option, Some, None, map, Contains, is_none, sym, refl, subst, inl, inr, true≢false}
+use Rattle.std.proofs.Common.{◌≡◌, true, List, [], ◌∷◌, None, map, Contains, refl, subst, inl, inr}
 use Rattle.std.proofs.lemmas.Bool.{and_parts}
 use Rattle.std.specs.List.{list_all}
 use Rattle.std.specs.Global.{Global}

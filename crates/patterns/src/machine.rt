@@ -41,6 +41,18 @@ pub(crate) struct Machine {
     is_filled: bool,
 }
 
+// What a text is built to.
+#[derive(Drop)]
+struct Built {
+    dfa: Dfa,
+    /// Each match begins where the text does.
+    is_anchored: bool,
+    /// No match is empty.
+    is_filled: bool,
+    /// How many bytes it is charged with.
+    size: usize,
+}
+
 impl Model for Machine {
     ghost use Rattle.std.specs.Prelude.{string_bytes};
     ghost use Rattle.definitions.specs.Values.{Text};
@@ -55,7 +67,7 @@ impl Model for Machine {
 }
 
 impl Machine {
-    /// Builds what the text spells, where its tables take at most `limit` bytes, and says how many they take.
+    /// Builds what the text spells, where its tables take at most `limit` bytes, and says what they are charged with.
     pub(crate) fn build(alloc: Global, text: &str, limit: usize) -> Result<(Machine, usize), Fault>
         ensures ok { IfOk result (λ m. m.0 ≡ text.now) }
         ensures read { IfOk result (λ m. is_read m.0 ≡ true) }
@@ -63,8 +75,12 @@ impl Machine {
         ensures size { IfOk result (λ m. 24 ≤ m.1) }
         ensures err { IfErr result (λ f. f ≢ Fault.NoRoom → f ≡ Fault.BadPattern) }
     {
-        let (dfa, is_anchored, is_filled) = tables(alloc, text, limit)?;
-        let size = size_of_tables(&dfa.nfa);
+        let Built {
+            dfa,
+            is_anchored,
+            is_filled,
+            size,
+        } = tables(alloc, text, limit)?;
         let forward = Forward::with_budget(alloc, &dfa, false, budget_of(&dfa.nfa))?;
         let text = String::from_str(alloc, text)?;
         Ok((
@@ -170,9 +186,10 @@ fn is_boundary(hay: &[u8], at: usize) -> bool
     (hay[at] < 0x80) | (hay[at] > 0xBF)
 }
 
-// The tables for what the grammar reads in the text, whether each match begins where a text does, and whether none is empty.
-fn tables(alloc: Global, text: &str, limit: usize) -> Result<(Dfa, bool, bool), Fault>
-    ensures ok { IfOk result (λ t. Spells text.now t.0.nfa t.1 t.2) }
+// The tables for what the grammar reads in the text.
+fn tables(alloc: Global, text: &str, limit: usize) -> Result<Built, Fault>
+    ensures ok { IfOk result (λ t. Spells text.now t.dfa.nfa t.is_anchored t.is_filled) }
+    ensures size { IfOk result (λ t. 24 ≤ t.size) }
     ensures err { IfErr result (λ f. f ≢ Fault.NoRoom → f ≡ Fault.BadPattern) }
 {
     let Parsed { hir, names } = match regex_syntax::parse(alloc, text, &Config::default()) {
@@ -186,20 +203,42 @@ fn tables(alloc: Global, text: &str, limit: usize) -> Result<(Dfa, bool, bool), 
         return Err(Fault::BadPattern);
     }
     match compile(alloc, &hir, groups, limit) {
-        Ok(dfa) => Ok((dfa, is_anchored_start(&hir), hir.min_len() > 0)),
+        Ok((dfa, size)) => Ok(Built {
+            dfa,
+            is_anchored: is_anchored_start(&hir),
+            is_filled: hir.min_len() > 0,
+            size,
+        }),
         Err(refusal) => Err(fault_of_building(refusal)),
     }
 }
 
-fn compile(alloc: Global, hir: &Hir, groups: u32, limit: usize) -> Result<Dfa, Error>
-    ensures { IfOk result (λ dfa. Implements dfa.nfa (meaning hir.now)) }
+// The tables of the tree, in at most `limit` bytes, and what they are charged with: what they take, and no less than a
+// quarter of what it took to write them, since a part that reads nothing takes time and leaves no state. So small limits
+// are tried first.
+fn compile(alloc: Global, hir: &Hir, groups: u32, limit: usize) -> Result<(Dfa, usize), Error>
+    ensures tables { IfOk result (λ t. Implements t.0.nfa (meaning hir.now)) }
+    ensures size { IfOk result (λ t. 24 ≤ t.1) }
 {
-    let nfa = regex_compile::compile(alloc, hir, groups, limit)?;
-    Ok(Dfa::new(alloc, nfa)?)
+    let mut passed = 0;
+    for attempt in 0..8_u32 {
+        let tried = limit >> (14 - 2 * attempt);
+        match regex_compile::compile(alloc, hir, groups, tried) {
+            Ok(nfa) => {
+                let size = size_of_tables(&nfa).max(passed);
+                return Ok((Dfa::new(alloc, nfa)?, size));
+            }
+            Err(Error::TooBig) => passed = tried,
+            Err(refusal) => return Err(refusal),
+        }
+    }
+    Err(Error::TooBig)
 }
 
 fn fault_of_reading(refusal: ErrorKind) -> Fault
-    ensures { result ≢ Fault.NoRoom → result ≡ Fault.BadPattern }
+    ensures memory { refusal ≡ ErrorKind.OutOfMemory → result ≡ Fault.NoRoom }
+    ensures pattern { refusal ≢ ErrorKind.OutOfMemory → result ≡ Fault.BadPattern }
+    ensures either { result ≢ Fault.NoRoom → result ≡ Fault.BadPattern }
 {
     match refusal {
         ErrorKind::OutOfMemory => Fault::NoRoom,
@@ -208,7 +247,9 @@ fn fault_of_reading(refusal: ErrorKind) -> Fault
 }
 
 fn fault_of_building(refusal: Error) -> Fault
-    ensures { result ≢ Fault.NoRoom → result ≡ Fault.BadPattern }
+    ensures memory { refusal ≡ Error.OutOfMemory → result ≡ Fault.NoRoom }
+    ensures pattern { refusal ≢ Error.OutOfMemory → result ≡ Fault.BadPattern }
+    ensures either { result ≢ Fault.NoRoom → result ≡ Fault.BadPattern }
 {
     match refusal {
         Error::OutOfMemory => Fault::NoRoom,

@@ -89,9 +89,7 @@ impl Pattern {
         ensures err { IfErr result (λ f. f ≡ Fault.NoRoom) }
     {
         match self.machine.try_borrow_mut() {
-            Ok(mut machine) if machine.text() == self.text.as_str() => machine.is_match(
-                alloc, text,
-            ),
+            Ok(mut machine) if machine.text() == self.text() => machine.is_match(alloc, text),
             // Never: nothing else borrows the machine, and it is this pattern's.
             _ => Err(Fault::NoRoom),
         }

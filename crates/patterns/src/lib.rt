@@ -1,9 +1,9 @@
-//! Regular expressions and their searches, for the keywords `pattern` and `patternProperties`.
+//! Regular expressions, each with the machine that searches for it, for the keywords `pattern` and `patternProperties`.
 #![tactic(auto)]
 
+mod machine;
 mod pattern;
-mod searcher;
+mod whole_characters;
 
 pub use faults::Fault;
 pub use pattern::Pattern;
-pub use searcher::Searcher;

@@ -1,39 +1,41 @@
 //! Patterns that have been built.
 
-ghost use Rattle.std.specs.Prelude.{◌≡◌, ◌≢◌, true, IfOk, IfErr};
+ghost use Rattle.std.specs.Prelude.{◌≡◌, ◌≢◌, ◌≤◌, ◌-◌, true, IfOk, IfErr, OnOk, OnErr};
 ghost use Rattle.definitions.specs.Patterns.{is_read, has_match};
-ghost use Rattle.patterns.specs.Machines.{IsReadByDefault};
 ghost use Rattle.patterns.specs.Nesting.{NestsWithin};
-ghost use Rattle.regex.specs.Strings.{regex_source};
 
-use crate::searcher::Searcher;
+use crate::machine::Machine;
 use faults::Fault;
-use regex::{Error, Regex, RegexBuilder};
 use std::alloc::Global;
+use std::cell::RefCell;
 use std::marker::Model;
 
-/// About how many bytes a pattern may take once it is built. A copy of `\w`, which has the letters of all scripts, takes
-/// some 14,000: this is room for a thousand.
+/// How many bytes the tables of one pattern may take. A copy of `\w`, which has the letters of all scripts, takes some
+/// 14,000: this is room for a thousand.
 const SIZE_LIMIT: usize = 16 << 20;
 
-/// A regular expression that has been read and built (JSON Schema 2020-12 Core, section 6.4).
+/// A regular expression that has been read and built (JSON Schema 2020-12 Core, section 6.4), with the machine that
+/// searches for it. What a search learns about the pattern is kept for the next: the machine takes at most a constant
+/// times what the pattern's tables take.
 ///
 /// Contracts see its text, as bytes.
 #[derive(Drop)]
 pub struct Pattern {
-    regex: Regex,
+    text: String,
+    // Its machine stands for the same text. No clause says so of what is in a cell, so each search looks.
+    machine: RefCell<Machine>,
 }
 
 impl Model for Pattern {
+    ghost use Rattle.std.specs.Prelude.{◌≡◌, true, string_bytes};
     ghost use Rattle.definitions.specs.Values.{Text};
-    ghost use Rattle.regex.specs.Strings.{regex_source};
-    ghost use Rattle.patterns.specs.Machines.{IsReadByDefault};
+    ghost use Rattle.definitions.specs.Patterns.{is_read};
 
     ghost Value = { Text };
 
-    ghost view = { λ p. regex_source p.regex };
+    ghost view = { λ p. string_bytes p.text };
 
-    ghost invariant = { λ p. IsReadByDefault p.regex };
+    ghost invariant = { λ p. is_read (string_bytes p.text) ≡ true };
 }
 
 impl Pattern {
@@ -49,10 +51,27 @@ impl Pattern {
         ensures nested { IfOk result (λ p. NestsWithin 250 p) }
         ensures err { IfErr result (λ f. f ≢ Fault.NoRoom → f ≡ Fault.BadPattern) }
     {
-        match compile(alloc, source) {
-            Ok(regex) => Ok(Pattern { regex }),
-            Err(refusal) => Err(fault_of(refusal)),
-        }
+        let mut room = SIZE_LIMIT;
+        Pattern::build_within(alloc, source, &mut room)
+    }
+
+    /// The same, for one of several patterns that share a room of so many bytes. What this one takes is taken from the
+    /// room; a pattern that takes more than there is left is [`Fault::BadPattern`] too, and leaves the room as it was.
+    pub fn build_within(alloc: Global, source: &str, room: &mut usize) -> Result<Pattern, Fault>
+        ensures ok { IfOk result (λ p. p ≡ source.now) }
+        ensures read { IfOk result (λ p. is_read p ≡ true) }
+        ensures nested { IfOk result (λ p. NestsWithin 250 p) }
+        ensures spent { OnOk result (room.new ≤ room.old - 24) }
+        ensures unspent { OnErr result (room.new ≡ room.old) }
+        ensures err { IfErr result (λ f. f ≢ Fault.NoRoom → f ≡ Fault.BadPattern) }
+    {
+        let (machine, size) = Machine::build(alloc, source, SIZE_LIMIT.min(*room))?;
+        let text = String::from_str(alloc, source)?;
+        *room = room.saturating_sub(size);
+        Ok(Pattern {
+            text,
+            machine: RefCell::new(machine),
+        })
     }
 
     /// The text that the pattern was built from.
@@ -60,45 +79,19 @@ impl Pattern {
         ensures text { result.now ≡ self.now }
         ensures read { is_read self.now ≡ true }
     {
-        self.regex.as_str()
+        self.text.as_str()
     }
 
     /// Whether the pattern matches somewhere in the text (Validation, section 6.3.3): where a match must begin or end, the
-    /// pattern says so by `^` and `$`.
-    ///
-    /// Each call makes a searcher, which takes far longer than a short search: for many texts keep one.
+    /// pattern says so by `^` and `$`. The only error is want of memory.
     pub fn matches(&self, alloc: Global, text: &str) -> Result<bool, Fault>
         ensures ok { IfOk result (λ found. found ≡ has_match self.now text.now) }
         ensures err { IfErr result (λ f. f ≡ Fault.NoRoom) }
     {
-        Ok(self.searcher(alloc)?.is_match(text))
-    }
-
-    /// What searches for this pattern.
-    pub fn searcher(&self, alloc: Global) -> Result<Searcher<'_>, Fault>
-        ensures ok { IfOk result (λ s. s ≡ self.now) }
-        ensures err { IfErr result (λ f. f ≡ Fault.NoRoom) }
-    {
-        let matcher = self.regex.matcher(alloc)?;
-        Ok(Searcher::new(self.text(), matcher))
-    }
-}
-
-fn compile(alloc: Global, source: &str) -> Result<Regex, Error>
-    ensures source { IfOk result (λ r. regex_source r ≡ source.now) }
-    ensures read { IfOk result IsReadByDefault }
-{
-    RegexBuilder::new(source)
-        .size_limit(SIZE_LIMIT)
-        .build(alloc)
-}
-
-fn fault_of(refusal: Error) -> Fault
-    ensures memory { refusal ≡ Error.OutOfMemory → result ≡ Fault.NoRoom }
-    ensures pattern { refusal ≢ Error.OutOfMemory → result ≡ Fault.BadPattern }
-{
-    match refusal {
-        Error::OutOfMemory => Fault::NoRoom,
-        Error::Syntax(_) | Error::CompiledTooBig | Error::Internal => Fault::BadPattern,
+        match self.machine.try_borrow_mut() {
+            Ok(mut machine) if machine.text() == self.text() => machine.is_match(alloc, text),
+            // Never: nothing else borrows the machine, and it is this pattern's.
+            _ => Err(Fault::NoRoom),
+        }
     }
 }

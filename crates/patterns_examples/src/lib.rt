@@ -1,0 +1,7 @@
+//! Patterns and their matches, on texts: tests alone, for the crate `patterns`.
+#![tactic(auto)]
+
+#[cfg(test)]
+mod machines;
+#[cfg(test)]
+mod sizes;

@@ -185,6 +185,41 @@ def patterns():
     return schema, [item] * 500
 
 
+def contact():
+    """A contact of eight members, five of which are searched for a pattern."""
+    schema = {
+        "type": "object",
+        "required": ["id", "name", "mail"],
+        "properties": {
+            "id": {"type": "string", "pattern": "^[0-9a-f]{8}(-[0-9a-f]{4}){3}-[0-9a-f]{12}$"},
+            "name": {"type": "string", "pattern": "^[A-Z][a-z]+( [A-Z][a-z]+)*$"},
+            "mail": {"type": "string", "pattern": "^[^@ ]+@[a-z0-9.-]+\\.[a-z]{2,}$"},
+            "born": {"type": "string", "pattern": "^[0-9]{4}-[0-9]{2}-[0-9]{2}$"},
+            "page": {"type": "string", "pattern": "^https?://[a-z0-9.-]+(/[A-Za-z0-9._~-]*)*$"},
+            "town": {"type": "string"},
+            "rank": {"type": "integer"},
+            "open": {"type": "boolean"},
+        },
+    }
+    instance = {
+        "id": "5f0c2a4e-9d3b-4c61-8f7a-2b1e6d90c354",
+        "name": "Ada King Lovelace",
+        "mail": "ada.lovelace@example.com",
+        "born": "1815-12-10",
+        "page": "https://example.com/people/ada-lovelace",
+        "town": "London",
+        "rank": 1,
+        "open": True,
+    }
+    return schema, instance
+
+
+def many_patterns(count):
+    """So many patterns, for each of which one text is searched."""
+    schema = {"properties": {f"m{number}": {"pattern": f"^[a-z]{{2}}-{number}$"} for number in range(count)}}
+    return schema, {f"m{number}": f"ab-{number}" for number in range(count)}
+
+
 def elements():
     """As many elements as may be applied to."""
     return {"items": True}, [0] * 99_999
@@ -206,6 +241,8 @@ WORKLOADS = {
     "references": references,
     "unevaluated": unevaluated,
     "patterns": patterns,
+    "contact": contact,
+    "2,000 patterns": lambda: many_patterns(2_000),
     "99,999 elements": elements,
     "failing": lambda: failing(2_000),
 }
@@ -265,11 +302,11 @@ class Bench:
         return int(found[1]) if found else None
 
     def instructions(self, part, file):
-        """The instructions of one turn, where they can be counted."""
+        """The instructions of one turn after the first, where they can be counted."""
         if not self.valgrind:
             return None
-        none, two = self.counted(part, file, 0), self.counted(part, file, 2)
-        return None if none is None or two is None else (two - none) / 2
+        one, three = self.counted(part, file, 1), self.counted(part, file, 3)
+        return None if one is None or three is None else (three - one) / 2
 
     def measure(self, make):
         schema, instance = make()

@@ -16,16 +16,15 @@ use applications::Context;
 use basic_output::Says;
 use faults::Fault;
 use json_doc::Doc;
-use keyword_plans::{Chosen, Keyword, Planned, Searches, Site, Subject, Tally, passes, plan};
+use keyword_plans::{Chosen, Keyword, Planned, Site, Subject, Tally, passes, plan};
 use linker::Linked;
 use std::alloc::Global;
 
-/// An evaluation under way: the linked documents, the searches for their patterns, where it stands, and what it noted.
+/// An evaluation under way: the linked documents, where it stands, and what it noted.
 #[derive(Drop)]
 pub(crate) struct Evaluation<'a> {
     pub(crate) alloc: Global,
     pub(crate) linked: &'a Linked,
-    pub(crate) searches: Searches<'a>,
     pub(crate) context: Context<'a>,
     pub(crate) log: Log<'a>,
 }
@@ -603,7 +602,6 @@ impl<'a> Evaluation<'a> {
         plan(
             self.alloc,
             site,
-            &mut self.searches,
             keyword,
             keyword_value,
             beside.condition,
@@ -690,7 +688,6 @@ impl<'a> Evaluation<'a> {
         passes(
             self.alloc,
             site,
-            &mut self.searches,
             keyword,
             keyword_value,
             tally,

@@ -20,7 +20,7 @@ use applications::Context;
 use basic_output::output_text;
 use faults::Fault;
 use json_doc::Doc;
-use keyword_plans::{Searches, Subject};
+use keyword_plans::Subject;
 use linker::Linked;
 use std::alloc::Global;
 
@@ -81,7 +81,6 @@ pub fn evaluate<'a>(alloc: Global, linked: &'a Linked, instance: &'a Doc) -> Res
     let mut evaluation = Evaluation {
         alloc,
         linked,
-        searches: Searches::new(alloc),
         context,
         log: Log::new(alloc),
     };

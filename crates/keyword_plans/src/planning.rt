@@ -25,7 +25,6 @@ use crate::planning::members::{plan_names, plan_properties};
 use crate::planning::others::plan_others;
 use crate::planning::references::{plan_dynamic_reference, plan_reference};
 use crate::planning::unevaluated::{plan_unevaluated_items, plan_unevaluated_properties};
-use crate::searches::Searches;
 use crate::site::{Evaluated, Site};
 use faults::Fault;
 use json_doc::Doc;
@@ -38,7 +37,6 @@ use std::alloc::Global;
 pub fn plan<'a>(
     alloc: Global,
     site: Site<'_, 'a>,
-    searches: &mut Searches<'a>,
     keyword: Keyword,
     keyword_value: &'a Doc,
     condition: Option<bool>,
@@ -75,8 +73,8 @@ pub fn plan<'a>(
         Keyword::MinContains => Ok(Vec::new(alloc)),
         Keyword::MaxContains => Ok(Vec::new(alloc)),
         Keyword::Properties => Ok(plan_properties(alloc, keyword_value, subject)?),
-        Keyword::PatternProperties => plan_patterns(alloc, site, searches, keyword_value),
-        Keyword::AdditionalProperties => plan_others(alloc, site, searches, keyword_value),
+        Keyword::PatternProperties => plan_patterns(alloc, site, keyword_value),
+        Keyword::AdditionalProperties => plan_others(alloc, site, keyword_value),
         Keyword::PropertyNames => Ok(plan_names(alloc, keyword_value, subject)?),
         Keyword::UnevaluatedItems => Ok(plan_unevaluated_items(
             alloc,

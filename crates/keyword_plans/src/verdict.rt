@@ -15,7 +15,7 @@ ghost use Rattle.keyword_plans.specs.Sites.{Shows, linked_rules};
 ghost use Rattle.keyword_plans.specs.Subjects.{subject_value};
 
 use crate::keyword::Keyword;
-use crate::searches::Searches;
+use crate::searching::is_match;
 use crate::site::Site;
 use crate::subject::Subject;
 use assertions::{Keyword as Assertion, holds};
@@ -40,7 +40,6 @@ pub struct Tally {
 pub fn passes<'a>(
     alloc: Global,
     site: Site<'_, 'a>,
-    searches: &mut Searches<'a>,
     keyword: Keyword,
     keyword_value: &'a Doc,
     tally: Tally,
@@ -56,7 +55,7 @@ pub fn passes<'a>(
 {
     match keyword {
         Keyword::Asserts(assertion) => Ok(holds_of(alloc, assertion, keyword_value, site.subject)?),
-        Keyword::Pattern => is_pattern_met(alloc, site, searches, keyword_value),
+        Keyword::Pattern => is_pattern_met(alloc, site, keyword_value),
         Keyword::Ref => Ok(tally.passing == 1),
         Keyword::DynamicRef => Ok(tally.passing == 1),
         Keyword::AllOf => Ok(tally.passing == tally.applied),
@@ -123,19 +122,14 @@ fn is_unique_if(alloc: Global, asked: &Doc, instance: &Doc) -> Result<bool, Allo
 }
 
 // Whether the pattern matches the subject, where it is a string (Validation, 6.3.3).
-fn is_pattern_met<'a>(
-    alloc: Global,
-    site: Site<'_, 'a>,
-    searches: &mut Searches<'a>,
-    pattern: &Doc,
-) -> Result<bool, Fault>
+fn is_pattern_met(alloc: Global, site: Site<'_, '_>, pattern: &Doc) -> Result<bool, Fault>
     ensures ok { (a : Application) → Shows site.entry a → get (codes "pattern") a.schema.value ≡ Some (value pattern.now)
         → IfOk result (λ b. b ≡ pattern_holds has_match (value pattern.now) a.instance) }
     ensures err { IfErr result (λ f. f ≡ Fault.NoRoom) }
 {
     match pattern.as_str() {
         Some(pattern) => match site.subject.as_str() {
-            Some(text) => searches.is_match(alloc, site.linked, pattern, text),
+            Some(text) => is_match(alloc, site.linked, pattern, text),
             None => Ok(true),
         },
         None => Ok(true),

@@ -2,6 +2,10 @@
 #![tactic(auto)]
 
 #[cfg(test)]
+mod machines;
+#[cfg(test)]
 mod matching;
 #[cfg(test)]
 mod refusals;
+#[cfg(test)]
+mod sizes;

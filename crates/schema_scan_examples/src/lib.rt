@@ -5,6 +5,8 @@
 #[cfg(test)]
 mod documents;
 #[cfg(test)]
+mod pattern_room;
+#[cfg(test)]
 mod pattern_tables;
 #[cfg(test)]
 mod pointers;

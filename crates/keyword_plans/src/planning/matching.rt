@@ -12,7 +12,7 @@ ghost use Rattle.keyword_plans.specs.Plans.{planned_view};
 ghost use Rattle.keyword_plans.specs.Sites.{Shows};
 
 use crate::planned::{Chosen, Part, Planned};
-use crate::searches::Searches;
+use crate::searching::is_match;
 use crate::site::Site;
 use crate::subject::{Subject, members_of};
 use faults::Fault;
@@ -25,7 +25,6 @@ use std::alloc::Global;
 pub(crate) fn plan_patterns<'a>(
     alloc: Global,
     site: Site<'_, 'a>,
-    searches: &mut Searches<'a>,
     schemas: &'a Doc,
 ) -> Result<Vec<Planned<'a>>, Fault>
     ensures ok { (a : Application) (k : Text) → Shows site.entry a → get (codes "patternProperties") a.schema.value ≡ Some (value schemas.now)
@@ -34,7 +33,7 @@ pub(crate) fn plan_patterns<'a>(
 {
     match members_of(schemas) {
         Some(patterns) => match site.subject.members() {
-            Some(members) => plan_matched(alloc, site.linked, searches, patterns, members),
+            Some(members) => plan_matched(alloc, site.linked, patterns, members),
             None => Ok(Vec::new(alloc)),
         },
         None => Ok(Vec::new(alloc)),
@@ -43,8 +42,7 @@ pub(crate) fn plan_patterns<'a>(
 
 fn plan_matched<'a>(
     alloc: Global,
-    linked: &'a Linked,
-    searches: &mut Searches<'a>,
+    linked: &Linked,
     patterns: &'a Members,
     members: &'a Members,
 ) -> Result<Vec<Planned<'a>>, Fault>
@@ -54,23 +52,14 @@ fn plan_matched<'a>(
 {
     let mut planned = Vec::new(alloc);
     for (name, member) in members.iter() {
-        push_matches(
-            alloc,
-            linked,
-            searches,
-            patterns,
-            name,
-            member,
-            &mut planned,
-        )?;
+        push_matches(alloc, linked, patterns, name, member, &mut planned)?;
     }
     Ok(planned)
 }
 
 fn push_matches<'a>(
     alloc: Global,
-    linked: &'a Linked,
-    searches: &mut Searches<'a>,
+    linked: &Linked,
     patterns: &'a Members,
     name: &'a str,
     member: &'a Doc,
@@ -81,7 +70,7 @@ fn push_matches<'a>(
     ensures err { IfErr result (λ f. f ≡ Fault.NoRoom) }
 {
     for (pattern, schema) in patterns.iter() {
-        if searches.is_match(alloc, linked, pattern, name)? {
+        if is_match(alloc, linked, pattern, name)? {
             planned.push(Planned {
                 chosen: Chosen::Below(Some(Step::Name(pattern)), schema),
                 part: Part::Member(name),
@@ -93,10 +82,9 @@ fn push_matches<'a>(
 }
 
 /// Whether one of the patterns matches the name.
-pub(crate) fn is_matched<'a>(
+pub(crate) fn is_matched(
     alloc: Global,
-    linked: &'a Linked,
-    searches: &mut Searches<'a>,
+    linked: &Linked,
     patterns: &Members,
     name: &str,
 ) -> Result<bool, Fault>
@@ -105,7 +93,7 @@ pub(crate) fn is_matched<'a>(
     ensures err { IfErr result (λ f. f ≡ Fault.NoRoom) }
 {
     for (pattern, _) in patterns.iter() {
-        if searches.is_match(alloc, linked, pattern, name)? {
+        if is_match(alloc, linked, pattern, name)? {
             return Ok(true);
         }
     }

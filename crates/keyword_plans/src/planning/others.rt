@@ -14,7 +14,6 @@ ghost use Rattle.keyword_plans.specs.Sites.{Shows, linked_rules};
 
 use crate::planned::{Chosen, Part, Planned};
 use crate::planning::matching::is_matched;
-use crate::searches::Searches;
 use crate::site::Site;
 use crate::subject::{Subject, members_of};
 use faults::Fault;
@@ -35,7 +34,6 @@ struct Beside<'a> {
 pub(crate) fn plan_others<'a>(
     alloc: Global,
     site: Site<'_, 'a>,
-    searches: &mut Searches<'a>,
     schema: &'a Doc,
 ) -> Result<Vec<Planned<'a>>, Fault>
     ensures ok { (a : Application) (k : Text) → Shows site.entry a
@@ -43,7 +41,7 @@ pub(crate) fn plan_others<'a>(
     ensures err { IfErr result (λ f. f ≡ Fault.NoRoom) }
 {
     match site.subject.members() {
-        Some(members) => plan_untaken(alloc, keywords_beside(site), searches, schema, members),
+        Some(members) => plan_untaken(alloc, keywords_beside(site), schema, members),
         None => Ok(Vec::new(alloc)),
     }
 }
@@ -71,7 +69,6 @@ fn members_beside<'a>(schema: &'a Doc, keyword: &str) -> Option<&'a Members>
 fn plan_untaken<'a>(
     alloc: Global,
     beside: Beside<'a>,
-    searches: &mut Searches<'a>,
     schema: &'a Doc,
     members: &'a Members,
 ) -> Result<Vec<Planned<'a>>, Fault>
@@ -81,7 +78,7 @@ fn plan_untaken<'a>(
 {
     let mut planned = Vec::new(alloc);
     for (name, member) in members.iter() {
-        if !is_taken(alloc, beside, searches, name)? {
+        if !is_taken(alloc, beside, name)? {
             planned.push(Planned {
                 chosen: Chosen::Below(None, schema),
                 part: Part::Member(name),
@@ -93,12 +90,7 @@ fn plan_untaken<'a>(
 }
 
 // Whether a keyword beside takes the member of this name.
-fn is_taken<'a>(
-    alloc: Global,
-    beside: Beside<'a>,
-    searches: &mut Searches<'a>,
-    name: &str,
-) -> Result<bool, Fault>
+fn is_taken(alloc: Global, beside: Beside<'_>, name: &str) -> Result<bool, Fault>
     ensures ok { (a : Application) → StandsBeside beside.entry a → IfOk result (λ b. b ≡ is_taken (linked_rules beside.entry.linked.now) a name.now) }
     ensures err { IfErr result (λ f. f ≡ Fault.NoRoom) }
 {
@@ -106,7 +98,7 @@ fn is_taken<'a>(
         return Ok(true);
     }
     match beside.patterns {
-        Some(patterns) => is_matched(alloc, beside.linked, searches, patterns, name),
+        Some(patterns) => is_matched(alloc, beside.linked, patterns, name),
         None => Ok(false),
     }
 }

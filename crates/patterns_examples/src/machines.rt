@@ -1,0 +1,51 @@
+//! Searches on machines that other searches have used.
+
+use patterns::Pattern;
+use std::test::Fail;
+
+// Where each of these patterns matches: in an empty text, within words, at an end of a line, in what isn't ASCII.
+#[test]
+fn odd_patterns_match_again_and_again(rt: HostRuntime) -> Result<(), Fail> {
+    let texts = ["", "a", "é", "aé b", "a\nb"];
+    for (source, matches) in [
+        ("$", [true, true, true, true, true]),
+        ("^$", [true, false, false, false, false]),
+        ("(?m)^b", [false, false, false, false, true]),
+        (r"\B", [true, false, false, true, false]),
+        (r"\bb", [false, false, false, true, true]),
+        ("(é|)$", [true, true, true, true, true]),
+        ("é$", [false, false, true, false, false]),
+        ("^.$", [false, true, true, false, false]),
+        ("[^a]", [false, false, true, true, true]),
+    ] {
+        let pattern = Pattern::build(rt.alloc(), source)?;
+        for _ in 0..3 {
+            for (text, is_match) in texts.iter().zip(matches.iter()) {
+                assert_eq!(rt;
+                    pattern.matches(rt.alloc(), text)?,
+                    *is_match,
+                    "{source}, {text}"
+                );
+            }
+        }
+    }
+    Ok(())
+}
+
+// The table of this pattern has a row for each of the last eleven letters' orders.
+#[test]
+fn a_table_that_grows_too_large_gives_way(rt: HostRuntime) -> Result<(), Fail> {
+    let pattern = Pattern::build(rt.alloc(), "^(a|b)*a(a|b){10}$")?;
+    let mut text = String::new(rt.alloc());
+    let mut seed = 1_u32;
+    let mut letters = 0_u32;
+    for _ in 0..2_000 {
+        seed = seed.wrapping_mul(1_103_515_245).wrapping_add(12_345);
+        let is_a = seed & 0x1_0000 != 0;
+        text.push(if is_a { 'a' } else { 'b' })?;
+        letters = (letters << 1) & 0x7FF | is_a as u32;
+        let eleventh = text.len() > 10 && letters & 0x400 != 0;
+        assert_eq!(rt; pattern.matches(rt.alloc(), text.as_str())?, eleventh);
+    }
+    Ok(())
+}

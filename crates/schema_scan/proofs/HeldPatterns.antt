@@ -1,5 +1,6 @@
 -- Patterns by their texts, where one more is put in.
 use Rattle.std.proofs.Common.{◌≡◌, ℕ, ◌<◌, ◌+◌, List, [], ◌∷◌, ◌++◌, map, take, length, get_or, Bool, true, false, cond, ◌||◌, ◌&&◌, Option, Some, None, is_some, Result, Ok, Err, OnOk, OnErr, Bor, String, Global, string_bytes, string_cmp, nat_cmp, refl, sym, ap, ◌∙◌, IfSome}
+use Rattle.std.proofs.lemmas.Bool.{and_parts, and_from, or_right}
 use Rattle.std.proofs.lemmas.List.{map_more}
 use Rattle.std.proofs.lemmas.Map.Text.{btree_map_updates_text}
 use Rattle.std.proofs.lemmas.Slice.Eq.{bytes_eq-Decides}
@@ -10,10 +11,8 @@ use Rattle.std.specs.List.{list_all}
 use Rattle.std.specs.Option.{option_copied}
 use Rattle.definitions.specs.Patterns.{is_read}
 use Rattle.definitions.specs.Values.{Text, same_text}
+use Rattle.lemmas.proofs.Texts.{same_text_is}
 use Rattle.schema_scan.specs.BuiltPatterns.{OwnTexts}
-
-same_text_is : (t u : Text) → same_text t u ≡ true → t ≡ u
-same_text_is t u = (bytes_eq-Decides t u).0
 
 abbrev Patterns : Type 0
 Patterns = BTreeMap (String Global) Text
@@ -64,29 +63,13 @@ module _ (m n : Patterns) (text built : Text) where
       by false = refl
 
 -- ---- of all texts so far
-and-first : (a b : Bool) → (a && b) ≡ true → a ≡ true
-and-first true b h = refl
-and-first false b h = h
-
-and-second : (a b : Bool) → (a && b) ≡ true → b ≡ true
-and-second true b h = h
-and-second false b h = cc
-
-and-both : (a b : Bool) → a ≡ true → b ≡ true → (a && b) ≡ true
-and-both true b h g = g
-and-both false b h g = cc
-
 all-more : (p q : Text → Bool) → ((t : Text) → p t ≡ true → q t ≡ true) → (ts : List Text) → list_all p ts ≡ true → list_all q ts ≡ true
 all-more p q f [] h = refl
-all-more p q f (t ∷ ts) h = and-both (q t) (list_all q ts) (f t (and-first (p t) (list_all p ts) h)) (all-more p q f ts (and-second (p t) (list_all p ts) h))
+all-more p q f (t ∷ ts) h = and_from (q t) (list_all q ts) (f t (and_parts (p t) (list_all p ts) h).0) (all-more p q f ts (and_parts (p t) (list_all p ts) h).1)
 
 all-push : (p : Text → Bool) (ts : List Text) (t : Text) → list_all p ts ≡ true → p t ≡ true → list_all p (ts ++ t ∷ []) ≡ true
-all-push p [] t h g = and-both (p t) true g refl
-all-push p (u ∷ ts) t h g = and-both (p u) (list_all p (ts ++ t ∷ [])) (and-first (p u) (list_all p ts) h) (all-push p ts t (and-second (p u) (list_all p ts) h) g)
-
-or-second : (a b : Bool) → b ≡ true → (a || b) ≡ true
-or-second true b h = refl
-or-second false b h = h
+all-push p [] t h g = and_from (p t) true g refl
+all-push p (u ∷ ts) t h g = and_from (p u) (list_all p (ts ++ t ∷ [])) (and_parts (p u) (list_all p ts) h).0 (all-push p ts t (and_parts (p u) (list_all p ts) h).1 g)
 
 -- the texts of references, the first ones of a list
 abbrev pub first_texts : ℕ → List (Bor Text) → List Text
@@ -101,5 +84,5 @@ module _ (rs : List (Bor Text)) (i : ℕ) (r : Bor Text) (h : i < length rs) whe
       let text = (get_or rs i r).now in
       ap (list_all q) (map_more (λ (t : Bor Text). t.now) rs i r h)
       ∙ all-push q (first_texts i rs) text
-      (all-more p q (λ t e. grows t ∙ or-second (same_text text t) (p t) e) (first_texts i rs) before)
+      (all-more p q (λ t e. grows t ∙ or_right (same_text text t) (p t) e) (first_texts i rs) before)
       (grows text ∙ ap (λ b. b || p text) ((bytes_eq-Decides text text).1 refl))

@@ -39,7 +39,7 @@ fn a_table_that_grows_too_large_gives_way(rt: HostRuntime) -> Result<(), Fail> {
     let mut text = String::new(rt.alloc());
     let mut seed = 1_u32;
     let mut letters = 0_u32;
-    for _ in 0..2_000 {
+    for _ in 0..200 {
         seed = seed.wrapping_mul(1_103_515_245).wrapping_add(12_345);
         let is_a = seed & 0x1_0000 != 0;
         text.push(if is_a { 'a' } else { 'b' })?;

@@ -11,7 +11,7 @@ fn left(alloc: Global, text: &str, room: usize) -> Result<usize, Fault> {
     Ok(left)
 }
 
-// Each copy of `\w` takes 14,216 bytes, so that some 1,175 of them take 16 MiB.
+// Each copy of `\w` takes some 14,200 bytes, so that 16 MiB are reached between 1,170 and 1,181 of them.
 #[test]
 fn a_pattern_just_below_the_limit_is_built(rt: HostRuntime) -> Result<(), Fail> {
     assert!(rt; Pattern::build(rt.alloc(), r"\w{1170}").is_ok());

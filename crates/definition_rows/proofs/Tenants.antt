@@ -1,6 +1,6 @@
 -- Tenants: their file, what a new server is refused for, and replies by key.
 use Rattle.std.proofs.Common.{◌≡◌, refl}
-use Rattle.std.specs.Prelude.{[], ◌∷◌, ◌++◌, codes, false, Some, None, Ok, Err}
+use Rattle.std.specs.Prelude.{[], ◌∷◌, codes, false, Some, None, Ok, Err}
 use Rattle.std.specs.Fmt.{digits}
 use Rattle.std.specs.Str.{is_utf8, chars}
 use Rattle.serde_json.proofs.OnLiterals.{serde_json_on_literals}

@@ -33,7 +33,7 @@ other uri d h = false_from_ne_true (same_text uri d.canonical) (λ e. h ((bytes_
 pub is_unequal : (uri : Text) (d : Document) → IsOther uri d → uri ≡ d.canonical → ⊥
 is_unequal uri d h e = true≢false (sym ((bytes_decides uri d.canonical).1 e) ∙ h)
 
-tie_at : (t u : Text) → t ≡ u → slice_cmp nat_cmp t u ≡ Equal
+pub tie_at : (t u : Text) → t ≡ u → slice_cmp nat_cmp t u ≡ Equal
 tie_at t u e = ap (slice_cmp nat_cmp t) (sym e) ∙ tied_itself nat_list_cmp_total t
 
 -- among documents none of which has the URI

@@ -9,7 +9,7 @@ use Rattle.definitions.specs.Texts.{text}
 use Rattle.definitions.specs.Resolution.{base_form}
 use Rattle.definitions.specs.Schemas.{Document, document_from}
 use Rattle.definitions.specs.Bundles.{others_of}
-use Rattle.definitions.specs.Registries.{Search, Registry, documents_seen, is_in_library, joined, Request, Reply, put_refusal, body_value, placed, bytes_of}
+use Rattle.definitions.specs.Registries.{Search, Registry, documents_seen, is_in_library, Request, Reply, put_refusal, body_value, placed, bytes_of}
 use Rattle.definitions.specs.Batches.{Entry, Numbered, batch_entries, entry_documents, placed_all, batch_refusal, library_from, library_by, library_of}
 use Rattle.definitions.specs.Steps.{step}
 use Rattle.definitions.specs.Runs.{Course, AreKept, IsKept}
@@ -19,23 +19,11 @@ use Rattle.definition_laws.proofs.Membership.{nothing_in, from_filter, filter_sh
 use Rattle.definition_laws.proofs.Steps.{IsKeptByChanges, step_keeps, course_keeps}
 use Rattle.definition_laws.proofs.PlacedDocuments.{from_placed}
 use Rattle.definition_laws.proofs.AcceptedDocuments.{accepted, free_of_others}
-use Rattle.definition_laws.proofs.JoinedDocuments.{ascend_placed, ascend_part, ascend_all, joined_placed, joined_without, joined_alone, joined_all, from_all}
+use Rattle.definition_laws.proofs.JoinedDocuments.{ascend_placed, ascend_part, ascend_all, joined_alone, from_all}
+use Rattle.definition_laws.proofs.SeenDocuments.{puts, deletes, batches}
 use Rattle.definition_laws.proofs.KeptDocuments.{part_kept, added_kept, batch_kept, none_kept}
 use Rattle.definition_laws.proofs.AcceptedBatches.{AreFree, entered, granted, library_free}
 use Rattle.definition_laws.proofs.BatchValues.{body_formed, entry_formed}
-
--- ---- the documents that are seen after a change
-module _ (search : Search) (g : Registry) where
-  seen_put : (d : Document) → put_refusal search g d (placed d g.documents) ≡ None
-      → documents_seen (record g { documents = placed d g.documents }) ≡ placed d (documents_seen g)
-  seen_put d none = joined_placed g.library d g.documents (accepted search g d (placed d g.documents) none).unowned
-
-  seen_delete : (b : Text) → is_in_library g b ≡ false → IsKept search g → documents_seen (record g { documents = others_of b g.documents }) ≡ others_of b (documents_seen g)
-  seen_delete b unowned kept = joined_without g.library g.documents b unowned kept.ordered
-
-  seen_batch : (ds : List Document) → batch_refusal g ds (placed_all ds g.documents) ≡ None
-      → documents_seen (record g { documents = placed_all ds g.documents }) ≡ placed_all ds (documents_seen g)
-  seen_batch ds none = joined_all g.library ds g.documents (granted g ds (placed_all ds g.documents) none).unowned
 
 -- ---- a document that is put
 put_kept : (search : Search) (g : Registry) (b : Text) (v : Value) → IsKept search g → put_refusal search g (document_from b v) (placed (document_from b v) g.documents) ≡ None
@@ -51,7 +39,7 @@ put_kept search g b v kept none =
         | inl itself ↦ subst (λ (x : Document). is_in_library g x.canonical ≡ false) itself fine.unowned
         | inr other ↦ kept.apart e other
       ];
-      seen = subst (AreKept search) (sym (seen_put search g d none))
+      seen = subst (AreKept search) (sym (puts g d fine.unowned))
           (added_kept search d (documents_seen g) kept.seen (record { named = refl; scanned = fine.scanned; regular = fine.regular })
           (λ e c other. free_of_others (documents_seen g) d e fine.free c other));
     }
@@ -71,7 +59,7 @@ delete_kept search g b kept unowned =
       few = omega (arith, kept.few, filter_short others g.documents);
       small = omega (arith, kept.small, fewer_bytes others g.documents);
       apart = λ d c. kept.apart d (from_filter others d g.documents c).0;
-      seen = subst (AreKept search) (sym (seen_delete search g b unowned kept)) (part_kept search others (documents_seen g) kept.seen);
+      seen = subst (AreKept search) (sym (deletes search g b kept unowned)) (part_kept search others (documents_seen g) kept.seen);
     }
 
 -- ---- several documents
@@ -88,9 +76,9 @@ all_put_kept search g es ds kept made none =
         | inl new ↦ fine.unowned d new
         | inr old ↦ kept.apart d old
       ];
-      seen = subst (AreKept search) (sym (seen_batch search g ds none))
+      seen = subst (AreKept search) (sym (batches g ds fine.unowned))
           (batch_kept search ds (documents_seen g) kept.seen (λ d c. (entered search 0 es ds made d c).fine)
-          (subst (λ all. AreFree all ds) (seen_batch search g ds none) fine.free).free fine.free.once);
+          (subst (λ all. AreFree all ds) (batches g ds fine.unowned) fine.free).free fine.free.once);
     }
 
 -- ---- every request
@@ -117,13 +105,13 @@ module _ (P : Document → Type 0) where
   step_have search g q kept held one all =
       step_keeps (λ h. Have (documents_seen h)) search g held (record {
         by_put = λ uri b body v is_base was_read none d c.
-            elim (from_placed (document_from b v) d (documents_seen g) (subst (λ ds. Contains ds d) (seen_put search g (document_from b v) none) c)) [
+            elim (from_placed (document_from b v) d (documents_seen g) (subst (λ ds. Contains ds d) (puts g (document_from b v) (accepted search g (document_from b v) _ none).unowned) c)) [
               | inl itself ↦ subst P itself (one uri b body v is_base was_read)
               | inr other ↦ held d other
             ];
         by_delete = λ b unowned d c.
-            held d (from_filter (λ x. not (same_text b x.canonical)) d (documents_seen g) (subst (λ ds. Contains ds d) (seen_delete search g b unowned kept) c)).0;
-        by_batch = λ bytes es ds read made none d c. elim (from_all ds (documents_seen g) d (subst (λ xs. Contains xs d) (seen_batch search g ds none) c)) [
+            held d (from_filter (λ x. not (same_text b x.canonical)) d (documents_seen g) (subst (λ ds. Contains ds d) (deletes search g b kept unowned) c)).0;
+        by_batch = λ bytes es ds read made none d c. elim (from_all ds (documents_seen g) d (subst (λ xs. Contains xs d) (batches g ds (granted g ds (placed_all ds g.documents) none).unowned) c)) [
           | inl new ↦ all bytes es ds read made d new
           | inr old ↦ held d old
         ];

@@ -23,6 +23,7 @@ pub mod Replacing
 pub mod PlacedDocuments
 pub mod AcceptedDocuments
 pub mod JoinedDocuments
+pub mod SeenDocuments
 pub mod KeptDocuments
 pub mod AcceptedBatches
 pub mod StringContents
@@ -47,3 +48,5 @@ pub mod BundledValues
 pub mod DistinctDocuments
 pub mod AppliedSchemas
 pub mod Reports
+pub mod TenantCourses
+pub mod Answering

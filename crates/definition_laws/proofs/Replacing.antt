@@ -7,7 +7,7 @@ use Rattle.definition_laws.proofs.Membership.{is_first, is_later, first_or_later
 use Rattle.definition_laws.proofs.Placing.{inserted, tail_ascending, first_below}
 
 -- where all pass nothing is left out
-all_kept : {X : Type 0} (p : X → Bool) (xs : List X) → ((x : X) → Contains xs x → p x ≡ true) → filter p xs ≡ xs
+pub all_kept : {X : Type 0} (p : X → Bool) (xs : List X) → ((x : X) → Contains xs x → p x ≡ true) → filter p xs ≡ xs
 all_kept p [] h = refl
 all_kept p (x ∷ xs) h = rw (h x (is_first x xs), all_kept p xs (λ y c. h y (is_later x y xs c))) refl
 
@@ -46,7 +46,7 @@ module _ {X K : Type 0} (cmp : K → K → Ordering) (order : IsTotalOrder cmp) 
   in_front x [] h = refl
   in_front x (z ∷ zs) h = rw (h z (is_first z zs)) refl
 
-  below_all : (x z : X) (zs : List X) → IsStrictlySortedBy cmp (map key (z ∷ zs)) → cmp (key x) (key z) ≡ Less → (y : X) → Contains (z ∷ zs) y → cmp (key x) (key y) ≡ Less
+  pub below_all : (x z : X) (zs : List X) → IsStrictlySortedBy cmp (map key (z ∷ zs)) → cmp (key x) (key z) ≡ Less → (y : X) → Contains (z ∷ zs) y → cmp (key x) (key y) ≡ Less
   below_all x z zs sorted e y c = elim (first_or_later z y zs c) [
     | inl same ↦ ap (λ w. cmp (key x) (key w)) (sym same) ∙ e
     | inr later ↦ order.trans (key x) (key z) (key y) e (first_below cmp order key z y zs sorted later)

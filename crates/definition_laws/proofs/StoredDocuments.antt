@@ -1,5 +1,5 @@
 -- Documents by their canonical URIs.
-use Rattle.std.proofs.Common.{◌≡◌, ◌≢◌, ◌↔◌, ◌&&◌, List, [], ◌∷◌, Bool, true, false, not, cond, Option, Some, None, is_some, filter, find, codes, Contains, refl, sym, ap, ◌∙◌, subst, inl, inr, true≢false}
+use Rattle.std.proofs.Common.{◌≡◌, ◌≢◌, ◌↔◌, ◌&&◌, List, [], ◌∷◌, Bool, true, false, not, cond, Option, Some, None, is_some, filter, find, codes, Contains, refl, sym, ap, ◌∙◌, subst, inl, inr, true≢false, IsTrue}
 use Rattle.std.proofs.lemmas.Bool.{and_from, not-true}
 use Rattle.std.specs.Cmp.Lexicographic.{bytes_decides}
 use Rattle.std.specs.List.{list_any}
@@ -12,6 +12,7 @@ use Rattle.definitions.specs.Runs.{AreKept}
 use Rattle.definition_laws.specs.Storing.{IsHeldByAnother, IsTaken}
 use Rattle.definition_laws.proofs.Membership.{nothing_in, is_first, is_later, first_or_later, any_at, any_where, in_filter, from_filter, one_of}
 use Rattle.definition_laws.proofs.ReachedSets.{same_text-itself, same_text-back}
+use Rattle.definition_laws.proofs.Resources.{one_document}
 use Rattle.definition_laws.proofs.LeastTexts.{least_is_least, no_least}
 use Rattle.definition_laws.proofs.KeptReaches.{kept_distinct, kept_reach_is_least}
 
@@ -73,6 +74,21 @@ found_by_uri search ds uri d kept = (from_found, to_found)
         one_of same_text (λ (x : Document). x.canonical) same_text-back ds (kept_distinct search ds kept) some_one.0 d there.0 h.0
         (same_text-back d.canonical some_one.0.canonical (ap (λ t. same_text t some_one.0.canonical) h.1 ∙ there.1)) in
         some_one.1 ∙ ap Some same
+
+-- ---- the document with a resource
+pub one_holder : (search : Search) (ds : List Document) (uri : Text) (d : Document) → AreKept search ds → Contains ds d → IsTrue (holds_resource uri d)
+    → find (holds_resource uri) ds ≡ Some d
+one_holder search ds uri d kept c holds_d =
+    let some_one : (z : Document) × (find (holds_resource uri) ds ≡ Some z) = found_some (holds_resource uri) d ds c holds_d in
+    let there = found_there (holds_resource uri) some_one.0 ds some_one.1 in
+    some_one.1 ∙ ap Some (one_document ds uri some_one.0 d kept.distinct there.0 c there.1 holds_d)
+
+pub canonical_holder : (search : Search) (ds : List Document) (uri : Text) (d : Document) → AreKept search ds → document_of ds uri ≡ Some d
+    → find (holds_resource uri) ds ≡ Some d
+canonical_holder search ds uri d kept e =
+    let there = (found_by_uri search ds uri d kept).0 e in
+    let own : holds_resource d.canonical d ≡ true = subst (λ x. holds_resource x.canonical x ≡ true) (sym (kept.named d there.0)) (holds_itself d.base d.value) in
+    one_holder search ds uri d kept there.0 (ap (λ u. holds_resource u d) (sym there.1) ∙ own)
 
 -- ---- URIs that another document has
 differs : (d e : Document) → not (same_text d.canonical e.canonical) ≡ true → d.canonical ≢ e.canonical

@@ -1,5 +1,5 @@
 -- What the laws say of the documents that a registry holds, by their canonical URIs.
-use Rattle.std.specs.Prelude.{◌≡◌, ◌≢◌, ◌↔◌, List, Some, None, false, Contains, IsTrue}
+use Rattle.std.specs.Prelude.{◌≡◌, ◌≢◌, ◌↔◌, List, Some, None, false, find, Contains, IsTrue}
 use Rattle.std.specs.Ordering.{nat_cmp, is_lt}
 use Rattle.std.specs.Cmp.Lexicographic.{slice_cmp}
 use Rattle.definitions.specs.Values.{Text, Value}
@@ -23,6 +23,18 @@ abbrev pub DocumentsAreFoundByTheirUris : Type 0
 DocumentsAreFoundByTheirUris =
     (search : Search) (ds : List Document) (uri : Text) (d : Document) → AreKept search ds
     → (document_of ds uri ≡ Some d) ↔ (Contains ds d × (d.canonical ≡ uri))
+
+-- a resource is found in the one document that holds it
+abbrev pub HoldersAreUnique : Type 0
+HoldersAreUnique =
+    (search : Search) (ds : List Document) (uri : Text) (d : Document) → AreKept search ds → Contains ds d → IsTrue (holds_resource uri d)
+    → find (holds_resource uri) ds ≡ Some d
+
+-- as its root in the document that is found by its canonical URI
+abbrev pub CanonicalUrisFindTheirHolders : Type 0
+CanonicalUrisFindTheirHolders =
+    (search : Search) (ds : List Document) (uri : Text) (d : Document) → AreKept search ds → document_of ds uri ≡ Some d
+    → find (holds_resource uri) ds ≡ Some d
 
 -- a document with another canonical URI, among these, has a resource of this URI
 pub record IsHeldByAnother (ds : List Document) (d : Document) (uri : Text) : Type 0 where

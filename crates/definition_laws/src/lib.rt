@@ -6,16 +6,18 @@ mod bundling;
 mod distinctness;
 mod identities;
 mod keeping;
+mod libraries;
 mod likeness;
 mod linking;
 mod locations;
 mod pointers;
 mod reaching;
 mod reading;
+mod services;
 mod storing;
 mod uniqueness;
 
-ghost use Rattle.definition_laws.specs.Laws.{FailingEvaluatesNothing, RefusalsKeepTheRegistry, CoursesAreReplies, AgreeingAnswerAlike};
+ghost use Rattle.definition_laws.specs.Laws.{FailingEvaluatesNothing, RefusalsKeepTheRegistry, CoursesAreReplies, AgreeingAnswerAlike, SameReachedSetsAnswerAlike, BadPatternsAreNotForRoom};
 
 pub use applications::{
     applied_schemas_are_known, failing_annotates_nothing, passing_reports_no_error,
@@ -33,6 +35,7 @@ pub use keeping::{
     empty_registries_are_kept, empty_registries_see_the_library, libraries_are_kept, quotas_stay,
     steps_keep_base_forms, steps_keep_body_values, steps_keep_registries,
 };
+pub use libraries::{batches_commute, deletes_commute, puts_commute};
 pub use likeness::{alike_tables_answer_the_same, alike_tables_give_the_same, reach_is_enough};
 pub use linking::{least_is_least, linked_name_all, missing_name_nothing, no_texts_have_no_least};
 pub use locations::locations_name_schemas;
@@ -44,8 +47,14 @@ pub use reaching::{
     unreached_puts_change_nothing,
 };
 pub use reading::{read_arrays_are_short, read_values_are_well_formed};
+pub use services::{
+    calls_answer_their_tenant, calls_keep_registries, courses_go_on, new_servers_are_kept,
+    other_registries_stay, tenants_have_their_courses, tenants_have_their_replies,
+    unknown_keys_are_refused, unknown_keys_stay_unknown,
+};
 pub use storing::{
-    documents_are_found_by_their_uris, documents_hold_their_uris, free_uris_are_held_by_no_other,
+    canonical_uris_find_their_holders, documents_are_found_by_their_uris,
+    documents_hold_their_uris, free_uris_are_held_by_no_other, holders_are_unique,
     stored_documents_are_reached, taken_uris_are_held_by_another,
 };
 pub use uniqueness::sorted_repeats_are_neighbours;
@@ -69,4 +78,14 @@ pub fn courses_are_replies()
 /// Registries from which a URI reaches the same documents answer alike where it is validated by.
 pub fn agreeing_answer_alike()
     ensures { AgreeingAnswerAlike }
+{}
+
+/// So do kept registries from which it reaches the same set of documents, also where it is bundled by.
+pub fn same_reached_sets_answer_alike()
+    ensures { SameReachedSetsAnswerAlike }
+{}
+
+/// Where the definitions themselves answer that a pattern is bad, this isn't for want of room.
+pub fn bad_patterns_are_not_for_room()
+    ensures { BadPatternsAreNotForRoom }
 {}

@@ -1,5 +1,5 @@
--- The documents of a registry, by their canonical URIs.
-use Rattle.std.proofs.Common.{◌≡◌, ◌≢◌, ◌↔◌, ◌&&◌, List, [], ◌∷◌, Bool, true, false, not, cond, Option, Some, None, is_some, filter, find, codes, Contains, refl, sym, ap, ◌∙◌, subst, true≢false}
+-- Documents by their canonical URIs.
+use Rattle.std.proofs.Common.{◌≡◌, ◌≢◌, ◌↔◌, ◌&&◌, List, [], ◌∷◌, Bool, true, false, not, cond, Option, Some, None, is_some, filter, find, codes, Contains, refl, sym, ap, ◌∙◌, subst, inl, inr, true≢false, IsTrue}
 use Rattle.std.proofs.lemmas.Bool.{and_from, not-true}
 use Rattle.std.specs.Cmp.Lexicographic.{bytes_decides}
 use Rattle.std.specs.List.{list_any}
@@ -7,12 +7,13 @@ use Rattle.definitions.specs.Values.{Text, Value, same_text, text_at}
 use Rattle.definitions.specs.Schemas.{Document, document_from, schema_at, opened, is_root}
 use Rattle.definitions.specs.Reach.{holds_resource, reach, holds}
 use Rattle.definitions.specs.Bundles.{document_of, others_of}
-use Rattle.definitions.specs.Registries.{Search, Registry, resources_of, taken_uri}
-use Rattle.definitions.specs.Runs.{IsKept}
-use Rattle.lemmas.proofs.Texts.{same_text_itself}
+use Rattle.definitions.specs.Registries.{Search, resources_of, taken_uri}
+use Rattle.definitions.specs.Runs.{AreKept}
 use Rattle.definition_laws.specs.Storing.{IsHeldByAnother, IsTaken}
+use Rattle.lemmas.proofs.Texts.{same_text_itself}
 use Rattle.definition_laws.proofs.Membership.{nothing_in, any_at, any_where, in_filter, from_filter, one_of, found_there, found_some}
 use Rattle.definition_laws.proofs.ReachedSets.{same_text-back}
+use Rattle.definition_laws.proofs.Resources.{one_document}
 use Rattle.definition_laws.proofs.LeastTexts.{least_is_least, no_least}
 use Rattle.definition_laws.proofs.KeptReaches.{kept_distinct, kept_reach_is_least}
 
@@ -30,30 +31,45 @@ holds_itself base v =
     first_found (λ s. same_text root.resource s.resource && is_root s) root _
     (and_from (same_text root.resource root.resource) (is_root root) (same_text_itself root.resource) (root_at base v (text_at (codes "$id") v)))
 
-pub reaches_itself : (search : Search) (g : Registry) (d : Document) → IsKept search g → Contains g.documents d → Contains (reach g.documents d.canonical) d
-reaches_itself search g d kept c =
+pub reaches_itself : (search : Search) (ds : List Document) (d : Document) → AreKept search ds → Contains ds d → Contains (reach ds d.canonical) d
+reaches_itself search ds d kept c =
     let own : holds_resource d.canonical d ≡ true = subst (λ x. holds_resource x.canonical x ≡ true) (sym (kept.named d c)) (holds_itself d.base d.value) in
-    (kept_reach_is_least search g kept d.canonical d).1 (holds c own)
+    (kept_reach_is_least search ds kept d.canonical d).1 (holds c own)
 
 -- ---- the document with a URI
-pub found_by_uri : (search : Search) (g : Registry) (uri : Text) (d : Document) → IsKept search g
-    → (document_of g.documents uri ≡ Some d) ↔ (Contains g.documents d × (d.canonical ≡ uri))
-found_by_uri search g uri d kept = (from_found, to_found)
+pub found_by_uri : (search : Search) (ds : List Document) (uri : Text) (d : Document) → AreKept search ds
+    → (document_of ds uri ≡ Some d) ↔ (Contains ds d × (d.canonical ≡ uri))
+found_by_uri search ds uri d kept = (from_found, to_found)
   where
-    from_found : document_of g.documents uri ≡ Some d → Contains g.documents d × (d.canonical ≡ uri)
+    from_found : document_of ds uri ≡ Some d → Contains ds d × (d.canonical ≡ uri)
     from_found e =
-        let there = found_there (λ (x : Document). same_text uri x.canonical) g.documents d e in
+        let there = found_there (λ (x : Document). same_text uri x.canonical) ds d e in
         (there.0, sym ((bytes_decides uri d.canonical).0 there.1))
 
-    to_found : Contains g.documents d × (d.canonical ≡ uri) → document_of g.documents uri ≡ Some d
+    to_found : Contains ds d × (d.canonical ≡ uri) → document_of ds uri ≡ Some d
     to_found h =
-        let some_one : (z : Document) × (document_of g.documents uri ≡ Some z) =
-        found_some (λ (x : Document). same_text uri x.canonical) d g.documents h.0 ((bytes_decides uri d.canonical).1 (sym h.1)) in
-        let there = found_there (λ (x : Document). same_text uri x.canonical) g.documents some_one.0 some_one.1 in
+        let some_one : (z : Document) × (document_of ds uri ≡ Some z) =
+        found_some (λ (x : Document). same_text uri x.canonical) d ds h.0 ((bytes_decides uri d.canonical).1 (sym h.1)) in
+        let there = found_there (λ (x : Document). same_text uri x.canonical) ds some_one.0 some_one.1 in
         let same : some_one.0 ≡ d =
-        one_of same_text (λ (x : Document). x.canonical) same_text-back g.documents (kept_distinct search g kept) some_one.0 d there.0 h.0
+        one_of same_text (λ (x : Document). x.canonical) same_text-back ds (kept_distinct search ds kept) some_one.0 d there.0 h.0
         (same_text-back d.canonical some_one.0.canonical (ap (λ t. same_text t some_one.0.canonical) h.1 ∙ there.1)) in
         some_one.1 ∙ ap Some same
+
+-- ---- the document with a resource
+pub one_holder : (search : Search) (ds : List Document) (uri : Text) (d : Document) → AreKept search ds → Contains ds d → IsTrue (holds_resource uri d)
+    → find (holds_resource uri) ds ≡ Some d
+one_holder search ds uri d kept c holds_d =
+    let some_one : (z : Document) × (find (holds_resource uri) ds ≡ Some z) = found_some (holds_resource uri) d ds c holds_d in
+    let there = found_there (holds_resource uri) ds some_one.0 some_one.1 in
+    some_one.1 ∙ ap Some (one_document ds uri some_one.0 d kept.distinct there.0 c there.1 holds_d)
+
+pub canonical_holder : (search : Search) (ds : List Document) (uri : Text) (d : Document) → AreKept search ds → document_of ds uri ≡ Some d
+    → find (holds_resource uri) ds ≡ Some d
+canonical_holder search ds uri d kept e =
+    let there = (found_by_uri search ds uri d kept).0 e in
+    let own : holds_resource d.canonical d ≡ true = subst (λ x. holds_resource x.canonical x ≡ true) (sym (kept.named d there.0)) (holds_itself d.base d.value) in
+    one_holder search ds uri d kept there.0 (ap (λ u. holds_resource u d) (sym there.1) ∙ own)
 
 -- ---- URIs that another document has
 differs : (d e : Document) → not (same_text d.canonical e.canonical) ≡ true → d.canonical ≢ e.canonical

@@ -12,3 +12,5 @@ pub mod Bundling
 pub mod Locations
 pub mod Distinctness
 pub mod Applications
+pub mod Libraries
+pub mod Services

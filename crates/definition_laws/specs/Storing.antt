@@ -1,13 +1,13 @@
 -- What the laws say of the documents that a registry holds, by their canonical URIs.
-use Rattle.std.specs.Prelude.{◌≡◌, ◌≢◌, ◌↔◌, List, Some, None, false, Contains, IsTrue}
+use Rattle.std.specs.Prelude.{◌≡◌, ◌≢◌, ◌↔◌, List, Some, None, false, find, Contains, IsTrue}
 use Rattle.std.specs.Ordering.{nat_cmp, is_lt}
 use Rattle.std.specs.Cmp.Lexicographic.{slice_cmp}
 use Rattle.definitions.specs.Values.{Text, Value}
 use Rattle.definitions.specs.Schemas.{Document, document_from}
 use Rattle.definitions.specs.Reach.{holds_resource, reach}
 use Rattle.definitions.specs.Bundles.{document_of}
-use Rattle.definitions.specs.Registries.{Search, Registry, resources_of, taken_uri}
-use Rattle.definitions.specs.Runs.{IsKept}
+use Rattle.definitions.specs.Registries.{Search, resources_of, taken_uri}
+use Rattle.definitions.specs.Runs.{AreKept}
 
 -- a document has a resource under its canonical URI, its root
 abbrev pub DocumentsHoldTheirUris : Type 0
@@ -16,13 +16,25 @@ DocumentsHoldTheirUris = (base : Text) (v : Value) → IsTrue (holds_resource (d
 -- so its canonical URI reaches it
 abbrev pub StoredDocumentsAreReached : Type 0
 StoredDocumentsAreReached =
-    (search : Search) (g : Registry) (d : Document) → IsKept search g → Contains g.documents d → Contains (reach g.documents d.canonical) d
+    (search : Search) (ds : List Document) (d : Document) → AreKept search ds → Contains ds d → Contains (reach ds d.canonical) d
 
--- in a kept registry the document that is found by a URI is the one that has it as its canonical URI
+-- among kept documents the one that is found by a URI is the one that has it as its canonical URI
 abbrev pub DocumentsAreFoundByTheirUris : Type 0
 DocumentsAreFoundByTheirUris =
-    (search : Search) (g : Registry) (uri : Text) (d : Document) → IsKept search g
-    → (document_of g.documents uri ≡ Some d) ↔ (Contains g.documents d × (d.canonical ≡ uri))
+    (search : Search) (ds : List Document) (uri : Text) (d : Document) → AreKept search ds
+    → (document_of ds uri ≡ Some d) ↔ (Contains ds d × (d.canonical ≡ uri))
+
+-- a resource is found in the one document that holds it
+abbrev pub HoldersAreUnique : Type 0
+HoldersAreUnique =
+    (search : Search) (ds : List Document) (uri : Text) (d : Document) → AreKept search ds → Contains ds d → IsTrue (holds_resource uri d)
+    → find (holds_resource uri) ds ≡ Some d
+
+-- as its root in the document that is found by its canonical URI
+abbrev pub CanonicalUrisFindTheirHolders : Type 0
+CanonicalUrisFindTheirHolders =
+    (search : Search) (ds : List Document) (uri : Text) (d : Document) → AreKept search ds → document_of ds uri ≡ Some d
+    → find (holds_resource uri) ds ≡ Some d
 
 -- a document with another canonical URI, among these, has a resource of this URI
 pub record IsHeldByAnother (ds : List Document) (d : Document) (uri : Text) : Type 0 where

@@ -1,20 +1,30 @@
-//! The documents that a registry holds, by their canonical URIs.
+//! Documents by their canonical URIs.
 
-ghost use Rattle.definition_laws.specs.Storing.{DocumentsHoldTheirUris, StoredDocumentsAreReached, DocumentsAreFoundByTheirUris, TakenUrisAreHeldByAnother, FreeUrisAreHeldByNoOther};
+ghost use Rattle.definition_laws.specs.Storing.{DocumentsHoldTheirUris, StoredDocumentsAreReached, DocumentsAreFoundByTheirUris, HoldersAreUnique, CanonicalUrisFindTheirHolders, TakenUrisAreHeldByAnother, FreeUrisAreHeldByNoOther};
 
 /// A document has a resource under its canonical URI: its root (JSON Schema 2020-12 Core, 8.2.1).
 pub fn documents_hold_their_uris()
     ensures { DocumentsHoldTheirUris }
 {}
 
-/// A document of a kept registry is reached by its canonical URI.
+/// A kept document is reached by its canonical URI.
 pub fn stored_documents_are_reached()
     ensures { StoredDocumentsAreReached }
 {}
 
-/// The document that is found by a URI in a kept registry is the one that has it as its canonical URI.
+/// The document that is found by a URI among kept ones is the one that has it as its canonical URI.
 pub fn documents_are_found_by_their_uris()
     ensures { DocumentsAreFoundByTheirUris }
+{}
+
+/// Among kept documents a resource is found in the one that holds it.
+pub fn holders_are_unique()
+    ensures { HoldersAreUnique }
+{}
+
+/// A canonical URI is a resource of the document that it names, and of no other.
+pub fn canonical_uris_find_their_holders()
+    ensures { CanonicalUrisFindTheirHolders }
 {}
 
 /// A URI that is taken is the least in byte order of the document's own URIs that a document with another canonical URI

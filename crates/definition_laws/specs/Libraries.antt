@@ -1,0 +1,26 @@
+-- What the laws say of a library's documents among a tenant's own.
+use Rattle.std.specs.Prelude.{◌≡◌, List, Contains, false}
+use Rattle.definitions.specs.Values.{Text}
+use Rattle.definitions.specs.Schemas.{Document}
+use Rattle.definitions.specs.Bundles.{others_of}
+use Rattle.definitions.specs.Registries.{Search, Registry, documents_seen, is_in_library, placed}
+use Rattle.definitions.specs.Batches.{placed_all}
+use Rattle.definitions.specs.Runs.{IsKept}
+
+-- what is put beside the library is put among all that is seen
+abbrev pub PutsCommute : Type 0
+PutsCommute =
+    (g : Registry) (d : Document) → is_in_library g d.canonical ≡ false
+    → documents_seen (record g { documents = placed d g.documents }) ≡ placed d (documents_seen g)
+
+-- and what is deleted
+abbrev pub DeletesCommute : Type 0
+DeletesCommute =
+    (search : Search) (g : Registry) (uri : Text) → IsKept search g → is_in_library g uri ≡ false
+    → documents_seen (record g { documents = others_of uri g.documents }) ≡ others_of uri (documents_seen g)
+
+-- and a batch
+abbrev pub BatchesCommute : Type 0
+BatchesCommute =
+    (g : Registry) (ds : List Document) → ((d : Document) → Contains ds d → is_in_library g d.canonical ≡ false)
+    → documents_seen (record g { documents = placed_all ds g.documents }) ≡ placed_all ds (documents_seen g)

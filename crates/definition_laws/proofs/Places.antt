@@ -36,7 +36,7 @@ definite_element (element u us) v h k (inr i) =
     let q = and_parts (has_short_arrays u) (have_short_arrays us) k in
     definite_element us v p.1 q.1 i
 
-member_parts : (n : Text) (v : Value) (ms : Members) → are_well_formed_members (member n v ms) ≡ true → (is_before n ms ≡ true) × (is_well_formed v ≡ true) × (are_well_formed_members ms ≡ true)
+pub member_parts : (n : Text) (v : Value) (ms : Members) → are_well_formed_members (member n v ms) ≡ true → (is_before n ms ≡ true) × (is_well_formed v ≡ true) × (are_well_formed_members ms ≡ true)
 member_parts n v ms h =
     let p = and_parts (is_utf8 n) (is_before n ms && (is_well_formed v && are_well_formed_members ms)) h in
     let q = and_parts (is_before n ms) (is_well_formed v && are_well_formed_members ms) p.1 in
@@ -87,7 +87,7 @@ is_less Greater h = cc
 not_before_itself : (n : Text) → slice_cmp nat_cmp n n ≡ Less → ⊥
 not_before_itself n h = let other : Less ≡ Greater = sym h ∙ (nat_list_cmp_total.antisymm n n ∙ ap ordering_reverse h) in cc
 
-before_all : (n : Text) (ms : Members) (m : Text) (v : Value) → is_before n ms ≡ true → are_well_formed_members ms ≡ true → IsIn (m, v) (members_list ms) → slice_cmp nat_cmp n m ≡ Less
+pub before_all : (n : Text) (ms : Members) (m : Text) (v : Value) → is_before n ms ≡ true → are_well_formed_members ms ≡ true → IsIn (m, v) (members_list ms) → slice_cmp nat_cmp n m ≡ Less
 before_all n no_members m v b h i = absurd i
 before_all n (member k u ms) m v b h (inl e) = rw (← ap (λ x. x.0) e) (is_less _ b)
 before_all n (member k u ms) m v b h (inr i) =

@@ -104,7 +104,7 @@ places_nest v schema_map way u i =
     omega (arith, members_nest v (r.0).0 u (subst (λ x. IsIn ((r.0).0, x) (members v)) (ap (λ x. x.1) r.2) r.1))
 places_nest v _ way u i = absurd i
 
-step_nests : (rows : List Keyword) (s t : Schema) (way : Pointer) → IsStep rows s t way → nesting t.value < nesting s.value
+pub step_nests : (rows : List Keyword) (s t : Schema) (way : Pointer) → IsStep rows s t way → nesting t.value < nesting s.value
 step_nests rows s t way h =
     let value_is : nesting t.value ≡ nesting h.part = ap (λ x. nesting x.value) h.is ∙ ap nesting (value-below s way h.part) in
     omega (arith, members_nest s.value h.name h.value h.inside, places_nest h.value (shape_in rows h.name) h.rest h.part h.place)

@@ -9,19 +9,19 @@ use Rattle.definitions.specs.Registries.{Search, Registry, Request, put, delete,
 use Rattle.definitions.specs.Runs.{Course}
 
 module _ (P : Registry → Type 0) where
-  for_base_keeps : (g : Registry) (r : Result Text Fault) (next : Text → Reply × Registry) → ((b : Text) → r ≡ Ok b → P (next b).1) → P g → P (for_base g r next).1
+  pub for_base_keeps : (g : Registry) (r : Result Text Fault) (next : Text → Reply × Registry) → ((b : Text) → r ≡ Ok b → P (next b).1) → P g → P (for_base g r next).1
   for_base_keeps g (Ok b) next h before = h b refl
   for_base_keeps g (Err e) next h before = before
 
-  for_value_keeps : (g : Registry) (r : Result Value Fault) (next : Value → Reply × Registry) → ((v : Value) → r ≡ Ok v → P (next v).1) → P g → P (for_value g r next).1
+  pub for_value_keeps : (g : Registry) (r : Result Value Fault) (next : Value → Reply × Registry) → ((v : Value) → r ≡ Ok v → P (next v).1) → P g → P (for_value g r next).1
   for_value_keeps g (Ok v) next h before = h v refl
   for_value_keeps g (Err e) next h before = before
 
-  decided_keeps : (o : Option Fault) (reply : Reply) (after g : Registry) → (o ≡ None → P after) → P g → P (decided o reply after g).1
+  pub decided_keeps : (o : Option Fault) (reply : Reply) (after g : Registry) → (o ≡ None → P after) → P g → P (decided o reply after g).1
   decided_keeps None reply after g h before = h refl
   decided_keeps (Some f) reply after g h before = before
 
-  deleted_keeps : (b : Bool) (done other : Reply) (after g : Registry) → P after → P g → P (cond {A = Reply × Registry} b (done, after) (other, g)).1
+  pub deleted_keeps : (b : Bool) (done other : Reply) (after g : Registry) → P after → P g → P (cond {A = Reply × Registry} b (done, after) (other, g)).1
   deleted_keeps true done other after g h before = h
   deleted_keeps false done other after g h before = before
 

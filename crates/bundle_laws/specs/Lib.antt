@@ -1,0 +1,3 @@
+pub mod Identifying
+pub mod Registered
+pub mod Standing

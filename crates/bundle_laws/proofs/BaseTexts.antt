@@ -1,20 +1,19 @@
 -- The documents of a registry stand under URIs in UTF-8, where each request's URI is.
-use Rattle.std.proofs.Common.{◌≡◌, true, not, List, [], ◌∷◌, is_some, None, Contains, sym, subst, inl, inr}
+use Rattle.std.proofs.Common.{◌≡◌, true, not, [], ◌∷◌, is_some, Contains, sym, subst, inl, inr}
 use Rattle.std.specs.Str.{is_utf8}
-use Rattle.definitions.specs.Values.{Text, same_text}
+use Rattle.definitions.specs.Values.{same_text}
 use Rattle.definitions.specs.Resolution.{base_form}
 use Rattle.definitions.specs.Schemas.{Document, document_from}
 use Rattle.definitions.specs.Bundles.{document_of}
 use Rattle.definitions.specs.Reach.{reach}
-use Rattle.definitions.specs.Registries.{Search, Registry, Request, put, delete, validate, bundled_from, Reply, step, put_refusal, body_value, placed}
-use Rattle.definitions.specs.Runs.{Course}
+use Rattle.definitions.specs.Registries.{put, delete, validate, bundled_from, step, put_refusal, body_value, placed}
 use Rattle.definition_laws.proofs.Membership.{from_filter, is_first, is_later}
 use Rattle.definition_laws.proofs.PlacedDocuments.{from_placed}
 use Rattle.definition_laws.proofs.ReachedSets.{reach_as_filter}
 use Rattle.definition_laws.proofs.KeptReaches.{reached_kept}
 use Rattle.definition_laws.proofs.DistinctRegistries.{reached_distinct_schemas}
 use Rattle.definition_laws.proofs.Steps.{for_base_keeps, for_value_keeps, decided_keeps, deleted_keeps}
-use Rattle.bundle_laws.specs.Registered.{PutsText, HoldsBaseTexts, StepsKeepBaseTexts, CoursesKeepBaseTexts, ReachedDocumentsAreRegistered}
+use Rattle.bundle_laws.specs.Registered.{HoldsBaseTexts, StepsKeepBaseTexts, CoursesKeepBaseTexts, ReachedDocumentsAreRegistered}
 use Rattle.bundle_laws.proofs.CanonicalTexts.{base_form_text}
 
 pub steps_keep_base_texts : StepsKeepBaseTexts

@@ -1,23 +1,20 @@
 -- What is collected of a bundle's schemas is what is collected of its documents', in another order.
-use Rattle.std.proofs.Common.{◌≡◌, ◌<◌, ◌+◌, ◌++◌, ℕ, zero, suc, List, [], ◌∷◌, Bool, true, false, cond, Option, Some, None, option_map, option_and_then, unwrap_or, map, length, codes, refl, sym, ap, ap₂, subst, ◌∙◌, arith, inl, inr, append_assoc, append-nil}
-use Rattle.std.proofs.lemmas.List.Sorted.{IsPermutation-refl, IsPermutation-trans, IsPermutation-append_right, IsPermutation-append_comm}
+use Rattle.std.proofs.Common.{◌≡◌, ◌++◌, ℕ, zero, suc, List, [], ◌∷◌, Bool, true, false, cond, Option, Some, None, option_map, option_and_then, unwrap_or, map, codes, refl, sym, ap, ap₂, subst, ◌∙◌, inl, inr, append_assoc, append-nil}
+use Rattle.std.proofs.lemmas.List.Sorted.{IsPermutation-refl, IsPermutation-trans, IsPermutation-append_right}
 use Rattle.std.specs.List.{flat_map, filter}
 use Rattle.std.specs.List.Sorted.{IsPermutation}
-use Rattle.definitions.specs.Values.{Text, Value, string, object, no_members, nesting, members, entry, get, as_string, text_at, is_object, same_text}
+use Rattle.definitions.specs.Values.{Text, Value, string, object, no_members, members, entry, get, as_string, is_object}
 use Rattle.definitions.specs.Alike.{IsAlikeSchema}
-use Rattle.definitions.specs.Pointers.{Pointer}
-use Rattle.definitions.specs.Keywords.{keywords, shape_in}
-use Rattle.definitions.specs.Schemas.{Schema, Document, schema_at, schemas_of, is_root, option_list}
+use Rattle.definitions.specs.Schemas.{Schema, Document, schema_at, is_root, option_list}
 use Rattle.definitions.specs.Scanning.{resource_uris, anchor_names, anchors_of, patterns_of}
 use Rattle.definitions.specs.Bundles.{under_its_uri, embedded, defs_of, bundle_of}
 use Rattle.definition_laws.specs.Identities.{IsDefinite}
 use Rattle.definition_laws.specs.Bundling.{IsAbsolute}
 use Rattle.definition_laws.proofs.Occurrences.{IsIn}
-use Rattle.definition_laws.proofs.Places.{value-opened}
 use Rattle.definition_laws.proofs.Targets.{alike_resource, alike_pointer, alike_get}
 use Rattle.definition_laws.proofs.MembersPut.{put_other_entry, members_with}
 use Rattle.definition_laws.proofs.BundledDocuments.{root_schema, opened_there, under_id, under_unbundled, new_defs, members-new, members-bundle, embedded_from, IsApart}
-use Rattle.bundle_laws.proofs.Collected.{flat_same, flat_mapped, collected, of_schemas, held, by_members, put_nothing, put_new, put_more, moved_front, ascending_members}
+use Rattle.bundle_laws.proofs.Collected.{flat_same, flat_mapped, collected, held, by_members, put_nothing, put_new, put_more, moved_front, ascending_members}
 
 -- ---- lists of a schema that alike schemas have in common
 abbrev pub IsCommon : {B : Type 0} → (Schema → List B) → Type 0

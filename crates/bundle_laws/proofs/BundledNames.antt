@@ -1,27 +1,25 @@
 -- The names in a bundle stand once, and its patterns are those of its documents.
-use Rattle.std.proofs.Common.{◌≡◌, ◌<◌, ◌≤◌, ◌+◌, ◌++◌, ◌&&◌, ℕ, zero, suc, List, [], ◌∷◌, Bool, true, false, not, Option, Some, None, Contains, map, codes, refl, sym, ap, ap₂, subst, ◌∙◌, arith, inl, inr, append-nil, true≢false}
+use Rattle.std.proofs.Common.{◌≡◌, ◌<◌, ◌+◌, ◌++◌, ◌&&◌, ℕ, zero, suc, List, [], ◌∷◌, Bool, true, false, not, Some, Contains, refl, sym, ap, ap₂, subst, ◌∙◌, arith, inl, inr, true≢false}
 use Rattle.std.proofs.lemmas.Bool.{and_parts, false_from_ne_true}
-use Rattle.std.proofs.lemmas.List.Sorted.{IsPermutation-trans, IsPermutation-append_comm, IsPermutation-sym, Contains-permutation}
+use Rattle.std.proofs.lemmas.List.Sorted.{IsPermutation-trans, IsPermutation-append_comm, Contains-permutation}
 use Rattle.std.specs.Cmp.{IsEquivalence}
-use Rattle.std.specs.List.{flat_map, filter, list_all}
+use Rattle.std.specs.List.{flat_map, list_all}
 use Rattle.std.specs.List.Sorted.{IsPermutation}
 use Rattle.definitions.specs.Values.{Text, Value, nesting, has_repeat, members, is_object, same_text}
-use Rattle.definitions.specs.Pointers.{Pointer}
 use Rattle.definitions.specs.Keywords.{keywords, shape_in}
-use Rattle.definitions.specs.Schemas.{Schema, Document, below, at_place, subschemas_by, schema_at, schemas_of, is_root}
-use Rattle.definitions.specs.Scanning.{resource_uris, anchors_of, anchor_names, same_anchor, patterns_of, patterns}
+use Rattle.definitions.specs.Schemas.{Schema, Document, below, at_place, subschemas_by, schema_at, schemas_of}
+use Rattle.definitions.specs.Scanning.{resource_uris, anchors_of, same_anchor, patterns_of, patterns}
 use Rattle.definitions.specs.Bundles.{document_of, others_of, under_its_uri, bundle_of}
 use Rattle.definitions.specs.Registries.{Search, resources_of, is_regular}
-use Rattle.definitions.specs.Runs.{resource_uris_of}
 use Rattle.definition_laws.specs.Identities.{IsDefinite}
 use Rattle.definition_laws.proofs.Occurrences.{IsIn, in_from_contains, contains_from_in, in_flat_map, into_flat_map, in_map, from_filter, filter_passes, all_pass_in}
 use Rattle.definition_laws.proofs.Places.{places, stepped, at_place_is, value-opened, value-below}
-use Rattle.definition_laws.proofs.Repeats.{AreApart, joined, cut, filtered}
+use Rattle.definition_laws.proofs.Repeats.{joined, cut, filtered}
 use Rattle.definition_laws.proofs.NeighbourRepeats.{repeat_permuted}
 use Rattle.definition_laws.proofs.Roots.{same_text_itself, same_text_is}
 use Rattle.definition_laws.proofs.Tables.{found_in}
 use Rattle.definition_laws.proofs.ReachedTables.{found_passes, one_has, own_uri}
-use Rattle.definition_laws.proofs.BundledDocuments.{root_schema, bundle_unbundled, IsApart}
+use Rattle.definition_laws.proofs.BundledDocuments.{root_schema, bundle_unbundled}
 use Rattle.definition_laws.proofs.BundledValues.{under_definite}
 use Rattle.definition_laws.proofs.Bundled.{own_root_is, own_root_in, IsMade, top_is}
 use Rattle.bundle_laws.specs.Registered.{AreRegistered}

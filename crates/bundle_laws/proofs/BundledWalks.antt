@@ -1,8 +1,8 @@
 -- No keyword of a schema in a bundle has a fault.
-use Rattle.std.proofs.Common.{◌≡◌, ◌<◌, ◌&&◌, ◌||◌, ℕ, zero, suc, List, [], ◌∷◌, Bool, true, false, Option, Some, None, unwrap_or, codes, refl, sym, ap, subst, ◌∙◌, arith, inl, inr}
+use Rattle.std.proofs.Common.{◌≡◌, ◌<◌, ℕ, zero, suc, List, [], ◌∷◌, Bool, true, false, Option, Some, None, unwrap_or, codes, refl, sym, ap, subst, ◌∙◌, arith, inl, inr}
 use Rattle.std.proofs.lemmas.Bool.{and_parts}
 use Rattle.std.specs.List.{list_all}
-use Rattle.definitions.specs.Values.{Text, Value, string, object, no_members, nesting, members, get, is_object, is_boolean, same_text}
+use Rattle.definitions.specs.Values.{Text, Value, string, object, no_members, nesting, members, get, is_object, same_text}
 use Rattle.definitions.specs.Faults.{bad_id, bad_keyword}
 use Rattle.definitions.specs.Pointers.{Pointer, pointer_text}
 use Rattle.definitions.specs.Shapes.{is_schema, is_schema_map}
@@ -75,10 +75,13 @@ module _ (search : Search) (ds : List Document) (r : AreRegistered search ds) wh
 
   pub under_right : (n : ℕ) (base : Text) (d : Document) → IsIn d ds → IsDefinite (under_its_uri d) → IsRight n base (root_schema d.canonical (under_its_uri d))
   under_right zero base d i definite = tt
-  under_right (suc n) base d i definite = (under_members base d i definite, λ t way step.
-      (right_in (suc n) d i).1 t way
-      (step_moved (root_schema d.canonical d.value) (root_schema d.canonical (under_its_uri d)) t way (refl, under_unbundled d (object_in d i)) step
-      (under_had d (object_in d i) step.name step.rest step.part (step.value, step.inside, step.place))))
+  under_right (suc n) base d i definite = (
+    under_members base d i definite,
+    λ t way step.
+        (right_in (suc n) d i).1 t way
+        (step_moved (root_schema d.canonical d.value) (root_schema d.canonical (under_its_uri d)) t way (refl, under_unbundled d (object_in d i)) step
+        (under_had d (object_in d i) step.name step.rest step.part (step.value, step.inside, step.place))),
+  )
 
   -- ---- the schemas under `$defs`
   old_schema : (root : Document) → IsIn root ds → (o : Option Value) → get (codes "$defs") root.value ≡ o → (m : Text × Value) → IsIn m (members (unwrap_or o (object no_members))) → is_schema m.1 ≡ true

@@ -1,12 +1,11 @@
 -- Base forms and canonical URIs are in UTF-8.
-use Rattle.std.proofs.Common.{◌≡◌, ◌||◌, ◌==◌, [], true, Option, Some, None, Ok, is_some, is_none, codes, refl, sym, subst, ap, ◌∙◌, arith}
+use Rattle.std.proofs.Common.{◌≡◌, ◌||◌, [], true, Option, Some, None, Ok, is_some, is_none, codes, refl, subst, arith}
 use Rattle.std.proofs.lemmas.Str.{IsUtf8-from_is_utf8, is_utf8-from_IsUtf8}
 use Rattle.std.specs.Str.{IsUtf8, is_utf8}
-use Rattle.definitions.specs.Values.{Text, Value, string, get, text_at}
+use Rattle.definitions.specs.Values.{Text, string, get, text_at}
 use Rattle.definitions.specs.Uris.{split, recompose, is_identifier}
 use Rattle.definitions.specs.Resolution.{resolve, resolved, base_form}
 use Rattle.definitions.specs.Schemas.{opened}
-use Rattle.definition_laws.specs.Identities.{IsDefinite}
 use Rattle.definition_laws.proofs.Applying.{get_in}
 use Rattle.definition_laws.proofs.Places.{definite_members}
 use Rattle.bundle_laws.specs.Identifying.{CanonicalUrisAreTexts}

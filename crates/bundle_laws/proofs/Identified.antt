@@ -1,12 +1,12 @@
 -- Identifiers, and the canonical URIs of documents.
 use Rattle.std.proofs.Common.{◌≡◌, ◌==◌, ◌++◌, ◌&&◌, ◌||◌, [], ◌∷◌, Bool, true, false, not, cond, Option, Some, None, Result, Ok, Err, is_some, is_none, codes, refl, sym, ap, ap₂, subst, ◌∙◌, append_assoc, append-nil}
 use Rattle.std.specs.List.{list_any, slice_split}
-use Rattle.definitions.specs.Values.{Text, Value, string, text_at}
+use Rattle.definitions.specs.Values.{Text, string, text_at}
 use Rattle.definitions.specs.Faults.{Fault, bad_uri}
 use Rattle.definitions.specs.Uris.{Parts, split, recompose, is_identifier, is_dot_segment, begins, cut_at, led_by, ended_by, without_fragment}
-use Rattle.definitions.specs.Resolution.{resolve, resolved, identified, base_form}
-use Rattle.definitions.specs.Schemas.{Schema, opened, schema_at, document_from}
-use Rattle.definitions.specs.Scanning.{is_empty_fragment, is_id, scan_fault}
+use Rattle.definitions.specs.Resolution.{resolve, resolved}
+use Rattle.definitions.specs.Schemas.{opened}
+use Rattle.definitions.specs.Scanning.{is_empty_fragment, is_id}
 use Rattle.uri_ref.specs.Soundness.{AreSound}
 use Rattle.uri_ref.proofs.Identifiers.{stays}
 use Rattle.uri_ref.proofs.Missing.{Misses, cut_misses, cut_apart}
@@ -15,7 +15,7 @@ use Rattle.uri_ref.proofs.Rules.{both}
 use Rattle.uri_ref.proofs.Sound.{split_sound, resolve_sound}
 use Rattle.uri_ref.proofs.Unique as unique
 use Rattle.definition_laws.specs.Keeping.{IsBaseForm}
-use Rattle.bundle_laws.specs.Identifying.{IsIdentifierText, IdentifiersAreAbsolute, CanonicalUrisAreIdentifiers}
+use Rattle.bundle_laws.specs.Identifying.{IdentifiersAreAbsolute, CanonicalUrisAreIdentifiers}
 use Rattle.bundle_laws.proofs.Scans.{id_right}
 
 -- ---- an identifier has no fragment

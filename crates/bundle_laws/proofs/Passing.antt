@@ -1,19 +1,19 @@
 -- A bundle of registered documents passes the scan, and stands alone.
-use Rattle.std.proofs.Common.{◌≡◌, ◌<◌, ◌||◌, suc, List, [], ◌∷◌, Bool, true, false, cond, Option, Some, None, Ok, Err, nat_lt, length, refl, sym, ap, subst, ◌∙◌}
+use Rattle.std.proofs.Common.{◌≡◌, ◌||◌, suc, List, [], ◌∷◌, Bool, true, false, cond, Option, Some, None, Ok, Err, nat_lt, length, refl, sym, ap, subst, ◌∙◌}
 use Rattle.definitions.specs.Values.{Text, Value, nesting, is_object}
 use Rattle.definitions.specs.Texts.{text}
 use Rattle.definitions.specs.Faults.{bundle_too_large}
-use Rattle.definitions.specs.Schemas.{Schema, Document, schema_at, document_from}
-use Rattle.definitions.specs.Scanning.{most_nested_schema, walked, scan_fault}
-use Rattle.definitions.specs.Bundles.{document_of, others_of, clash, bundle_of, under_its_uri, most_bundle_bytes, most_bundle_nesting, sized, bundle_unless, bundle_from, bundle}
+use Rattle.definitions.specs.Schemas.{Document, schema_at}
+use Rattle.definitions.specs.Scanning.{walked, scan_fault}
+use Rattle.definitions.specs.Bundles.{document_of, others_of, clash, bundle_of, under_its_uri, most_bundle_bytes, most_bundle_nesting, sized, bundle_unless, bundle_from}
 use Rattle.definitions.specs.Registries.{Search, is_regular}
 use Rattle.definition_laws.specs.Bundling.{AreWhole}
 use Rattle.definition_laws.proofs.Occurrences.{contains_from_in}
 use Rattle.definition_laws.proofs.MembersPut.{is_object-with}
 use Rattle.definition_laws.proofs.Bundled.{IsMade, made_of, bundle_parts, top_is, bundles_are_alike, bundles_answer_the_same, bundles_keep_their_uri, bundles_keep_the_resources}
-use Rattle.bundle_laws.specs.Standing.{IsBundle, StandsAlone, BundlesPassTheScan, BundlesAreRegular, BundlesStandAlone}
+use Rattle.bundle_laws.specs.Standing.{IsBundle, BundlesPassTheScan, BundlesAreRegular, BundlesStandAlone}
 use Rattle.bundle_laws.proofs.Walks.{right_to}
-use Rattle.bundle_laws.proofs.Scans.{IsScanned, passed}
+use Rattle.bundle_laws.proofs.Scans.{passed}
 use Rattle.bundle_laws.proofs.RegisteredDocuments.{registered_documents_are_whole}
 use Rattle.bundle_laws.proofs.BundledWalks.{bundle_right}
 use Rattle.bundle_laws.proofs.BundledNames.{uris_once, anchors_once, bundle_regular}

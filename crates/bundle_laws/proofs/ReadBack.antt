@@ -1,5 +1,5 @@
 -- The text of a well-formed value is read as the value.
-use Rattle.std.proofs.Common.{◌≡◌, ◌≤◌, ◌^◌, ◌&&◌, ℤ, pos, negsuc, [], ◌∷◌, ◌++◌, Bool, true, false, Ok, refl, sym, ap, ◌∙◌, arith}
+use Rattle.std.proofs.Common.{◌≡◌, ◌≤◌, ◌^◌, ◌&&◌, ℤ, pos, negsuc, [], ◌∷◌, Bool, true, false, Ok, refl, sym, ap, ◌∙◌, arith}
 use Rattle.std.proofs.lemmas.Bool.{and_parts, ltb-true}
 use Rattle.std.proofs.lemmas.Fmt.{IsAscii-decimal, IsAscii-signed}
 use Rattle.std.proofs.lemmas.Str.{IsUtf8-nil, IsUtf8-append, IsUtf8-from_ascii, IsUtf8-from_is_utf8, is_utf8-from_IsUtf8}
@@ -14,7 +14,7 @@ use Rattle.json.proofs.Printed.Utf8.{IsUtf8-quoted, IsUtf8-boolean, IsUtf8-are_a
 use Rattle.serde_json.specs.Find.{of_integer}
 use Rattle.serde_json.specs.Written.{number_text, outline, items_outline, members_outline, comma_if, items_text, members_text}
 use Rattle.serde_json.proofs.Texts.{print-outline}
-use Rattle.definitions.specs.Values.{Text, Value, null, boolean, integer, string, array, object, Elements, no_elements, element, Members, no_members, member, nesting, fits_64_bits, is_before, is_well_formed, are_well_formed, are_well_formed_members}
+use Rattle.definitions.specs.Values.{Value, null, boolean, integer, string, array, object, Elements, no_elements, element, Members, no_members, member, nesting, fits_64_bits, is_before, is_well_formed, are_well_formed, are_well_formed_members}
 use Rattle.definitions.specs.Texts.{data_of, items_of, json_members_of, text, reading}
 use Rattle.json_doc.specs.Tokens.{value_tokens}
 use Rattle.json_doc.proofs.Texts.{read_back, value_back}

@@ -1,7 +1,6 @@
 -- Registered documents are as a bundle wants its documents.
 use Rattle.std.proofs.Common.{◌≡◌, true, List, Contains, sym, ap, subst}
 use Rattle.std.specs.Str.{is_utf8}
-use Rattle.definitions.specs.Values.{Text}
 use Rattle.definitions.specs.Uris.{split, is_identifier}
 use Rattle.definitions.specs.Schemas.{Document}
 use Rattle.definitions.specs.Registries.{Search}

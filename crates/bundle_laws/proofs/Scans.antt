@@ -1,16 +1,15 @@
 -- What a scan without a fault says of a document.
-use Rattle.std.proofs.Common.{◌≡◌, ◌++◌, suc, List, [], ◌∷◌, Bool, true, false, Some, None, nat_lt, codes, refl, sym, ap, subst, ◌∙◌}
+use Rattle.std.proofs.Common.{◌≡◌, ◌++◌, suc, List, [], Bool, true, false, Some, None, nat_lt, codes, refl, ap, ◌∙◌}
 use Rattle.std.specs.List.{flat_map}
 use Rattle.definitions.specs.Values.{Text, Value, null, boolean, integer, string, array, object, has_repeat, nesting, is_object, same_text, as_string, get, text_at}
 use Rattle.std.proofs.Common.{Option, option_and_then}
 use Rattle.definitions.specs.Faults.{Fault, not_object, too_nested, bad_id, duplicate_uri, duplicate_anchor}
-use Rattle.definitions.specs.Keywords.{keywords, keyword_named}
 use Rattle.definitions.specs.Schemas.{Schema, schema_at, schemas_of}
-use Rattle.definitions.specs.Scanning.{unless, when, is_id, walked, most_nested_schema, resource_uris, anchors_of, same_anchor, scan_faults, scan_fault, first, form_faults, name_faults}
+use Rattle.definitions.specs.Scanning.{unless, when, is_id, walked, most_nested_schema, resource_uris, anchors_of, same_anchor, scan_faults, scan_fault, first}
 use Rattle.definition_laws.proofs.AcceptedDocuments.{first_none}
 use Rattle.definition_laws.proofs.Applying.{get_in}
 use Rattle.definition_laws.proofs.Places.{value-opened}
-use Rattle.bundle_laws.proofs.Walks.{no_faults, unless_none, unless_true, IsRight, right_from}
+use Rattle.bundle_laws.proofs.Walks.{no_faults, unless_none, IsRight, right_from}
 
 pub when_none : (b : Bool) (f : Fault) → when b f ≡ [] → b ≡ false
 when_none true f e = cc

@@ -1,16 +1,14 @@
 -- A bundle is stored by an empty registry that has room for it.
-use Rattle.std.proofs.Common.{◌≡◌, ◌<◌, ◌≤◌, ◌+◌, ◌++◌, ℕ, suc, List, [], ◌∷◌, Bool, true, false, cond, not, Option, Some, None, Ok, Err, option_map, nat_lt, length, is_some, refl, sym, ap, subst, ◌∙◌, arith}
+use Rattle.std.proofs.Common.{◌≡◌, ◌<◌, ◌≤◌, ◌++◌, ℕ, List, [], ◌∷◌, Bool, true, false, cond, not, Option, None, Ok, Err, option_map, nat_lt, length, refl, ap, ◌∙◌, arith}
 use Rattle.std.proofs.lemmas.Bool.{ltb-true, ltb-false}
 use Rattle.std.specs.List.{filter, list_any}
 use Rattle.definitions.specs.Values.{Text, Value, nesting}
 use Rattle.definitions.specs.Texts.{text, reading}
 use Rattle.definitions.specs.Faults.{Fault, bad_pattern, too_large, taken, quota_documents, quota_bytes}
-use Rattle.definitions.specs.Resolution.{base_form}
 use Rattle.definitions.specs.Schemas.{Document, document_from, option_list}
 use Rattle.definitions.specs.Scanning.{first, when, scan_faults}
 use Rattle.definitions.specs.Reach.{holds_resource, least}
-use Rattle.definitions.specs.Bundles.{others_of, most_bundle_nesting}
-use Rattle.definitions.specs.Registries.{Search, Registry, Reply, put, stored, step, for_base, for_value, decided, put_into, put_refusal, body_value, is_regular, resources_of, taken_uri, bytes_of}
+use Rattle.definitions.specs.Registries.{Search, Registry, stored, for_base, for_value, decided, put_into, put_refusal, body_value, is_regular, resources_of, taken_uri, bytes_of}
 use Rattle.definition_laws.specs.Bundling.{AreWhole}
 use Rattle.definition_laws.specs.Identities.{IsDefinite}
 use Rattle.definition_laws.specs.Keeping.{empty_registry}

@@ -1,11 +1,11 @@
 -- URI references in UTF-8: their parts, and what they resolve to, are in UTF-8 too.
-use Rattle.std.proofs.Common.{◌≡◌, ◌<◌, ◌==◌, ◌&&◌, ◌||◌, ◌++◌, ℕ, zero, suc, [], ◌∷◌, Bool, true, false, not, cond, Option, Some, None, is_some, unwrap_or, get_or, take, drop, length, codes, refl, sym, ap, ap₂, subst, ◌∙◌, arith, append_assoc, append-nil, length-append}
+use Rattle.std.proofs.Common.{◌≡◌, ◌<◌, ◌==◌, ◌&&◌, ◌||◌, ◌++◌, ℕ, zero, suc, [], ◌∷◌, Bool, true, false, not, cond, Option, Some, None, is_some, unwrap_or, get_or, take, drop, length, codes, refl, sym, ap, ap₂, subst, ◌∙◌, arith, append-nil, length-append}
 use Rattle.std.proofs.lemmas.Bool.{eqb-true}
 use Rattle.std.proofs.lemmas.Str.{IsUtf8-nil, IsUtf8-append, IsUtf8-take, IsUtf8-drop, IsUtf8-from_ascii, IsCharBoundary-before_ascii, IsCharBoundary-after_ascii}
 use Rattle.std.specs.List.{list_any}
 use Rattle.std.specs.Str.{IsUtf8, IsCharBoundary}
 use Rattle.definitions.specs.Values.{Text, same_text}
-use Rattle.definitions.specs.Uris.{Parts, split, recompose, begins, cut_at, split_before, led_by, ended_by, is_scheme, scheme_and_rest, authority_and_path}
+use Rattle.definitions.specs.Uris.{Parts, split, recompose, begins, cut_at, split_before, led_by, ended_by, is_scheme, scheme_and_rest}
 use Rattle.definitions.specs.Resolution.{resolve, merge, remove_dot_segments, rewritten, rewritten_times, first_segment, without_last_segment, up_to_last_slash, is_empty}
 use Rattle.uri_ref.proofs.Missing.{is_rooted, rest_is_rooted}
 use Rattle.uri_ref.proofs.Recomposed.{cut_joined, before_joined}
@@ -201,9 +201,11 @@ step_texts i o ui uo =
     (whichever P (same_text i (codes "/.")) _ _ (λ e. (slash, uo))
     (whichever P (begins i (codes "/../")) _ _
     (λ e. let same : i ≡ 47 ∷ 46 ∷ 46 ∷ 47 ∷ drop 4 i = front (codes "/../") i e in
-    let u : IsUtf8 (47 ∷ 46 ∷ 46 ∷ 47 ∷ drop 4 i) = subst IsUtf8 same ui in
-    (subst IsUtf8 (sym (ap (drop 3) same))
-    (past_plain 46 (47 ∷ drop 4 i) (past_plain 46 (46 ∷ 47 ∷ drop 4 i) (past_plain 47 (46 ∷ 46 ∷ 47 ∷ drop 4 i) u (omega arith)) (omega arith)) (omega arith)), popped))
+    let u : IsUtf8 (47 ∷ 46 ∷ 46 ∷ 47 ∷ drop 4 i) = subst IsUtf8 same ui in (
+      subst IsUtf8 (sym (ap (drop 3) same))
+          (past_plain 46 (47 ∷ drop 4 i) (past_plain 46 (46 ∷ 47 ∷ drop 4 i) (past_plain 47 (46 ∷ 46 ∷ 47 ∷ drop 4 i) u (omega arith)) (omega arith)) (omega arith)),
+      popped,
+    ))
     (whichever P (same_text i (codes "/..")) _ _ (λ e. (slash, popped))
     (whichever P (same_text i (codes ".") || same_text i (codes "..")) _ _ (λ e. (IsUtf8-nil, uo))
     (segment.1, IsUtf8-append o (first_segment i).0 uo segment.0)))))))

@@ -1,8 +1,8 @@
 -- A walk finds no fault exactly where no keyword of any schema on it has one, however deep it goes.
-use Rattle.std.proofs.Common.{◌≡◌, ◌<◌, ◌&&◌, ◌||◌, ℕ, zero, suc, List, [], ◌∷◌, ◌++◌, Bool, true, false, not, Option, Some, None, codes, refl, sym, ap, subst, ◌∙◌, arith, inl, inr}
+use Rattle.std.proofs.Common.{◌≡◌, ◌<◌, ◌||◌, ℕ, zero, suc, List, [], ◌∷◌, ◌++◌, Bool, true, false, not, Option, Some, None, codes, refl, sym, ap, subst, ◌∙◌, arith, inl, inr}
 use Rattle.std.specs.List.{flat_map, list_all}
 use Rattle.definitions.specs.Values.{Text, Value, nesting, members, same_text}
-use Rattle.definitions.specs.Faults.{Fault, bad_keyword, bad_id, bad_anchor, dialect}
+use Rattle.definitions.specs.Faults.{Fault, bad_keyword, bad_id, dialect}
 use Rattle.definitions.specs.Pointers.{Pointer, pointer_text}
 use Rattle.definitions.specs.Shapes.{Shape, has_shape, is_anchor_name, identifier, anchor_name}
 use Rattle.definitions.specs.Shapes as shapes

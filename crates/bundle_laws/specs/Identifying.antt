@@ -1,5 +1,5 @@
 -- What the canonical URIs of documents are like (RFC 3986, 4.3; JSON Schema 2020-12 Core, 8.2.1).
-use Rattle.std.specs.Prelude.{◌≡◌, List, [], ◌∷◌, None, IsTrue}
+use Rattle.std.specs.Prelude.{◌≡◌, None, IsTrue}
 use Rattle.std.specs.Str.{is_utf8}
 use Rattle.definitions.specs.Values.{Text, Value}
 use Rattle.definitions.specs.Uris.{split, is_identifier}

@@ -1,8 +1,7 @@
 -- What the documents of a registry are like, from request to request.
-use Rattle.std.specs.Prelude.{◌≡◌, List, [], ◌∷◌, Ok, None, false, IsTrue, Contains}
+use Rattle.std.specs.Prelude.{◌≡◌, List, None, false, IsTrue, Contains}
 use Rattle.std.specs.Str.{is_utf8}
 use Rattle.definitions.specs.Values.{Text, has_repeat, same_text}
-use Rattle.definitions.specs.Resolution.{base_form}
 use Rattle.definitions.specs.Schemas.{Document, document_from}
 use Rattle.definitions.specs.Scanning.{scan_fault}
 use Rattle.definitions.specs.Reach.{reach}

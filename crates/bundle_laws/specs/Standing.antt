@@ -9,7 +9,7 @@ use Rattle.definitions.specs.Reach.{missing}
 use Rattle.definitions.specs.Bundles.{bundle}
 use Rattle.definitions.specs.Answers.{answer}
 use Rattle.definitions.specs.Alike.{IsAlike}
-use Rattle.definitions.specs.Registries.{Search, Registry, put, stored, step, is_regular}
+use Rattle.definitions.specs.Registries.{Search, put, stored, step, is_regular}
 use Rattle.definition_laws.specs.Bundling.{AreWhole}
 use Rattle.definition_laws.specs.Keeping.{empty_registry}
 use Rattle.bundle_laws.specs.Registered.{AreRegistered}

@@ -23,7 +23,8 @@ use Rattle.definition_laws.proofs.BundledDocuments.{root_schema, bundle_unbundle
 use Rattle.definition_laws.proofs.BundledValues.{under_definite}
 use Rattle.definition_laws.proofs.Bundled.{own_root_is, own_root_in, IsMade, top_is}
 use Rattle.bundle_laws.specs.Registered.{AreRegistered}
-use Rattle.bundle_laws.proofs.Scans.{scanned}
+use Rattle.bundle_laws.proofs.RegisteredDocuments.{registered_scanned}
+use Rattle.bundle_laws.proofs.Walks.{all_from}
 use Rattle.bundle_laws.proofs.Collected.{flat_same, flat_mapped, flat_flat, collected, of_schemas}
 use Rattle.bundle_laws.proofs.BundledLists.{IsCommon, root_uri, root_uri_common, anchors_common, patterns_common, uris_listed, AreUnlike, IsFit, bundle_moved}
 
@@ -81,10 +82,10 @@ anchors_clear (d ∷ ds) own distinct =
 
 module _ (search : Search) (ds : List Document) (r : AreRegistered search ds) where
   own_in : (d : Document) → IsIn d ds → IsIn d.canonical (resources_of d)
-  own_in d i = own_uri d (root_schema d.canonical d.value) (own_root_in d (r.named d (contains_from_in ds d i)))
+  own_in d i = own_uri d (root_schema d.canonical d.value) (own_root_in d (r.kept.named d (contains_from_in ds d i)))
 
   one_of : (d e : Document) (u : Text) → IsIn d ds → IsIn e ds → IsIn u (resources_of d) → IsIn u (resources_of e) → d ≡ e
-  one_of d e u = one_has same_text same_text_itself resources_of ds d e u r.distinct
+  one_of d e u = one_has same_text same_text_itself resources_of ds d e u r.kept.distinct
 
   -- documents of a part have names of their own
   unlike_in : (es : List Document) → ((d : Document) → IsIn d es → IsIn d ds) → has_repeat same_text (uris_in es) ≡ false → AreUnlike es
@@ -101,13 +102,13 @@ module _ (search : Search) (ds : List Document) (r : AreRegistered search ds) wh
 
   others_unlike : (uri : Text) → AreUnlike (others_of uri ds)
   others_unlike uri =
-      unlike_in (others_of uri ds) (λ d i. from_filter (λ c. not (same_text uri c.canonical)) ds d i) (filtered same_text resources_of (λ c. not (same_text uri c.canonical)) ds r.distinct)
+      unlike_in (others_of uri ds) (λ d i. from_filter (λ c. not (same_text uri c.canonical)) ds d i) (filtered same_text resources_of (λ c. not (same_text uri c.canonical)) ds r.kept.distinct)
 
   root_first : (uri : Text) (root : Document) → document_of ds uri ≡ Some root → has_repeat same_text (uris_in (root ∷ others_of uri ds)) ≡ false
   root_first uri root e =
       let inside : IsIn root ds = found_in (λ c. same_text uri c.canonical) ds root e in
-      joined same_text (resources_of root) (uris_in (others_of uri ds)) (scanned root.base root.value (r.scanned root (contains_from_in ds root inside))).uris
-      (filtered same_text resources_of (λ c. not (same_text uri c.canonical)) ds r.distinct)
+      joined same_text (resources_of root) (uris_in (others_of uri ds)) (registered_scanned search ds r root (contains_from_in ds root inside)).uris
+      (filtered same_text resources_of (λ c. not (same_text uri c.canonical)) ds r.kept.distinct)
       (λ t u c k. false_from_ne_true (same_text t u) (λ same.
       let d = in_flat_map resources_of (others_of uri ds) u (in_from_contains (uris_in (others_of uri ds)) u k) in
       let held : IsIn u (resources_of root) = subst (λ w. IsIn w (resources_of root)) (same_text_is t u same) (in_from_contains (resources_of root) t c) in
@@ -139,7 +140,7 @@ module _ (search : Search) (ds : List Document) (r : AreRegistered search ds) wh
       own_collected : (n : ℕ) (d : Document) → IsIn d ds → nesting d.value < n → collected f n (root_schema d.canonical d.value) ≡ in_document d
       own_collected n d i l =
           let same : nesting (schema_at d.base [] d.value).value ≡ nesting d.value = ap nesting (value-opened d.base [] d.value _) in
-          ap (collected f n) (sym (own_root_is d (r.named d (contains_from_in ds d i)))) ∙ sym (of_schemas f d.base d.value n (omega arith))
+          ap (collected f n) (sym (own_root_is d (r.kept.named d (contains_from_in ds d i)))) ∙ sym (of_schemas f d.base d.value n (omega arith))
 
       pub lists_moved : IsPermutation (flat_map f (schemas_of base v)) (flat_map in_document (root ∷ others_of uri ds))
       lists_moved =
@@ -183,8 +184,8 @@ module _ (search : Search) (ds : List Document) (r : AreRegistered search ds) wh
           ∙ anchors_clear (root ∷ others_of uri ds) own (root_first uri root found)
         where
           own : (d : Document) → IsIn d (root ∷ others_of uri ds) → has_repeat same_anchor (anchors_in d) ≡ false
-          own d (inl same) = subst (λ x. has_repeat same_anchor (anchors_in x) ≡ false) same (scanned root.base root.value (r.scanned root (contains_from_in ds root made.root_in))).anchors
-          own d (inr i) = (scanned d.base d.value (r.scanned d (contains_from_in ds d (made.others_in d i)))).anchors
+          own d (inl same) = subst (λ x. has_repeat same_anchor (anchors_in x) ≡ false) same (registered_scanned search ds r root (contains_from_in ds root made.root_in)).anchors
+          own d (inr i) = (registered_scanned search ds r d (contains_from_in ds d (made.others_in d i))).anchors
 
 -- ---- patterns hang on the values alone
 by_value : (s : Schema) (n : ℕ) → flat_map (λ t. collected patterns_of n t.1) (subschemas_by keywords s)
@@ -217,13 +218,9 @@ patterns_anywhere base v =
     ∙ patterns_by_value (suc (nesting v)) (schema_at base [] v) (schema_at [] [] v) (value-opened base [] v _ ∙ sym (value-opened [] [] v _))
     ∙ sym (of_schemas patterns_of [] v (suc (nesting v)) (omega arith))
 
-all_in : {A : Type 0} (p : A → Bool) (xs : List A) → ((x : A) → IsIn x xs → p x ≡ true) → list_all p xs ≡ true
-all_in p [] h = refl
-all_in p (x ∷ xs) h = rw (h x (inl refl), all_in p xs (λ y i. h y (inr i))) refl
-
 pub bundle_regular : (search : Search) (ds : List Document) (r : AreRegistered search ds) (uri : Text) (root : Document) → IsMade ds root (others_of uri ds)
     → is_regular search (bundle_of root (others_of uri ds)) ≡ true
-bundle_regular search ds r uri root made = all_in search.reads (patterns (bundle_of root (others_of uri ds))) read
+bundle_regular search ds r uri root made = all_from search.reads (patterns (bundle_of root (others_of uri ds))) read
   where
     read : (t : Text) → IsIn t (patterns (bundle_of root (others_of uri ds))) → search.reads t ≡ true
     read t i =
@@ -232,5 +229,5 @@ bundle_regular search ds r uri root made = all_in search.reads (patterns (bundle
         Contains-permutation (patterns (bundle_of root (others_of uri ds))) _ t moved (contains_from_in (patterns (bundle_of root (others_of uri ds))) t i) in
         let d = in_flat_map (λ d. flat_map patterns_of (schemas_of d.base d.value)) (root ∷ others_of uri ds) t (in_from_contains _ t there) in
         let inside : IsIn d.0 ds = elim d.1 [ inl same ↦ subst (λ x. IsIn x ds) same made.root_in | inr j ↦ made.others_in d.0 j ] in
-        all_pass_in search.reads (patterns (d.0).value) t (r.regular_patterns d.0 (contains_from_in ds d.0 inside))
+        all_pass_in search.reads (patterns (d.0).value) t (r.kept.regular_patterns d.0 (contains_from_in ds d.0 inside))
         (subst (IsIn t) (patterns_anywhere (d.0).base (d.0).value) d.2)

@@ -7,9 +7,9 @@ use Rattle.definitions.specs.Uris.{split, recompose, is_identifier}
 use Rattle.definitions.specs.Resolution.{resolve, resolved, base_form}
 use Rattle.definitions.specs.Schemas.{opened}
 use Rattle.definition_laws.proofs.Applying.{get_in}
+use Rattle.definition_laws.proofs.BatchValues.{text_value}
 use Rattle.definition_laws.proofs.Places.{definite_members}
 use Rattle.bundle_laws.specs.Identifying.{CanonicalUrisAreTexts}
-use Rattle.bundle_laws.proofs.Scans.{text_value}
 use Rattle.bundle_laws.proofs.Identified.{form_parts}
 use Rattle.bundle_laws.proofs.Utf8Parts.{split_texts, resolve_texts, recompose_text, cut_texts}
 

@@ -16,7 +16,7 @@ use Rattle.uri_ref.proofs.Sound.{split_sound, resolve_sound}
 use Rattle.uri_ref.proofs.Unique as unique
 use Rattle.definition_laws.specs.Keeping.{IsBaseForm}
 use Rattle.bundle_laws.specs.Identifying.{IdentifiersAreAbsolute, CanonicalUrisAreIdentifiers}
-use Rattle.bundle_laws.proofs.Scans.{id_right}
+use Rattle.bundle_laws.proofs.Scans.{id_faultless}
 
 -- ---- an identifier has no fragment
 none_is : (o : Option Text) → is_none o ≡ true → o ≡ None
@@ -96,4 +96,4 @@ canonical_uris_are_identifiers base v form e = by (text_at (codes "$id") v) refl
   where
     by : (o : Option Text) → text_at (codes "$id") v ≡ o → is_identifier (split (opened base [] v o).resource) ≡ true
     by None f = base_identifier base form
-    by (Some id) f = id_identifier base id (id_right base v id e f)
+    by (Some id) f = id_identifier base id (id_faultless base v id e f)

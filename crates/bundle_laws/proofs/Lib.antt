@@ -12,3 +12,4 @@ pub mod Passing
 pub mod BaseTexts
 pub mod ReadBack
 pub mod StoredBundles
+pub mod ServedBundles

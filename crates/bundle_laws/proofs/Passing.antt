@@ -12,10 +12,10 @@ use Rattle.definition_laws.proofs.Occurrences.{contains_from_in}
 use Rattle.definition_laws.proofs.MembersPut.{is_object-with}
 use Rattle.definition_laws.proofs.Bundled.{IsMade, made_of, bundle_parts, top_is, bundles_are_alike, bundles_answer_the_same, bundles_keep_their_uri, bundles_keep_the_resources}
 use Rattle.bundle_laws.specs.Standing.{IsBundle, BundlesPassTheScan, BundlesAreRegular, BundlesStandAlone}
-use Rattle.bundle_laws.proofs.Walks.{right_to}
+use Rattle.bundle_laws.proofs.Walks.{walked_faultless}
 use Rattle.bundle_laws.proofs.Scans.{passed}
 use Rattle.bundle_laws.proofs.RegisteredDocuments.{registered_documents_are_whole}
-use Rattle.bundle_laws.proofs.BundledWalks.{bundle_right}
+use Rattle.bundle_laws.proofs.BundledWalks.{bundle_faultless}
 use Rattle.bundle_laws.proofs.BundledNames.{uris_once, anchors_once, bundle_regular}
 
 -- ---- a bundle that is made is within its limits
@@ -79,7 +79,7 @@ bundles_pass_the_scan search ds uri base v b =
     let shaped : is_object root.value ≡ true = p.made.whole.objects root (contains_from_in ds root p.made.root_in) in
     let walk : walked (suc (nesting w)) base [] (schema_at base [] w) ≡ [] =
     ap (walked (suc (nesting w)) base []) (top_is ds root others p.made base)
-    ∙ right_to (suc (nesting w)) base [] _ (bundle_right search ds b.documents root others p.made (suc (nesting w)) base) in
+    ∙ walked_faultless (suc (nesting w)) base [] _ (bundle_faultless search ds b.documents root others p.made (suc (nesting w)) base) in
     subst (λ x. scan_fault base x ≡ None) (sym p.is)
     (passed base w (record {
       object = object_bundle root others shaped;

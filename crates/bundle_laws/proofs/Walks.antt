@@ -9,6 +9,7 @@ use Rattle.definitions.specs.Shapes as shapes
 use Rattle.definitions.specs.Keywords.{Keyword, keywords, keyword_named}
 use Rattle.definitions.specs.Schemas.{Schema, subschemas_by, is_root}
 use Rattle.definitions.specs.Scanning.{unless, is_id, is_dialect, shape_faults, keyword_faults, walked}
+use Rattle.definition_laws.proofs.AcceptedDocuments.{neither, unless_none}
 use Rattle.definition_laws.proofs.Occurrences.{IsIn, all_pass_in}
 use Rattle.definition_laws.proofs.Places.{IsStep, step_from, step_to}
 use Rattle.definition_laws.proofs.Roots.{same_text_is, step_nests}
@@ -16,22 +17,18 @@ use Rattle.definition_laws.proofs.Tables.{found_in}
 use Rattle.definition_laws.proofs.ReachedTables.{found_passes}
 
 -- ---- lists of faults
-pub no_faults : {A : Type 0} (xs ys : List A) → xs ++ ys ≡ [] → (xs ≡ []) × (ys ≡ [])
-no_faults [] ys e = (refl, e)
-no_faults (x ∷ xs) ys e = cc
-
 none_at : {A B : Type 0} (f : A → List B) (xs : List A) → flat_map f xs ≡ [] → (x : A) → IsIn x xs → f x ≡ []
 none_at f [] e x i = absurd i
-none_at f (y ∷ ys) e x (inl same) = ap f (sym same) ∙ (no_faults (f y) (flat_map f ys) e).0
-none_at f (y ∷ ys) e x (inr i) = none_at f ys (no_faults (f y) (flat_map f ys) e).1 x i
+none_at f (y ∷ ys) e x (inl same) = ap f (sym same) ∙ (neither (f y) (flat_map f ys) e).0
+none_at f (y ∷ ys) e x (inr i) = none_at f ys (neither (f y) (flat_map f ys) e).1 x i
 
 none_in : {A B : Type 0} (f : A → List B) (xs : List A) → ((x : A) → IsIn x xs → f x ≡ []) → flat_map f xs ≡ []
 none_in f [] h = refl
 none_in f (y ∷ ys) h = rw (h y (inl refl), none_in f ys (λ x i. h x (inr i))) refl
 
-pub unless_none : (b : Bool) (f : Fault) → unless b f ≡ [] → b ≡ true
-unless_none true f e = refl
-unless_none false f e = cc
+pub all_from : {A : Type 0} (p : A → Bool) (xs : List A) → ((x : A) → IsIn x xs → p x ≡ true) → list_all p xs ≡ true
+all_from p [] h = refl
+all_from p (x ∷ xs) h = rw (h x (inl refl), all_from p xs (λ y i. h y (inr i))) refl
 
 pub unless_true : (b : Bool) (f : Fault) → b ≡ true → unless b f ≡ []
 unless_true b f e = rw e refl
@@ -83,35 +80,35 @@ id_alone n k e h =
     ∙ id_by k (all_pass_in is_id_row keywords k id_rows (found_in (λ r. same_text n r.name) keywords k e)) h
 
 -- ---- a schema without a fault, so many levels down
-abbrev pub AreRight : Text → Schema → Type 0
-AreRight base s = (n : Text) (x : Value) → IsIn (n, x) (members s.value) → (far : Pointer) → keyword_faults (keyword_named n keywords) base far s x ≡ []
+abbrev pub HasNoFault : Text → Schema → Type 0
+HasNoFault base s = (n : Text) (x : Value) → IsIn (n, x) (members s.value) → (far : Pointer) → keyword_faults (keyword_named n keywords) base far s x ≡ []
 
-abbrev pub IsRight : ℕ → Text → Schema → Type 0
-IsRight zero base s = Unit {0}
-IsRight (suc n) base s = AreRight base s × ((t : Schema) (way : Pointer) → IsStep keywords s t way → IsRight n s.resource t)
+abbrev pub IsFaultless : ℕ → Text → Schema → Type 0
+IsFaultless zero base s = Unit {0}
+IsFaultless (suc n) base s = HasNoFault base s × ((t : Schema) (way : Pointer) → IsStep keywords s t way → IsFaultless n s.resource t)
 
-pub right_from : (n : ℕ) (base : Text) (way : Pointer) (s : Schema) → walked n base way s ≡ [] → IsRight n base s
-right_from zero base way s h = tt
-right_from (suc n) base way s h =
-    let p = no_faults (flat_map (λ m. keyword_faults (keyword_named m.0 keywords) base (way ++ m.0 ∷ []) s m.1) (members s.value))
+pub faultless_from : (n : ℕ) (base : Text) (way : Pointer) (s : Schema) → walked n base way s ≡ [] → IsFaultless n base s
+faultless_from zero base way s h = tt
+faultless_from (suc n) base way s h =
+    let p = neither (flat_map (λ m. keyword_faults (keyword_named m.0 keywords) base (way ++ m.0 ∷ []) s m.1) (members s.value))
     (flat_map (λ t. walked n s.resource (way ++ t.0) t.1) (subschemas_by keywords s)) h in (
       λ m x i far. under_base (keyword_named m keywords) base (way ++ m ∷ []) far s s x refl
           (none_at (λ e. keyword_faults (keyword_named e.0 keywords) base (way ++ e.0 ∷ []) s e.1) (members s.value) p.0 (m, x) i),
-      λ t first step. right_from n s.resource (way ++ first) t
+      λ t first step. faultless_from n s.resource (way ++ first) t
           (none_at (λ u. walked n s.resource (way ++ u.0) u.1) (subschemas_by keywords s) p.1 (first, t) (step_to keywords s t first step)),
     )
 
-pub right_to : (n : ℕ) (base : Text) (way : Pointer) (s : Schema) → IsRight n base s → walked n base way s ≡ []
-right_to zero base way s h = refl
-right_to (suc n) base way s h =
+pub walked_faultless : (n : ℕ) (base : Text) (way : Pointer) (s : Schema) → IsFaultless n base s → walked n base way s ≡ []
+walked_faultless zero base way s h = refl
+walked_faultless (suc n) base way s h =
     let own : flat_map (λ m. keyword_faults (keyword_named m.0 keywords) base (way ++ m.0 ∷ []) s m.1) (members s.value) ≡ [] =
     none_in (λ m. keyword_faults (keyword_named m.0 keywords) base (way ++ m.0 ∷ []) s m.1) (members s.value) (λ m i. h.0 m.0 m.1 i (way ++ m.0 ∷ [])) in
     let deeper : flat_map (λ t. walked n s.resource (way ++ t.0) t.1) (subschemas_by keywords s) ≡ [] =
-    none_in (λ t. walked n s.resource (way ++ t.0) t.1) (subschemas_by keywords s) (λ t i. right_to n s.resource (way ++ t.0) t.1 (h.1 t.1 t.0 (step_from keywords s t.1 t.0 i))) in
+    none_in (λ t. walked n s.resource (way ++ t.0) t.1) (subschemas_by keywords s) (λ t i. walked_faultless n s.resource (way ++ t.0) t.1 (h.1 t.1 t.0 (step_from keywords s t.1 t.0 i))) in
     rw (own, deeper) refl
 
--- what is right down to its last level is right so many levels down
-pub right_deeper : (n m : ℕ) (base : Text) (s : Schema) → nesting s.value < n → IsRight n base s → IsRight m base s
-right_deeper n zero base s l h = tt
-right_deeper zero (suc m) base s l h = absurd (omega arith)
-right_deeper (suc n) (suc m) base s l h = (h.0, λ t way step. right_deeper n m s.resource t (omega (arith, step_nests keywords s t way step)) (h.1 t way step))
+-- what has no fault down to its last level has none so many levels down
+pub faultless_deeper : (n m : ℕ) (base : Text) (s : Schema) → nesting s.value < n → IsFaultless n base s → IsFaultless m base s
+faultless_deeper n zero base s l h = tt
+faultless_deeper zero (suc m) base s l h = absurd (omega arith)
+faultless_deeper (suc n) (suc m) base s l h = (h.0, λ t way step. faultless_deeper n m s.resource t (omega (arith, step_nests keywords s t way step)) (h.1 t way step))

@@ -1,43 +1,44 @@
 -- What the documents of a registry are like, from request to request.
-use Rattle.std.specs.Prelude.{◌≡◌, List, None, false, IsTrue, Contains}
+use Rattle.std.specs.Prelude.{◌≡◌, List, Ok, IsTrue, Contains}
 use Rattle.std.specs.Str.{is_utf8}
-use Rattle.definitions.specs.Values.{Text, has_repeat, same_text}
-use Rattle.definitions.specs.Schemas.{Document, document_from}
-use Rattle.definitions.specs.Scanning.{scan_fault}
+use Rattle.definitions.specs.Values.{Text}
+use Rattle.definitions.specs.Schemas.{Document}
 use Rattle.definitions.specs.Reach.{reach}
-use Rattle.definitions.specs.Registries.{Search, Registry, Request, put, Reply, step, is_regular}
-use Rattle.definitions.specs.Runs.{Course, IsKept, resource_uris_of}
-use Rattle.definition_laws.specs.Identities.{IsDefinite}
-use Rattle.definition_laws.specs.Keeping.{IsBaseForm, HoldsBodyValues, HoldsBaseForms}
+use Rattle.definitions.specs.Registries.{Search, Registry, documents_seen, Request, put, Reply}
+use Rattle.definitions.specs.Batches.{library_of}
+use Rattle.definitions.specs.Steps.{step}
+use Rattle.definitions.specs.Runs.{Course, AreKept, IsKept}
+use Rattle.definition_laws.specs.Keeping.{HaveBodyValues, HaveBaseForms}
 
--- each with no fault and with patterns that can be read, under the base form of a URI in UTF-8, and no resource URI twice
+abbrev pub HaveBaseTexts : List Document → Type 0
+HaveBaseTexts ds = (d : Document) → Contains ds d → IsTrue (is_utf8 d.base)
+
+-- kept, with values of bodies, under base forms of URIs in UTF-8
 pub record AreRegistered (search : Search) (ds : List Document) : Type 0 where
-  pub distinct : has_repeat same_text (resource_uris_of ds) ≡ false
-  pub named : (d : Document) → Contains ds d → d ≡ document_from d.base d.value
-  pub scanned : (d : Document) → Contains ds d → scan_fault d.base d.value ≡ None
-  pub regular_patterns : (d : Document) → Contains ds d → IsTrue (is_regular search d.value)
-  pub values : (d : Document) → Contains ds d → IsDefinite d.value
-  pub base_forms : (d : Document) → Contains ds d → IsBaseForm d.base
-  pub base_texts : (d : Document) → Contains ds d → IsTrue (is_utf8 d.base)
+  pub kept : AreKept search ds
+  pub body_values : HaveBodyValues ds
+  pub base_forms : HaveBaseForms ds
+  pub base_texts : HaveBaseTexts ds
 
--- ---- the URI of every request is in UTF-8, and so is what a document stands under
+-- those that a URI reaches among such documents are such
+abbrev pub ReachedDocumentsAreRegistered : Type 0
+ReachedDocumentsAreRegistered = (search : Search) (ds : List Document) (uri : Text) → AreRegistered search ds → AreRegistered search (reach ds uri)
+
+-- ---- from request to request
+-- a put's URI is in UTF-8. The URIs in a batch are, since its body is
 abbrev pub PutsText : Request → Type 0
 PutsText (put uri body) = IsTrue (is_utf8 uri)
 PutsText _ = Unit {0}
 
-abbrev pub HoldsBaseTexts : Registry → Type 0
-HoldsBaseTexts g = (d : Document) → Contains g.documents d → IsTrue (is_utf8 d.base)
+abbrev pub LibrariesHaveBaseTexts : Type 0
+LibrariesHaveBaseTexts = (search : Search) (bytes : Text) (library : List Document) → library_of search bytes ≡ Ok library → HaveBaseTexts library
 
 abbrev pub StepsKeepBaseTexts : Type 0
-StepsKeepBaseTexts = (search : Search) (g : Registry) (q : Request) → PutsText q → HoldsBaseTexts g → HoldsBaseTexts (step search g q).1
+StepsKeepBaseTexts =
+    (search : Search) (g : Registry) (q : Request) → IsKept search g → PutsText q → HaveBaseTexts (documents_seen g)
+    → HaveBaseTexts (documents_seen (step search g q).1)
 
 abbrev pub CoursesKeepBaseTexts : Type 0
 CoursesKeepBaseTexts =
-    (search : Search) (g h : Registry) (qs : List Request) (rs : List Reply) → Course search g qs rs h → ((q : Request) → Contains qs q → PutsText q)
-    → HoldsBaseTexts g → HoldsBaseTexts h
-
--- the documents that a URI reaches in a kept registry
-abbrev pub ReachedDocumentsAreRegistered : Type 0
-ReachedDocumentsAreRegistered =
-    (search : Search) (g : Registry) (uri : Text) → IsKept search g → HoldsBodyValues g → HoldsBaseForms g → HoldsBaseTexts g
-    → AreRegistered search (reach g.documents uri)
+    (search : Search) (g h : Registry) (qs : List Request) (rs : List Reply) → Course search g qs rs h → IsKept search g
+    → ((q : Request) → Contains qs q → PutsText q) → HaveBaseTexts (documents_seen g) → HaveBaseTexts (documents_seen h)

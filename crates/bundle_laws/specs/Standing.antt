@@ -9,9 +9,10 @@ use Rattle.definitions.specs.Reach.{missing}
 use Rattle.definitions.specs.Bundles.{bundle}
 use Rattle.definitions.specs.Answers.{answer}
 use Rattle.definitions.specs.Alike.{IsAlike}
-use Rattle.definitions.specs.Registries.{Search, put, stored, step, is_regular}
+use Rattle.definitions.specs.Registries.{Search, put, stored, is_regular}
+use Rattle.definitions.specs.Steps.{step}
+use Rattle.definitions.specs.Tenants.{Tenant, empty_registry}
 use Rattle.definition_laws.specs.Bundling.{AreWhole}
-use Rattle.definition_laws.specs.Keeping.{empty_registry}
 use Rattle.bundle_laws.specs.Registered.{AreRegistered}
 
 -- a bundle of documents of a registry, with no reference missing
@@ -31,13 +32,12 @@ BundlesPassTheScan = (search : Search) (ds : List Document) (uri base : Text) (v
 abbrev pub BundlesAreRegular : Type 0
 BundlesAreRegular = (search : Search) (ds : List Document) (uri : Text) (v : Value) → IsBundle search ds uri v → IsTrue (is_regular search v)
 
--- put into an empty registry that has room for it, it is stored under the URI that it was asked by
+-- put into an empty registry that has room for it, and no library, it is stored under the URI that it was asked by
 abbrev pub BundlesAreStored : Type 0
 BundlesAreStored =
-    (search : Search) (ds : List Document) (uri at base : Text) (v : Value) (most_documents most_bytes : ℕ) → IsBundle search ds uri v
-    → base_form at ≡ Ok base → 0 < most_documents → length (text v) ≤ most_bytes
-    → step search (empty_registry most_documents most_bytes) (put at (text v))
-    ≡ (stored uri false, record (empty_registry most_documents most_bytes) { documents = document_from base v ∷ [] })
+    (search : Search) (ds : List Document) (uri at base : Text) (v : Value) (t : Tenant) → IsBundle search ds uri v
+    → base_form at ≡ Ok base → 0 < t.most_documents → length (text v) ≤ t.most_bytes
+    → step search (empty_registry [] t) (put at (text v)) ≡ (stored uri false, record (empty_registry [] t) { documents = document_from base v ∷ [] })
 
 -- what a bundle is, put alone under this base: its resources are those of the documents, its table is alike to theirs, and
 -- it answers as they do

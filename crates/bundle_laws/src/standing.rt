@@ -18,7 +18,8 @@ pub fn bundles_are_regular()
     ensures { BundlesAreRegular }
 {}
 
-/// Put into an empty registry, whose quotas it is within, it is stored under the URI that it was asked by.
+/// Put into an empty registry that has no library, and whose quotas it is within, it is stored under the URI that it was
+/// asked by.
 pub fn bundles_are_stored()
     ensures { BundlesAreStored }
 {}

@@ -6,13 +6,13 @@ use Rattle.std.specs.Cmp.Lexicographic.{slice_cmp, bytes_decides}
 use Rattle.std.specs.List.{list_any}
 use Rattle.std.specs.Ordering.{nat_cmp}
 use Rattle.definitions.specs.Values.{Text, has_repeat, same_text, is_object, nesting}
-use Rattle.definitions.specs.Faults.{Fault, bad_pattern, taken, quota_documents, quota_bytes, not_object, too_nested, duplicate_uri, duplicate_anchor}
+use Rattle.definitions.specs.Faults.{Fault, bad_pattern, library_owned, taken, quota_documents, quota_bytes, not_object, too_nested, duplicate_uri, duplicate_anchor}
 use Rattle.definitions.specs.Keywords.{keywords}
 use Rattle.definitions.specs.Schemas.{Document, schemas_of, schema_at, option_list}
 use Rattle.definitions.specs.Scanning.{first, when, unless, scan_faults, same_anchor, anchors_of, most_nested_schema, walked}
 use Rattle.definitions.specs.Reach.{holds_resource}
 use Rattle.definitions.specs.Bundles.{others_of}
-use Rattle.definitions.specs.Registries.{Search, Registry, put_refusal, is_regular, resources_of, taken_uri, bytes_of}
+use Rattle.definitions.specs.Registries.{Search, Registry, documents_seen, is_in_library, put_refusal, is_regular, resources_of, taken_uri, bytes_of}
 use Rattle.definition_laws.proofs.Membership.{nothing_in, in_filter}
 use Rattle.definition_laws.proofs.Repeats.{none_of}
 use Rattle.definition_laws.proofs.LeastTexts.{no_least}
@@ -23,11 +23,11 @@ pub first_none : {A : Type 0} (xs : List A) → first xs ≡ None → xs ≡ []
 first_none [] e = refl
 first_none (x ∷ xs) e = cc
 
-neither : {A : Type 0} (xs ys : List A) → xs ++ ys ≡ [] → (xs ≡ []) × (ys ≡ [])
+pub neither : {A : Type 0} (xs ys : List A) → xs ++ ys ≡ [] → (xs ≡ []) × (ys ≡ [])
 neither [] ys e = (refl, e)
 neither (x ∷ xs) ys e = cc
 
-when_none : (b : Bool) (f : Fault) → when b f ≡ [] → b ≡ false
+pub when_none : (b : Bool) (f : Fault) → when b f ≡ [] → b ≡ false
 when_none true f e = cc
 when_none false f e = refl
 
@@ -35,7 +35,7 @@ not_taken : (o : Option Text) → option_list (option_map taken o) ≡ [] → o 
 not_taken None e = refl
 not_taken (Some u) e = cc
 
-is_not : (b : Bool) → not b ≡ false → b ≡ true
+pub is_not : (b : Bool) → not b ≡ false → b ≡ true
 is_not true e = refl
 is_not false e = sym e
 
@@ -44,48 +44,54 @@ is_not false e = sym e
 pub record IsAccepted (search : Search) (g : Registry) (d : Document) (after : List Document) : Type 0 where
   pub scanned : scan_faults d.base d.value ≡ []
   pub regular : is_regular search d.value ≡ true
-  pub free : taken_uri g.documents d ≡ None
+  pub unowned : is_in_library g d.canonical ≡ false
+  pub free : taken_uri (documents_seen g) d ≡ None
   pub few : nat_lt g.most_documents (length after) ≡ false
   pub small : nat_lt g.most_bytes (bytes_of after) ≡ false
 
-accepted_by : (faults : List Fault) (regular : Bool) (uri : Option Text) (many large : Bool)
-    → first (faults ++ (when (not regular) bad_pattern ++ (option_list (option_map taken uri) ++ (when many quota_documents ++ when large quota_bytes)))) ≡ None
-    → (faults ≡ []) × ((regular ≡ true) × ((uri ≡ None) × ((many ≡ false) × (large ≡ false))))
-accepted_by faults regular uri many large e =
+accepted_by : (faults : List Fault) (regular owned : Bool) (uri : Option Text) (many large : Bool)
+    → first (faults ++ (when (not regular) bad_pattern ++ (when owned library_owned ++ (option_list (option_map taken uri) ++ (when many quota_documents ++ when large quota_bytes))))) ≡ None
+    → (faults ≡ []) × ((regular ≡ true) × ((owned ≡ false) × ((uri ≡ None) × ((many ≡ false) × (large ≡ false)))))
+accepted_by faults regular owned uri many large e =
     let one = neither faults _ (first_none _ e) in
     let two = neither (when (not regular) bad_pattern) _ one.1 in
-    let three = neither (option_list (option_map taken uri)) _ two.1 in
-    let four = neither (when many quota_documents) _ three.1 in
-    (one.0, (is_not regular (when_none (not regular) bad_pattern two.0), (not_taken uri three.0, (when_none many quota_documents four.0, when_none large quota_bytes four.1))))
+    let three = neither (when owned library_owned) _ two.1 in
+    let four = neither (option_list (option_map taken uri)) _ three.1 in
+    let five = neither (when many quota_documents) _ four.1 in
+    (one.0, (is_not regular (when_none (not regular) bad_pattern two.0), (when_none owned library_owned three.0, (not_taken uri four.0, (when_none many quota_documents five.0, when_none large quota_bytes five.1)))))
 
 pub accepted : (search : Search) (g : Registry) (d : Document) (after : List Document) → put_refusal search g d after ≡ None → IsAccepted search g d after
 accepted search g d after e =
-    let parts = accepted_by (scan_faults d.base d.value) (is_regular search d.value) (taken_uri g.documents d) (nat_lt g.most_documents (length after)) (nat_lt g.most_bytes (bytes_of after)) e in
-    record { scanned = parts.0; regular = parts.1.0; free = parts.1.1.0; few = parts.1.1.1.0; small = parts.1.1.1.1 }
+    let parts = accepted_by (scan_faults d.base d.value) (is_regular search d.value) (is_in_library g d.canonical) (taken_uri (documents_seen g) d) (nat_lt g.most_documents (length after)) (nat_lt g.most_bytes (bytes_of after)) e in
+    record { scanned = parts.0; regular = parts.1.0; unowned = parts.1.1.0; free = parts.1.1.1.0; few = parts.1.1.1.1.0; small = parts.1.1.1.1.1 }
 
--- an object, with no URI and no anchor twice
+-- the tests of a scan
 pub record IsScanned (d : Document) : Type 0 where
   pub object : is_object d.value ≡ true
+  pub shallow : nat_lt most_nested_schema (nesting d.value) ≡ false
+  pub walk : walked (suc (nesting d.value)) d.base [] (schema_at d.base [] d.value) ≡ []
   pub uris : has_repeat same_text (resources_of d) ≡ false
   pub anchors : has_repeat same_anchor (flat_map anchors_of (schemas_of d.base d.value)) ≡ false
 
-unless_none : (b : Bool) (f : Fault) → unless b f ≡ [] → b ≡ true
+pub unless_none : (b : Bool) (f : Fault) → unless b f ≡ [] → b ≡ true
 unless_none true f e = refl
 unless_none false f e = cc
 
-scanned_by : (object : Bool) (others : List Fault) (uris anchors : Bool)
-    → (unless object not_object ++ others) ++ (when uris duplicate_uri ++ when anchors duplicate_anchor) ≡ [] → (object ≡ true) × ((uris ≡ false) × (anchors ≡ false))
-scanned_by object others uris anchors e =
-    let both = neither (unless object not_object ++ others) _ e in
+scanned_by : (object nested uris anchors : Bool) (walk : List Fault)
+    → (unless object not_object ++ (when nested too_nested ++ walk)) ++ (when uris duplicate_uri ++ when anchors duplicate_anchor) ≡ []
+    → (object ≡ true) × ((nested ≡ false) × ((walk ≡ []) × ((uris ≡ false) × (anchors ≡ false))))
+scanned_by object nested uris anchors walk e =
+    let both = neither (unless object not_object ++ (when nested too_nested ++ walk)) _ e in
+    let form = neither (unless object not_object) (when nested too_nested ++ walk) both.0 in
+    let rest = neither (when nested too_nested) walk form.1 in
     let names = neither (when uris duplicate_uri) (when anchors duplicate_anchor) both.1 in
-    (unless_none object not_object (neither (unless object not_object) others both.0).0, (when_none uris duplicate_uri names.0, when_none anchors duplicate_anchor names.1))
+    (unless_none object not_object form.0, (when_none nested too_nested rest.0, (rest.1, (when_none uris duplicate_uri names.0, when_none anchors duplicate_anchor names.1))))
 
 pub scanned : (d : Document) → scan_faults d.base d.value ≡ [] → IsScanned d
 scanned d e =
-    let parts = scanned_by (is_object d.value)
-    (when (nat_lt most_nested_schema (nesting d.value)) too_nested ++ walked (suc (nesting d.value)) d.base [] (schema_at d.base [] d.value))
-    (has_repeat same_text (resources_of d)) (has_repeat same_anchor (flat_map anchors_of (schemas_of d.base d.value))) e in
-    record { object = parts.0; uris = parts.1.0; anchors = parts.1.1 }
+    let parts = scanned_by (is_object d.value) (nat_lt most_nested_schema (nesting d.value)) (has_repeat same_text (resources_of d))
+    (has_repeat same_anchor (flat_map anchors_of (schemas_of d.base d.value))) (walked (suc (nesting d.value)) d.base [] (schema_at d.base [] d.value)) e in
+    record { object = parts.0; shallow = parts.1.0; walk = parts.1.1.0; uris = parts.1.1.1.0; anchors = parts.1.1.1.1 }
 
 -- none of its URIs is held by a document with another canonical URI
 pub free_of_others : (ds : List Document) (d e : Document) → taken_uri ds d ≡ None → Contains ds e → (slice_cmp nat_cmp d.canonical e.canonical ≡ Equal → ⊥)

@@ -243,7 +243,7 @@ uri_kept ds uri base v whole e =
     ∙ ap (λ s. s.resource) (top_is ds root (others_of uri ds) (made_of ds uri root whole parts.1 (parts.2).0) base)
     ∙ sym found
 
-bundle_corresponds : (ds : List Document) (uri base : Text) (v : Value) → AreWhole ds → bundle ds uri ≡ Ok v → Correspond (table_of ds) (table_of (document_from base v ∷ []))
+pub bundle_corresponds : (ds : List Document) (uri base : Text) (v : Value) → AreWhole ds → bundle ds uri ≡ Ok v → Correspond (table_of ds) (table_of (document_from base v ∷ []))
 bundle_corresponds ds uri base v whole e =
     let parts = bundle_parts (document_of ds uri) (others_of uri ds) v e in
     let root : Document = parts.0 in

@@ -19,8 +19,12 @@ pub mod ReachedSets
 pub mod Resources
 pub mod LeastTexts
 pub mod Placing
+pub mod Replacing
 pub mod PlacedDocuments
 pub mod AcceptedDocuments
+pub mod JoinedDocuments
+pub mod KeptDocuments
+pub mod AcceptedBatches
 pub mod StringContents
 pub mod TokenTexts
 pub mod TextGrammar
@@ -28,6 +32,7 @@ pub mod WholeNumbers
 pub mod ReadValues
 pub mod ShortTokens
 pub mod ShortArrays
+pub mod BatchValues
 pub mod Steps
 pub mod KeptRegistries
 pub mod KeptReaches
@@ -39,6 +44,6 @@ pub mod Bundled
 pub mod FragmentTexts
 pub mod LocatedSchemas
 pub mod BundledValues
-pub mod DistinctRegistries
+pub mod DistinctDocuments
 pub mod AppliedSchemas
 pub mod Reports

@@ -78,11 +78,11 @@ module _ {X K : Type 0} (cmp : K → K → Ordering) (order : IsTotalOrder cmp) 
   ascending_at x y ys Greater e h more =
       (each_inserted (λ k. cmp (key y) k ≡ Less) x ys (order.antisymm (key y) (key x) ∙ ap ordering_reverse e) h.0, more)
 
-  tail_ascending : (x : X) (xs : List X) → IsStrictlySortedBy cmp (map key (x ∷ xs)) → IsStrictlySortedBy cmp (map key xs)
+  pub tail_ascending : (x : X) (xs : List X) → IsStrictlySortedBy cmp (map key (x ∷ xs)) → IsStrictlySortedBy cmp (map key xs)
   unfolding IsStrictlySortedBy
   tail_ascending x xs h = h.1
 
-  first_below : (x y : X) (xs : List X) → IsStrictlySortedBy cmp (map key (x ∷ xs)) → Contains xs y → cmp (key x) (key y) ≡ Less
+  pub first_below : (x y : X) (xs : List X) → IsStrictlySortedBy cmp (map key (x ∷ xs)) → Contains xs y → cmp (key x) (key y) ≡ Less
   unfolding IsStrictlySortedBy
   first_below x y xs h c =
       All-contains (λ k. cmp (key x) k ≡ Less) (map key xs) (key y) (All-from_recursion (λ k. cmp (key x) k ≡ Less) (map key xs) h.0) (in_map key y xs c)

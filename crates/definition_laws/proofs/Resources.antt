@@ -17,7 +17,7 @@ use Rattle.definition_laws.proofs.Repeats.{filtered, one_with}
 use Rattle.definition_laws.proofs.ReachedSets.{same_text-back, reach_as_filter}
 
 -- ---- a document's resources
-found : {X : Type 0} (p : X → Bool) (x : X) (xs : List X) → Contains xs x → p x ≡ true → is_some (find p xs) ≡ true
+pub found : {X : Type 0} (p : X → Bool) (x : X) (xs : List X) → Contains xs x → p x ≡ true → is_some (find p xs) ≡ true
 found p x [] c e = absurd (nothing_in x c)
 found {X} p x (y ∷ ys) c e = elim (first_or_later y x ys c) [
   | inl same ↦ rw (same, e) refl

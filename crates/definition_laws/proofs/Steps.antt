@@ -3,10 +3,21 @@ use Rattle.std.proofs.Common.{◌≡◌, ℕ, Bool, true, false, cond, List, [],
 use Rattle.definitions.specs.Values.{Text, Value}
 use Rattle.definitions.specs.Faults.{Fault}
 use Rattle.definitions.specs.Resolution.{base_form}
-use Rattle.definitions.specs.Schemas.{document_from}
+use Rattle.definitions.specs.Schemas.{Document, document_from}
 use Rattle.definitions.specs.Bundles.{document_of, others_of}
-use Rattle.definitions.specs.Registries.{Search, Registry, Request, put, delete, validate, bundled_from, Reply, step, for_base, for_value, decided, put_refusal, body_value, placed}
+use Rattle.definitions.specs.Registries.{Search, Registry, is_in_library, Request, put, delete, validate, bundled_from, batch, Reply, for_base, for_value, decided, put_refusal, body_value, placed}
+use Rattle.definitions.specs.Batches.{Entry, batch_entries, entry_documents, Numbered, placed_all, batch_refusal, for_documents, for_entries}
+use Rattle.definitions.specs.Steps.{step}
 use Rattle.definitions.specs.Runs.{Course}
+use Rattle.definition_laws.specs.Keeping.{IsSetAlike}
+
+-- what a property has to be kept by
+pub record IsKeptByChanges (search : Search) (P : Registry → Type 0) (g : Registry) : Type 0 where
+  pub by_put : (uri b body : Text) (v : Value) → base_form uri ≡ Ok b → body_value body ≡ Ok v
+      → put_refusal search g (document_from b v) (placed (document_from b v) g.documents) ≡ None → P (record g { documents = placed (document_from b v) g.documents })
+  pub by_delete : (b : Text) → is_in_library g b ≡ false → P (record g { documents = others_of b g.documents })
+  pub by_batch : (bytes : Text) (es : List Entry) (ds : List Document) → batch_entries bytes ≡ Ok es → entry_documents search 0 es ≡ Ok ds
+      → batch_refusal g ds (placed_all ds g.documents) ≡ None → P (record g { documents = placed_all ds g.documents })
 
 module _ (P : Registry → Type 0) where
   pub for_base_keeps : (g : Registry) (r : Result Text Fault) (next : Text → Reply × Registry) → ((b : Text) → r ≡ Ok b → P (next b).1) → P g → P (for_base g r next).1
@@ -21,22 +32,36 @@ module _ (P : Registry → Type 0) where
   decided_keeps None reply after g h before = h refl
   decided_keeps (Some f) reply after g h before = before
 
-  pub deleted_keeps : (b : Bool) (done other : Reply) (after g : Registry) → P after → P g → P (cond {A = Reply × Registry} b (done, after) (other, g)).1
-  deleted_keeps true done other after g h before = h
-  deleted_keeps false done other after g h before = before
+  pub found_keeps : (b : Bool) (done other : Reply) (after g : Registry) → P after → P g → P (cond {A = Reply × Registry} b (done, after) (other, g)).1
+  found_keeps true done other after g h before = h
+  found_keeps false done other after g h before = before
 
-  pub step_keeps : (search : Search) (g : Registry) → P g
-      → ((uri b body : Text) (v : Value) → base_form uri ≡ Ok b → body_value body ≡ Ok v → put_refusal search g (document_from b v) (placed (document_from b v) g.documents) ≡ None
-      → P (record g { documents = placed (document_from b v) g.documents }))
-      → ((b : Text) → P (record g { documents = others_of b g.documents })) → (q : Request) → P (step search g q).1
-  step_keeps search g before put_one delete_one (put uri body) =
+  pub deleted_keeps : (owned : Bool) (reply : Reply) (rest : Reply × Registry) (g : Registry) → (owned ≡ false → P rest.1) → P g → P (cond {A = Reply × Registry} owned (reply, g) rest).1
+  deleted_keeps true reply rest g h before = before
+  deleted_keeps false reply rest g h before = h refl
+
+  for_documents_keeps : (g : Registry) (r : Result (List Document) Numbered)
+      → ((ds : List Document) → r ≡ Ok ds → batch_refusal g ds (placed_all ds g.documents) ≡ None → P (record g { documents = placed_all ds g.documents })) → P g → P (for_documents g r).1
+  for_documents_keeps g (Ok ds) h before = decided_keeps (batch_refusal g ds (placed_all ds g.documents)) _ _ g (h ds refl) before
+  for_documents_keeps g (Err (k, f)) h before = before
+
+  pub for_entries_keeps : (search : Search) (g : Registry) (r : Result (List Entry) Fault)
+      → ((es : List Entry) (ds : List Document) → r ≡ Ok es → entry_documents search 0 es ≡ Ok ds → batch_refusal g ds (placed_all ds g.documents) ≡ None
+      → P (record g { documents = placed_all ds g.documents })) → P g → P (for_entries search g r).1
+  for_entries_keeps search g (Ok es) h before = for_documents_keeps g (entry_documents search 0 es) (λ ds made none. h es ds refl made none) before
+  for_entries_keeps search g (Err f) h before = before
+
+  pub step_keeps : (search : Search) (g : Registry) → P g → IsKeptByChanges search P g → (q : Request) → P (step search g q).1
+  step_keeps search g before changes (put uri body) =
       for_base_keeps g (base_form uri) _ (λ b is_base. for_value_keeps g (body_value body) _ (λ v was_read.
-      decided_keeps (put_refusal search g (document_from b v) (placed (document_from b v) g.documents)) _ _ g (put_one uri b body v is_base was_read) before) before) before
-  step_keeps search g before put_one delete_one (delete uri) =
-      for_base_keeps g (base_form uri) _ (λ b is_base. deleted_keeps (is_some (document_of g.documents b)) _ _ _ g (delete_one b) before) before
-  step_keeps search g before put_one delete_one (validate uri body) =
+      decided_keeps (put_refusal search g (document_from b v) (placed (document_from b v) g.documents)) _ _ g (changes.by_put uri b body v is_base was_read) before) before) before
+  step_keeps search g before changes (delete uri) =
+      for_base_keeps g (base_form uri) _ (λ b is_base. deleted_keeps (is_in_library g b) _ _ g
+      (λ unowned. found_keeps (is_some (document_of g.documents b)) _ _ _ g (changes.by_delete b unowned) before) before) before
+  step_keeps search g before changes (validate uri body) =
       for_base_keeps g (base_form uri) _ (λ b is_base. for_value_keeps g (body_value body) _ (λ v was_read. before) before) before
-  step_keeps search g before put_one delete_one (bundled_from uri) = for_base_keeps g (base_form uri) _ (λ b is_base. before) before
+  step_keeps search g before changes (bundled_from uri) = for_base_keeps g (base_form uri) _ (λ b is_base. before) before
+  step_keeps search g before changes (batch bytes) = for_entries_keeps search g (batch_entries bytes) (changes.by_batch bytes) before
 
   pub course_keeps : (search : Search) → ((g : Registry) (q : Request) → P g → P (step search g q).1)
       → (g h : Registry) (qs : List Request) (rs : List Reply) → Course search g qs rs h → P g → P h
@@ -48,13 +73,11 @@ module _ (P : Registry → Type 0) where
     | inr for_room ↦ course_keeps search each g h qs rs for_room.1 before
   ]
 
-record HasQuotas (most_documents most_bytes : ℕ) (g : Registry) : Type 0 where
-  documents : g.most_documents ≡ most_documents
-  bytes : g.most_bytes ≡ most_bytes
-
-pub quotas_stay : (search : Search) (g : Registry) (q : Request) → ((step search g q).1.most_documents ≡ g.most_documents) × ((step search g q).1.most_bytes ≡ g.most_bytes)
+pub quotas_stay : (search : Search) (g : Registry) (q : Request) → IsSetAlike g (step search g q).1
 quotas_stay search g q =
-    let own : HasQuotas g.most_documents g.most_bytes g = record { documents = refl; bytes = refl } in
-    let after = step_keeps (HasQuotas g.most_documents g.most_bytes) search g own
-    (λ uri b body v is_base was_read none. record { documents = refl; bytes = refl }) (λ b. record { documents = refl; bytes = refl }) q in
-    (after.documents, after.bytes)
+    let own : IsSetAlike g g = record { library = refl; most_documents = refl; most_bytes = refl } in
+    step_keeps (IsSetAlike g) search g own (record {
+      by_put = λ uri b body v is_base was_read none. record { library = refl; most_documents = refl; most_bytes = refl };
+      by_delete = λ b unowned. record { library = refl; most_documents = refl; most_bytes = refl };
+      by_batch = λ bytes es ds read made none. record { library = refl; most_documents = refl; most_bytes = refl };
+    }) q

@@ -1,4 +1,4 @@
--- The documents of a registry, by their canonical URIs.
+-- Documents by their canonical URIs.
 use Rattle.std.proofs.Common.{◌≡◌, ◌≢◌, ◌↔◌, ◌&&◌, List, [], ◌∷◌, Bool, true, false, not, cond, Option, Some, None, is_some, filter, find, codes, Contains, refl, sym, ap, ◌∙◌, subst, inl, inr, true≢false}
 use Rattle.std.proofs.lemmas.Bool.{and_from, not-true}
 use Rattle.std.specs.Cmp.Lexicographic.{bytes_decides}
@@ -7,8 +7,8 @@ use Rattle.definitions.specs.Values.{Text, Value, same_text, text_at}
 use Rattle.definitions.specs.Schemas.{Document, document_from, schema_at, opened, is_root}
 use Rattle.definitions.specs.Reach.{holds_resource, reach, holds}
 use Rattle.definitions.specs.Bundles.{document_of, others_of}
-use Rattle.definitions.specs.Registries.{Search, Registry, resources_of, taken_uri}
-use Rattle.definitions.specs.Runs.{IsKept}
+use Rattle.definitions.specs.Registries.{Search, resources_of, taken_uri}
+use Rattle.definitions.specs.Runs.{AreKept}
 use Rattle.definition_laws.specs.Storing.{IsHeldByAnother, IsTaken}
 use Rattle.definition_laws.proofs.Membership.{nothing_in, is_first, is_later, first_or_later, any_at, any_where, in_filter, from_filter, one_of}
 use Rattle.definition_laws.proofs.ReachedSets.{same_text-itself, same_text-back}
@@ -29,10 +29,10 @@ holds_itself base v =
     first_found (λ s. same_text root.resource s.resource && is_root s) root _
     (and_from (same_text root.resource root.resource) (is_root root) (same_text-itself root.resource) (root_at base v (text_at (codes "$id") v)))
 
-pub reaches_itself : (search : Search) (g : Registry) (d : Document) → IsKept search g → Contains g.documents d → Contains (reach g.documents d.canonical) d
-reaches_itself search g d kept c =
+pub reaches_itself : (search : Search) (ds : List Document) (d : Document) → AreKept search ds → Contains ds d → Contains (reach ds d.canonical) d
+reaches_itself search ds d kept c =
     let own : holds_resource d.canonical d ≡ true = subst (λ x. holds_resource x.canonical x ≡ true) (sym (kept.named d c)) (holds_itself d.base d.value) in
-    (kept_reach_is_least search g kept d.canonical d).1 (holds c own)
+    (kept_reach_is_least search ds kept d.canonical d).1 (holds c own)
 
 -- ---- the document with a URI
 found_there_at : {X : Type 0} (p : X → Bool) (x y : X) (xs : List X) (b : Bool) → p x ≡ b → (find p xs ≡ Some y → Contains xs y × (p y ≡ true))
@@ -55,22 +55,22 @@ found_some {X} p y (x ∷ xs) c e = elim (first_or_later x y xs c) [
   | inr later ↦ found_some_at p x xs (p x) (found_some p y xs later e)
 ]
 
-pub found_by_uri : (search : Search) (g : Registry) (uri : Text) (d : Document) → IsKept search g
-    → (document_of g.documents uri ≡ Some d) ↔ (Contains g.documents d × (d.canonical ≡ uri))
-found_by_uri search g uri d kept = (from_found, to_found)
+pub found_by_uri : (search : Search) (ds : List Document) (uri : Text) (d : Document) → AreKept search ds
+    → (document_of ds uri ≡ Some d) ↔ (Contains ds d × (d.canonical ≡ uri))
+found_by_uri search ds uri d kept = (from_found, to_found)
   where
-    from_found : document_of g.documents uri ≡ Some d → Contains g.documents d × (d.canonical ≡ uri)
+    from_found : document_of ds uri ≡ Some d → Contains ds d × (d.canonical ≡ uri)
     from_found e =
-        let there = found_there (λ (x : Document). same_text uri x.canonical) d g.documents e in
+        let there = found_there (λ (x : Document). same_text uri x.canonical) d ds e in
         (there.0, sym ((bytes_decides uri d.canonical).0 there.1))
 
-    to_found : Contains g.documents d × (d.canonical ≡ uri) → document_of g.documents uri ≡ Some d
+    to_found : Contains ds d × (d.canonical ≡ uri) → document_of ds uri ≡ Some d
     to_found h =
-        let some_one : (z : Document) × (document_of g.documents uri ≡ Some z) =
-        found_some (λ (x : Document). same_text uri x.canonical) d g.documents h.0 ((bytes_decides uri d.canonical).1 (sym h.1)) in
-        let there = found_there (λ (x : Document). same_text uri x.canonical) some_one.0 g.documents some_one.1 in
+        let some_one : (z : Document) × (document_of ds uri ≡ Some z) =
+        found_some (λ (x : Document). same_text uri x.canonical) d ds h.0 ((bytes_decides uri d.canonical).1 (sym h.1)) in
+        let there = found_there (λ (x : Document). same_text uri x.canonical) some_one.0 ds some_one.1 in
         let same : some_one.0 ≡ d =
-        one_of same_text (λ (x : Document). x.canonical) same_text-back g.documents (kept_distinct search g kept) some_one.0 d there.0 h.0
+        one_of same_text (λ (x : Document). x.canonical) same_text-back ds (kept_distinct search ds kept) some_one.0 d there.0 h.0
         (same_text-back d.canonical some_one.0.canonical (ap (λ t. same_text t some_one.0.canonical) h.1 ∙ there.1)) in
         some_one.1 ∙ ap Some same
 

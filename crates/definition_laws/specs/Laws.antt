@@ -1,10 +1,10 @@
 -- What the laws say.
-use Rattle.std.specs.Prelude.{◌≡◌, ℕ, List, [], ◌∷◌, false}
+use Rattle.std.specs.Prelude.{◌≡◌, ℕ, List, [], ◌∷◌, false, ⊤}
 use Rattle.definitions.specs.Values.{Text}
-use Rattle.definitions.specs.Faults.{Fault}
 use Rattle.definitions.specs.Applied.{Application, Rules}
 use Rattle.definitions.specs.Outcomes.{outcome}
-use Rattle.definitions.specs.Registries.{Search, Registry, Request, Reply, refused, step}
+use Rattle.definitions.specs.Registries.{Search, Registry, Request, Reply, refused, refused_at}
+use Rattle.definitions.specs.Steps.{step}
 use Rattle.definitions.specs.Runs.{Course, IsForRoom, replies, AgreeAnswerAlike}
 
 abbrev pub FailingEvaluatesNothing : Type 0
@@ -12,8 +12,14 @@ FailingEvaluatesNothing =
     (rules : Rules) (n : ℕ) (a : Application) → (outcome rules n a).valid ≡ false
     → ((outcome rules n a).names ≡ []) × ((outcome rules n a).indexes ≡ [])
 
+-- a fault, also one of an entry of a batch
+abbrev pub IsRefused : Reply → Type 0
+IsRefused (refused f) = ⊤
+IsRefused (refused_at k f) = ⊤
+IsRefused _ = ⊥
+
 abbrev pub RefusalsKeepTheRegistry : Type 0
-RefusalsKeepTheRegistry = (search : Search) (g : Registry) (q : Request) (f : Fault) → (step search g q).0 ≡ refused f → (step search g q).1 ≡ g
+RefusalsKeepTheRegistry = (search : Search) (g : Registry) (q : Request) → IsRefused (step search g q).0 → (step search g q).1 ≡ g
 
 -- no answer is refused for room
 abbrev pub NoneIsForRoom : Search → List Request → List Reply → Type 0

@@ -6,8 +6,8 @@ use Rattle.definitions.specs.Values.{Text, Value}
 use Rattle.definitions.specs.Schemas.{Document, document_from}
 use Rattle.definitions.specs.Reach.{holds_resource, reach}
 use Rattle.definitions.specs.Bundles.{document_of}
-use Rattle.definitions.specs.Registries.{Search, Registry, resources_of, taken_uri}
-use Rattle.definitions.specs.Runs.{IsKept}
+use Rattle.definitions.specs.Registries.{Search, resources_of, taken_uri}
+use Rattle.definitions.specs.Runs.{AreKept}
 
 -- a document has a resource under its canonical URI, its root
 abbrev pub DocumentsHoldTheirUris : Type 0
@@ -16,13 +16,13 @@ DocumentsHoldTheirUris = (base : Text) (v : Value) → IsTrue (holds_resource (d
 -- so its canonical URI reaches it
 abbrev pub StoredDocumentsAreReached : Type 0
 StoredDocumentsAreReached =
-    (search : Search) (g : Registry) (d : Document) → IsKept search g → Contains g.documents d → Contains (reach g.documents d.canonical) d
+    (search : Search) (ds : List Document) (d : Document) → AreKept search ds → Contains ds d → Contains (reach ds d.canonical) d
 
--- in a kept registry the document that is found by a URI is the one that has it as its canonical URI
+-- among kept documents the one that is found by a URI is the one that has it as its canonical URI
 abbrev pub DocumentsAreFoundByTheirUris : Type 0
 DocumentsAreFoundByTheirUris =
-    (search : Search) (g : Registry) (uri : Text) (d : Document) → IsKept search g
-    → (document_of g.documents uri ≡ Some d) ↔ (Contains g.documents d × (d.canonical ≡ uri))
+    (search : Search) (ds : List Document) (uri : Text) (d : Document) → AreKept search ds
+    → (document_of ds uri ≡ Some d) ↔ (Contains ds d × (d.canonical ≡ uri))
 
 -- a document with another canonical URI, among these, has a resource of this URI
 pub record IsHeldByAnother (ds : List Document) (d : Document) (uri : Text) : Type 0 where

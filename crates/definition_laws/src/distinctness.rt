@@ -1,20 +1,14 @@
-//! Schemas of a registry that URI and pointer tell apart (JSON Schema 2020-12 Core, 8.2.1).
+//! Schemas of kept documents that URI and pointer tell apart (JSON Schema 2020-12 Core, 8.2.1).
 
-ghost use Rattle.definition_laws.specs.Distinctness.{KeptRegistriesAreDistinct, ReachedDocumentsAreDistinct, LinkedDocumentsAreWhole};
+ghost use Rattle.definition_laws.specs.Distinctness.{KeptDocumentsAreDistinct, ReachedDocumentsAreDistinct};
 
-/// The documents of a kept registry that holds values of bodies alone have distinct resource URIs and definite values: an
-/// identity names one schema of theirs, and the resource's root and the pointer lead to it.
-pub fn kept_registries_are_distinct()
-    ensures { KeptRegistriesAreDistinct }
+/// Kept documents that are values of bodies have distinct resource URIs and definite values: an identity names one schema
+/// of theirs, and the resource's root and the pointer lead to it.
+pub fn kept_documents_are_distinct()
+    ensures { KeptDocumentsAreDistinct }
 {}
 
 /// So have the documents that a URI reaches.
 pub fn reached_documents_are_distinct()
     ensures { ReachedDocumentsAreDistinct }
-{}
-
-/// Where no reference of the reached documents is missing and their canonical URIs are absolute, they are as a bundle
-/// wants its documents.
-pub fn linked_documents_are_whole()
-    ensures { LinkedDocumentsAreWhole }
 {}

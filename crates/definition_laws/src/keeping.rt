@@ -1,15 +1,25 @@
 //! What holds of a registry from request to request.
 
-ghost use Rattle.definition_laws.specs.Keeping.{EmptyRegistriesAreKept, StepsKeepRegistries, CoursesKeepRegistries, StepsKeepBodyValues, CoursesKeepBodyValues, StepsKeepBaseForms, CoursesKeepBaseForms, QuotasStay};
+ghost use Rattle.definition_laws.specs.Keeping.{LibrariesAreKept, EmptyRegistriesAreKept, EmptyRegistriesSeeTheLibrary, StepsKeepRegistries, CoursesKeepRegistries, StepsKeepBodyValues, CoursesKeepBodyValues, StepsKeepBaseForms, CoursesKeepBaseForms, QuotasStay};
 
-/// A registry without documents is kept, and holds no value but those of bodies and no base but base forms.
+/// The library that a batch gives has kept documents, whose values are what bodies hold and whose bases are base forms.
+pub fn libraries_are_kept()
+    ensures { LibrariesAreKept }
+{}
+
+/// Beside such a library a tenant's registry without documents is kept.
 pub fn empty_registries_are_kept()
     ensures { EmptyRegistriesAreKept }
 {}
 
-/// Every request, granted or refused, leaves a kept registry kept: the documents in byte order of their canonical URIs,
-/// no more of them and no more bytes than the quotas allow, each with no fault and with patterns that can be read, and no
-/// resource URI twice.
+/// References in such a registry run over the library's documents.
+pub fn empty_registries_see_the_library()
+    ensures { EmptyRegistriesSeeTheLibrary }
+{}
+
+/// Every request, granted or refused, leaves a kept registry kept: the tenant's documents in byte order of their canonical
+/// URIs, no more of them and no more bytes than the quotas allow; they and the library's each with no fault and with
+/// patterns that can be read, and no resource URI twice.
 pub fn steps_keep_registries()
     ensures { StepsKeepRegistries }
 {}
@@ -40,7 +50,7 @@ pub fn courses_keep_base_forms()
     ensures { CoursesKeepBaseForms }
 {}
 
-/// No request changes a quota.
+/// No request changes a quota, or the library.
 pub fn quotas_stay()
     ensures { QuotasStay }
 {}

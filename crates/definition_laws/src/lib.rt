@@ -24,21 +24,19 @@ pub use bundling::{
     bundles_answer_the_same, bundles_are_alike, bundles_are_definite, bundles_keep_the_resources,
     bundles_keep_their_uri,
 };
-pub use distinctness::{
-    kept_registries_are_distinct, linked_documents_are_whole, reached_documents_are_distinct,
-};
+pub use distinctness::{kept_documents_are_distinct, reached_documents_are_distinct};
 pub use identities::{identity_names_one_schema, roots_are_found, schemas_are_pointed_to};
 pub use keeping::{
     courses_keep_base_forms, courses_keep_body_values, courses_keep_registries,
-    empty_registries_are_kept, quotas_stay, steps_keep_base_forms, steps_keep_body_values,
-    steps_keep_registries,
+    empty_registries_are_kept, empty_registries_see_the_library, libraries_are_kept, quotas_stay,
+    steps_keep_base_forms, steps_keep_body_values, steps_keep_registries,
 };
 pub use likeness::{alike_tables_answer_the_same, alike_tables_give_the_same, reach_is_enough};
 pub use linking::{least_is_least, linked_name_all, missing_name_nothing, no_texts_have_no_least};
 pub use locations::locations_name_schemas;
 pub use pointers::{pointers_are_read_back, read_pointers_have_one_text};
 pub use reaching::{
-    kept_registries_reach_least_sets, nothing_is_reached_from_nothing, reached_registries_are_kept,
+    kept_documents_reach_least_sets, nothing_is_reached_from_nothing, reached_documents_are_kept,
     reached_resources_are_distinct, reached_sets_are_least, resources_have_one_document,
     same_reached_sets_agree, tables_open_the_documents_resources, unreached_deletes_change_nothing,
     unreached_puts_change_nothing,
@@ -55,7 +53,7 @@ pub fn failing_evaluates_nothing()
     ensures { FailingEvaluatesNothing }
 {}
 
-/// A request that is refused leaves the registry as it was.
+/// A request that is refused, also for one entry of a batch, leaves the registry as it was.
 pub fn refusals_keep_the_registry()
     ensures { RefusalsKeepTheRegistry }
 {}

@@ -1,6 +1,6 @@
 //! The documents that a URI reaches (JSON Schema 2020-12 Core, 8.2.3 and 9.2).
 
-ghost use Rattle.definition_laws.specs.Reaching.{ReachedSetsAreLeast, KeptRegistriesReachLeastSets, ReachedRegistriesAreKept, ReachedResourcesAreDistinct, ResourcesHaveOneDocument, TablesOpenTheDocumentsResources, NothingIsReachedFromNothing, SameReachedSetsAgree, UnreachedPutsChangeNothing, UnreachedDeletesChangeNothing};
+ghost use Rattle.definition_laws.specs.Reaching.{ReachedSetsAreLeast, KeptDocumentsReachLeastSets, ReachedDocumentsAreKept, ReachedResourcesAreDistinct, ResourcesHaveOneDocument, TablesOpenTheDocumentsResources, NothingIsReachedFromNothing, SameReachedSetsAgree, UnreachedPutsChangeNothing, UnreachedDeletesChangeNothing};
 
 /// Of documents with distinct canonical URIs, a URI reaches those in the least set that has each document with a resource
 /// of this URI, and each document that one in the set refers to.
@@ -8,14 +8,14 @@ pub fn reached_sets_are_least()
     ensures { ReachedSetsAreLeast }
 {}
 
-/// The documents of a kept registry have distinct canonical URIs, so that what a URI reaches in it is the least set.
-pub fn kept_registries_reach_least_sets()
-    ensures { KeptRegistriesReachLeastSets }
+/// Kept documents have distinct canonical URIs, so that what a URI reaches among them is the least set.
+pub fn kept_documents_reach_least_sets()
+    ensures { KeptDocumentsReachLeastSets }
 {}
 
-/// The documents that a URI reaches in a kept registry are a kept registry by themselves.
-pub fn reached_registries_are_kept()
-    ensures { ReachedRegistriesAreKept }
+/// The documents that a URI reaches among kept ones are kept by themselves.
+pub fn reached_documents_are_kept()
+    ensures { ReachedDocumentsAreKept }
 {}
 
 /// Among documents without a resource URI twice, those that a URI reaches have none twice.
@@ -38,7 +38,7 @@ pub fn nothing_is_reached_from_nothing()
     ensures { NothingIsReachedFromNothing }
 {}
 
-/// Kept registries in which a URI reaches the same documents agree at it: what isn't reached changes no answer.
+/// Kept documents of two registries, of which a URI reaches the same, agree at it: what isn't reached changes no answer.
 pub fn same_reached_sets_agree()
     ensures { SameReachedSetsAgree }
 {}

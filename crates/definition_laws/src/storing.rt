@@ -1,4 +1,4 @@
-//! The documents that a registry holds, by their canonical URIs.
+//! Documents by their canonical URIs.
 
 ghost use Rattle.definition_laws.specs.Storing.{DocumentsHoldTheirUris, StoredDocumentsAreReached, DocumentsAreFoundByTheirUris, TakenUrisAreHeldByAnother, FreeUrisAreHeldByNoOther};
 
@@ -7,12 +7,12 @@ pub fn documents_hold_their_uris()
     ensures { DocumentsHoldTheirUris }
 {}
 
-/// A document of a kept registry is reached by its canonical URI.
+/// A kept document is reached by its canonical URI.
 pub fn stored_documents_are_reached()
     ensures { StoredDocumentsAreReached }
 {}
 
-/// The document that is found by a URI in a kept registry is the one that has it as its canonical URI.
+/// The document that is found by a URI among kept ones is the one that has it as its canonical URI.
 pub fn documents_are_found_by_their_uris()
     ensures { DocumentsAreFoundByTheirUris }
 {}

@@ -6,3 +6,6 @@ mod Validations
 mod Requests
 mod Patterns
 mod DynamicBundles
+mod Batches
+mod Tenants
+mod Caches

@@ -3,10 +3,14 @@ use Rattle.std.proofs.Common.{◌≡◌, refl}
 use Rattle.std.specs.Prelude.{[], ◌∷◌, codes, true, false, Some, None}
 use Rattle.std.specs.Fmt.{digits}
 use Rattle.std.specs.Str.{is_utf8, chars}
+use Rattle.regex_hir.specs.Find.{find_str, first_from}
+use Rattle.regex_hir.specs.Text.{is_boundary, has_bytes_at}
+use Rattle.regex_hir.specs.Re.{attempt, rounds}
+use Rattle.regex.proofs.OnLiterals.{regex_on_literals}
 use Rattle.serde_json.proofs.OnLiterals.{serde_json_on_literals}
 use Rattle.definitions.specs.Outcomes.{object_outcome, outcome}
 use Rattle.definitions.specs.Registries.{put, delete, validate, bundled_from, stored, deleted, validated, bundled}
-use Rattle.definition_rows.proofs.Asked.{replied, was, gave}
+use Rattle.definition_rows.proofs.Asked.{replied, replied_matching, reached, was, gave}
 
 taken_and_replaced : replied [] 100 10000 (
     put (codes "https://ex.org/x") (codes "{}")
@@ -140,3 +144,51 @@ bundle_of_one : replied [] 100 10000 (put (codes "https://ex.org/s") (codes "{}"
     ≡ was (stored (codes "https://ex.org/s") false) ∷ was (bundled (codes "{\"$id\":\"https://ex.org/s\"}")) ∷ []
 unfolding serde_json_on_literals digits is_utf8 chars object_outcome outcome
 bundle_of_one = refl
+
+-- ---- what a bundle is by itself
+bundled_parts_alone : replied [] 100 10000 (
+    put (codes "urn:x") (codes "{\"$defs\":{\"https://ex.org/b\":{\"$id\":\"https://ex.org/b\",\"type\":\"integer\"}},\"$id\":\"https://ex.org/root\",\"properties\":{\"a\":{\"$ref\":\"b\"}}}")
+    ∷ validate (codes "https://ex.org/root") (codes "{\"a\":\"x\"}") ∷ [])
+    ≡ was (stored (codes "https://ex.org/root") false)
+    ∷ was (validated (codes "{\"errors\":[{\"absoluteKeywordLocation\":\"https://ex.org/root#/properties\",\"error\":\"properties is not met\",\"instanceLocation\":\"\",\"keywordLocation\":\"/properties\"},{\"absoluteKeywordLocation\":\"https://ex.org/root#/properties/a/$ref\",\"error\":\"$ref is not met\",\"instanceLocation\":\"/a\",\"keywordLocation\":\"/properties/a/$ref\"},{\"absoluteKeywordLocation\":\"https://ex.org/b#/type\",\"error\":\"type is not met\",\"instanceLocation\":\"/a\",\"keywordLocation\":\"/properties/a/$ref/type\"}],\"valid\":false}")) ∷ []
+unfolding serde_json_on_literals digits is_utf8 chars object_outcome outcome
+bundled_parts_alone = refl
+
+nested_bundle : replied [] 100 10000 (
+    put (codes "https://ex.org/root") (codes "{\"$ref\":\"b\"}")
+    ∷ put (codes "https://ex.org/b") (codes "{\"const\":[[[[[[[[[[[[[[[[[[[[[[[[[[[[[[[[[[[[[[[[[[[[[[[[[[[[[[[[[[[[[[[[[[[[[[[[[[[[[[[[[[[[[[[[[[[[[[[[[[[[[[[[[[[[[[[[[[[[[]]]]]]]]]]]]]]]]]]]]]]]]]]]]]]]]]]]]]]]]]]]]]]]]]]]]]]]]]]]]]]]]]]]]]]]]]]]]]]]]]]]]]]]]]]]]]]]]]]]]]]]]]]]]]]]]]]]]]}")
+    ∷ bundled_from (codes "https://ex.org/root") ∷ [])
+    ≡ was (stored (codes "https://ex.org/root") false)
+    ∷ was (stored (codes "https://ex.org/b") false)
+    ∷ was (bundled (codes "{\"$defs\":{\"https://ex.org/b\":{\"$id\":\"https://ex.org/b\",\"const\":[[[[[[[[[[[[[[[[[[[[[[[[[[[[[[[[[[[[[[[[[[[[[[[[[[[[[[[[[[[[[[[[[[[[[[[[[[[[[[[[[[[[[[[[[[[[[[[[[[[[[[[[[[[[[[[[[[[[[]]]]]]]]]]]]]]]]]]]]]]]]]]]]]]]]]]]]]]]]]]]]]]]]]]]]]]]]]]]]]]]]]]]]]]]]]]]]]]]]]]]]]]]]]]]]]]]]]]]]]]]]]]]]]]]]]]]]]}},\"$id\":\"https://ex.org/root\",\"$ref\":\"b\"}")) ∷ []
+unfolding serde_json_on_literals digits is_utf8 chars object_outcome outcome
+nested_bundle = refl
+
+bundle_nested_too_deep : replied [] 100 10000 (
+    put (codes "https://ex.org/root") (codes "{\"$ref\":\"b\"}")
+    ∷ put (codes "https://ex.org/b") (codes "{\"const\":[[[[[[[[[[[[[[[[[[[[[[[[[[[[[[[[[[[[[[[[[[[[[[[[[[[[[[[[[[[[[[[[[[[[[[[[[[[[[[[[[[[[[[[[[[[[[[[[[[[[[[[[[[[[[[[[[[[[[[]]]]]]]]]]]]]]]]]]]]]]]]]]]]]]]]]]]]]]]]]]]]]]]]]]]]]]]]]]]]]]]]]]]]]]]]]]]]]]]]]]]]]]]]]]]]]]]]]]]]]]]]]]]]]]]]]]]]]]}")
+    ∷ bundled_from (codes "https://ex.org/root") ∷ [])
+    ≡ was (stored (codes "https://ex.org/root") false)
+    ∷ was (stored (codes "https://ex.org/b") false)
+    ∷ gave (codes "BundleTooLarge") None ∷ []
+unfolding serde_json_on_literals digits is_utf8 chars object_outcome outcome
+bundle_nested_too_deep = refl
+
+-- ---- where patterns match
+pattern_matches : replied_matching (
+    put (codes "https://ex.org/s") (codes "{\"pattern\":\"a+\"}")
+    ∷ validate (codes "https://ex.org/s") (codes "\"xaay\"")
+    ∷ put (codes "https://ex.org/s") (codes "{\"pattern\":\"(?=a)\"}")
+    ∷ validate (codes "https://ex.org/s") (codes "\"xaay\"") ∷ [])
+    ≡ was (stored (codes "https://ex.org/s") false)
+    ∷ was (validated (codes "{\"annotations\":[],\"valid\":true}"))
+    ∷ gave (codes "BadPattern") None
+    ∷ was (validated (codes "{\"annotations\":[],\"valid\":true}")) ∷ []
+unfolding serde_json_on_literals digits is_utf8 chars object_outcome outcome regex_on_literals find_str first_from is_boundary has_bytes_at attempt rounds
+pattern_matches = refl
+
+-- ---- what a URI reaches
+reached_documents : reached ((codes "https://ex.org/p", codes "{}") ∷ (codes "https://ex.org/q", codes "{}") ∷ (codes "https://ex.org/r", codes "{}") ∷ (codes "https://ex.org/s", codes "{\"$defs\":{\"u\":{\"$ref\":\"q\"},\"v\":{\"$ref\":\"p\"}}}") ∷ []) (codes "https://ex.org/s")
+    ≡ Some (codes "https://ex.org/p" ∷ codes "https://ex.org/q" ∷ codes "https://ex.org/s" ∷ [])
+unfolding serde_json_on_literals digits is_utf8 chars
+reached_documents = refl

@@ -18,6 +18,11 @@ pub mod Answers
 pub mod Reach
 pub mod Bundles
 pub mod Registries
+pub mod Batches
+pub mod Steps
 pub mod Alike
 pub mod Runs
+pub mod Services
+pub mod Caches
+pub mod Tenants
 pub mod Patterns

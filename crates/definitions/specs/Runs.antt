@@ -1,5 +1,5 @@
 -- Lists of requests: one tenant's replies, and what a run may answer where there is no room.
-use Rattle.std.specs.Prelude.{◌≡◌, ◌⊎◌, ◌≤◌, List, [], ◌∷◌, Contains, map, flat_map, Bool, ◌&&◌, false, if◌then◌else◌, None, Result, Ok, IsTrue, is_none, length, nat_lt}
+use Rattle.std.specs.Prelude.{◌≡◌, ◌⊎◌, ◌≤◌, ℕ, zero, suc, List, [], ◌∷◌, Contains, map, flat_map, Bool, ◌&&◌, false, None, Result, Ok, Err, IsTrue, is_none, is_ok, length, nat_lt}
 use Rattle.std.specs.Ordering.{nat_cmp}
 use Rattle.std.specs.Cmp.Lexicographic.{slice_cmp}
 use Rattle.std.specs.List.Sorted.{IsStrictlySortedBy}
@@ -9,12 +9,9 @@ use Rattle.definitions.specs.Resolution.{base_form}
 use Rattle.definitions.specs.Alike.{Agree}
 use Rattle.definitions.specs.Schemas.{Document, document_from}
 use Rattle.definitions.specs.Scanning.{scan_fault, patterns}
-use Rattle.definitions.specs.Registries.{Search, Request, put, validate, Reply, refused, Registry, step, body_value, is_regular, resources_of, bytes_of}
-
--- a tenant's own requests
-abbrev pub own : Text → List (Text × Request) → List Request
-own key [] = []
-own key (c ∷ cs) = if same_text key c.0 then c.1 ∷ own key cs else own key cs
+use Rattle.definitions.specs.Registries.{Search, Request, put, batch, validate, Reply, refused, refused_at, Registry, documents_seen, is_in_library, body_value, is_regular, resources_of, bytes_of}
+use Rattle.definitions.specs.Batches.{Entry, batch_entries, entry_document}
+use Rattle.definitions.specs.Steps.{step}
 
 abbrev pub replies : Search → Registry → List Request → List Reply
 replies search g [] = []
@@ -33,8 +30,27 @@ abbrev pub BuildsPatterns : Search → Request → Type 0
 BuildsPatterns search (put uri body) = IsTrue (builds search (base_form uri) (body_value body))
 BuildsPatterns search _ = ⊥
 
+-- this entry has patterns, and neither it nor one before it has a fault
+abbrev pub builds_at : Search → ℕ → List Entry → Bool
+builds_at search n [] = false
+builds_at search zero (e ∷ es) = builds search (base_form e.uri) (Ok e.schema)
+builds_at search (suc n) (e ∷ es) = is_ok (entry_document search e) && builds_at search n es
+
+abbrev pub entries_build : Search → ℕ → Result (List Entry) Fault → Bool
+entries_build search n (Ok es) = builds_at search n es
+entries_build search n (Err f) = false
+
+-- a batch that builds the patterns of this entry
+abbrev pub BuildsPatternsAt : Search → Request → ℕ → Type 0
+BuildsPatternsAt search (batch bytes) n = IsTrue (entries_build search n (batch_entries bytes))
+BuildsPatternsAt search _ n = ⊥
+
+-- of one entry's patterns
+abbrev pub IsForAnEntry : Search → Request → Reply → Type 0
+IsForAnEntry search q r = (n : ℕ) × (r ≡ refused_at n bad_pattern) × BuildsPatternsAt search q n
+
 abbrev pub IsForRoom : Search → Request → Reply → Type 0
-IsForRoom search q r = (r ≡ refused no_room) ⊎ ((r ≡ refused bad_pattern) × BuildsPatterns search q)
+IsForRoom search q r = (r ≡ refused no_room) ⊎ ((r ≡ refused bad_pattern) × BuildsPatterns search q) ⊎ IsForAnEntry search q r
 
 -- each answer is the step's, or a refusal for room that changes nothing
 abbrev pub Course : Search → Registry → List Request → List Reply → Registry → Type 0
@@ -43,21 +59,32 @@ Course search g (q ∷ qs) (r ∷ rs) h =
     ((r ≡ (step search g q).0) × Course search (step search g q).1 qs rs h) ⊎ (IsForRoom search q r × Course search g qs rs h)
 Course search g _ _ h = ⊥
 
+-- one answer of a course
+abbrev pub IsAnswer : Search → Registry → Request → Reply → Registry → Type 0
+IsAnswer search g q r h = ((r ≡ (step search g q).0) × (h ≡ (step search g q).1)) ⊎ (IsForRoom search q r × (h ≡ g))
+
 -- ---- what holds of a registry after every request
 abbrev pub resource_uris_of : List Document → List Text
 resource_uris_of ds = flat_map resources_of ds
 
+-- documents in byte order of canonical URIs that no fault is found in, without a resource URI twice
+pub record AreKept (search : Search) (ds : List Document) : Type 0 where
+  pub ordered : IsStrictlySortedBy (slice_cmp nat_cmp) (map (λ d. d.canonical) ds)
+  pub named : (d : Document) → Contains ds d → d ≡ document_from d.base d.value
+  pub distinct : has_repeat same_text (resource_uris_of ds) ≡ false
+  pub scanned : (d : Document) → Contains ds d → scan_fault d.base d.value ≡ None
+  pub regular_patterns : (d : Document) → Contains ds d → IsTrue (is_regular search d.value)
+
+-- its own documents, within the quotas, and they and the library's together
 pub record IsKept (search : Search) (g : Registry) : Type 0 where
   pub ordered : IsStrictlySortedBy (slice_cmp nat_cmp) (map (λ d. d.canonical) g.documents)
-  pub named : (d : Document) → Contains g.documents d → d ≡ document_from d.base d.value
   pub few : length g.documents ≤ g.most_documents
   pub small : bytes_of g.documents ≤ g.most_bytes
-  pub distinct : has_repeat same_text (resource_uris_of g.documents) ≡ false
-  pub scanned : (d : Document) → Contains g.documents d → scan_fault d.base d.value ≡ None
-  pub regular_patterns : (d : Document) → Contains g.documents d → IsTrue (is_regular search d.value)
+  pub apart : (d : Document) → Contains g.documents d → is_in_library g d.canonical ≡ false
+  pub seen : AreKept search (documents_seen g)
 
 -- registries that agree at the base form of a URI validate by it alike
 abbrev pub AgreeAnswerAlike : Search → Registry → Registry → Text → Text → Type 0
 AgreeAnswerAlike search g h uri body =
-    ((b : Text) → base_form uri ≡ Ok b → Agree g.documents h.documents b) →
+    ((b : Text) → base_form uri ≡ Ok b → Agree (documents_seen g) (documents_seen h) b) →
     (step search g (validate uri body)).0 ≡ (step search h (validate uri body)).0

@@ -3,7 +3,7 @@ use Rattle.std.specs.Prelude.{Option, Some, None, [], ◌∷◌, ◌++◌, strin
 use Rattle.definitions.specs.Values.{Text}
 use Rattle.definitions.specs.Faults as meaning
 use Rattle.faults.specs.declared.Fault.{Fault}
-use Rattle.faults.specs.declared.Fault.TheVariants.{BadJson, BadNumber, BadPointer, BadFragment, BadPattern, NotObject, TooNested, BadKeyword, BadId, BadAnchor, Dialect, DuplicateUri, DuplicateAnchor, NotFound, Unresolved, Costly, Loop, Deep, BundleClash, BundleTooLarge, BadCapacity, DuplicateTenant, TooManyTenants, UnknownTenant, BadUri, TooLarge, Taken, QuotaDocuments, QuotaBytes, NoRoom, IdInUse, NoSession, LibraryOwned, BadTenants, BadRoute, BadRequest, ReadFailed, WriteFailed, ReadBound, BadInput}
+use Rattle.faults.specs.declared.Fault.TheVariants.{BadJson, BadNumber, BadPointer, BadFragment, BadPattern, NotObject, TooNested, BadKeyword, BadId, BadAnchor, Dialect, DuplicateUri, DuplicateAnchor, NotFound, Unresolved, Costly, Loop, Deep, BundleClash, BundleTooLarge, BadCapacity, DuplicateTenant, TooManyTenants, UnknownTenant, BadUri, TooLarge, Taken, QuotaDocuments, QuotaBytes, NoRoom, IdInUse, NoSession, LibraryOwned, BadTenants, BadRoute, BadRequest, ReadFailed, WriteFailed, ReadBound, BadInput, BadBatch, SameDocument}
 
 abbrev pub fault : Fault → meaning.Fault
 fault BadJson = meaning.bad_json
@@ -46,6 +46,8 @@ fault ReadFailed = meaning.read_failed
 fault WriteFailed = meaning.write_failed
 fault ReadBound = meaning.read_bound
 fault BadInput = meaning.bad_input
+fault BadBatch = meaning.bad_batch
+fault (SameDocument at) = meaning.same_document (string_bytes at)
 
 -- the text that the fault carries, after a space
 abbrev pub suffix : Option Text → Text

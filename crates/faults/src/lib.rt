@@ -1,8 +1,8 @@
-//! What a call of schemareg may answer in place of a result, with the number and the name of each fault.
+//! What a call of schemareg may answer in place of a result, with the number, the name and the HTTP status of each fault.
 #![tactic(auto)]
 
 ghost use Rattle.std.specs.Prelude.{◌≡◌, Some, option_map};
-ghost use Rattle.definitions.specs.Faults.{label_of, number_of, name_of, carried};
+ghost use Rattle.definitions.specs.Faults.{row_of, number_of, name_of, status_of, carried};
 ghost use Rattle.faults.specs.View.{fault, printed};
 ghost use Rattle.faults.specs.declared.Fault.TheVariants.{NoRoom};
 
@@ -93,21 +93,32 @@ pub enum Fault {
     ReadBound,
     /// The program's input has the wrong shape.
     BadInput,
+    /// The bytes are no batch, or one of too few or too many entries.
+    BadBatch,
+    /// Two entries of the batch give documents of one canonical URI; carries this URI.
+    SameDocument(String),
 }
 
 impl Fault {
-    /// The number, from 1 to 41.
+    /// The number, from 1 to 43.
     pub fn number(&self) -> u8
         ensures { result ≡ number_of (fault self.now) }
     {
-        self.label().0
+        self.row().0
     }
 
     /// The name, as [`Fault::NoRoom`] has `NoRoom`.
     pub fn name(&self) -> &'static str
         ensures { result.now ≡ name_of (fault self.now) }
     {
-        self.label().1
+        self.row().1
+    }
+
+    /// The HTTP status of a request that is refused so, from 400 to 503 (RFC 9110, section 15); none where no request is.
+    pub fn status(&self) -> Option<u16>
+        ensures { result ≡ status_of (fault self.now) }
+    {
+        self.row().2
     }
 
     /// The text that the fault carries: a pointer, a reference or a URI.
@@ -118,56 +129,59 @@ impl Fault {
             Fault::BadKeyword(at)
             | Fault::Unresolved(at)
             | Fault::BundleClash(at)
-            | Fault::Taken(at) => Some(at.as_str()),
+            | Fault::Taken(at)
+            | Fault::SameDocument(at) => Some(at.as_str()),
             _ => None,
         }
     }
 
-    // The number and the name.
-    fn label(&self) -> (u8, &'static str)
-        ensures { (result.0, result.1.now) ≡ label_of (fault self.now) }
+    // The number, the name and the status.
+    fn row(&self) -> (u8, &'static str, Option<u16>)
+        ensures { (result.0, result.1.now, result.2) ≡ row_of (fault self.now) }
     {
         match self {
-            Fault::BadJson => (1, "BadJson"),
-            Fault::BadNumber => (2, "BadNumber"),
-            Fault::BadPointer => (3, "BadPointer"),
-            Fault::BadFragment => (4, "BadFragment"),
-            Fault::BadPattern => (5, "BadPattern"),
-            Fault::NotObject => (6, "NotObject"),
-            Fault::TooNested => (7, "TooNested"),
-            Fault::BadKeyword(_) => (8, "BadKeyword"),
-            Fault::BadId => (9, "BadId"),
-            Fault::BadAnchor => (10, "BadAnchor"),
-            Fault::Dialect => (11, "Dialect"),
-            Fault::DuplicateUri => (12, "DuplicateUri"),
-            Fault::DuplicateAnchor => (13, "DuplicateAnchor"),
-            Fault::NotFound => (14, "NotFound"),
-            Fault::Unresolved(_) => (15, "Unresolved"),
-            Fault::Costly => (16, "Costly"),
-            Fault::Loop => (17, "Loop"),
-            Fault::Deep => (18, "Deep"),
-            Fault::BundleClash(_) => (19, "BundleClash"),
-            Fault::BundleTooLarge => (20, "BundleTooLarge"),
-            Fault::BadCapacity => (21, "BadCapacity"),
-            Fault::DuplicateTenant => (22, "DuplicateTenant"),
-            Fault::TooManyTenants => (23, "TooManyTenants"),
-            Fault::UnknownTenant => (24, "UnknownTenant"),
-            Fault::BadUri => (25, "BadUri"),
-            Fault::TooLarge => (26, "TooLarge"),
-            Fault::Taken(_) => (27, "Taken"),
-            Fault::QuotaDocuments => (28, "QuotaDocuments"),
-            Fault::QuotaBytes => (29, "QuotaBytes"),
-            Fault::NoRoom => (30, "NoRoom"),
-            Fault::IdInUse => (31, "IdInUse"),
-            Fault::NoSession => (32, "NoSession"),
-            Fault::LibraryOwned => (34, "LibraryOwned"),
-            Fault::BadTenants => (35, "BadTenants"),
-            Fault::BadRoute => (36, "BadRoute"),
-            Fault::BadRequest => (37, "BadRequest"),
-            Fault::ReadFailed => (38, "ReadFailed"),
-            Fault::WriteFailed => (39, "WriteFailed"),
-            Fault::ReadBound => (40, "ReadBound"),
-            Fault::BadInput => (41, "BadInput"),
+            Fault::BadJson => (1, "BadJson", Some(400)),
+            Fault::BadNumber => (2, "BadNumber", Some(400)),
+            Fault::BadPointer => (3, "BadPointer", None),
+            Fault::BadFragment => (4, "BadFragment", None),
+            Fault::BadPattern => (5, "BadPattern", Some(400)),
+            Fault::NotObject => (6, "NotObject", Some(400)),
+            Fault::TooNested => (7, "TooNested", Some(400)),
+            Fault::BadKeyword(_) => (8, "BadKeyword", Some(400)),
+            Fault::BadId => (9, "BadId", Some(400)),
+            Fault::BadAnchor => (10, "BadAnchor", Some(400)),
+            Fault::Dialect => (11, "Dialect", Some(400)),
+            Fault::DuplicateUri => (12, "DuplicateUri", Some(400)),
+            Fault::DuplicateAnchor => (13, "DuplicateAnchor", Some(400)),
+            Fault::NotFound => (14, "NotFound", Some(404)),
+            Fault::Unresolved(_) => (15, "Unresolved", Some(409)),
+            Fault::Costly => (16, "Costly", Some(400)),
+            Fault::Loop => (17, "Loop", Some(400)),
+            Fault::Deep => (18, "Deep", Some(400)),
+            Fault::BundleClash(_) => (19, "BundleClash", Some(409)),
+            Fault::BundleTooLarge => (20, "BundleTooLarge", Some(400)),
+            Fault::BadCapacity => (21, "BadCapacity", None),
+            Fault::DuplicateTenant => (22, "DuplicateTenant", None),
+            Fault::TooManyTenants => (23, "TooManyTenants", None),
+            Fault::UnknownTenant => (24, "UnknownTenant", Some(403)),
+            Fault::BadUri => (25, "BadUri", Some(400)),
+            Fault::TooLarge => (26, "TooLarge", None),
+            Fault::Taken(_) => (27, "Taken", Some(409)),
+            Fault::QuotaDocuments => (28, "QuotaDocuments", Some(403)),
+            Fault::QuotaBytes => (29, "QuotaBytes", Some(403)),
+            Fault::NoRoom => (30, "NoRoom", Some(503)),
+            Fault::IdInUse => (31, "IdInUse", None),
+            Fault::NoSession => (32, "NoSession", None),
+            Fault::LibraryOwned => (34, "LibraryOwned", Some(409)),
+            Fault::BadTenants => (35, "BadTenants", None),
+            Fault::BadRoute => (36, "BadRoute", Some(404)),
+            Fault::BadRequest => (37, "BadRequest", Some(400)),
+            Fault::ReadFailed => (38, "ReadFailed", None),
+            Fault::WriteFailed => (39, "WriteFailed", None),
+            Fault::ReadBound => (40, "ReadBound", None),
+            Fault::BadInput => (41, "BadInput", None),
+            Fault::BadBatch => (42, "BadBatch", Some(400)),
+            Fault::SameDocument(_) => (43, "SameDocument", Some(409)),
         }
     }
 }
@@ -177,7 +191,7 @@ impl fmt::Display for Fault {
     ghost output = { λ f. Some (printed (fault f)) };
 
     fn fmt<W: fmt::Write>(&self, f: &mut fmt::Formatter<W>) -> fmt::Result {
-        let (number, name) = self.label();
+        let (number, name, _) = self.row();
         match self.at() {
             Some(at) => write!(f, "{number} {name} {at}"),
             None => write!(f, "{number} {name}"),
@@ -213,6 +227,7 @@ mod tests {
         let clash = Fault::BundleClash(String::from_str(rt.alloc(), "https://ex.org/b")?);
         assert_eq!(rt; clash.number(), 19);
         assert_eq!(rt; clash.name(), "BundleClash");
+        assert_eq!(rt; clash.status(), Some(409));
         assert_eq!(rt; clash.at(), Some("https://ex.org/b"));
         assert_eq!(rt;
             format!(in rt.alloc(); "{clash}")?.as_str(),
@@ -224,6 +239,7 @@ mod tests {
     #[test]
     fn carries_no_text(rt: HostRuntime) -> Result<(), Fail> {
         assert_eq!(rt; Fault::NoRoom.at(), None);
+        assert_eq!(rt; Fault::ReadFailed.status(), None);
         assert_eq!(rt;
             format!(in rt.alloc(); "{}", Fault::NoRoom)?.as_str(),
             "30 NoRoom"

@@ -1,5 +1,5 @@
 use Rattle.definition_laws.proofs.KeptReaches.{kept_reach_is_least}
-use Rattle.definition_laws.proofs.reaching.kept_registries_reach_least_sets.Goals as goal
+use Rattle.definition_laws.proofs.reaching.kept_documents_reach_least_sets.Goals as goal
 
 pub returns : goal.returns
 returns c = kept_reach_is_least

@@ -1,5 +1,0 @@
-use Rattle.definition_laws.proofs.DistinctRegistries.{kept_distinct_schemas}
-use Rattle.definition_laws.proofs.distinctness.kept_registries_are_distinct.Goals as goal
-
-pub returns : goal.returns
-returns c = kept_distinct_schemas

@@ -64,29 +64,33 @@ accepted search g d after e =
     let parts = accepted_by (scan_faults d.base d.value) (is_regular search d.value) (is_in_library g d.canonical) (taken_uri (documents_seen g) d) (nat_lt g.most_documents (length after)) (nat_lt g.most_bytes (bytes_of after)) e in
     record { scanned = parts.0; regular = parts.1.0; unowned = parts.1.1.0; free = parts.1.1.1.0; few = parts.1.1.1.1.0; small = parts.1.1.1.1.1 }
 
--- an object, with no URI and no anchor twice
+-- the tests of a scan
 pub record IsScanned (d : Document) : Type 0 where
   pub object : is_object d.value ≡ true
+  pub shallow : nat_lt most_nested_schema (nesting d.value) ≡ false
+  pub walk : walked (suc (nesting d.value)) d.base [] (schema_at d.base [] d.value) ≡ []
   pub uris : has_repeat same_text (resources_of d) ≡ false
   pub anchors : has_repeat same_anchor (flat_map anchors_of (schemas_of d.base d.value)) ≡ false
 
-unless_none : (b : Bool) (f : Fault) → unless b f ≡ [] → b ≡ true
+pub unless_none : (b : Bool) (f : Fault) → unless b f ≡ [] → b ≡ true
 unless_none true f e = refl
 unless_none false f e = cc
 
-scanned_by : (object : Bool) (others : List Fault) (uris anchors : Bool)
-    → (unless object not_object ++ others) ++ (when uris duplicate_uri ++ when anchors duplicate_anchor) ≡ [] → (object ≡ true) × ((uris ≡ false) × (anchors ≡ false))
-scanned_by object others uris anchors e =
-    let both = neither (unless object not_object ++ others) _ e in
+scanned_by : (object nested uris anchors : Bool) (walk : List Fault)
+    → (unless object not_object ++ (when nested too_nested ++ walk)) ++ (when uris duplicate_uri ++ when anchors duplicate_anchor) ≡ []
+    → (object ≡ true) × ((nested ≡ false) × ((walk ≡ []) × ((uris ≡ false) × (anchors ≡ false))))
+scanned_by object nested uris anchors walk e =
+    let both = neither (unless object not_object ++ (when nested too_nested ++ walk)) _ e in
+    let form = neither (unless object not_object) (when nested too_nested ++ walk) both.0 in
+    let rest = neither (when nested too_nested) walk form.1 in
     let names = neither (when uris duplicate_uri) (when anchors duplicate_anchor) both.1 in
-    (unless_none object not_object (neither (unless object not_object) others both.0).0, (when_none uris duplicate_uri names.0, when_none anchors duplicate_anchor names.1))
+    (unless_none object not_object form.0, (when_none nested too_nested rest.0, (rest.1, (when_none uris duplicate_uri names.0, when_none anchors duplicate_anchor names.1))))
 
 pub scanned : (d : Document) → scan_faults d.base d.value ≡ [] → IsScanned d
 scanned d e =
-    let parts = scanned_by (is_object d.value)
-    (when (nat_lt most_nested_schema (nesting d.value)) too_nested ++ walked (suc (nesting d.value)) d.base [] (schema_at d.base [] d.value))
-    (has_repeat same_text (resources_of d)) (has_repeat same_anchor (flat_map anchors_of (schemas_of d.base d.value))) e in
-    record { object = parts.0; uris = parts.1.0; anchors = parts.1.1 }
+    let parts = scanned_by (is_object d.value) (nat_lt most_nested_schema (nesting d.value)) (has_repeat same_text (resources_of d))
+    (has_repeat same_anchor (flat_map anchors_of (schemas_of d.base d.value))) (walked (suc (nesting d.value)) d.base [] (schema_at d.base [] d.value)) e in
+    record { object = parts.0; shallow = parts.1.0; walk = parts.1.1.0; uris = parts.1.1.1.0; anchors = parts.1.1.1.1 }
 
 -- none of its URIs is held by a document with another canonical URI
 pub free_of_others : (ds : List Document) (d e : Document) → taken_uri ds d ≡ None → Contains ds e → (slice_cmp nat_cmp d.canonical e.canonical ≡ Equal → ⊥)

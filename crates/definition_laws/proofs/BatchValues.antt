@@ -2,7 +2,7 @@
 use Rattle.std.proofs.Common.{◌≡◌, ℕ, Bool, true, false, cond, List, [], ◌∷◌, length, nat_le, Contains, Option, Some, None, option_and_then, option_map, Result, Ok, Err, IsTrue, codes, refl, sym, ap, ◌∙◌, subst, inl, inr}
 use Rattle.std.proofs.lemmas.Bool.{and_parts}
 use Rattle.std.specs.Str.{is_utf8}
-use Rattle.definitions.specs.Values.{Text, Value, null, boolean, integer, string, array, object, Elements, no_elements, element, Members, no_members, member, elements_list, members_list, entry, get, text_at, same_text, is_before, is_well_formed, are_well_formed, are_well_formed_members}
+use Rattle.definitions.specs.Values.{Text, Value, null, boolean, integer, string, array, object, Elements, no_elements, element, Members, no_members, member, elements_list, members_list, entry, get, as_string, text_at, same_text, is_before, is_well_formed, are_well_formed, are_well_formed_members}
 use Rattle.definitions.specs.Faults.{Fault}
 use Rattle.definitions.specs.Pointers.{each}
 use Rattle.definitions.specs.Registries.{body_value, most_body_bytes}
@@ -95,17 +95,40 @@ batch_is (Err f) es e = cc
 abbrev entry_with : Text → Value → Entry
 entry_with uri schema = record { uri = uri; schema = schema }
 
-schema_is : (v : Value) (x : Entry) → entry_in v ≡ Some x → get (codes "schema") v ≡ Some x.schema
-schema_is v x e =
-    let uri = bound (λ u. option_map (entry_with u) (get (codes "schema") v)) (text_at (codes "uri") v) x e in
-    let schema = under (entry_with uri.0) (get (codes "schema") v) x uri.1.1 in
-    schema.1.0 ∙ ap (λ (y : Entry). Some y.schema) schema.1.1
+-- the text that a member is
+pub text_value : (o : Option Value) (t : Text) → option_and_then as_string o ≡ Some t → o ≡ Some (string t)
+text_value None t e = cc
+text_value (Some null) t e = cc
+text_value (Some (boolean b)) t e = cc
+text_value (Some (integer z)) t e = cc
+text_value (Some (string s)) t e = let same : s ≡ t = cc in ap (λ x. Some (string x)) same
+text_value (Some (array vs)) t e = cc
+text_value (Some (object ms)) t e = cc
 
-pub entry_formed : (bytes : Text) (es : List Entry) (x : Entry) → batch_entries bytes ≡ Ok es → Contains es x → IsBodyValue x.schema
-entry_formed bytes es x e c =
+entry_parts : (v : Value) (x : Entry) → entry_in v ≡ Some x → (get (codes "uri") v ≡ Some (string x.uri)) × (get (codes "schema") v ≡ Some x.schema)
+entry_parts v x e =
+    let uri = bound (λ u. option_map (entry_with u) (get (codes "schema") v)) (text_at (codes "uri") v) x e in
+    let schema = under (entry_with uri.0) (get (codes "schema") v) x uri.1.1 in (
+      text_value (get (codes "uri") v) uri.0 uri.1.0 ∙ ap (λ (y : Entry). Some (string y.uri)) schema.1.1,
+      schema.1.0 ∙ ap (λ (y : Entry). Some y.schema) schema.1.1,
+    )
+
+-- the value in the body that the entry is
+entry_from : (bytes : Text) (es : List Entry) (x : Entry) → batch_entries bytes ≡ Ok es → Contains es x → (v : Value) × (IsBodyValue v × (entry_in v ≡ Some x))
+entry_from bytes es x e c =
     let read = batch_is (body_value bytes) es e in
     let listed = entries_are (get (codes "put") read.0) es read.1.1 in
     let body : IsBodyValue (array listed.0) = got_formed (codes "put") read.0 (array listed.0) (body_formed bytes read.0 read.1.0) listed.1.0 in
     let short = and_parts (nat_le (length (elements_list listed.0)) most_body_bytes) (have_arrays_within most_body_bytes listed.0) body.short_arrays in
     let from : (v : Value) × (Contains (elements_list listed.0) v × (entry_in v ≡ Some x)) = from_each entry_in (elements_list listed.0) es listed.1.1 x c in
-    got_formed (codes "schema") from.0 x.schema (element_formed listed.0 from.0 body.well_formed short.1 from.1.0) (schema_is from.0 x from.1.1)
+    (from.0, (element_formed listed.0 from.0 body.well_formed short.1 from.1.0, from.1.1))
+
+pub entry_formed : (bytes : Text) (es : List Entry) (x : Entry) → batch_entries bytes ≡ Ok es → Contains es x → IsBodyValue x.schema
+entry_formed bytes es x e c =
+    let from = entry_from bytes es x e c in
+    got_formed (codes "schema") from.0 x.schema from.1.0 (entry_parts from.0 x from.1.1).1
+
+pub entry_text : (bytes : Text) (es : List Entry) (x : Entry) → batch_entries bytes ≡ Ok es → Contains es x → is_utf8 x.uri ≡ true
+entry_text bytes es x e c =
+    let from = entry_from bytes es x e c in
+    (got_formed (codes "uri") from.0 (string x.uri) from.1.0 (entry_parts from.0 x from.1.1).0).well_formed

@@ -30,7 +30,7 @@ use Rattle.definition_laws.proofs.LeastTexts.{no_least}
 schema_equal : (s t : Schema) → s.resource ≡ t.resource → s.pointer ≡ t.pointer → s.value ≡ t.value → s ≡ t
 schema_equal s t e f g = λ i. record { resource = e i; pointer = f i; value = g i }
 
-own_root_is : (d : Document) → d ≡ document_from d.base d.value → schema_at d.base [] d.value ≡ root_schema d.canonical d.value
+pub own_root_is : (d : Document) → d ≡ document_from d.base d.value → schema_at d.base [] d.value ≡ root_schema d.canonical d.value
 own_root_is d named =
     schema_equal (schema_at d.base [] d.value) (root_schema d.canonical d.value) (sym (ap (λ x. x.canonical) named)) (root_opened d.base d.value) (value-opened d.base [] d.value _)
 
@@ -44,11 +44,11 @@ all_below base v s i =
     let o = within_from keywords (suc (nesting top.value)) [] top q.0 q.1 in
     (o.0, subst (λ x. IsBelow keywords top x o.0) q.2 o.2)
 
-own_root_in : (d : Document) → d ≡ document_from d.base d.value → IsIn (root_schema d.canonical d.value) (schemas_of d.base d.value)
+pub own_root_in : (d : Document) → d ≡ document_from d.base d.value → IsIn (root_schema d.canonical d.value) (schemas_of d.base d.value)
 own_root_in d named = subst (λ s. IsIn s (schemas_of d.base d.value)) (own_root_is d named) (start_in d.base d.value)
 
 -- ---- a root among the others that are bundled with it
-record IsMade (ds : List Document) (root : Document) (others : List Document) : Type 0 where
+pub record IsMade (ds : List Document) (root : Document) (others : List Document) : Type 0 where
   pub whole : AreWhole ds
   pub root_in : IsIn root ds
   pub others_in : (d : Document) → IsIn d others → IsIn d ds
@@ -86,7 +86,7 @@ module _ (ds : List Document) (root : Document) (others : List Document) (made :
   abbrev O : List Schema
   O = table_of (document_from base v ∷ [])
 
-  top_is : schema_at base [] v ≡ root_schema root.canonical v
+  pub top_is : schema_at base [] v ≡ root_schema root.canonical v
   top_is = opened_there base root.canonical [] v (absolute_in root made.root_in) (bundle_id root others (object_in root made.root_in))
 
   top_in : IsIn (root_schema root.canonical v) O
@@ -113,7 +113,7 @@ module _ (ds : List Document) (root : Document) (others : List Document) (made :
       extends_by (root_schema root.canonical root.value) (root_schema root.canonical v) (refl, bundle_unbundled root others (object_in root made.root_in))
       (λ n x rest part j p. bundle_keeps root others (object_in root made.root_in) (made.whole.values root (contains_from_in ds root made.root_in)) made.apart n rest part (x, j, p))
 
-  embedded_is : (d : Document) → IsIn d ds → (way : Pointer) → below (root_schema root.canonical v) way (under_its_uri d) ≡ root_schema d.canonical (under_its_uri d)
+  pub embedded_is : (d : Document) → IsIn d ds → (way : Pointer) → below (root_schema root.canonical v) way (under_its_uri d) ≡ root_schema d.canonical (under_its_uri d)
   embedded_is d i way = opened_there root.canonical d.canonical way (under_its_uri d) (absolute_in d i) (under_id d (object_in d i))
 
   embedded_in : (d : Document) → IsIn d others → IsIn (root_schema d.canonical (under_its_uri d)) O
@@ -195,7 +195,7 @@ bundle_unless_is : (o : Option Text) (root : Document) (others : List Document) 
 bundle_unless_is None root others v e = (refl, sized_is (bundle_of root others) v e)
 bundle_unless_is (Some key) root others v e = absurd (cc)
 
-bundle_parts : (o : Option Document) (others : List Document) (v : Value) → bundle_from o others ≡ Ok v → (root : Document) × (o ≡ Some root) × ((clash root others ≡ None) × (v ≡ bundle_of root others))
+pub bundle_parts : (o : Option Document) (others : List Document) (v : Value) → bundle_from o others ≡ Ok v → (root : Document) × (o ≡ Some root) × ((clash root others ≡ None) × (v ≡ bundle_of root others))
 bundle_parts None others v e = absurd (cc)
 bundle_parts (Some root) others v e = (root, refl, bundle_unless_is (clash root others) root others v e)
 
@@ -213,7 +213,7 @@ own_uris ds whole d e i j same =
     own : (c : Document) → IsIn c ds → IsIn c.canonical (resources_of c)
     own c k = own_uri c (root_schema c.canonical c.value) (own_root_in c (whole.named c (contains_from_in ds c k)))
 
-made_of : (ds : List Document) (uri : Text) (root : Document) → AreWhole ds → document_of ds uri ≡ Some root → clash root (others_of uri ds) ≡ None → IsMade ds root (others_of uri ds)
+pub made_of : (ds : List Document) (uri : Text) (root : Document) → AreWhole ds → document_of ds uri ≡ Some root → clash root (others_of uri ds) ≡ None → IsMade ds root (others_of uri ds)
 made_of ds uri root whole e none =
     let inside : IsIn root ds = found_in (λ d. same_text uri d.canonical) ds root e in
     let own : HaveOwnUris ds = own_uris ds whole in
@@ -240,7 +240,7 @@ uri_kept ds uri base v whole e =
     ∙ ap (λ s. s.resource) (top_is ds root (others_of uri ds) (made_of ds uri root whole parts.1 (parts.2).0) base)
     ∙ sym found
 
-bundle_corresponds : (ds : List Document) (uri base : Text) (v : Value) → AreWhole ds → bundle ds uri ≡ Ok v → Correspond (table_of ds) (table_of (document_from base v ∷ []))
+pub bundle_corresponds : (ds : List Document) (uri base : Text) (v : Value) → AreWhole ds → bundle ds uri ≡ Ok v → Correspond (table_of ds) (table_of (document_from base v ∷ []))
 bundle_corresponds ds uri base v whole e =
     let parts = bundle_parts (document_of ds uri) (others_of uri ds) v e in
     let root : Document = parts.0 in
@@ -258,7 +258,7 @@ uris_over table other over u i =
     let root : is_root t.0 ≡ true = ap (λ p. length p == 0) (alike_pointer s.0 t.0 t.2) ∙ filter_passes is_root table s.0 s.1 in
     subst (λ x. IsIn x (resource_uris other)) (alike_resource s.0 t.0 t.2 ∙ s.2) (into_map (λ r. r.resource) (filter is_root other) t.0 (into_filter is_root other t.0 t.1 root))
 
-definite_made : (ds : List Document) (root : Document) (others : List Document) → IsMade ds root others → IsDefinite (bundle_of root others)
+pub definite_made : (ds : List Document) (root : Document) (others : List Document) → IsMade ds root others → IsDefinite (bundle_of root others)
 definite_made ds root others made =
     bundle_definite root others (made.whole.texts root (contains_from_in ds root made.root_in)) (made.whole.values root (contains_from_in ds root made.root_in))
     (λ d i. made.whole.texts d (contains_from_in ds d (made.others_in d i))) (λ d i. made.whole.values d (contains_from_in ds d (made.others_in d i)))

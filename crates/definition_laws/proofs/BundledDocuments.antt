@@ -45,7 +45,7 @@ under_id d h =
     ap (λ ms. option_and_then as_string (entry (codes "$id") ms)) (members_with (codes "$id") (string d.canonical) d.value h)
     ∙ ap (option_and_then as_string) (put_entry (codes "$id") (string d.canonical) (members d.value))
 
-unlike : (n m : Text) → same_text n m ≡ false → n ≡ m → ⊥
+pub unlike : (n m : Text) → same_text n m ≡ false → n ≡ m → ⊥
 unlike n m h e = let same : same_text n m ≡ true = subst (λ x. same_text n x ≡ true) e (same_text_itself n) in absurd (let no : true ≡ false = sym same ∙ h in cc)
 
 no_place : (n : Text) (x : Value) (rest : Pointer) (part : Value) → n ≡ codes "$id" → IsIn (rest, part) (places x (shape_in keywords n)) → ⊥
@@ -89,7 +89,7 @@ embedded_has (e ∷ ds) ms d once (inr i) = by (same_text d.canonical e.canonica
         subst (λ x. IsIn (x.canonical, under_its_uri x) (embedded (e ∷ ds) ms)) same (put_in e.canonical (under_its_uri e) (embedded ds ms))
     by false s later = put_beside e.canonical (under_its_uri e) (embedded ds ms) (d.canonical, under_its_uri d) later (unlike d.canonical e.canonical s)
 
-embedded_from : (ds : List Document) (ms : List (Text × Value)) (m : Text × Value) → IsIn m (embedded ds ms) → ((d : Document) × IsIn d ds × ((d.canonical, under_its_uri d) ≡ m)) ⊎ IsIn m ms
+pub embedded_from : (ds : List Document) (ms : List (Text × Value)) (m : Text × Value) → IsIn m (embedded ds ms) → ((d : Document) × IsIn d ds × ((d.canonical, under_its_uri d) ≡ m)) ⊎ IsIn m ms
 embedded_from [] ms m i = inr i
 embedded_from (d ∷ ds) ms m i = elim (put_from d.canonical (under_its_uri d) (embedded ds ms) m i) [
   | inl e ↦ inl (d, inl refl, e)
@@ -120,13 +120,13 @@ IsApart root others = (d : Document) → IsIn d others → (x : Value) → IsIn 
 abbrev pub HaveOwnUris : List Document → Type 0
 HaveOwnUris ds = (d e : Document) → IsIn d ds → IsIn e ds → d.canonical ≡ e.canonical → d ≡ e
 
-abbrev new_defs : Document → List Document → Value
+abbrev pub new_defs : Document → List Document → Value
 new_defs root ds = object (to_members (embedded ds (defs_of root.value)))
 
-members-new : (root : Document) (ds : List Document) → members (new_defs root ds) ≡ embedded ds (defs_of root.value)
+pub members-new : (root : Document) (ds : List Document) → members (new_defs root ds) ≡ embedded ds (defs_of root.value)
 members-new root ds = members_back (embedded ds (defs_of root.value))
 
-members-bundle : (root d : Document) (ds : List Document) → is_object root.value ≡ true
+pub members-bundle : (root d : Document) (ds : List Document) → is_object root.value ≡ true
     → members (bundle_of root (d ∷ ds)) ≡ put_member (codes "$defs") (new_defs root (d ∷ ds)) (members (under_its_uri root))
 members-bundle root d ds h = members_with (codes "$defs") (new_defs root (d ∷ ds)) (under_its_uri root) (is_object-with (codes "$id") (string root.canonical) root.value h)
 

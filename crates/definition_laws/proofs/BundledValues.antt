@@ -100,7 +100,7 @@ unfolding is_utf8 chars encode
 defs_text = refl
 
 -- ---- the bundle
-under_definite : (d : Document) → is_utf8 d.canonical ≡ true → IsDefinite d.value → IsDefinite (under_its_uri d)
+pub under_definite : (d : Document) → is_utf8 d.canonical ≡ true → IsDefinite d.value → IsDefinite (under_its_uri d)
 under_definite d a h = definite-with (codes "$id") (string d.canonical) d.value id_text (record { well_formed = a; short_arrays = refl }) h
 
 embedded_definite : (ds : List Document) (ms : List (Text × Value)) → ((d : Document) → IsIn d ds → is_utf8 d.canonical ≡ true) → ((d : Document) → IsIn d ds → IsDefinite d.value)

@@ -1,21 +1,17 @@
 -- Kept documents that are values of bodies have distinct resource URIs and definite values.
-use Rattle.std.proofs.Common.{List, [], ◌≡◌, ℕ, ◌<◌, ◌^◌, Bool, true, length, nat_lt, nat_le, filter, Contains, IsTrue, lt-ltb, lt_of_le_of_lt, lit<, refl, ap, ◌∙◌, subst}
+use Rattle.std.proofs.Common.{List, ◌≡◌, ℕ, ◌<◌, ◌^◌, Bool, true, length, nat_lt, nat_le, filter, Contains, lt-ltb, lt_of_le_of_lt, lit<, refl, ap, ◌∙◌, subst}
 use Rattle.std.proofs.lemmas.Bool.{and_from, and_parts, leb-true}
-use Rattle.std.specs.Str.{is_utf8}
 use Rattle.definitions.specs.Values.{Text, Value, null, boolean, integer, string, array, object, Elements, no_elements, element, Members, no_members, member, elements_list, has_repeat, same_text}
 use Rattle.definitions.specs.Schemas.{Document}
-use Rattle.definitions.specs.Scanning.{scan_faults}
-use Rattle.definitions.specs.Reach.{reach, missing}
+use Rattle.definitions.specs.Reach.{reach}
 use Rattle.definitions.specs.Registries.{Search}
 use Rattle.definitions.specs.Runs.{AreKept}
 use Rattle.definition_laws.specs.Identities.{has_short_arrays, have_short_arrays, members_have_short_arrays, IsDefinite, IsDistinct}
-use Rattle.definition_laws.specs.Bundling.{AreWhole, IsAbsolute}
 use Rattle.definition_laws.specs.Reading.{has_arrays_within, have_arrays_within, members_have_arrays_within}
 use Rattle.definition_laws.specs.Keeping.{IsBodyValue, HaveBodyValues}
 use Rattle.definition_laws.proofs.Membership.{from_filter}
 use Rattle.definition_laws.proofs.ReachedSets.{reach_as_filter}
 use Rattle.definition_laws.proofs.Resources.{table_uris}
-use Rattle.definition_laws.proofs.AcceptedDocuments.{first_none, scanned}
 use Rattle.definition_laws.proofs.KeptReaches.{reached_kept}
 
 mutual
@@ -58,18 +54,3 @@ reached_held ds uri held d c =
 
 pub reached_distinct_schemas : (search : Search) (ds : List Document) (uri : Text) → AreKept search ds → HaveBodyValues ds → IsDistinct (reach ds uri)
 reached_distinct_schemas search ds uri kept held = kept_distinct_schemas search (reach ds uri) (reached_kept search ds uri kept) (reached_held ds uri held)
-
-pub reached_whole : (search : Search) (ds : List Document) (uri : Text) → AreKept search ds → HaveBodyValues ds
-    → ((d : Document) → Contains (reach ds uri) d → IsTrue (is_utf8 d.canonical) × IsAbsolute d.canonical) → missing (reach ds uri) ≡ [] → AreWhole (reach ds uri)
-reached_whole search ds uri kept held uris linked =
-    let reached = reached_kept search ds uri kept in
-    record {
-      distinct = reached.distinct;
-      anchors = λ d c. (scanned d (first_none (scan_faults d.base d.value) (reached.scanned d c))).anchors;
-      named = reached.named;
-      objects = λ d c. (scanned d (first_none (scan_faults d.base d.value) (reached.scanned d c))).object;
-      values = λ d c. definite d.value (reached_held ds uri held d c);
-      texts = λ d c. (uris d c).0;
-      absolute = λ d c. (uris d c).1;
-      linked = linked;
-    }

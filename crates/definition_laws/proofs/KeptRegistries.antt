@@ -150,12 +150,12 @@ course_bases_kept search g h qs rs course kept held =
     (λ i q before. (step_kept search i q before.0, bases_kept search i q before.0 before.1)) g h qs rs course (kept, held)).1
 
 -- ---- from a library and an empty registry on
-entries_give : (search : Search) (r : Result (List Entry) Fault) (library : List Document) → library_by search r ≡ Ok library
+pub entries_give : (search : Search) (r : Result (List Entry) Fault) (library : List Document) → library_by search r ≡ Ok library
     → (es : List Entry) × ((r ≡ Ok es) × (library_from (entry_documents search 0 es) ≡ Ok library))
 entries_give search (Ok es) library e = (es, (refl, e))
 entries_give search (Err f) library e = cc
 
-documents_give : (r : Result (List Document) Numbered) (library : List Document) → library_from r ≡ Ok library
+pub documents_give : (r : Result (List Document) Numbered) (library : List Document) → library_from r ≡ Ok library
     → (ds : List Document) × ((r ≡ Ok ds) × ((placed_all ds [] ≡ library) × AreFree (placed_all ds []) ds))
 documents_give (Ok ds) library e = (ds, (refl, library_free ds library e))
 documents_give (Err (k, f)) library e = cc

@@ -67,7 +67,7 @@ module _ {X : Type 0} (alike : X → X → Bool) (laws : IsEquivalence alike) wh
       or_from (list_any (alike y) ys) (has_repeat alike ys) (none_counted (alike y) ys (omega arith))
       (not_twice ys (λ x. fewer_in_rest (alike x y) (count (alike x) ys) (h x)))
 
-  repeat_permuted : (xs ys : List X) → IsPermutation xs ys → has_repeat alike xs ≡ has_repeat alike ys
+  pub repeat_permuted : (xs ys : List X) → IsPermutation xs ys → has_repeat alike xs ≡ has_repeat alike ys
   repeat_permuted xs ys moved =
       same_test (has_repeat alike xs) (has_repeat alike ys)
       (λ h. not_twice ys (λ x. subst (λ n. n ≤ 1) (sym (count_permuted (alike x) xs ys moved)) (once xs h x)))

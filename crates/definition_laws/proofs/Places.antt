@@ -76,7 +76,7 @@ short_array (object ms) d = omega arith
 not_before_itself : (n : Text) → slice_cmp nat_cmp n n ≡ Less → ⊥
 not_before_itself n h = let other : Less ≡ Greater = sym h ∙ (nat_list_cmp_total.antisymm n n ∙ ap ordering_reverse h) in cc
 
-before_all : (n : Text) (ms : Members) (m : Text) (v : Value) → is_before n ms ≡ true → are_well_formed_members ms ≡ true → IsIn (m, v) (members_list ms) → slice_cmp nat_cmp n m ≡ Less
+pub before_all : (n : Text) (ms : Members) (m : Text) (v : Value) → is_before n ms ≡ true → are_well_formed_members ms ≡ true → IsIn (m, v) (members_list ms) → slice_cmp nat_cmp n m ≡ Less
 before_all n no_members m v b h i = absurd i
 before_all n (member k u ms) m v b h (inl e) = rw (← ap (λ x. x.0) e) (is_less _ b)
 before_all n (member k u ms) m v b h (inr i) =

@@ -20,23 +20,23 @@ pub record IsKeptByChanges (search : Search) (P : Registry → Type 0) (g : Regi
       → batch_refusal g ds (placed_all ds g.documents) ≡ None → P (record g { documents = placed_all ds g.documents })
 
 module _ (P : Registry → Type 0) where
-  for_base_keeps : (g : Registry) (r : Result Text Fault) (next : Text → Reply × Registry) → ((b : Text) → r ≡ Ok b → P (next b).1) → P g → P (for_base g r next).1
+  pub for_base_keeps : (g : Registry) (r : Result Text Fault) (next : Text → Reply × Registry) → ((b : Text) → r ≡ Ok b → P (next b).1) → P g → P (for_base g r next).1
   for_base_keeps g (Ok b) next h before = h b refl
   for_base_keeps g (Err e) next h before = before
 
-  for_value_keeps : (g : Registry) (r : Result Value Fault) (next : Value → Reply × Registry) → ((v : Value) → r ≡ Ok v → P (next v).1) → P g → P (for_value g r next).1
+  pub for_value_keeps : (g : Registry) (r : Result Value Fault) (next : Value → Reply × Registry) → ((v : Value) → r ≡ Ok v → P (next v).1) → P g → P (for_value g r next).1
   for_value_keeps g (Ok v) next h before = h v refl
   for_value_keeps g (Err e) next h before = before
 
-  decided_keeps : (o : Option Fault) (reply : Reply) (after g : Registry) → (o ≡ None → P after) → P g → P (decided o reply after g).1
+  pub decided_keeps : (o : Option Fault) (reply : Reply) (after g : Registry) → (o ≡ None → P after) → P g → P (decided o reply after g).1
   decided_keeps None reply after g h before = h refl
   decided_keeps (Some f) reply after g h before = before
 
-  found_keeps : (b : Bool) (done other : Reply) (after g : Registry) → P after → P g → P (cond {A = Reply × Registry} b (done, after) (other, g)).1
+  pub found_keeps : (b : Bool) (done other : Reply) (after g : Registry) → P after → P g → P (cond {A = Reply × Registry} b (done, after) (other, g)).1
   found_keeps true done other after g h before = h
   found_keeps false done other after g h before = before
 
-  deleted_keeps : (owned : Bool) (reply : Reply) (rest : Reply × Registry) (g : Registry) → (owned ≡ false → P rest.1) → P g → P (cond {A = Reply × Registry} owned (reply, g) rest).1
+  pub deleted_keeps : (owned : Bool) (reply : Reply) (rest : Reply × Registry) (g : Registry) → (owned ≡ false → P rest.1) → P g → P (cond {A = Reply × Registry} owned (reply, g) rest).1
   deleted_keeps true reply rest g h before = before
   deleted_keeps false reply rest g h before = h refl
 
@@ -45,7 +45,7 @@ module _ (P : Registry → Type 0) where
   for_documents_keeps g (Ok ds) h before = decided_keeps (batch_refusal g ds (placed_all ds g.documents)) _ _ g (h ds refl) before
   for_documents_keeps g (Err (k, f)) h before = before
 
-  for_entries_keeps : (search : Search) (g : Registry) (r : Result (List Entry) Fault)
+  pub for_entries_keeps : (search : Search) (g : Registry) (r : Result (List Entry) Fault)
       → ((es : List Entry) (ds : List Document) → r ≡ Ok es → entry_documents search 0 es ≡ Ok ds → batch_refusal g ds (placed_all ds g.documents) ≡ None
       → P (record g { documents = placed_all ds g.documents })) → P g → P (for_entries search g r).1
   for_entries_keeps search g (Ok es) h before = for_documents_keeps g (entry_documents search 0 es) (λ ds made none. h es ds refl made none) before

@@ -1,12 +1,10 @@
 -- That the schemas of kept documents can be told apart by URI and pointer, whatever was put before.
-use Rattle.std.specs.Prelude.{◌≡◌, List, [], Contains, IsTrue}
-use Rattle.std.specs.Str.{is_utf8}
+use Rattle.std.specs.Prelude.{List}
 use Rattle.definitions.specs.Values.{Text}
 use Rattle.definitions.specs.Schemas.{Document}
-use Rattle.definitions.specs.Reach.{reach, missing}
+use Rattle.definitions.specs.Reach.{reach}
 use Rattle.definitions.specs.Registries.{Search}
 use Rattle.definitions.specs.Runs.{AreKept}
-use Rattle.definition_laws.specs.Bundling.{AreWhole, IsAbsolute}
 use Rattle.definition_laws.specs.Identities.{IsDistinct}
 use Rattle.definition_laws.specs.Keeping.{HaveBodyValues}
 
@@ -18,10 +16,3 @@ KeptDocumentsAreDistinct = (search : Search) (ds : List Document) → AreKept se
 abbrev pub ReachedDocumentsAreDistinct : Type 0
 ReachedDocumentsAreDistinct =
     (search : Search) (ds : List Document) (uri : Text) → AreKept search ds → HaveBodyValues ds → IsDistinct (reach ds uri)
-
--- where nothing is missing, and their canonical URIs are absolute and in UTF-8, they are as a bundle wants its documents
-abbrev pub LinkedDocumentsAreWhole : Type 0
-LinkedDocumentsAreWhole =
-    (search : Search) (ds : List Document) (uri : Text) → AreKept search ds → HaveBodyValues ds
-    → ((d : Document) → Contains (reach ds uri) d → IsTrue (is_utf8 d.canonical) × IsAbsolute d.canonical)
-    → missing (reach ds uri) ≡ [] → AreWhole (reach ds uri)

@@ -1,6 +1,6 @@
 //! Schemas of kept documents that URI and pointer tell apart (JSON Schema 2020-12 Core, 8.2.1).
 
-ghost use Rattle.definition_laws.specs.Distinctness.{KeptDocumentsAreDistinct, ReachedDocumentsAreDistinct, LinkedDocumentsAreWhole};
+ghost use Rattle.definition_laws.specs.Distinctness.{KeptDocumentsAreDistinct, ReachedDocumentsAreDistinct};
 
 /// Kept documents that are values of bodies have distinct resource URIs and definite values: an identity names one schema
 /// of theirs, and the resource's root and the pointer lead to it.
@@ -11,10 +11,4 @@ pub fn kept_documents_are_distinct()
 /// So have the documents that a URI reaches.
 pub fn reached_documents_are_distinct()
     ensures { ReachedDocumentsAreDistinct }
-{}
-
-/// Where no reference of the reached documents is missing and their canonical URIs are absolute, they are as a bundle
-/// wants its documents.
-pub fn linked_documents_are_whole()
-    ensures { LinkedDocumentsAreWhole }
 {}

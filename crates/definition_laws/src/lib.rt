@@ -26,9 +26,7 @@ pub use bundling::{
     bundles_answer_the_same, bundles_are_alike, bundles_are_definite, bundles_keep_the_resources,
     bundles_keep_their_uri,
 };
-pub use distinctness::{
-    kept_documents_are_distinct, linked_documents_are_whole, reached_documents_are_distinct,
-};
+pub use distinctness::{kept_documents_are_distinct, reached_documents_are_distinct};
 pub use identities::{identity_names_one_schema, roots_are_found, schemas_are_pointed_to};
 pub use keeping::{
     courses_keep_base_forms, courses_keep_body_values, courses_keep_registries,

@@ -1,0 +1,15 @@
+pub mod Walks
+pub mod Collected
+pub mod Scans
+pub mod Identified
+pub mod Utf8Parts
+pub mod CanonicalTexts
+pub mod RegisteredDocuments
+pub mod BundledWalks
+pub mod BundledLists
+pub mod BundledNames
+pub mod Passing
+pub mod BaseTexts
+pub mod ReadBack
+pub mod StoredBundles
+pub mod ServedBundles

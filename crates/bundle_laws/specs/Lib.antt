@@ -1,0 +1,4 @@
+pub mod Identifying
+pub mod Registered
+pub mod Standing
+pub mod Served

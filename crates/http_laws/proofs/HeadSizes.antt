@@ -6,7 +6,8 @@ use Rattle.std.proofs.lemmas.List.{take-append-drop}
 use Rattle.std.proofs.Math.Seq.{take-append-add}
 use Rattle.std.proofs.lemmas.List.Sums.{sum_by-append}
 use Rattle.httparse.specs.Ascii.{line_feed, carriage_return, space, colon}
-use Rattle.httparse.specs.Grammar.{LineEnd, crlf, lf, print_end, Field, print_field, print_section, print_blank, print_version, RequestHead, ReadsRequest, print_request}
+use Rattle.httparse.specs.Grammar.{LineEnd, crlf, lf, print_end, Field, print_field, print_section, print_blank, print_version, RequestHead, ReadsRequest, print_request, HasNoRequest}
+use Rattle.httparse.proofs.GrammarLemmas.{request_prefix_free}
 use Rattle.definitions.specs.Values.{Text}
 use Rattle.http_definitions.specs.Heads.{line_feeds}
 use Rattle.http_laws.proofs.HeadEnds.{head_ends}
@@ -77,3 +78,10 @@ feeds-before bytes n h more reads before =
     closing : (l : LineEnd) → (f : Text) × (line_feed ∷ print_end l ≡ f ++ (line_feed ∷ []))
     closing crlf = (line_feed ∷ carriage_return ∷ [], refl)
     closing lf = (line_feed ∷ [], refl)
+
+-- a part of a head is no head
+pub part_has_none : (part more : Text) (h : RequestHead) (rest : Text) → ReadsRequest (part ++ more) h rest
+    → length part < length (print_request h) → HasNoRequest part
+part_has_none part more h rest whole short k q reads =
+    let same = request_prefix_free part more k h q rest reads whole in
+    omega (arith, short, ap (λ j. length (print_request j)) same.0, ap length reads.1, length-append (print_request k) q)

@@ -11,7 +11,7 @@ use Rattle.http_definitions.specs.ReplyTexts.{reply_text, closing_text}
 use Rattle.http_laws.proofs.LineEnds.{head_has_bytes}
 use Rattle.http_laws.proofs.Pieces.{takes_on}
 
-nothing_waits : IsWaiting []
+pub nothing_waits : IsWaiting []
 nothing_waits = inr (λ h rest reads. omega (arith, head_has_bytes [] h rest reads), omega arith, omega arith)
 
 -- what waits is held

@@ -1,6 +1,6 @@
 -- What the laws say of the requests that bytes spell.
-use Rattle.std.specs.Prelude.{◌≡◌, List, [], ◌++◌, false}
-use Rattle.httparse.specs.Grammar.{RequestHead, ReadsRequest}
+use Rattle.std.specs.Prelude.{◌≡◌, ◌<◌, List, [], ◌++◌, false, length}
+use Rattle.httparse.specs.Grammar.{RequestHead, ReadsRequest, print_request, HasNoRequest}
 use Rattle.definitions.specs.Values.{Text}
 use Rattle.http_definitions.specs.Streams.{Message, without_line_ends, BeginsWith, Spells, close, IsHopeless, IsWaiting}
 
@@ -25,6 +25,12 @@ abbrev pub HeadsBeginWithNoLineEnd : Type 0
 HeadsBeginWithNoLineEnd =
     (bytes : Text) (h : RequestHead) (more : Text)
     → ReadsRequest (without_line_ends bytes) h more → h.blank ≡ []
+
+-- where a head is not whole yet, none stands
+abbrev pub PartsOfHeadsAreNoHeads : Type 0
+PartsOfHeadsAreNoHeads =
+    (part more : Text) (h : RequestHead) (rest : Text)
+    → ReadsRequest (part ++ more) h rest → length part < length (print_request h) → HasNoRequest part
 
 abbrev pub WaitingBytesBeginWithNoRequest : Type 0
 WaitingBytesBeginWithNoRequest = (rest : Text) → IsWaiting rest → HasNoRequestWhole rest

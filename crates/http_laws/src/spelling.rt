@@ -1,6 +1,6 @@
 //! What the bytes of a stream spell.
 
-ghost use Rattle.http_laws.specs.Spelling.{CutStreamsSpellTheSame, StreamsAreSpelledOnce, HeadsBeginWithNoLineEnd, WaitingBytesBeginWithNoRequest, HopelessBytesBeginWithNoRequest, HopelessBytesStayHopeless};
+ghost use Rattle.http_laws.specs.Spelling.{CutStreamsSpellTheSame, StreamsAreSpelledOnce, HeadsBeginWithNoLineEnd, PartsOfHeadsAreNoHeads, WaitingBytesBeginWithNoRequest, HopelessBytesBeginWithNoRequest, HopelessBytesStayHopeless};
 
 /// How a stream is cut decides nothing: where no last request was spelled, what stands behind and the next piece spell
 /// what follows in the whole.
@@ -16,6 +16,11 @@ pub fn streams_are_spelled_once()
 /// Behind the line ends that are dropped a head has no empty line before its first line (RFC 9112, section 2.2).
 pub fn heads_begin_with_no_line_end()
     ensures { HeadsBeginWithNoLineEnd }
+{}
+
+/// A part of a head is no head, so that it waits for the rest.
+pub fn parts_of_heads_are_no_heads()
+    ensures { PartsOfHeadsAreNoHeads }
 {}
 
 /// Bytes that wait for more begin with no whole request.

@@ -10,7 +10,7 @@ use Rattle.std.proofs.lemmas.List.Elements.{All-cons, All-nil}
 use Rattle.httparse.specs.Grammar.{Field, IsField, IsToken, is_token, is_token_byte, is_uri_byte, is_value_byte, AllPass, RequestHead, IsRequestHead, print_request}
 use Rattle.definitions.specs.Values.{Text}
 use Rattle.http_definitions.specs.Heads.{IsSmall, line_feeds, body_length, is_last}
-use Rattle.http_definitions.specs.Streams.{Message, without_line_ends, BeginsWith, Spells}
+use Rattle.http_definitions.specs.Streams.{Message, without_line_ends, BeginsWith, BeginsWithHead, Spells}
 
 -- ---- tests
 pub both : (a b : Bool) → (a && b) ≡ true → (a ≡ true) × (b ≡ true)
@@ -134,3 +134,9 @@ spells_if bytes (m ∷ ms) rest e =
         let a = both (nothing ms) (bytes_eq rest (without_line_ends (behind (print_request m.head ++ m.body) (without_line_ends bytes)))) e in
         (nothing_is ms a.0, same_bytes _ _ a.1)
     either false go e = go e
+
+pub begins_head_if : (bytes : Text) (h : RequestHead) (more : Text) → (bytes_eq bytes (print_request h ++ more) && (is_head h && is_small h)) ≡ true → BeginsWithHead bytes h more
+begins_head_if bytes h more e =
+    let a = both (bytes_eq bytes (print_request h ++ more)) (is_head h && is_small h) e in
+    let b = both (is_head h) (is_small h) a.1 in
+    ((head_is h b.0, same_bytes _ _ a.0), small_is h b.1)

@@ -40,20 +40,20 @@ behind [] t = Some t
 behind (c ∷ cs) [] = None
 behind (c ∷ cs) (d ∷ ds) = if c == d then behind cs ds else None
 
--- what the route has behind its path, where the method is its own
-abbrev pub target_rest : Route → RequestHead → Option Text
-target_rest r h = if same_text r.method h.method then behind r.path h.target else None
+-- what the target has behind the route's path, where the method is its own
+abbrev pub target_rest : Route → Text → Text → Option Text
+target_rest r method target = if same_text r.method method then behind r.path target else None
 
 abbrev pub request_or : Option Text → (Text → Option Request) → Option Request → Option Request
 request_or None ask other = other
 request_or (Some rest) ask other = ask rest
 
 -- by the first route with this method and this beginning
-abbrev pub request_by : List Route → RequestHead → Text → Option Request
-request_by [] h body = None
-request_by (r ∷ rs) h body =
-    request_or (target_rest r h) (λ rest. r.request rest body) (request_by rs h body)
+abbrev pub request_by : List Route → Text → Text → Text → Option Request
+request_by [] method target body = None
+request_by (r ∷ rs) method target body =
+    request_or (target_rest r method target) (λ rest. r.request rest body) (request_by rs method target body)
 
 -- none where the target is no route's
 abbrev pub request_of : RequestHead → Text → Option Request
-request_of = request_by routes
+request_of h body = request_by routes h.method h.target body

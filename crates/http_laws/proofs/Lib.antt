@@ -1,0 +1,9 @@
+pub mod LineEnds
+pub mod Cutting
+pub mod SpelledOnce
+pub mod Pieces
+pub mod Steps
+pub mod HeadEnds
+pub mod HeadSizes
+pub mod Hopeless
+pub mod AnsweredOnce

@@ -1,0 +1,63 @@
+//! The lines before a body.
+ghost use Rattle.std.specs.Prelude.{◌≡◌, ◌++◌, [], codes, OnOk, decimal, string_bytes, if◌then◌else◌};
+ghost use Rattle.reply_texts.specs.Heads.{behind_length};
+ghost use Rattle.http_definitions.specs.ReplyTexts.{http_text, line, phrase_of, status_line};
+
+use std::alloc::AllocError;
+
+// The phrase of a status (RFC 9110, section 15); empty where no reply has it.
+#[tactic(auto, unfolding(http_definitions::specs::ReplyTexts::phrase_of))]
+fn phrase(status: u16) -> &'static str
+    ensures { result.now ≡ phrase_of status }
+{
+    match status {
+        200 => "OK",
+        201 => "Created",
+        400 => "Bad Request",
+        403 => "Forbidden",
+        404 => "Not Found",
+        409 => "Conflict",
+        503 => "Service Unavailable",
+        _ => "",
+    }
+}
+
+// What stands between the length and the body.
+fn behind_length(closes: bool) -> &'static str
+    ensures { result.now ≡ behind_length closes }
+{
+    if closes {
+        "\r\nconnection: close\r\n\r\n"
+    } else {
+        "\r\n\r\n"
+    }
+}
+
+fn write_number(out: &mut String, number: usize) -> Result<(), AllocError>
+    ensures { OnOk result (string_bytes out.new ≡ string_bytes out.old ++ decimal number) }
+{
+    let mut digits = itoa::Buffer::new();
+    out.push_str(digits.format(number))
+}
+
+fn write_status_line(out: &mut String, status: u16) -> Result<(), AllocError>
+    ensures { OnOk result (string_bytes out.new ≡ string_bytes out.old ++ status_line status) }
+{
+    out.push_str("HTTP/1.1 ")?;
+    write_number(out, usize::from(status))?;
+    out.push_str(" ")?;
+    out.push_str(phrase(status))?;
+    out.push_str("\r\n")
+}
+
+/// Appends a whole reply, of which the body is JSON. One after which the connection is closed says so.
+pub fn write_http(out: &mut String, closes: bool, status: u16, body: &str) -> Result<(), AllocError>
+    ensures { OnOk result (string_bytes out.new ≡ string_bytes out.old ++ http_text closes status body.now) }
+{
+    write_status_line(out, status)?;
+    out.push_str("content-type: application/json\r\ncontent-length: ")?;
+    write_number(out, body.len())?;
+    out.push_str(behind_length(closes))?;
+    out.push_str(body)?;
+    Ok(())
+}

@@ -1,0 +1,5 @@
+pub mod Limits
+pub mod FieldValues
+pub mod Windows
+pub mod KeptHeadings
+pub mod TargetRoutes

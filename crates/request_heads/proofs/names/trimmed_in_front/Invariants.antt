@@ -1,0 +1,9 @@
+use Rattle.std.proofs.Common.{◌≡◌, length}
+use Rattle.httparse.specs.Grammar.{skip_ows}
+use Rattle.request_heads.proofs.names.trimmed_in_front.Given as goal
+
+abbrev pub invariant-loop-text : goal.invariant-loop-text
+invariant-loop-text l = skip_ows l.text ≡ skip_ows l.fn.text
+
+abbrev pub decreases-loop-text : goal.decreases-loop-text
+decreases-loop-text l = length l.text

@@ -1,0 +1,5 @@
+pub mod Searches
+pub mod Methods
+pub mod Fields
+pub mod Headings
+pub mod Fronts

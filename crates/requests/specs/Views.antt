@@ -1,0 +1,30 @@
+-- Requests and replies as the definitions have them.
+use Rattle.std.specs.Prelude.{Bool, map, string_bytes}
+use Rattle.definitions.specs.Values.{Text}
+use Rattle.definitions.specs.Registries as meaning
+use Rattle.faults.specs.View.{fault}
+use Rattle.requests.specs.declared.Request.{Request}
+use Rattle.requests.specs.declared.Request.TheVariants.{Put, Delete, Validate, Bundle, Batch}
+use Rattle.requests.specs.declared.StoredEntry.{StoredEntry}
+use Rattle.requests.specs.declared.Reply.{Reply}
+use Rattle.requests.specs.declared.Reply.TheVariants.{Stored, Deleted, Output, Bundled, StoredAll, Refused, RefusedAt}
+
+abbrev pub request_view : Request → meaning.Request
+request_view (Put uri body) = meaning.put (string_bytes uri) body.items
+request_view (Delete uri) = meaning.delete (string_bytes uri)
+request_view (Validate uri body) = meaning.validate (string_bytes uri) body.items
+request_view (Bundle uri) = meaning.bundled_from (string_bytes uri)
+request_view (Batch body) = meaning.batch body.items
+
+-- the URI, and whether a document was replaced
+abbrev pub stored_entry_view : StoredEntry → Text × Bool
+stored_entry_view e = (string_bytes e.uri, e.replaced)
+
+abbrev pub reply_view : Reply → meaning.Reply
+reply_view (Stored uri replaced) = meaning.stored (string_bytes uri) replaced
+reply_view (Deleted uri) = meaning.deleted (string_bytes uri)
+reply_view (Output text) = meaning.validated (string_bytes text)
+reply_view (Bundled text) = meaning.bundled (string_bytes text)
+reply_view (StoredAll entries) = meaning.stored_all (map stored_entry_view entries.items)
+reply_view (Refused f) = meaning.refused (fault f)
+reply_view (RefusedAt k f) = meaning.refused_at k (fault f)

@@ -1,0 +1,47 @@
+//! What a tenant asks of its registry and what it is answered.
+#![tactic(auto)]
+
+pub use faults::Fault;
+
+/// What a tenant asks. A URI is the text that was sent, not resolved yet; a body is at most some bytes, of any content.
+#[derive(Debug, Drop, PartialEq)]
+pub enum Request {
+    /// Stores the schema document that the bytes spell under the URI.
+    Put(String, Vec<u8>),
+    /// Removes the document that is stored under the URI.
+    Delete(String),
+    /// Validates the instance that the bytes spell by the resource of the URI.
+    Validate(String, Vec<u8>),
+    /// Asks for the compound document of the URI (JSON Schema 2020-12 Core, section 9.3).
+    Bundle(String),
+    /// Stores the documents that the bytes spell, or none of them.
+    Batch(Vec<u8>),
+}
+
+/// A document of a batch that was stored.
+#[derive(Debug, Drop, PartialEq)]
+pub struct StoredEntry {
+    /// The canonical URI.
+    pub uri: String,
+    /// Whether a document with this canonical URI was there before the batch.
+    pub replaced: bool,
+}
+
+/// What a request is answered. URIs are canonical.
+#[derive(Debug, Drop, PartialEq)]
+pub enum Reply {
+    /// The document is stored; whether one with its canonical URI was there.
+    Stored(String, bool),
+    /// The document with this canonical URI is removed.
+    Deleted(String),
+    /// The text of the basic output (Core, section 12.4.2).
+    Output(String),
+    /// The text of the compound document.
+    Bundled(String),
+    /// All documents of the batch are stored, in its order.
+    StoredAll(Vec<StoredEntry>),
+    /// Nothing was done.
+    Refused(Fault),
+    /// Nothing was done, for a fault of this entry of the batch, counted from 0.
+    RefusedAt(usize, Fault),
+}

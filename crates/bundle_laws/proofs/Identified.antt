@@ -11,7 +11,6 @@ use Rattle.uri_ref.specs.Soundness.{AreSound}
 use Rattle.uri_ref.proofs.Identifiers.{stays}
 use Rattle.uri_ref.proofs.Missing.{Misses, cut_misses, cut_apart}
 use Rattle.uri_ref.proofs.Recomposed.{cut_joined, recomposes}
-use Rattle.uri_ref.proofs.Rules.{both}
 use Rattle.uri_ref.proofs.Sound.{split_sound, resolve_sound}
 use Rattle.uri_ref.proofs.Unique as unique
 use Rattle.definition_laws.specs.Keeping.{IsBaseForm}
@@ -26,9 +25,9 @@ none_is (Some t) h = cc
 no_fragment_of : (p : Parts) → is_identifier p ≡ true → p.fragment ≡ None
 no_fragment_of p h =
     let dots = list_any is_dot_segment (slice_split (λ c. c == 47) p.path) in
-    let whole = both (is_some p.scheme && is_none p.fragment && not dots) (is_some p.authority || not (begins p.path (codes "//"))) h in
-    let front = both (is_some p.scheme && is_none p.fragment) (not dots) whole.0 in
-    none_is p.fragment (both (is_some p.scheme) (is_none p.fragment) front.0).1
+    let whole = and_parts (is_some p.scheme && is_none p.fragment && not dots) (is_some p.authority || not (begins p.path (codes "//"))) h in
+    let front = and_parts (is_some p.scheme && is_none p.fragment) (not dots) whole.0 in
+    none_is p.fragment (and_parts (is_some p.scheme) (is_none p.fragment) front.0).1
 
 abbrev bare : Parts → Parts
 bare p = record p { fragment = None }
@@ -88,7 +87,7 @@ id_identifier base id h =
     let p = resolve (split base) (split id) in
     let sound : AreSound p = resolve_sound (split base) (split id) (split_sound base) (split_sound id) in
     let own : AreSound (bare p) = record { scheme = sound.scheme; authority = sound.authority; path = sound.path; rooted = sound.rooted; query = sound.query } in
-    let identifier : is_identifier (bare p) ≡ true = (both (is_empty_fragment ((split id).fragment)) (is_identifier (bare p)) h).1 in
+    let identifier : is_identifier (bare p) ≡ true = (and_parts (is_empty_fragment ((split id).fragment)) (is_identifier (bare p)) h).1 in
     ap (λ t. is_identifier (split t)) (bare_text p sound identifier) ∙ ap is_identifier (unique.identified (bare p) own identifier) ∙ identifier
 
 pub canonical_uris_are_identifiers : CanonicalUrisAreIdentifiers

@@ -12,9 +12,9 @@ use Rattle.definitions.specs.Schemas.{Document}
 use Rattle.definitions.specs.Bundles.{document_of, others_of}
 use Rattle.definitions.specs.Registries.{placed, joined}
 use Rattle.definitions.specs.Batches.{placed_all}
-use Rattle.definition_laws.proofs.Membership.{nothing_in, is_first, is_later, first_or_later, in_filter, from_filter, in_map}
+use Rattle.definition_laws.proofs.Membership.{nothing_in, is_first, is_later, first_or_later, in_filter, from_filter, in_map, found_some}
 use Rattle.definition_laws.proofs.Repeats.{none_of}
-use Rattle.definition_laws.proofs.Resources.{found, same_text-unlike}
+use Rattle.definition_laws.proofs.Resources.{same_text-unlike}
 use Rattle.definition_laws.proofs.Placing.{inserted, ascending, kept_ascending}
 use Rattle.definition_laws.proofs.Replacing.{either_first, in_front, among_part, in_place}
 use Rattle.definition_laws.proofs.PlacedDocuments.{key_of, as_inserted, from_placed, in_placed, tied}
@@ -38,7 +38,7 @@ tie_at t u e = ap (slice_cmp nat_cmp t) (sym e) ∙ tied_itself nat_list_cmp_tot
 
 -- among documents none of which has the URI
 pub is_other : (ls : List Document) (uri : Text) (l : Document) → is_some (document_of ls uri) ≡ false → Contains ls l → IsOther uri l
-is_other ls uri l none c = false_from_ne_true (same_text uri l.canonical) (λ e. true≢false (sym (found (λ d. same_text uri d.canonical) l ls c e) ∙ none))
+is_other ls uri l none c = false_from_ne_true (same_text uri l.canonical) (λ e. true≢false (sym (ap is_some (found_some (λ d. same_text uri d.canonical) l ls c e).1) ∙ none))
 
 -- ---- one document
 pub ascend_placed : (d : Document) (ds : List Document) → Ascend ds → Ascend (placed d ds)

@@ -1,8 +1,7 @@
 -- The entries of a map beside the members that they stand for.
-use Rattle.std.proofs.Common.{◌≡◌, List, [], ◌∷◌, map, length, Option, Some, None, option_map, String, Global, Ordering, Less, Equal, Greater, string_bytes, string_cmp, nat_cmp, is_eq, cond, Bool, true, false, Bor, refl, sym, ap, ◌∙◌}
+use Rattle.std.proofs.Common.{◌≡◌, List, [], ◌∷◌, map, length, Option, Some, None, option_map, String, Global, Ordering, Less, Equal, Greater, string_bytes, string_cmp, nat_cmp, is_eq, cond, Bool, true, false, refl, ap, ◌∙◌}
 use Rattle.std.proofs.lemmas.Str.{is_utf8-from_IsUtf8, IsUtf8-string_bytes}
 use Rattle.std.proofs.lemmas.Map.Text.{is_eq-slice_cmp}
-use Rattle.std.proofs.lemmas.Slice.Eq.{bytes_eq-Decides}
 use Rattle.std.specs.BTreeMap.{is_at, insert_entry}
 use Rattle.std.specs.Cmp.Lexicographic.{slice_cmp}
 use Rattle.std.specs.List.{AllByRecursion}
@@ -13,6 +12,7 @@ use Rattle.std.specs.Str.{is_utf8}
 use Rattle.definitions.specs.Values.{Text, Value, entry}
 use Rattle.json_doc.specs.Docs.{value}
 use Rattle.json_doc.specs.Members.{member_value, put, HasNamesInOrder, HasTextsAsNames}
+use Rattle.json_doc.specs.NameMaps.{entry_named}
 use Rattle.json_doc.specs.declared.doc.Doc.{Doc}
 use Rattle.json_doc.proofs.Views.{Entry}
 
@@ -27,21 +27,23 @@ value-lookup name (e ∷ es) =
     found_or (is_eq (slice_cmp nat_cmp name (string_bytes e.0))) e.1 _ _ (value-lookup name es)
     ∙ ap (λ b. cond b (Some (value e.1)) (entry name (map member_value es))) (is_eq-slice_cmp name (string_bytes e.0))
 
-pub value_of_ref : (r : Option (Bor Doc)) → option_map (λ d. value d.now) r ≡ option_map value (option_map (λ d. d.now) r)
-value_of_ref None = refl
-value_of_ref (Some d) = refl
+-- the name and the value of an entry that was found
+abbrev pub on_value : Text × Doc → Text × Value
+on_value found = (found.0, value found.1)
 
-pub key_is : (name : Text) (k : String Global) → slice_cmp nat_cmp name (string_bytes k) ≡ Equal → string_bytes k ≡ name
-key_is name k e = sym ((bytes_eq-Decides name (string_bytes k)).0 (sym (is_eq-slice_cmp name (string_bytes k)) ∙ ap is_eq e))
+named_value : (name : Text) (found : Option Doc) → option_map on_value (option_map {U = Text × Doc} (λ v. (name, v)) found) ≡ option_map {U = Text × Value} (λ v. (name, v)) (option_map value found)
+named_value name None = refl
+named_value name (Some d) = refl
 
-pub pair_found : (name k : Text) (d : Doc) (es : List Entry) → k ≡ name → Some d ≡ lookup (is_at (λ l. slice_cmp nat_cmp name (string_bytes l))) es
-    → Some (k, value d) ≡ option_map {U = Text × Value} (λ v. (name, v)) (entry name (map member_value es))
-pair_found name k d es is e =
-    ap {B = Option (Text × Value)} (λ n. Some (n, value d)) is ∙ ap (option_map {U = Text × Value} (λ v. (name, v))) (ap (option_map value) e ∙ value-lookup name es)
+pub entry_found : (name : Text) (es : List Entry) → option_map on_value (entry_named name es) ≡ option_map {U = Text × Value} (λ v. (name, v)) (entry name (map member_value es))
+entry_found name es = named_value name (lookup (is_at (λ k. slice_cmp nat_cmp name (string_bytes k))) es) ∙ ap (option_map {U = Text × Value} (λ v. (name, v))) (value-lookup name es)
 
-pub none_found : (name : Text) (es : List Entry) → None ≡ lookup (is_at (λ l. slice_cmp nat_cmp name (string_bytes l))) es
-    → None ≡ option_map {U = Text × Value} (λ v. (name, v)) (entry name (map member_value es))
-none_found name es e = ap (option_map {U = Text × Value} (λ v. (name, v))) (ap (option_map value) e ∙ value-lookup name es)
+unnamed : (name : Text) (found : Option Doc) → option_map (λ (p : Text × Value). p.1) (option_map on_value (option_map {U = Text × Doc} (λ v. (name, v)) found)) ≡ option_map value found
+unnamed name None = refl
+unnamed name (Some d) = refl
+
+pub value_found : (name : Text) (es : List Entry) → option_map (λ (p : Text × Value). p.1) (option_map on_value (entry_named name es)) ≡ entry name (map member_value es)
+value_found name es = unnamed name (lookup (is_at (λ k. slice_cmp nat_cmp name (string_bytes k))) es) ∙ value-lookup name es
 
 -- ---- putting an entry in
 members-match_ordering : (o : Ordering) (a b c : List Entry) → map member_value (match_ordering o a b c) ≡ match_ordering o (map member_value a) (map member_value b) (map member_value c)

@@ -27,21 +27,21 @@ value-List v = search (rules, the_lemmas)
 pub value-Dict : (m : Members) → value (Dict m) ≡ object (members_view m)
 value-Dict m = search (rules, the_lemmas)
 
-pub members_view-out : (m : Members) → members_view m ≡ entries_view (out-Members m).entries.entries
+pub members_view-out : (m : Members) → members_view m ≡ entries_view (out-Members m).entries
 members_view-out = fold_out-Members Value json.Members value_step members_step
 
-pub members_view-roll : (m : Members-F Doc Members) → members_view (roll-Members m) ≡ entries_view m.entries.entries
+pub members_view-roll : (m : Members-F Doc Members) → members_view (roll-Members m) ≡ entries_view m.entries
 members_view-roll = fold-roll-Members Value json.Members value_step members_step
 
 members_list-entries_view : (es : List Entry) → members_list (entries_view es) ≡ map member_value es
 members_list-entries_view [] = refl
 members_list-entries_view (e ∷ es) = ap (λ r. member_value e ∷ r) (members_list-entries_view es)
 
-pub members_value-out : (m : Members) → members_value m ≡ map member_value (out-Members m).entries.entries
-members_value-out m = ap members_list (members_view-out m) ∙ members_list-entries_view (out-Members m).entries.entries
+pub members_value-out : (m : Members) → members_value m ≡ map member_value (out-Members m).entries
+members_value-out m = ap members_list (members_view-out m) ∙ members_list-entries_view (out-Members m).entries
 
-pub members_value-roll : (m : Members-F Doc Members) → members_value (roll-Members m) ≡ map member_value m.entries.entries
-members_value-roll m = ap members_list (members_view-roll m) ∙ members_list-entries_view m.entries.entries
+pub members_value-roll : (m : Members-F Doc Members) → members_value (roll-Members m) ≡ map member_value m.entries
+members_value-roll m = ap members_list (members_view-roll m) ∙ members_list-entries_view m.entries
 
 pub elements_list-to_elements : (vs : List Value) → elements_list (to_elements vs) ≡ vs
 elements_list-to_elements [] = refl

@@ -21,7 +21,7 @@ value_step (Doc-F.List v) = array (to_elements v.items)
 value_step (Doc-F.Dict m) = object m
 
 abbrev pub members_step : Members-F Value json.Members → json.Members
-members_step m = object_members m.entries.entries
+members_step m = object_members m.entries
 
 abbrev pub value : Doc → Value
 value = fold-Doc Value json.Members value_step members_step

@@ -5,3 +5,7 @@ pub mod Members
 pub mod Kinds
 pub mod Wholes
 pub mod Tokens
+pub mod NameMaps
+pub mod formers
+pub mod Reads
+pub mod Gathers

@@ -6,6 +6,7 @@ use Rattle.std.specs.Global.{Global}
 use Rattle.std.specs.List.{AllByRecursion}
 use Rattle.std.specs.List.Sorted.{IsStrictlySortedBy}
 use Rattle.std.specs.Ordering.{nat_cmp, match_ordering}
+use Rattle.std.specs.Slice.Iter.{iter_rest}
 use Rattle.std.specs.Str.{is_utf8}
 use Rattle.definitions.specs.Values.{Text, Value}
 use Rattle.json_doc.specs.Docs.{value}
@@ -31,7 +32,7 @@ member_value e = (string_bytes e.0, value e.1)
 
 -- the members that the iterator has left
 unfoldable pub members_left : MembersIter → List (Text × Value)
-members_left i = map member_value i.entries
+members_left i = map member_value (iter_rest i.entries)
 
 -- the member that an item shows
 abbrev pub member_shown : Bor Text × Bor Doc → Text × Value

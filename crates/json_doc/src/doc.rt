@@ -28,6 +28,9 @@ pub enum Doc {
     Dict(Members),
 }
 
+// What a value takes in a list.
+const _: () = prove!(size_of::<Doc>() == 32);
+
 impl Doc {
     /// The boolean, if the value is one.
     pub fn as_bool(&self) -> Option<bool>

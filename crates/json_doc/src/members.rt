@@ -1,15 +1,16 @@
 //! The members of a JSON object.
 
-ghost use Rattle.std.specs.Prelude.{◌≡◌, ◌↔◌, [], ◌∷◌, IsTrue, OnOk, OnErr, IfErr, length, option_map, string_bytes};
+ghost use Rattle.std.specs.Prelude.{◌≡◌, ◌↔◌, [], ◌∷◌, IsTrue, OnOk, OnErr, IfErr, length, map, option_map, string_bytes};
 ghost use Rattle.std.specs.Iterator.{YieldsFirstBy, item_count};
 ghost use Rattle.definitions.specs.Values.{entry};
 ghost use Rattle.json_doc.specs.Docs.{value, members_value};
-ghost use Rattle.json_doc.specs.Members.{put, member_shown, members_left, HasNamesInOrder, HasTextsAsNames};
+ghost use Rattle.json_doc.specs.Members.{put, member_shown, member_value, members_left, HasNamesInOrder, HasTextsAsNames};
 
 use crate::doc::Doc;
+use crate::name_map::NameMap;
 use faults::Fault;
 use std::alloc::Global;
-use std::collections::{BTreeMap, btree_map};
+use std::slice;
 
 /// The members of a JSON object: each name once, in byte order of names.
 ///
@@ -17,7 +18,7 @@ use std::collections::{BTreeMap, btree_map};
 #[cycle(doc)]
 #[derive(Debug, Drop)]
 pub struct Members {
-    entries: BTreeMap<String, Doc>,
+    entries: NameMap<Doc>,
 }
 
 impl Members {
@@ -26,7 +27,7 @@ impl Members {
         ensures { members_value result ≡ [] }
     {
         Members {
-            entries: BTreeMap::new(alloc),
+            entries: NameMap::new(alloc),
         }
     }
 
@@ -48,7 +49,10 @@ impl Members {
     pub fn get(&self, name: &str) -> Option<&Doc>
         ensures { option_map (λ d. value d.now) result ≡ entry name.now (members_value self.now) }
     {
-        self.entries.get(name)
+        match self.entries.get_key_value(name) {
+            Some((_, found)) => Some(found),
+            None => None,
+        }
     }
 
     /// The member of this name, with its name as it stands here. The time grows with the logarithm of the number of
@@ -58,8 +62,8 @@ impl Members {
         ensures ordered { HasNamesInOrder (members_value self.now) }
     {
         let entries = &self.entries;
-        // The contract of a map's length says that its names are in order.
-        let _ = entries.len();
+        // Its contract says that the names are in order.
+        let _ = entries.as_slice();
         match entries.get_key_value(name) {
             Some((key, member)) => Some((key.as_str(), member)),
             None => None,
@@ -72,7 +76,7 @@ impl Members {
         ensures ordered { HasNamesInOrder (members_value self.now) }
         ensures utf8 { HasTextsAsNames (members_value self.now) }
     {
-        let entries = self.entries.iter();
+        let entries = self.entries.as_slice().iter();
         MembersIter { entries }
     }
 
@@ -86,6 +90,13 @@ impl Members {
         self.entries.insert(name, member)?;
         Ok(())
     }
+
+    /// These values as members.
+    pub(crate) fn of(entries: NameMap<Doc>) -> Members
+        ensures { members_value result ≡ map member_value entries }
+    {
+        Members { entries }
+    }
 }
 
 /// The members that are left of an object's, each with its name, in byte order of names.
@@ -93,7 +104,7 @@ impl Members {
 /// Contracts see them as a list of names and values, by `members_left`.
 #[derive(Drop)]
 pub struct MembersIter<'a> {
-    entries: btree_map::Iter<'a, String, Doc>,
+    entries: slice::Iter<'a, (String, Doc)>,
 }
 
 impl<'a> Iterator for MembersIter<'a> {

@@ -2,16 +2,21 @@
 
 ghost use Rattle.std.specs.Prelude.{◌≡◌, ◌≢◌, Some, None, Ok, Err, IfOk, IfErr, map};
 ghost use Rattle.serde_json.specs.Find.{as_integer};
+ghost use Rattle.serde_json.specs.Read.{read as read_text};
 ghost use Rattle.serde_json.specs.View.{view, number_view, items_view, members_view as entries_view};
 ghost use Rattle.definitions.specs.Values.{to_elements};
-ghost use Rattle.definitions.specs.Texts.{reading, value_of, elements_of, members_of};
+ghost use Rattle.definitions.specs.Texts.{reading, value_or_bad_json, value_of, elements_of, members_of};
 ghost use Rattle.faults.specs.View.{fault};
 ghost use Rattle.json_doc.specs.Docs.{value, members_view};
+
+mod direct;
 
 use crate::doc::Doc;
 use crate::members::Members;
 use crate::whole::Whole;
+use direct::{Unread, read_directly};
 use faults::Fault;
+use json::Scratch;
 use serde_json::{Map, Number, Value};
 use std::alloc::Global;
 
@@ -24,7 +29,41 @@ pub fn read(alloc: Global, bytes: &[u8]) -> Result<Doc, Fault>
     ensures ok { IfOk result (λ d. reading bytes.now ≡ Ok (value d)) }
     ensures err { IfErr result (λ f. f ≢ Fault.NoRoom → reading bytes.now ≡ Err (fault f)) }
 {
-    match Value::from_slice(alloc, bytes) {
+    let mut scratch = Scratch::new(alloc);
+    read_with(alloc, &mut scratch, bytes)
+}
+
+/// The same as [`read`], in memory that is kept from one text to the next: to make a new one takes the time of many
+/// small texts. It grows to the length of the longest text.
+pub fn read_with(alloc: Global, scratch: &mut Scratch, bytes: &[u8]) -> Result<Doc, Fault>
+    ensures ok { IfOk result (λ d. reading bytes.now ≡ Ok (value d)) }
+    ensures err { IfErr result (λ f. f ≢ Fault.NoRoom → reading bytes.now ≡ Err (fault f)) }
+{
+    match simdutf8::basic::from_utf8(bytes) {
+        Ok(text) => doc_of_text(alloc, scratch, text),
+        Err(_) => Err(Fault::BadJson),
+    }
+}
+
+fn doc_of_text(alloc: Global, scratch: &mut Scratch, text: &str) -> Result<Doc, Fault>
+    ensures ok { IfOk result (λ d. value_or_bad_json (read_text text.now) ≡ Ok (value d)) }
+    ensures err { IfErr result (λ f. f ≢ Fault.NoRoom
+        → value_or_bad_json (read_text text.now) ≡ Err (fault f)) }
+{
+    match read_directly(alloc, scratch, text) {
+        Ok(doc) => Ok(doc),
+        Err(Unread::NoRoom) => Err(Fault::NoRoom),
+        Err(Unread::NotSure) => read_by_value(alloc, text),
+    }
+}
+
+// The same of a text, by way of the value that `serde_json` reads.
+fn read_by_value(alloc: Global, text: &str) -> Result<Doc, Fault>
+    ensures ok { IfOk result (λ d. value_or_bad_json (read_text text.now) ≡ Ok (value d)) }
+    ensures err { IfErr result (λ f. f ≢ Fault.NoRoom
+        → value_or_bad_json (read_text text.now) ≡ Err (fault f)) }
+{
+    match Value::from_str(alloc, text) {
         Ok(read) => doc_of(alloc, read),
         Err(error) => if error.is_memory() {
             Err(Fault::NoRoom)

@@ -11,19 +11,22 @@ use std::marker::Model;
 /// Contracts see the number itself.
 #[derive(Clone, Copy, Debug, Drop, PartialEq, Eq)]
 pub struct Whole {
-    number: i128,
+    // The number, or below zero the distance from -1.
+    distance: u64,
+    is_negative: bool,
 }
 
 impl Model for Whole {
-    ghost use Rattle.std.specs.Prelude.{ℤ, pos, negsuc, ◌≤ℤ◌, ◌<ℤ◌, ◌^◌};
+    ghost use Rattle.std.specs.Prelude.{◌≡◌, ◌<◌, ◌^◌, ℤ, true};
+    ghost use Rattle.json_doc.specs.Wholes.{number_of, distance_of, is_below_zero};
 
     ghost Value = { ℤ };
 
-    ghost view = { λ w. w.number };
+    ghost view = { λ w. number_of w.is_negative w.distance };
 
-    ghost invariant = { λ w. (negsuc 9223372036854775807 ≤ℤ w.number) × (w.number <ℤ pos (2 ^ 64)) };
+    ghost invariant = { λ w. w.is_negative ≡ true → w.distance < 2 ^ 63 };
 
-    ghost inverse = { λ z. record { number = z } };
+    ghost inverse = { λ z. record { distance = distance_of z; is_negative = is_below_zero z } };
 }
 
 impl Whole {
@@ -32,7 +35,8 @@ impl Whole {
         ensures { result ≡ pos natural }
     {
         Whole {
-            number: i128::from(natural),
+            distance: natural,
+            is_negative: false,
         }
     }
 
@@ -40,8 +44,13 @@ impl Whole {
     pub fn of_signed(number: i64) -> Whole
         ensures { result ≡ number }
     {
-        Whole {
-            number: i128::from(number),
+        if number < 0 {
+            Whole {
+                distance: (-1 - number) as u64,
+                is_negative: true,
+            }
+        } else {
+            Whole::of(number as u64)
         }
     }
 
@@ -49,10 +58,10 @@ impl Whole {
     pub fn as_u64(self) -> Option<u64>
         ensures { result ≡ as_natural self }
     {
-        if self.number < 0 {
+        if self.is_negative {
             None
         } else {
-            Some(self.number as u64)
+            Some(self.distance)
         }
     }
 
@@ -61,8 +70,10 @@ impl Whole {
         ensures number { IfSome result (λ n. n ≡ self) }
         ensures held { IsSome result ↔ (self <ℤ pos (2 ^ 63)) }
     {
-        if self.number <= i128::from(i64::MAX) {
-            Some(self.number as i64)
+        if self.is_negative {
+            Some(-1 - self.distance as i64)
+        } else if self.distance <= i64::MAX as u64 {
+            Some(self.distance as i64)
         } else {
             None
         }
@@ -73,7 +84,11 @@ impl Whole {
         ensures number { result ≡ self }
         ensures fits { fits_64_bits self ≡ true }
     {
-        let Whole { number } = self;
-        number
+        let distance = i128::from(self.distance);
+        if self.is_negative {
+            -1 - distance
+        } else {
+            distance
+        }
     }
 }

@@ -7,6 +7,6 @@ use Rattle.json_doc.proofs.members.Members.insert.Goals as goal
 
 pub returns-clause-ok : goal.returns-clause-ok
 returns-clause-ok c =
-    members_value-roll (record { entries = c.insert.new.self }) ∙ ap (map member_value) c.in_ok-insert.ensures.entries
-    ∙ put-insert_entry c.args.self.now.entries.entries c.args.name c.args.member
+    members_value-roll (record { entries = c.insert.new.self }) ∙ ap (map member_value) c.in_ok-insert.ensures.ok
+    ∙ put-insert_entry c.args.self.now.entries c.args.name c.args.member
     ∙ ap (put (string_bytes c.args.name) (value c.args.member)) (sym (members_value-out c.args.self.now))

@@ -6,10 +6,10 @@ use Rattle.json_doc.proofs.members.Members.iter.Goals as goal
 
 pub returns-clause-all : goal.returns-clause-all
 unfolding members_left
-returns-clause-all c = ap (map member_value) c.iter-entries.ensures.rest ∙ sym (members_value-out c.args.self.now)
+returns-clause-all c = ap (map member_value) (c.iter-entries.ensures.rest ∙ c.as_slice.ensures.all) ∙ sym (members_value-out c.args.self.now)
 
 pub returns-clause-ordered : goal.returns-clause-ordered
-returns-clause-ordered c = rw members_value-out (names_in_order c.args.self.now.entries.entries c.iter-entries.ensures.ordered)
+returns-clause-ordered c = rw members_value-out (names_in_order c.args.self.now.entries c.as_slice.ensures.ordered)
 
 pub returns-clause-utf8 : goal.returns-clause-utf8
-returns-clause-utf8 c = rw members_value-out (texts_as_names c.args.self.now.entries.entries)
+returns-clause-utf8 c = rw members_value-out (texts_as_names c.args.self.now.entries)

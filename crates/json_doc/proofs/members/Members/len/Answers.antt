@@ -6,5 +6,4 @@ use Rattle.json_doc.proofs.members.Members.len.Goals as goal
 
 pub returns : goal.returns
 returns c =
-    c.len.ensures.len
-    ∙ sym (ap length (members_value-out c.args.self.now) ∙ length-map c.args.self.now.entries.entries member_value)
+    c.len.ensures ∙ sym (ap length (members_value-out c.args.self.now) ∙ length-map c.args.self.now.entries member_value)

@@ -1,0 +1,164 @@
+//! Values by name, in one list.
+
+ghost use Rattle.std.specs.Prelude.{◌≡◌, ◌<◌, ◌↔◌, [], IsTrue, length, IfOk, IfErr, OnOk, OnErr, option_map};
+ghost use Rattle.std.specs.BTreeMap.{insert_entry};
+ghost use Rattle.std.specs.List.Sorted.{IsStrictlySortedBy};
+ghost use Rattle.std.specs.Map.{keys_of};
+ghost use Rattle.std.specs.String.{string_cmp};
+ghost use Rattle.json_doc.specs.NameMaps.{entry_shown, entry_named, IsAbove, IsPlaceOf, IsGapFor};
+
+use std::alloc::{AllocError, Global};
+use std::cmp::Ordering;
+use std::collections::BTreeMap;
+use std::marker::Model;
+
+/// Values by name: each name once, in byte order of names.
+///
+/// Contracts see the list of the names and values.
+#[derive(Debug, Drop)]
+pub(crate) struct NameMap<T> {
+    entries: Vec<(String, T)>,
+}
+
+impl<T> Model for NameMap<T> {
+    ghost use Rattle.std.specs.Prelude.{List, String};
+    ghost use Rattle.std.specs.Global.{Global};
+    ghost use Rattle.std.specs.List.Sorted.{IsStrictlySortedBy};
+    ghost use Rattle.std.specs.Map.{keys_of};
+    ghost use Rattle.std.specs.String.{string_cmp};
+    ghost use Rattle.json_doc.specs.NameMaps.{name_map_code};
+
+    ghost Value = { List (String Global × T) };
+
+    ghost coded = { name_map_code T.code };
+
+    ghost view = { λ m. m.entries.items };
+
+    ghost invariant = { λ m. IsStrictlySortedBy string_cmp (keys_of m.entries.items) };
+}
+
+impl<T> NameMap<T> {
+    /// No values. This takes no memory.
+    pub fn new(alloc: Global) -> NameMap<T>
+        ensures { result ≡ [] }
+    {
+        NameMap {
+            entries: Vec::new(alloc),
+        }
+    }
+
+    /// How many values there are.
+    pub fn len(&self) -> usize
+        ensures { result ≡ length self.now }
+    {
+        self.entries.len()
+    }
+
+    /// Whether there are none.
+    pub fn is_empty(&self) -> bool
+        ensures { IsTrue result ↔ (self.now ≡ []) }
+    {
+        self.entries.is_empty()
+    }
+
+    /// The names and values.
+    pub fn as_slice(&self) -> &[(String, T)]
+        ensures all { result.now ≡ self.now }
+        ensures ordered { IsStrictlySortedBy string_cmp (keys_of self.now) }
+    {
+        self.entries.as_slice()
+    }
+
+    /// The value of this name, with the name as it stands here. The time grows with the logarithm of their number.
+    pub fn get_key_value(&self, name: &str) -> Option<&(String, T)>
+        ensures { option_map entry_shown result ≡ entry_named name.now self.now }
+    {
+        let entries = self.as_slice();
+        match place_of(entries, name) {
+            Ok(place) => Some(&entries[place]),
+            Err(_) => None,
+        }
+    }
+
+    /// Whether the name comes after all that are here.
+    pub fn ends_before(&self, name: &str) -> bool
+        ensures { IsTrue result → IsAbove name.now self.now }
+    {
+        is_above_all(self.as_slice(), name)
+    }
+}
+
+impl<T: Drop> NameMap<T> {
+    /// The same as a map that takes more names in any order. The only error is want of memory.
+    pub fn into_map(self, alloc: Global) -> Result<BTreeMap<String, T>, AllocError>
+        ensures { IfOk result (λ m. m.entries ≡ self) }
+    {
+        let NameMap { entries } = self;
+        let mut map = BTreeMap::new(alloc);
+        for (name, value) in entries {
+            drop(map.insert(name, value)?);
+        }
+        Ok(map)
+    }
+
+    /// The values of a map. The only error is want of memory.
+    pub fn from_map(alloc: Global, map: BTreeMap<String, T>) -> Result<NameMap<T>, AllocError>
+        ensures { IfOk result (λ m. m ≡ map.entries) }
+    {
+        let mut entries = Vec::with_capacity(alloc, map.len())?;
+        for (name, value) in map {
+            entries.push((name, value))?;
+        }
+        Ok(NameMap { entries })
+    }
+
+    /// Puts a value in, in place of the one of the same name, if there is one. The only error is want of memory, and
+    /// then the map stays as it was.
+    pub fn insert(&mut self, name: String, value: T) -> Result<(), AllocError>
+        ensures ok { OnOk result (self.new ≡ insert_entry string_cmp self.old name value) }
+        ensures unchanged { OnErr result (self.new ≡ self.old) }
+    {
+        match place_of(self.entries.as_slice(), name.as_str()) {
+            Ok(place) => {
+                self.entries[place].1 = value;
+                Ok(())
+            }
+            Err(gap) => {
+                self.entries.insert(gap, (name, value))?;
+                Ok(())
+            }
+        }
+    }
+}
+
+fn is_above_all<T>(entries: &[(String, T)], name: &str) -> bool
+    requires { IsStrictlySortedBy string_cmp (keys_of entries.now) }
+    ensures { IsTrue result → IsAbove name.now entries.now }
+{
+    match entries.last() {
+        Some((last, _)) => name.cmp(last.as_str()).is_gt(),
+        None => true,
+    }
+}
+
+// Where the name stands, or where it would go.
+fn place_of<T>(entries: &[(String, T)], name: &str) -> Result<usize, usize>
+    requires { IsStrictlySortedBy string_cmp (keys_of entries.now) }
+    ensures found { IfOk result (IsPlaceOf name.now entries.now) }
+    ensures gap { IfErr result (IsGapFor name.now entries.now) }
+{
+    if is_above_all(entries, name) {
+        return Err(entries.len());
+    }
+    let mut low = 0;
+    let mut high = entries.len();
+    while low < high {
+        let middle = low + (high - low) / 2;
+        match name.cmp(entries[middle].0.as_str()) {
+            Ordering::Less => high = middle,
+            Ordering::Equal => return Ok(middle),
+            Ordering::Greater => low = middle + 1,
+        }
+    }
+    Err(low)
+}

@@ -1,0 +1,166 @@
+//! A value straight from the tokens of its text, where each of them is plain.
+
+ghost use Rattle.std.specs.Prelude.{◌≡◌, ◌==◌, ◌<◌, Some, true, false, IsTrue, IfOk, IfSome, OnOk, length, map, slice_index, option_and_then};
+ghost use Rattle.serde_json.specs.Find.{as_integer};
+ghost use Rattle.serde_json.specs.Read.{number_from};
+ghost use Rattle.definitions.specs.Values.{to_elements};
+ghost use Rattle.json_doc.specs.Docs.{value, members_view};
+ghost use Rattle.json_doc.specs.Reads.{value_at, elements_at, members_at, whole_at, IsTextOf};
+
+use crate::doc::Doc;
+use crate::gathered::Gathered;
+use crate::members::Members;
+use crate::whole::Whole;
+use fast_float::Numeral;
+use json::{Invalid, Reader, Scratch, Token};
+use std::alloc::{AllocError, AllocFailed, Global};
+
+// How deep arrays and objects may nest.
+const MAX_NESTING: usize = 127;
+
+/// Why a text was not read.
+#[derive(Clone, Copy, Debug, Drop)]
+pub(crate) enum Unread {
+    /// A token is not plain, so it stays open what the text is.
+    NotSure,
+    /// Want of memory.
+    NoRoom,
+}
+
+impl From<AllocError> for Unread {
+    fn from(_refused: AllocError) -> Unread {
+        Unread::NoRoom
+    }
+}
+
+impl<T: Drop> From<AllocFailed<T>> for Unread {
+    fn from(_refused: AllocFailed<T>) -> Unread {
+        Unread::NoRoom
+    }
+}
+
+impl From<Invalid> for Unread {
+    fn from(_invalid: Invalid) -> Unread {
+        Unread::NotSure
+    }
+}
+
+/// The value of the text, where its numbers are whole and it nests at most 127 deep. Of other texts it says nothing.
+pub(crate) fn read_directly(alloc: Global, scratch: &mut Scratch, text: &str) -> Result<Doc, Unread>
+    ensures { IfOk result (λ d. IsTextOf text.now (value d)) }
+{
+    let mut reader = Reader::new(text, scratch)?;
+    let doc = doc_from(alloc, &mut reader, MAX_NESTING)?;
+    if reader.next().is_some() {
+        return Err(Unread::NotSure);
+    }
+    Ok(doc)
+}
+
+#[cycle(tokens)]
+#[inline(always)]
+fn doc_from(alloc: Global, reader: &mut Reader<'_>, depth: usize) -> Result<Doc, Unread>
+    ensures ok { IfOk result (λ d. value_at depth reader.old ≡ Some (value d, reader.new)) }
+    ensures shorter { OnOk result (length reader.new < length reader.old) }
+{
+    let token = reader.next().ok_or(Unread::NotSure)?;
+    match token {
+        Token::String(text) => Ok(Doc::Str(String::from_str(alloc, text)?)),
+        Token::Number(text) => match whole_from(text) {
+            Some(whole) => Ok(Doc::Int(whole)),
+            None => Err(Unread::NotSure),
+        },
+        Token::Bool(boolean) => Ok(Doc::Bool(boolean)),
+        Token::Null => Ok(Doc::Null),
+        Token::EndObject | Token::EndArray | Token::Key(_) | Token::Bad => Err(Unread::NotSure),
+        Token::BeginArray => {
+            if depth == 0 {
+                return Err(Unread::NotSure);
+            }
+            Ok(Doc::List(list_from(alloc, reader, depth - 1)?))
+        }
+        Token::BeginObject => {
+            if depth == 0 {
+                return Err(Unread::NotSure);
+            }
+            Ok(Doc::Dict(dict_from(alloc, reader, depth - 1)?))
+        }
+    }
+}
+
+#[cycle(tokens)]
+#[inline(never)]
+fn list_from(alloc: Global, reader: &mut Reader<'_>, depth: usize) -> Result<Vec<Doc>, Unread>
+    ensures ok { IfOk result (λ v.
+        elements_at depth reader.old ≡ Some (to_elements (map value v.items), reader.new)) }
+    ensures shorter { OnOk result (length reader.new < length reader.old) }
+{
+    let mut items = Vec::new(alloc);
+    'items: while !reader.take_end_array() {
+        let item = doc_from(alloc, reader, depth)?;
+        items.push(item)?;
+    }
+    Ok(items)
+}
+
+#[cycle(tokens)]
+#[inline(never)]
+fn dict_from(alloc: Global, reader: &mut Reader<'_>, depth: usize) -> Result<Members, Unread>
+    ensures ok { IfOk result (λ m. members_at depth reader.old ≡ Some (members_view m, reader.new)) }
+    ensures shorter { OnOk result (length reader.new < length reader.old) }
+{
+    let mut gathered = Gathered::new(alloc);
+    'members: while let Some(name) = reader.next_key()? {
+        let key = String::from_str(alloc, name)?;
+        let member = doc_from(alloc, reader, depth)?;
+        gathered = gathered.with(alloc, key, member)?;
+    }
+    Ok(gathered.into_members(alloc)?)
+}
+
+// The number that the token spells, if it is whole and 64 bits hold it.
+#[inline(always)]
+fn whole_from(text: &str) -> Option<Whole>
+    ensures { IfSome result (λ z. whole_at text.now ≡ Some z) }
+{
+    let bytes = text.as_bytes();
+    if has_minus(bytes) {
+        negative_from(&Numeral::scan(&bytes[1..]))
+    } else {
+        natural_from(&Numeral::scan(bytes))
+    }
+}
+
+#[inline(always)]
+fn natural_from(numeral: &Numeral<'_>) -> Option<Whole>
+    ensures { IfSome result (λ z.
+        option_and_then as_integer (number_from false numeral.now) ≡ Some z) }
+{
+    match numeral.to_u64() {
+        Some(natural) => Some(Whole::of(natural)),
+        None => None,
+    }
+}
+
+#[inline(always)]
+fn negative_from(numeral: &Numeral<'_>) -> Option<Whole>
+    ensures { IfSome result (λ z.
+        option_and_then as_integer (number_from true numeral.now) ≡ Some z) }
+{
+    match numeral.to_i64(true) {
+        Some(number) => if number < 0 {
+            Some(Whole::of_signed(number))
+        } else {
+            None
+        },
+        None => None,
+    }
+}
+
+#[inline(always)]
+fn has_minus(bytes: &[u8]) -> bool
+    ensures value { result ≡ (slice_index bytes.now 0 == 45) }
+    ensures len { IsTrue result → 0 < length bytes.now }
+{
+    !bytes.is_empty() && bytes[0] == b'-'
+}

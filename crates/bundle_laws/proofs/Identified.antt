@@ -1,5 +1,6 @@
 -- Identifiers, and the canonical URIs of documents.
 use Rattle.std.proofs.Common.{◌≡◌, ◌==◌, ◌++◌, ◌&&◌, ◌||◌, [], ◌∷◌, Bool, true, false, not, cond, Option, Some, None, Result, Ok, Err, is_some, is_none, codes, refl, sym, ap, ap₂, subst, ◌∙◌, append_assoc, append-nil}
+use Rattle.std.proofs.lemmas.Bool.{and_parts}
 use Rattle.std.specs.List.{list_any, slice_split}
 use Rattle.definitions.specs.Values.{Text, string, text_at}
 use Rattle.definitions.specs.Faults.{Fault, bad_uri}

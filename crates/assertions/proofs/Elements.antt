@@ -2,7 +2,8 @@
 use Rattle.std.proofs.Common.{◌≡◌, ℕ, List, [], ◌∷◌, map, length, Bool, not, ◌&&◌, ◌||◌, Vec, Global, refl, ap, ◌∙◌}
 use Rattle.std.proofs.lemmas.List.{length-map}
 use Rattle.std.specs.List.{list_all, list_any}
-use Rattle.definitions.specs.Values.{Value, Text, elements, members, same, has_repeat}
+use Rattle.definitions.specs.Values.{Value, Text, elements, members, same}
+use Rattle.definitions.specs.Lists.{has_repeat}
 use Rattle.definitions.specs.Assertions.{is_of_type, is_of_types, is_one_of, is_unique, on_elements}
 use Rattle.json_doc.specs.Docs.{value, members_value}
 use Rattle.json_doc.specs.declared.doc.Doc.{Doc, List as DocList, Dict}

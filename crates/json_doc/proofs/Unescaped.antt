@@ -10,7 +10,8 @@ use Rattle.std.proofs.Math.Seq.{drop-append-add, get_or-append_seam}
 use Rattle.std.specs.List.{All, slice_split}
 use Rattle.std.specs.Str.{IsUtf8}
 use Rattle.definitions.specs.Values.{Text}
-use Rattle.definitions.specs.Pointers.{Pointer, escaped_byte, pointer_text, unescaped, each, pointer_of}
+use Rattle.definitions.specs.Pointers.{Pointer, escaped_byte, pointer_text, unescaped, pointer_of}
+use Rattle.definitions.specs.Lists.{each}
 use Rattle.json_doc.specs.Escapes.{escape_before}
 
 -- what is done, and then what is left

@@ -1,7 +1,8 @@
 -- What a pointer finds in a list of ways that begin with keys.
 use Rattle.std.proofs.Common.{◌≡◌, ◌&&◌, ◌||◌, List, [], ◌∷◌, ◌++◌, map, Bool, true, false, cond, Option, Some, None, option_map, refl, ap, ◌∙◌}
 use Rattle.std.specs.List.{find, flat_map, list_any}
-use Rattle.definitions.specs.Values.{Text, has_repeat, same_text}
+use Rattle.definitions.specs.Values.{Text, same_text}
+use Rattle.definitions.specs.Lists.{has_repeat}
 use Rattle.definitions.specs.Pointers.{Pointer, same_pointer}
 use Rattle.schema_index.specs.Descents.{row}
 use Rattle.definition_laws.proofs.Roots.{same_text_itself, same_text_is, neither}

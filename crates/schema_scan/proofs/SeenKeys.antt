@@ -1,7 +1,7 @@
 -- Keys that stand twice, found by the set of those seen so far.
 use Rattle.std.proofs.Common.{◌≡◌, List, [], ◌∷◌, Bool, true, false, cond, ◌||◌, map, refl, ap, ap₂, ◌∙◌, sym}
 use Rattle.std.specs.List.{list_any}
-use Rattle.definitions.specs.Values.{has_repeat}
+use Rattle.definitions.specs.Lists.{has_repeat}
 
 or-true : (b : Bool) → (b || true) ≡ true
 or-true true = refl

@@ -1,6 +1,7 @@
 //! Printing a report, or why there is none.
 ghost use Rattle.std.specs.Prelude.{◌≡◌, ◌++◌, ◌∷◌, [], true, IfOk, IfErr, OnOk, string_bytes};
 ghost use Rattle.std.specs.Io.KnownBytes.{Appends};
+ghost use Rattle.definitions.specs.Bytes.{line_feed};
 ghost use Rattle.schemareg.specs.Answers.{IsUnprinted, check_status};
 ghost use Rattle.schemareg.specs.Stops.{is_error, status_of};
 
@@ -17,7 +18,7 @@ fn status(is_valid: bool) -> u8
 
 /// The text with a line feed.
 fn line(mut text: String) -> Result<String, Fault>
-    ensures ok { IfOk result (λ line. string_bytes line ≡ string_bytes text ++ 10 ∷ []) }
+    ensures ok { IfOk result (λ line. string_bytes line ≡ string_bytes text ++ line_feed ∷ []) }
     ensures err { IfErr result (λ fault. fault ≡ Fault.NoRoom) }
 {
     text.push_str("\n")?;
@@ -39,7 +40,7 @@ fn write<'a, O: Write>(out: &mut O, text: &str) -> Result<(), Stop<'a>>
 pub fn report<'a, O: Write>(out: &mut O, is_valid: bool, text: String) -> Result<u8, Stop<'a>>
     ensures status { IfOk result (λ status. status ≡ check_status is_valid) }
     ensures written { OnOk result (Appends (O.contents out.old) (O.contents out.new)
-        (string_bytes text ++ 10 ∷ [])) }
+        (string_bytes text ++ line_feed ∷ [])) }
     ensures err { IfErr result IsUnprinted }
 {
     let line = line(text)?;

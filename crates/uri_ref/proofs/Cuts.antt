@@ -3,7 +3,7 @@ use Rattle.std.proofs.Common.{◌≡◌, ℕ, zero, suc, ◌+◌, ◌<◌, ◌�
 use Rattle.std.proofs.lemmas.Bool.{ltb-false, ne_eqb}
 use Rattle.std.proofs.lemmas.List.Quantifiers.{position-Some}
 use Rattle.std.specs.List.{position_or_len}
-use Rattle.definitions.specs.Uris.{cut_at, split_before}
+use Rattle.definitions.specs.Lists.{cut_at, split_before}
 use Rattle.uri_ref.specs.Places.{Lacks}
 
 cut_before : (c : ℕ) (xs ys : List ℕ) → Lacks c xs → cut_at (λ d. d == c) (xs ++ c ∷ ys) ≡ (xs, Some ys)

@@ -1,8 +1,8 @@
 use Rattle.std.proofs.Common.{◌≡◌, ◌<◌, true, None, Ok, length, sym, ap, ◌∙◌, subst}
 use Rattle.std.proofs.lemmas.Result.{IfErr-weaker}
 use Rattle.definitions.specs.Patterns.{regular_search}
-use Rattle.definitions.specs.Registries.{is_regular}
-use Rattle.definitions.specs.Scanning.{scan_fault, patterns}
+use Rattle.definitions.specs.Searches.{is_regular, patterns}
+use Rattle.definitions.specs.Scanning.{scan_fault}
 use Rattle.faults.specs.View.{fault}
 use Rattle.json_doc.specs.Docs.{value}
 use Rattle.schema_scan.specs.Scans.{scanned_value}

@@ -2,7 +2,8 @@
 use Rattle.std.proofs.Common.{◌≡◌, ℕ, suc, ◌+◌, ◌-◌, ◌<◌, List, ◌∷◌, map, length, get_or, take, drop, drop-cons, Bool, true, false, ◌||◌, ap, ◌∙◌, sym, add-one}
 use Rattle.std.proofs.lemmas.List.{take_rest}
 use Rattle.std.specs.List.{list_any}
-use Rattle.definitions.specs.Values.{has_repeat, same}
+use Rattle.definitions.specs.Values.{same}
+use Rattle.definitions.specs.Lists.{has_repeat}
 use Rattle.lemmas.proofs.Lists.{list_any-map}
 use Rattle.json_doc.specs.Docs.{value}
 use Rattle.json_doc.specs.declared.doc.Doc.{Doc}

@@ -2,7 +2,8 @@
 
 ghost use Rattle.std.specs.Prelude.{◌≡◌, map};
 ghost use Rattle.std.specs.List.{list_any};
-ghost use Rattle.definitions.specs.Values.{has_repeat, same};
+ghost use Rattle.definitions.specs.Values.{same};
+ghost use Rattle.definitions.specs.Lists.{has_repeat};
 ghost use Rattle.definitions.specs.Assertions.{is_one_of, is_unique, is_unique_if};
 ghost use Rattle.json_doc.specs.Docs.{value};
 

@@ -1,6 +1,8 @@
 //! The text of the basic output (JSON Schema 2020-12 Core, 12.4.2).
 
 ghost use Rattle.std.specs.Prelude.{◌≡◌, ◌++◌, ◌∷◌, [], true, codes, map, IfOk, IfErr, OnOk, string_bytes, length, pos};
+ghost use Rattle.definitions.specs.Bytes.{};
+ghost use Rattle.definitions.specs.Bytes.{number_sign};
 ghost use Rattle.definitions.specs.Applied.{Outcome};
 ghost use Rattle.definitions.specs.Answers.{absolute_location, output_text, unit_value, units_value};
 ghost use Rattle.definitions.specs.Pointers.{fragment_text, pointer_text};
@@ -161,7 +163,7 @@ fn absolute_location(
     resource: &str,
     steps: &[Step<'_>],
 ) -> Result<(), AllocError>
-    ensures { OnOk result (string_bytes location.new ≡ resource.now ++ (35 ∷ fragment_text (tokens steps.now))) }
+    ensures { OnOk result (string_bytes location.new ≡ resource.now ++ (number_sign ∷ fragment_text (tokens steps.now))) }
 {
     location.clear();
     location.push_str(resource)?;

@@ -4,12 +4,14 @@ use Rattle.std.specs.Str.{is_utf8}
 use Rattle.definitions.specs.Values.{Text, same_text}
 use Rattle.definitions.specs.Resolution.{base_form}
 use Rattle.definitions.specs.Schemas.{Document, document_from}
-use Rattle.definitions.specs.Bundles.{document_of}
+use Rattle.definitions.specs.Documents.{document_of, placed, placed_all}
 use Rattle.definitions.specs.Reach.{reach}
-use Rattle.definitions.specs.Registries.{Search, Registry, documents_seen, is_in_library, Request, put, delete, validate, bundled_from, batch, Reply, put_refusal, body_value, placed}
-use Rattle.definitions.specs.Batches.{Entry, batch_entries, entry_documents, library_of, placed_all}
+use Rattle.definitions.specs.Registries.{Registry, documents_seen, is_in_library, Request, put, delete, validate, bundled_from, batch, Reply, put_refusal, body_value}
+use Rattle.definitions.specs.Searches.{Search}
+use Rattle.definitions.specs.Batches.{Entry, batch_entries, entry_documents, library_of}
 use Rattle.definitions.specs.Steps.{step}
-use Rattle.definitions.specs.Runs.{Course, IsKept}
+use Rattle.definitions.specs.Runs.{Course}
+use Rattle.definitions.specs.Keeping.{IsKept}
 use Rattle.definition_laws.proofs.Membership.{nothing_in, from_filter, is_first, is_later}
 use Rattle.definition_laws.proofs.PlacedDocuments.{from_placed}
 use Rattle.definition_laws.proofs.JoinedDocuments.{from_all}

@@ -5,8 +5,10 @@ use Rattle.std.specs.List.{flat_map, filter}
 use Rattle.std.specs.List.Sorted.{IsPermutation}
 use Rattle.definitions.specs.Values.{Text, Value, string, object, no_members, members, entry, get, as_string, is_object}
 use Rattle.definitions.specs.Alike.{IsAlikeSchema}
-use Rattle.definitions.specs.Schemas.{Schema, Document, schema_at, is_root, option_list}
-use Rattle.definitions.specs.Scanning.{resource_uris, anchor_names, anchors_of, patterns_of}
+use Rattle.definitions.specs.Schemas.{Schema, Document, schema_at, is_root}
+use Rattle.definitions.specs.Lists.{option_list}
+use Rattle.definitions.specs.Scanning.{resource_uris, anchor_names, anchors_of}
+use Rattle.definitions.specs.Searches.{patterns_of}
 use Rattle.definitions.specs.Bundles.{under_its_uri, embedded, defs_of, bundle_of}
 use Rattle.definition_laws.specs.Identities.{IsDefinite}
 use Rattle.definition_laws.specs.Bundling.{IsAbsolute}

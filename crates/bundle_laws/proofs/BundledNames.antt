@@ -5,12 +5,14 @@ use Rattle.std.proofs.lemmas.List.Sorted.{IsPermutation-trans, IsPermutation-app
 use Rattle.std.specs.Cmp.{IsEquivalence}
 use Rattle.std.specs.List.{flat_map, list_all}
 use Rattle.std.specs.List.Sorted.{IsPermutation}
-use Rattle.definitions.specs.Values.{Text, Value, nesting, has_repeat, members, is_object, same_text}
+use Rattle.definitions.specs.Values.{Text, Value, nesting, members, is_object, same_text}
+use Rattle.definitions.specs.Lists.{has_repeat}
 use Rattle.definitions.specs.Keywords.{keywords, shape_in}
 use Rattle.definitions.specs.Schemas.{Schema, Document, below, at_place, subschemas_by, schema_at, schemas_of}
-use Rattle.definitions.specs.Scanning.{resource_uris, anchors_of, same_anchor, patterns_of, patterns}
-use Rattle.definitions.specs.Bundles.{document_of, others_of, under_its_uri, bundle_of}
-use Rattle.definitions.specs.Registries.{Search, resources_of, is_regular}
+use Rattle.definitions.specs.Scanning.{resource_uris, anchors_of, same_anchor}
+use Rattle.definitions.specs.Searches.{patterns_of, patterns, Search, is_regular}
+use Rattle.definitions.specs.Bundles.{under_its_uri, bundle_of}
+use Rattle.definitions.specs.Documents.{document_of, others_of, resources_of}
 use Rattle.definition_laws.specs.Identities.{IsDefinite}
 use Rattle.definition_laws.proofs.Occurrences.{IsIn, in_from_contains, contains_from_in, in_flat_map, into_flat_map, in_map, from_filter, filter_passes, all_pass_in, found_in, found_passes}
 use Rattle.definition_laws.proofs.Places.{places, stepped, at_place_is, value-opened, value-below}

@@ -10,7 +10,7 @@ use Rattle.definitions.specs.Keywords.{keywords, keyword_named}
 use Rattle.definitions.specs.Schemas.{Schema, Document, schema_at}
 use Rattle.definitions.specs.Scanning.{is_id, keyword_faults}
 use Rattle.definitions.specs.Bundles.{under_its_uri, embedded, defs_of, bundle_of}
-use Rattle.definitions.specs.Registries.{Search}
+use Rattle.definitions.specs.Searches.{Search}
 use Rattle.definition_laws.specs.Identities.{IsDefinite}
 use Rattle.definition_laws.proofs.Occurrences.{IsIn, contains_from_in, all_pass_in}
 use Rattle.definition_laws.proofs.Places.{value-opened, members_once, IsStep}

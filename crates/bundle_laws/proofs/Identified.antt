@@ -4,7 +4,8 @@ use Rattle.std.proofs.lemmas.Bool.{and_parts}
 use Rattle.std.specs.List.{list_any, slice_split}
 use Rattle.definitions.specs.Values.{Text, string, text_at}
 use Rattle.definitions.specs.Faults.{Fault, bad_uri}
-use Rattle.definitions.specs.Uris.{Parts, split, recompose, is_identifier, is_dot_segment, begins, cut_at, led_by, ended_by, without_fragment}
+use Rattle.definitions.specs.Uris.{Parts, split, recompose, is_identifier, is_dot_segment, begins, led_by, ended_by, without_fragment}
+use Rattle.definitions.specs.Lists.{cut_at}
 use Rattle.definitions.specs.Resolution.{resolve, resolved}
 use Rattle.definitions.specs.Schemas.{opened}
 use Rattle.definitions.specs.Scanning.{is_empty_fragment, is_id}

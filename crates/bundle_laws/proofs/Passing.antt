@@ -5,8 +5,10 @@ use Rattle.definitions.specs.Texts.{text}
 use Rattle.definitions.specs.Faults.{bundle_too_large}
 use Rattle.definitions.specs.Schemas.{Document, schema_at}
 use Rattle.definitions.specs.Scanning.{walked, scan_fault}
-use Rattle.definitions.specs.Bundles.{document_of, others_of, clash, bundle_of, under_its_uri, most_bundle_bytes, most_bundle_nesting, sized, bundle_unless, bundle_from}
-use Rattle.definitions.specs.Registries.{Search, is_regular}
+use Rattle.definitions.specs.Bundles.{clash, bundle_of, under_its_uri, sized, bundle_unless, bundle_from}
+use Rattle.definitions.specs.Documents.{document_of, others_of}
+use Rattle.definitions.specs.Limits.{limits}
+use Rattle.definitions.specs.Searches.{Search, is_regular}
 use Rattle.definition_laws.specs.Bundling.{AreWhole}
 use Rattle.definition_laws.proofs.Occurrences.{contains_from_in}
 use Rattle.definition_laws.proofs.MembersPut.{is_object-with}
@@ -20,19 +22,19 @@ use Rattle.bundle_laws.proofs.BundledNames.{uris_once, anchors_once, bundle_regu
 
 -- ---- a bundle that is made is within its limits
 pub record IsSized (v : Value) : Type 0 where
-  pub short : nat_lt most_bundle_bytes (length (text v)) ≡ false
-  pub shallow : nat_lt most_bundle_nesting (nesting v) ≡ false
+  pub short : nat_lt limits.bundle_bytes (length (text v)) ≡ false
+  pub shallow : nat_lt limits.bundle_nesting (nesting v) ≡ false
 
 neither : (a b : Bool) → (a || b) ≡ false → (a ≡ false) × (b ≡ false)
 neither true b h = cc
 neither false b h = (refl, h)
 
 sized_within : (w v : Value) → sized w ≡ Ok v → IsSized w
-sized_within w v e = by (nat_lt most_bundle_bytes (length (text w)) || nat_lt most_bundle_nesting (nesting w)) refl e
+sized_within w v e = by (nat_lt limits.bundle_bytes (length (text w)) || nat_lt limits.bundle_nesting (nesting w)) refl e
   where
-    by : (b : Bool) → (nat_lt most_bundle_bytes (length (text w)) || nat_lt most_bundle_nesting (nesting w)) ≡ b → cond b (Err bundle_too_large) (Ok w) ≡ Ok v → IsSized w
+    by : (b : Bool) → (nat_lt limits.bundle_bytes (length (text w)) || nat_lt limits.bundle_nesting (nesting w)) ≡ b → cond b (Err bundle_too_large) (Ok w) ≡ Ok v → IsSized w
     by true f g = absurd (cc)
-    by false f g = let p = neither (nat_lt most_bundle_bytes (length (text w))) (nat_lt most_bundle_nesting (nesting w)) f in record { short = p.0; shallow = p.1 }
+    by false f g = let p = neither (nat_lt limits.bundle_bytes (length (text w))) (nat_lt limits.bundle_nesting (nesting w)) f in record { short = p.0; shallow = p.1 }
 
 sized_unless : (o : Option Text) (root : Document) (others : List Document) (v : Value) → bundle_unless o root others ≡ Ok v → IsSized (bundle_of root others)
 sized_unless None root others v e = sized_within (bundle_of root others) v e

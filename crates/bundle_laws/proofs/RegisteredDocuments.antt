@@ -4,7 +4,7 @@ use Rattle.std.specs.Str.{is_utf8}
 use Rattle.definitions.specs.Uris.{split, is_identifier}
 use Rattle.definitions.specs.Schemas.{Document}
 use Rattle.definitions.specs.Scanning.{scan_faults}
-use Rattle.definitions.specs.Registries.{Search}
+use Rattle.definitions.specs.Searches.{Search}
 use Rattle.bundle_laws.specs.Registered.{AreRegistered}
 use Rattle.bundle_laws.specs.Standing.{RegisteredDocumentsAreWhole}
 use Rattle.definition_laws.proofs.AcceptedDocuments.{first_none, IsScanned, scanned}

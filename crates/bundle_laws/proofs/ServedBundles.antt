@@ -5,13 +5,16 @@ use Rattle.definitions.specs.Values.{Text, Value, same_text}
 use Rattle.definitions.specs.Texts.{text}
 use Rattle.definitions.specs.Faults.{Fault, not_found}
 use Rattle.definitions.specs.Resolution.{base_form}
-use Rattle.definitions.specs.Schemas.{Schema, Document, document_from, schemas_of, table_of, references, option_list}
+use Rattle.definitions.specs.Schemas.{Schema, Document, document_from, schemas_of, table_of, references}
+use Rattle.definitions.specs.Lists.{option_list}
 use Rattle.definitions.specs.Targets.{target}
 use Rattle.definitions.specs.Reach.{holds_resource, references_in, grown, reach, missing, least}
-use Rattle.definitions.specs.Bundles.{bundle, document_of}
+use Rattle.definitions.specs.Bundles.{bundle}
+use Rattle.definitions.specs.Documents.{document_of}
 use Rattle.definitions.specs.Answers.{answer}
 use Rattle.definitions.specs.Alike.{AreAlike}
-use Rattle.definitions.specs.Registries.{Search, Registry, documents_seen, Reply, put, validate, bundled_from, bundled, refused, for_base, for_value, body_value, unless_missing, linked, answered, made, validation, bundling}
+use Rattle.definitions.specs.Registries.{Registry, documents_seen, Reply, put, validate, bundled_from, bundled, refused, for_base, for_value, body_value, unless_missing, linked, answered, made, validation, bundling}
+use Rattle.definitions.specs.Searches.{Search}
 use Rattle.definitions.specs.Steps.{step}
 use Rattle.definitions.specs.Tenants.{Tenant, empty_registry}
 use Rattle.definition_laws.specs.Bundling.{AreWhole}

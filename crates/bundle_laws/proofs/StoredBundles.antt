@@ -5,10 +5,13 @@ use Rattle.std.specs.List.{filter, list_any}
 use Rattle.definitions.specs.Values.{Text, Value, nesting}
 use Rattle.definitions.specs.Texts.{text, reading}
 use Rattle.definitions.specs.Faults.{Fault, bad_pattern, too_large, library_owned, taken, quota_documents, quota_bytes}
-use Rattle.definitions.specs.Schemas.{Document, document_from, option_list}
-use Rattle.definitions.specs.Scanning.{first, when, scan_faults}
+use Rattle.definitions.specs.Schemas.{Document, document_from}
+use Rattle.definitions.specs.Lists.{option_list, first, when}
+use Rattle.definitions.specs.Scanning.{scan_faults}
 use Rattle.definitions.specs.Reach.{holds_resource, least}
-use Rattle.definitions.specs.Registries.{Search, Registry, is_in_library, stored, for_base, for_value, decided, put_into, put_refusal, body_value, is_regular, resources_of, taken_uri, bytes_of}
+use Rattle.definitions.specs.Registries.{Registry, is_in_library, stored, for_base, for_value, decided, put_into, put_refusal, body_value}
+use Rattle.definitions.specs.Searches.{Search, is_regular}
+use Rattle.definitions.specs.Documents.{resources_of, taken_uri, bytes_of}
 use Rattle.definitions.specs.Tenants.{Tenant, empty_registry}
 use Rattle.definition_laws.specs.Bundling.{AreWhole}
 use Rattle.definition_laws.specs.Identities.{IsDefinite}

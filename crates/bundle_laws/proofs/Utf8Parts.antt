@@ -5,7 +5,8 @@ use Rattle.std.proofs.lemmas.Str.{IsUtf8-nil, IsUtf8-append, IsUtf8-take, IsUtf8
 use Rattle.std.specs.List.{list_any}
 use Rattle.std.specs.Str.{IsUtf8, IsCharBoundary}
 use Rattle.definitions.specs.Values.{Text, same_text}
-use Rattle.definitions.specs.Uris.{Parts, split, recompose, begins, cut_at, split_before, led_by, ended_by, is_scheme, scheme_and_rest}
+use Rattle.definitions.specs.Uris.{Parts, split, recompose, begins, led_by, ended_by, is_scheme, scheme_and_rest}
+use Rattle.definitions.specs.Lists.{cut_at, split_before}
 use Rattle.definitions.specs.Resolution.{resolve, merge, remove_dot_segments, rewritten, rewritten_times, first_segment, without_last_segment, up_to_last_slash, is_empty}
 use Rattle.uri_ref.proofs.Missing.{is_rooted, rest_is_rooted}
 use Rattle.uri_ref.proofs.Recomposed.{cut_joined, before_joined}

@@ -8,7 +8,8 @@ use Rattle.definitions.specs.Shapes.{Shape, has_shape, is_anchor_name, identifie
 use Rattle.definitions.specs.Shapes as shapes
 use Rattle.definitions.specs.Keywords.{Keyword, keywords, keyword_named}
 use Rattle.definitions.specs.Schemas.{Schema, subschemas_by, is_root}
-use Rattle.definitions.specs.Scanning.{unless, is_id, is_dialect, shape_faults, keyword_faults, walked}
+use Rattle.definitions.specs.Scanning.{is_id, is_dialect, shape_faults, keyword_faults, walked}
+use Rattle.definitions.specs.Lists.{unless}
 use Rattle.definition_laws.proofs.AcceptedDocuments.{neither, unless_none}
 use Rattle.definition_laws.proofs.Occurrences.{IsIn, all_pass_in, found_in, found_passes}
 use Rattle.definition_laws.proofs.Places.{IsStep, step_from, step_to}

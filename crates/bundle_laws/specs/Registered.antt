@@ -4,10 +4,12 @@ use Rattle.std.specs.Str.{is_utf8}
 use Rattle.definitions.specs.Values.{Text}
 use Rattle.definitions.specs.Schemas.{Document}
 use Rattle.definitions.specs.Reach.{reach}
-use Rattle.definitions.specs.Registries.{Search, Registry, documents_seen, Request, put, Reply}
+use Rattle.definitions.specs.Registries.{Registry, documents_seen, Request, put, Reply}
+use Rattle.definitions.specs.Searches.{Search}
 use Rattle.definitions.specs.Batches.{library_of}
 use Rattle.definitions.specs.Steps.{step}
-use Rattle.definitions.specs.Runs.{Course, AreKept, IsKept}
+use Rattle.definitions.specs.Runs.{Course}
+use Rattle.definitions.specs.Keeping.{AreKept, IsKept}
 use Rattle.definition_laws.specs.Keeping.{HaveBodyValues, HaveBaseForms}
 
 abbrev pub HaveBaseTexts : List Document → Type 0

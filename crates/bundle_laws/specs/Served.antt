@@ -2,7 +2,8 @@
 use Rattle.std.specs.Prelude.{◌≡◌, ◌<◌, ◌≤◌, [], Ok, length}
 use Rattle.definitions.specs.Values.{Text}
 use Rattle.definitions.specs.Resolution.{base_form}
-use Rattle.definitions.specs.Registries.{Search, Registry, documents_seen, put, validate, bundled_from, bundled}
+use Rattle.definitions.specs.Registries.{Registry, documents_seen, put, validate, bundled_from, bundled}
+use Rattle.definitions.specs.Searches.{Search}
 use Rattle.definitions.specs.Steps.{step}
 use Rattle.definitions.specs.Tenants.{Tenant, empty_registry}
 use Rattle.bundle_laws.specs.Registered.{AreRegistered}

@@ -9,7 +9,8 @@ use Rattle.definitions.specs.Reach.{missing}
 use Rattle.definitions.specs.Bundles.{bundle}
 use Rattle.definitions.specs.Answers.{answer}
 use Rattle.definitions.specs.Alike.{IsAlike}
-use Rattle.definitions.specs.Registries.{Search, put, stored, is_regular}
+use Rattle.definitions.specs.Registries.{put, stored}
+use Rattle.definitions.specs.Searches.{Search, is_regular}
 use Rattle.definitions.specs.Steps.{step}
 use Rattle.definitions.specs.Tenants.{Tenant, empty_registry}
 use Rattle.definition_laws.specs.Bundling.{AreWhole}

@@ -6,7 +6,7 @@ use Rattle.definitions.specs.Applied.{Outcome}
 use Rattle.definitions.specs.Faults.{Fault, unresolved}
 use Rattle.definitions.specs.Patterns.{has_match}
 use Rattle.definitions.specs.Reach.{holds_resource, refers_to, grown, reach, least, missing}
-use Rattle.definitions.specs.Registries.{placed, resources_of}
+use Rattle.definitions.specs.Documents.{placed, resources_of}
 use Rattle.definitions.specs.Schemas.{Document, document_from}
 use Rattle.definitions.specs.Values.{Text, Value, same_text}
 use Rattle.lemmas.proofs.Texts.{same_text_itself}

@@ -3,9 +3,8 @@ use Rattle.std.proofs.Common.{◌≡◌, ◌<◌, Bool, true, false, ◌&&◌, c
 use Rattle.std.proofs.lemmas.Bool.Decides.{nat_tests}
 use Rattle.definitions.specs.Faults.{Fault, bad_pattern}
 use Rattle.definitions.specs.Patterns.{regular_search}
-use Rattle.definitions.specs.Registries.{is_regular}
-use Rattle.definitions.specs.Runs.{builds, has_patterns}
-use Rattle.definitions.specs.Scanning.{scan_fault, patterns}
+use Rattle.definitions.specs.Searches.{is_regular, builds, has_patterns, patterns}
+use Rattle.definitions.specs.Scanning.{scan_fault}
 use Rattle.definitions.specs.Values.{Text, Value}
 use Rattle.checks.specs.Judgements.{is_for_pattern, accepted, builds_under, unless_fault}
 

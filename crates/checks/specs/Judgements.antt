@@ -4,9 +4,8 @@ use Rattle.definitions.specs.Answers.{answer}
 use Rattle.definitions.specs.Faults.{Fault, bad_input, bad_pattern, unresolved}
 use Rattle.definitions.specs.Patterns.{has_match, regular_search}
 use Rattle.definitions.specs.Reach.{least, missing}
-use Rattle.definitions.specs.Registries.{is_regular}
+use Rattle.definitions.specs.Searches.{is_regular, builds}
 use Rattle.definitions.specs.Resolution.{base_form}
-use Rattle.definitions.specs.Runs.{builds}
 use Rattle.definitions.specs.Scanning.{scan_fault}
 use Rattle.definitions.specs.Schemas.{Document, document_from}
 use Rattle.definitions.specs.Texts.{reading}

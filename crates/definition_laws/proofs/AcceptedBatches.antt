@@ -2,14 +2,17 @@
 use Rattle.std.proofs.Common.{◌≡◌, ℕ, suc, Bool, true, false, not, cond, List, [], ◌∷◌, ◌++◌, map, flat_map, length, nat_lt, Contains, Option, Some, None, option_map, Result, Ok, Err, is_some, refl, sym, ap, ◌∙◌, subst, inl, inr}
 use Rattle.std.proofs.lemmas.Bool.{or_from}
 use Rattle.std.specs.List.{list_any}
-use Rattle.definitions.specs.Values.{Text, Value, has_repeat, same_text}
+use Rattle.definitions.specs.Values.{Text, Value, same_text}
+use Rattle.definitions.specs.Lists.{has_repeat, option_list, first, when}
 use Rattle.definitions.specs.Faults.{Fault, bad_pattern, library_owned, taken, same_document, quota_documents, quota_bytes}
 use Rattle.definitions.specs.Resolution.{base_form}
-use Rattle.definitions.specs.Schemas.{Document, document_from, option_list}
-use Rattle.definitions.specs.Scanning.{first, when, scan_faults}
+use Rattle.definitions.specs.Schemas.{Document, document_from}
+use Rattle.definitions.specs.Scanning.{scan_faults}
 use Rattle.definitions.specs.Reach.{least}
-use Rattle.definitions.specs.Registries.{Search, Registry, is_regular, is_in_library, joined, taken_uri, taken_uris, bytes_of}
-use Rattle.definitions.specs.Batches.{Entry, accepted_document, document_under, entry_document, with_later, Numbered, entry_documents, placed_all, repeats, repeated_uri, taken_by, batch_refusal, unless_shared, library_with}
+use Rattle.definitions.specs.Registries.{Registry, is_in_library}
+use Rattle.definitions.specs.Searches.{Search, is_regular}
+use Rattle.definitions.specs.Documents.{joined, taken_uri, taken_uris, bytes_of, placed_all}
+use Rattle.definitions.specs.Batches.{Entry, accepted_document, document_under, entry_document, with_later, Numbered, entry_documents, repeats, repeated_uri, taken_by, batch_refusal, unless_shared, library_with}
 use Rattle.definition_laws.proofs.Membership.{nothing_in, is_first, is_later, first_or_later}
 use Rattle.definition_laws.proofs.Repeats.{none_of}
 use Rattle.definition_laws.proofs.LeastTexts.{no_least}

@@ -5,13 +5,16 @@ use Rattle.std.proofs.lemmas.Cmp.{nat_list_cmp_total, tied_itself}
 use Rattle.std.specs.Cmp.Lexicographic.{slice_cmp, bytes_decides}
 use Rattle.std.specs.List.{list_any}
 use Rattle.std.specs.Ordering.{nat_cmp}
-use Rattle.definitions.specs.Values.{Text, has_repeat, same_text, is_object, nesting}
+use Rattle.definitions.specs.Values.{Text, same_text, is_object, nesting}
+use Rattle.definitions.specs.Lists.{has_repeat, option_list, first, when, unless}
 use Rattle.definitions.specs.Faults.{Fault, bad_pattern, library_owned, taken, quota_documents, quota_bytes, not_object, too_nested, duplicate_uri, duplicate_anchor}
-use Rattle.definitions.specs.Schemas.{Document, schemas_of, schema_at, option_list}
-use Rattle.definitions.specs.Scanning.{first, when, unless, scan_faults, same_anchor, anchors_of, most_nested_schema, walked}
+use Rattle.definitions.specs.Schemas.{Document, schemas_of, schema_at}
+use Rattle.definitions.specs.Scanning.{scan_faults, same_anchor, anchors_of, walked}
+use Rattle.definitions.specs.Limits.{limits}
 use Rattle.definitions.specs.Reach.{holds_resource}
-use Rattle.definitions.specs.Bundles.{others_of}
-use Rattle.definitions.specs.Registries.{Search, Registry, documents_seen, is_in_library, put_refusal, is_regular, resources_of, taken_uri, bytes_of}
+use Rattle.definitions.specs.Documents.{others_of, resources_of, taken_uri, bytes_of}
+use Rattle.definitions.specs.Registries.{Registry, documents_seen, is_in_library, put_refusal}
+use Rattle.definitions.specs.Searches.{Search, is_regular}
 use Rattle.definition_laws.proofs.Membership.{nothing_in, in_filter}
 use Rattle.definition_laws.proofs.Repeats.{none_of}
 use Rattle.definition_laws.proofs.LeastTexts.{no_least}
@@ -67,7 +70,7 @@ accepted search g d after e =
 -- the tests of a scan
 pub record IsScanned (d : Document) : Type 0 where
   pub object : is_object d.value ≡ true
-  pub shallow : nat_lt most_nested_schema (nesting d.value) ≡ false
+  pub shallow : nat_lt limits.schema_nesting (nesting d.value) ≡ false
   pub walk : walked (suc (nesting d.value)) d.base [] (schema_at d.base [] d.value) ≡ []
   pub uris : has_repeat same_text (resources_of d) ≡ false
   pub anchors : has_repeat same_anchor (flat_map anchors_of (schemas_of d.base d.value)) ≡ false
@@ -88,7 +91,7 @@ scanned_by object nested uris anchors walk e =
 
 pub scanned : (d : Document) → scan_faults d.base d.value ≡ [] → IsScanned d
 scanned d e =
-    let parts = scanned_by (is_object d.value) (nat_lt most_nested_schema (nesting d.value)) (has_repeat same_text (resources_of d))
+    let parts = scanned_by (is_object d.value) (nat_lt limits.schema_nesting (nesting d.value)) (has_repeat same_text (resources_of d))
     (has_repeat same_anchor (flat_map anchors_of (schemas_of d.base d.value))) (walked (suc (nesting d.value)) d.base [] (schema_at d.base [] d.value)) e in
     record { object = parts.0; shallow = parts.1.0; walk = parts.1.1.0; uris = parts.1.1.1.0; anchors = parts.1.1.1.1 }
 

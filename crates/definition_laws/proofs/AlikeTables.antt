@@ -5,7 +5,8 @@ use Rattle.definitions.specs.Values.{Text, Value, null, boolean, integer, string
 use Rattle.definitions.specs.Alike.{IsAlikeSchema, IsAlike, AreAlike}
 use Rattle.definitions.specs.Keywords.{Keyword, keywords}
 use Rattle.definitions.specs.Schemas.{Schema, Document, same_identity, references, table_of}
-use Rattle.definitions.specs.Answers.{first_application, limits, answer_of, answer_from, rules_of}
+use Rattle.definitions.specs.Answers.{first_application, answer_of, answer_from, rules_of}
+use Rattle.definitions.specs.Limits.{limits}
 use Rattle.definitions.specs.Targets.{resource_root, target, dynamically_anchored}
 use Rattle.definitions.specs.Applied.{Application, Outcome, Rules, entered}
 use Rattle.definitions.specs.Outcomes.{outcome, schema_outcome, object_outcome, boolean_outcome, false_unit, leaf, is_running, same_place}

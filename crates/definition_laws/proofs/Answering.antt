@@ -4,15 +4,18 @@ use Rattle.std.proofs.lemmas.Bool.{and_parts}
 use Rattle.definitions.specs.Values.{Text, Value}
 use Rattle.definitions.specs.Faults.{Fault, bad_pattern, library_owned, taken, quota_documents, quota_bytes, no_room}
 use Rattle.definitions.specs.Resolution.{base_form}
-use Rattle.definitions.specs.Schemas.{Document, document_from, option_list}
-use Rattle.definitions.specs.Scanning.{first, when, scan_fault, scan_faults}
+use Rattle.definitions.specs.Schemas.{Document, document_from}
+use Rattle.definitions.specs.Lists.{option_list, first, when}
+use Rattle.definitions.specs.Scanning.{scan_fault, scan_faults}
 use Rattle.definitions.specs.Reach.{reach, IsReached}
 use Rattle.definitions.specs.Alike.{Agree}
-use Rattle.definitions.specs.Registries.{Search, Registry, documents_seen, is_in_library, taken_uri, bytes_of, Request, put, delete, validate, bundled_from, batch, Reply, stored, stored_all, refused, refused_at, for_base, for_value, decided, placed, put_into, is_regular, bundling, body_value}
-use Rattle.definitions.specs.Bundles.{document_of}
-use Rattle.definitions.specs.Batches.{Entry, Numbered, batch_entries, entry_document, entry_documents, placed_all, batch_refusal, each_stored, for_documents, for_entries, document_under, with_later}
+use Rattle.definitions.specs.Registries.{Registry, documents_seen, is_in_library, Request, put, delete, validate, bundled_from, batch, Reply, stored, stored_all, refused, refused_at, for_base, for_value, decided, put_into, bundling, body_value}
+use Rattle.definitions.specs.Searches.{Search, is_regular, has_patterns, builds}
+use Rattle.definitions.specs.Documents.{taken_uri, bytes_of, placed, document_of, placed_all}
+use Rattle.definitions.specs.Batches.{Entry, Numbered, batch_entries, entry_document, entry_documents, batch_refusal, each_stored, for_documents, for_entries, document_under, with_later}
 use Rattle.definitions.specs.Steps.{step}
-use Rattle.definitions.specs.Runs.{IsKept, IsForRoom, BuildsPatterns, BuildsPatternsAt, has_patterns, builds, builds_at, entries_build}
+use Rattle.definitions.specs.Runs.{IsForRoom, BuildsPatterns, BuildsPatternsAt, builds_at, entries_build}
+use Rattle.definitions.specs.Keeping.{IsKept}
 use Rattle.definition_laws.proofs.AcceptedDocuments.{first_none}
 use Rattle.definition_laws.proofs.KeptReaches.{same_reached_agree}
 use Rattle.definition_laws.proofs.Registries.{agree_answer_alike}

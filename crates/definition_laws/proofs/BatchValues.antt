@@ -4,8 +4,9 @@ use Rattle.std.proofs.lemmas.Bool.{and_parts}
 use Rattle.std.specs.Str.{is_utf8}
 use Rattle.definitions.specs.Values.{Text, Value, null, boolean, integer, string, array, object, Elements, no_elements, element, Members, no_members, member, elements_list, members_list, entry, get, as_string, text_at, same_text, is_before, is_well_formed, are_well_formed, are_well_formed_members}
 use Rattle.definitions.specs.Faults.{Fault}
-use Rattle.definitions.specs.Pointers.{each}
-use Rattle.definitions.specs.Registries.{body_value, most_body_bytes}
+use Rattle.definitions.specs.Lists.{each}
+use Rattle.definitions.specs.Registries.{body_value}
+use Rattle.definitions.specs.Limits.{limits}
 use Rattle.definitions.specs.Batches.{Entry, entry_in, entries_in, some_entries, entries_of, batch_entries}
 use Rattle.definition_laws.specs.Reading.{has_arrays_within, have_arrays_within, members_have_arrays_within}
 use Rattle.definition_laws.specs.Keeping.{IsBodyValue}
@@ -17,11 +18,11 @@ pub body_formed : (body : Text) (v : Value) → body_value body ≡ Ok v → IsB
 body_formed body v e = record { well_formed = body_well_formed body v e; short_arrays = body_short body v e }
 
 -- ---- parts of a value
-element_formed : (vs : Elements) (w : Value) → are_well_formed vs ≡ true → have_arrays_within most_body_bytes vs ≡ true → Contains (elements_list vs) w → IsBodyValue w
+element_formed : (vs : Elements) (w : Value) → are_well_formed vs ≡ true → have_arrays_within limits.body_bytes vs ≡ true → Contains (elements_list vs) w → IsBodyValue w
 element_formed no_elements w formed short c = absurd (nothing_in w c)
 element_formed (element v vs) w formed short c =
     let formed_parts = and_parts (is_well_formed v) (are_well_formed vs) formed in
-    let short_parts = and_parts (has_arrays_within most_body_bytes v) (have_arrays_within most_body_bytes vs) short in
+    let short_parts = and_parts (has_arrays_within limits.body_bytes v) (have_arrays_within limits.body_bytes vs) short in
     elim (first_or_later v w (elements_list vs) c) [
       | inl same ↦ subst IsBodyValue same (record { well_formed = formed_parts.0; short_arrays = short_parts.0 })
       | inr later ↦ element_formed vs w formed_parts.1 short_parts.1 later
@@ -34,14 +35,14 @@ member_formed_at true v w rest here later e = subst IsBodyValue (inside e) here
     inside e = cc
 member_formed_at false v w rest here later e = later e
 
-member_formed : (name : Text) (ms : Members) (w : Value) → are_well_formed_members ms ≡ true → members_have_arrays_within most_body_bytes ms ≡ true
+member_formed : (name : Text) (ms : Members) (w : Value) → are_well_formed_members ms ≡ true → members_have_arrays_within limits.body_bytes ms ≡ true
     → entry name (members_list ms) ≡ Some w → IsBodyValue w
 member_formed name no_members w formed short e = cc
 member_formed name (member n v ms) w formed short e =
     let one = and_parts (is_utf8 n) _ formed in
     let two = and_parts (is_before n ms) _ one.1 in
     let three = and_parts (is_well_formed v) (are_well_formed_members ms) two.1 in
-    let short_parts = and_parts (has_arrays_within most_body_bytes v) (members_have_arrays_within most_body_bytes ms) short in
+    let short_parts = and_parts (has_arrays_within limits.body_bytes v) (members_have_arrays_within limits.body_bytes ms) short in
     member_formed_at (same_text name n) v w (entry name (members_list ms)) (record { well_formed = three.0; short_arrays = short_parts.0 })
     (member_formed name ms w three.1 short_parts.1) e
 
@@ -119,7 +120,7 @@ entry_from bytes es x e c =
     let read = batch_is (body_value bytes) es e in
     let listed = entries_are (get (codes "put") read.0) es read.1.1 in
     let body : IsBodyValue (array listed.0) = got_formed (codes "put") read.0 (array listed.0) (body_formed bytes read.0 read.1.0) listed.1.0 in
-    let short = and_parts (nat_le (length (elements_list listed.0)) most_body_bytes) (have_arrays_within most_body_bytes listed.0) body.short_arrays in
+    let short = and_parts (nat_le (length (elements_list listed.0)) limits.body_bytes) (have_arrays_within limits.body_bytes listed.0) body.short_arrays in
     let from : (v : Value) × (Contains (elements_list listed.0) v × (entry_in v ≡ Some x)) = from_each entry_in (elements_list listed.0) es listed.1.1 x c in
     (from.0, (element_formed listed.0 from.0 body.well_formed short.1 from.1.0, from.1.1))
 

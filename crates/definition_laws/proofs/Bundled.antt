@@ -10,8 +10,9 @@ use Rattle.definitions.specs.Schemas.{Schema, Document, schema_at, below, docume
 use Rattle.definitions.specs.Scanning.{resource_uris}
 use Rattle.definitions.specs.Alike.{IsAlikeSchema}
 use Rattle.definition_laws.proofs.Targets.{alike_resource, alike_pointer}
-use Rattle.definitions.specs.Registries.{resources_of}
-use Rattle.definitions.specs.Bundles.{document_of, others_of, under_its_uri, defs_of, bundle_of, clash, most_bundle_bytes, most_bundle_nesting, sized, bundle_unless, bundle_from, bundle}
+use Rattle.definitions.specs.Documents.{resources_of, document_of, others_of}
+use Rattle.definitions.specs.Bundles.{under_its_uri, defs_of, bundle_of, clash, sized, bundle_unless, bundle_from, bundle}
+use Rattle.definitions.specs.Limits.{limits}
 use Rattle.lemmas.proofs.Texts.{same_text_itself, same_text_is}
 use Rattle.definition_laws.specs.Identities.{IsDefinite}
 use Rattle.definition_laws.specs.Bundling.{IsAbsolute, AreWhole, BundlesKeepTheirUri, BundlesKeepTheResources, BundlesAreDefinite, BundlesAreAlike, BundlesAnswerTheSame}
@@ -185,7 +186,7 @@ module _ (ds : List Document) (root : Document) (others : List Document) (made :
 
 -- ---- what a bundle that is made says of its root and the others
 sized_is : (w v : Value) → sized w ≡ Ok v → v ≡ w
-sized_is w v e = by (nat_lt most_bundle_bytes (length (text w)) || nat_lt most_bundle_nesting (nesting w)) e
+sized_is w v e = by (nat_lt limits.bundle_bytes (length (text w)) || nat_lt limits.bundle_nesting (nesting w)) e
   where
     by : (b : Bool) → cond b (Err bundle_too_large) (Ok w) ≡ Ok v → v ≡ w
     by true f = absurd (cc)

@@ -1,11 +1,12 @@
 -- Kept documents that are values of bodies have distinct resource URIs and definite values.
 use Rattle.std.proofs.Common.{List, ◌≡◌, ℕ, ◌<◌, ◌^◌, Bool, true, length, nat_lt, nat_le, filter, Contains, lt-ltb, lt_of_le_of_lt, lit<, refl, ap, ◌∙◌, subst}
 use Rattle.std.proofs.lemmas.Bool.{and_from, and_parts, leb-true}
-use Rattle.definitions.specs.Values.{Text, Value, null, boolean, integer, string, array, object, Elements, no_elements, element, Members, no_members, member, elements_list, has_repeat, same_text}
+use Rattle.definitions.specs.Values.{Text, Value, null, boolean, integer, string, array, object, Elements, no_elements, element, Members, no_members, member, elements_list, same_text}
+use Rattle.definitions.specs.Lists.{has_repeat}
 use Rattle.definitions.specs.Schemas.{Document}
 use Rattle.definitions.specs.Reach.{reach}
-use Rattle.definitions.specs.Registries.{Search}
-use Rattle.definitions.specs.Runs.{AreKept}
+use Rattle.definitions.specs.Searches.{Search}
+use Rattle.definitions.specs.Keeping.{AreKept}
 use Rattle.definition_laws.specs.Identities.{has_short_arrays, have_short_arrays, members_have_short_arrays, IsDefinite, IsDistinct}
 use Rattle.definition_laws.specs.Reading.{has_arrays_within, have_arrays_within, members_have_arrays_within}
 use Rattle.definition_laws.specs.Keeping.{IsBodyValue, HaveBodyValues}

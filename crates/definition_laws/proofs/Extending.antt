@@ -2,7 +2,8 @@
 use Rattle.std.proofs.Common.{◌≡◌, ◌&&◌, suc, ◌||◌, ◌==◌, List, [], ◌∷◌, Bool, true, false, cond, Option, Some, None, Result, Ok, Err, is_some, length, option_map, option_and_then, unwrap_or, codes, refl, sym, ap, ap₂, subst, ◌∙◌, inl, inr}
 use Rattle.std.proofs.lemmas.Bool.{and_parts, or_right}
 use Rattle.std.specs.List.{flat_map, find}
-use Rattle.definitions.specs.Values.{Text, Value, nesting, has_repeat, same_text, as_string, text_at, members}
+use Rattle.definitions.specs.Values.{Text, Value, nesting, same_text, as_string, text_at, members}
+use Rattle.definitions.specs.Lists.{has_repeat}
 use Rattle.definitions.specs.Alike.{IsAlikeSchema, IsAlike, AreAlike}
 use Rattle.definitions.specs.Faults.{Fault}
 use Rattle.definitions.specs.Fragments.{Fragment, no_fragment, tokens, plain_name}
@@ -11,9 +12,8 @@ use Rattle.definitions.specs.Keywords.{keywords, shape_in}
 use Rattle.definitions.specs.Uris.{without_fragment}
 use Rattle.definitions.specs.Schemas.{Schema, Document, references, schemas_from, schemas_of, table_of, is_root}
 use Rattle.definitions.specs.Scanning.{anchors_of, anchor_names, same_anchor}
-use Rattle.definitions.specs.Registries.{resources_of}
+use Rattle.definitions.specs.Documents.{resources_of, resource_uris_of}
 use Rattle.definitions.specs.Reach.{missing}
-use Rattle.definitions.specs.Runs.{resource_uris_of}
 use Rattle.definitions.specs.Targets.{resource_root, has_text, is_anchor, is_dynamic_anchor, anchored, dynamically_anchored, pointed, target_in, fragment_of}
 use Rattle.lemmas.proofs.Texts.{same_text_itself, same_text_is}
 use Rattle.definition_laws.specs.Identities.{IsDefinite}

@@ -7,21 +7,16 @@ use Rattle.std.specs.Cmp.Lexicographic.{slice_cmp, bytes_decides}
 use Rattle.std.specs.List.{list_any}
 use Rattle.std.specs.List.Sorted.{IsStrictlySortedBy}
 use Rattle.std.specs.Ordering.{nat_cmp}
-use Rattle.definitions.specs.Values.{Text, same_text, has_repeat}
+use Rattle.definitions.specs.Values.{Text, same_text}
+use Rattle.definitions.specs.Lists.{has_repeat}
 use Rattle.definitions.specs.Schemas.{Document}
-use Rattle.definitions.specs.Bundles.{document_of, others_of}
-use Rattle.definitions.specs.Registries.{placed, joined}
-use Rattle.definitions.specs.Batches.{placed_all}
+use Rattle.definitions.specs.Documents.{document_of, others_of, placed, joined, placed_all}
 use Rattle.definition_laws.proofs.Membership.{nothing_in, is_first, is_later, first_or_later, in_filter, from_filter, in_map, found_some}
 use Rattle.definition_laws.proofs.Repeats.{none_of}
 use Rattle.definition_laws.proofs.Resources.{same_text-unlike}
 use Rattle.definition_laws.proofs.Placing.{inserted, ascending, kept_ascending}
 use Rattle.definition_laws.proofs.Replacing.{either_first, in_front, among_part, in_place}
 use Rattle.definition_laws.proofs.PlacedDocuments.{key_of, as_inserted, from_placed, in_placed, tied}
-
--- in byte order of canonical URIs, each once
-abbrev pub Ascend : List Document → Type 0
-Ascend ds = IsStrictlySortedBy (slice_cmp nat_cmp) (map key_of ds)
 
 -- ---- tests of canonical URIs
 abbrev pub IsOther : Text → Document → Type 0

@@ -6,19 +6,20 @@ use Rattle.std.specs.Cmp.Lexicographic.{slice_cmp}
 use Rattle.std.specs.List.{list_any}
 use Rattle.std.specs.List.Sorted.{IsStrictlySortedBy}
 use Rattle.std.specs.Ordering.{nat_cmp}
-use Rattle.definitions.specs.Values.{has_repeat, same_text}
+use Rattle.definitions.specs.Values.{same_text}
+use Rattle.definitions.specs.Lists.{has_repeat, first}
 use Rattle.definitions.specs.Schemas.{Document, document_from}
-use Rattle.definitions.specs.Scanning.{first, scan_faults}
-use Rattle.definitions.specs.Registries.{Search, is_regular, placed, resources_of}
-use Rattle.definitions.specs.Batches.{placed_all}
-use Rattle.definitions.specs.Runs.{AreKept}
+use Rattle.definitions.specs.Scanning.{scan_faults}
+use Rattle.definitions.specs.Searches.{Search, is_regular}
+use Rattle.definitions.specs.Documents.{placed, resources_of, placed_all, Ascend}
+use Rattle.definitions.specs.Keeping.{AreKept}
 use Rattle.definition_laws.proofs.Membership.{nothing_in, is_first, is_later, from_filter}
 use Rattle.definition_laws.proofs.Repeats.{AreApart, filtered}
 use Rattle.definition_laws.proofs.Resources.{same_text-unlike}
 use Rattle.definition_laws.proofs.Placing.{distinct}
 use Rattle.definition_laws.proofs.PlacedDocuments.{key_of, as_inserted, from_placed}
 use Rattle.definition_laws.proofs.AcceptedDocuments.{scanned}
-use Rattle.definition_laws.proofs.JoinedDocuments.{Ascend, ascend_part, ascend_placed, outside, from_outside, outside_rest, in_all}
+use Rattle.definition_laws.proofs.JoinedDocuments.{ascend_part, ascend_placed, outside, from_outside, outside_rest, in_all}
 
 -- a document with no fault, and none in its patterns
 pub record IsFine (search : Search) (d : Document) : Type 0 where

@@ -3,13 +3,14 @@ use Rattle.std.proofs.Common.{◌≡◌, Bool, true, false, not, ◌↔◌, List
 use Rattle.std.proofs.lemmas.Cmp.{nat_list_cmp_total, tied_itself}
 use Rattle.std.specs.Cmp.Lexicographic.{slice_cmp, bytes_decides}
 use Rattle.std.specs.Ordering.{nat_cmp}
-use Rattle.definitions.specs.Values.{Text, has_repeat, same_text}
+use Rattle.definitions.specs.Values.{Text, same_text}
+use Rattle.definitions.specs.Lists.{has_repeat}
 use Rattle.definitions.specs.Schemas.{Document}
 use Rattle.definitions.specs.Reach.{reach, IsReached, holds, referred}
 use Rattle.definitions.specs.Alike.{Agree}
-use Rattle.definitions.specs.Bundles.{others_of}
-use Rattle.definitions.specs.Registries.{Search, placed}
-use Rattle.definitions.specs.Runs.{AreKept}
+use Rattle.definitions.specs.Documents.{others_of, placed}
+use Rattle.definitions.specs.Searches.{Search}
+use Rattle.definitions.specs.Keeping.{AreKept}
 use Rattle.definition_laws.specs.Reaching.{IsUnreached}
 use Rattle.definition_laws.proofs.Membership.{in_filter, from_filter}
 use Rattle.definition_laws.proofs.Placing.{same_ascending, ascending_distinct}

@@ -8,11 +8,13 @@ use Rattle.definitions.specs.Faults.{Fault}
 use Rattle.definitions.specs.Texts.{text}
 use Rattle.definitions.specs.Resolution.{base_form}
 use Rattle.definitions.specs.Schemas.{Document, document_from}
-use Rattle.definitions.specs.Bundles.{others_of}
-use Rattle.definitions.specs.Registries.{Search, Registry, documents_seen, is_in_library, Request, Reply, put_refusal, body_value, placed, bytes_of}
-use Rattle.definitions.specs.Batches.{Entry, Numbered, batch_entries, entry_documents, placed_all, batch_refusal, library_from, library_by, library_of}
+use Rattle.definitions.specs.Documents.{others_of, placed, bytes_of, placed_all}
+use Rattle.definitions.specs.Registries.{Registry, documents_seen, is_in_library, Request, Reply, put_refusal, body_value}
+use Rattle.definitions.specs.Searches.{Search}
+use Rattle.definitions.specs.Batches.{Entry, Numbered, batch_entries, entry_documents, batch_refusal, library_from, library_by, library_of}
 use Rattle.definitions.specs.Steps.{step}
-use Rattle.definitions.specs.Runs.{Course, AreKept, IsKept}
+use Rattle.definitions.specs.Runs.{Course}
+use Rattle.definitions.specs.Keeping.{AreKept, IsKept}
 use Rattle.definitions.specs.Tenants.{Tenant, empty_registry}
 use Rattle.definition_laws.specs.Keeping.{IsBaseForm, HaveBaseForms, IsBodyValue, HaveBodyValues}
 use Rattle.definition_laws.proofs.Membership.{nothing_in, from_filter, filter_short}

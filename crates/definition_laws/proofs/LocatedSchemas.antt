@@ -7,7 +7,8 @@ use Rattle.std.specs.Str.{IsUtf8, is_utf8}
 use Rattle.definitions.specs.Values.{Text, Value, null, boolean, integer, string, array, object, Members, no_members, member, elements, members, members_list, is_well_formed, are_well_formed_members, is_before}
 use Rattle.definitions.specs.Fragments.{pointed_to, kind_of_text, fragment_kind}
 use Rattle.definitions.specs.Pointers.{Pointer, pointer_text, fragment_text}
-use Rattle.definitions.specs.Uris.{cut_at, without_fragment}
+use Rattle.definitions.specs.Uris.{without_fragment}
+use Rattle.definitions.specs.Lists.{cut_at}
 use Rattle.definitions.specs.Shapes.{Shape, one_schema, schema_list, schema_map}
 use Rattle.definitions.specs.Keywords.{Keyword, keywords, shape_in}
 use Rattle.definitions.specs.Schemas.{Schema, table_of}

@@ -2,7 +2,7 @@
 use Rattle.std.proofs.Common.{◌≡◌, ℕ, zero, suc, ◌<◌, ◌≤◌, Bool, true, false, cond, ◌⊎◌, List, [], ◌∷◌, map, length, get_or, Contains, filter, sym, refl, ap, ◌∙◌, inl, inr, true≢false, arith, find, Some, None}
 use Rattle.std.proofs.lemmas.Bool.{or_parts, or_cases}
 use Rattle.std.specs.List.{list_any}
-use Rattle.definitions.specs.Values.{has_repeat}
+use Rattle.definitions.specs.Lists.{has_repeat}
 use Rattle.lemmas.proofs.Options.{some_from_is_some}
 use Rattle.definition_laws.proofs.Occurrences.{in_from_contains, contains_from_in, into_map, into_filter, from_filter as out_of_filter, filter_passes, any_of_in, found_in, found_passes, found_somewhere}
 

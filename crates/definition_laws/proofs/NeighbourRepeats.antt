@@ -8,7 +8,8 @@ use Rattle.std.specs.Cmp.{IsTotalOrder, IsEquivalence}
 use Rattle.std.specs.List.{list_any}
 use Rattle.std.specs.List.Sorted.{IsPermutation, IsSorted}
 use Rattle.std.specs.Ordering.{ordering_reverse}
-use Rattle.definitions.specs.Values.{Value, same, has_repeat}
+use Rattle.definitions.specs.Values.{Value, same}
+use Rattle.definitions.specs.Lists.{has_repeat}
 use Rattle.definition_laws.specs.Uniqueness.{has_same_neighbours}
 use Rattle.definition_laws.proofs.Repeats.{none_of, any_none}
 

@@ -6,7 +6,7 @@ use Rattle.std.specs.Cmp.Lexicographic.{slice_cmp, bytes_decides}
 use Rattle.std.specs.Ordering.{nat_cmp, match_ordering}
 use Rattle.definitions.specs.Values.{Text}
 use Rattle.definitions.specs.Schemas.{Document}
-use Rattle.definitions.specs.Registries.{placed}
+use Rattle.definitions.specs.Documents.{placed}
 use Rattle.definition_laws.proofs.Placing.{inserted, in_inserted, from_inserted}
 
 abbrev pub key_of : Document → Text

@@ -7,7 +7,7 @@ use Rattle.std.specs.Cmp.{IsTotalOrder}
 use Rattle.std.specs.Ordering.{match_ordering, ordering_reverse}
 use Rattle.std.specs.List.{AllByRecursion as Each, list_any}
 use Rattle.std.specs.List.Sorted.{IsStrictlySortedBy}
-use Rattle.definitions.specs.Values.{has_repeat}
+use Rattle.definitions.specs.Lists.{has_repeat}
 use Rattle.definition_laws.proofs.Membership.{nothing_in, is_first, is_later, first_or_later, in_map}
 use Rattle.definition_laws.proofs.Repeats.{AreApart, any_none, joined, cut, from_flat_map, in_flat_map}
 

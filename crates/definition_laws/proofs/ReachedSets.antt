@@ -2,7 +2,8 @@
 use Rattle.std.proofs.Common.{◌≡◌, ℕ, zero, suc, Bool, true, false, ◌||◌, ◌↔◌, List, [], map, length, Contains, filter, sym, refl, ap, ◌∙◌, subst, inl, inr}
 use Rattle.std.proofs.lemmas.Bool.{false_from_ne_true, or_cases, or_left, or_right}
 use Rattle.std.specs.List.{list_any}
-use Rattle.definitions.specs.Values.{Text, same_text, has_repeat}
+use Rattle.definitions.specs.Values.{Text, same_text}
+use Rattle.definitions.specs.Lists.{has_repeat}
 use Rattle.definitions.specs.Schemas.{Document}
 use Rattle.definitions.specs.Reach.{IsReached, holds, referred, holds_resource, refers_to, grown, grown_times, reach, ReachIsLeast}
 use Rattle.lemmas.proofs.Texts.{same_text_itself, same_text_turned}

@@ -2,15 +2,15 @@
 use Rattle.std.proofs.Common.{◌≡◌, ◌&&◌, ◌||◌, ◌++◌, ℕ, zero, suc, List, [], ◌∷◌, Bool, true, false, cond, Option, Some, None, Result, Ok, Err, is_some, is_none, length, option_and_then, refl, sym, ap, subst, ◌∙◌, inl, inr}
 use Rattle.std.proofs.lemmas.Bool.{and_parts, or_parts, or_right}
 use Rattle.std.specs.List.{flat_map, filter, find, list_any}
-use Rattle.definitions.specs.Values.{Text, Value, has_repeat, same_text}
+use Rattle.definitions.specs.Values.{Text, Value, same_text}
+use Rattle.definitions.specs.Lists.{has_repeat}
 use Rattle.definitions.specs.Answers.{answer}
 use Rattle.definitions.specs.Alike.{IsAlike, AreAlike}
 use Rattle.definitions.specs.Faults.{Fault}
 use Rattle.definitions.specs.Fragments.{Fragment, no_fragment, tokens, plain_name}
 use Rattle.definitions.specs.Uris.{without_fragment}
 use Rattle.definitions.specs.Schemas.{Schema, Document, references, schemas_of, table_of, is_root}
-use Rattle.definitions.specs.Registries.{resources_of}
-use Rattle.definitions.specs.Runs.{resource_uris_of}
+use Rattle.definitions.specs.Documents.{resources_of, resource_uris_of}
 use Rattle.definitions.specs.Targets.{resource_root, dynamically_anchored, is_anchor, is_dynamic_anchor, pointed, target_in, target, fragment_of}
 use Rattle.definitions.specs.Reach.{holds_resource, references_in, refers_to, grown_times, reach, missing}
 use Rattle.lemmas.proofs.Texts.{same_text_itself, same_text_is}

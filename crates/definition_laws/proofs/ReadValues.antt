@@ -17,7 +17,8 @@ use Rattle.serde_json.specs.Read.{read, of_json, of_items, of_members, number_of
 use Rattle.definitions.specs.Values.{Text, Value, Elements, Members, null, boolean, integer, string, array, object, no_elements, element, no_members, member, is_before, is_well_formed, are_well_formed, are_well_formed_members}
 use Rattle.definitions.specs.Faults.{bad_json, too_large}
 use Rattle.definitions.specs.Texts.{value_of, elements_of, members_of, value_or_bad_json, value_or_bad_number, reading}
-use Rattle.definitions.specs.Registries.{body_value, most_body_bytes}
+use Rattle.definitions.specs.Registries.{body_value}
+use Rattle.definitions.specs.Limits.{limits}
 use Rattle.definition_laws.proofs.TokenTexts.{tokens_text}
 use Rattle.definition_laws.proofs.WholeNumbers.{IsFitting, number_fitting}
 use Rattle.definition_laws.proofs.TextGrammar.{IsTextJson, AreTextItems, AreTextMembers, chained, value_text}
@@ -161,4 +162,4 @@ of_size true body v e = cc
 of_size false body v e = well_formed body v e
 
 pub body_well_formed : (body : Text) (v : Value) → body_value body ≡ Ok v → is_well_formed v ≡ true
-body_well_formed body v e = of_size (nat_lt most_body_bytes (length body)) body v e
+body_well_formed body v e = of_size (nat_lt limits.body_bytes (length body)) body v e

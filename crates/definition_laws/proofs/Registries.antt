@@ -6,8 +6,9 @@ use Rattle.definitions.specs.Resolution.{base_form}
 use Rattle.definitions.specs.Schemas.{Document, document_from}
 use Rattle.definitions.specs.Reach.{reach}
 use Rattle.definitions.specs.Alike.{Agree}
-use Rattle.definitions.specs.Registries.{Search, Registry, documents_seen, is_in_library, deleted_from, Request, put, delete, validate, bundled_from, batch, Reply, deleted, refused, stored_all, for_base, for_value, decided, put_refusal, validation, body_value}
-use Rattle.definitions.specs.Bundles.{document_of, others_of}
+use Rattle.definitions.specs.Registries.{Registry, documents_seen, is_in_library, deleted_from, Request, put, delete, validate, bundled_from, batch, Reply, deleted, refused, stored_all, for_base, for_value, decided, put_refusal, validation, body_value}
+use Rattle.definitions.specs.Searches.{Search}
+use Rattle.definitions.specs.Documents.{document_of, others_of}
 use Rattle.definitions.specs.Batches.{Entry, Numbered, batch_entries, entry_documents, batch_refusal, each_stored, for_documents, for_entries}
 use Rattle.definitions.specs.Steps.{step}
 use Rattle.definitions.specs.Runs.{Course, replies, AgreeAnswerAlike}

@@ -3,7 +3,7 @@ use Rattle.std.proofs.Common.{◌≡◌, Bool, true, false, cond, List, [], ◌�
 use Rattle.std.proofs.lemmas.Bool.{or_parts, or_from, false_from_ne_true}
 use Rattle.std.proofs.lemmas.List.Folds.{list_any-append}
 use Rattle.std.specs.List.{list_any}
-use Rattle.definitions.specs.Values.{has_repeat}
+use Rattle.definitions.specs.Lists.{has_repeat}
 use Rattle.definition_laws.proofs.Membership.{nothing_in, is_first, is_later, first_or_later, any_at, any_where, from_filter}
 use Rattle.definition_laws.proofs.Occurrences.{in_from_contains, contains_from_in, into_flat_map, in_flat_map as out_of_flat_map}
 

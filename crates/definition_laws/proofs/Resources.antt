@@ -9,8 +9,7 @@ use Rattle.definitions.specs.Schemas.{Schema, Document, schemas_of, table_of, is
 use Rattle.definitions.specs.Targets.{resource_root}
 use Rattle.definitions.specs.Scanning.{resource_uris}
 use Rattle.definitions.specs.Reach.{holds_resource, reach}
-use Rattle.definitions.specs.Registries.{resources_of}
-use Rattle.definitions.specs.Runs.{resource_uris_of}
+use Rattle.definitions.specs.Documents.{resources_of, resource_uris_of}
 use Rattle.lemmas.proofs.Texts.{same_text_turned}
 use Rattle.lemmas.proofs.Options.{some_from_is_some}
 use Rattle.definition_laws.specs.Reaching.{HaveDistinctResources}

@@ -2,10 +2,10 @@
 use Rattle.std.proofs.Common.{◌≡◌, List, Contains, false}
 use Rattle.definitions.specs.Values.{Text}
 use Rattle.definitions.specs.Schemas.{Document}
-use Rattle.definitions.specs.Bundles.{others_of}
-use Rattle.definitions.specs.Registries.{Search, Registry, documents_seen, is_in_library, placed}
-use Rattle.definitions.specs.Batches.{placed_all}
-use Rattle.definitions.specs.Runs.{IsKept}
+use Rattle.definitions.specs.Documents.{others_of, placed, placed_all}
+use Rattle.definitions.specs.Registries.{Registry, documents_seen, is_in_library}
+use Rattle.definitions.specs.Searches.{Search}
+use Rattle.definitions.specs.Keeping.{IsKept}
 use Rattle.definition_laws.proofs.JoinedDocuments.{joined_placed, joined_without, joined_all}
 
 pub puts : (g : Registry) (d : Document) → is_in_library g d.canonical ≡ false

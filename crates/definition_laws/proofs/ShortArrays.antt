@@ -15,7 +15,8 @@ use Rattle.serde_json.specs.Read.{read, of_json, of_items, of_members, number_of
 use Rattle.definitions.specs.Values.{Text, Value, Elements, Members, null, boolean, integer, string, array, object, no_elements, element, no_members, member, elements_list}
 use Rattle.definitions.specs.Faults.{bad_json, too_large}
 use Rattle.definitions.specs.Texts.{value_of, elements_of, members_of, value_or_bad_json, reading}
-use Rattle.definitions.specs.Registries.{body_value, most_body_bytes}
+use Rattle.definitions.specs.Registries.{body_value}
+use Rattle.definitions.specs.Limits.{limits}
 use Rattle.definition_laws.specs.Reading.{has_arrays_within, have_arrays_within, members_have_arrays_within}
 use Rattle.definition_laws.proofs.TextGrammar.{mapped, chained}
 use Rattle.definition_laws.proofs.ReadValues.{under, last_is, of_data}
@@ -311,5 +312,5 @@ of_size : (n : ℕ) (large : Bool) (body : Text) (v : Value) → nat_lt n (lengt
 of_size n true body v size e = cc
 of_size n false body v size e = value_longer (length body) n (ltb-false n (length body) size) v (arrays_short body v e)
 
-pub body_short : (body : Text) (v : Value) → body_value body ≡ Ok v → has_arrays_within most_body_bytes v ≡ true
-body_short body v e = of_size most_body_bytes (nat_lt most_body_bytes (length body)) body v refl e
+pub body_short : (body : Text) (v : Value) → body_value body ≡ Ok v → has_arrays_within limits.body_bytes v ≡ true
+body_short body v e = of_size limits.body_bytes (nat_lt limits.body_bytes (length body)) body v refl e

@@ -4,9 +4,10 @@ use Rattle.definitions.specs.Values.{Text, Value}
 use Rattle.definitions.specs.Faults.{Fault}
 use Rattle.definitions.specs.Resolution.{base_form}
 use Rattle.definitions.specs.Schemas.{Document, document_from}
-use Rattle.definitions.specs.Bundles.{document_of, others_of}
-use Rattle.definitions.specs.Registries.{Search, Registry, is_in_library, Request, put, delete, validate, bundled_from, batch, Reply, for_base, for_value, decided, put_refusal, body_value, placed}
-use Rattle.definitions.specs.Batches.{Entry, batch_entries, entry_documents, Numbered, placed_all, batch_refusal, for_documents, for_entries}
+use Rattle.definitions.specs.Documents.{document_of, others_of, placed, placed_all}
+use Rattle.definitions.specs.Registries.{Registry, is_in_library, Request, put, delete, validate, bundled_from, batch, Reply, for_base, for_value, decided, put_refusal, body_value}
+use Rattle.definitions.specs.Searches.{Search}
+use Rattle.definitions.specs.Batches.{Entry, batch_entries, entry_documents, Numbered, batch_refusal, for_documents, for_entries}
 use Rattle.definitions.specs.Steps.{step}
 use Rattle.definitions.specs.Runs.{Course}
 use Rattle.definition_laws.specs.Keeping.{IsSetAlike}

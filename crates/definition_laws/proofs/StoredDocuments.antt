@@ -6,9 +6,9 @@ use Rattle.std.specs.List.{list_any}
 use Rattle.definitions.specs.Values.{Text, Value, same_text, text_at}
 use Rattle.definitions.specs.Schemas.{Document, document_from, schema_at, opened, is_root}
 use Rattle.definitions.specs.Reach.{holds_resource, reach, holds}
-use Rattle.definitions.specs.Bundles.{document_of, others_of}
-use Rattle.definitions.specs.Registries.{Search, resources_of, taken_uri}
-use Rattle.definitions.specs.Runs.{AreKept}
+use Rattle.definitions.specs.Documents.{document_of, others_of, resources_of, taken_uri, AreSound}
+use Rattle.definitions.specs.Searches.{Search}
+use Rattle.definitions.specs.Keeping.{AreKept}
 use Rattle.definition_laws.specs.Storing.{IsHeldByAnother, IsTaken}
 use Rattle.lemmas.proofs.Texts.{same_text_itself}
 use Rattle.definition_laws.proofs.Membership.{nothing_in, any_at, any_where, in_filter, from_filter, one_of, found_there, found_some}
@@ -102,3 +102,7 @@ taken_is_held ds d uri e =
 pub free_is_unheld : (ds : List Document) (d : Document) (uri : Text) → taken_uri ds d ≡ None → Contains (resources_of d) uri → IsHeldByAnother ds d uri → ⊥
 free_is_unheld ds d uri e c held =
     nothing_in uri (subst (λ us. Contains us uri) (no_least (filter (λ u. list_any (holds_resource u) (others_of d.canonical ds)) (resources_of d)) e) (held_kept ds d uri c held))
+
+-- ---- as a source has them
+pub kept_sound : (search : Search) (ds : List Document) → AreKept search ds → AreSound ds
+kept_sound search ds kept = record { ascend = kept.ordered; distinct = kept.distinct; made = kept.named; faultless = kept.scanned }

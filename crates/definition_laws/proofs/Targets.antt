@@ -6,7 +6,8 @@ use Rattle.definitions.specs.Faults.{Fault}
 use Rattle.definitions.specs.Fragments.{Fragment, no_fragment, tokens, plain_name}
 use Rattle.definitions.specs.Pointers.{Pointer}
 use Rattle.definitions.specs.Resolution.{resolved}
-use Rattle.definitions.specs.Schemas.{Schema, schema_at, below, identity, reference_at, references, option_list}
+use Rattle.definitions.specs.Schemas.{Schema, schema_at, below, identity, reference_at, references}
+use Rattle.definitions.specs.Lists.{option_list}
 use Rattle.definitions.specs.Targets.{is_dynamic_anchor, target, fragment_of, dynamically_anchored, outermost, dynamic_by, dynamic_target}
 use Rattle.definition_laws.proofs.Occurrences.{IsIn, in_left, in_right}
 use Rattle.definition_laws.proofs.Unbundled.{is_changed, get_alike}

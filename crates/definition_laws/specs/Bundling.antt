@@ -1,7 +1,8 @@
 -- What a bundle keeps of the documents that it is made of (JSON Schema 2020-12 Core, 9.3).
 use Rattle.std.specs.Prelude.{◌≡◌, ◌↔◌, List, [], ◌∷◌, Bool, true, false, Ok, IsTrue, Contains, flat_map}
 use Rattle.std.specs.Str.{is_utf8}
-use Rattle.definitions.specs.Values.{Text, Value, has_repeat, is_object, same_text}
+use Rattle.definitions.specs.Values.{Text, Value, is_object, same_text}
+use Rattle.definitions.specs.Lists.{has_repeat}
 use Rattle.definitions.specs.Uris.{without_fragment}
 use Rattle.definitions.specs.Resolution.{resolved}
 use Rattle.definitions.specs.Schemas.{Document, document_from, schemas_of, table_of}
@@ -9,7 +10,7 @@ use Rattle.definitions.specs.Scanning.{anchors_of, same_anchor, resource_uris}
 use Rattle.definitions.specs.Answers.{answer}
 use Rattle.definitions.specs.Reach.{missing}
 use Rattle.definitions.specs.Bundles.{bundle}
-use Rattle.definitions.specs.Runs.{resource_uris_of}
+use Rattle.definitions.specs.Documents.{resource_uris_of}
 use Rattle.definitions.specs.Alike.{IsAlike}
 use Rattle.definition_laws.specs.Identities.{IsDefinite}
 

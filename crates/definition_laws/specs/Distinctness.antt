@@ -3,8 +3,8 @@ use Rattle.std.specs.Prelude.{List}
 use Rattle.definitions.specs.Values.{Text}
 use Rattle.definitions.specs.Schemas.{Document}
 use Rattle.definitions.specs.Reach.{reach}
-use Rattle.definitions.specs.Registries.{Search}
-use Rattle.definitions.specs.Runs.{AreKept}
+use Rattle.definitions.specs.Searches.{Search}
+use Rattle.definitions.specs.Keeping.{AreKept}
 use Rattle.definition_laws.specs.Identities.{IsDistinct}
 use Rattle.definition_laws.specs.Keeping.{HaveBodyValues}
 

@@ -1,7 +1,8 @@
 -- What a schema's identity says (JSON Schema 2020-12 Core, 8.2.1 and 8.2.3): in a table whose resources have distinct
 -- URIs it names one schema, which the resource's root and the pointer lead to.
 use Rattle.std.specs.Prelude.{◌≡◌, ◌^◌, List, Bool, true, false, ◌&&◌, Some, IsTrue, Contains, length, nat_lt, option_and_then}
-use Rattle.definitions.specs.Values.{Value, null, boolean, integer, string, array, object, Elements, no_elements, element, Members, no_members, member, elements_list, is_well_formed, has_repeat, same_text}
+use Rattle.definitions.specs.Values.{Value, null, boolean, integer, string, array, object, Elements, no_elements, element, Members, no_members, member, elements_list, is_well_formed, same_text}
+use Rattle.definitions.specs.Lists.{has_repeat}
 use Rattle.definitions.specs.Schemas.{Schema, Document, identity, is_root, table_of}
 use Rattle.definitions.specs.Scanning.{resource_uris}
 use Rattle.definitions.specs.Targets.{resource_root, pointed}

@@ -3,17 +3,20 @@ use Rattle.std.specs.Prelude.{◌≡◌, List, Ok, Contains, IsTrue}
 use Rattle.definitions.specs.Values.{Text, Value, is_well_formed}
 use Rattle.definitions.specs.Resolution.{base_form}
 use Rattle.definitions.specs.Schemas.{Document}
-use Rattle.definitions.specs.Registries.{Search, Registry, documents_seen, Request, Reply, most_body_bytes}
+use Rattle.definitions.specs.Registries.{Registry, documents_seen, Request, Reply}
+use Rattle.definitions.specs.Searches.{Search}
+use Rattle.definitions.specs.Limits.{limits}
 use Rattle.definitions.specs.Batches.{library_of}
 use Rattle.definitions.specs.Steps.{step}
-use Rattle.definitions.specs.Runs.{Course, AreKept, IsKept}
+use Rattle.definitions.specs.Runs.{Course}
+use Rattle.definitions.specs.Keeping.{AreKept, IsKept}
 use Rattle.definitions.specs.Tenants.{Tenant, empty_registry}
 use Rattle.definition_laws.specs.Reading.{has_arrays_within}
 
 -- what every value is like that was the body of a request, or stood in it
 pub record IsBodyValue (v : Value) : Type 0 where
   pub well_formed : IsTrue (is_well_formed v)
-  pub short_arrays : IsTrue (has_arrays_within most_body_bytes v)
+  pub short_arrays : IsTrue (has_arrays_within limits.body_bytes v)
 
 abbrev pub HaveBodyValues : List Document → Type 0
 HaveBodyValues ds = (d : Document) → Contains ds d → IsBodyValue d.value

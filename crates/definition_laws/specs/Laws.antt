@@ -7,9 +7,11 @@ use Rattle.definitions.specs.Schemas.{Document}
 use Rattle.definitions.specs.Reach.{IsReached}
 use Rattle.definitions.specs.Applied.{Application, Rules}
 use Rattle.definitions.specs.Outcomes.{outcome}
-use Rattle.definitions.specs.Registries.{Search, Registry, documents_seen, Request, validate, bundled_from, Reply, refused, refused_at}
+use Rattle.definitions.specs.Registries.{Registry, documents_seen, Request, validate, bundled_from, Reply, refused, refused_at}
+use Rattle.definitions.specs.Searches.{Search}
 use Rattle.definitions.specs.Steps.{step}
-use Rattle.definitions.specs.Runs.{IsKept, Course, IsForRoom, replies, AgreeAnswerAlike}
+use Rattle.definitions.specs.Runs.{Course, IsForRoom, replies, AgreeAnswerAlike}
+use Rattle.definitions.specs.Keeping.{IsKept}
 
 abbrev pub FailingEvaluatesNothing : Type 0
 FailingEvaluatesNothing =

@@ -2,10 +2,10 @@
 use Rattle.std.specs.Prelude.{◌≡◌, List, Contains, false}
 use Rattle.definitions.specs.Values.{Text}
 use Rattle.definitions.specs.Schemas.{Document}
-use Rattle.definitions.specs.Bundles.{others_of}
-use Rattle.definitions.specs.Registries.{Search, Registry, documents_seen, is_in_library, placed}
-use Rattle.definitions.specs.Batches.{placed_all}
-use Rattle.definitions.specs.Runs.{IsKept}
+use Rattle.definitions.specs.Documents.{others_of, placed, placed_all}
+use Rattle.definitions.specs.Registries.{Registry, documents_seen, is_in_library}
+use Rattle.definitions.specs.Searches.{Search}
+use Rattle.definitions.specs.Keeping.{IsKept}
 
 -- what is put beside the library is put among all that is seen
 abbrev pub PutsCommute : Type 0

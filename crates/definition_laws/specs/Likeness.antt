@@ -1,13 +1,14 @@
 -- When alike tables of schemas give the same outcomes.
 use Rattle.std.specs.Prelude.{◌≡◌, List, [], Bool, false}
-use Rattle.definitions.specs.Values.{Text, Value, has_repeat, same_text}
+use Rattle.definitions.specs.Values.{Text, Value, same_text}
+use Rattle.definitions.specs.Lists.{has_repeat}
 use Rattle.definitions.specs.Schemas.{Document, table_of}
 use Rattle.definitions.specs.Targets.{resource_root}
 use Rattle.definitions.specs.Applied.{Rules}
 use Rattle.definitions.specs.Answers.{answer}
 use Rattle.definitions.specs.Alike.{AreAlike, IsAlike, AlikeGiveTheSame}
 use Rattle.definitions.specs.Reach.{reach, missing}
-use Rattle.definitions.specs.Runs.{resource_uris_of}
+use Rattle.definitions.specs.Documents.{resource_uris_of}
 
 abbrev pub AlikeTablesGiveTheSame : Type 0
 AlikeTablesGiveTheSame = (rules : Rules) (ds es : List Document) → AlikeGiveTheSame rules ds es

@@ -1,13 +1,14 @@
 -- What the laws say of the documents that a URI reaches (JSON Schema 2020-12 Core, 8.2.3 and 9.2).
 use Rattle.std.specs.Prelude.{◌≡◌, ◌≢◌, ◌↔◌, List, [], false, None, Contains, IsTrue}
-use Rattle.definitions.specs.Values.{Text, has_repeat, same_text}
+use Rattle.definitions.specs.Values.{Text, same_text}
+use Rattle.definitions.specs.Lists.{has_repeat}
 use Rattle.definitions.specs.Schemas.{Document, table_of}
 use Rattle.definitions.specs.Scanning.{resource_uris}
 use Rattle.definitions.specs.Reach.{holds_resource, reach, IsReached, ReachIsLeast}
 use Rattle.definitions.specs.Alike.{Agree}
-use Rattle.definitions.specs.Bundles.{others_of}
-use Rattle.definitions.specs.Registries.{Search, placed}
-use Rattle.definitions.specs.Runs.{AreKept, resource_uris_of}
+use Rattle.definitions.specs.Documents.{others_of, placed, resource_uris_of}
+use Rattle.definitions.specs.Searches.{Search}
+use Rattle.definitions.specs.Keeping.{AreKept}
 
 -- of documents with distinct canonical URIs, a URI reaches those in the least set that has each document with a resource
 -- of this URI, and each document that one in it refers to

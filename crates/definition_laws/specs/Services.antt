@@ -3,8 +3,10 @@ use Rattle.std.specs.Prelude.{◌≡◌, ◌≢◌, ℕ, List, [], ◌∷◌, �
 use Rattle.definitions.specs.Values.{Text}
 use Rattle.definitions.specs.Faults.{unknown_tenant}
 use Rattle.definitions.specs.Schemas.{Document}
-use Rattle.definitions.specs.Registries.{Search, Registry, Reply, refused}
-use Rattle.definitions.specs.Runs.{AreKept, IsKept, Course, IsAnswer, replies}
+use Rattle.definitions.specs.Registries.{Registry, Reply, refused}
+use Rattle.definitions.specs.Searches.{Search}
+use Rattle.definitions.specs.Runs.{Course, IsAnswer, replies}
+use Rattle.definitions.specs.Keeping.{AreKept, IsKept}
 use Rattle.definitions.specs.Services.{KeyedRegistry, Call, registry_of, IsCallAnswer, CallCourse, own, replies_at, AllUnknown}
 use Rattle.definitions.specs.Tenants.{Tenant, new_server}
 use Rattle.definition_laws.specs.Laws.{NoneIsForRoom}

@@ -5,9 +5,9 @@ use Rattle.std.specs.Cmp.Lexicographic.{slice_cmp}
 use Rattle.definitions.specs.Values.{Text, Value}
 use Rattle.definitions.specs.Schemas.{Document, document_from}
 use Rattle.definitions.specs.Reach.{holds_resource, reach}
-use Rattle.definitions.specs.Bundles.{document_of}
-use Rattle.definitions.specs.Registries.{Search, resources_of, taken_uri}
-use Rattle.definitions.specs.Runs.{AreKept}
+use Rattle.definitions.specs.Documents.{document_of, resources_of, taken_uri, AreSound}
+use Rattle.definitions.specs.Searches.{Search}
+use Rattle.definitions.specs.Keeping.{AreKept}
 
 -- a document has a resource under its canonical URI, its root
 abbrev pub DocumentsHoldTheirUris : Type 0
@@ -56,3 +56,7 @@ TakenUrisAreHeldByAnother = (ds : List Document) (d : Document) (uri : Text) →
 abbrev pub FreeUrisAreHeldByNoOther : Type 0
 FreeUrisAreHeldByNoOther =
     (ds : List Document) (d : Document) (uri : Text) → taken_uri ds d ≡ None → Contains (resources_of d) uri → IsHeldByAnother ds d uri → ⊥
+
+-- kept documents are as a source of documents has them
+abbrev pub KeptDocumentsAreSound : Type 0
+KeptDocumentsAreSound = (search : Search) (ds : List Document) → AreKept search ds → AreSound ds

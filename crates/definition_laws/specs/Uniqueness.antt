@@ -4,7 +4,8 @@ use Rattle.std.specs.Cmp.{IsTotalOrder}
 use Rattle.std.specs.List.Sorted.{IsPermutation, IsSorted}
 use Rattle.std.specs.Ordering.{is_eq}
 use Rattle.std.specs.declared.cmp.Ordering.{Ordering}
-use Rattle.definitions.specs.Values.{Value, same, has_repeat}
+use Rattle.definitions.specs.Values.{Value, same}
+use Rattle.definitions.specs.Lists.{has_repeat}
 
 -- some two neighbours are the same
 abbrev pub has_same_neighbours : List Value → Bool

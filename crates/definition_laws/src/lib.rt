@@ -51,8 +51,8 @@ pub use services::{
     unknown_keys_are_refused, unknown_keys_stay_unknown,
 };
 pub use storing::{
-    canonical_uris_find_their_holders, documents_are_found_by_their_uris,
-    documents_hold_their_uris, free_uris_are_held_by_no_other, holders_are_unique,
+    canonical_uris_find_their_holders, holders_are_unique, kept_documents_are_sound,
+    documents_are_found_by_their_uris, documents_hold_their_uris, free_uris_are_held_by_no_other,
     stored_documents_are_reached, taken_uris_are_held_by_another,
 };
 pub use uniqueness::sorted_repeats_are_neighbours;

@@ -1,6 +1,6 @@
 //! Documents by their canonical URIs.
 
-ghost use Rattle.definition_laws.specs.Storing.{DocumentsHoldTheirUris, StoredDocumentsAreReached, DocumentsAreFoundByTheirUris, HoldersAreUnique, CanonicalUrisFindTheirHolders, TakenUrisAreHeldByAnother, FreeUrisAreHeldByNoOther};
+ghost use Rattle.definition_laws.specs.Storing.{KeptDocumentsAreSound, DocumentsHoldTheirUris, StoredDocumentsAreReached, DocumentsAreFoundByTheirUris, HoldersAreUnique, CanonicalUrisFindTheirHolders, TakenUrisAreHeldByAnother, FreeUrisAreHeldByNoOther};
 
 /// A document has a resource under its canonical URI: its root (JSON Schema 2020-12 Core, 8.2.1).
 pub fn documents_hold_their_uris()
@@ -36,4 +36,10 @@ pub fn taken_uris_are_held_by_another()
 /// Where no URI is taken, no document with another canonical URI holds one of the document's own.
 pub fn free_uris_are_held_by_no_other()
     ensures { FreeUrisAreHeldByNoOther }
+{}
+
+/// Kept documents are as a source of documents has them: in byte order of canonical URIs, without a fault, and no two of
+/// which hold one resource.
+pub fn kept_documents_are_sound()
+    ensures { KeptDocumentsAreSound }
 {}

@@ -9,7 +9,8 @@ use Rattle.definitions.specs.Schemas.{Document, document_from, table_of}
 use Rattle.definitions.specs.Scanning.{scan_fault}
 use Rattle.definitions.specs.Targets.{target}
 use Rattle.definitions.specs.Registries as registry
-use Rattle.definitions.specs.Registries.{Search, Request, Reply}
+use Rattle.definitions.specs.Registries.{Request, Reply}
+use Rattle.definitions.specs.Searches.{Search}
 use Rattle.definitions.specs.Reach.{reach}
 use Rattle.definitions.specs.Batches.{library_of}
 use Rattle.definitions.specs.Runs.{replies}
@@ -17,7 +18,8 @@ use Rattle.definitions.specs.Services.{Call, call_replies}
 use Rattle.definitions.specs.Tenants.{Tenant, empty_registries}
 use Rattle.definitions.specs.Patterns.{regular_search}
 use Rattle.definitions.specs.Applied.{Outcome}
-use Rattle.definitions.specs.Answers.{Limits, limits, answer_by, rules_of, output_text}
+use Rattle.definitions.specs.Answers.{answer_by, rules_of, output_text}
+use Rattle.definitions.specs.Limits.{Limits, limits}
 
 abbrev pub read_value : Result Value Fault → Option Value
 read_value (Ok v) = Some v

@@ -1,6 +1,6 @@
 -- Requests of one tenant, and the replies in turn.
 use Rattle.std.proofs.Common.{◌≡◌, refl}
-use Rattle.std.specs.Prelude.{[], ◌∷◌, codes, true, false, Some, None}
+use Rattle.std.specs.Prelude.{[], ◌∷◌, codes, true, false, Some, None, Ok, Err}
 use Rattle.std.specs.Fmt.{digits}
 use Rattle.std.specs.Str.{is_utf8, chars}
 use Rattle.regex_hir.specs.Find.{find_str, first_from}
@@ -8,8 +8,12 @@ use Rattle.regex_hir.specs.Text.{is_boundary, has_bytes_at}
 use Rattle.regex_hir.specs.Re.{attempt, rounds}
 use Rattle.regex.proofs.OnLiterals.{regex_on_literals}
 use Rattle.serde_json.proofs.OnLiterals.{serde_json_on_literals}
+use Rattle.definitions.specs.Limits.{limits}
+use Rattle.definitions.specs.Values.{null, string}
+use Rattle.definitions.specs.Faults.{too_large, bundle_too_large}
 use Rattle.definitions.specs.Outcomes.{object_outcome, outcome}
-use Rattle.definitions.specs.Registries.{put, delete, validate, bundled_from, stored, deleted, validated, bundled}
+use Rattle.definitions.specs.Bundles.{sized_within}
+use Rattle.definitions.specs.Registries.{put, delete, validate, bundled_from, stored, deleted, validated, bundled, body_within}
 use Rattle.definition_rows.proofs.Asked.{replied, replied_matching, reached, was, gave}
 
 taken_and_replaced : replied [] 100 10000 (
@@ -192,3 +196,19 @@ reached_documents : reached ((codes "https://ex.org/p", codes "{}") ∷ (codes "
     ≡ Some (codes "https://ex.org/p" ∷ codes "https://ex.org/q" ∷ codes "https://ex.org/s" ∷ [])
 unfolding serde_json_on_literals digits is_utf8 chars
 reached_documents = refl
+
+-- ---- the limits on bytes, at small numbers
+body_that_fits : body_within (record limits { body_bytes = 4 }) (codes "null") ≡ Ok null
+unfolding serde_json_on_literals is_utf8 chars
+body_that_fits = refl
+
+body_too_large : body_within (record limits { body_bytes = 3 }) (codes "null") ≡ Err too_large
+body_too_large = refl
+
+bundle_that_fits : sized_within (record limits { bundle_bytes = 6 }) (string (codes "abcd")) ≡ Ok (string (codes "abcd"))
+unfolding digits is_utf8 chars
+bundle_that_fits = refl
+
+bundle_of_too_many_bytes : sized_within (record limits { bundle_bytes = 5 }) (string (codes "abcd")) ≡ Err bundle_too_large
+unfolding digits is_utf8 chars
+bundle_of_too_many_bytes = refl

@@ -5,6 +5,7 @@ use Rattle.std.specs.Fmt.{digits}
 use Rattle.std.specs.Str.{is_utf8, chars}
 use Rattle.serde_json.proofs.OnLiterals.{serde_json_on_literals}
 use Rattle.definitions.specs.Outcomes.{object_outcome, outcome}
+use Rattle.definitions.specs.Limits.{limits}
 use Rattle.definition_rows.proofs.Asked.{said, refused, validated, validated_alone, validated_within}
 
 missing_member : validated_alone (codes "{\"required\":[\"a\"],\"type\":\"object\"}") (codes "{}")
@@ -86,22 +87,22 @@ across_an_embedded_resource = refl
 
 -- ---- the limits, at small numbers
 -- a chain of three references, each to the next
-chain_that_fits : validated_within (record { nested = 4; applications = 4 }) ((codes "https://ex.org/s", codes "{\"$ref\":\"#/$defs/d1\",\"$defs\":{\"d1\":{\"$ref\":\"#/$defs/d2\"},\"d2\":{\"$ref\":\"#/$defs/d3\"},\"d3\":{}}}") ∷ []) (codes "https://ex.org/s") (codes "1")
+chain_that_fits : validated_within (record limits { nested_applications = 4; applications = 4 }) ((codes "https://ex.org/s", codes "{\"$ref\":\"#/$defs/d1\",\"$defs\":{\"d1\":{\"$ref\":\"#/$defs/d2\"},\"d2\":{\"$ref\":\"#/$defs/d3\"},\"d3\":{}}}") ∷ []) (codes "https://ex.org/s") (codes "1")
     ≡ Some (said (codes "{\"annotations\":[],\"valid\":true}"))
 unfolding serde_json_on_literals digits is_utf8 chars object_outcome outcome
 chain_that_fits = refl
 
-chain_too_deep : validated_within (record { nested = 3; applications = 4 }) ((codes "https://ex.org/s", codes "{\"$ref\":\"#/$defs/d1\",\"$defs\":{\"d1\":{\"$ref\":\"#/$defs/d2\"},\"d2\":{\"$ref\":\"#/$defs/d3\"},\"d3\":{}}}") ∷ []) (codes "https://ex.org/s") (codes "1")
+chain_too_deep : validated_within (record limits { nested_applications = 3; applications = 4 }) ((codes "https://ex.org/s", codes "{\"$ref\":\"#/$defs/d1\",\"$defs\":{\"d1\":{\"$ref\":\"#/$defs/d2\"},\"d2\":{\"$ref\":\"#/$defs/d3\"},\"d3\":{}}}") ∷ []) (codes "https://ex.org/s") (codes "1")
     ≡ Some (refused (codes "Deep") None)
 unfolding serde_json_on_literals digits is_utf8 chars object_outcome outcome
 chain_too_deep = refl
 
-too_many_applications : validated_within (record { nested = 4; applications = 3 }) ((codes "https://ex.org/s", codes "{\"items\":true}") ∷ []) (codes "https://ex.org/s") (codes "[0,0,0]")
+too_many_applications : validated_within (record limits { nested_applications = 4; applications = 3 }) ((codes "https://ex.org/s", codes "{\"items\":true}") ∷ []) (codes "https://ex.org/s") (codes "[0,0,0]")
     ≡ Some (refused (codes "Costly") None)
 unfolding serde_json_on_literals digits is_utf8 chars object_outcome outcome
 too_many_applications = refl
 
-as_many_as_may_be : validated_within (record { nested = 4; applications = 4 }) ((codes "https://ex.org/s", codes "{\"items\":true}") ∷ []) (codes "https://ex.org/s") (codes "[0,0,0]")
+as_many_as_may_be : validated_within (record limits { nested_applications = 4; applications = 4 }) ((codes "https://ex.org/s", codes "{\"items\":true}") ∷ []) (codes "https://ex.org/s") (codes "[0,0,0]")
     ≡ Some (said (codes "{\"annotations\":[{\"absoluteKeywordLocation\":\"https://ex.org/s#/items\",\"annotation\":true,\"instanceLocation\":\"\",\"keywordLocation\":\"/items\"}],\"valid\":true}"))
 unfolding serde_json_on_literals digits is_utf8 chars object_outcome outcome
 as_many_as_may_be = refl
@@ -147,18 +148,18 @@ extended : validated ((codes "https://example.com/base", codes "{\"$dynamicAncho
 unfolding serde_json_on_literals digits is_utf8 chars object_outcome outcome
 extended = refl
 
-loops_before_it_is_deep : validated_within (record { nested = 3; applications = 100 }) ((codes "https://ex.org/s", codes "{\"$dynamicRef\":\"#\",\"$ref\":\"#/$defs/d1\",\"$defs\":{\"d1\":{\"$ref\":\"#/$defs/d2\"},\"d2\":{\"$ref\":\"#/$defs/d3\"},\"d3\":{}}}") ∷ []) (codes "https://ex.org/s") (codes "1")
+loops_before_it_is_deep : validated_within (record limits { nested_applications = 3; applications = 100 }) ((codes "https://ex.org/s", codes "{\"$dynamicRef\":\"#\",\"$ref\":\"#/$defs/d1\",\"$defs\":{\"d1\":{\"$ref\":\"#/$defs/d2\"},\"d2\":{\"$ref\":\"#/$defs/d3\"},\"d3\":{}}}") ∷ []) (codes "https://ex.org/s") (codes "1")
     ≡ Some (refused (codes "Loop") None)
 unfolding serde_json_on_literals digits is_utf8 chars object_outcome outcome
 loops_before_it_is_deep = refl
 
 -- each level applies the next twice: 2^(n+1) applications down to level n
-doubled_within_the_budget : validated_within (record { nested = 10; applications = 8 }) ((codes "https://ex.org/s", codes "{\"$ref\":\"#/$defs/s1\",\"$defs\":{\"s1\":{\"$dynamicRef\":\"#/$defs/s2\",\"$ref\":\"#/$defs/s2\"},\"s2\":{\"$dynamicRef\":\"#/$defs/s3\",\"$ref\":\"#/$defs/s3\"},\"s3\":{}}}") ∷ []) (codes "https://ex.org/s") (codes "1")
+doubled_within_the_budget : validated_within (record limits { nested_applications = 10; applications = 8 }) ((codes "https://ex.org/s", codes "{\"$ref\":\"#/$defs/s1\",\"$defs\":{\"s1\":{\"$dynamicRef\":\"#/$defs/s2\",\"$ref\":\"#/$defs/s2\"},\"s2\":{\"$dynamicRef\":\"#/$defs/s3\",\"$ref\":\"#/$defs/s3\"},\"s3\":{}}}") ∷ []) (codes "https://ex.org/s") (codes "1")
     ≡ Some (said (codes "{\"annotations\":[],\"valid\":true}"))
 unfolding serde_json_on_literals digits is_utf8 chars object_outcome outcome
 doubled_within_the_budget = refl
 
-doubled_over_the_budget : validated_within (record { nested = 10; applications = 7 }) ((codes "https://ex.org/s", codes "{\"$ref\":\"#/$defs/s1\",\"$defs\":{\"s1\":{\"$dynamicRef\":\"#/$defs/s2\",\"$ref\":\"#/$defs/s2\"},\"s2\":{\"$dynamicRef\":\"#/$defs/s3\",\"$ref\":\"#/$defs/s3\"},\"s3\":{}}}") ∷ []) (codes "https://ex.org/s") (codes "1")
+doubled_over_the_budget : validated_within (record limits { nested_applications = 10; applications = 7 }) ((codes "https://ex.org/s", codes "{\"$ref\":\"#/$defs/s1\",\"$defs\":{\"s1\":{\"$dynamicRef\":\"#/$defs/s2\",\"$ref\":\"#/$defs/s2\"},\"s2\":{\"$dynamicRef\":\"#/$defs/s3\",\"$ref\":\"#/$defs/s3\"},\"s3\":{}}}") ∷ []) (codes "https://ex.org/s") (codes "1")
     ≡ Some (refused (codes "Costly") None)
 unfolding serde_json_on_literals digits is_utf8 chars object_outcome outcome
 doubled_over_the_budget = refl

@@ -1,27 +1,20 @@
 -- The answer to a validation, and the basic output's text (JSON Schema 2020-12 Core, 12.4.2).
 use Rattle.std.specs.Prelude.{ℕ, List, [], ◌∷◌, ◌++◌, Bool, if◌then◌else◌, Option, Some, None, Result, Ok, Err, nat_lt, codes, map}
+use Rattle.definitions.specs.Limits.{Limits, limits}
+use Rattle.definitions.specs.Bytes.{number_sign}
 use Rattle.definitions.specs.Values.{Text, Value, boolean, string, array, object, to_elements, to_members}
-use Rattle.definitions.specs.Texts.{text}
 use Rattle.definitions.specs.Faults.{Fault, costly, loop, deep, not_found}
+use Rattle.definitions.specs.Texts.{text}
 use Rattle.definitions.specs.Pointers.{pointer_text, fragment_text}
+use Rattle.definitions.specs.Keywords.{keywords}
 use Rattle.definitions.specs.Schemas.{Schema, Document, table_of}
 use Rattle.definitions.specs.Targets.{resource_root}
-use Rattle.definitions.specs.Keywords.{keywords}
 use Rattle.definitions.specs.Applied.{Application, Outcome, OutputUnit, Rules}
 use Rattle.definitions.specs.Outcomes.{outcome}
 
 -- the first application: the root, at the whole instance
 abbrev pub first_application : Schema → Value → Application
 first_application s x = record { schema = s; instance = x; place = record { pointer = []; name = None }; path = []; scope = []; running = [] }
-
--- how many applications may nest, and how many there may be
-pub record Limits : Type 0 where
-  pub nested : ℕ
-  pub applications : ℕ
-
--- those of every answer that is given
-abbrev pub limits : Limits
-limits = record { nested = 1000; applications = 100000 }
 
 abbrev pub answer_of : ℕ → Outcome → Result Outcome Fault
 answer_of most o =
@@ -32,7 +25,7 @@ answer_of most o =
 
 abbrev pub answer_from : Limits → Rules → Value → Option Schema → Result Outcome Fault
 answer_from most rules x None = Err not_found
-answer_from most rules x (Some s) = answer_of most.applications (outcome rules most.nested (first_application s x))
+answer_from most rules x (Some s) = answer_of most.applications (outcome rules most.nested_applications (first_application s x))
 
 -- what the resource with this URI says of the instance, by rules over schemas in which no reference is missing
 abbrev pub answer_by : Limits → Rules → Text → Value → Result Outcome Fault
@@ -47,7 +40,7 @@ answer matches documents uri x = answer_by limits (rules_of matches documents) u
 
 -- ---- the text
 abbrev pub absolute_location : OutputUnit → Text
-absolute_location u = u.resource ++ (35 ∷ fragment_text u.pointer)
+absolute_location u = u.resource ++ (number_sign ∷ fragment_text u.pointer)
 
 abbrev pub unit_value : Text → OutputUnit → Value
 unit_value kind u = object (to_members (

@@ -3,9 +3,9 @@ use Rattle.std.specs.Prelude.{ℕ, List, [], ◌∷◌, ◌++◌, Bool, true, fa
 use Rattle.std.specs.List.{list_any, enumerate_from}
 use Rattle.definitions.specs.Values.{Text, Value, null, string, same_text, get, elements, members}
 use Rattle.definitions.specs.Pointers.{Pointer}
+use Rattle.definitions.specs.Keywords.{Keyword, Meaning, refers, refers_dynamically, all_of, any_of, one_of, negated, condition, consequence, dependent_schemas, prefix_items, rest_items, some_item, properties, pattern_properties, other_properties, property_names, unevaluated_items, unevaluated_properties}
 use Rattle.definitions.specs.Schemas.{Schema, Identity, identity, below, reference_at}
 use Rattle.definitions.specs.Targets.{target, dynamic_target}
-use Rattle.definitions.specs.Keywords.{Keyword, Meaning, refers, refers_dynamically, all_of, any_of, one_of, negated, condition, consequence, dependent_schemas, prefix_items, rest_items, some_item, properties, pattern_properties, other_properties, property_names, unevaluated_items, unevaluated_properties}
 
 -- where an instance stands: a pointer to it and, under `propertyNames`, the name
 pub record Place : Type 0 where

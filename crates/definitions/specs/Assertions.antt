@@ -1,7 +1,8 @@
 -- The keywords that look at their own value and the instance (JSON Schema 2020-12 Validation, section 6).
 use Rattle.std.specs.Prelude.{ℕ, suc, ◌%◌, ℤ, pos, nat_abs, int_le, int_lt, List, [], ◌∷◌, Bool, true, false, ◌||◌, not, nat_le, ◌==◌, length, codes, is_some, chars}
 use Rattle.std.specs.List.{list_all, list_any}
-use Rattle.definitions.specs.Values.{Text, has_repeat, Value, null, boolean, integer, string, array, object, same_text, same, entry, get, elements, elements_list, members_list}
+use Rattle.definitions.specs.Lists.{has_repeat}
+use Rattle.definitions.specs.Values.{Text, Value, null, boolean, integer, string, array, object, same_text, same, entry, get, elements, elements_list, members_list}
 use Rattle.definitions.specs.Shapes.{Shape, has_shape, any_value, truth, whole_number, size, divisor, value_list, text_list, text_lists, type_names}
 
 pub data Assertion : Type 0 where

@@ -1,12 +1,14 @@
 -- Compound documents (JSON Schema 2020-12 Core, 9.3).
-use Rattle.std.specs.Prelude.{ℕ, List, [], ◌∷◌, ◌||◌, not, if◌then◌else◌, Option, Some, None, Result, Ok, Err, nat_lt, length, map, filter, find, is_some, unwrap_or, codes}
+use Rattle.std.specs.Prelude.{List, [], ◌∷◌, ◌||◌, if◌then◌else◌, Option, Some, None, Result, Ok, Err, nat_lt, length, map, filter, is_some, unwrap_or, codes}
 use Rattle.std.specs.Ordering.{nat_cmp, match_ordering}
 use Rattle.std.specs.Cmp.Lexicographic.{slice_cmp}
-use Rattle.definitions.specs.Values.{Text, Value, string, object, no_members, members, to_members, get, entry, same_text, nesting}
-use Rattle.definitions.specs.Texts.{text}
+use Rattle.definitions.specs.Limits.{Limits, limits}
+use Rattle.definitions.specs.Values.{Text, Value, string, object, no_members, members, to_members, get, entry, nesting}
 use Rattle.definitions.specs.Faults.{Fault, not_found, bundle_clash, bundle_too_large}
+use Rattle.definitions.specs.Texts.{text}
 use Rattle.definitions.specs.Schemas.{Document}
 use Rattle.definitions.specs.Reach.{least}
+use Rattle.definitions.specs.Documents.{document_of, others_of}
 
 -- ---- members, in byte order of names
 abbrev pub put_member : Text → Value → List (Text × Value) → List (Text × Value)
@@ -16,13 +18,6 @@ put_member n v (m ∷ ms) = match_ordering (slice_cmp nat_cmp n m.0) ((n, v) ∷
 abbrev pub with_member : Text → Value → Value → Value
 with_member n v (object ms) = object (to_members (put_member n v (members (object ms))))
 with_member n v w = w
-
--- ---- documents by their canonical URI
-abbrev pub document_of : List Document → Text → Option Document
-document_of ds uri = find (λ d. same_text uri d.canonical) ds
-
-abbrev pub others_of : Text → List Document → List Document
-others_of uri = filter (λ d. not (same_text uri d.canonical))
 
 -- ---- the root with each other document embedded in its `$defs` under its canonical URI, and no reference changed
 -- the document's value with its canonical URI as `$id`
@@ -45,14 +40,11 @@ abbrev pub clash : Document → List Document → Option Text
 clash root ds = least (filter (λ n. is_some (entry n (defs_of root.value))) (map (λ d. d.canonical) ds))
 
 -- ---- with its limits
-abbrev pub most_bundle_bytes : ℕ
-most_bundle_bytes = 1048576
-
-abbrev pub most_bundle_nesting : ℕ
-most_bundle_nesting = 120
+abbrev pub sized_within : Limits → Value → Result Value Fault
+sized_within most v = if nat_lt most.bundle_bytes (length (text v)) || nat_lt most.bundle_nesting (nesting v) then Err bundle_too_large else Ok v
 
 abbrev pub sized : Value → Result Value Fault
-sized v = if nat_lt most_bundle_bytes (length (text v)) || nat_lt most_bundle_nesting (nesting v) then Err bundle_too_large else Ok v
+sized = sized_within limits
 
 abbrev pub bundle_unless : Option Text → Document → List Document → Result Value Fault
 bundle_unless (Some key) root ds = Err (bundle_clash key)

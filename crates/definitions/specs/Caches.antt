@@ -1,6 +1,7 @@
 -- The keys of a cache of compiled documents, the most recently used first.
 use Rattle.std.specs.Prelude.{◌≡◌, ◌⊎◌, ℕ, Bool, false, ◌&&◌, not, List, ◌∷◌, take, filter, nat_lt, nat_le}
 use Rattle.std.specs.List.{list_any}
+use Rattle.definitions.specs.Limits.{limits}
 use Rattle.definitions.specs.Values.{Text, same_text}
 
 -- the base form that the document stands under, and the compact text of its value
@@ -10,11 +11,8 @@ CacheKey = Text × Text
 abbrev pub same_key : CacheKey → CacheKey → Bool
 same_key k l = same_text k.0 l.0 && same_text k.1 l.1
 
-abbrev pub most_capacity : ℕ
-most_capacity = 4096
-
 abbrev pub is_capacity : ℕ → Bool
-is_capacity n = nat_lt 0 n && nat_le n most_capacity
+is_capacity n = nat_lt 0 n && nat_le n limits.capacity
 
 pub record Cache : Type 0 where
   pub keys : List CacheKey

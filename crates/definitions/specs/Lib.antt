@@ -1,3 +1,6 @@
+pub mod Limits
+pub mod Bytes
+pub mod Lists
 pub mod Values
 pub mod Faults
 pub mod Texts
@@ -16,12 +19,15 @@ pub mod Evaluated
 pub mod Outcomes
 pub mod Answers
 pub mod Reach
+pub mod Searches
+pub mod Documents
 pub mod Bundles
 pub mod Registries
 pub mod Batches
 pub mod Steps
 pub mod Alike
 pub mod Runs
+pub mod Keeping
 pub mod Services
 pub mod Caches
 pub mod Tenants

@@ -3,8 +3,8 @@ use Rattle.std.specs.Prelude.{ℕ, suc, zero, List, [], ◌∷◌, ◌++◌, Boo
 use Rattle.std.specs.List.{list_all, list_any}
 use Rattle.definitions.specs.Values.{Text, Value, boolean, string, same_text, get, members, is_object}
 use Rattle.definitions.specs.Pointers.{same_pointer}
-use Rattle.definitions.specs.Schemas.{identity, same_identity}
 use Rattle.definitions.specs.Keywords.{Keyword, Meaning, looks_at_evaluated}
+use Rattle.definitions.specs.Schemas.{identity, same_identity}
 use Rattle.definitions.specs.Applied.{Application, OutputUnit, Outcome, Part, Place, Rules, entered, applied}
 use Rattle.definitions.specs.Evaluated.{passed, failed, keyword_passes, evaluated_names, evaluated_indexes, annotation_of, may_annotate, is_annotation}
 

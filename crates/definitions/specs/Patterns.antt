@@ -3,7 +3,7 @@ use Rattle.std.specs.Prelude.{Bool, false, Option, Some, None, chars, is_some, o
 use Rattle.regex.specs.Patterns.{Re, find_str, default_config}
 use Rattle.regex_syntax.specs.Grammar.{read}
 use Rattle.definitions.specs.Values.{Text}
-use Rattle.definitions.specs.Registries.{Search}
+use Rattle.definitions.specs.Searches.{Search}
 
 -- the expression that the grammar reads in the text, with the default options and no limit on nesting
 abbrev pub expression : Text → Option Re

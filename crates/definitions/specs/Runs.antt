@@ -1,30 +1,19 @@
 -- Lists of requests: one tenant's replies, and what a run may answer where there is no room.
-use Rattle.std.specs.Prelude.{◌≡◌, ◌⊎◌, ◌≤◌, ℕ, zero, suc, List, [], ◌∷◌, Contains, map, flat_map, Bool, ◌&&◌, false, None, Result, Ok, Err, IsTrue, is_none, is_ok, length, nat_lt}
-use Rattle.std.specs.Ordering.{nat_cmp}
-use Rattle.std.specs.Cmp.Lexicographic.{slice_cmp}
-use Rattle.std.specs.List.Sorted.{IsStrictlySortedBy}
-use Rattle.definitions.specs.Values.{Text, has_repeat, Value, same_text}
+use Rattle.std.specs.Prelude.{◌≡◌, ◌⊎◌, ℕ, zero, suc, List, [], ◌∷◌, Bool, ◌&&◌, false, Result, Ok, Err, IsTrue, is_ok}
+use Rattle.definitions.specs.Values.{Text}
 use Rattle.definitions.specs.Faults.{Fault, bad_pattern, no_room}
 use Rattle.definitions.specs.Resolution.{base_form}
-use Rattle.definitions.specs.Alike.{Agree}
-use Rattle.definitions.specs.Schemas.{Document, document_from}
-use Rattle.definitions.specs.Scanning.{scan_fault, patterns}
-use Rattle.definitions.specs.Registries.{Search, Request, put, batch, validate, Reply, refused, refused_at, Registry, documents_seen, is_in_library, body_value, is_regular, resources_of, bytes_of}
+use Rattle.definitions.specs.Searches.{Search, builds}
+use Rattle.definitions.specs.Registries.{Request, put, batch, validate, Reply, refused, refused_at, Registry, documents_seen, body_value}
 use Rattle.definitions.specs.Batches.{Entry, batch_entries, entry_document}
 use Rattle.definitions.specs.Steps.{step}
+use Rattle.definitions.specs.Alike.{Agree}
 
 abbrev pub replies : Search → Registry → List Request → List Reply
 replies search g [] = []
 replies search g (q ∷ qs) = (step search g q).0 ∷ replies search (step search g q).1 qs
 
 -- ---- refused for room: want of memory, or a pattern that the grammar reads and that couldn't be built
-abbrev pub has_patterns : Value → Bool
-has_patterns v = nat_lt 0 (length (patterns v))
-
-abbrev pub builds : Search → Result Text Fault → Result Value Fault → Bool
-builds search (Ok base) (Ok v) = is_none (scan_fault base v) && (has_patterns v && is_regular search v)
-builds search _ _ = false
-
 -- a Put of a body that has patterns, with no fault before they are built
 abbrev pub BuildsPatterns : Search → Request → Type 0
 BuildsPatterns search (put uri body) = IsTrue (builds search (base_form uri) (body_value body))
@@ -63,26 +52,7 @@ Course search g _ _ h = ⊥
 abbrev pub IsAnswer : Search → Registry → Request → Reply → Registry → Type 0
 IsAnswer search g q r h = ((r ≡ (step search g q).0) × (h ≡ (step search g q).1)) ⊎ (IsForRoom search q r × (h ≡ g))
 
--- ---- what holds of a registry after every request
-abbrev pub resource_uris_of : List Document → List Text
-resource_uris_of ds = flat_map resources_of ds
-
--- documents in byte order of canonical URIs that no fault is found in, without a resource URI twice
-pub record AreKept (search : Search) (ds : List Document) : Type 0 where
-  pub ordered : IsStrictlySortedBy (slice_cmp nat_cmp) (map (λ d. d.canonical) ds)
-  pub named : (d : Document) → Contains ds d → d ≡ document_from d.base d.value
-  pub distinct : has_repeat same_text (resource_uris_of ds) ≡ false
-  pub scanned : (d : Document) → Contains ds d → scan_fault d.base d.value ≡ None
-  pub regular_patterns : (d : Document) → Contains ds d → IsTrue (is_regular search d.value)
-
--- its own documents, within the quotas, and they and the library's together
-pub record IsKept (search : Search) (g : Registry) : Type 0 where
-  pub ordered : IsStrictlySortedBy (slice_cmp nat_cmp) (map (λ d. d.canonical) g.documents)
-  pub few : length g.documents ≤ g.most_documents
-  pub small : bytes_of g.documents ≤ g.most_bytes
-  pub apart : (d : Document) → Contains g.documents d → is_in_library g d.canonical ≡ false
-  pub seen : AreKept search (documents_seen g)
-
+-- ---- what decides an answer
 -- registries that agree at the base form of a URI validate by it alike
 abbrev pub AgreeAnswerAlike : Search → Registry → Registry → Text → Text → Type 0
 AgreeAnswerAlike search g h uri body =

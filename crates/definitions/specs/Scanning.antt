@@ -1,18 +1,17 @@
--- The first fault of a schema document (JSON Schema 2020-12 Core, 8 to 10), and its patterns.
-use Rattle.std.specs.Prelude.{ℕ, suc, zero, List, [], ◌∷◌, ◌++◌, Bool, true, false, ◌&&◌, ◌||◌, not, if◌then◌else◌, Option, Some, None, nat_lt, unwrap_or, option_map, codes, map, flat_map, filter}
+-- The first fault of a schema document (JSON Schema 2020-12 Core, 8 to 10).
+use Rattle.std.specs.Prelude.{ℕ, suc, zero, List, [], ◌∷◌, ◌++◌, Bool, true, false, ◌&&◌, ◌||◌, not, if◌then◌else◌, Option, Some, None, nat_lt, codes, map, flat_map, filter}
 use Rattle.std.specs.List.{list_any}
-use Rattle.definitions.specs.Values.{Text, has_repeat, Value, string, same_text, text_at, members, is_object, nesting, get}
+use Rattle.definitions.specs.Limits.{limits}
+use Rattle.definitions.specs.Lists.{has_repeat, option_list, first, unless, when}
+use Rattle.definitions.specs.Values.{Text, Value, string, same_text, text_at, members, is_object, nesting}
 use Rattle.definitions.specs.Faults.{Fault, not_object, too_nested, bad_keyword, bad_id, bad_anchor, dialect, duplicate_uri, duplicate_anchor}
 use Rattle.definitions.specs.Pointers.{Pointer, pointer_text}
 use Rattle.definitions.specs.Uris.{split, is_identifier}
 use Rattle.definitions.specs.Resolution.{resolve}
 use Rattle.definitions.specs.Shapes.{Shape, has_shape, is_anchor_name, identifier, anchor_name}
-use Rattle.definitions.specs.Shapes as shapes
 use Rattle.definitions.specs.Keywords.{Keyword, keywords, keyword_named}
-use Rattle.definitions.specs.Schemas.{Schema, schema_at, schemas_of, subschemas_by, is_root, option_list}
-
-abbrev pub most_nested_schema : ℕ
-most_nested_schema = 120
+use Rattle.definitions.specs.Schemas.{Schema, schema_at, schemas_of, subschemas_by, is_root}
+use Rattle.definitions.specs.Shapes as shapes
 
 -- ---- the values of the core keywords (8.1.1, 8.2.1)
 abbrev pub dialects : List Text
@@ -32,12 +31,6 @@ abbrev pub is_id : Text → Value → Bool
 is_id base (string s) =
     is_empty_fragment ((split s).fragment) && is_identifier (record (resolve (split base) (split s)) { fragment = None })
 is_id base _ = false
-
-abbrev pub unless : Bool → Fault → List Fault
-unless b f = if b then [] else f ∷ []
-
-abbrev pub when : Bool → Fault → List Fault
-when b f = if b then f ∷ [] else []
 
 -- ---- one walk: each schema object's keywords in byte order, and then its subschemas
 
@@ -63,7 +56,7 @@ walked (suc n) base way s =
 abbrev pub form_faults : Text → Value → List Fault
 form_faults base v =
     unless (is_object v) not_object
-    ++ (when (nat_lt most_nested_schema (nesting v)) too_nested
+    ++ (when (nat_lt limits.schema_nesting (nesting v)) too_nested
     ++ walked (suc (nesting v)) base [] (schema_at base [] v))
 
 -- ---- names that stand twice
@@ -88,22 +81,8 @@ name_faults table =
     ++ when (has_repeat same_anchor (flat_map anchors_of table)) duplicate_anchor
 
 -- ---- all of them, in the order in which the first one counts
-abbrev pub first : {A : Type 0} → List A → Option A
-first [] = None
-first (x ∷ xs) = Some x
-
 abbrev pub scan_faults : Text → Value → List Fault
 scan_faults base v = form_faults base v ++ name_faults (schemas_of base v)
 
 abbrev pub scan_fault : Text → Value → Option Fault
 scan_fault base v = first (scan_faults base v)
-
--- ---- the patterns: what stands under `pattern`, and the names under `patternProperties`
-abbrev pub patterns_of : Schema → List Text
-patterns_of s =
-    option_list (text_at (codes "pattern") s.value)
-    ++ unwrap_or (option_map (λ v. map (λ m. m.0) (members v)) (get (codes "patternProperties") s.value)) []
-
--- they don't hang on the base
-abbrev pub patterns : Value → List Text
-patterns v = flat_map patterns_of (schemas_of [] v)

@@ -1,6 +1,7 @@
 -- Schemas, resources and identity (JSON Schema 2020-12 Core, sections 8, 10 and 11).
 use Rattle.std.specs.Prelude.{ℕ, suc, zero, List, [], ◌∷◌, ◌++◌, Bool, Option, Some, None, ◌==◌, ◌&&◌, length, option_map, codes, map, flat_map, decimal}
 use Rattle.std.specs.List.{enumerate_from}
+use Rattle.definitions.specs.Lists.{option_list}
 use Rattle.definitions.specs.Values.{Text, Value, text_at, elements, members, nesting, same_text}
 use Rattle.definitions.specs.Pointers.{Pointer, same_pointer}
 use Rattle.definitions.specs.Uris.{without_fragment}
@@ -81,10 +82,6 @@ same_identity i j = same_text i.0 j.0 && same_pointer i.1 j.1
 -- ---- 8.2.3: an absolute reference is the keyword's text, resolved against the schema's base
 abbrev pub reference_at : Text → Schema → Option Text
 reference_at keyword s = option_map (resolved s.resource) (text_at keyword s.value)
-
-abbrev pub option_list : {A : Type 0} → Option A → List A
-option_list None = []
-option_list (Some x) = x ∷ []
 
 abbrev pub references : Schema → List Text
 references s = option_list (reference_at (codes "$ref") s) ++ option_list (reference_at (codes "$dynamicRef") s)

@@ -2,7 +2,8 @@
 use Rattle.std.specs.Prelude.{◌≡◌, ◌⊎◌, List, [], ◌∷◌, if◌then◌else◌, Option, Some, None, IsTrue, is_some}
 use Rattle.definitions.specs.Values.{Text, same_text}
 use Rattle.definitions.specs.Faults.{unknown_tenant}
-use Rattle.definitions.specs.Registries.{Search, Registry, Request, Reply, refused}
+use Rattle.definitions.specs.Searches.{Search}
+use Rattle.definitions.specs.Registries.{Registry, Request, Reply, refused}
 use Rattle.definitions.specs.Steps.{step}
 use Rattle.definitions.specs.Runs.{IsForRoom}
 

@@ -1,8 +1,9 @@
 -- The shapes that keywords' values have (JSON Schema 2020-12 Core, 8 to 10; Validation, 6).
 use Rattle.std.specs.Prelude.{ℕ, suc, pos, List, [], ◌∷◌, Bool, true, false, ◌&&◌, ◌||◌, nat_lt, ◌==◌, length, codes, is_ok}
 use Rattle.std.specs.List.{list_all, list_any}
+use Rattle.definitions.specs.Bytes.{is_letter, underscore}
 use Rattle.definitions.specs.Values.{Text, Value, integer, string, elements, members, same_text, is_boolean, is_integer, is_string, is_array, is_object}
-use Rattle.definitions.specs.Uris.{split, is_letter}
+use Rattle.definitions.specs.Uris.{split}
 use Rattle.definitions.specs.Fragments.{fragment_kind}
 
 pub data Shape : Type 0 where
@@ -79,10 +80,9 @@ is_schema_map v = is_object v && list_all (λ m. is_schema m.1) (members v)
 abbrev pub is_anchor_byte : ℕ → Bool
 is_anchor_byte c = is_letter c || list_any (λ d. d == c) (codes "-._0123456789")
 
--- 95 is `_`
 abbrev pub is_anchor_text : Text → Bool
 is_anchor_text [] = false
-is_anchor_text (c ∷ cs) = (is_letter c || (c == 95)) && list_all is_anchor_byte cs
+is_anchor_text (c ∷ cs) = (is_letter c || (c == underscore)) && list_all is_anchor_byte cs
 
 abbrev pub is_anchor_name : Value → Bool
 is_anchor_name (string s) = is_anchor_text s

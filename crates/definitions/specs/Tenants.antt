@@ -1,12 +1,13 @@
 -- The tenants of a registry server: their file, what a new server is refused for, and the registry of each.
 use Rattle.std.specs.Prelude.{ℕ, ◌^◌, pos, List, [], Bool, ◌&&◌, not, Option, Some, None, Result, Ok, Err, nat_lt, ◌++◌, if◌then◌else◌, nat_le, length, codes, map, option_and_then, option_map}
 use Rattle.std.specs.List.{list_all}
-use Rattle.definitions.specs.Values.{Text, Value, integer, array, elements_list, get, text_at, same_text, has_repeat}
-use Rattle.definitions.specs.Texts.{reading}
+use Rattle.definitions.specs.Limits.{limits}
+use Rattle.definitions.specs.Bytes.{is_visible}
+use Rattle.definitions.specs.Lists.{has_repeat, each, first, when}
+use Rattle.definitions.specs.Values.{Text, Value, integer, array, elements_list, get, text_at, same_text}
 use Rattle.definitions.specs.Faults.{Fault, bad_capacity, duplicate_tenant, too_many_tenants, bad_tenants}
-use Rattle.definitions.specs.Pointers.{each}
+use Rattle.definitions.specs.Texts.{reading}
 use Rattle.definitions.specs.Schemas.{Document}
-use Rattle.definitions.specs.Scanning.{first, when}
 use Rattle.definitions.specs.Registries.{Registry}
 use Rattle.definitions.specs.Services.{KeyedRegistry}
 use Rattle.definitions.specs.Caches.{is_capacity}
@@ -46,18 +47,15 @@ abbrev pub file_tenants : Text → Result (List Tenant) Fault
 file_tenants bytes = tenants_of (reading bytes)
 
 -- ---- a new server
-abbrev pub most_tenants : ℕ
-most_tenants = 64
-
--- 1 to 64 visible characters of ASCII
+-- visible characters of ASCII
 abbrev pub is_key : Text → Bool
-is_key key = nat_lt 0 (length key) && (nat_le (length key) 64 && list_all (λ c. nat_le 33 c && nat_le c 126) key)
+is_key key = nat_lt 0 (length key) && (nat_le (length key) limits.key_characters && list_all is_visible key)
 
 -- the first fault of the capacity and the tenants
 abbrev pub server_fault : List Tenant → ℕ → Option Fault
 server_fault tenants capacity = first (
     when (not (is_capacity capacity)) bad_capacity
-    ++ (when (nat_lt most_tenants (length tenants)) too_many_tenants
+    ++ (when (nat_lt limits.tenants (length tenants)) too_many_tenants
     ++ (when (not (list_all (λ t. is_key t.key) tenants)) bad_tenants
     ++ when (has_repeat same_text (map (λ t. t.key) tenants)) duplicate_tenant)))
 

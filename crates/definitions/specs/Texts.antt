@@ -1,12 +1,12 @@
 -- The value that a JSON text is, and the text of a value (RFC 8259), by the words of `serde_json`.
 use Rattle.std.specs.Prelude.{Option, Some, None, Result, Ok, Err, option_map, option_and_then, if◌then◌else◌}
 use Rattle.std.specs.Str.{is_utf8}
-use Rattle.serde_json.specs.Data as json
 use Rattle.serde_json.specs.Find.{as_integer, of_integer}
 use Rattle.serde_json.specs.Read.{read}
 use Rattle.serde_json.specs.Written.{compact_text}
 use Rattle.definitions.specs.Values.{Text, Value, Elements, Members, null, boolean, integer, string, array, object, no_elements, element, no_members, member}
 use Rattle.definitions.specs.Faults.{Fault, bad_json, bad_number}
+use Rattle.serde_json.specs.Data as json
 
 -- ---- writing: the value as `serde_json` has it, and its text with no space
 abbrev mutual

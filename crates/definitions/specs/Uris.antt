@@ -1,6 +1,8 @@
 -- The parts of a URI reference (RFC 3986): splitting, recomposition, identifiers.
-use Rattle.std.specs.Prelude.{◌≡◌, IsTrue, true, ℕ, [], ◌∷◌, ◌++◌, Bool, false, ◌&&◌, ◌||◌, not, if◌then◌else◌, Option, Some, None, nat_eq, nat_le, ◌==◌, codes, drop, is_some, is_none, unwrap_or}
+use Rattle.std.specs.Prelude.{◌≡◌, IsTrue, true, ℕ, [], ◌∷◌, ◌++◌, Bool, false, ◌&&◌, ◌||◌, not, if◌then◌else◌, Option, Some, None, nat_eq, ◌==◌, codes, drop, is_some, is_none, unwrap_or}
 use Rattle.std.specs.List.{list_all, list_any, starts_with, slice_split}
+use Rattle.definitions.specs.Bytes.{colon, is_digit, is_letter, number_sign, question_mark, slash}
+use Rattle.definitions.specs.Lists.{cut_at, split_before}
 use Rattle.definitions.specs.Values.{Text, same_text}
 
 pub record Parts : Type 0 where
@@ -12,21 +14,8 @@ pub record Parts : Type 0 where
 
 -- ---- Appendix B
 
--- what stands before the first such byte, and what follows it, where there is one
-abbrev pub cut_at : (ℕ → Bool) → Text → Text × Option Text
-cut_at p [] = ([], None)
-cut_at p (c ∷ cs) = if p c then ([], Some cs) else (let r = cut_at p cs in (c ∷ r.0, r.1))
-
--- what stands before the first such byte, and the rest, which begins with it
-abbrev pub split_before : (ℕ → Bool) → Text → Text × Text
-split_before p [] = ([], [])
-split_before p (c ∷ cs) = if p c then ([], c ∷ cs) else (let r = split_before p cs in (c ∷ r.0, r.1))
-
-abbrev pub is_letter : ℕ → Bool
-is_letter c = (nat_le 65 c && nat_le c 90) || (nat_le 97 c && nat_le c 122)
-
 abbrev pub is_scheme_byte : ℕ → Bool
-is_scheme_byte c = is_letter c || (nat_le 48 c && nat_le c 57) || list_any (λ d. d == c) (codes "+-.")
+is_scheme_byte c = is_letter c || is_digit c || list_any (λ d. d == c) (codes "+-.")
 
 -- section 3.1: a letter, and then letters, digits, `+`, `-` and `.`
 abbrev pub is_scheme : Text → Bool
@@ -35,19 +24,19 @@ is_scheme (c ∷ cs) = is_letter c && list_all is_scheme_byte cs
 
 abbrev pub scheme_and_rest : Text → Option Text × Text
 scheme_and_rest s =
-    let r = cut_at (λ c. c == 58) s in
+    let r = cut_at (λ c. c == colon) s in
     if is_some r.1 && is_scheme r.0 then (Some (r.0), unwrap_or r.1 []) else (None, s)
 
 abbrev pub authority_and_path : Text → Option Text × Text
 authority_and_path s =
     if starts_with nat_eq s (codes "//")
-    then (let r = split_before (λ c. c == 47) (drop 2 s) in (Some (r.0), r.1))
+    then (let r = split_before (λ c. c == slash) (drop 2 s) in (Some (r.0), r.1))
     else (None, s)
 
 abbrev pub split : Text → Parts
 split text =
-    let f = cut_at (λ c. c == 35) text in
-    let q = cut_at (λ c. c == 63) f.0 in
+    let f = cut_at (λ c. c == number_sign) text in
+    let q = cut_at (λ c. c == question_mark) f.0 in
     let s = scheme_and_rest q.0 in
     let a = authority_and_path s.1 in
     record { scheme = s.0; authority = a.0; path = a.1; query = q.1; fragment = f.1 }
@@ -70,7 +59,7 @@ begins text prefix = starts_with nat_eq text prefix
 
 -- the text without its fragment
 abbrev pub without_fragment : Text → Text
-without_fragment text = (cut_at (λ c. c == 35) text).0
+without_fragment text = (cut_at (λ c. c == number_sign) text).0
 
 -- ---- identifiers: a scheme, no fragment, no dot segment, and a text that splits into the same parts again
 abbrev pub is_dot_segment : Text → Bool
@@ -79,7 +68,7 @@ is_dot_segment s = same_text s (codes ".") || same_text s (codes "..")
 abbrev pub is_identifier : Parts → Bool
 is_identifier p =
     is_some p.scheme && is_none p.fragment
-    && not (list_any is_dot_segment (slice_split (λ c. c == 47) p.path))
+    && not (list_any is_dot_segment (slice_split (λ c. c == slash) p.path))
     && (is_some p.authority || not (begins p.path (codes "//")))
 
 -- ---- parts that some text splits into

@@ -1,6 +1,5 @@
 -- JSON values (RFC 8259). Numbers are whole; an object has its names in byte order, each once.
-use Rattle.std.specs.Prelude.{ℕ, suc, max, ℤ, pos, negsuc, ◌^◌, List, [], ◌∷◌, Bool, true, false, not, ◌&&◌, ◌||◌, if◌then◌else◌, Option, Some, None, nat_lt, option_and_then}
-use Rattle.std.specs.List.{list_any}
+use Rattle.std.specs.Prelude.{ℕ, suc, max, ℤ, pos, negsuc, ◌^◌, List, [], ◌∷◌, Bool, true, false, not, ◌&&◌, if◌then◌else◌, Option, Some, None, nat_lt, option_and_then}
 use Rattle.std.specs.Ordering.{int_eq, nat_cmp, is_lt}
 use Rattle.std.specs.Cmp.Lexicographic.{slice_cmp}
 use Rattle.std.specs.Str.{bytes_eq, is_utf8}
@@ -137,11 +136,6 @@ abbrev mutual
   same_members no_members no_members = true
   same_members (member l u ls) (member m v ms) = same_text l m && (same u v && same_members ls ms)
   same_members _ _ = false
-
--- some two of the list are the same
-abbrev pub has_repeat : {A : Type 0} → (A → A → Bool) → List A → Bool
-has_repeat alike [] = false
-has_repeat alike (x ∷ xs) = list_any (alike x) xs || has_repeat alike xs
 
 -- ---- what every value that is held is like: whole numbers of 64 bits, texts in UTF-8, names in byte order
 -- from -2^63 to 2^64 - 1

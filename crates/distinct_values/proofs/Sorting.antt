@@ -5,7 +5,8 @@ use Rattle.std.proofs.lemmas.List.Sorted.{ranks_by}
 use Rattle.std.specs.Borrow.{Bor}
 use Rattle.std.specs.Cmp.{IsStrictWeakOrder}
 use Rattle.std.specs.List.Sorted.{IsSortedBy}
-use Rattle.definitions.specs.Values.{Value, same, has_repeat}
+use Rattle.definitions.specs.Values.{Value, same}
+use Rattle.definitions.specs.Lists.{has_repeat}
 use Rattle.definition_laws.specs.Uniqueness.{has_same_neighbours}
 use Rattle.definition_laws.proofs.NeighbourRepeats.{neighbours}
 use Rattle.json_doc.specs.Docs.{value}

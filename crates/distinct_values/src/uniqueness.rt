@@ -1,7 +1,8 @@
 //! Arrays whose elements are unique.
 
 ghost use Rattle.std.specs.Prelude.{◌≡◌, ◌∷◌, IfOk, map, not};
-ghost use Rattle.definitions.specs.Values.{has_repeat, same};
+ghost use Rattle.definitions.specs.Values.{same};
+ghost use Rattle.definitions.specs.Lists.{has_repeat};
 ghost use Rattle.definitions.specs.Assertions.{is_unique};
 ghost use Rattle.definition_laws.specs.Uniqueness.{has_same_neighbours};
 ghost use Rattle.json_doc.specs.Docs.{value};

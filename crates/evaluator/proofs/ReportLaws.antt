@@ -12,7 +12,8 @@ use Rattle.definition_laws.proofs.ReachedTables.{reach_is_enough}
 use Rattle.definitions.specs.Targets.{resource_root}
 use Rattle.definitions.specs.Patterns.{has_match}
 use Rattle.definitions.specs.Applied.{Outcome}
-use Rattle.definitions.specs.Answers.{answer, answer_of, answer_from, first_application, limits, output_text}
+use Rattle.definitions.specs.Answers.{answer, answer_of, answer_from, first_application, output_text}
+use Rattle.definitions.specs.Limits.{limits}
 use Rattle.definition_laws.proofs.Membership.{found_there}
 use Rattle.basic_output.specs.Outputs as output
 use Rattle.basic_output.specs.Units.{units_view}

@@ -1,5 +1,7 @@
 -- A fault as the definitions have it.
 use Rattle.std.specs.Prelude.{Option, Some, None, [], ◌∷◌, ◌++◌, string_bytes, decimal}
+use Rattle.definitions.specs.Bytes.{}
+use Rattle.definitions.specs.Bytes.{space}
 use Rattle.definitions.specs.Values.{Text}
 use Rattle.definitions.specs.Faults as meaning
 use Rattle.faults.specs.declared.Fault.{Fault}
@@ -51,9 +53,9 @@ fault (SameDocument at) = meaning.same_document (string_bytes at)
 
 -- the text that the fault carries, after a space
 abbrev pub suffix : Option Text → Text
-suffix (Some at) = 32 ∷ at
+suffix (Some at) = space ∷ at
 suffix None = []
 
 -- what `{}` prints
 abbrev pub printed : meaning.Fault → Text
-printed f = decimal (meaning.number_of f) ++ 32 ∷ meaning.name_of f ++ suffix (meaning.carried f)
+printed f = decimal (meaning.number_of f) ++ space ∷ meaning.name_of f ++ suffix (meaning.carried f)

@@ -7,7 +7,7 @@ use Rattle.std.specs.Str.Parse.{digits_value}
 use Rattle.httparse.specs.Ascii.{comma, line_feed}
 use Rattle.httparse.specs.Grammar.{field_value, trim_ows, RequestHead, print_request}
 use Rattle.definitions.specs.Values.{Text, entry}
-use Rattle.definitions.specs.Registries.{most_body_bytes}
+use Rattle.definitions.specs.Limits.{limits}
 
 -- ---- limits
 abbrev pub most_head_bytes : ℕ
@@ -41,7 +41,7 @@ methods =
 abbrev pub is_length : Text → Bool
 is_length t =
     nat_lt 0 (length t) && (nat_le (length t) most_length_digits
-    && (list_all is_ascii_digit t && nat_le (digits_value 10 t) most_body_bytes))
+    && (list_all is_ascii_digit t && nat_le (digits_value 10 t) limits.body_bytes))
 
 -- the length by the values of `content-length`, of which there may be one at most
 abbrev pub length_by : List Text → Bool → Option ℕ

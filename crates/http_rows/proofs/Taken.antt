@@ -5,7 +5,8 @@ use Rattle.std.specs.Str.{bytes_eq}
 use Rattle.httparse.specs.Grammar.{RequestHead, print_request}
 use Rattle.definitions.specs.Values.{Text, same_text}
 use Rattle.definitions.specs.Faults.{unknown_tenant}
-use Rattle.definitions.specs.Registries.{Search, Registry, Reply, refused, put}
+use Rattle.definitions.specs.Registries.{Registry, Reply, refused, put}
+use Rattle.definitions.specs.Searches.{Search}
 use Rattle.definitions.specs.Steps.{step}
 use Rattle.http_definitions.specs.Heads.{body_length}
 use Rattle.http_definitions.specs.Streams.{Message, close, IsWaiting, IsHopeless}

@@ -7,7 +7,8 @@ use Rattle.std.specs.List.{list_all, slice_get, HoldsAt}
 use Rattle.std.specs.Result.{OkIff, result_ok}
 use Rattle.std.specs.Str.Parse.{ParsesUnsigned}
 use Rattle.definitions.specs.Values.{Text, Value, array, to_elements}
-use Rattle.definitions.specs.Pointers.{is_digit, number_from, array_index, child}
+use Rattle.definitions.specs.Pointers.{number_from, array_index, child}
+use Rattle.definitions.specs.Bytes.{is_digit}
 use Rattle.json_doc.specs.Docs.{value}
 use Rattle.json_doc.specs.Indexes.{in_64_bits}
 use Rattle.json_doc.specs.declared.doc.Doc.{Doc}

@@ -7,7 +7,8 @@ use Rattle.std.proofs.Math.Seq.{drop-append-add, get_or-append_seam}
 use Rattle.std.specs.List.{slice_split}
 use Rattle.std.specs.Str.{IsUtf8}
 use Rattle.definitions.specs.Values.{Text}
-use Rattle.definitions.specs.Pointers.{unescaped, each, pointer_of}
+use Rattle.definitions.specs.Pointers.{unescaped, pointer_of}
+use Rattle.definitions.specs.Lists.{each}
 use Rattle.lemmas.proofs.PointerTexts.{kept_byte}
 use Rattle.json_doc.specs.Escapes.{escape_before}
 

@@ -1,7 +1,8 @@
 -- What a `Doc` and `Members` stand for, one level at a time.
 use Rattle.std.proofs.Common.{◌≡◌, List, [], ◌∷◌, map, String, Vec, Global, string_bytes, refl, sym, ap, ◌∙◌, rules, not}
 use Rattle.definitions.specs.Values as json
-use Rattle.definitions.specs.Values.{Text, Value, string, array, object, no_members, member, to_elements, to_members, elements_list, members_list, elements, same, has_repeat}
+use Rattle.definitions.specs.Values.{Text, Value, string, array, object, no_members, member, to_elements, to_members, elements_list, members_list, elements, same}
+use Rattle.definitions.specs.Lists.{has_repeat}
 use Rattle.definitions.specs.Assertions.{is_unique}
 use Rattle.lemmas.proofs.Members.{to_members-members_list}
 use Rattle.json_doc.specs.Docs.{value, value_step, members_step, object_members, members_view, members_value}

@@ -1,6 +1,8 @@
 //! JSON Pointers (RFC 6901).
 
 ghost use Rattle.std.specs.Prelude.{◌≡◌, ◌-◌, [], Some, ◌∷◌, ◌++◌, IsTrue, IfOk, IfErr, OnOk, OnErr, flat_map, length, map, position, string_bytes, take};
+ghost use Rattle.definitions.specs.Bytes.{};
+ghost use Rattle.definitions.specs.Bytes.{slash};
 ghost use Rattle.definitions.specs.Pointers.{escaped_byte, pointer_of, pointer_text};
 ghost use Rattle.json_doc.specs.Escapes.{is_escaped};
 
@@ -82,7 +84,7 @@ impl Pointer {
 
 /// Appends a token to a pointer's text: a `/`, and then the token with `~` written as `~0` and `/` as `~1`.
 pub fn push_token(text: &mut String, token: &str) -> Result<(), AllocError>
-    ensures { OnOk result (string_bytes text.new ≡ string_bytes text.old ++ 47 ∷ flat_map escaped_byte token.now) }
+    ensures { OnOk result (string_bytes text.new ≡ string_bytes text.old ++ slash ∷ flat_map escaped_byte token.now) }
 {
     text.push('/')?;
     push_escaped(text, token)?;

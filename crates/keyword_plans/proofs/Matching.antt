@@ -3,7 +3,7 @@ use Rattle.std.proofs.Common.{◌≡◌, List, [], ◌∷◌, ◌++◌, map, fil
 use Rattle.std.specs.List.{AllByRecursion, list_any}
 use Rattle.definitions.specs.Values.{Text, Value}
 use Rattle.definitions.specs.Patterns.{has_match}
-use Rattle.definitions.specs.Scanning.{patterns_of}
+use Rattle.definitions.specs.Searches.{patterns_of}
 use Rattle.definitions.specs.Schemas.{Schema}
 use Rattle.definitions.specs.Applied.{Application, Part, named, at_part}
 use Rattle.linker.specs.declared.linked.Linked.{Linked}

@@ -5,8 +5,9 @@ use Rattle.std.specs.List.{AllByRecursion}
 use Rattle.definitions.specs.Values.{Text, Value, null, boolean, integer, string, array, object, as_string, get, text_at, members}
 use Rattle.definitions.specs.Evaluated.{pattern_holds}
 use Rattle.definitions.specs.Patterns.{has_match}
-use Rattle.definitions.specs.Scanning.{patterns_of}
-use Rattle.definitions.specs.Schemas.{Schema, option_list}
+use Rattle.definitions.specs.Searches.{patterns_of}
+use Rattle.definitions.specs.Schemas.{Schema}
+use Rattle.definitions.specs.Lists.{option_list}
 use Rattle.definitions.specs.Applied.{Application, beside}
 use Rattle.keyword_plans.specs.Sites.{Shows}
 use Rattle.keyword_plans.specs.declared.site.Site.{Site}

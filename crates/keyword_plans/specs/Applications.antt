@@ -3,7 +3,7 @@ use Rattle.std.specs.Prelude.{ℕ, List, [], ◌∷◌, ◌==◌, decimal, map, 
 use Rattle.std.specs.List.{AllByRecursion, list_any, enumerate_from}
 use Rattle.definitions.specs.Values.{Text, Value, get, string}
 use Rattle.definitions.specs.Patterns.{has_match}
-use Rattle.definitions.specs.Scanning.{patterns_of}
+use Rattle.definitions.specs.Searches.{patterns_of}
 use Rattle.definitions.specs.Schemas.{Schema}
 use Rattle.definitions.specs.Applied.{Application, Part, named, indexed, name_of, at_part, in_place, at_present, at_members, is_taken, has}
 use Rattle.linker.specs.LinkedDocuments.{linked_schemas}

@@ -2,7 +2,7 @@
 
 ghost use Rattle.std.specs.Prelude.{◌≡◌, true, IfOk, IfErr, Contains};
 ghost use Rattle.definitions.specs.Patterns.{has_match};
-ghost use Rattle.definitions.specs.Scanning.{patterns_of};
+ghost use Rattle.definitions.specs.Searches.{patterns_of};
 ghost use Rattle.definitions.specs.Schemas.{Schema};
 ghost use Rattle.linker.specs.LinkedDocuments.{linked_schemas};
 

@@ -5,7 +5,8 @@ use Rattle.std.proofs.lemmas.List.Elements.{All-from_recursion}
 use Rattle.std.proofs.lemmas.List.Splits.{slice_split_none, slice_split_at}
 use Rattle.std.specs.List.{AllByRecursion as Each, slice_split, onto_first}
 use Rattle.definitions.specs.Values.{Text}
-use Rattle.definitions.specs.Pointers.{Pointer, escaped_byte, pointer_text, unescaped, each, pointer_of}
+use Rattle.definitions.specs.Pointers.{Pointer, escaped_byte, pointer_text, unescaped, pointer_of}
+use Rattle.definitions.specs.Lists.{each}
 
 abbrev IsNoSlash : ℕ → Type 0
 IsNoSlash c = (c == 47) ≡ false

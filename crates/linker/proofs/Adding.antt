@@ -5,13 +5,12 @@ use Rattle.std.proofs.lemmas.Cmp.{nat_list_cmp_total}
 use Rattle.std.specs.Cmp.Lexicographic.{slice_cmp, bytes_decides}
 use Rattle.std.specs.List.{list_any, list_all}
 use Rattle.std.specs.Ordering.{nat_cmp, match_ordering}
-use Rattle.definitions.specs.Values.{Text, has_repeat, same_text}
+use Rattle.definitions.specs.Values.{Text, same_text}
+use Rattle.definitions.specs.Lists.{has_repeat}
 use Rattle.definitions.specs.Schemas.{Document, document_from, schemas_of}
 use Rattle.definitions.specs.Scanning.{scan_fault, scan_faults}
 use Rattle.definitions.specs.Reach.{holds_resource}
-use Rattle.definitions.specs.Bundles.{document_of}
-use Rattle.definitions.specs.Registries.{placed, resources_of}
-use Rattle.definitions.specs.Runs.{resource_uris_of}
+use Rattle.definitions.specs.Documents.{document_of, placed, resources_of, resource_uris_of, Ascend, is_faultless}
 use Rattle.definition_laws.proofs.AcceptedDocuments.{first_none, scanned}
 use Rattle.definition_laws.proofs.Membership.{any_at, found_there}
 use Rattle.definition_laws.proofs.PlacedDocuments.{key_of, as_inserted}
@@ -19,7 +18,7 @@ use Rattle.definition_laws.proofs.Placing.{ascending, distinct}
 use Rattle.definition_laws.proofs.Repeats.{none_of}
 use Rattle.definition_laws.proofs.Resources.{apart_from_held, same_text-unlike, root_opens}
 use Rattle.definition_laws.proofs.StoredDocuments.{holds_itself}
-use Rattle.linker.specs.Sources.{Ascend, is_faultless, shares_resource}
+use Rattle.linker.specs.Sources.{shares_resource}
 
 -- ---- tests of images
 found_at : {X : Type 0} (p : X → Bool) (x : X) (xs : List X) (b : Bool) → is_some (find p xs) ≡ list_any p xs → is_some (cond b (Some x) (find p xs)) ≡ (b || list_any p xs)

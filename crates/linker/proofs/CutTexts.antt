@@ -3,7 +3,8 @@ use Rattle.std.proofs.Common.{◌≡◌, ◌==◌, ◌++◌, ◌∷◌, Option, 
 use Rattle.definitions.specs.Values.{Text}
 use Rattle.definitions.specs.Fragments.{fragment_kind}
 use Rattle.definitions.specs.Targets.{fragment_of}
-use Rattle.definitions.specs.Uris.{Parts, split, recompose, cut_at, is_free_of, is_scheme, led_by, ended_by, without_fragment}
+use Rattle.definitions.specs.Uris.{Parts, split, recompose, is_free_of, is_scheme, led_by, ended_by, without_fragment}
+use Rattle.definitions.specs.Lists.{cut_at}
 use Rattle.definitions.specs.Resolution.{resolve, resolved}
 use Rattle.uri_ref.specs.Soundness.{AreSound}
 use Rattle.uri_ref.proofs.Missing.{Misses, misses_from, joined_misses, one_missed, scheme_misses, cut_apart, of_option, led_misses, ended_misses}

@@ -2,7 +2,8 @@
 use Rattle.std.proofs.Common.{◌≡◌, List, [], ◌∷◌, length, Option, Some, None, option_map, Bool, true, false, is_some, Contains, sym, refl, ap, ◌∙◌, subst, true≢false, arith}
 use Rattle.std.proofs.lemmas.Bool.{false_from_ne_true}
 use Rattle.std.specs.List.{list_any}
-use Rattle.definitions.specs.Values.{Text, has_repeat, same_text}
+use Rattle.definitions.specs.Values.{Text, same_text}
+use Rattle.definitions.specs.Lists.{has_repeat}
 use Rattle.definitions.specs.Faults.{unresolved, not_found}
 use Rattle.definitions.specs.Schemas.{Document, table_of}
 use Rattle.definitions.specs.Scanning.{resource_uris}
@@ -14,7 +15,7 @@ use Rattle.definition_laws.proofs.Repeats.{none_of}
 use Rattle.definition_laws.proofs.ReachedSets.{reach_is_least, nothing_from_nothing_held}
 use Rattle.definition_laws.proofs.Resources.{reached_distinct, table_uris}
 use Rattle.linker.specs.LinkFaults.{link_fault}
-use Rattle.linker.specs.Sources.{Ascend, AreSound}
+use Rattle.definitions.specs.Documents.{Ascend, AreSound}
 use Rattle.linker.proofs.Positions.{ascend_distinct}
 use Rattle.linker.proofs.Tables.{root_in_holder}
 use Rattle.linker.proofs.Visits.{reach_ascends}

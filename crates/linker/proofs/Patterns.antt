@@ -2,7 +2,7 @@
 use Rattle.std.proofs.Common.{◌≡◌, ◌++◌, [], List, Contains, refl, sym, ap, subst, ◌∙◌, suc, arith}
 use Rattle.definitions.specs.Keywords.{Keyword, keywords}
 use Rattle.definitions.specs.Pointers.{Pointer}
-use Rattle.definitions.specs.Scanning.{patterns, patterns_of}
+use Rattle.definitions.specs.Searches.{patterns, patterns_of}
 use Rattle.definitions.specs.Schemas.{Schema, Document, below, schema_at, schemas_from, schemas_of, table_of}
 use Rattle.definitions.specs.Values.{Text, Value, members, nesting}
 use Rattle.definition_laws.proofs.Occurrences.{IsIn, in_from_contains, contains_from_in, in_map, into_map}

@@ -9,9 +9,10 @@ use Rattle.std.specs.Cmp.Lexicographic.{slice_cmp, bytes_decides}
 use Rattle.std.specs.Ordering.{nat_cmp, ordering_index, ordering_reverse, match_ordering}
 use Rattle.std.specs.List.{insert, HoldsAt}
 use Rattle.std.specs.List.Sorted.{IsStrictlySortedBy, IsSearchInRange, IsBinarySearchResult, IsNonDecreasingBy}
-use Rattle.definitions.specs.Values.{Text, has_repeat, same_text}
+use Rattle.definitions.specs.Values.{Text, same_text}
+use Rattle.definitions.specs.Lists.{has_repeat}
 use Rattle.definitions.specs.Schemas.{Document}
-use Rattle.definitions.specs.Bundles.{document_of}
+use Rattle.definitions.specs.Documents.{document_of}
 use Rattle.definition_laws.proofs.Membership.{nothing_in, first_or_later, in_map, one_of, found_there, found_some, found_none}
 use Rattle.definition_laws.proofs.Placing.{inserted, ascending_distinct}
 use Rattle.definition_laws.proofs.PlacedDocuments.{key_of, as_inserted, tied}
@@ -22,7 +23,6 @@ use Rattle.schema_scan.specs.CompiledDocuments.{compiled_document}
 use Rattle.schema_scan.specs.declared.compiled.Compiled.{Compiled}
 use Rattle.linker.specs.SharedDocuments.{shared_documents}
 use Rattle.linker.specs.Positions.{StandsAt, IsGap}
-use Rattle.linker.specs.Sources.{Ascend}
 
 less_is_equal : Less ≡ Equal → ⊥
 less_is_equal e = cc

@@ -11,7 +11,7 @@ use Rattle.definition_laws.proofs.Membership.{nothing_in, first_or_later}
 use Rattle.schema_scan.specs.CompiledDocuments.{compiled_document}
 use Rattle.schema_scan.specs.declared.compiled.Compiled.{Compiled}
 use Rattle.linker.specs.SharedDocuments.{shared_documents}
-use Rattle.linker.specs.Sources.{AreSound, is_faultless}
+use Rattle.definitions.specs.Documents.{AreSound, is_faultless}
 use Rattle.linker.specs.ListedDocuments.{listed_documents}
 use Rattle.linker.specs.declared.list_source.ListSource.{ListSource}
 

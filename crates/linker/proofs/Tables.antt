@@ -3,7 +3,8 @@ use Rattle.std.proofs.Common.{◌≡◌, Bool, true, false, cond, ◌&&◌, ◌�
 use Rattle.std.specs.Option.{option_or}
 use Rattle.std.proofs.lemmas.Bool.{false_from_ne_true, and_parts}
 use Rattle.std.proofs.lemmas.List.Folds.{find-append}
-use Rattle.definitions.specs.Values.{Text, has_repeat, same_text}
+use Rattle.definitions.specs.Values.{Text, same_text}
+use Rattle.definitions.specs.Lists.{has_repeat}
 use Rattle.definitions.specs.Fragments.{Fragment, no_fragment, tokens, plain_name}
 use Rattle.definitions.specs.Schemas.{Schema, Document, is_root, schemas_of, table_of}
 use Rattle.definitions.specs.Scanning.{resource_uris}

@@ -8,8 +8,7 @@ use Rattle.std.specs.List.Sorted.{IsStrictlySortedBy}
 use Rattle.std.specs.Ordering.{nat_cmp, match_ordering}
 use Rattle.definitions.specs.Values.{Text, same_text}
 use Rattle.definitions.specs.Schemas.{Document}
-use Rattle.definitions.specs.Bundles.{document_of}
-use Rattle.definitions.specs.Registries.{placed}
+use Rattle.definitions.specs.Documents.{document_of, placed, Ascend, AreSound}
 use Rattle.definitions.specs.Reach.{IsReached, holds, referred, holds_resource, refers_to, reach}
 use Rattle.lemmas.proofs.Options.{some_from_is_some}
 use Rattle.definition_laws.proofs.Membership.{nothing_in, is_first, is_later, first_or_later, in_filter, from_filter, filter_short, one_of, found_there, found_some}
@@ -17,7 +16,6 @@ use Rattle.definition_laws.proofs.PlacedDocuments.{key_of, as_inserted, from_pla
 use Rattle.definition_laws.proofs.Placing.{ascending, kept_ascending, same_ascending}
 use Rattle.definition_laws.proofs.ReachedSets.{reach_is_least, reach_as_filter, same_text-back}
 use Rattle.definition_laws.proofs.Resources.{one_document}
-use Rattle.linker.specs.Sources.{Ascend, AreSound}
 use Rattle.linker.specs.Visits.{IsPart, Keeps, Adds}
 use Rattle.linker.proofs.Positions.{ascend_distinct}
 

@@ -1,6 +1,6 @@
 -- The patterns of a document's schemas.
 use Rattle.std.specs.Prelude.{Contains}
-use Rattle.definitions.specs.Scanning.{patterns}
+use Rattle.definitions.specs.Searches.{patterns}
 use Rattle.definitions.specs.Schemas.{Document}
 use Rattle.definitions.specs.Values.{Text}
 

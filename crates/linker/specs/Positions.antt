@@ -3,7 +3,7 @@ use Rattle.std.specs.Prelude.{◌≡◌, ◌≢◌, ◌<◌, ◌≤◌, ℕ, Lis
 use Rattle.std.specs.List.{insert, HoldsAt}
 use Rattle.definitions.specs.Values.{Text}
 use Rattle.definitions.specs.Schemas.{Document}
-use Rattle.definitions.specs.Registries.{placed}
+use Rattle.definitions.specs.Documents.{placed}
 
 -- the document that has the canonical URI
 pub record StandsAt (ds : List Document) (uri : Text) (at : ℕ) : Type 0 where

@@ -1,9 +1,7 @@
 -- A visit of documents: those that are reached so far, and those of them whose references wait to be followed.
 use Rattle.std.specs.Prelude.{◌≡◌, ◌⊎◌, ◌+◌, ◌++◌, List, [], ◌∷◌, Bool, true, false, Contains, is_some, length}
 use Rattle.definitions.specs.Schemas.{Document}
-use Rattle.definitions.specs.Bundles.{document_of}
-use Rattle.definitions.specs.Registries.{placed}
-use Rattle.linker.specs.Sources.{Ascend}
+use Rattle.definitions.specs.Documents.{document_of, placed, Ascend}
 
 -- documents of the source, in byte order of canonical URIs
 pub record IsPart (reached all : List Document) : Type 0 where

@@ -4,11 +4,10 @@ ghost use Rattle.std.specs.Prelude.{◌≡◌, IfErr, IfOk, map, option_map, str
 ghost use Rattle.std.specs.Cmp.Lexicographic.{slice_cmp};
 ghost use Rattle.std.specs.List.Sorted.{IsStrictlySortedBy};
 ghost use Rattle.std.specs.Ordering.{nat_cmp};
-ghost use Rattle.definitions.specs.Bundles.{document_of};
+ghost use Rattle.definitions.specs.Documents.{document_of, canonicals};
 ghost use Rattle.json_doc.specs.Docs.{value};
 ghost use Rattle.linker.specs.LinkedDocuments.{linked_uri, linked_documents};
 ghost use Rattle.linker.specs.SharedDocuments.{shared_documents};
-ghost use Rattle.linker.specs.Sources.{canonicals};
 
 use crate::linked::Linked;
 use crate::placing::position;

@@ -1,14 +1,15 @@
 //! Linked documents.
 
 ghost use Rattle.std.specs.Prelude.{◌≡◌, [], true, false, is_some, string_bytes};
-ghost use Rattle.definitions.specs.Values.{has_repeat, same_text};
+ghost use Rattle.definitions.specs.Values.{same_text};
+ghost use Rattle.definitions.specs.Lists.{has_repeat};
 ghost use Rattle.definitions.specs.Reach.{missing};
 ghost use Rattle.definitions.specs.Scanning.{resource_uris};
 ghost use Rattle.definitions.specs.Schemas.{table_of};
 ghost use Rattle.definitions.specs.Targets.{resource_root};
 ghost use Rattle.linker.specs.SharedDocuments.{shared_documents};
 ghost use Rattle.std.specs.List.Sorted.{IsStrictlySortedBy-prop};
-ghost use Rattle.linker.specs.Sources.{Ascend};
+ghost use Rattle.definitions.specs.Documents.{Ascend};
 
 use schema_scan::Compiled;
 use std::rc::Rc;

@@ -4,7 +4,8 @@ ghost use Rattle.std.specs.Prelude.{◌≡◌, ◌≢◌, None, Some, false, IfE
 ghost use Rattle.definitions.specs.Reach.{reach};
 ghost use Rattle.definitions.specs.Scanning.{resource_uris};
 ghost use Rattle.definitions.specs.Schemas.{table_of};
-ghost use Rattle.definitions.specs.Values.{has_repeat, same_text};
+ghost use Rattle.definitions.specs.Values.{same_text};
+ghost use Rattle.definitions.specs.Lists.{has_repeat};
 ghost use Rattle.faults.specs.View.{fault};
 ghost use Rattle.linker.specs.LinkFaults.{link_fault};
 ghost use Rattle.linker.specs.LinkedDocuments.{linked_uri, linked_documents};

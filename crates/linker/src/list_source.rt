@@ -4,12 +4,12 @@ ghost use Rattle.std.specs.Prelude.{◌≡◌, [], None, IfErr, IfOk, OnErr, if�
 ghost use Rattle.std.specs.Prelude.{true, false};
 ghost use Rattle.std.specs.List.{list_all};
 ghost use Rattle.std.specs.List.Sorted.{IsStrictlySortedBy-prop};
-ghost use Rattle.definitions.specs.Values.{has_repeat, same_text};
-ghost use Rattle.definitions.specs.Registries.{placed};
-ghost use Rattle.definitions.specs.Runs.{resource_uris_of};
+ghost use Rattle.definitions.specs.Values.{same_text};
+ghost use Rattle.definitions.specs.Lists.{has_repeat};
+ghost use Rattle.definitions.specs.Documents.{placed, resource_uris_of, Ascend, is_faultless};
 ghost use Rattle.definitions.specs.Scanning.{scan_fault};
 ghost use Rattle.schema_scan.specs.CompiledDocuments.{compiled_base, compiled_value, compiled_document};
-ghost use Rattle.linker.specs.Sources.{Ascend, is_faultless, shares_resource};
+ghost use Rattle.linker.specs.Sources.{shares_resource};
 ghost use Rattle.linker.specs.SharedDocuments.{shared_documents};
 
 use crate::holders::{holder, shares_resource};

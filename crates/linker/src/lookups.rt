@@ -3,7 +3,7 @@
 ghost use Rattle.std.specs.Prelude.{◌≡◌, [], Some, Ok, Err, IfOk, IfErr, IfSome, IsTrue, Contains, is_some, map, option_map, find, unwrap_or, string_bytes};
 ghost use Rattle.definitions.specs.Reach.{holds_resource};
 ghost use Rattle.definitions.specs.Resolution.{resolved};
-ghost use Rattle.definitions.specs.Scanning.{patterns_of};
+ghost use Rattle.definitions.specs.Searches.{patterns_of};
 ghost use Rattle.definitions.specs.Schemas.{Document, Schema};
 ghost use Rattle.definitions.specs.Targets.{resource_root, target, target_by, is_dynamic_anchor, dynamically_anchored, outermost, dynamic_by, dynamic_target};
 ghost use Rattle.definitions.specs.Uris.{without_fragment};

@@ -3,12 +3,10 @@
 ghost use Rattle.std.specs.Prelude.{◌≡◌, IfErr, IfOk, OnErr, if◌then◌else◌, is_none};
 ghost use Rattle.std.specs.Cmp.Lexicographic.{slice_cmp};
 ghost use Rattle.std.specs.Ordering.{nat_cmp};
-ghost use Rattle.definitions.specs.Bundles.{document_of};
-ghost use Rattle.definitions.specs.Registries.{placed};
+ghost use Rattle.definitions.specs.Documents.{document_of, placed, Ascend};
 ghost use Rattle.schema_scan.specs.CompiledDocuments.{compiled_document};
 ghost use Rattle.linker.specs.Positions.{StandsAt, IsGap};
 ghost use Rattle.linker.specs.SharedDocuments.{shared_documents};
-ghost use Rattle.linker.specs.Sources.{Ascend};
 
 use schema_scan::{Compiled, canonical};
 use std::alloc::AllocError;

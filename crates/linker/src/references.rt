@@ -2,6 +2,7 @@
 
 ghost use Rattle.std.specs.Prelude.{◌≡◌, ◌∷◌, IfOk, IfErr, option_map, string_bytes};
 ghost use Rattle.std.specs.Cow.{cow_str_bytes};
+ghost use Rattle.definitions.specs.Bytes.{number_sign};
 ghost use Rattle.definitions.specs.Fragments.{fragment_kind};
 ghost use Rattle.definitions.specs.Resolution.{resolved};
 ghost use Rattle.definitions.specs.Uris.{without_fragment};
@@ -40,7 +41,7 @@ fn resolve_fragment<'a>(
     resource: &'a str,
     fragment: &str,
 ) -> Result<Option<AbsoluteReference<'a>>, Fault>
-    ensures ok { IfOk result (λ r. IsReadAs (resolved resource.now (35 ∷ fragment.now)) r) }
+    ensures ok { IfOk result (λ r. IsReadAs (resolved resource.now (number_sign ∷ fragment.now)) r) }
     ensures err { IfErr result (λ f. f ≡ Fault.NoRoom) }
 {
     match readable_fragment(alloc, Some(fragment)) {

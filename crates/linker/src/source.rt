@@ -4,7 +4,7 @@ ghost use Rattle.std.specs.Prelude.{◌≡◌, List, IfOk, IfErr, find, option_m
 ghost use Rattle.definitions.specs.Reach.{holds_resource};
 ghost use Rattle.definitions.specs.Schemas.{Document};
 ghost use Rattle.schema_scan.specs.CompiledDocuments.{compiled_document};
-ghost use Rattle.linker.specs.Sources.{AreSound};
+ghost use Rattle.definitions.specs.Documents.{AreSound};
 
 use faults::Fault;
 use schema_scan::Compiled;

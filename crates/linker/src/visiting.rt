@@ -4,7 +4,7 @@ ghost use Rattle.std.specs.Prelude.{◌≡◌, IfErr, IfOk, OnOk};
 ghost use Rattle.definitions.specs.Reach.{holds_resource, reach, refers_to};
 ghost use Rattle.schema_scan.specs.CompiledDocuments.{compiled_document};
 ghost use Rattle.linker.specs.SharedDocuments.{shared_documents};
-ghost use Rattle.linker.specs.Sources.{Ascend, AreSound};
+ghost use Rattle.definitions.specs.Documents.{Ascend, AreSound};
 ghost use Rattle.linker.specs.Visits.{Adds, IsPart, Keeps};
 
 use crate::placing::place;

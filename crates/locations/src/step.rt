@@ -1,6 +1,7 @@
 //! The steps of a location.
 
 ghost use Rattle.std.specs.Prelude.{◌≡◌, ◌∷◌, ◌++◌, OnOk, flat_map, map, string_bytes};
+ghost use Rattle.definitions.specs.Bytes.{slash};
 ghost use Rattle.definitions.specs.Pointers.{escaped_byte, fragment_text, percent_encoded, pointer_text};
 ghost use Rattle.locations.specs.Steps.{token, tokens};
 
@@ -40,7 +41,7 @@ pub fn push_fragment(text: &mut String, steps: &[Step<'_>]) -> Result<(), AllocE
 }
 
 fn push_step(text: &mut String, step: Step<'_>) -> Result<(), AllocError>
-    ensures { OnOk result (string_bytes text.new ≡ string_bytes text.old ++ 47 ∷ flat_map escaped_byte (token step.entry)) }
+    ensures { OnOk result (string_bytes text.new ≡ string_bytes text.old ++ slash ∷ flat_map escaped_byte (token step.entry)) }
 {
     match step {
         Step::Name(name) => push_token(text, name),
@@ -52,7 +53,7 @@ fn push_step(text: &mut String, step: Step<'_>) -> Result<(), AllocError>
 }
 
 fn push_fragment_step(text: &mut String, step: Step<'_>) -> Result<(), AllocError>
-    ensures { OnOk result (string_bytes text.new ≡ string_bytes text.old ++ 47 ∷ percent_encoded (flat_map escaped_byte (token step.entry))) }
+    ensures { OnOk result (string_bytes text.new ≡ string_bytes text.old ++ slash ∷ percent_encoded (flat_map escaped_byte (token step.entry))) }
 {
     match step {
         Step::Name(name) => push_fragment_token(text, name),

@@ -9,7 +9,7 @@ use Rattle.httparse.specs.Grammar.{Field, field_value, RequestHead}
 use Rattle.httparse.specs.Spans.{span_bytes, header_bytes, name_and_value}
 use Rattle.httparse.specs.declared.spans.HeaderSpan.{HeaderSpan}
 use Rattle.definitions.specs.Values.{Text, entry}
-use Rattle.definitions.specs.Registries.{most_body_bytes}
+use Rattle.definitions.specs.Limits.{limits}
 use Rattle.http_definitions.specs.Heads.{values, methods, is_length, length_by, body_length, most_length_digits}
 use Rattle.request_heads.specs.Fields.{values_at, body_length_at}
 
@@ -57,30 +57,30 @@ second true b e = e
 second false b e = absurd (true≢false (sym e))
 
 -- a length that is told is within the limit
-bounded : (t : Text) (b : Bool) (n : ℕ) → is_length t ≡ b → cond b (Some (digits_value 10 t)) None ≡ Some n → n ≤ most_body_bytes
+bounded : (t : Text) (b : Bool) (n : ℕ) → is_length t ≡ b → cond b (Some (digits_value 10 t)) None ≡ Some n → n ≤ limits.body_bytes
 bounded t false n e told = absurd (cc told)
 bounded t true n e told =
     let same : digits_value 10 t ≡ n = cc told in
-    let inner = second (nat_lt 0 (length t)) (nat_le (length t) most_length_digits && (list_all is_ascii_digit t && nat_le (digits_value 10 t) most_body_bytes)) e in
-    let last = second (list_all is_ascii_digit t) (nat_le (digits_value 10 t) most_body_bytes)
-    (second (nat_le (length t) most_length_digits) (list_all is_ascii_digit t && nat_le (digits_value 10 t) most_body_bytes) inner) in
-    subst (λ k. k ≤ most_body_bytes) same (leb-true _ _ last)
+    let inner = second (nat_lt 0 (length t)) (nat_le (length t) most_length_digits && (list_all is_ascii_digit t && nat_le (digits_value 10 t) limits.body_bytes)) e in
+    let last = second (list_all is_ascii_digit t) (nat_le (digits_value 10 t) limits.body_bytes)
+    (second (nat_le (length t) most_length_digits) (list_all is_ascii_digit t && nat_le (digits_value 10 t) limits.body_bytes) inner) in
+    subst (λ k. k ≤ limits.body_bytes) same (leb-true _ _ last)
 
-untold : (b : Bool) (n : ℕ) → ◌≡◌ {A = Option ℕ} (cond b None (Some 0)) (Some n) → n ≤ most_body_bytes
+untold : (b : Bool) (n : ℕ) → ◌≡◌ {A = Option ℕ} (cond b None (Some 0)) (Some n) → n ≤ limits.body_bytes
 untold true n e = absurd (cc e)
 untold false n e = let same : n ≡ 0 = cc e in omega (arith, same)
 
-pub length_by_bounded : (vs : List Text) (must_tell : Bool) (n : ℕ) → length_by vs must_tell ≡ Some n → n ≤ most_body_bytes
+pub length_by_bounded : (vs : List Text) (must_tell : Bool) (n : ℕ) → length_by vs must_tell ≡ Some n → n ≤ limits.body_bytes
 length_by_bounded [] must_tell n e = untold must_tell n e
 length_by_bounded (t ∷ []) must_tell n e = bounded t (is_length t) n refl e
 length_by_bounded (t ∷ u ∷ ts) must_tell n e = absurd (cc e)
 
-told_within : (t : Bool) (o : Option Bool) (vs : List Text) (n : ℕ) → cond t (option_and_then (length_by vs) o) None ≡ Some n → n ≤ most_body_bytes
+told_within : (t : Bool) (o : Option Bool) (vs : List Text) (n : ℕ) → cond t (option_and_then (length_by vs) o) None ≡ Some n → n ≤ limits.body_bytes
 told_within false o vs n e = absurd (cc e)
 told_within true None vs n e = absurd (cc e)
 told_within true (Some b) vs n e = length_by_bounded vs b n e
 
-pub body_bounded : (h : RequestHead) (n : ℕ) → body_length h ≡ Some n → n ≤ most_body_bytes
+pub body_bounded : (h : RequestHead) (n : ℕ) → body_length h ≡ Some n → n ≤ limits.body_bytes
 body_bounded h n e = told_within (length (values (codes "transfer-encoding") h) == 0) (entry h.method methods) (values (codes "content-length") h) n e
 
 -- ---- one value after the other

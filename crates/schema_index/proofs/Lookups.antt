@@ -2,7 +2,8 @@
 use Rattle.std.proofs.Common.{◌≡◌, ◌&&◌, ◌||◌, List, [], ◌∷◌, ◌++◌, map, Bool, true, false, cond, Option, Some, None, option_map, refl, ap, ◌∙◌}
 use Rattle.std.proofs.lemmas.Bool.{or_parts}
 use Rattle.std.specs.List.{find, flat_map, list_any}
-use Rattle.definitions.specs.Values.{Text, has_repeat, same_text}
+use Rattle.definitions.specs.Values.{Text, same_text}
+use Rattle.definitions.specs.Lists.{has_repeat}
 use Rattle.definitions.specs.Pointers.{Pointer, same_pointer}
 use Rattle.lemmas.proofs.Texts.{same_text_itself, same_text_is}
 use Rattle.schema_index.specs.Descents.{row}

@@ -5,7 +5,8 @@ use Rattle.std.proofs.lemmas.List.{drop_all, length-drop, length-map}
 use Rattle.std.proofs.lemmas.Slice.Eq.{bytes_eq-Decides}
 use Rattle.std.specs.List.{find, flat_map, position_from, slice_get}
 use Rattle.definitions.specs.Values.{Text, Value, same_text, text_at}
-use Rattle.definitions.specs.Schemas.{Schema, is_root, option_list, references}
+use Rattle.definitions.specs.Schemas.{Schema, is_root, references}
+use Rattle.definitions.specs.Lists.{option_list}
 use Rattle.definitions.specs.Scanning.{resource_uris}
 use Rattle.definitions.specs.Targets.{resource_root, is_anchor, is_dynamic_anchor, anchored, dynamically_anchored}
 use Rattle.schema_index.specs.Hops.{Hop, hop_token, hop_tokens}

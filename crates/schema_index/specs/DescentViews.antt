@@ -2,7 +2,7 @@
 use Rattle.std.specs.Prelude.{◌∷◌, map, Option, Some, None, string_bytes}
 use Rattle.definitions.specs.Values.{Value}
 use Rattle.definitions.specs.Pointers.{Pointer}
-use Rattle.definitions.specs.Schemas.{option_list}
+use Rattle.definitions.specs.Lists.{option_list}
 use Rattle.json_doc.specs.Docs.{value}
 use Rattle.locations.specs.Steps.{tokens}
 use Rattle.schema_index.specs.Descents.{LeadsNowhere, StepsTo}

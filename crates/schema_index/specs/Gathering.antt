@@ -2,7 +2,7 @@
 use Rattle.std.specs.Prelude.{ℕ, ◌≡◌, List, ◌++◌, Bool, true, false, codes, filter, flat_map, map, option_map, string_bytes}
 use Rattle.definitions.specs.Values.{Text, Value, text_at}
 use Rattle.definitions.specs.Resolution.{resolved}
-use Rattle.definitions.specs.Schemas.{option_list}
+use Rattle.definitions.specs.Lists.{option_list}
 use Rattle.schema_index.specs.Hops.{Hop}
 use Rattle.schema_index.specs.Spots.{Spot, at_root}
 use Rattle.schema_index.specs.Ways.{owned_hops}

@@ -2,7 +2,8 @@
 
 ghost use Rattle.std.specs.Prelude.{◌≡◌, ◌∷◌, ◌++◌, codes, IfOk, IfErr, Contains, map, option_map, string_bytes};
 ghost use Rattle.definitions.specs.Resolution.{resolved};
-ghost use Rattle.definitions.specs.Schemas.{below, option_list};
+ghost use Rattle.definitions.specs.Schemas.{below};
+ghost use Rattle.definitions.specs.Lists.{option_list};
 ghost use Rattle.definitions.specs.Targets.{pointed};
 ghost use Rattle.definitions.specs.Uris.{without_fragment};
 ghost use Rattle.definitions.specs.Values.{text_at};

@@ -3,8 +3,9 @@ use Rattle.std.proofs.Common.{◌≡◌, List, [], ◌∷◌, ◌++◌, map, Boo
 use Rattle.std.proofs.lemmas.Grind.{flat_map-append}
 use Rattle.std.specs.List.{flat_map}
 use Rattle.definitions.specs.Values.{Text, Value, null, boolean, integer, string, array, object, Elements, no_elements, element, Members, no_members, member, get, members, text_at}
-use Rattle.definitions.specs.Schemas.{Schema, schemas_of, option_list}
-use Rattle.definitions.specs.Scanning.{patterns, patterns_of}
+use Rattle.definitions.specs.Schemas.{Schema, schemas_of}
+use Rattle.definitions.specs.Lists.{option_list}
+use Rattle.definitions.specs.Searches.{patterns, patterns_of}
 use Rattle.definitions.specs.Shapes.{Shape, any_value, truth, whole_number, size, divisor, any_text, value_list, text_list, text_lists, type_names, reference, one_schema, schema_list, schema_map, identifier, anchor_name, dialect}
 use Rattle.json_doc.specs.Kinds.{as_members}
 use Rattle.schema_scan.specs.PatternTexts.{patterns_at, names_at, patterns_in}

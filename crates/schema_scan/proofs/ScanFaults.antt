@@ -2,10 +2,11 @@
 use Rattle.std.proofs.Common.{◌≡◌, ◌≤◌, List, [], ◌∷◌, ◌++◌, map, filter, Bool, true, false, cond, nat_lt, Some, refl, sym, ap, ap₂, ◌∙◌, arith}
 use Rattle.std.proofs.lemmas.Bool.Decides.{nat_tests}
 use Rattle.std.specs.List.{flat_map}
-use Rattle.definitions.specs.Values.{Text, Value, is_object, nesting, has_repeat, same_text}
+use Rattle.definitions.specs.Values.{Text, Value, is_object, nesting, same_text}
+use Rattle.definitions.specs.Lists.{has_repeat, first, unless, when}
 use Rattle.definitions.specs.Faults.{Fault, not_object, too_nested, duplicate_uri, duplicate_anchor}
 use Rattle.definitions.specs.Schemas.{Schema, schemas_of, is_root}
-use Rattle.definitions.specs.Scanning.{first, unless, when, same_anchor, resource_uris, anchors_of, name_faults, scan_fault}
+use Rattle.definitions.specs.Scanning.{same_anchor, resource_uris, anchors_of, name_faults, scan_fault}
 use Rattle.schema_scan.specs.Places.{Place, places}
 use Rattle.schema_scan.specs.Missteps.{Misstep, misstep_fault, missteps}
 use Rattle.schema_scan.specs.Names.{uris_opened, anchors_at, anchors_in}

@@ -2,7 +2,7 @@
 use Rattle.std.proofs.Common.{◌≡◌, List, [], ◌∷◌, Bool, true, false, cond, ◌||◌, map, refl, ap, ap₂, ◌∙◌, sym}
 use Rattle.std.proofs.Math.Bool.{or-true}
 use Rattle.std.specs.List.{list_any}
-use Rattle.definitions.specs.Values.{has_repeat}
+use Rattle.definitions.specs.Lists.{has_repeat}
 
 four : (a b c d : Bool) → (cond a true b || (c || d)) ≡ ((a || c) || (b || d))
 four true b c d = refl

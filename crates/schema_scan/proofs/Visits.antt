@@ -2,7 +2,7 @@
 use Rattle.std.proofs.Common.{◌≡◌, ◌<◌, ℕ, ◌+◌, List, [], ◌∷◌, ◌++◌, map, length, get_or, drop, decimal, false, Some, sym, ap, ◌∙◌, append_assoc}
 use Rattle.std.proofs.lemmas.List.{drop_more}
 use Rattle.definitions.specs.Values.{Text, to_elements}
-use Rattle.definitions.specs.Scanning.{first}
+use Rattle.definitions.specs.Lists.{first}
 use Rattle.json_doc.specs.Docs.{value}
 use Rattle.json_doc.specs.declared.doc.Doc.{Doc}
 use Rattle.schema_scan.specs.Places.{Place}

@@ -9,7 +9,8 @@ use Rattle.definitions.specs.Faults.{Fault, bad_keyword}
 use Rattle.definitions.specs.Shapes.{Shape, any_value, truth, whole_number, size, divisor, any_text, value_list, text_list, text_lists, type_names, reference, one_schema, schema_list, schema_map, identifier, anchor_name, dialect}
 use Rattle.definitions.specs.Keywords.{Keyword, keywords, keyword_named, shape_in}
 use Rattle.definitions.specs.Schemas.{Schema, schema_at, below, at_place, is_root}
-use Rattle.definitions.specs.Scanning.{unless, shape_faults, keyword_faults, walked}
+use Rattle.definitions.specs.Scanning.{shape_faults, keyword_faults, walked}
+use Rattle.definitions.specs.Lists.{unless}
 use Rattle.schema_scan.specs.Places.{shape_named, resource_of, opens_resource}
 use Rattle.schema_scan.specs.Missteps.{Misstep, wrong_shape, wrong_id, wrong_anchor, wrong_dialect, misstep_fault, deeper, below_name, is_as_asked, misstep_at, shape_missteps, own_missteps, missteps, missteps_below, missteps_at, missteps_in_list, missteps_in_map}
 use Rattle.schema_scan.proofs.Opened.{value-at, resource-at, is_root-at, not_empty, shape_named-row}

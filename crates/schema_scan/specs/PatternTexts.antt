@@ -1,7 +1,7 @@
 -- The patterns of schemas, read off their values alone.
 use Rattle.std.specs.Prelude.{List, [], map, flat_map, option_map, unwrap_or}
 use Rattle.definitions.specs.Values.{Text, Value, get, members}
-use Rattle.definitions.specs.Scanning.{patterns_of}
+use Rattle.definitions.specs.Searches.{patterns_of}
 use Rattle.schema_scan.specs.Places.{Place}
 
 -- of a schema with this value: neither its resource nor its pointer matters

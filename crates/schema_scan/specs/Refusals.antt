@@ -2,7 +2,7 @@
 use Rattle.std.specs.Prelude.{◌≡◌, List, Some, map, reverse, decimal}
 use Rattle.definitions.specs.Values.{Text}
 use Rattle.definitions.specs.Pointers.{Pointer}
-use Rattle.definitions.specs.Scanning.{first}
+use Rattle.definitions.specs.Lists.{first}
 use Rattle.schema_scan.specs.Missteps.{Misstep, wrong_shape, wrong_id, wrong_anchor, wrong_dialect}
 use Rattle.schema_scan.specs.declared.refusal.Step.{Step}
 use Rattle.schema_scan.specs.declared.refusal.Step.TheVariants.{Name, Index}

@@ -4,8 +4,8 @@ ghost use Rattle.std.specs.Prelude.{◌≡◌, true, None, IfOk, IfErr, IfSome, 
 ghost use Rattle.std.specs.List.{list_all};
 ghost use Rattle.definitions.specs.Patterns.{regular_search};
 ghost use Rattle.definitions.specs.Reach.{holds_resource, references_in};
-ghost use Rattle.definitions.specs.Registries.{is_regular};
-ghost use Rattle.definitions.specs.Scanning.{patterns, resource_uris, scan_fault};
+ghost use Rattle.definitions.specs.Searches.{is_regular, patterns};
+ghost use Rattle.definitions.specs.Scanning.{resource_uris, scan_fault};
 ghost use Rattle.definitions.specs.Targets.{resource_root, target_by, dynamically_anchored};
 ghost use Rattle.json_doc.specs.Docs.{value};
 ghost use Rattle.schema_index.specs.IndexedDocuments.{indexed_value};

@@ -2,8 +2,7 @@
 
 ghost use Rattle.std.specs.Prelude.{◌≡◌, ◌≢◌, ◌<◌, true, IfOk, OnOk, IfErr, length};
 ghost use Rattle.definitions.specs.Patterns.{regular_search};
-ghost use Rattle.definitions.specs.Registries.{is_regular};
-ghost use Rattle.definitions.specs.Scanning.{patterns};
+ghost use Rattle.definitions.specs.Searches.{is_regular, patterns};
 ghost use Rattle.definitions.specs.Schemas.{document_from};
 ghost use Rattle.schema_scan.specs.Scans.{scanned_base, scanned_value};
 ghost use Rattle.schema_scan.specs.CompiledDocuments.{compiled_base, compiled_value, compiled_document};

@@ -3,7 +3,8 @@
 ghost use Rattle.std.specs.Prelude.{◌≡◌, ◌&&◌, [], ◌∷◌, OnOk, IfOk, IfErr, is_ok};
 ghost use Rattle.std.specs.List.{list_any, list_all};
 ghost use Rattle.definitions.specs.Values.{same_text};
-ghost use Rattle.definitions.specs.Uris.{split, is_letter};
+ghost use Rattle.definitions.specs.Uris.{split};
+ghost use Rattle.definitions.specs.Bytes.{is_letter};
 ghost use Rattle.definitions.specs.Fragments.{fragment_kind};
 ghost use Rattle.definitions.specs.Shapes.{is_reference, is_anchor_name, is_anchor_text, is_anchor_byte};
 ghost use Rattle.definitions.specs.Scanning.{is_dialect, dialects};

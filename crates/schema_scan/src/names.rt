@@ -1,7 +1,8 @@
 //! Names that stand twice: URIs of resources, and anchors (JSON Schema 2020-12 Core, sections 8.2.1 and 8.2.2).
 
 ghost use Rattle.std.specs.Prelude.{◌≡◌, ◌++◌, IfOk, OnOk, option_map, map};
-ghost use Rattle.definitions.specs.Values.{same_text, text_at, has_repeat};
+ghost use Rattle.definitions.specs.Values.{same_text, text_at};
+ghost use Rattle.definitions.specs.Lists.{has_repeat};
 ghost use Rattle.definitions.specs.Scanning.{same_anchor};
 ghost use Rattle.json_doc.specs.Docs.{value};
 ghost use Rattle.schema_scan.specs.Names.{uris_opened, anchors_at, anchors_in};

@@ -2,7 +2,7 @@
 
 ghost use Rattle.std.specs.Prelude.{◌≡◌, ◌≢◌, [], ◌∷◌, List, Some, IfOk, map, decimal, string_bytes};
 ghost use Rattle.definitions.specs.Pointers.{pointer_text};
-ghost use Rattle.definitions.specs.Scanning.{first};
+ghost use Rattle.definitions.specs.Lists.{first};
 ghost use Rattle.faults.specs.View.{fault};
 ghost use Rattle.schema_scan.specs.Missteps.{Misstep, wrong_shape, below_name, misstep_fault};
 ghost use Rattle.schema_scan.specs.Refusals.{Refuses, way_up};

@@ -2,7 +2,7 @@
 
 ghost use Rattle.std.specs.Prelude.{◌≡◌, IfOk};
 ghost use Rattle.std.specs.Ordering.{eq_by_cmp};
-ghost use Rattle.definitions.specs.Values.{has_repeat};
+ghost use Rattle.definitions.specs.Lists.{has_repeat};
 
 use std::alloc::{AllocError, Global};
 use std::collections::BTreeSet;

@@ -1,7 +1,8 @@
 //! Documents that were scanned.
 
 ghost use Rattle.std.specs.Prelude.{◌≡◌, None, IfOk, map};
-ghost use Rattle.definitions.specs.Scanning.{patterns, scan_fault};
+ghost use Rattle.definitions.specs.Scanning.{scan_fault};
+ghost use Rattle.definitions.specs.Searches.{patterns};
 ghost use Rattle.json_doc.specs.Docs.{value};
 ghost use Rattle.schema_scan.specs.PatternTexts.{patterns_in};
 ghost use Rattle.schema_scan.specs.Tables.{uris_of, places_of};

@@ -2,6 +2,7 @@
 use Rattle.std.specs.Prelude.{◌≡◌, ◌≢◌, ℕ, ◌++◌, ◌∷◌, [], Bool, true, false, not, Option, Some, None, Result, Ok, Err, IfSome, if◌then◌else◌, ⊤, codes}
 use Rattle.std.specs.Io.KnownBytes.{Appends, Keeps}
 use Rattle.std.specs.List.{list_any}
+use Rattle.definitions.specs.Bytes.{}
 use Rattle.definitions.specs.Values.{Text}
 use Rattle.faults.specs.View.{fault, printed}
 use Rattle.faults.specs.declared.Fault.TheVariants.{NoRoom}
@@ -15,10 +16,10 @@ use Rattle.schemareg.specs.declared.stop.Stop.TheVariants.{Words, NotText, Canno
 -- what is printed, and none where the text is `clap`'s
 abbrev pub text_of : Stop → Option Text
 text_of (Words e) = None
-text_of NotText = Some (codes "error: the command line is not UTF-8" ++ 10 ∷ [])
-text_of (CannotRead name) = Some (codes "cannot read " ++ name.now ++ 10 ∷ [])
-text_of (Refused f) = Some (codes "refused: " ++ printed (fault f) ++ 10 ∷ [])
-text_of CannotWrite = Some (codes "cannot write -" ++ 10 ∷ [])
+text_of NotText = Some (codes "error: the command line is not UTF-8" ++ line_feed ∷ [])
+text_of (CannotRead name) = Some (codes "cannot read " ++ name.now ++ line_feed ∷ [])
+text_of (Refused f) = Some (codes "refused: " ++ printed (fault f) ++ line_feed ∷ [])
+text_of CannotWrite = Some (codes "cannot write -" ++ line_feed ∷ [])
 
 -- the words ask for help or for the version
 abbrev pub is_request : ErrorKind → Bool

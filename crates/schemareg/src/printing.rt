@@ -1,6 +1,7 @@
 //! Printing a report, or why there is none.
 ghost use Rattle.std.specs.Prelude.{◌≡◌, ◌++◌, ◌∷◌, ◌⊎◌, [], true, not, IfOk, IfErr, OnOk, string_bytes};
 ghost use Rattle.std.specs.Io.KnownBytes.{Appends};
+ghost use Rattle.definitions.specs.Bytes.{line_feed};
 ghost use Rattle.schemareg.specs.Answers.{IsUnprinted, check_status};
 ghost use Rattle.schemareg.specs.Stops.{Tells, is_error, status_of, text_of};
 
@@ -17,7 +18,7 @@ fn status(is_valid: bool) -> u8
 
 /// The text with a line feed.
 fn line(mut text: String) -> Result<String, Fault>
-    ensures ok { IfOk result (λ line. string_bytes line ≡ string_bytes text ++ 10 ∷ []) }
+    ensures ok { IfOk result (λ line. string_bytes line ≡ string_bytes text ++ line_feed ∷ []) }
     ensures err { IfErr result (λ fault. fault ≡ Fault.NoRoom) }
 {
     text.push_str("\n")?;

@@ -3,7 +3,7 @@ use Rattle.std.proofs.Common.{◌≡◌, ℕ, zero, suc, ◌+◌, ◌<◌, ◌�
 use Rattle.std.proofs.lemmas.Bool.{ne_eqb}
 use Rattle.std.proofs.lemmas.List.Quantifiers.{position-Some}
 use Rattle.std.specs.List.{position_or_len}
-use Rattle.definitions.specs.Uris.{cut_at, split_before}
+use Rattle.definitions.specs.Lists.{cut_at, split_before}
 use Rattle.lemmas.proofs.Options.{past_from_none}
 use Rattle.uri_ref.specs.Places.{Lacks}
 

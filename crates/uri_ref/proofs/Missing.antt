@@ -5,7 +5,9 @@ use Rattle.std.proofs.lemmas.Bool.Decides.{eqb_tells}
 use Rattle.std.proofs.lemmas.List.Folds.{list_any-append}
 use Rattle.std.specs.List.{list_all, list_any}
 use Rattle.definitions.specs.Values.{Text, same_text}
-use Rattle.definitions.specs.Uris.{begins, cut_at, is_free_of, is_letter, is_scheme, is_scheme_byte, led_by, split_before, ended_by, option_all}
+use Rattle.definitions.specs.Uris.{begins, is_free_of, is_scheme, is_scheme_byte, led_by, ended_by, option_all}
+use Rattle.definitions.specs.Lists.{cut_at, split_before}
+use Rattle.definitions.specs.Bytes.{is_letter}
 
 abbrev pub one_of : Text → ℕ → Bool
 one_of signs c = list_any (λ d. d == c) signs

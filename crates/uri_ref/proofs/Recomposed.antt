@@ -2,7 +2,8 @@
 use Rattle.std.proofs.Common.{◌≡◌, ℕ, ◌==◌, [], ◌∷◌, ◌++◌, Bool, true, false, ◌&&◌, cond, Option, Some, None, is_some, unwrap_or, drop, codes, refl, sym, ap, ◌∙◌, append_assoc}
 use Rattle.std.proofs.lemmas.Bool.{eqb-true}
 use Rattle.definitions.specs.Values.{Text}
-use Rattle.definitions.specs.Uris.{split, recompose, led_by, ended_by, cut_at, split_before, begins, is_scheme, scheme_and_rest, authority_and_path}
+use Rattle.definitions.specs.Uris.{split, recompose, led_by, ended_by, begins, is_scheme, scheme_and_rest, authority_and_path}
+use Rattle.definitions.specs.Lists.{cut_at, split_before}
 use Rattle.uri_ref.proofs.Rules.{front}
 
 cut_step : (c x : ℕ) (xs : Text) (b : Bool) (r : Text × Option Text) → (x == c) ≡ b → r.0 ++ led_by (c ∷ []) r.1 ≡ xs

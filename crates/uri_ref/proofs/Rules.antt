@@ -9,7 +9,8 @@ use Rattle.std.specs.Str.{IsCharBoundary, IsUtf8}
 use Rattle.std.specs.Cmp.Lexicographic.{pointwise}
 use Rattle.std.specs.List.{list_any, position}
 use Rattle.definitions.specs.Values.{Text, same_text}
-use Rattle.definitions.specs.Uris.{begins, split_before}
+use Rattle.definitions.specs.Uris.{begins}
+use Rattle.definitions.specs.Lists.{split_before}
 use Rattle.definitions.specs.Resolution.{rewritten, rewritten_times, first_segment, without_last_segment}
 use Rattle.uri_ref.specs.Places.{Lacks, IsLast}
 use Rattle.uri_ref.proofs.Cuts.{before_some, before_none, slash_is_ascii}

@@ -3,7 +3,8 @@ use Rattle.std.proofs.Common.{◌≡◌, ℕ, zero, suc, ◌==◌, [], ◌∷◌
 use Rattle.std.proofs.lemmas.Bool.{or_from, or_parts, or_right, eqb-true}
 use Rattle.std.specs.List.{list_any}
 use Rattle.definitions.specs.Values.{Text, same_text}
-use Rattle.definitions.specs.Uris.{Parts, split, begins, cut_at, is_free_of, is_scheme, led_by, ended_by, option_all, scheme_and_rest, authority_and_path, split_before}
+use Rattle.definitions.specs.Uris.{Parts, split, begins, is_free_of, is_scheme, led_by, ended_by, option_all, scheme_and_rest, authority_and_path}
+use Rattle.definitions.specs.Lists.{cut_at, split_before}
 use Rattle.definitions.specs.Resolution.{resolve, merge, remove_dot_segments, rewritten, rewritten_times, first_segment, without_last_segment, up_to_last_slash, is_empty}
 use Rattle.uri_ref.specs.Soundness.{AreSound}
 use Rattle.uri_ref.proofs.Missing.{Misses, one_of, misses_from, free_from, joined_misses, halves_miss, rest_misses, none_missed, more_missed, cut_misses, before_misses, is_rooted, rest_is_rooted, rooted_from, rooted_text}

@@ -1,7 +1,8 @@
 -- The parts of a text, from the cuts one after another.
 use Rattle.std.proofs.Common.{◌≡◌, ◌==◌, Option, refl}
 use Rattle.definitions.specs.Values.{Text}
-use Rattle.definitions.specs.Uris.{split, cut_at, scheme_and_rest, authority_and_path}
+use Rattle.definitions.specs.Uris.{split, scheme_and_rest, authority_and_path}
+use Rattle.definitions.specs.Lists.{cut_at}
 use Rattle.uri_ref.specs.Views.{made}
 
 pub split_from :

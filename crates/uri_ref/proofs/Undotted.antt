@@ -3,7 +3,8 @@ use Rattle.std.proofs.Common.{◌≡◌, ℕ, zero, suc, ◌≤◌, ◌==◌, Li
 use Rattle.std.proofs.lemmas.Bool.{or_parts, or_from}
 use Rattle.std.specs.List.{list_any, slice_split, onto_first}
 use Rattle.definitions.specs.Values.{Text, same_text}
-use Rattle.definitions.specs.Uris.{begins, split_before, is_dot_segment}
+use Rattle.definitions.specs.Uris.{begins, is_dot_segment}
+use Rattle.definitions.specs.Lists.{split_before}
 use Rattle.definitions.specs.Resolution.{rewritten, rewritten_times, remove_dot_segments, first_segment}
 use Rattle.lemmas.proofs.Texts.{same_text_is}
 use Rattle.uri_ref.proofs.Rules.{front, rule_e, before_within}

@@ -3,7 +3,8 @@ use Rattle.std.proofs.Common.{◌≡◌, ◌==◌, [], ◌∷◌, ◌++◌, Bool
 use Rattle.std.proofs.lemmas.Bool.{and_from, and_parts, not-true}
 use Rattle.std.specs.List.{list_any, slice_split}
 use Rattle.definitions.specs.Values.{Text, same_text}
-use Rattle.definitions.specs.Uris.{Parts, SplitsOnce, split, recompose, begins, cut_at, split_before, is_free_of, is_dot_segment, is_identifier, is_path_of, is_scheme, are_parts, led_by, ended_by, option_all, scheme_and_rest, authority_and_path}
+use Rattle.definitions.specs.Uris.{Parts, SplitsOnce, split, recompose, begins, is_free_of, is_dot_segment, is_identifier, is_path_of, is_scheme, are_parts, led_by, ended_by, option_all, scheme_and_rest, authority_and_path}
+use Rattle.definitions.specs.Lists.{cut_at, split_before}
 use Rattle.uri_ref.specs.Soundness.{AreSound}
 use Rattle.uri_ref.specs.Views.{made}
 use Rattle.uri_ref.proofs.Missing.{Misses, misses_from, joined_misses, one_missed, scheme_misses, is_rooted, rest_is_rooted, rooted_from, rooted_text, cut_apart, before_apart, of_option, led_misses, ended_misses}

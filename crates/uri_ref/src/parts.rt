@@ -2,6 +2,7 @@
 
 ghost use Rattle.std.specs.Prelude.{◌≡◌, None, option_map};
 ghost use Rattle.std.specs.List.{list_any, slice_split};
+ghost use Rattle.definitions.specs.Bytes.{slash};
 ghost use Rattle.definitions.specs.Uris.{is_identifier, is_dot_segment};
 ghost use Rattle.std.specs.Prelude.{◌==◌};
 
@@ -95,7 +96,7 @@ pub fn is_identifier(parts: &Parts) -> bool
 
 // Whether some segment of the path is `.` or `..`.
 fn has_dot_segment(path: &str) -> bool
-    ensures { result ≡ list_any is_dot_segment (slice_split (λ c. c == 47) path.now) }
+    ensures { result ≡ list_any is_dot_segment (slice_split (λ c. c == slash) path.now) }
 {
     path.split('/').any(|segment| is_dot_segment(segment))
 }

@@ -2,7 +2,9 @@
 
 ghost use Rattle.std.specs.Prelude.{◌≡◌, ◌==◌, ◌<◌, option_map, position, MatchOption};
 ghost use Rattle.std.specs.List.{list_all};
-ghost use Rattle.definitions.specs.Uris.{split, cut_at, split_before, is_letter, is_scheme, is_scheme_byte, scheme_and_rest, authority_and_path, recompose, without_fragment};
+ghost use Rattle.definitions.specs.Bytes.{slash, is_letter};
+ghost use Rattle.definitions.specs.Uris.{split, is_scheme, is_scheme_byte, scheme_and_rest, authority_and_path, recompose, without_fragment};
+ghost use Rattle.definitions.specs.Lists.{cut_at, split_before};
 ghost use Rattle.uri_ref.specs.Places.{Lacks, IsLast};
 
 use crate::parts::Parts;
@@ -100,8 +102,8 @@ fn authority_and_path(text: &str) -> (Option<&str>, &str)
 
 // What stands before the first `/`, and the rest, which begins with it.
 fn split_before_slash(text: &str) -> (&str, &str)
-    ensures before { result.0.now ≡ (split_before (λ c. c == 47) text.now).0 }
-    ensures rest { result.1.now ≡ (split_before (λ c. c == 47) text.now).1 }
+    ensures before { result.0.now ≡ (split_before (λ c. c == slash) text.now).0 }
+    ensures rest { result.1.now ≡ (split_before (λ c. c == slash) text.now).1 }
 {
     match first_slash(text.as_bytes()) {
         Some(at) => (&text[..at], &text[at..]),
@@ -111,7 +113,7 @@ fn split_before_slash(text: &str) -> (&str, &str)
 
 // Where the first `/` stands.
 pub(crate) fn first_slash(bytes: &[u8]) -> Option<usize>
-    ensures { result ≡ position (λ c. c == 47) bytes.now }
+    ensures { result ≡ position (λ c. c == slash) bytes.now }
 {
     bytes.iter().position(|byte| *byte == b'/')
 }

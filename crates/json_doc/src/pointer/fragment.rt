@@ -1,6 +1,7 @@
 //! Pointers as URI fragments (RFC 6901, section 6).
 
 ghost use Rattle.std.specs.Prelude.{◌≡◌, ◌∷◌, ◌++◌, IfOk, IfErr, OnOk, flat_map, string_bytes};
+ghost use Rattle.definitions.specs.Bytes.{slash};
 ghost use Rattle.definitions.specs.Pointers.{escaped_byte, fragment_text, percent_encoded};
 
 use super::{Pointer, escape_of, first_escaped};
@@ -53,7 +54,7 @@ impl Pointer {
 pub fn push_fragment_token(text: &mut String, token: &str) -> Result<(), AllocError>
     ensures { OnOk result
         (string_bytes text.new
-        ≡ string_bytes text.old ++ 47 ∷ percent_encoded (flat_map escaped_byte token.now)) }
+        ≡ string_bytes text.old ++ slash ∷ percent_encoded (flat_map escaped_byte token.now)) }
 {
     text.push('/')?;
     push_fragment_escaped(text, token)?;

@@ -2,7 +2,10 @@
 
 ghost use Rattle.std.specs.Prelude.{◌≡◌, ◌≢◌, ◌==◌, Some, None, IfOk, IfErr, map, string_bytes};
 ghost use Rattle.std.specs.List.{slice_split};
-ghost use Rattle.definitions.specs.Pointers.{each, pointer_of, unescaped};
+ghost use Rattle.definitions.specs.Bytes.{};
+ghost use Rattle.definitions.specs.Bytes.{slash};
+ghost use Rattle.definitions.specs.Pointers.{pointer_of, unescaped};
+ghost use Rattle.definitions.specs.Lists.{each};
 ghost use Rattle.json_doc.specs.Escapes.{escape_before};
 
 use super::Pointer;
@@ -34,11 +37,11 @@ impl Pointer {
 // The tokens of a text after its first `/`.
 fn tokens_of(alloc: Global, text: &str) -> Result<Vec<String>, Fault>
     ensures ok { IfOk result
-        (λ tokens. each unescaped (slice_split (λ d. d == 47) text.now)
+        (λ tokens. each unescaped (slice_split (λ d. d == slash) text.now)
         ≡ Some (map string_bytes tokens.items)) }
     ensures err { IfErr result
         (λ f. f ≢ Fault.NoRoom
-        → (f ≡ Fault.BadPointer) × (each unescaped (slice_split (λ d. d == 47) text.now) ≡ None)) }
+        → (f ≡ Fault.BadPointer) × (each unescaped (slice_split (λ d. d == slash) text.now) ≡ None)) }
 {
     let mut tokens = Vec::new(alloc);
     for part in text.split('/') {

@@ -1,5 +1,6 @@
 use Rattle.std.proofs.Common.{sym, ap, ◌∙◌, map, not}
-use Rattle.definitions.specs.Values.{same, has_repeat}
+use Rattle.definitions.specs.Values.{same}
+use Rattle.definitions.specs.Lists.{has_repeat}
 use Rattle.definitions.specs.Assertions.{is_unique}
 use Rattle.json_doc.specs.Docs.{value}
 use Rattle.assertions.proofs.equality.is_unique.Goals as goal

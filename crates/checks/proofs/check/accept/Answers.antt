@@ -1,6 +1,7 @@
 use Rattle.std.proofs.Common.{◌≡◌, ◌<◌, None, Ok, length, sym, ap, ◌∙◌, subst}
 use Rattle.std.proofs.lemmas.Result.{IfErr-weaker}
-use Rattle.definitions.specs.Scanning.{scan_fault, patterns}
+use Rattle.definitions.specs.Scanning.{scan_fault}
+use Rattle.definitions.specs.Searches.{patterns}
 use Rattle.faults.specs.View.{fault}
 use Rattle.json_doc.specs.Docs.{value}
 use Rattle.schema_scan.specs.Scans.{scanned_value}

@@ -1,5 +1,6 @@
 use Rattle.std.proofs.Common.{◌≡◌, IfOk, map, not, Bool, subst, sym, ap, ◌∙◌}
-use Rattle.definitions.specs.Values.{has_repeat, same}
+use Rattle.definitions.specs.Values.{same}
+use Rattle.definitions.specs.Lists.{has_repeat}
 use Rattle.definitions.specs.Assertions.{is_unique}
 use Rattle.json_doc.specs.Docs.{value}
 use Rattle.distinct_values.proofs.uniqueness.is_unique.Goals as goal

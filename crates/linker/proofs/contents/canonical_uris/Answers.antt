@@ -3,7 +3,7 @@ use Rattle.std.proofs.lemmas.List.{map-append}
 use Rattle.definitions.specs.Schemas.{Document}
 use Rattle.schema_scan.specs.CompiledDocuments.{compiled_document}
 use Rattle.linker.specs.SharedDocuments.{shared_documents}
-use Rattle.linker.specs.Sources.{canonicals}
+use Rattle.definitions.specs.Documents.{canonicals}
 use Rattle.linker.proofs.Shared.{shared_more}
 use Rattle.linker.proofs.contents.canonical_uris.Goals as goal
 

@@ -1,6 +1,6 @@
 use Rattle.std.proofs.Common.{◌≡◌, map, take, string_bytes}
 use Rattle.linker.specs.SharedDocuments.{shared_documents}
-use Rattle.linker.specs.Sources.{canonicals}
+use Rattle.definitions.specs.Documents.{canonicals}
 use Rattle.linker.proofs.contents.canonical_uris.Given as goal
 
 abbrev pub invariant-loop-document : goal.invariant-loop-document

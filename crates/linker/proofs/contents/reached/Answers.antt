@@ -6,7 +6,7 @@ use Rattle.std.specs.Ordering.{nat_cmp}
 use Rattle.definitions.specs.Values.{Text}
 use Rattle.linker.specs.LinkedDocuments.{linked_documents}
 use Rattle.linker.specs.SharedDocuments.{shared_documents}
-use Rattle.linker.specs.Sources.{canonicals}
+use Rattle.definitions.specs.Documents.{canonicals}
 use Rattle.linker.proofs.contents.reached.Goals as goal
 
 told : {E : Type 0} (P : List Text → Type 0) (r : Result (Vec (String Global) Global) E) (uris : List Text) → P uris → IfOk r (λ v. map string_bytes v.items ≡ uris) → IfOk r (λ v. P (map string_bytes v.items))

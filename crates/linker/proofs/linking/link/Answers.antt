@@ -1,7 +1,8 @@
 use Rattle.std.proofs.Common.{◌≡◌, None, string_bytes, ap, sym, ◌∙◌, subst}
 use Rattle.definitions.specs.Scanning.{resource_uris}
 use Rattle.definitions.specs.Schemas.{table_of}
-use Rattle.definitions.specs.Values.{has_repeat, same_text}
+use Rattle.definitions.specs.Values.{same_text}
+use Rattle.definitions.specs.Lists.{has_repeat}
 use Rattle.linker.specs.LinkFaults.{link_fault}
 use Rattle.linker.specs.LinkedDocuments.{linked_uri, linked_documents}
 use Rattle.linker.specs.SharedDocuments.{shared_documents}

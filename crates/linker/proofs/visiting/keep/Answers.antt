@@ -1,5 +1,5 @@
 use Rattle.std.proofs.Common.{◌≡◌, ◌++◌, ◌∷◌, [], true, false, cond, Option, Some, None, is_some, is_none, inr, ap, sym, refl, ◌∙◌, true≢false}
-use Rattle.definitions.specs.Registries.{placed}
+use Rattle.definitions.specs.Documents.{placed}
 use Rattle.schema_scan.specs.CompiledDocuments.{compiled_document}
 use Rattle.schema_scan.specs.declared.compiled.Compiled.{Compiled}
 use Rattle.linker.specs.SharedDocuments.{shared_documents}

@@ -2,7 +2,7 @@ use Rattle.std.proofs.Common.{◌≡◌, [], length, ap, sym, ◌∙◌, subst, 
 use Rattle.definitions.specs.Reach.{holds_resource, refers_to}
 use Rattle.schema_scan.specs.CompiledDocuments.{compiled_document}
 use Rattle.linker.specs.SharedDocuments.{shared_documents}
-use Rattle.linker.specs.Sources.{AreSound}
+use Rattle.definitions.specs.Documents.{AreSound}
 use Rattle.linker.specs.Visits.{Adds, IsPart}
 use Rattle.linker.proofs.Positions.{shared_as_long}
 use Rattle.linker.proofs.Shared.{shared_empty, shared_none, shared_pushed}

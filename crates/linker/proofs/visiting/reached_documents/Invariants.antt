@@ -1,6 +1,6 @@
 use Rattle.std.proofs.Common.{◌≡◌, ◌+◌, ◌-◌, length}
 use Rattle.linker.specs.SharedDocuments.{shared_documents}
-use Rattle.linker.specs.Sources.{AreSound}
+use Rattle.definitions.specs.Documents.{AreSound}
 use Rattle.linker.proofs.Visits.{IsVisit}
 use Rattle.linker.proofs.visiting.reached_documents.Given as goal
 

@@ -2,7 +2,7 @@ use Rattle.std.proofs.Common.{ap, sym, ◌∙◌, subst}
 use Rattle.std.specs.Option.{option_map}
 use Rattle.definitions.specs.Reach.{holds_resource}
 use Rattle.schema_scan.specs.CompiledDocuments.{compiled_document}
-use Rattle.linker.specs.Sources.{AreSound}
+use Rattle.definitions.specs.Documents.{AreSound}
 use Rattle.linker.proofs.Tables.{no_holder}
 use Rattle.linker.proofs.Visits.{adds_none, adds_kept}
 use Rattle.linker.proofs.visiting.visit.Goals as goal

@@ -1,6 +1,6 @@
 use Rattle.std.proofs.Common.{ap, ◌∙◌}
 use Rattle.std.specs.Ordering.{eq_by_cmp}
-use Rattle.definitions.specs.Values.{has_repeat}
+use Rattle.definitions.specs.Lists.{has_repeat}
 use Rattle.definitions.specs.Scanning.{same_anchor}
 use Rattle.schema_scan.specs.AnchorViews.{anchor_view}
 use Rattle.schema_scan.proofs.SameNames.{pair_order, same-anchors}

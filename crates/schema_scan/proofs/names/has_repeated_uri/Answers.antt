@@ -1,6 +1,7 @@
 use Rattle.std.proofs.Common.{Bor, ap, ◌∙◌}
 use Rattle.std.specs.Ordering.{eq_by_cmp}
-use Rattle.definitions.specs.Values.{Text, same_text, has_repeat}
+use Rattle.definitions.specs.Values.{Text, same_text}
+use Rattle.definitions.specs.Lists.{has_repeat}
 use Rattle.lemmas.proofs.Texts.{text_order, text_order-same}
 use Rattle.schema_scan.proofs.SeenKeys.{has_repeat-view}
 use Rattle.schema_scan.proofs.names.has_repeated_uri.Goals as goal

@@ -1,5 +1,5 @@
 use Rattle.std.proofs.Common.{◌≡◌, ◌++◌, List, map, OnOk, option_map, Bor, codes, subst, sym, ap, ◌∙◌, append_assoc}
-use Rattle.definitions.specs.Schemas.{option_list}
+use Rattle.definitions.specs.Lists.{option_list}
 use Rattle.definitions.specs.Values.{Text}
 use Rattle.json_doc.specs.Docs.{value}
 use Rattle.schema_scan.specs.PatternTexts.{names_at}

@@ -1,7 +1,7 @@
 use Rattle.std.proofs.Common.{◌≡◌, drop}
 use Rattle.std.specs.BTreeSet as tree
 use Rattle.std.specs.Ordering.{eq_by_cmp}
-use Rattle.definitions.specs.Values.{has_repeat}
+use Rattle.definitions.specs.Lists.{has_repeat}
 use Rattle.schema_scan.proofs.SeenKeys.{repeats}
 use Rattle.schema_scan.proofs.repeats.has_repeat.Given as goal
 

@@ -1,5 +1,6 @@
 use Rattle.std.proofs.Common.{◌≡◌, ◌≤◌, [], ◌++◌, true, false, subst, sym, ap, ap₂, ◌∙◌, string_bytes, arith}
-use Rattle.definitions.specs.Values.{is_object, nesting, has_repeat, same_text}
+use Rattle.definitions.specs.Values.{is_object, nesting, same_text}
+use Rattle.definitions.specs.Lists.{has_repeat}
 use Rattle.definitions.specs.Scanning.{same_anchor}
 use Rattle.definitions.specs.Uris.{recompose}
 use Rattle.faults.specs.View.{fault}

@@ -1,6 +1,7 @@
 use Rattle.std.proofs.Common.{◌≡◌, ◌==◌, map, drop, length, string_bytes}
 use Rattle.std.specs.List.{slice_split}
-use Rattle.definitions.specs.Pointers.{each, unescaped}
+use Rattle.definitions.specs.Pointers.{unescaped}
+use Rattle.definitions.specs.Lists.{each}
 use Rattle.json_doc.proofs.Unescaped.{resumed}
 use Rattle.json_doc.proofs.pointer.parsing.tokens_of.Given as goal
 

@@ -1,6 +1,7 @@
 use Rattle.std.proofs.Common.{◌≡◌, ◌∷◌, map, length, string_bytes, refl, sym, ap, subst, ◌∙◌, ◌≤◌, arith, Contains}
 use Rattle.std.proofs.lemmas.List.{nil_from_length}
-use Rattle.definitions.specs.Schemas.{below, option_list}
+use Rattle.definitions.specs.Schemas.{below}
+use Rattle.definitions.specs.Lists.{option_list}
 use Rattle.json_doc.specs.Docs.{value}
 use Rattle.locations.specs.Steps.{tokens}
 use Rattle.schema_index.specs.Descents.{led}

@@ -1,7 +1,6 @@
 //! The text of the basic output (JSON Schema 2020-12 Core, 12.4.2).
 
 ghost use Rattle.std.specs.Prelude.{◌≡◌, ◌++◌, ◌∷◌, [], true, codes, map, IfOk, IfErr, OnOk, string_bytes, length, pos};
-ghost use Rattle.definitions.specs.Bytes.{};
 ghost use Rattle.definitions.specs.Bytes.{number_sign};
 ghost use Rattle.definitions.specs.Applied.{Outcome};
 ghost use Rattle.definitions.specs.Answers.{absolute_location, output_text, unit_value, units_value};

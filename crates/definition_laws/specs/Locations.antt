@@ -1,6 +1,5 @@
 -- What a schema's absolute location names (JSON Schema 2020-12 Core, 8.2.3 and 12.3.2; RFC 6901, section 6).
 use Rattle.std.specs.Prelude.{◌≡◌, List, ◌∷◌, ◌++◌, Some, Contains}
-use Rattle.definitions.specs.Bytes.{}
 use Rattle.definitions.specs.Bytes.{number_sign}
 use Rattle.definitions.specs.Pointers.{fragment_text}
 use Rattle.definitions.specs.Uris.{without_fragment}

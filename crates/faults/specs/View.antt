@@ -1,6 +1,5 @@
 -- A fault as the definitions have it.
 use Rattle.std.specs.Prelude.{Option, Some, None, [], ◌∷◌, ◌++◌, string_bytes, decimal}
-use Rattle.definitions.specs.Bytes.{}
 use Rattle.definitions.specs.Bytes.{space}
 use Rattle.definitions.specs.Values.{Text}
 use Rattle.definitions.specs.Faults as meaning

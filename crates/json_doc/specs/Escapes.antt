@@ -1,6 +1,5 @@
 -- The bytes of a reference token that cannot stand in a pointer's text as they are (RFC 6901, section 3).
 use Rattle.std.specs.Prelude.{ℕ, Bool, ◌==◌, ◌||◌, [], ◌∷◌, Option, Some, None, if◌then◌else◌}
-use Rattle.definitions.specs.Bytes.{}
 use Rattle.definitions.specs.Bytes.{tilde, slash, digit_zero, digit_one}
 use Rattle.definitions.specs.Values.{Text}
 

@@ -1,7 +1,6 @@
 //! JSON Pointers (RFC 6901).
 
 ghost use Rattle.std.specs.Prelude.{◌≡◌, ◌-◌, [], Some, ◌∷◌, ◌++◌, IsTrue, IfOk, IfErr, OnOk, OnErr, flat_map, length, map, position, string_bytes, take};
-ghost use Rattle.definitions.specs.Bytes.{};
 ghost use Rattle.definitions.specs.Bytes.{slash};
 ghost use Rattle.definitions.specs.Pointers.{escaped_byte, pointer_of, pointer_text};
 ghost use Rattle.json_doc.specs.Escapes.{is_escaped};

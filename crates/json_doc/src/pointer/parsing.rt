@@ -2,7 +2,6 @@
 
 ghost use Rattle.std.specs.Prelude.{◌≡◌, ◌≢◌, ◌==◌, Some, None, IfOk, IfErr, map, string_bytes};
 ghost use Rattle.std.specs.List.{slice_split};
-ghost use Rattle.definitions.specs.Bytes.{};
 ghost use Rattle.definitions.specs.Bytes.{slash};
 ghost use Rattle.definitions.specs.Pointers.{pointer_of, unescaped};
 ghost use Rattle.definitions.specs.Lists.{each};

@@ -124,7 +124,7 @@ root_answers matches ds es x l None (Some t) h held = absurd h
 root_answers matches ds es x l (Some s) None h held = absurd h
 root_answers matches ds es x l (Some s) (Some t) h held =
     ap (answer_of limits.applications)
-    (alike_tables_give_the_same (rules_of matches []) ds es (λ k j. j) l limits.nested (first_application s x) t (contains_from_in (table_of ds) s (held s refl)) h
+    (alike_tables_give_the_same (rules_of matches []) ds es (λ k j. j) l limits.nested_applications (first_application s x) t (contains_from_in (table_of ds) s (held s refl)) h
     (λ uri j. absurd (in_from_contains [] uri j)))
 
 pub alike_tables_answer_the_same : AlikeTablesAnswerTheSame

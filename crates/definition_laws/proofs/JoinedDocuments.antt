@@ -10,7 +10,7 @@ use Rattle.std.specs.Ordering.{nat_cmp}
 use Rattle.definitions.specs.Values.{Text, same_text}
 use Rattle.definitions.specs.Lists.{has_repeat}
 use Rattle.definitions.specs.Schemas.{Document}
-use Rattle.definitions.specs.Documents.{document_of, others_of, placed, joined, placed_all}
+use Rattle.definitions.specs.Documents.{document_of, others_of, placed, joined, placed_all, Ascend}
 use Rattle.definition_laws.proofs.Membership.{nothing_in, is_first, is_later, first_or_later, in_filter, from_filter, in_map, found_some}
 use Rattle.definition_laws.proofs.Repeats.{none_of}
 use Rattle.definition_laws.proofs.Resources.{same_text-unlike}

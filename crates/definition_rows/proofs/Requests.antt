@@ -205,10 +205,10 @@ body_that_fits = refl
 body_too_large : body_within (record limits { body_bytes = 3 }) (codes "null") ≡ Err too_large
 body_too_large = refl
 
-bundle_that_fits : sized_within (record limits { bundle_bytes = 6 }) (string (codes "abcd")) ≡ Ok (string (codes "abcd"))
+bundle_that_fits : sized_within (record limits { bundle_bytes = 4 }) null ≡ Ok null
 unfolding digits is_utf8 chars
 bundle_that_fits = refl
 
-bundle_of_too_many_bytes : sized_within (record limits { bundle_bytes = 5 }) (string (codes "abcd")) ≡ Err bundle_too_large
+bundle_of_too_many_bytes : sized_within (record limits { bundle_bytes = 3 }) null ≡ Err bundle_too_large
 unfolding digits is_utf8 chars
 bundle_of_too_many_bytes = refl

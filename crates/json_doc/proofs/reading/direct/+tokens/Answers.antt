@@ -15,7 +15,8 @@ use Rattle.json_doc.specs.Gathers.{gathered_view}
 use Rattle.json_doc.specs.Members.{put}
 use Rattle.json_doc.specs.Reads.{elements_at}
 use Rattle.json_doc.specs.declared.doc.Doc.{Int, Bool, Null, the_lemmas}
-use Rattle.json_doc.proofs.Views.{value-Str, value-List, value-Dict, to_members-members_list}
+use Rattle.json_doc.proofs.Views.{value-Str, value-List, value-Dict}
+use Rattle.lemmas.proofs.Members.{to_members-members_list}
 use Rattle.json_doc.proofs.TokenReads.{converted-List, converted-Dict, element_read, elements_over, elements_before, elements_before-no_elements, one_more_element, none_before, AreRead, AreRead-put, member_put, members_read, number_at}
 use Rattle.json_doc.proofs.reading.direct.+tokens.Goals as goal
 

@@ -11,10 +11,10 @@ pub use canonical_uris::{
 };
 pub use registered::{
     courses_keep_base_texts, libraries_have_base_texts, reached_documents_are_registered,
-    steps_keep_base_texts,
+    registered_documents_are_identified, steps_keep_base_texts,
 };
 pub use served::replied_bundles_answer_the_same;
 pub use standing::{
     bundles_are_regular, bundles_are_stored, bundles_pass_the_scan, bundles_stand_alone,
-    registered_documents_are_whole,
+    identified_documents_are_whole,
 };

@@ -12,14 +12,14 @@ use Rattle.linker.proofs.linking.link.Goals as goal
 pub judge-requires : goal.judge-requires
 judge-requires g c =
     ap (λ ds. has_repeat same_text (resource_uris (table_of ds))) (ap shared_documents c.deref.ensures.value ∙ c.in_ok-documents.ensures.ok)
-    ∙ reached_table (g.S.Source.documents c.args.source.now) c.args.resource.now c.in_ok-documents.ensures.sound
+    ∙ reached_table (g.S.Source.documents c.args.source.now) c.args.resource.now (g.met.S.Source.sound c.args.source.now)
 
 pub invariant_of-result : goal.invariant_of-result
 invariant_of-result g c =
     let ds = shared_documents c.in_ok-documents.documents.items in
     let linked : IsLinked ds (string_bytes c.in_ok-uri.uri) =
     subst (IsLinked ds) (sym c.in_ok-uri.ensures.ok)
-    (is_linked (g.S.Source.documents c.args.source.now) ds c.args.resource.now c.in_ok-documents.ensures.sound c.in_ok-documents.ensures.ok
+    (is_linked (g.S.Source.documents c.args.source.now) ds c.args.resource.now (g.met.S.Source.sound c.args.source.now) c.in_ok-documents.ensures.ok
     (subst (λ xs. link_fault (shared_documents xs) ≡ None) c.deref.ensures.value c.in_ok-judge.ensures.ok)) in
     record { ascend = linked.ascend; distinct = linked.distinct; whole = linked.whole; asked = linked.asked }
 

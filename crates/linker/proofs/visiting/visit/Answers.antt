@@ -1,8 +1,7 @@
-use Rattle.std.proofs.Common.{ap, sym, ◌∙◌, subst}
+use Rattle.std.proofs.Common.{ap, sym, ◌∙◌}
 use Rattle.std.specs.Option.{option_map}
 use Rattle.definitions.specs.Reach.{holds_resource}
 use Rattle.schema_scan.specs.CompiledDocuments.{compiled_document}
-use Rattle.definitions.specs.Documents.{AreSound}
 use Rattle.linker.proofs.Tables.{no_holder}
 use Rattle.linker.proofs.Visits.{adds_none, adds_kept}
 use Rattle.linker.proofs.visiting.visit.Goals as goal
@@ -10,7 +9,7 @@ use Rattle.linker.proofs.visiting.visit.Goals as goal
 pub returns-in_ok-keep-in-Some-clause-ok : goal.returns-in_ok-keep-in-Some-clause-ok
 returns-in_ok-keep-in-Some-clause-ok g c =
     adds_kept (g.S.Source.documents c.args.source.now) c.args.uri.now (compiled_document c.in-Some.document.value) _ _ _ _
-    (subst AreSound c.holding.ensures.same c.holding.ensures.sound) c.requires
+    (g.met.S.Source.sound c.args.source.now) c.requires
     (sym c.in_ok-document.ensures.held ∙ ap (option_map (λ d. compiled_document d.value)) c.in-Some.is)
     c.in_ok-keep-in-Some.ensures
 

@@ -5,7 +5,7 @@ use Rattle.schema_scan.specs.CompiledDocuments.{compiled_document, compiled_base
 use Rattle.linker.specs.SharedDocuments.{shared_documents}
 use Rattle.linker.specs.Sources.{shares_resource}
 use Rattle.linker.proofs.Adding.{IsSoundList, kept_or_put, sound_after, unfound}
-use Rattle.linker.proofs.Sound.{shared_made}
+use Rattle.linker.specs.SoundLists.{shared_made}
 use Rattle.linker.proofs.list_source.ListSource.add.Goals as goal
 
 pub invariant_of-self : goal.invariant_of-self

@@ -7,6 +7,7 @@ ghost use Rattle.linker.specs.SharedDocuments.{shared_documents};
 ghost use Rattle.definitions.specs.Documents.{Ascend};
 ghost use Rattle.linker.specs.Visits.{Adds, IsPart, Keeps};
 
+use crate::holders::is_held;
 use crate::placing::place;
 use crate::source::Source;
 use faults::Fault;
@@ -34,7 +35,7 @@ pub(crate) fn reached_documents<S: Source>(
     Ok(reached)
 }
 
-// Follows the references of a document: each is looked up in the source once.
+// Follows the references of a document.
 fn follow<S: Source>(
     alloc: Global,
     source: &mut S,
@@ -53,7 +54,7 @@ fn follow<S: Source>(
     Ok(())
 }
 
-// Looks a URI up in the source, and keeps the document that has it.
+// Looks a URI up in the source, unless a reached document has it, and keeps the document that has it.
 fn visit<S: Source>(
     alloc: Global,
     source: &mut S,
@@ -66,6 +67,9 @@ fn visit<S: Source>(
     ensures err { IfErr result (λ f. f ≡ Fault.NoRoom) }
     ensures same { S.documents source.new ≡ S.documents source.old }
 {
+    if is_held(reached, uri) {
+        return Ok(());
+    }
     match source.holding(alloc, uri)? {
         Some(document) => Ok(keep(document, reached, waiting)?),
         None => Ok(()),

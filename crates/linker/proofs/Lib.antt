@@ -5,7 +5,7 @@ pub mod CutTexts
 pub mod Patterns
 pub mod NamedSchemas
 pub mod Shared
-pub mod Sound
+pub mod CanonicalHolders
 pub mod Positions
 pub mod Adding
 pub mod Visits

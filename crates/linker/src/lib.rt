@@ -6,6 +6,7 @@ mod holders;
 mod judging;
 mod linked;
 mod linking;
+mod list_holding;
 mod list_source;
 mod lookups;
 mod placing;

@@ -12,3 +12,4 @@ pub mod Visits
 pub mod Least
 pub mod Judged
 pub mod LinkFaults
+pub mod BothSources

@@ -85,7 +85,7 @@ placed_itself_at d e es Less more = is_first d (e ∷ es)
 placed_itself_at d e es Equal more = is_first d es
 placed_itself_at d e es Greater more = is_later e d (placed d es) more
 
-placed_itself : (d : Document) (ds : List Document) → Contains (placed d ds) d
+pub placed_itself : (d : Document) (ds : List Document) → Contains (placed d ds) d
 placed_itself d [] = is_first d []
 placed_itself d (e ∷ es) = placed_itself_at d e es (slice_cmp nat_cmp d.canonical e.canonical) (placed_itself d es)
 

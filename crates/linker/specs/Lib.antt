@@ -9,3 +9,4 @@ pub mod Visits
 pub mod Missing
 pub mod LinkFaults
 pub mod SoundLists
+pub mod Together

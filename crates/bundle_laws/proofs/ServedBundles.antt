@@ -1,5 +1,5 @@
 -- A bundle that a registry replies answers alone as the registry does.
-use Rattle.std.proofs.Common.{◌≡◌, ◌<◌, ◌≤◌, ◌||◌, ◌++◌, List, [], ◌∷◌, Bool, true, false, cond, Option, Some, None, Result, Ok, Err, is_some, is_none, length, codes, refl, sym, ap, ap₂, subst, ◌∙◌, inl, inr}
+use Rattle.std.proofs.Common.{◌≡◌, ◌<◌, ◌≤◌, ◌++◌, List, [], ◌∷◌, Bool, true, false, cond, Option, Some, None, Result, Ok, Err, is_some, is_none, length, codes, refl, sym, ap, ap₂, subst, ◌∙◌, inl, inr}
 use Rattle.std.specs.List.{flat_map, filter}
 use Rattle.definitions.specs.Values.{Text, Value, same_text}
 use Rattle.definitions.specs.Texts.{text}
@@ -13,7 +13,7 @@ use Rattle.definitions.specs.Bundles.{bundle}
 use Rattle.definitions.specs.Documents.{document_of}
 use Rattle.definitions.specs.Answers.{answer}
 use Rattle.definitions.specs.Alike.{AreAlike}
-use Rattle.definitions.specs.Registries.{Registry, documents_seen, Reply, put, validate, bundled_from, bundled, refused, for_base, for_value, body_value, unless_missing, linked, answered, made, validation, bundling}
+use Rattle.definitions.specs.Registries.{Registry, documents_seen, Reply, put, validate, bundled, refused, for_base, for_value, body_value, unless_missing, linked, answered, made, validation, bundling}
 use Rattle.definitions.specs.Searches.{Search}
 use Rattle.definitions.specs.Steps.{step}
 use Rattle.definitions.specs.Tenants.{Tenant, empty_registry}
@@ -24,7 +24,6 @@ use Rattle.definition_laws.proofs.Targets.{alike_reference}
 use Rattle.definition_laws.proofs.LeastTexts.{no_least}
 use Rattle.definition_laws.proofs.StoredDocuments.{holds_itself}
 use Rattle.definition_laws.proofs.Bundled.{bundle_corresponds, bundles_are_alike}
-use Rattle.bundle_laws.specs.Registered.{AreRegistered}
 use Rattle.bundle_laws.specs.Standing.{IsBundle}
 use Rattle.bundle_laws.specs.Served.{RepliedBundlesAnswerTheSame}
 use Rattle.bundle_laws.proofs.RegisteredDocuments.{registered_documents_are_whole}

@@ -1,5 +1,5 @@
 -- A bundle of documents of a registry stands alone (JSON Schema 2020-12 Core, 9.3).
-use Rattle.std.specs.Prelude.{◌≡◌, ◌↔◌, ◌<◌, ◌≤◌, ℕ, List, [], ◌∷◌, Bool, false, Ok, None, IsTrue, Contains, length}
+use Rattle.std.specs.Prelude.{◌≡◌, ◌↔◌, ◌<◌, ◌≤◌, List, [], ◌∷◌, Bool, false, Ok, None, IsTrue, Contains, length}
 use Rattle.definitions.specs.Values.{Text, Value}
 use Rattle.definitions.specs.Texts.{text}
 use Rattle.definitions.specs.Resolution.{base_form}

@@ -1,6 +1,6 @@
 -- Bodies of as many bytes as there may be, and of one more.
-use Rattle.std.proofs.Common.{◌≡◌, ℕ, refl, ap}
-use Rattle.std.specs.Prelude.{List, [], ◌∷◌, codes, length, replicate, Err, None}
+use Rattle.std.proofs.Common.{◌≡◌, refl}
+use Rattle.std.specs.Prelude.{codes, length, replicate, Err}
 use Rattle.std.proofs.lemmas.List.{length-replicate}
 use Rattle.definitions.specs.Bytes.{space}
 use Rattle.definitions.specs.Values.{Text}

@@ -9,7 +9,7 @@ use Rattle.regex_hir.specs.Re.{attempt, rounds}
 use Rattle.regex.proofs.OnLiterals.{regex_on_literals}
 use Rattle.serde_json.proofs.OnLiterals.{serde_json_on_literals}
 use Rattle.definitions.specs.Limits.{limits}
-use Rattle.definitions.specs.Values.{null, string}
+use Rattle.definitions.specs.Values.{null}
 use Rattle.definitions.specs.Faults.{too_large, bundle_too_large}
 use Rattle.definitions.specs.Outcomes.{object_outcome, outcome}
 use Rattle.definitions.specs.Bundles.{sized_within}

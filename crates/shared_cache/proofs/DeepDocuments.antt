@@ -1,5 +1,5 @@
 -- The scan refuses a document that nests too deep.
-use Rattle.std.proofs.Common.{◌≡◌, ◌<◌, Bool, true, false, Some, None, refl, sym, ◌∙◌, arith, nat_lt}
+use Rattle.std.proofs.Common.{◌≡◌, ◌<◌, Bool, true, false, None, refl, sym, ◌∙◌, arith, nat_lt}
 use Rattle.std.proofs.lemmas.Bool.Decides.{nat_tests}
 use Rattle.std.proofs.lemmas.Option.{none-some}
 use Rattle.definitions.specs.Scanning.{scan_fault}

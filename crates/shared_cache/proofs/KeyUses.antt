@@ -1,5 +1,5 @@
 -- What a look-up, a promotion and an insertion do to the keys.
-use Rattle.std.proofs.Common.{◌≡◌, ◌≤◌, ◌<◌, ◌-◌, ◌&&◌, ℕ, zero, suc, Bool, true, false, not, cond, List, [], ◌∷◌, map, take, length, Option, Some, None, Result, Ok, Err, ◌⊎◌, inl, inr, Global, bytes_eq, refl, sym, ap, ap₂, subst, ◌∙◌, arith}
+use Rattle.std.proofs.Common.{◌≡◌, ◌≤◌, ◌<◌, ◌-◌, ℕ, zero, suc, Bool, true, false, not, cond, List, [], ◌∷◌, map, take, length, Some, None, Result, Ok, Err, ◌⊎◌, inl, inr, Global, bytes_eq, refl, sym, ap, ap₂, subst, ◌∙◌, arith}
 use Rattle.std.proofs.lemmas.Bool.{and_parts}
 use Rattle.std.proofs.lemmas.List.{take_all}
 use Rattle.std.proofs.lemmas.Option.{same_Some, none-some}
@@ -8,7 +8,7 @@ use Rattle.std.specs.List.{AllByRecursion, IsDistinct, filter, list_any}
 use Rattle.std.specs.Result.{OnOk, OnErr}
 use Rattle.std.specs.Map.{keys_of, lookup, lookup_entry, remove_entry}
 use Rattle.std.specs.declared.rc.Rc.{Rc}
-use Rattle.lru.specs.LruCache.{IsValid, lru_cache, promoted, put_entries}
+use Rattle.lru.specs.LruCache.{IsValid, lru_cache}
 use Rattle.definitions.specs.Caches.{CacheKey, same_key}
 use Rattle.schema_scan.specs.declared.compiled.Compiled.{Compiled}
 use Rattle.shared_cache.specs.Entries.{Entry, IsMadeBy, AreMade}

@@ -7,9 +7,10 @@ use Rattle.shared_cache.proofs.ReadValues.{read_as, one_value, sound_as, regular
 use Rattle.shared_cache.proofs.cache.Cache.compiled_as.Goals as goal
 
 pub keep-requires-clause-made : goal.keep-requires-clause-made
-keep-requires-clause-made c =
-    (c.in_ok-made-in-None.ensures.base ∙ c.split.ensures.recomposes ∙ c.base.ensures ∙ ap (λ (l : CacheKey). l.0) c.deref-in-None.ensures,
-     read_as c.args.key.now.value.1 (value c.args.document.now) c.requires ∙ ap (λ (v : Value). Ok v) (sym c.in_ok-made-in-None.ensures.value))
+keep-requires-clause-made c = (
+  c.in_ok-made-in-None.ensures.base ∙ c.split.ensures.recomposes ∙ c.base.ensures ∙ ap (λ (l : CacheKey). l.0) c.deref-in-None.ensures,
+  read_as c.args.key.now.value.1 (value c.args.document.now) c.requires ∙ ap (λ (v : Value). Ok v) (sym c.in_ok-made-in-None.ensures.value),
+)
 
 pub returns-in-Some-clause-value : goal.returns-in-Some-clause-value
 returns-in-Some-clause-value c =

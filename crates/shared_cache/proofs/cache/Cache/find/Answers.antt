@@ -27,7 +27,7 @@ returns-in_ok-found-in-Some-clause-used c =
     let s : Stands k es c.in-Some.found.now = stands k es c.in-Some.found.now c.self.invariant (sym c.in-Some.ensures) in
     let valid : IsValid equal (lru_cache (s.entry ∷ remove_entry (test k) es) n) = rw (c.promote.ensures.entries, s.found) at c.len.ensures.valid in
     rw (← c.self.view_is, c.promote.ensures.entries, s.found)
-      (ap (λ (ks : List CacheKey). record { keys = ks; capacity = n }) (promoted_keys k s.entry es n s.is_key valid))
+    (ap (λ (ks : List CacheKey). record { keys = ks; capacity = n }) (promoted_keys k s.entry es n s.is_key valid))
 
 pub returns-in-None-clause-absent : goal.returns-in-None-clause-absent
 returns-in-None-clause-absent c = λ _. rw (← c.self.view_is) (absent_from_lookup c.args.key.now c.self.inside.entries.entries (sym c.in-None.ensures))

@@ -1,4 +1,4 @@
-use Rattle.std.proofs.Common.{◌≡◌, ◌∷◌, ◌-◌, ◌⊎◌, List, refl, ap, inl, inr, take}
+use Rattle.std.proofs.Common.{◌≡◌, ◌-◌, ◌⊎◌, List, refl, ap, inl, inr}
 use Rattle.lru.specs.LruCache.{lru_cache, put_entries}
 use Rattle.definitions.specs.Caches.{CacheKey}
 use Rattle.shared_cache.proofs.KeyUses.{Shared, Kept, IsNew, is_new, equal, made_take, put_keys, put_or_not}

@@ -31,8 +31,8 @@ fn each_element_is_reported(rt: HostRuntime) -> Result<(), Fail> {
     }
     zeros.push(']')?;
     let uri = "https://ex.org/s";
-    let documents = [(uri, r#"{"items":{"type":"null"}}"#)];
-    let text = answer(alloc, documents.as_slice(), uri, zeros.as_str())?;
+    let documents = &[(uri, r#"{"items":{"type":"null"}}"#)];
+    let text = answer(alloc, documents, uri, zeros.as_str())?;
     assert_eq!(rt; text.len(), LENGTH);
     let head = format!(in alloc; "{HEAD}{FIRST}{SECOND}")?;
     assert!(rt; text.as_str().starts_with(head.as_str()));

@@ -16,8 +16,8 @@ pub fn compiled(alloc: Global, base: &str, document: &str) -> Result<Rc<Compiled
     Ok(Rc::new(alloc, document)?)
 }
 
-// A list of documents, each with the URI that it stands under.
-fn listed(alloc: Global, documents: &[(&str, &str)]) -> Result<ListSource, Fail> {
+/// A list of documents, each with the URI that it stands under.
+pub fn listed(alloc: Global, documents: &[(&str, &str)]) -> Result<ListSource, Fail> {
     let mut source = ListSource::new(alloc);
     for (base, text) in documents {
         source.add(compiled(alloc, base, text)?)?;

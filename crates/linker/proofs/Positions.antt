@@ -12,7 +12,7 @@ use Rattle.std.specs.List.Sorted.{IsStrictlySortedBy, IsSearchInRange, IsBinaryS
 use Rattle.definitions.specs.Values.{Text, same_text}
 use Rattle.definitions.specs.Lists.{has_repeat}
 use Rattle.definitions.specs.Schemas.{Document}
-use Rattle.definitions.specs.Documents.{document_of}
+use Rattle.definitions.specs.Documents.{document_of, Ascend}
 use Rattle.definition_laws.proofs.Membership.{nothing_in, first_or_later, in_map, one_of, found_there, found_some, found_none}
 use Rattle.definition_laws.proofs.Placing.{inserted, ascending_distinct}
 use Rattle.definition_laws.proofs.PlacedDocuments.{key_of, as_inserted, tied}

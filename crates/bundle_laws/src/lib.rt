@@ -1,5 +1,5 @@
-//! Laws that rest on lemmas of `json_doc` and `uri_ref`: of equal values, of canonical URIs, and of bundles of the
-//! documents of a registry. Each is the contract of a function that does nothing.
+//! Laws that rest on lemmas of `json_doc` and `uri_ref`: of equal values, of canonical URIs, and of bundles. Each is the
+//! contract of a function that does nothing.
 #![tactic(auto)]
 
 mod canonical_uris;

@@ -1,4 +1,3 @@
-pub mod Appended
 pub mod EntryLaws
 pub mod KeptLaws
 pub mod OutputTexts

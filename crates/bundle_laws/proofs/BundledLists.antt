@@ -16,7 +16,8 @@ use Rattle.definition_laws.proofs.Occurrences.{IsIn}
 use Rattle.definition_laws.proofs.Targets.{alike_resource, alike_pointer, alike_get}
 use Rattle.definition_laws.proofs.MembersPut.{put_other_entry, members_with}
 use Rattle.definition_laws.proofs.BundledDocuments.{root_schema, opened_there, under_id, under_unbundled, new_defs, members-new, members-bundle, embedded_from, IsApart}
-use Rattle.bundle_laws.proofs.Collected.{flat_same, flat_mapped, collected, held, by_members, put_nothing, put_new, put_more, moved_front, ascending_members}
+use Rattle.definition_laws.proofs.FlatMaps.{same_flat_map}
+use Rattle.bundle_laws.proofs.Collected.{flat_mapped, collected, held, by_members, put_nothing, put_new, put_more, moved_front, ascending_members}
 
 -- ---- lists of a schema that alike schemas have in common
 abbrev pub IsCommon : {B : Type 0} → (Schema → List B) → Type 0
@@ -100,7 +101,7 @@ module _ {B : Type 0} (f : Schema → List B) (common : IsCommon f) where
       let is : held f n root.canonical (codes "$defs", new_defs root es) ≡ flat_map h (embedded es (defs_of root.value)) =
       of_defs n root.canonical (new_defs root es) ∙ ap (flat_map h) (members-new root es) in
       let own : flat_map (λ d. h (d.canonical, under_its_uri d)) es ≡ flat_map (λ d. collected f n (root_schema d.canonical d.value)) es =
-      flat_same (λ d. h (d.canonical, under_its_uri d)) (λ d. collected f n (root_schema d.canonical d.value)) es (λ d i. of_embedded n root.canonical d (fit d i)) in
+      same_flat_map (λ d. h (d.canonical, under_its_uri d)) (λ d. collected f n (root_schema d.canonical d.value)) es (λ d i. of_embedded n root.canonical d (fit d i)) in
       subst (λ l. IsPermutation l (flat_map (λ d. collected f n (root_schema d.canonical d.value)) es ++ flat_map h (defs_of root.value))) (sym is)
       (subst (λ l. IsPermutation (flat_map h (embedded es (defs_of root.value))) (l ++ flat_map h (defs_of root.value))) own (embedded_moved h es (defs_of root.value) unlike apart))
 

@@ -26,7 +26,9 @@ use Rattle.definition_laws.proofs.Bundled.{own_root_is, own_root_in, IsMade, top
 use Rattle.bundle_laws.specs.Registered.{AreIdentified}
 use Rattle.bundle_laws.proofs.RegisteredDocuments.{identified_scanned}
 use Rattle.bundle_laws.proofs.Walks.{all_from}
-use Rattle.bundle_laws.proofs.Collected.{flat_same, flat_mapped, flat_flat, collected, of_schemas}
+use Rattle.definition_laws.proofs.ReachedSets.{same_text-back}
+use Rattle.definition_laws.proofs.FlatMaps.{same_flat_map}
+use Rattle.bundle_laws.proofs.Collected.{flat_mapped, flat_flat, collected, of_schemas}
 use Rattle.bundle_laws.proofs.BundledLists.{IsCommon, root_uri, root_uri_common, anchors_common, patterns_common, uris_listed, AreUnlike, IsFit, bundle_moved}
 
 -- ---- sameness of names
@@ -36,13 +38,10 @@ either_way true false h k = sym (h refl)
 either_way false true h k = k refl
 either_way false false h k = refl
 
-turned : (t u : Text) → same_text t u ≡ true → same_text u t ≡ true
-turned t u h = subst (λ w. same_text w t ≡ true) (same_text_is t u h) (same_text_itself t)
-
 text_laws : IsEquivalence same_text
 text_laws = record {
   refl = same_text_itself;
-  symm = λ t u. either_way (same_text t u) (same_text u t) (turned t u) (turned u t);
+  symm = λ t u. either_way (same_text t u) (same_text u t) (same_text-back t u) (same_text-back u t);
   congr = λ t u w h. ap (λ x. same_text x w) (same_text_is t u h);
 }
 
@@ -151,7 +150,7 @@ module _ (search : Search) (ds : List Document) (r : AreIdentified search ds) wh
           let whole : flat_map f (schemas_of base v) ≡ collected f (suc n) (root_schema root.canonical v) =
           of_schemas f base v (suc n) (omega arith) ∙ ap (collected f (suc n)) (top_is ds root es made base) in
           let others : flat_map (λ d. collected f n (root_schema d.canonical d.value)) es ≡ flat_map in_document es =
-          flat_same (λ d. collected f n (root_schema d.canonical d.value)) in_document es
+          same_flat_map (λ d. collected f n (root_schema d.canonical d.value)) in_document es
           (λ d i. let small : nesting d.value < depth (root ∷ es) = within (root ∷ es) d (inr i) in own_collected n d (made.others_in d i) (omega arith)) in
           let first : collected f (suc n) (root_schema root.canonical root.value) ≡ in_document root =
           (let small : nesting root.value < depth (root ∷ es) = within (root ∷ es) root (inl refl) in own_collected (suc n) root made.root_in (omega arith)) in
@@ -170,7 +169,7 @@ module _ (search : Search) (ds : List Document) (r : AreIdentified search ds) wh
 
     module _ (found : document_of ds uri ≡ Some root) where
       listed : (es : List Document) → flat_map (in_document root_uri root_uri_common) es ≡ uris_in es
-      listed es = flat_same (in_document root_uri root_uri_common) resources_of es (λ d i. sym (uris_listed (schemas_of d.base d.value)))
+      listed es = same_flat_map (in_document root_uri root_uri_common) resources_of es (λ d i. sym (uris_listed (schemas_of d.base d.value)))
 
       pub uris_once : has_repeat same_text (resource_uris (schemas_of base v)) ≡ false
       uris_once =
@@ -193,7 +192,7 @@ by_value : (s : Schema) (n : ℕ) → flat_map (λ t. collected patterns_of n t.
     ≡ flat_map (λ m. flat_map (λ e. collected patterns_of n (below s (m.0 ∷ e.0) e.1)) (places m.1 (shape_in keywords m.0))) (members s.value)
 by_value s n =
     flat_flat (λ t. collected patterns_of n t.1) (λ m. at_place s m.0 m.1 (shape_in keywords m.0)) (members s.value)
-    ∙ flat_same (λ m. flat_map (λ t. collected patterns_of n t.1) (at_place s m.0 m.1 (shape_in keywords m.0)))
+    ∙ same_flat_map (λ m. flat_map (λ t. collected patterns_of n t.1) (at_place s m.0 m.1 (shape_in keywords m.0)))
     (λ m. flat_map (λ e. collected patterns_of n (below s (m.0 ∷ e.0) e.1)) (places m.1 (shape_in keywords m.0))) (members s.value)
     (λ m i. ap (flat_map (λ t. collected patterns_of n t.1)) (at_place_is s m.0 m.1 (shape_in keywords m.0))
     ∙ flat_mapped (λ t. collected patterns_of n t.1) (stepped s m.0) (places m.1 (shape_in keywords m.0)))
@@ -205,9 +204,9 @@ patterns_by_value (suc n) s t e =
     ap₂ (λ a b. a ++ b) (ap (λ w. patterns_of (record t { value = w })) e)
     (by_value s n
     ∙ ap (λ w. over s (members w)) e
-    ∙ flat_same (λ m. flat_map (λ e. collected patterns_of n (below s (m.0 ∷ e.0) e.1)) (places m.1 (shape_in keywords m.0)))
+    ∙ same_flat_map (λ m. flat_map (λ e. collected patterns_of n (below s (m.0 ∷ e.0) e.1)) (places m.1 (shape_in keywords m.0)))
     (λ m. flat_map (λ e. collected patterns_of n (below t (m.0 ∷ e.0) e.1)) (places m.1 (shape_in keywords m.0))) (members t.value)
-    (λ m i. flat_same (λ e. collected patterns_of n (below s (m.0 ∷ e.0) e.1)) (λ e. collected patterns_of n (below t (m.0 ∷ e.0) e.1)) (places m.1 (shape_in keywords m.0))
+    (λ m i. same_flat_map (λ e. collected patterns_of n (below s (m.0 ∷ e.0) e.1)) (λ e. collected patterns_of n (below t (m.0 ∷ e.0) e.1)) (places m.1 (shape_in keywords m.0))
     (λ x j. patterns_by_value n (below s (m.0 ∷ x.0) x.1) (below t (m.0 ∷ x.0) x.1) (value-below s (m.0 ∷ x.0) x.1 ∙ sym (value-below t (m.0 ∷ x.0) x.1))))
     ∙ sym (by_value t n))
 

@@ -15,6 +15,7 @@ use Rattle.definitions.specs.Schemas.{Schema, schema_at, at_place, subschemas_by
 use Rattle.definitions.specs.Bundles.{put_member}
 use Rattle.definition_laws.specs.Identities.{IsDefinite}
 use Rattle.definition_laws.proofs.Occurrences.{IsIn}
+use Rattle.definition_laws.proofs.FlatMaps.{same_flat_map}
 use Rattle.definition_laws.proofs.Places.{places, stepped, at_place_is, step_from, before_all}
 use Rattle.lemmas.proofs.Members.{member_parts}
 use Rattle.definition_laws.proofs.Roots.{step_nests}
@@ -33,10 +34,6 @@ pub flat_mapped : {A B C : Type 0} (f : B → List C) (g : A → B) (xs : List A
 flat_mapped f g [] = refl
 flat_mapped f g (x ∷ xs) = ap (λ rest. f (g x) ++ rest) (flat_mapped f g xs)
 
-pub flat_same : {A B : Type 0} (f g : A → List B) (xs : List A) → ((x : A) → IsIn x xs → f x ≡ g x) → flat_map f xs ≡ flat_map g xs
-flat_same f g [] h = refl
-flat_same f g (x ∷ xs) h = ap₂ (λ a b. a ++ b) (h x (inl refl)) (flat_same f g xs (λ y i. h y (inr i)))
-
 module _ {B : Type 0} (f : Schema → List B) where
   -- of so many levels
   abbrev pub collected : ℕ → Schema → List B
@@ -48,14 +45,14 @@ module _ {B : Type 0} (f : Schema → List B) where
   collected_is (suc n) way s =
       ap (λ rest. f s ++ rest)
       (flat_flat (λ t. f t.1) (λ t. schemas_within keywords n (way ++ t.0) t.1) (subschemas_by keywords s)
-      ∙ flat_same (λ t. flat_map (λ u. f u.1) (schemas_within keywords n (way ++ t.0) t.1)) (λ t. collected n t.1) (subschemas_by keywords s) (λ t i. collected_is n (way ++ t.0) t.1))
+      ∙ same_flat_map (λ t. flat_map (λ u. f u.1) (schemas_within keywords n (way ++ t.0) t.1)) (λ t. collected n t.1) (subschemas_by keywords s) (λ t i. collected_is n (way ++ t.0) t.1))
 
   -- so many levels that none is left
   pub collected_all : (n m : ℕ) (s : Schema) → nesting s.value < n → nesting s.value < m → collected n s ≡ collected m s
   collected_all zero m s l k = absurd (omega arith)
   collected_all (suc n) zero s l k = absurd (omega arith)
   collected_all (suc n) (suc m) s l k =
-      ap (λ rest. f s ++ rest) (flat_same (λ t. collected n t.1) (λ t. collected m t.1) (subschemas_by keywords s)
+      ap (λ rest. f s ++ rest) (same_flat_map (λ t. collected n t.1) (λ t. collected m t.1) (subschemas_by keywords s)
       (λ t i. let deeper = step_nests keywords s t.1 t.0 (step_from keywords s t.1 t.0 i) in collected_all n m t.1 (omega arith) (omega arith)))
 
   pub of_schemas : (base : Text) (v : Value) (n : ℕ) → nesting (schema_at base [] v).value < n → flat_map f (schemas_of base v) ≡ collected n (schema_at base [] v)
@@ -71,7 +68,7 @@ module _ {B : Type 0} (f : Schema → List B) where
   by_members n uri v =
       ap (λ rest. f (root_schema uri v) ++ rest)
       (flat_flat (λ t. collected n t.1) (λ m. at_place (root_schema uri v) m.0 m.1 (shape_in keywords m.0)) (members v)
-      ∙ flat_same (λ m. flat_map (λ t. collected n t.1) (at_place (root_schema uri v) m.0 m.1 (shape_in keywords m.0))) (held n uri) (members v)
+      ∙ same_flat_map (λ m. flat_map (λ t. collected n t.1) (at_place (root_schema uri v) m.0 m.1 (shape_in keywords m.0))) (held n uri) (members v)
       (λ m i. ap (flat_map (λ t. collected n t.1)) (at_place_is (root_schema uri v) m.0 m.1 (shape_in keywords m.0))
       ∙ flat_mapped (λ t. collected n t.1) (stepped (root_schema uri v) m.0) (places m.1 (shape_in keywords m.0))))
 

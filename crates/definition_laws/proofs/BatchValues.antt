@@ -11,6 +11,7 @@ use Rattle.definitions.specs.Batches.{Entry, entry_in, entries_in, some_entries,
 use Rattle.definition_laws.specs.Reading.{has_arrays_within, have_arrays_within, members_have_arrays_within}
 use Rattle.definition_laws.specs.Keeping.{IsBodyValue}
 use Rattle.definition_laws.proofs.Membership.{nothing_in, is_first, is_later, first_or_later}
+use Rattle.definition_laws.proofs.TextGrammar.{chained}
 use Rattle.definition_laws.proofs.ReadValues.{under, body_well_formed}
 use Rattle.definition_laws.proofs.ShortArrays.{body_short}
 
@@ -55,17 +56,13 @@ got_formed name (array vs) w body e = cc
 got_formed name (object ms) w body e = member_formed name ms w body.well_formed body.short_arrays e
 
 -- ---- entries
-bound : {A B : Type 0} (f : A → Option B) (o : Option A) (b : B) → option_and_then f o ≡ Some b → (a : A) × ((o ≡ Some a) × (f a ≡ Some b))
-bound f (Some a) b e = (a, (refl, e))
-bound f None b e = cc
-
 from_each : {A B : Type 0} (f : A → Option B) (xs : List A) (ys : List B) → each f xs ≡ Some ys → (y : B) → Contains ys y → (x : A) × (Contains xs x × (f x ≡ Some y))
 from_each {B = B} f [] ys e y c = absurd (nothing_in y (subst (λ zs. Contains zs y) (sym (inside e)) c))
   where
     inside : ◌≡◌ {A = Option (List B)} (Some []) (Some ys) → [] ≡ ys
     inside e = cc
 from_each {A} {B} f (x ∷ xs) ys e y c =
-    let first : (z : B) × ((f x ≡ Some z) × (option_map (λ zs. z ∷ zs) (each f xs) ≡ Some ys)) = bound (λ z. option_map (λ zs. z ∷ zs) (each f xs)) (f x) ys e in
+    let first : (z : B) × ((f x ≡ Some z) × (option_map (λ zs. z ∷ zs) (each f xs) ≡ Some ys)) = chained (λ z. option_map (λ zs. z ∷ zs) (each f xs)) (f x) ys e in
     let rest : (zs : List B) × ((each f xs ≡ Some zs) × (first.0 ∷ zs ≡ ys)) = under (λ zs. first.0 ∷ zs) (each f xs) ys first.1.1 in
     elim (first_or_later first.0 y rest.0 (subst (λ zs. Contains zs y) (sym rest.1.1) c)) [
       | inl same ↦ (x, (is_first x xs, first.1.0 ∙ ap Some same))
@@ -108,7 +105,7 @@ text_value (Some (object ms)) t e = cc
 
 entry_parts : (v : Value) (x : Entry) → entry_in v ≡ Some x → (get (codes "uri") v ≡ Some (string x.uri)) × (get (codes "schema") v ≡ Some x.schema)
 entry_parts v x e =
-    let uri = bound (λ u. option_map (entry_with u) (get (codes "schema") v)) (text_at (codes "uri") v) x e in
+    let uri = chained (λ u. option_map (entry_with u) (get (codes "schema") v)) (text_at (codes "uri") v) x e in
     let schema = under (entry_with uri.0) (get (codes "schema") v) x uri.1.1 in (
       text_value (get (codes "uri") v) uri.0 uri.1.0 ∙ ap (λ (y : Entry). Some (string y.uri)) schema.1.1,
       schema.1.0 ∙ ap (λ (y : Entry). Some y.schema) schema.1.1,

@@ -1,6 +1,7 @@
 pub mod Registries
 pub mod Evaluations
 pub mod Occurrences
+pub mod FlatMaps
 pub mod Places
 pub mod Roots
 pub mod Unbundled

@@ -11,27 +11,20 @@ use Rattle.definitions.specs.Runs.{Course, IsAnswer, replies}
 use Rattle.definitions.specs.Keeping.{AreKept, IsKept}
 use Rattle.definitions.specs.Services.{KeyedRegistry, Call, registry_of, with_registry, call_at, IsCallAnswer, CallCourse, own, replies_at, AllUnknown}
 use Rattle.definitions.specs.Tenants.{Tenant, server_fault, empty_registry, empty_registries, unless_refused, new_server}
+use Rattle.lemmas.proofs.SomeValues.{some_same, none_some}
+use Rattle.lemmas.proofs.Texts.{same_text_is}
 use Rattle.definition_laws.specs.Laws.{NoneIsForRoom}
 use Rattle.definition_laws.specs.Services.{AreAllKept}
 use Rattle.definition_laws.proofs.Registries.{course_replies}
 use Rattle.definition_laws.proofs.KeptRegistries.{step_kept, empty_kept}
 
 -- ---- keys
-is_same : (t u : Text) → same_text t u ≡ true → t ≡ u
-is_same t u e = (bytes_decides t u).0 e
-
 is_unlike : (t u : Text) (b : Bool) → same_text t u ≡ b → t ≢ u → same_text t u ≡ false
-is_unlike t u true e differ = absurd (differ (is_same t u e))
+is_unlike t u true e differ = absurd (differ (same_text_is t u e))
 is_unlike t u false e differ = e
 
 differs : (t u : Text) → same_text t u ≡ false → t ≢ u
 differs t u e same = true≢false (sym ((bytes_decides t u).1 same) ∙ e)
-
-none_some : {A : Type 0} {x : A} → ◌≡◌ {A = Option A} None (Some x) → ⊥
-none_some e = cc
-
-some_same : {A : Type 0} {x y : A} → ◌≡◌ {A = Option A} (Some x) (Some y) → x ≡ y
-some_same e = cc
 
 -- ---- a registry in place of the key's
 own_after_at : (k : KeyedRegistry) (ks : List KeyedRegistry) (key : Text) (g h : Registry) (b : Bool) → same_text key k.key ≡ b
@@ -47,7 +40,7 @@ own_after (k ∷ ks) key g h is = own_after_at k ks key g h (same_text key k.key
 others_after_at : (k : KeyedRegistry) (ks : List KeyedRegistry) (key other : Text) (h : Registry) (b : Bool) → same_text key k.key ≡ b → other ≢ key
     → registry_of (with_registry ks key h) other ≡ registry_of ks other → registry_of (with_registry (k ∷ ks) key h) other ≡ registry_of (k ∷ ks) other
 others_after_at k ks key other h true e differ more =
-    let apart : same_text other k.key ≡ false = is_unlike other k.key (same_text other k.key) refl (λ same. differ (same ∙ sym (is_same key k.key e))) in
+    let apart : same_text other k.key ≡ false = is_unlike other k.key (same_text other k.key) refl (λ same. differ (same ∙ sym (same_text_is key k.key e))) in
     rw (e, apart) refl
 others_after_at k ks key other h false e differ more = rw e (ap (cond (same_text other k.key) (Some k.registry)) more)
 
@@ -109,7 +102,7 @@ module _ (search : Search) (ks ms ls : List KeyedRegistry) (c : Call) (r : Reply
       → ((m : Registry) → registry_of ms key ≡ Some m → HasCourse search key ls m (own key cs) (replies_at key cs rs))
       → HasCourse search key ls g (cond b (c.1 ∷ own key cs) (own key cs)) (cond b (r ∷ replies_at key cs rs) (replies_at key cs rs))
   course_at true e g is more =
-      let same = is_same key c.0 e in
+      let same = same_text_is key c.0 e in
       let own_answer : (m : Registry) × ((registry_of ms c.0 ≡ Some m) × IsAnswer search g c.1 r m) =
       answered search ks ms c r g answer (ap (registry_of ks) (sym same) ∙ is) in
       let rest : HasCourse search key ls own_answer.0 (own key cs) (replies_at key cs rs) = more own_answer.0 (ap (registry_of ms) same ∙ own_answer.1.0) in
@@ -120,7 +113,7 @@ module _ (search : Search) (ks ms ls : List KeyedRegistry) (c : Call) (r : Reply
       → (registry_of ms key ≡ None → AllUnknown (replies_at key cs rs) × (registry_of ls key ≡ None))
       → AllUnknown (cond b (r ∷ replies_at key cs rs) (replies_at key cs rs)) × (registry_of ls key ≡ None)
   unknown_in true e is more =
-      let refusal = unknown_refused search ks ms c r answer (ap (registry_of ks) (sym (is_same key c.0 e)) ∙ is) in
+      let refusal = unknown_refused search ks ms c r answer (ap (registry_of ks) (sym (same_text_is key c.0 e)) ∙ is) in
       let rest = more (ap (λ xs. registry_of xs key) refusal.1 ∙ is) in
       ((refusal.0, rest.0), rest.1)
   unknown_in false e is more = more (others_stay search ks ms c r key answer (differs key c.0 e) ∙ is)
@@ -164,7 +157,7 @@ kept_at : (search : Search) (ks ls : List KeyedRegistry) (c : Call) (r : Reply) 
     → same_text key c.0 ≡ b → registry_of ks c.0 ≡ o → IsCallAnswer search ks c r ls → AreAllKept search ks → registry_of ls key ≡ Some h → IsKept search h
 kept_at search ks ls c r key h true (Some g) e is answer kept now =
     let mine : (m : Registry) × ((registry_of ls c.0 ≡ Some m) × IsAnswer search g c.1 r m) = answered search ks ls c r g answer is in
-    let same : mine.0 ≡ h = some_same (sym mine.1.0 ∙ ap (registry_of ls) (sym (is_same key c.0 e)) ∙ now) in
+    let same : mine.0 ≡ h = some_same (sym mine.1.0 ∙ ap (registry_of ls) (sym (same_text_is key c.0 e)) ∙ now) in
     subst (IsKept search) same (answer_kept search g mine.0 c.1 r mine.1.1 (kept c.0 g is))
 kept_at search ks ls c r key h true None e is answer kept now =
     kept key h (ap (λ ms. registry_of ms key) (sym (unknown_refused search ks ls c r answer is).1) ∙ now)

@@ -16,21 +16,18 @@ use Rattle.http_definitions.specs.ReplyTexts.{phrase_of, closing_text}
 use Rattle.http_definitions.specs.Connections.{Takes, holding, closed, last_words}
 use Rattle.http_laws.proofs.Steps.{nothing_waits}
 use Rattle.http_laws.proofs.HeadSizes.{part_has_none}
+use Rattle.http_rows.proofs.Streams.{both_are_spelled}
 use Rattle.http_rows.proofs.Computed.{spells, begins_head_if}
 use Rattle.http_rows.proofs.Written.{message, put_request, validate_request, put_text, validate_text, stored_text, valid_text}
 use Rattle.http_rows.proofs.Taken.{by_key, empty, after_put, takes_and_holds, takes_and_closes, waits_for_body}
 
 -- ---- the example, whole and cut
-whole_spelled : spells (put_text ++ validate_text) (put_request ∷ validate_request ∷ []) [] ≡ true
-unfolding httparse_on_literals is_utf8 chars encode
-whole_spelled = refl
-
 whole : Takes by_key (put_text ++ validate_text) empty (stored_text ++ valid_text) (holding []) after_put
 unfolding httparse_on_literals percent_encoding_on_literals serde_json_on_literals digits is_utf8 chars encode object_outcome outcome phrase_of
 whole =
     takes_and_holds (put_text ++ validate_text) (put_request ∷ validate_request ∷ [])
     (stored (codes "https://ex.org/s") false ∷ validated (codes "{\"annotations\":[],\"valid\":true}") ∷ []) [] empty after_put
-    whole_spelled refl nothing_waits (after_put, refl, (after_put, refl, refl))
+    both_are_spelled refl nothing_waits (after_put, refl, (after_put, refl, refl))
 
 -- within the first body: nothing is answered yet
 put_part : Text

@@ -7,6 +7,7 @@ use Rattle.definitions.specs.Pointers.{Pointer}
 use Rattle.definitions.specs.Keywords.{Keyword}
 use Rattle.definitions.specs.Schemas.{Schema, subschemas_by, schemas_within}
 use Rattle.definition_laws.proofs.Occurrences.{IsIn}
+use Rattle.definition_laws.proofs.FlatMaps.{same_flat_map}
 use Rattle.definition_laws.proofs.Places.{step_from}
 use Rattle.definition_laws.proofs.Roots.{step_nests}
 use Rattle.schema_index.proofs.Lookups.{prefixed}
@@ -29,10 +30,6 @@ pub subschema_nests : (rows : List Keyword) (s : Schema) (t : Pointer × Schema)
 subschema_nests rows s t i = step_nests rows s t.1 t.0 (step_from rows s t.1 t.0 i)
 
 -- ---- more levels than a schema nests show no more
-same_flat_map : {A B : Type 0} (f g : A → List B) (xs : List A) → ((x : A) → IsIn x xs → f x ≡ g x) → flat_map f xs ≡ flat_map g xs
-same_flat_map f g [] h = refl
-same_flat_map f g (x ∷ xs) h = ap₂ (λ ys zs. ys ++ zs) (h x (inl refl)) (same_flat_map f g xs (λ y i. h y (inr i)))
-
 pub within_levels : (rows : List Keyword) (n m : ℕ) (way : Pointer) (s : Schema) → nesting s.value < n → nesting s.value < m → schemas_within rows n way s ≡ schemas_within rows m way s
 within_levels rows zero m way s h k = absurd (omega arith)
 within_levels rows (suc n) zero way s h k = absurd (omega arith)

@@ -2,14 +2,9 @@
 use Rattle.std.proofs.Common.{◌≡◌, ◌<◌, ◌≤◌, ◌&&◌, ℕ, zero, suc, List, [], ◌∷◌, Bool, true, false, cond, Option, Some, None, option_map, option_and_then, Ok, Err, map, take, length, get_or, nat_lt, not, refl, sym, ap, ◌∙◌, arith}
 use Rattle.std.proofs.lemmas.List.{take_all}
 use Rattle.definitions.specs.Lists.{each}
+use Rattle.lemmas.proofs.SomeValues.{some_same, none_some}
 use Rattle.definitions.specs.Batches.{Entry, some_entries}
 use Rattle.definitions.specs.Faults.{bad_batch}
-
-some_same : {A : Type 0} {x y : A} → ◌≡◌ {A = Option A} (Some x) (Some y) → x ≡ y
-some_same e = cc
-
-none_some : {A : Type 0} {x : A} → ◌≡◌ {A = Option A} None (Some x) → ⊥
-none_some e = cc
 
 pub each_map : {A B C : Type 0} (f : B → Option C) (g : A → B) (xs : List A) → each f (map g xs) ≡ each (λ x. f (g x)) xs
 each_map f g [] = refl

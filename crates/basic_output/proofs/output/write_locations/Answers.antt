@@ -3,7 +3,7 @@ use Rattle.std.proofs.lemmas.Result.{on_ok_weaker}
 use Rattle.json.specs.Token as json
 use Rattle.definitions.specs.Pointers.{pointer_text}
 use Rattle.locations.specs.Steps.{tokens}
-use Rattle.basic_output.proofs.Appended.{appended}
+use Rattle.lemmas.proofs.Appended.{appended}
 use Rattle.basic_output.proofs.output.write_locations.Goals as goal
 
 pub returns-clause-ok : goal.returns-clause-ok

@@ -3,7 +3,7 @@ use Rattle.std.proofs.lemmas.Result.{on_ok_weaker}
 use Rattle.json.specs.Token as json
 use Rattle.basic_output.specs.Outputs.{reported_tokens}
 use Rattle.basic_output.specs.Units.{units_view}
-use Rattle.basic_output.proofs.Appended.{appended}
+use Rattle.lemmas.proofs.Appended.{appended}
 use Rattle.basic_output.proofs.OutputTexts.{output_tokens}
 use Rattle.basic_output.proofs.output.write_output.Goals as goal
 

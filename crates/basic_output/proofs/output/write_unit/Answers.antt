@@ -6,7 +6,7 @@ use Rattle.definitions.specs.Pointers.{fragment_text, pointer_text}
 use Rattle.json_doc.specs.Tokens.{value_tokens}
 use Rattle.basic_output.specs.Entries.{entry_view, said_value, steps_of}
 use Rattle.locations.specs.Steps.{tokens}
-use Rattle.basic_output.proofs.Appended.{appended}
+use Rattle.lemmas.proofs.Appended.{appended}
 use Rattle.basic_output.proofs.output.write_unit.Goals as goal
 
 pub returns-clause-ok : goal.returns-clause-ok

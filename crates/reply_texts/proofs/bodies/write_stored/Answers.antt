@@ -2,7 +2,7 @@ use Rattle.std.proofs.Common.{◌≡◌, [], ◌∷◌, ◌++◌}
 use Rattle.std.specs.Prelude.{codes}
 use Rattle.std.proofs.lemmas.Result.{on_ok_weaker}
 use Rattle.json.specs.Token as json
-use Rattle.reply_texts.proofs.Appended.{appended}
+use Rattle.lemmas.proofs.Appended.{appended}
 use Rattle.reply_texts.proofs.bodies.write_stored.Goals as goal
 
 pub returns-clause-ok : goal.returns-clause-ok

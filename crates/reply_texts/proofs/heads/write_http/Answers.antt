@@ -2,7 +2,7 @@ use Rattle.std.proofs.Common.{◌≡◌, ◌++◌, length, ap, ◌∙◌}
 use Rattle.std.specs.Prelude.{decimal, string_bytes}
 use Rattle.http_definitions.specs.ReplyTexts.{status_line}
 use Rattle.reply_texts.specs.Heads.{behind_length}
-use Rattle.reply_texts.proofs.Appended.{appended}
+use Rattle.lemmas.proofs.Appended.{appended}
 use Rattle.reply_texts.proofs.Texts.{before_length, http_parts, regrouped}
 use Rattle.reply_texts.proofs.heads.write_http.Goals as goal
 

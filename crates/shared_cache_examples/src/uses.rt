@@ -9,6 +9,7 @@ use std::test::Fail;
 use uri_ref::split;
 
 const A: &str = "https://ex.org/a";
+
 const B: &str = "https://ex.org/b";
 
 fn compiled(

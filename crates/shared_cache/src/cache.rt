@@ -59,8 +59,8 @@ impl Cache {
     pub fn new(alloc: Global, capacity: usize) -> Result<Cache, Fault>
         ensures ok { IfOk result (λ c. c ≡ record { keys = []; capacity = capacity }) }
         ensures within { OnOk result (is_capacity capacity ≡ true) }
-        ensures outside { IfErr result (λ f. f ≢ Fault.NoRoom → (f ≡ Fault.BadCapacity)) }
-        ensures err { IfErr result (λ f. f ≢ Fault.NoRoom → is_capacity capacity ≡ false) }
+        ensures err { IfErr result (λ f. f ≢ Fault.NoRoom → f ≡ Fault.BadCapacity) }
+        ensures outside { IfErr result (λ f. f ≢ Fault.NoRoom → is_capacity capacity ≡ false) }
     {
         if capacity > MOST_KEPT {
             return Err(Fault::BadCapacity);

@@ -1,0 +1,5 @@
+pub mod Phases
+pub mod HeldBytes
+pub mod Messages
+pub mod Progress
+pub mod Views

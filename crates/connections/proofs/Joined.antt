@@ -1,10 +1,10 @@
 -- Parts of bytes, joined.
 use Rattle.std.proofs.Common.{refl, sym, ap, ◌∙◌, subst, append_assoc, append-nil, take-add, drop-drop, length-drop, arith, inr}
-use Rattle.std.specs.Prelude.{OnOk, OnErr, Result, Ok, Err, ◌≡◌, ◌≤◌, ◌+◌, ℕ, List, [], ◌++◌, length, take, drop}
+use Rattle.std.specs.Prelude.{OnOk, OnErr, Result, Ok, Err, ◌≡◌, ◌≤◌, ◌+◌, ℕ, [], ◌++◌, length, take, drop}
 use Rattle.std.proofs.lemmas.List.{take-append-drop}
 use Rattle.definitions.specs.Registries.{Reply}
 use Rattle.definitions.specs.Values.{Text}
-use Rattle.http_definitions.specs.Connections.{Answers, Connection, holding, Takes}
+use Rattle.http_definitions.specs.Connections.{Answers, Connection, holding}
 use Rattle.http_laws.proofs.Pieces.{takes_on}
 use Rattle.http_laws.proofs.Steps.{takes_line_ends}
 use Rattle.http_definitions.specs.ReplyTexts.{reply_text}

@@ -2,3 +2,4 @@ pub mod Skipped
 pub mod Whole
 pub mod Joined
 pub mod Turned
+pub mod Opened

@@ -1,6 +1,6 @@
 -- Line ends at the front, and what stands behind them.
-use Rattle.std.proofs.Common.{suc, zero, refl, sym, ap, ◌∙◌, subst, arith, add-one, append-nil, drop-cons, get_or}
-use Rattle.std.specs.Prelude.{◌≡◌, ◌<◌, ◌≤◌, ◌+◌, ℕ, List, [], ◌∷◌, ◌++◌, cond, Bool, true, false, length, take, drop}
+use Rattle.std.proofs.Common.{suc, zero, refl, sym, ap, ◌∙◌, subst, arith, add-one, drop-cons, get_or}
+use Rattle.std.specs.Prelude.{◌≡◌, ◌<◌, ◌+◌, ℕ, [], ◌∷◌, ◌++◌, cond, true, false, length, take, drop}
 use Rattle.std.proofs.Math.Seq.{take-suc}
 use Rattle.httparse.proofs.GrammarLemmas.{ReadsRequest-append}
 use Rattle.definitions.specs.Values.{Text}

@@ -1,23 +1,22 @@
 -- What one turn takes.
 use Rattle.std.proofs.Common.{refl, sym, ap, ◌∙◌, subst, append-nil, take-add, arith, inl, inr, length-drop, length-append}
-use Rattle.std.specs.Prelude.{◌≡◌, ◌<◌, ◌≤◌, ◌+◌, ℕ, List, [], ◌++◌, Bool, true, false, length, take, drop}
+use Rattle.std.specs.Prelude.{◌≡◌, ◌≤◌, ◌+◌, ℕ, [], ◌++◌, Bool, true, false, length, take, drop}
 use Rattle.std.proofs.lemmas.List.{take-append-drop}
-use Rattle.std.proofs.Math.Seq.{take-append-add}
 use Rattle.httparse.specs.Grammar.{print_request, ReadsRequest}
 use Rattle.definitions.specs.Values.{Text}
 use Rattle.definitions.specs.Registries.{Reply}
 use Rattle.http_definitions.specs.Heads.{is_last}
 use Rattle.http_definitions.specs.Streams.{Message, BeginsWith, without_line_ends, IsHopeless, IsWaiting}
 use Rattle.http_definitions.specs.ReplyTexts.{reply_text, closing_text}
-use Rattle.http_definitions.specs.Connections.{Answers, Connection, holding, closed, Takes}
+use Rattle.http_definitions.specs.Connections.{Answers, holding, closed, Takes}
 use Rattle.http_laws.proofs.HeadSizes.{take_whole}
 use Rattle.http_laws.proofs.LineEnds.{dropped_all}
 use Rattle.http_laws.proofs.Steps.{takes_waiting, takes_line_ends, takes_hopeless, takes_last, takes_one, takes_next}
 use Rattle.request_heads.specs.declared.headings.Heading.{Heading}
 use Rattle.request_heads.proofs.Limits.{whole_window}
 use Rattle.connections.specs.Messages.{IsMessage, HasMessage}
-use Rattle.connections.specs.Phases.{IsOn, IsHeld}
-use Rattle.connections.specs.Progress.{Tells, TakesSome, Replies, MayAnswer, AnswersAt, IsTurn}
+use Rattle.connections.specs.Phases.{IsOn}
+use Rattle.connections.specs.Progress.{TakesSome, Replies, MayAnswer, AnswersAt, IsTurn}
 use Rattle.connections.specs.declared.phases.Phase.{Phase}
 use Rattle.connections.specs.declared.turns.Turn.TheVariants.{Took, Holds, Closes}
 use Rattle.connections.proofs.Joined.{takes_none}

@@ -1,6 +1,6 @@
 -- A whole message at the front.
-use Rattle.std.proofs.Common.{refl, sym, ap, ◌∙◌, subst, arith, length-append, length-drop, append_assoc}
-use Rattle.std.specs.Prelude.{◌≡◌, ◌<◌, ◌≤◌, ◌+◌, ◌-◌, ℕ, List, [], ◌∷◌, ◌++◌, cond, Bool, true, false, length, take, drop, Some}
+use Rattle.std.proofs.Common.{refl, sym, ap, ◌∙◌, arith, length-append}
+use Rattle.std.specs.Prelude.{◌≡◌, ◌<◌, ◌≤◌, ◌+◌, [], ◌++◌, cond, Bool, true, false, length, take, drop, Some}
 use Rattle.std.specs.Str.{is_utf8}
 use Rattle.std.proofs.lemmas.List.{take-append-drop, length-take-le}
 use Rattle.std.proofs.lemmas.Str.{is_utf8-from_IsUtf8, IsUtf8-from_is_utf8}
@@ -8,11 +8,9 @@ use Rattle.std.specs.Prelude.{IsUtf8}
 use Rattle.httparse.specs.Grammar.{print_request}
 use Rattle.definitions.specs.Values.{Text}
 use Rattle.http_laws.proofs.HeadEnds.{printed_head_has_bytes}
-use Rattle.http_definitions.specs.Heads.{body_length}
-use Rattle.http_definitions.specs.Streams.{Message, BeginsWith}
+use Rattle.http_definitions.specs.Streams.{Message}
 use Rattle.request_heads.specs.Fronts.{HasHeading}
 use Rattle.request_heads.specs.declared.headings.Heading.{Heading}
-use Rattle.request_heads.proofs.Limits.{whole_window}
 use Rattle.connections.specs.Messages.{IsMessage, HasMessage}
 
 -- the body is whole

@@ -3,3 +3,4 @@ pub mod HeldBytes
 pub mod Messages
 pub mod Progress
 pub mod Views
+pub mod Connected

@@ -1,7 +1,5 @@
 -- Connections as the definitions have them.
-use Rattle.std.specs.Prelude.{◌≡◌, [], ◌++◌, ℕ, Option, option_map, Some, None, Bool, true, false, Result, Ok, Err, Vec}
-use Rattle.std.specs.BTreeMap.{get}
-use Rattle.std.specs.Ordering.{nat_cmp}
+use Rattle.std.specs.Prelude.{◌≡◌, [], ◌++◌, Bool, true, false}
 use Rattle.definitions.specs.Values.{Text}
 use Rattle.http_definitions.specs.Connections as meaning
 use Rattle.http_definitions.specs.Connections.{Answers, Takes, holding, closed}

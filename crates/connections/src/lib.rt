@@ -7,9 +7,9 @@ mod connection;
 mod handlers;
 mod messages;
 mod phases;
+mod sessions;
 mod taking;
 mod turns;
 
-pub use connection::{Connection, Held};
 pub use handlers::Handler;
-pub use phases::Phase;
+pub use sessions::Sessions;

@@ -2,4 +2,3 @@ pub mod Skipped
 pub mod Whole
 pub mod Joined
 pub mod Turned
-pub mod Opened

@@ -76,8 +76,8 @@ takes_next_message : {S : Type 0} (answers : Answers S) (bytes : Text) (n : ℕ)
 takes_next_message answers bytes n x s t r skipped h goes answered =
     subst (λ b. Takes answers b s (reply_text x.is_last r) (holding []) t) (sym (take-add n (x.head_len + x.body_len) bytes))
     (takes_next answers (take n bytes) (take (x.head_len + x.body_len) (drop n bytes)) s s t [] (reply_text x.is_last r) (holding [])
-        (takes_line_ends answers (take n bytes) s skipped.front)
-        (takes_message answers (drop n bytes) x s t r (bare_rest bytes n skipped) h goes answered))
+    (takes_line_ends answers (take n bytes) s skipped.front)
+    (takes_message answers (drop n bytes) x s t r (bare_rest bytes n skipped) h goes answered))
 
 -- all bytes are where it is the last
 takes_last_message : {S : Type 0} (answers : Answers S) (bytes : Text) (n : ℕ) (x : Heading) (s t : S) (r : Reply) → IsSkipped bytes n
@@ -95,15 +95,16 @@ pub took_turn : {S : Type 0} (answers : Answers S) (bytes : Text) (n : ℕ) (x :
     → HasMessage (drop n bytes) x → x.is_last ≡ false → Replies answers (drop n bytes) x s before t after
     → (k : ℕ) → k ≡ n + (x.head_len + x.body_len) → IsTurn answers bytes s before (Took k) t after
 took_turn answers bytes n x s t before after skipped h goes replies k same =
-    let fits = message_fits (drop n bytes) x h in
-    (omega (arith, fits.0, same),
+    let fits = message_fits (drop n bytes) x h in (
+      omega (arith, fits.0, same),
       omega (arith, fits.1, length-drop n bytes, skipped.within, same),
       record {
         out = reply_text x.is_last replies.reply;
         appended = replies.appended;
         takes = subst (λ i. Takes answers (take i bytes) s (reply_text x.is_last replies.reply) (holding []) t) (sym same)
             (takes_next_message answers bytes n x s t replies.reply skipped h goes replies.answered);
-      })
+      },
+    )
 
 pub last_turn : {S : Type 0} (answers : Answers S) (bytes : Text) (n : ℕ) (x : Heading) (s t : S) (before after : Text) → IsSkipped bytes n
     → HasMessage (drop n bytes) x → x.is_last ≡ true → Replies answers (drop n bytes) x s before t after

@@ -20,12 +20,14 @@ whole_message bytes x h long =
     let rest = drop x.body_len h.1 in
     let enough : x.body_len ≤ length h.1 = omega (arith, long, h.3.head_len, ap length h.2.0.1, length-append (print_request h.0) h.1) in
     let size : length body ≡ x.body_len = length-take-le x.body_len h.1 enough in
-    let m : Message = record { head = h.0; body = body } in
-    (m, record {
-      more = rest;
-      begins = (((h.2.0.0, h.2.0.1 ∙ ap (λ t. print_request h.0 ++ t) (sym (take-append-drop x.body_len h.1))), h.2.1), h.3.body_len ∙ ap Some (sym size));
-      heading = h.3;
-    })
+    let m : Message = record { head = h.0; body = body } in (
+      m,
+      record {
+        more = rest;
+        begins = (((h.2.0.0, h.2.0.1 ∙ ap (λ t. print_request h.0 ++ t) (sym (take-append-drop x.body_len h.1))), h.2.1), h.3.body_len ∙ ap Some (sym size));
+        heading = h.3;
+      },
+    )
 
 pub message_size : (bytes : Text) (x : Heading) (m : Message) → IsMessage bytes x m → length m.body ≡ x.body_len
 message_size bytes x m is =

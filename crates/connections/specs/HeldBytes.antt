@@ -28,7 +28,7 @@ HasHeading-prop : (bytes : Text) (x : Heading) → IsProp (HasHeading bytes x)
 HasHeading-prop bytes x u v =
     let same = request_unique bytes u.0 v.0 u.1 v.1 u.2.0 v.2.0 in
     let paired : ((u.0, u.1), (u.2, u.3)) ≡ ((v.0, v.1), (v.2, v.3)) =
-        Σ_prop_path {A = RequestHead × Text} {B = IsKeptOf bytes x} (IsKeptOf-prop bytes x) (ap₂ (λ h more. (h, more)) same.0 same.1) in
+    Σ_prop_path {A = RequestHead × Text} {B = IsKeptOf bytes x} (IsKeptOf-prop bytes x) (ap₂ (λ h more. (h, more)) same.0 same.1) in
     ap (λ w. (w.0.0, w.0.1, w.1.0, w.1.1)) paired
 
 IsOn-prop : (bytes : Text) (p : Phase) → IsProp (IsOn bytes p)

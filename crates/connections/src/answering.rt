@@ -20,7 +20,8 @@ fn reply_to<H: Handler>(
     heading: Heading,
 ) -> Result<Reply, Fault>
     requires { HasMessage bytes.now heading }
-    ensures ok { IfOk result (λ r. AnswersAt H.answers bytes.now heading handler.old (reply_view r) handler.new) }
+    ensures ok { IfOk result
+        (λ r. AnswersAt H.answers bytes.now heading handler.old (reply_view r) handler.new) }
     ensures err { IfErr result (λ f. f ≡ Fault.NoRoom) }
     ensures unasked { OnErr result (handler.new ≡ handler.old) }
 {
@@ -41,7 +42,9 @@ pub fn answer<H: Handler>(
     heading: Heading,
 ) -> Result<(), Fault>
     requires { HasMessage bytes.now heading }
-    ensures ok { OnOk result (Replies H.answers bytes.now heading handler.old (string_bytes out.old) handler.new (string_bytes out.new)) }
+    ensures ok { OnOk result
+        (Replies H.answers bytes.now heading handler.old (string_bytes out.old)
+        handler.new (string_bytes out.new)) }
     ensures err { IfErr result (λ f. f ≡ Fault.NoRoom) }
     ensures some { OnErr result (MayAnswer H.answers bytes.now heading handler.old handler.new) }
 {

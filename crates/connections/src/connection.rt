@@ -66,9 +66,12 @@ impl Held {
         out: &mut String,
         piece: &[u8],
     ) -> Result<Connection, Fault>
-        ensures ok { IfOk result (λ c. Tells H.answers (self.buffer.items ++ piece.now) handler.old (string_bytes out.old) (connection_view c) handler.new (string_bytes out.new)) }
+        ensures ok { IfOk result
+            (λ c. Tells H.answers (self.buffer.items ++ piece.now) handler.old (string_bytes out.old)
+            (connection_view c) handler.new (string_bytes out.new)) }
         ensures err { IfErr result (λ f. f ≡ Fault.NoRoom) }
-        ensures some { OnErr result (TakesSome H.answers (self.buffer.items ++ piece.now) handler.old handler.new) }
+        ensures some { OnErr result
+            (TakesSome H.answers (self.buffer.items ++ piece.now) handler.old handler.new) }
     {
         match self.with_piece(piece) {
             Err(fault) => Err(fault),
@@ -116,10 +119,13 @@ impl Connection {
         handler: &mut H,
         piece: &[u8],
     ) -> Result<Vec<u8>, Fault>
-        ensures ok { IfOk result (λ out. Feeds H.answers (connection_view self.old) piece.now handler.old out.items (connection_view self.new) handler.new) }
+        ensures ok { IfOk result
+            (λ out. Feeds H.answers (connection_view self.old) piece.now handler.old
+            out.items (connection_view self.new) handler.new) }
         ensures err { IfErr result (λ f. f ≡ Fault.NoRoom) }
         ensures closed { OnErr result (connection_view self.new ≡ closed) }
-        ensures some { OnErr result (FeedsSome H.answers (connection_view self.old) piece.now handler.old handler.new) }
+        ensures some { OnErr result
+            (FeedsSome H.answers (connection_view self.old) piece.now handler.old handler.new) }
     {
         match mem::replace(self, Connection::Closed) {
             Connection::Closed => Ok(Vec::new(alloc)),

@@ -79,7 +79,8 @@ impl<H: Handler> Sessions<H> {
     /// changes nothing, and want of memory, [`Fault::NoRoom`]: then the connection is closed, no bytes are answered, and
     /// the first of the requests may be answered.
     pub fn feed(&mut self, alloc: Global, id: u64, piece: &[u8]) -> Result<Vec<u8>, Fault>
-        ensures fed { IsFed H.answers (connection_at self.old id) piece.now (handler_of self.old) result (connection_at self.new id) (handler_of self.new) }
+        ensures fed { IsFed H.answers (connection_at self.old id) piece.now (handler_of self.old)
+            result (connection_at self.new id) (handler_of self.new) }
         ensures others { OthersStay id self.old self.new }
     {
         match self.connections.get_mut(&id) {

@@ -31,7 +31,9 @@ pub fn take_all<H: Handler>(
     phase: Phase,
 ) -> Result<Ended, Fault>
     requires { IsOn (without_line_ends bytes.now) phase }
-    ensures ok { IfOk result (λ x. IsEnd H.answers bytes.now handler.old (string_bytes out.old) x handler.new (string_bytes out.new)) }
+    ensures ok { IfOk result
+        (λ x. IsEnd H.answers bytes.now handler.old (string_bytes out.old)
+        x handler.new (string_bytes out.new)) }
     ensures err { IfErr result (λ f. f ≡ Fault.NoRoom) }
     ensures some { OnErr result (TakesSome H.answers bytes.now handler.old handler.new) }
 {

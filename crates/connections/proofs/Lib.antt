@@ -1,0 +1,4 @@
+pub mod Skipped
+pub mod Whole
+pub mod Joined
+pub mod Turned

@@ -1,0 +1,55 @@
+//! Answering a whole message.
+ghost use Rattle.std.specs.Prelude.{◌≡◌, IfOk, IfErr, OnOk, OnErr, string_bytes};
+ghost use Rattle.requests.specs.Views.{reply_view};
+ghost use Rattle.connections.specs.Messages.{HasMessage};
+ghost use Rattle.connections.specs.Progress.{AnswersAt, MayAnswer, Replies};
+
+use crate::handlers::Handler;
+use crate::messages::{key_at, request_at};
+use faults::Fault;
+use reply_texts::write_reply;
+use request_heads::Heading;
+use requests::Reply;
+use std::alloc::Global;
+
+// The reply to the message at the front. A target that is no route's is answered without asking.
+fn reply_to<H: Handler>(
+    alloc: Global,
+    handler: &mut H,
+    bytes: &[u8],
+    heading: Heading,
+) -> Result<Reply, Fault>
+    requires { HasMessage bytes.now heading }
+    ensures ok { IfOk result
+        (λ r. AnswersAt H.answers bytes.now heading handler.old (reply_view r) handler.new) }
+    ensures err { IfErr result (λ f. f ≡ Fault.NoRoom) }
+    ensures unasked { OnErr result (handler.new ≡ handler.old) }
+{
+    match request_at(alloc, bytes, heading) {
+        Err(fault) => Err(fault),
+        Ok(None) => Ok(Reply::Refused(Fault::BadRoute)),
+        Ok(Some(request)) => Ok(handler.apply(alloc, key_at(bytes, heading), &request)),
+    }
+}
+
+/// Answers the message at the front and appends the reply. The only error is want of memory, [`Fault::NoRoom`]; the
+/// message may be answered then.
+pub fn answer<H: Handler>(
+    alloc: Global,
+    handler: &mut H,
+    out: &mut String,
+    bytes: &[u8],
+    heading: Heading,
+) -> Result<(), Fault>
+    requires { HasMessage bytes.now heading }
+    ensures ok { OnOk result
+        (Replies H.answers bytes.now heading handler.old (string_bytes out.old)
+        handler.new (string_bytes out.new)) }
+    ensures err { IfErr result (λ f. f ≡ Fault.NoRoom) }
+    ensures some { OnErr result (MayAnswer H.answers bytes.now heading handler.old handler.new) }
+{
+    match reply_to(alloc, handler, bytes, heading) {
+        Err(fault) => Err(fault),
+        Ok(reply) => write_reply(alloc, out, heading.is_last, &reply),
+    }
+}

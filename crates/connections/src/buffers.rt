@@ -1,0 +1,41 @@
+//! The front of a connection's bytes.
+ghost use Rattle.std.specs.Prelude.{◌≡◌, ◌≤◌, [], length, take, drop};
+ghost use Rattle.http_definitions.specs.Streams.{without_line_ends, is_line_end};
+
+// Whether the byte is a part of a line end.
+fn is_line_end(byte: u8) -> bool
+    ensures { result ≡ is_line_end byte }
+{
+    byte == b'\r' || byte == b'\n'
+}
+
+/// How many bytes of line ends stand at the front.
+pub fn line_ends(bytes: &[u8]) -> usize
+    ensures within { result ≤ length bytes.now }
+    ensures rest { drop result bytes.now ≡ without_line_ends bytes.now }
+    ensures front { without_line_ends (take result bytes.now) ≡ [] }
+{
+    let mut count = 0;
+    while count < bytes.len() && is_line_end(bytes[count]) {
+        count += 1;
+    }
+    count
+}
+
+/// The bytes from a place on.
+pub fn behind(bytes: &[u8], place: usize) -> &[u8]
+    requires { place ≤ length bytes.now }
+    ensures { result.now ≡ drop place bytes.now }
+{
+    &bytes[place..]
+}
+
+/// Drops the bytes up to a place.
+pub fn drop_front(bytes: &mut Vec<u8>, place: usize)
+    requires { place ≤ length bytes.old.items }
+    ensures { bytes.new.items ≡ drop place bytes.old.items }
+{
+    let rest = bytes.len() - place;
+    bytes.as_mut_slice().rotate_left(place);
+    bytes.truncate(rest);
+}

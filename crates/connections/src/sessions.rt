@@ -1,0 +1,91 @@
+//! Connections by their ids.
+ghost use Rattle.std.specs.Prelude.{◌≡◌, ℕ, None};
+
+use crate::connection::Connection;
+use crate::handlers::Handler;
+use faults::Fault;
+use std::alloc::Global;
+use std::collections::BTreeMap;
+
+/// Connections by their ids, and what answers their requests. An id is open from [`Sessions::open`] to
+/// [`Sessions::end`], also while its connection is closed.
+///
+/// Contracts see them by `handler_of` and `connection_at`.
+#[derive(Drop)]
+pub struct Sessions<H> {
+    alloc: Global,
+    handler: H,
+    connections: BTreeMap<u64, Connection>,
+}
+
+impl<H> Sessions<H> {
+    ghost use Rattle.connections.specs.Connected.{handler_of, connection_at, OthersStay, IsOpened, IsEnded, is_closed_at};
+
+    /// No connection. This takes no memory.
+    pub fn new(alloc: Global, handler: H) -> Sessions<H>
+        ensures none { (id : ℕ) → connection_at result id ≡ None }
+        ensures handler { handler_of result ≡ handler }
+    {
+        Sessions {
+            alloc,
+            handler,
+            connections: BTreeMap::new(alloc),
+        }
+    }
+
+    /// Opens a connection. The errors are [`Fault::IdInUse`] and want of memory, [`Fault::NoRoom`]; then nothing changes.
+    pub fn open(&mut self, id: u64) -> Result<(), Fault>
+        ensures opened { IsOpened (connection_at self.old id) result (connection_at self.new id) }
+        ensures others { OthersStay id self.old self.new }
+        ensures handler { handler_of self.new ≡ handler_of self.old }
+    {
+        if self.connections.contains_key(&id) {
+            return Err(Fault::IdInUse);
+        }
+        match self.connections.insert(id, Connection::new(self.alloc)) {
+            Ok(_) => Ok(()),
+            Err(_) => Err(Fault::NoRoom),
+        }
+    }
+
+    /// Ends a connection and answers the bytes to be sent at last: the closing fault where it holds a part of a request.
+    /// The errors are [`Fault::NoSession`] and want of memory, [`Fault::NoRoom`]; the id is free behind each.
+    pub fn end(&mut self, alloc: Global, id: u64) -> Result<Vec<u8>, Fault>
+        ensures ended { IsEnded (connection_at self.old id) result (connection_at self.new id) }
+        ensures others { OthersStay id self.old self.new }
+        ensures handler { handler_of self.new ≡ handler_of self.old }
+    {
+        match self.connections.remove(&id) {
+            Some(connection) => connection.last_words(alloc),
+            None => Err(Fault::NoSession),
+        }
+    }
+
+    /// Whether the connection is closed; one that isn't open is.
+    pub fn is_closed(&self, id: u64) -> bool
+        ensures { result ≡ is_closed_at (connection_at self.now id) }
+    {
+        match self.connections.get(&id) {
+            Some(connection) => connection.is_closed(),
+            None => true,
+        }
+    }
+}
+
+impl<H: Handler> Sessions<H> {
+    ghost use Rattle.connections.specs.Connected.{handler_of, connection_at, OthersStay, IsFed};
+
+    /// Takes a piece of a connection's stream and answers the bytes to be sent. The errors are [`Fault::NoSession`], which
+    /// changes nothing, and want of memory, [`Fault::NoRoom`]: then the connection is closed, no bytes are answered, and
+    /// the first of the requests may be answered.
+    pub fn feed(&mut self, alloc: Global, id: u64, piece: &[u8]) -> Result<Vec<u8>, Fault>
+        ensures fed { IsFed H.answers (connection_at self.old id) piece.now (handler_of self.old)
+            result (connection_at self.new id) (handler_of self.new) }
+        ensures others { OthersStay id self.old self.new }
+    {
+        match self.connections.get_mut(&id) {
+            Some(connection) => connection.feed(alloc, &mut self.handler, piece),
+            None => Err(Fault::NoSession),
+        }
+    }
+}

@@ -129,9 +129,9 @@ replied_bundles_answer_the_same search g t uri at base bytes body registered rep
         let ds : List Document = reach (documents_seen g) b in
         let r = of_bundling (is_some (document_of ds b)) ds b bytes h in
         let is : IsBundle search ds b r.value = record {
-              documents = registered_documents_are_identified search (reach (documents_seen g) b) (reached_documents_are_registered search (documents_seen g) b registered);
-              linked = r.none_missing;
-              made = r.is_made;
-            } in
+          documents = registered_documents_are_identified search (reach (documents_seen g) b) (reached_documents_are_registered search (documents_seen g) b registered);
+          linked = r.none_missing;
+          made = r.is_made;
+        } in
         subst (λ bs. (step search (step search (empty_registry [] t) (put at bs)).1 (validate uri body)).0 ≡ (step search g (validate uri body)).0) r.written
         (answered_same search g t uri b at base body r.value e is form few (subst (λ bs. length bs ≤ t.most_bytes) (sym r.written) small))

@@ -82,11 +82,7 @@ fn own_members(alloc: Global, doc: &Doc) -> Result<Members, Fault>
 }
 
 // The members, and the documents under their URIs.
-fn with_others(
-    alloc: Global,
-    defs: Members,
-    others: &[Constituent<'_>],
-) -> Result<Members, Fault>
+fn with_others(alloc: Global, defs: Members, others: &[Constituent<'_>]) -> Result<Members, Fault>
     requires { Ascend (map constituent others.now) }
     ensures ok { IfOk result (λ m. members_value m ≡ embedded (map constituent others.now) (members_value defs)) }
     ensures err { IfErr result (λ f. f ≡ Fault.NoRoom) }

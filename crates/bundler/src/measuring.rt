@@ -11,6 +11,7 @@ use std::alloc::Global;
 
 // How many bytes a bundle's compact text may have, and how deep a bundle may nest.
 const MOST_BYTES: usize = 1_048_576;
+
 const MOST_NESTED: usize = 120;
 
 // The bundle, where it is within the limits.

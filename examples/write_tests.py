@@ -1,5 +1,5 @@
 #!/usr/bin/env python3
-"""Writes the examples of this folder as tests: the module `examples` of the crate `checks_examples`.
+"""Writes the examples of this folder as rows: the module `examples` of the crate `checks_examples`.
 
     python3 examples/write_tests.py
 
@@ -51,36 +51,25 @@ def instances(leaf):
     return [file for file in sorted(leaf.glob("*.json")) if file.name != "schema.json"]
 
 
-def table(names, call, rows):
-    """A test that goes over a table, in the layout of `rt fmt`."""
-    head = f"    for ({', '.join(names)}) in ["
+def table(name, columns, rows):
+    """A constant with a row for each use, in the layout of `rt fmt`."""
+    kind = f"&[({', '.join(['&str'] * columns)})]"
+    head = f"pub const {name}: {kind} = &["
     if len(rows) == 1:
-        lines = [f"{head}(", *(f"        {part}," for part in rows[0]), "    )] {"]
-    else:
-        lines = [head]
-        for row in rows:
-            inner = ", ".join(row)
-            if "\n" not in inner and len(inner) <= NARROW:
-                lines.append(f"        ({inner}),")
-            else:
-                lines += ["        (", *(f"            {part}," for part in row), "        ),"]
-        lines.append("    ] {")
-    if len(f"{call}, answer") <= NARROW:
-        lines.append(f"        assert_eq!(rt; {call}, answer);")
-    else:
-        lines += ["        assert_eq!(rt;", f"            {call},", "            answer", "        );"]
-    return [*lines, "    }"]
+        return [f"{head}(", *(f"    {part}," for part in rows[0]), ")];", ""]
+    lines = [head]
+    for row in rows:
+        inner = ", ".join(row)
+        if "\n" not in inner and len(inner) <= NARROW:
+            lines.append(f"    ({inner}),")
+        else:
+            lines += ["    (", *(f"        {part}," for part in row), "    ),"]
+    return [*lines, "];", ""]
 
 
-def test(name, body):
-    head = f"fn {name}(rt: HostRuntime) -> Result<(), Fail> {{"
-    return ["#[test]", head, *body, "    Ok(())", "}", ""]
-
-
-def module(folder):
-    """The source of the tests of one use."""
+def uses(folder):
+    """The constants of one use, its rows of files and its rows of inputs."""
     constants, files, inputs = [], [], []
-    has_default = False
     for leaf in leaves(folder):
         within = str(leaf.relative_to(folder))
         schema = leaf / "schema.json"
@@ -93,36 +82,46 @@ def module(folder):
                 inputs.append(texts)
                 continue
             uri = leaf / "uri"
-            has_default = has_default or not uri.exists()
             files.append([literal(text_of(uri)) if uri.exists() else "DEFAULT_URI", name, *texts])
-    helpers = ["check_files"] * bool(files) + ["check_standard_input"] * bool(inputs)
-    imported = helpers[0] if len(helpers) == 1 else "{" + ", ".join(helpers) + "}"
+    return constants, files, inputs
+
+
+def module(folder):
+    """The source of the rows of one use."""
+    constants, files, inputs = uses(folder)
     lines = [f"//! The examples in `examples/{folder.name}`, {WRITTEN}.", ""]
-    lines.append(f"use crate::answers::{imported};")
-    lines += ["use checks::DEFAULT_URI;"] * has_default
-    lines += ["use std::test::Fail;", "", *constants]
+    if any(row[0] == "DEFAULT_URI" for row in files):
+        lines += ["use checks::DEFAULT_URI;", ""]
+    lines += constants
     if files:
-        call = "check_files(rt.alloc(), uri, schema, instance)?.as_str()"
-        rows = table(["uri", "schema", "instance", "answer"], call, files)
-        lines += test("files_have_their_answers", rows)
+        lines += ["/// URI, schema, instance and answer.", *table("FILES", 4, files)]
     if inputs:
-        call = "check_standard_input(rt.alloc(), input)?.as_str()"
-        rows = table(["input", "answer"], call, inputs)
-        lines += test("inputs_have_their_answers", rows)
+        lines += ["/// Input and answer.", *table("INPUTS", 2, inputs)]
     return "\n".join(lines)
 
 
-def listing(names):
-    """The source of the module that the tests of each use stand in."""
+def listing(folders):
+    """The source of the module that the rows of each use stand in."""
     lines = [f"//! The examples of the folder `examples`, a module each, {WRITTEN}.", ""]
-    return "\n".join(lines + [f"mod {name};" for name in sorted(names)]) + "\n"
+    lines += [f"mod {rust_name(it.name)};" for it in folders]
+    for at, name, columns, says in [
+        (1, "FILES", 4, "The rows of files of each use: URI, schema, instance and answer."),
+        (2, "INPUTS", 2, "The rows of inputs of each use: input and answer."),
+    ]:
+        named = [f"{rust_name(it.name)}::{name}" for it in folders if uses(it)[at]]
+        kind = f"&[&[({', '.join(['&str'] * columns)})]]"
+        head = f"pub const {name}: {kind} = &["
+        within = len(", ".join(named)) <= NARROW
+        rows = [head + ", ".join(named) + "];"] if within else [head, *(f"    {it}," for it in named), "];"]
+        lines += ["", f"/// {says}", *rows]
+    return "\n".join(lines) + "\n"
 
 
 def sources():
     """The text of each file that is written, by its path below the crate's sources."""
     folders = [it for it in sorted(FOLDER.iterdir()) if it.is_dir() and leaves(it)]
     texts = {f"examples/{rust_name(it.name)}.rt": module(it) for it in folders}
-    texts["examples.rt"] = listing([rust_name(it.name) for it in folders])
+    texts["examples.rt"] = listing(folders)
     return texts
 
 

@@ -1,226 +1,193 @@
 //! Keywords on texts.
 
-use crate::texts::{URI, answer};
-use checks::{Fault, check_bytes};
-use std::alloc::Global;
+use crate::texts::URI;
+use checks::check_bytes;
 use std::test::Fail;
 
-// Whether the instance is valid.
-fn is_valid(alloc: Global, schema: &str, instance: &str) -> Result<bool, Fault> {
-    let report = check_bytes(alloc, URI, schema.as_bytes(), instance.as_bytes())?;
-    Ok(report.valid())
-}
+// A schema, an instance, and whether it is valid.
+const VALID: &[(&str, &str, bool)] = &[
+    (r#"{"multipleOf":7}"#, "-9223372036854775808", false),
+    (r#"{"multipleOf":8}"#, "-9223372036854775808", true),
+    (r#"{"multipleOf":18446744073709551615}"#, "0", true),
+    (
+        r#"{"multipleOf":18446744073709551615}"#,
+        "18446744073709551615",
+        true,
+    ),
+    (r#"{"multipleOf":18446744073709551615}"#, r#""x""#, true),
+    (
+        r#"{"multipleOf":18446744073709551615}"#,
+        "-9223372036854775808",
+        false,
+    ),
+    (r#"{"exclusiveMaximum":-9223372036854775808}"#, "null", true),
+    (
+        r#"{"exclusiveMaximum":-9223372036854775808}"#,
+        "-9223372036854775808",
+        false,
+    ),
+    (r#"{"maxLength":1}"#, r#""ä""#, true),
+    (r#"{"maxLength":1}"#, r#""ab""#, false),
+    (r#"{"uniqueItems":true}"#, "[]", true),
+    (r#"{"uniqueItems":true}"#, r#"[1,"1"]"#, true),
+    (
+        r#"{"uniqueItems":true}"#,
+        r#"[{"a":1,"b":2},{"b":2,"a":1}]"#,
+        false,
+    ),
+    (r#"{"dependentRequired":{"a":["b"]}}"#, "{}", true),
+    (
+        r#"{"dependentRequired":{"a":["b"]}}"#,
+        r#"{"a":1,"b":1}"#,
+        true,
+    ),
+    (r#"{"dependentRequired":{"a":["b"]}}"#, r#"{"a":1}"#, false),
+    (r#"{"enum":[]}"#, "null", false),
+    (r#"{"const":{"a":1,"b":2}}"#, r#"{"b":2,"a":1}"#, true),
+    (r#"{"minItems":1,"maxItems":1}"#, "[0,0]", false),
+    (
+        r#"{"minProperties":1,"maxProperties":1}"#,
+        r#"{"a":0}"#,
+        true,
+    ),
+];
 
 #[test]
 fn keywords_on_one_value(rt: HostRuntime) -> Result<(), Fail> {
-    for (schema, instance, valid) in [
-        (r#"{"multipleOf":7}"#, "-9223372036854775808", false),
-        (r#"{"multipleOf":8}"#, "-9223372036854775808", true),
-        (r#"{"multipleOf":18446744073709551615}"#, "0", true),
-        (
-            r#"{"multipleOf":18446744073709551615}"#,
-            "18446744073709551615",
-            true,
-        ),
-        (r#"{"multipleOf":18446744073709551615}"#, r#""x""#, true),
-        (
-            r#"{"multipleOf":18446744073709551615}"#,
-            "-9223372036854775808",
-            false,
-        ),
-        (r#"{"exclusiveMaximum":-9223372036854775808}"#, "null", true),
-        (
-            r#"{"exclusiveMaximum":-9223372036854775808}"#,
-            "-9223372036854775808",
-            false,
-        ),
-        (r#"{"maxLength":1}"#, r#""ä""#, true),
-        (r#"{"maxLength":1}"#, r#""ab""#, false),
-        (r#"{"uniqueItems":true}"#, "[]", true),
-        (r#"{"uniqueItems":true}"#, r#"[1,"1"]"#, true),
-        (
-            r#"{"uniqueItems":true}"#,
-            r#"[{"a":1,"b":2},{"b":2,"a":1}]"#,
-            false,
-        ),
-        (r#"{"dependentRequired":{"a":["b"]}}"#, "{}", true),
-        (
-            r#"{"dependentRequired":{"a":["b"]}}"#,
-            r#"{"a":1,"b":1}"#,
-            true,
-        ),
-        (r#"{"dependentRequired":{"a":["b"]}}"#, r#"{"a":1}"#, false),
-        (r#"{"enum":[]}"#, "null", false),
-        (r#"{"const":{"a":1,"b":2}}"#, r#"{"b":2,"a":1}"#, true),
-        (r#"{"minItems":1,"maxItems":1}"#, "[0,0]", false),
-        (
-            r#"{"minProperties":1,"maxProperties":1}"#,
-            r#"{"a":0}"#,
-            true,
-        ),
-    ] {
-        assert_eq!(rt; is_valid(rt.alloc(), schema, instance)?, valid);
+    for (schema, instance, valid) in VALID {
+        let report = check_bytes(rt.alloc(), URI, schema.as_bytes(), instance.as_bytes())?;
+        assert_eq!(rt; report.valid(), *valid, "{instance} by {schema}");
     }
     Ok(())
 }
 
-#[test]
-fn unevaluated_members_are_those_of_no_passing_schema(rt: HostRuntime) -> Result<(), Fail> {
-    for (schema, instance, text) in [
-        (
-            r#"{"allOf":[{"properties":{"a":true}}],"unevaluatedProperties":false}"#,
-            r#"{"a":1,"b":2}"#,
-            r#"{"errors":[{"absoluteKeywordLocation":"https://ex.org/s#/unevaluatedProperties","error":"unevaluatedProperties is not met","instanceLocation":"","keywordLocation":"/unevaluatedProperties"},{"absoluteKeywordLocation":"https://ex.org/s#/unevaluatedProperties","error":"no value is allowed","instanceLocation":"/b","keywordLocation":"/unevaluatedProperties"}],"valid":false}"#,
-        ),
-        (
-            r#"{"anyOf":[{"properties":{"a":true}},{"properties":{"b":true},"required":["c"]}],"unevaluatedProperties":false}"#,
-            r#"{"a":1,"b":2}"#,
-            r#"{"errors":[{"absoluteKeywordLocation":"https://ex.org/s#/unevaluatedProperties","error":"unevaluatedProperties is not met","instanceLocation":"","keywordLocation":"/unevaluatedProperties"},{"absoluteKeywordLocation":"https://ex.org/s#/unevaluatedProperties","error":"no value is allowed","instanceLocation":"/b","keywordLocation":"/unevaluatedProperties"}],"valid":false}"#,
-        ),
-    ] {
-        assert_eq!(rt; answer(rt.alloc(), schema, instance)?.as_str(), text);
-    }
-    Ok(())
-}
+/// Unevaluated members are those of no passing schema.
+pub const UNEVALUATED: &[(&str, &str, &str)] = &[
+    (
+        r#"{"allOf":[{"properties":{"a":true}}],"unevaluatedProperties":false}"#,
+        r#"{"a":1,"b":2}"#,
+        r#"{"errors":[{"absoluteKeywordLocation":"https://ex.org/s#/unevaluatedProperties","error":"unevaluatedProperties is not met","instanceLocation":"","keywordLocation":"/unevaluatedProperties"},{"absoluteKeywordLocation":"https://ex.org/s#/unevaluatedProperties","error":"no value is allowed","instanceLocation":"/b","keywordLocation":"/unevaluatedProperties"}],"valid":false}"#,
+    ),
+    (
+        r#"{"anyOf":[{"properties":{"a":true}},{"properties":{"b":true},"required":["c"]}],"unevaluatedProperties":false}"#,
+        r#"{"a":1,"b":2}"#,
+        r#"{"errors":[{"absoluteKeywordLocation":"https://ex.org/s#/unevaluatedProperties","error":"unevaluatedProperties is not met","instanceLocation":"","keywordLocation":"/unevaluatedProperties"},{"absoluteKeywordLocation":"https://ex.org/s#/unevaluatedProperties","error":"no value is allowed","instanceLocation":"/b","keywordLocation":"/unevaluatedProperties"}],"valid":false}"#,
+    ),
+];
 
-#[test]
-fn references_apply_what_they_name(rt: HostRuntime) -> Result<(), Fail> {
-    for (schema, instance, text) in [
-        (r##"{"$ref":"#"}"##, r#"1"#, r#"17 Loop"#),
-        (
-            r##"{"properties":{"a":{"$ref":"#"}}}"##,
-            r#"{"a":{"a":1}}"#,
-            r#"{"annotations":[{"absoluteKeywordLocation":"https://ex.org/s#/properties","annotation":["a"],"instanceLocation":"","keywordLocation":"/properties"},{"absoluteKeywordLocation":"https://ex.org/s#/properties","annotation":["a"],"instanceLocation":"/a","keywordLocation":"/properties/a/$ref/properties"}],"valid":true}"#,
-        ),
-        (
-            r##"{"propertyNames":{"$ref":"#"}}"##,
-            r#"{"a":1}"#,
-            r#"{"annotations":[],"valid":true}"#,
-        ),
-        (
-            r##"{"$defs":{"e":{"$id":"e","$defs":{"f":{"type":"null"}}}},"$ref":"#/$defs/e/$defs/f"}"##,
-            r#"1"#,
-            r#"{"errors":[{"absoluteKeywordLocation":"https://ex.org/s#/$ref","error":"$ref is not met","instanceLocation":"","keywordLocation":"/$ref"},{"absoluteKeywordLocation":"https://ex.org/e#/$defs/f/type","error":"type is not met","instanceLocation":"","keywordLocation":"/$ref/type"}],"valid":false}"#,
-        ),
-        (
-            r##"{"$ref":"#/$defs/a","$defs":{"a":{"type":"null"}}}"##,
-            r#"null"#,
-            r#"{"annotations":[],"valid":true}"#,
-        ),
-        (
-            r#"{"$ref":"urn:other"}"#,
-            r#"null"#,
-            r#"15 Unresolved urn:other"#,
-        ),
-        (
-            r#"{"$defs":{"u":{"$ref":"q"},"v":{"$ref":"p"}}}"#,
-            r#"null"#,
-            r#"15 Unresolved https://ex.org/p"#,
-        ),
-    ] {
-        assert_eq!(rt; answer(rt.alloc(), schema, instance)?.as_str(), text);
-    }
-    Ok(())
-}
+/// References apply what they name.
+pub const REFERENCES: &[(&str, &str, &str)] = &[
+    (r##"{"$ref":"#"}"##, r#"1"#, r#"17 Loop"#),
+    (
+        r##"{"properties":{"a":{"$ref":"#"}}}"##,
+        r#"{"a":{"a":1}}"#,
+        r#"{"annotations":[{"absoluteKeywordLocation":"https://ex.org/s#/properties","annotation":["a"],"instanceLocation":"","keywordLocation":"/properties"},{"absoluteKeywordLocation":"https://ex.org/s#/properties","annotation":["a"],"instanceLocation":"/a","keywordLocation":"/properties/a/$ref/properties"}],"valid":true}"#,
+    ),
+    (
+        r##"{"propertyNames":{"$ref":"#"}}"##,
+        r#"{"a":1}"#,
+        r#"{"annotations":[],"valid":true}"#,
+    ),
+    (
+        r##"{"$defs":{"e":{"$id":"e","$defs":{"f":{"type":"null"}}}},"$ref":"#/$defs/e/$defs/f"}"##,
+        r#"1"#,
+        r#"{"errors":[{"absoluteKeywordLocation":"https://ex.org/s#/$ref","error":"$ref is not met","instanceLocation":"","keywordLocation":"/$ref"},{"absoluteKeywordLocation":"https://ex.org/e#/$defs/f/type","error":"type is not met","instanceLocation":"","keywordLocation":"/$ref/type"}],"valid":false}"#,
+    ),
+    (
+        r##"{"$ref":"#/$defs/a","$defs":{"a":{"type":"null"}}}"##,
+        r#"null"#,
+        r#"{"annotations":[],"valid":true}"#,
+    ),
+    (
+        r#"{"$ref":"urn:other"}"#,
+        r#"null"#,
+        r#"15 Unresolved urn:other"#,
+    ),
+    (
+        r#"{"$defs":{"u":{"$ref":"q"},"v":{"$ref":"p"}}}"#,
+        r#"null"#,
+        r#"15 Unresolved https://ex.org/p"#,
+    ),
+];
 
-#[test]
-fn contains_counts_what_passes(rt: HostRuntime) -> Result<(), Fail> {
-    for (schema, instance, text) in [
-        (
-            r#"{"contains":{"type":"string"},"minContains":0}"#,
-            r#"[]"#,
-            r#"{"annotations":[{"absoluteKeywordLocation":"https://ex.org/s#/contains","annotation":[],"instanceLocation":"","keywordLocation":"/contains"}],"valid":true}"#,
-        ),
-        (
-            r#"{"contains":{"type":"string"}}"#,
-            r#"[]"#,
-            r#"{"errors":[{"absoluteKeywordLocation":"https://ex.org/s#/contains","error":"contains is not met","instanceLocation":"","keywordLocation":"/contains"}],"valid":false}"#,
-        ),
-        (
-            r#"{"contains":{"type":"string"},"minContains":2}"#,
-            r#"[1]"#,
-            r#"{"errors":[{"absoluteKeywordLocation":"https://ex.org/s#/contains","error":"contains is not met","instanceLocation":"","keywordLocation":"/contains"},{"absoluteKeywordLocation":"https://ex.org/s#/contains/type","error":"type is not met","instanceLocation":"/0","keywordLocation":"/contains/type"},{"absoluteKeywordLocation":"https://ex.org/s#/minContains","error":"minContains is not met","instanceLocation":"","keywordLocation":"/minContains"}],"valid":false}"#,
-        ),
-    ] {
-        assert_eq!(rt; answer(rt.alloc(), schema, instance)?.as_str(), text);
-    }
-    Ok(())
-}
+/// `contains` counts what passes.
+pub const CONTAINS: &[(&str, &str, &str)] = &[
+    (
+        r#"{"contains":{"type":"string"},"minContains":0}"#,
+        r#"[]"#,
+        r#"{"annotations":[{"absoluteKeywordLocation":"https://ex.org/s#/contains","annotation":[],"instanceLocation":"","keywordLocation":"/contains"}],"valid":true}"#,
+    ),
+    (
+        r#"{"contains":{"type":"string"}}"#,
+        r#"[]"#,
+        r#"{"errors":[{"absoluteKeywordLocation":"https://ex.org/s#/contains","error":"contains is not met","instanceLocation":"","keywordLocation":"/contains"}],"valid":false}"#,
+    ),
+    (
+        r#"{"contains":{"type":"string"},"minContains":2}"#,
+        r#"[1]"#,
+        r#"{"errors":[{"absoluteKeywordLocation":"https://ex.org/s#/contains","error":"contains is not met","instanceLocation":"","keywordLocation":"/contains"},{"absoluteKeywordLocation":"https://ex.org/s#/contains/type","error":"type is not met","instanceLocation":"/0","keywordLocation":"/contains/type"},{"absoluteKeywordLocation":"https://ex.org/s#/minContains","error":"minContains is not met","instanceLocation":"","keywordLocation":"/minContains"}],"valid":false}"#,
+    ),
+];
 
-#[test]
-fn patterns_match_somewhere(rt: HostRuntime) -> Result<(), Fail> {
-    for (schema, instance, text) in [
-        (
-            r#"{"pattern":"a+"}"#,
-            r#""xaay""#,
-            r#"{"annotations":[],"valid":true}"#,
-        ),
-        (
-            r#"{"pattern":"a+"}"#,
-            r#""xy""#,
-            r#"{"errors":[{"absoluteKeywordLocation":"https://ex.org/s#/pattern","error":"pattern is not met","instanceLocation":"","keywordLocation":"/pattern"}],"valid":false}"#,
-        ),
-        (
-            r#"{"pattern":"a+"}"#,
-            r#"5"#,
-            r#"{"annotations":[],"valid":true}"#,
-        ),
-        (r#"{"pattern":"(?=a)"}"#, r#""xaay""#, r#"5 BadPattern"#),
-    ] {
-        assert_eq!(rt; answer(rt.alloc(), schema, instance)?.as_str(), text);
-    }
-    Ok(())
-}
+/// Patterns match somewhere.
+pub const PATTERNS: &[(&str, &str, &str)] = &[
+    (
+        r#"{"pattern":"a+"}"#,
+        r#""xaay""#,
+        r#"{"annotations":[],"valid":true}"#,
+    ),
+    (
+        r#"{"pattern":"a+"}"#,
+        r#""xy""#,
+        r#"{"errors":[{"absoluteKeywordLocation":"https://ex.org/s#/pattern","error":"pattern is not met","instanceLocation":"","keywordLocation":"/pattern"}],"valid":false}"#,
+    ),
+    (
+        r#"{"pattern":"a+"}"#,
+        r#"5"#,
+        r#"{"annotations":[],"valid":true}"#,
+    ),
+    (r#"{"pattern":"(?=a)"}"#, r#""xaay""#, r#"5 BadPattern"#),
+];
 
-#[test]
-fn keywords_of_all_kinds_annotate(rt: HostRuntime) -> Result<(), Fail> {
-    for (schema, instance, text) in [
-        (
-            r#"{"title":"t","properties":{"a":{"format":"date"}},"patternProperties":{"^b":true},"additionalProperties":{"type":"integer"},"contentSchema":{}}"#,
-            r#"{"a":"x","b1":null,"c":5}"#,
-            r#"{"annotations":[{"absoluteKeywordLocation":"https://ex.org/s#/properties","annotation":["a"],"instanceLocation":"","keywordLocation":"/properties"},{"absoluteKeywordLocation":"https://ex.org/s#/properties/a/format","annotation":"date","instanceLocation":"/a","keywordLocation":"/properties/a/format"},{"absoluteKeywordLocation":"https://ex.org/s#/patternProperties","annotation":["b1"],"instanceLocation":"","keywordLocation":"/patternProperties"},{"absoluteKeywordLocation":"https://ex.org/s#/additionalProperties","annotation":["c"],"instanceLocation":"","keywordLocation":"/additionalProperties"},{"absoluteKeywordLocation":"https://ex.org/s#/title","annotation":"t","instanceLocation":"","keywordLocation":"/title"}],"valid":true}"#,
-        ),
-        (
-            r#"{"prefixItems":[true,true],"items":{"type":"integer"}}"#,
-            r#"[1,2,3]"#,
-            r#"{"annotations":[{"absoluteKeywordLocation":"https://ex.org/s#/prefixItems","annotation":1,"instanceLocation":"","keywordLocation":"/prefixItems"},{"absoluteKeywordLocation":"https://ex.org/s#/items","annotation":true,"instanceLocation":"","keywordLocation":"/items"}],"valid":true}"#,
-        ),
-        (
-            r#"{"prefixItems":[true,true],"items":{"type":"integer"}}"#,
-            r#"[1,2]"#,
-            r#"{"annotations":[{"absoluteKeywordLocation":"https://ex.org/s#/prefixItems","annotation":true,"instanceLocation":"","keywordLocation":"/prefixItems"}],"valid":true}"#,
-        ),
-        (
-            r#"{"prefixItems":[true,true],"items":{"type":"integer"}}"#,
-            r#"[]"#,
-            r#"{"annotations":[],"valid":true}"#,
-        ),
-    ] {
-        assert_eq!(rt; answer(rt.alloc(), schema, instance)?.as_str(), text);
-    }
-    Ok(())
-}
+/// Keywords of all kinds annotate.
+pub const ANNOTATIONS: &[(&str, &str, &str)] = &[
+    (
+        r#"{"title":"t","properties":{"a":{"format":"date"}},"patternProperties":{"^b":true},"additionalProperties":{"type":"integer"},"contentSchema":{}}"#,
+        r#"{"a":"x","b1":null,"c":5}"#,
+        r#"{"annotations":[{"absoluteKeywordLocation":"https://ex.org/s#/properties","annotation":["a"],"instanceLocation":"","keywordLocation":"/properties"},{"absoluteKeywordLocation":"https://ex.org/s#/properties/a/format","annotation":"date","instanceLocation":"/a","keywordLocation":"/properties/a/format"},{"absoluteKeywordLocation":"https://ex.org/s#/patternProperties","annotation":["b1"],"instanceLocation":"","keywordLocation":"/patternProperties"},{"absoluteKeywordLocation":"https://ex.org/s#/additionalProperties","annotation":["c"],"instanceLocation":"","keywordLocation":"/additionalProperties"},{"absoluteKeywordLocation":"https://ex.org/s#/title","annotation":"t","instanceLocation":"","keywordLocation":"/title"}],"valid":true}"#,
+    ),
+    (
+        r#"{"prefixItems":[true,true],"items":{"type":"integer"}}"#,
+        r#"[1,2,3]"#,
+        r#"{"annotations":[{"absoluteKeywordLocation":"https://ex.org/s#/prefixItems","annotation":1,"instanceLocation":"","keywordLocation":"/prefixItems"},{"absoluteKeywordLocation":"https://ex.org/s#/items","annotation":true,"instanceLocation":"","keywordLocation":"/items"}],"valid":true}"#,
+    ),
+    (
+        r#"{"prefixItems":[true,true],"items":{"type":"integer"}}"#,
+        r#"[1,2]"#,
+        r#"{"annotations":[{"absoluteKeywordLocation":"https://ex.org/s#/prefixItems","annotation":true,"instanceLocation":"","keywordLocation":"/prefixItems"}],"valid":true}"#,
+    ),
+    (
+        r#"{"prefixItems":[true,true],"items":{"type":"integer"}}"#,
+        r#"[]"#,
+        r#"{"annotations":[],"valid":true}"#,
+    ),
+];
 
-#[test]
-fn schemas_in_place_are_counted(rt: HostRuntime) -> Result<(), Fail> {
-    for (schema, instance, text) in [
-        (
-            r#"{"oneOf":[{"type":"integer"},{"minimum":3}]}"#,
-            r#"5"#,
-            r#"{"errors":[{"absoluteKeywordLocation":"https://ex.org/s#/oneOf","error":"oneOf is not met","instanceLocation":"","keywordLocation":"/oneOf"}],"valid":false}"#,
-        ),
-        (
-            r#"{"oneOf":[{"type":"integer"},{"minimum":3}]}"#,
-            r#""x""#,
-            r#"{"annotations":[],"valid":true}"#,
-        ),
-        (
-            r#"{"not":{"type":"null"}}"#,
-            r#"null"#,
-            r#"{"errors":[{"absoluteKeywordLocation":"https://ex.org/s#/not","error":"not is not met","instanceLocation":"","keywordLocation":"/not"}],"valid":false}"#,
-        ),
-    ] {
-        assert_eq!(rt; answer(rt.alloc(), schema, instance)?.as_str(), text);
-    }
-    Ok(())
-}
+/// Schemas in place are counted.
+pub const IN_PLACE: &[(&str, &str, &str)] = &[
+    (
+        r#"{"oneOf":[{"type":"integer"},{"minimum":3}]}"#,
+        r#"5"#,
+        r#"{"errors":[{"absoluteKeywordLocation":"https://ex.org/s#/oneOf","error":"oneOf is not met","instanceLocation":"","keywordLocation":"/oneOf"}],"valid":false}"#,
+    ),
+    (
+        r#"{"oneOf":[{"type":"integer"},{"minimum":3}]}"#,
+        r#""x""#,
+        r#"{"annotations":[],"valid":true}"#,
+    ),
+    (
+        r#"{"not":{"type":"null"}}"#,
+        r#"null"#,
+        r#"{"errors":[{"absoluteKeywordLocation":"https://ex.org/s#/not","error":"not is not met","instanceLocation":"","keywordLocation":"/not"}],"valid":false}"#,
+    ),
+];

@@ -1,18 +1,32 @@
-//! Whole checks, from texts to the text of the output: tests alone, for the crate `checks`. The module `examples` has the
-//! cases of the folder of that name.
+//! Keywords, links, evaluations over linked documents, and whole checks, from texts to the text of the output: tests alone,
+//! for the crate `checks` and those below it. The module `examples` has the cases of the folder of that name.
 #![tactic(auto)]
 
 #[cfg(test)]
 mod answers;
 #[cfg(test)]
+mod bounds;
+#[cfg(test)]
+mod contexts;
+#[cfg(test)]
+mod documents;
+#[cfg(test)]
 mod examples;
 #[cfg(test)]
 mod keywords;
 #[cfg(test)]
+mod large_reports;
+#[cfg(test)]
 mod limits;
+#[cfg(test)]
+mod linked_documents;
+#[cfg(test)]
+mod links;
 #[cfg(test)]
 mod outputs;
 #[cfg(test)]
 mod refusals;
+#[cfg(test)]
+mod subjects;
 #[cfg(test)]
 mod texts;

@@ -7,25 +7,13 @@ use std::test::Fail;
 #[test]
 fn prints_number_name_and_text(rt: HostRuntime) -> Result<(), Fail> {
     let clash = Fault::BundleClash(String::from_str(rt.alloc(), "https://ex.org/b")?);
-    assert_eq!(rt; clash.number(), 19);
-    assert_eq!(rt; clash.name(), "BundleClash");
-    assert_eq!(rt; clash.status(), Some(409));
-    assert_eq!(rt; clash.at(), Some("https://ex.org/b"));
+    assert!(rt; clash.number() == 19 && clash.name() == "BundleClash");
+    assert!(rt; clash.status() == Some(409) && clash.at() == Some("https://ex.org/b"));
+    assert!(rt; Fault::NoRoom.at().is_none() && Fault::ReadFailed.status().is_none());
+    assert!(rt; Fault::from(AllocError) == Fault::NoRoom);
     assert_eq!(rt;
-        format!(in rt.alloc(); "{clash}")?.as_str(),
-        "19 BundleClash https://ex.org/b"
+        format!(in rt.alloc(); "{clash}, {}", Fault::NoRoom)?.as_str(),
+        "19 BundleClash https://ex.org/b, 30 NoRoom"
     );
-    Ok(())
-}
-
-#[test]
-fn carries_no_text(rt: HostRuntime) -> Result<(), Fail> {
-    assert_eq!(rt; Fault::NoRoom.at(), None);
-    assert_eq!(rt; Fault::ReadFailed.status(), None);
-    assert_eq!(rt;
-        format!(in rt.alloc(); "{}", Fault::NoRoom)?.as_str(),
-        "30 NoRoom"
-    );
-    assert_eq!(rt; Fault::from(AllocError), Fault::NoRoom);
     Ok(())
 }

@@ -15,20 +15,13 @@ fn at<'s, 'a>(path: &'s [Step<'a>], place: &'s [Step<'a>]) -> Location<'s, 'a> {
 }
 
 #[test]
-fn writes_empty_lists(rt: HostRuntime) -> Result<(), Fail> {
-    let units = Units::new(rt.alloc());
+fn writes_annotations_or_errors(rt: HostRuntime) -> Result<(), Fail> {
+    let mut units = Units::new(rt.alloc());
     let annotations = output_text(rt.alloc(), true, &units)?;
     assert_eq!(rt; annotations.as_str(), r#"{"annotations":[],"valid":true}"#);
     let errors = output_text(rt.alloc(), false, &units)?;
     assert_eq!(rt; errors.as_str(), r#"{"errors":[],"valid":false}"#);
-    Ok(())
-}
-
-#[test]
-fn writes_an_error(rt: HostRuntime) -> Result<(), Fail> {
-    let mut units = Units::new(rt.alloc());
-    let path = [Step::Name("required")];
-    units.push(at(&path, &[]), Says::NotMet("required"))?;
+    units.push(at(&[Step::Name("required")], &[]), Says::NotMet("required"))?;
     let text = output_text(rt.alloc(), false, &units)?;
     assert_eq!(rt;
         text.as_str(),
@@ -37,51 +30,39 @@ fn writes_an_error(rt: HostRuntime) -> Result<(), Fail> {
     Ok(())
 }
 
-/// The text of one annotation at the root.
-fn annotation(rt: &HostRuntime, says: Says<'_, '_>) -> Result<String, Fail> {
-    let mut units = Units::new(rt.alloc());
-    units.push(at(&[], &[]), says)?;
-    Ok(output_text(rt.alloc(), true, &units)?)
-}
-
 #[test]
 fn writes_what_units_say(rt: HostRuntime) -> Result<(), Fail> {
-    let says = annotation(&rt, Says::NotAllowed)?;
-    assert_eq!(rt;
-        says.as_str(),
-        r#"{"annotations":[{"absoluteKeywordLocation":"https://ex.org/s#","annotation":"no value is allowed","instanceLocation":"","keywordLocation":""}],"valid":true}"#
-    );
-    let says = annotation(&rt, Says::True)?;
-    assert_eq!(rt;
-        says.as_str(),
-        r#"{"annotations":[{"absoluteKeywordLocation":"https://ex.org/s#","annotation":true,"instanceLocation":"","keywordLocation":""}],"valid":true}"#
-    );
-    let says = annotation(&rt, Says::Index(10))?;
-    assert_eq!(rt;
-        says.as_str(),
-        r#"{"annotations":[{"absoluteKeywordLocation":"https://ex.org/s#","annotation":10,"instanceLocation":"","keywordLocation":""}],"valid":true}"#
-    );
-    Ok(())
-}
-
-#[test]
-fn writes_lists_and_values(rt: HostRuntime) -> Result<(), Fail> {
-    let says = annotation(&rt, Says::Names(&["a", "ä\"", ""]))?;
-    assert_eq!(rt;
-        says.as_str(),
-        r#"{"annotations":[{"absoluteKeywordLocation":"https://ex.org/s#","annotation":["a","ä\"",""],"instanceLocation":"","keywordLocation":""}],"valid":true}"#
-    );
-    let says = annotation(&rt, Says::Indexes(&[0, 2]))?;
-    assert_eq!(rt;
-        says.as_str(),
-        r#"{"annotations":[{"absoluteKeywordLocation":"https://ex.org/s#","annotation":[0,2],"instanceLocation":"","keywordLocation":""}],"valid":true}"#
-    );
     let title = read(rt.alloc(), br#"{"b":[1,null],"a":"x"}"#)?;
-    let says = annotation(&rt, Says::Value(&title))?;
-    assert_eq!(rt;
-        says.as_str(),
-        r#"{"annotations":[{"absoluteKeywordLocation":"https://ex.org/s#","annotation":{"a":"x","b":[1,null]},"instanceLocation":"","keywordLocation":""}],"valid":true}"#
-    );
+    for (says, text) in [
+        (
+            Says::NotAllowed,
+            r#"{"annotations":[{"absoluteKeywordLocation":"https://ex.org/s#","annotation":"no value is allowed","instanceLocation":"","keywordLocation":""}],"valid":true}"#,
+        ),
+        (
+            Says::True,
+            r#"{"annotations":[{"absoluteKeywordLocation":"https://ex.org/s#","annotation":true,"instanceLocation":"","keywordLocation":""}],"valid":true}"#,
+        ),
+        (
+            Says::Index(10),
+            r#"{"annotations":[{"absoluteKeywordLocation":"https://ex.org/s#","annotation":10,"instanceLocation":"","keywordLocation":""}],"valid":true}"#,
+        ),
+        (
+            Says::Names(&["a", "ä\"", ""]),
+            r#"{"annotations":[{"absoluteKeywordLocation":"https://ex.org/s#","annotation":["a","ä\"",""],"instanceLocation":"","keywordLocation":""}],"valid":true}"#,
+        ),
+        (
+            Says::Indexes(&[0, 2]),
+            r#"{"annotations":[{"absoluteKeywordLocation":"https://ex.org/s#","annotation":[0,2],"instanceLocation":"","keywordLocation":""}],"valid":true}"#,
+        ),
+        (
+            Says::Value(&title),
+            r#"{"annotations":[{"absoluteKeywordLocation":"https://ex.org/s#","annotation":{"a":"x","b":[1,null]},"instanceLocation":"","keywordLocation":""}],"valid":true}"#,
+        ),
+    ] {
+        let mut units = Units::new(rt.alloc());
+        units.push(at(&[], &[]), says)?;
+        assert_eq!(rt; output_text(rt.alloc(), true, &units)?.as_str(), text);
+    }
     Ok(())
 }
 

@@ -1,16 +1,32 @@
-//! Scans and compiled forms of schema documents, their resources, anchors, references and patterns, on texts: tests alone,
-//! for the crate `schema_scan` and those below it.
+//! References and their parts, patterns, the shapes of keywords, and the scans and compiled forms of schema documents, on
+//! texts: tests alone, for the crate `schema_scan` and those below it.
 #![tactic(auto)]
 
 #[cfg(test)]
 mod documents;
 #[cfg(test)]
+mod fragments;
+#[cfg(test)]
+mod pattern_machines;
+#[cfg(test)]
+mod pattern_matches;
+#[cfg(test)]
+mod pattern_refusals;
+#[cfg(test)]
 mod pattern_room;
+#[cfg(test)]
+mod pattern_sizes;
 #[cfg(test)]
 mod pattern_tables;
 #[cfg(test)]
 mod pointers;
 #[cfg(test)]
+mod resolution;
+#[cfg(test)]
 mod resources;
 #[cfg(test)]
 mod scans;
+#[cfg(test)]
+mod shapes;
+#[cfg(test)]
+mod uri_parts;

@@ -1,68 +1,60 @@
 //! What the patterns of a document may take together.
 
-use json_doc::read;
-use schema_scan::{Compiled, Fault, compile, scan};
+use crate::documents::compiled;
+use schema_scan::Fault;
 use std::alloc::Global;
 use std::test::Fail;
-use uri_ref::split;
 
-fn compiled(alloc: Global, document: &str) -> Result<Compiled, Fault> {
-    let document = read(alloc, document.as_bytes())?;
-    compile(alloc, scan(alloc, &split("https://ex.org/s"), &document)?)
+// Each copy of `\w` takes 14,000 bytes and a few: the room of 32 MiB is for some 2,350. A pattern that stands twice takes
+// room once.
+const TOGETHER: &[(&str, bool)] = &[
+    (
+        r#"{"allOf":[{"pattern":"\\w{1000}"},{"pattern":"\\w{1001}"},{"pattern":"\\w{300}"}]}"#,
+        true,
+    ),
+    (
+        r#"{"allOf":[{"pattern":"\\w{1000}"},{"pattern":"\\w{1001}"},{"pattern":"\\w{400}"}]}"#,
+        false,
+    ),
+    (
+        r#"{"allOf":[{"pattern":"\\w{1000}"},{"pattern":"\\w{1000}"},{"pattern":"\\w{1000}"}]}"#,
+        true,
+    ),
+];
+
+fn is_built(alloc: Global, document: &str) -> Result<bool, Fault> {
+    match compiled(alloc, "https://ex.org/s", document) {
+        Ok(_) => Ok(true),
+        Err(Fault::BadPattern) => Ok(false),
+        Err(fault) => Err(fault),
+    }
 }
 
-// Each copy of `\w` takes 14,000 bytes and a few: the room of 32 MiB is for some 2,350.
 #[test]
-fn patterns_that_fit_together_are_built(rt: HostRuntime) -> Result<(), Fail> {
-    let text =
-        r#"{"allOf":[{"pattern":"\\w{1000}"},{"pattern":"\\w{1001}"},{"pattern":"\\w{300}"}]}"#;
-    let document = compiled(rt.alloc(), text)?;
-    assert!(rt; document.pattern(r"\w{300}").is_some());
+fn patterns_share_a_room(rt: HostRuntime) -> Result<(), Fail> {
+    for (document, fits) in TOGETHER {
+        assert_eq!(rt; is_built(rt.alloc(), document)?, *fits, "{document}");
+    }
     Ok(())
 }
 
-#[test]
-fn patterns_that_do_not_fit_together_are_refused(rt: HostRuntime) -> Result<(), Fail> {
-    let text =
-        r#"{"allOf":[{"pattern":"\\w{1000}"},{"pattern":"\\w{1001}"},{"pattern":"\\w{400}"}]}"#;
-    let refused = compiled(rt.alloc(), text);
-    assert!(rt; matches!(refused, Err(Fault::BadPattern)));
-    Ok(())
-}
-
-#[test]
-fn a_pattern_that_stands_twice_takes_room_once(rt: HostRuntime) -> Result<(), Fail> {
-    let text =
-        r#"{"allOf":[{"pattern":"\\w{1000}"},{"pattern":"\\w{1000}"},{"pattern":"\\w{1000}"}]}"#;
-    let document = compiled(rt.alloc(), text)?;
-    assert!(rt; document.pattern(r"\w{1000}").is_some());
-    Ok(())
-}
+// How many patterns a document has, what stands before and after the number of each, and whether they are built. Small
+// ones are; the class of the others is empty, so that all copies come to one state, but each pattern is charged with the
+// time that it took to write them, 1 MiB.
+const MANY: &[(u32, &str, &str, bool)] = &[
+    (5_000, "^[a-z]{2}-", r#"$":{"type":"string"}"#, true),
+    (40, r"(?:[^\\s\\S]x{1000}){1000}", r#"":true"#, false),
+];
 
 #[test]
 fn thousands_of_small_patterns_are_built(rt: HostRuntime) -> Result<(), Fail> {
-    let mut text = String::from_str(rt.alloc(), r#"{"patternProperties":{"a":true"#)?;
-    for number in 0..5_000 {
-        let member = format!(in rt.alloc(); r#","^[a-z]{{2}}-{number}$":{{"type":"string"}}"#)?;
-        text.push_str(member.as_str())?;
+    for (count, before, after, fits) in MANY {
+        let mut text = String::from_str(rt.alloc(), r#"{"patternProperties":{"a":true"#)?;
+        for number in 0..*count {
+            text.push_str(format!(in rt.alloc(); ",\"{before}{number}{after}")?.as_str())?;
+        }
+        text.push_str("}}")?;
+        assert_eq!(rt; is_built(rt.alloc(), text.as_str())?, *fits, "{before}");
     }
-    text.push_str("}}")?;
-    let document = compiled(rt.alloc(), text.as_str())?;
-    assert!(rt; document.pattern("^[a-z]{2}-4999$").is_some());
-    Ok(())
-}
-
-// The class is empty, so that all copies come to one state; each pattern is charged with the time that it took to write
-// them, 1 MiB.
-#[test]
-fn parts_that_leave_no_state_take_room(rt: HostRuntime) -> Result<(), Fail> {
-    let mut text = String::from_str(rt.alloc(), r#"{"patternProperties":{"a":true"#)?;
-    for number in 0..40 {
-        let member = format!(in rt.alloc(); r#","(?:[^\\s\\S]x{{1000}}){{1000}}{number}":true"#)?;
-        text.push_str(member.as_str())?;
-    }
-    text.push_str("}}")?;
-    let refused = compiled(rt.alloc(), text.as_str());
-    assert!(rt; matches!(refused, Err(Fault::BadPattern)));
     Ok(())
 }

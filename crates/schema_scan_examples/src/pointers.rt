@@ -1,4 +1,4 @@
-//! The schemas that pointers lead to.
+//! The schemas that pointers and anchors lead to.
 
 use crate::documents::compiled;
 use json_doc::write;
@@ -21,85 +21,83 @@ pub fn shown(alloc: Global, located: Option<Located<'_>>) -> Result<String, Fail
     Ok(text)
 }
 
-// What the pointer leads to from the root of a document under this base.
-fn pointed(alloc: Global, base: &str, document: &str, pointer: &str) -> Result<String, Fail> {
-    let document = compiled(alloc, base, document)?;
-    let fragment = fragment_kind(alloc, Some(pointer))?;
-    shown(alloc, document.target(alloc, base, &fragment)?)
-}
+const BASE: &str = "https://ex.org/a/base";
+
+/// A document under `https://ex.org/a/base` with two embedded resources.
+pub const RESOURCES: &str = r##"{
+    "$defs": {
+        "inner": {
+            "$id": "../b/inner#",
+            "$defs": {"deep": {"$id": "deep", "$anchor": "x"}},
+            "items": {"$dynamicAnchor": "y", "$ref": "deep"}
+        }
+    },
+    "allOf": [true, {"$anchor": "x", "$dynamicRef": "#y"}],
+    "const": {"$ref": "not/one", "$anchor": "z"},
+    "enum": [{"$ref": "not/one"}]
+}"##;
+
+// A document, a fragment, and what it leads to from the root of the document; nothing from values that are no schemas.
+const TARGETS: &[(&str, &str, &str)] = &[
+    (r#"{"not":true}"#, "/not", "https://ex.org/a/base#/not true"),
+    (
+        r#"{"items":true}"#,
+        "/items",
+        "https://ex.org/a/base#/items true",
+    ),
+    (
+        r#"{"$defs":{"a/b":true}}"#,
+        "/$defs/a~1b",
+        "https://ex.org/a/base#/$defs/a~1b true",
+    ),
+    (
+        r#"{"allOf":[false,true]}"#,
+        "/allOf/1",
+        "https://ex.org/a/base#/allOf/1 true",
+    ),
+    (
+        r#"{"allOf":[false,true]}"#,
+        "/allOf/0",
+        "https://ex.org/a/base#/allOf/0 false",
+    ),
+    (
+        r#"{"allOf":[false,{"if":true}]}"#,
+        "/allOf/1/if",
+        "https://ex.org/a/base#/allOf/1/if true",
+    ),
+    (r#"{"const":true}"#, "/const", ""),
+    (r#"{"x":true}"#, "/x", ""),
+    (r#"{"$defs":{"a":true}}"#, "/$defs", ""),
+    (r#"{"$defs":{"a":true}}"#, "/$defs/b", ""),
+    (r#"{"$defs":{"a":true}}"#, "/$defs/a/not", ""),
+    (r#"{"$defs":{"a/b":true}}"#, "/$defs/a~1b/c/d", ""),
+    (r#"{"allOf":[true,true]}"#, "/allOf", ""),
+    (r#"{"allOf":[true,true]}"#, "/allOf/2", ""),
+    (r#"{"allOf":[true,true]}"#, "/allOf/01", ""),
+    (r#"{"allOf":[true,true]}"#, "/allOf/+1", ""),
+    (r#"{"allOf":[false,true]}"#, "/allOf/1/if", ""),
+    (
+        r#"{"$defs":{"d":{"$id":"c#"}}}"#,
+        "/$defs/d",
+        r##"https://ex.org/a/c# {"$id":"c#"}"##,
+    ),
+    ("{}", "", "https://ex.org/a/base# {}"),
+    (
+        RESOURCES,
+        "x",
+        r##"https://ex.org/a/base#/allOf/1 {"$anchor":"x","$dynamicRef":"#y"}"##,
+    ),
+    (RESOURCES, "z", ""),
+];
 
 #[test]
-fn steps_lead_to_schemas(rt: HostRuntime) -> Result<(), Fail> {
-    let base = "https://ex.org/s";
-    for (document, pointer, text) in [
-        (r#"{"not":true}"#, "/not", "https://ex.org/s#/not true"),
-        (
-            r#"{"items":true}"#,
-            "/items",
-            "https://ex.org/s#/items true",
-        ),
-        (
-            r#"{"$defs":{"a/b":true}}"#,
-            "/$defs/a~1b",
-            "https://ex.org/s#/$defs/a~1b true",
-        ),
-        (
-            r#"{"allOf":[false,true]}"#,
-            "/allOf/1",
-            "https://ex.org/s#/allOf/1 true",
-        ),
-        (
-            r#"{"allOf":[false,true]}"#,
-            "/allOf/0",
-            "https://ex.org/s#/allOf/0 false",
-        ),
-        (
-            r#"{"allOf":[false,{"if":true}]}"#,
-            "/allOf/1/if",
-            "https://ex.org/s#/allOf/1/if true",
-        ),
-    ] {
-        assert_eq!(rt;
-            pointed(rt.alloc(), base, document, pointer)?.as_str(),
-            text
-        );
+fn fragments_lead_to_schemas(rt: HostRuntime) -> Result<(), Fail> {
+    let alloc = rt.alloc();
+    for (document, fragment, text) in TARGETS {
+        let compiled = compiled(alloc, BASE, document)?;
+        let kind = fragment_kind(alloc, Some(fragment))?;
+        let found = shown(alloc, compiled.target(alloc, BASE, &kind)?)?;
+        assert_eq!(rt; found.as_str(), *text, "{fragment} in {document}");
     }
-    Ok(())
-}
-
-#[test]
-fn other_values_are_no_schemas(rt: HostRuntime) -> Result<(), Fail> {
-    let base = "https://ex.org/s";
-    for (document, pointer) in [
-        (r#"{"const":true}"#, "/const"),
-        (r#"{"x":true}"#, "/x"),
-        (r#"{"$defs":{"a":true}}"#, "/$defs"),
-        (r#"{"$defs":{"a":true}}"#, "/$defs/b"),
-        (r#"{"$defs":{"a":true}}"#, "/$defs/a/not"),
-        (r#"{"$defs":{"a/b":true}}"#, "/$defs/a~1b/c/d"),
-        (r#"{"allOf":[true,true]}"#, "/allOf"),
-        (r#"{"allOf":[true,true]}"#, "/allOf/2"),
-        (r#"{"allOf":[true,true]}"#, "/allOf/01"),
-        (r#"{"allOf":[true,true]}"#, "/allOf/+1"),
-        (r#"{"allOf":[false,true]}"#, "/allOf/1/if"),
-    ] {
-        let text = pointed(rt.alloc(), base, document, pointer)?;
-        assert_eq!(rt; text.as_str(), "", "{pointer} in {document}");
-    }
-    Ok(())
-}
-
-#[test]
-fn identifiers_open_resources(rt: HostRuntime) -> Result<(), Fail> {
-    assert_eq!(rt;
-        pointed(
-            rt.alloc(),
-            "https://ex.org/a/b",
-            r#"{"$defs":{"d":{"$id":"c#"}}}"#,
-            "/$defs/d"
-        )?
-        .as_str(),
-        r##"https://ex.org/a/c# {"$id":"c#"}"##
-    );
     Ok(())
 }

@@ -1,31 +1,13 @@
-//! The resources, anchors and references of a document.
+//! The resources, dynamic anchors and references of a document.
 
-use crate::documents::compiled;
-use crate::pointers::shown;
-use json_doc::{Fault, write};
-use schema_scan::{Compiled, canonical};
+use crate::documents::{DOCUMENT, compiled};
+use crate::pointers::{RESOURCES, shown};
 use std::alloc::Global;
 use std::test::Fail;
-use uri_ref::{FragmentKind, fragment_kind};
 
 const BASE: &str = "https://ex.org/a/base";
 
-const DOCUMENT: &str = r##"{
-    "$defs": {
-        "inner": {
-            "$id": "../b/inner#",
-            "$defs": {"deep": {"$id": "deep", "$anchor": "x"}},
-            "items": {"$dynamicAnchor": "y", "$ref": "deep"}
-        }
-    },
-    "allOf": [true, {"$anchor": "x", "$dynamicRef": "#y"}],
-    "const": {"$ref": "not/one", "$anchor": "z"},
-    "enum": [{"$ref": "not/one"}]
-}"##;
-
-fn indexed(alloc: Global) -> Result<Compiled, Fault> {
-    compiled(alloc, BASE, DOCUMENT)
-}
+const OTHER: &str = "https://ex.org/s";
 
 // The texts, each after a space.
 fn joined(alloc: Global, texts: &[String]) -> Result<String, Fail> {
@@ -37,78 +19,96 @@ fn joined(alloc: Global, texts: &[String]) -> Result<String, Fail> {
     Ok(line)
 }
 
+// A base, a document, the URIs of its resources, and its references.
+const GATHERED: &[(&str, &str, &str, &str)] = &[
+    (
+        BASE,
+        RESOURCES,
+        " https://ex.org/a/base https://ex.org/b/inner https://ex.org/b/deep",
+        " https://ex.org/b/deep https://ex.org/a/base#y",
+    ),
+    (
+        OTHER,
+        DOCUMENT,
+        " https://ex.org/s https://ex.org/in/e",
+        " https://ex.org/s#/$defs/f https://ex.org/in/e#n https://ex.org/in/e#d",
+    ),
+    (BASE, "{}", " https://ex.org/a/base", ""),
+];
+
 #[test]
-fn gathers_uris_and_references(rt: HostRuntime) -> Result<(), Fail> {
-    let document = indexed(rt.alloc())?;
-    assert_eq!(rt;
-        joined(rt.alloc(), document.resource_uris())?.as_str(),
-        " https://ex.org/a/base https://ex.org/b/inner https://ex.org/b/deep"
-    );
-    assert_eq!(rt;
-        joined(rt.alloc(), document.references())?.as_str(),
-        " https://ex.org/b/deep https://ex.org/a/base#y"
-    );
+fn uris_and_references_are_gathered(rt: HostRuntime) -> Result<(), Fail> {
+    let alloc = rt.alloc();
+    for (base, document, uris, references) in GATHERED {
+        let compiled = compiled(alloc, base, document)?;
+        assert_eq!(rt; compiled.base(), *base);
+        assert_eq!(rt; joined(alloc, compiled.resource_uris())?.as_str(), *uris);
+        assert_eq!(rt; joined(alloc, compiled.references())?.as_str(), *references);
+    }
     Ok(())
 }
 
+// A base, a document, and the root of the resource with this URI; nothing where it opens none.
+const ROOTS: &[(&str, &str, &str, &str)] = &[
+    (
+        BASE,
+        RESOURCES,
+        "https://ex.org/b/deep",
+        r#"https://ex.org/b/deep# {"$anchor":"x","$id":"deep"}"#,
+    ),
+    (BASE, RESOURCES, "https://ex.org/a/deep", ""),
+    (
+        OTHER,
+        DOCUMENT,
+        "https://ex.org/in/e",
+        r##"https://ex.org/in/e# {"$anchor":"n","$id":"in/e","allOf":[{"type":"null"},{"$dynamicAnchor":"d","$ref":"#n"}]}"##,
+    ),
+    (OTHER, DOCUMENT, "https://ex.org/no", ""),
+    (BASE, "{}", BASE, "https://ex.org/a/base# {}"),
+];
+
 #[test]
-fn finds_roots_by_uri(rt: HostRuntime) -> Result<(), Fail> {
+fn roots_are_found_by_uri(rt: HostRuntime) -> Result<(), Fail> {
     let alloc = rt.alloc();
-    let document = indexed(alloc)?;
-    let deep = "https://ex.org/b/deep";
-    assert_eq!(rt; document.resource_uri(deep), Some(deep));
-    assert_eq!(rt; document.resource_uri("https://ex.org/a/deep"), None);
-    let text = match document.resource_root(alloc, deep) {
-        Some(root) => write(alloc, root.schema)?,
-        None => String::new(alloc),
-    };
-    assert_eq!(rt; text.as_str(), r#"{"$anchor":"x","$id":"deep"}"#);
+    for (base, document, uri, text) in ROOTS {
+        let compiled = compiled(alloc, base, document)?;
+        let is_there = compiled.resource_uri(uri) == Some(*uri);
+        assert_eq!(rt; is_there, !text.is_empty(), "{uri}");
+        let root = shown(alloc, compiled.resource_root(alloc, uri))?;
+        assert_eq!(rt; root.as_str(), *text, "{uri}");
+    }
     Ok(())
 }
 
-#[test]
-fn finds_anchors(rt: HostRuntime) -> Result<(), Fail> {
-    let alloc = rt.alloc();
-    let document = indexed(alloc)?;
-    let plain = document.target(alloc, BASE, &fragment_kind(alloc, Some("x"))?)?;
-    assert_eq!(rt;
-        shown(alloc, plain)?.as_str(),
-        r##"https://ex.org/a/base#/allOf/1 {"$anchor":"x","$dynamicRef":"#y"}"##
-    );
-    let dynamic = document.dynamically_anchored(alloc, "https://ex.org/b/inner", "y")?;
-    assert_eq!(rt;
-        shown(alloc, dynamic)?.as_str(),
-        r#"https://ex.org/b/inner#/items {"$dynamicAnchor":"y","$ref":"deep"}"#
-    );
-    assert_eq!(rt;
-        document.dynamically_anchored(alloc, BASE, "x")?.is_some(),
-        false
-    );
-    let in_value = document.target(alloc, BASE, &fragment_kind(alloc, Some("z"))?)?;
-    assert_eq!(rt; in_value.is_some(), false);
-    Ok(())
-}
+// A base, a document, a resource, a name, and what the name names there dynamically; nothing for no dynamic anchor.
+const DYNAMIC: &[(&str, &str, &str, &str, &str)] = &[
+    (
+        OTHER,
+        DOCUMENT,
+        "https://ex.org/in/e",
+        "d",
+        r##"https://ex.org/in/e#/allOf/1 {"$dynamicAnchor":"d","$ref":"#n"}"##,
+    ),
+    (OTHER, DOCUMENT, "https://ex.org/in/e", "n", ""),
+    (OTHER, DOCUMENT, OTHER, "d", ""),
+    (
+        BASE,
+        RESOURCES,
+        "https://ex.org/b/inner",
+        "y",
+        r#"https://ex.org/b/inner#/items {"$dynamicAnchor":"y","$ref":"deep"}"#,
+    ),
+    (BASE, RESOURCES, BASE, "x", ""),
+    (BASE, "{}", BASE, "x", ""),
+];
 
 #[test]
-fn indexes_a_document(rt: HostRuntime) -> Result<(), Fail> {
+fn dynamic_anchors_are_found_by_their_resource(rt: HostRuntime) -> Result<(), Fail> {
     let alloc = rt.alloc();
-    let document = compiled(alloc, BASE, "{}")?;
-    assert_eq!(rt; document.base(), BASE);
-    assert_eq!(rt; canonical(&document), BASE);
-    assert_eq!(rt;
-        joined(alloc, document.resource_uris())?.as_str(),
-        " https://ex.org/a/base"
-    );
-    assert_eq!(rt; document.references().len(), 0);
-    assert_eq!(rt; document.resource_uri(BASE), Some(BASE));
-    let root = document.resource_root(alloc, BASE);
-    assert_eq!(rt; shown(alloc, root)?.as_str(), "https://ex.org/a/base# {}");
-    let whole = document.target(alloc, BASE, &FragmentKind::Empty)?;
-    assert_eq!(rt; shown(alloc, whole)?.as_str(), "https://ex.org/a/base# {}");
-    assert_eq!(rt;
-        document.dynamically_anchored(alloc, BASE, "x")?.is_some(),
-        false
-    );
-    assert_eq!(rt; write(alloc, document.document())?.as_str(), "{}");
+    for (base, document, uri, name, text) in DYNAMIC {
+        let compiled = compiled(alloc, base, document)?;
+        let found = shown(alloc, compiled.dynamically_anchored(alloc, uri, name)?)?;
+        assert_eq!(rt; found.as_str(), *text, "{name} in {uri}");
+    }
     Ok(())
 }

@@ -1,8 +1,6 @@
 //! The examples in `examples/annotations`, written by `examples/write_tests.py`.
 
-use crate::answers::check_files;
 use checks::DEFAULT_URI;
-use std::test::Fail;
 
 const SCHEMA: &str = r#"{
   "title": "Account",
@@ -20,26 +18,18 @@ const SCHEMA: &str = r#"{
   }
 }"#;
 
-#[test]
-fn files_have_their_answers(rt: HostRuntime) -> Result<(), Fail> {
-    for (uri, schema, instance, answer) in [
-        (
-            DEFAULT_URI,
-            SCHEMA,
-            r#"{ "email": "ada@example.com", "avatar": "iVBORw0KGgo=", "nickname": "ada" }"#,
-            r#"{"annotations":[{"absoluteKeywordLocation":"urn:schemareg:root#/properties","annotation":["avatar","email","nickname"],"instanceLocation":"","keywordLocation":"/properties"},{"absoluteKeywordLocation":"urn:schemareg:root#/properties/avatar/contentEncoding","annotation":"base64","instanceLocation":"/avatar","keywordLocation":"/properties/avatar/contentEncoding"},{"absoluteKeywordLocation":"urn:schemareg:root#/properties/avatar/contentMediaType","annotation":"image/png","instanceLocation":"/avatar","keywordLocation":"/properties/avatar/contentMediaType"},{"absoluteKeywordLocation":"urn:schemareg:root#/properties/email/format","annotation":"email","instanceLocation":"/email","keywordLocation":"/properties/email/format"},{"absoluteKeywordLocation":"urn:schemareg:root#/properties/email/title","annotation":"E-mail","instanceLocation":"/email","keywordLocation":"/properties/email/title"},{"absoluteKeywordLocation":"urn:schemareg:root#/properties/nickname/deprecated","annotation":true,"instanceLocation":"/nickname","keywordLocation":"/properties/nickname/deprecated"},{"absoluteKeywordLocation":"urn:schemareg:root#/description","annotation":"What a form generator needs is in the annotations.","instanceLocation":"","keywordLocation":"/description"},{"absoluteKeywordLocation":"urn:schemareg:root#/title","annotation":"Account","instanceLocation":"","keywordLocation":"/title"}],"valid":true}"#,
-        ),
-        (
-            DEFAULT_URI,
-            SCHEMA,
-            r#"{ "email": "ada@example.com", "language": 5 }"#,
-            r#"{"errors":[{"absoluteKeywordLocation":"urn:schemareg:root#/properties","error":"properties is not met","instanceLocation":"","keywordLocation":"/properties"},{"absoluteKeywordLocation":"urn:schemareg:root#/properties/language/type","error":"type is not met","instanceLocation":"/language","keywordLocation":"/properties/language/type"}],"valid":false}"#,
-        ),
-    ] {
-        assert_eq!(rt;
-            check_files(rt.alloc(), uri, schema, instance)?.as_str(),
-            answer
-        );
-    }
-    Ok(())
-}
+/// URI, schema, instance and answer.
+pub const FILES: &[(&str, &str, &str, &str)] = &[
+    (
+        DEFAULT_URI,
+        SCHEMA,
+        r#"{ "email": "ada@example.com", "avatar": "iVBORw0KGgo=", "nickname": "ada" }"#,
+        r#"{"annotations":[{"absoluteKeywordLocation":"urn:schemareg:root#/properties","annotation":["avatar","email","nickname"],"instanceLocation":"","keywordLocation":"/properties"},{"absoluteKeywordLocation":"urn:schemareg:root#/properties/avatar/contentEncoding","annotation":"base64","instanceLocation":"/avatar","keywordLocation":"/properties/avatar/contentEncoding"},{"absoluteKeywordLocation":"urn:schemareg:root#/properties/avatar/contentMediaType","annotation":"image/png","instanceLocation":"/avatar","keywordLocation":"/properties/avatar/contentMediaType"},{"absoluteKeywordLocation":"urn:schemareg:root#/properties/email/format","annotation":"email","instanceLocation":"/email","keywordLocation":"/properties/email/format"},{"absoluteKeywordLocation":"urn:schemareg:root#/properties/email/title","annotation":"E-mail","instanceLocation":"/email","keywordLocation":"/properties/email/title"},{"absoluteKeywordLocation":"urn:schemareg:root#/properties/nickname/deprecated","annotation":true,"instanceLocation":"/nickname","keywordLocation":"/properties/nickname/deprecated"},{"absoluteKeywordLocation":"urn:schemareg:root#/description","annotation":"What a form generator needs is in the annotations.","instanceLocation":"","keywordLocation":"/description"},{"absoluteKeywordLocation":"urn:schemareg:root#/title","annotation":"Account","instanceLocation":"","keywordLocation":"/title"}],"valid":true}"#,
+    ),
+    (
+        DEFAULT_URI,
+        SCHEMA,
+        r#"{ "email": "ada@example.com", "language": 5 }"#,
+        r#"{"errors":[{"absoluteKeywordLocation":"urn:schemareg:root#/properties","error":"properties is not met","instanceLocation":"","keywordLocation":"/properties"},{"absoluteKeywordLocation":"urn:schemareg:root#/properties/language/type","error":"type is not met","instanceLocation":"/language","keywordLocation":"/properties/language/type"}],"valid":false}"#,
+    ),
+];

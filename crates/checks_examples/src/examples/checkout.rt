@@ -1,8 +1,6 @@
 //! The examples in `examples/checkout`, written by `examples/write_tests.py`.
 
-use crate::answers::check_files;
 use checks::DEFAULT_URI;
-use std::test::Fail;
 
 const SCHEMA: &str = r#"{
   "$id": "https://example.com/checkout",
@@ -43,38 +41,30 @@ const SCHEMA: &str = r#"{
   ]
 }"#;
 
-#[test]
-fn files_have_their_answers(rt: HostRuntime) -> Result<(), Fail> {
-    for (uri, schema, instance, answer) in [
-        (
-            DEFAULT_URI,
-            SCHEMA,
-            r#"{ "country": "US", "postcode": "94103-1234", "payment": "card", "card": "4111111111111111", "holder": "A. Lovelace" }"#,
-            r#"{"annotations":[{"absoluteKeywordLocation":"https://example.com/checkout#/if/properties","annotation":["country"],"instanceLocation":"","keywordLocation":"/if/properties"},{"absoluteKeywordLocation":"https://example.com/checkout#/then/properties","annotation":["postcode"],"instanceLocation":"","keywordLocation":"/then/properties"},{"absoluteKeywordLocation":"https://example.com/checkout#/properties","annotation":["card","country","payment","postcode"],"instanceLocation":"","keywordLocation":"/properties"}],"valid":true}"#,
-        ),
-        (
-            DEFAULT_URI,
-            SCHEMA,
-            r#"{ "country": "DE", "payment": "invoice", "company": "Rechner AG", "tax_number": "DE 129" }"#,
-            r#"{"annotations":[{"absoluteKeywordLocation":"https://example.com/checkout#/allOf/0/anyOf/0/properties","annotation":["payment"],"instanceLocation":"","keywordLocation":"/allOf/0/anyOf/0/properties"},{"absoluteKeywordLocation":"https://example.com/checkout#/else/properties","annotation":[],"instanceLocation":"","keywordLocation":"/else/properties"},{"absoluteKeywordLocation":"https://example.com/checkout#/dependentSchemas/company/properties","annotation":["tax_number"],"instanceLocation":"","keywordLocation":"/dependentSchemas/company/properties"},{"absoluteKeywordLocation":"https://example.com/checkout#/properties","annotation":["company","country","payment"],"instanceLocation":"","keywordLocation":"/properties"}],"valid":true}"#,
-        ),
-        (
-            DEFAULT_URI,
-            SCHEMA,
-            r#"{ "country": "US", "postcode": "SW1A 1AA", "payment": "card", "company": "Engines Ltd" }"#,
-            r#"{"errors":[{"absoluteKeywordLocation":"https://example.com/checkout#/allOf","error":"allOf is not met","instanceLocation":"","keywordLocation":"/allOf"},{"absoluteKeywordLocation":"https://example.com/checkout#/allOf/0/anyOf","error":"anyOf is not met","instanceLocation":"","keywordLocation":"/allOf/0/anyOf"},{"absoluteKeywordLocation":"https://example.com/checkout#/allOf/0/anyOf/0/properties","error":"properties is not met","instanceLocation":"","keywordLocation":"/allOf/0/anyOf/0/properties"},{"absoluteKeywordLocation":"https://example.com/checkout#/allOf/0/anyOf/0/properties/payment/const","error":"const is not met","instanceLocation":"/payment","keywordLocation":"/allOf/0/anyOf/0/properties/payment/const"},{"absoluteKeywordLocation":"https://example.com/checkout#/allOf/0/anyOf/1/required","error":"required is not met","instanceLocation":"","keywordLocation":"/allOf/0/anyOf/1/required"},{"absoluteKeywordLocation":"https://example.com/checkout#/then","error":"then is not met","instanceLocation":"","keywordLocation":"/then"},{"absoluteKeywordLocation":"https://example.com/checkout#/then/properties","error":"properties is not met","instanceLocation":"","keywordLocation":"/then/properties"},{"absoluteKeywordLocation":"https://example.com/checkout#/then/properties/postcode/pattern","error":"pattern is not met","instanceLocation":"/postcode","keywordLocation":"/then/properties/postcode/pattern"},{"absoluteKeywordLocation":"https://example.com/checkout#/dependentSchemas","error":"dependentSchemas is not met","instanceLocation":"","keywordLocation":"/dependentSchemas"},{"absoluteKeywordLocation":"https://example.com/checkout#/dependentSchemas/company/required","error":"required is not met","instanceLocation":"","keywordLocation":"/dependentSchemas/company/required"}],"valid":false}"#,
-        ),
-        (
-            DEFAULT_URI,
-            SCHEMA,
-            r#"{ "country": "GB", "postcode": "SW", "payment": "card", "card": "4111 1111" }"#,
-            r#"{"errors":[{"absoluteKeywordLocation":"https://example.com/checkout#/dependentRequired","error":"dependentRequired is not met","instanceLocation":"","keywordLocation":"/dependentRequired"},{"absoluteKeywordLocation":"https://example.com/checkout#/else","error":"else is not met","instanceLocation":"","keywordLocation":"/else"},{"absoluteKeywordLocation":"https://example.com/checkout#/else/properties","error":"properties is not met","instanceLocation":"","keywordLocation":"/else/properties"},{"absoluteKeywordLocation":"https://example.com/checkout#/else/properties/postcode/minLength","error":"minLength is not met","instanceLocation":"/postcode","keywordLocation":"/else/properties/postcode/minLength"},{"absoluteKeywordLocation":"https://example.com/checkout#/properties","error":"properties is not met","instanceLocation":"","keywordLocation":"/properties"},{"absoluteKeywordLocation":"https://example.com/checkout#/properties/card/pattern","error":"pattern is not met","instanceLocation":"/card","keywordLocation":"/properties/card/pattern"}],"valid":false}"#,
-        ),
-    ] {
-        assert_eq!(rt;
-            check_files(rt.alloc(), uri, schema, instance)?.as_str(),
-            answer
-        );
-    }
-    Ok(())
-}
+/// URI, schema, instance and answer.
+pub const FILES: &[(&str, &str, &str, &str)] = &[
+    (
+        DEFAULT_URI,
+        SCHEMA,
+        r#"{ "country": "US", "postcode": "94103-1234", "payment": "card", "card": "4111111111111111", "holder": "A. Lovelace" }"#,
+        r#"{"annotations":[{"absoluteKeywordLocation":"https://example.com/checkout#/if/properties","annotation":["country"],"instanceLocation":"","keywordLocation":"/if/properties"},{"absoluteKeywordLocation":"https://example.com/checkout#/then/properties","annotation":["postcode"],"instanceLocation":"","keywordLocation":"/then/properties"},{"absoluteKeywordLocation":"https://example.com/checkout#/properties","annotation":["card","country","payment","postcode"],"instanceLocation":"","keywordLocation":"/properties"}],"valid":true}"#,
+    ),
+    (
+        DEFAULT_URI,
+        SCHEMA,
+        r#"{ "country": "DE", "payment": "invoice", "company": "Rechner AG", "tax_number": "DE 129" }"#,
+        r#"{"annotations":[{"absoluteKeywordLocation":"https://example.com/checkout#/allOf/0/anyOf/0/properties","annotation":["payment"],"instanceLocation":"","keywordLocation":"/allOf/0/anyOf/0/properties"},{"absoluteKeywordLocation":"https://example.com/checkout#/else/properties","annotation":[],"instanceLocation":"","keywordLocation":"/else/properties"},{"absoluteKeywordLocation":"https://example.com/checkout#/dependentSchemas/company/properties","annotation":["tax_number"],"instanceLocation":"","keywordLocation":"/dependentSchemas/company/properties"},{"absoluteKeywordLocation":"https://example.com/checkout#/properties","annotation":["company","country","payment"],"instanceLocation":"","keywordLocation":"/properties"}],"valid":true}"#,
+    ),
+    (
+        DEFAULT_URI,
+        SCHEMA,
+        r#"{ "country": "US", "postcode": "SW1A 1AA", "payment": "card", "company": "Engines Ltd" }"#,
+        r#"{"errors":[{"absoluteKeywordLocation":"https://example.com/checkout#/allOf","error":"allOf is not met","instanceLocation":"","keywordLocation":"/allOf"},{"absoluteKeywordLocation":"https://example.com/checkout#/allOf/0/anyOf","error":"anyOf is not met","instanceLocation":"","keywordLocation":"/allOf/0/anyOf"},{"absoluteKeywordLocation":"https://example.com/checkout#/allOf/0/anyOf/0/properties","error":"properties is not met","instanceLocation":"","keywordLocation":"/allOf/0/anyOf/0/properties"},{"absoluteKeywordLocation":"https://example.com/checkout#/allOf/0/anyOf/0/properties/payment/const","error":"const is not met","instanceLocation":"/payment","keywordLocation":"/allOf/0/anyOf/0/properties/payment/const"},{"absoluteKeywordLocation":"https://example.com/checkout#/allOf/0/anyOf/1/required","error":"required is not met","instanceLocation":"","keywordLocation":"/allOf/0/anyOf/1/required"},{"absoluteKeywordLocation":"https://example.com/checkout#/then","error":"then is not met","instanceLocation":"","keywordLocation":"/then"},{"absoluteKeywordLocation":"https://example.com/checkout#/then/properties","error":"properties is not met","instanceLocation":"","keywordLocation":"/then/properties"},{"absoluteKeywordLocation":"https://example.com/checkout#/then/properties/postcode/pattern","error":"pattern is not met","instanceLocation":"/postcode","keywordLocation":"/then/properties/postcode/pattern"},{"absoluteKeywordLocation":"https://example.com/checkout#/dependentSchemas","error":"dependentSchemas is not met","instanceLocation":"","keywordLocation":"/dependentSchemas"},{"absoluteKeywordLocation":"https://example.com/checkout#/dependentSchemas/company/required","error":"required is not met","instanceLocation":"","keywordLocation":"/dependentSchemas/company/required"}],"valid":false}"#,
+    ),
+    (
+        DEFAULT_URI,
+        SCHEMA,
+        r#"{ "country": "GB", "postcode": "SW", "payment": "card", "card": "4111 1111" }"#,
+        r#"{"errors":[{"absoluteKeywordLocation":"https://example.com/checkout#/dependentRequired","error":"dependentRequired is not met","instanceLocation":"","keywordLocation":"/dependentRequired"},{"absoluteKeywordLocation":"https://example.com/checkout#/else","error":"else is not met","instanceLocation":"","keywordLocation":"/else"},{"absoluteKeywordLocation":"https://example.com/checkout#/else/properties","error":"properties is not met","instanceLocation":"","keywordLocation":"/else/properties"},{"absoluteKeywordLocation":"https://example.com/checkout#/else/properties/postcode/minLength","error":"minLength is not met","instanceLocation":"/postcode","keywordLocation":"/else/properties/postcode/minLength"},{"absoluteKeywordLocation":"https://example.com/checkout#/properties","error":"properties is not met","instanceLocation":"","keywordLocation":"/properties"},{"absoluteKeywordLocation":"https://example.com/checkout#/properties/card/pattern","error":"pattern is not met","instanceLocation":"/card","keywordLocation":"/properties/card/pattern"}],"valid":false}"#,
+    ),
+];

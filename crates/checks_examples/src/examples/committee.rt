@@ -1,8 +1,6 @@
 //! The examples in `examples/committee`, written by `examples/write_tests.py`.
 
-use crate::answers::check_files;
 use checks::DEFAULT_URI;
-use std::test::Fail;
 
 const SCHEMA: &str = r##"{
   "$id": "https://example.com/committee",
@@ -32,26 +30,18 @@ const SCHEMA: &str = r##"{
   }
 }"##;
 
-#[test]
-fn files_have_their_answers(rt: HostRuntime) -> Result<(), Fail> {
-    for (uri, schema, instance, answer) in [
-        (
-            DEFAULT_URI,
-            SCHEMA,
-            r#"{ "members": [{ "role": "chair" }, { "role": "clerk" }, {}], "next_meeting": [2025, 3, 31] }"#,
-            r#"{"annotations":[{"absoluteKeywordLocation":"https://example.com/committee#/properties","annotation":["members","next_meeting"],"instanceLocation":"","keywordLocation":"/properties"},{"absoluteKeywordLocation":"https://example.com/committee#/properties/members/contains","annotation":[0],"instanceLocation":"/members","keywordLocation":"/properties/members/contains"},{"absoluteKeywordLocation":"https://example.com/committee#/properties/members/contains/properties","annotation":["role"],"instanceLocation":"/members/0","keywordLocation":"/properties/members/contains/properties"},{"absoluteKeywordLocation":"https://example.com/committee#/properties/next_meeting/prefixItems","annotation":true,"instanceLocation":"/next_meeting","keywordLocation":"/properties/next_meeting/prefixItems"}],"valid":true}"#,
-        ),
-        (
-            DEFAULT_URI,
-            SCHEMA,
-            r#"{ "members": [{ "role": "chair" }, { "role": "chair" }], "next_meeting": [2025, 13, 31, 9], "last_meeting": [2024, 12] }"#,
-            r#"{"errors":[{"absoluteKeywordLocation":"https://example.com/committee#/properties","error":"properties is not met","instanceLocation":"","keywordLocation":"/properties"},{"absoluteKeywordLocation":"https://example.com/committee#/properties/last_meeting/$ref","error":"$ref is not met","instanceLocation":"/last_meeting","keywordLocation":"/properties/last_meeting/$ref"},{"absoluteKeywordLocation":"https://example.com/committee#/properties/next_meeting/minItems","error":"minItems is not met","instanceLocation":"/last_meeting","keywordLocation":"/properties/last_meeting/$ref/minItems"},{"absoluteKeywordLocation":"https://example.com/committee#/properties/members/minItems","error":"minItems is not met","instanceLocation":"/members","keywordLocation":"/properties/members/minItems"},{"absoluteKeywordLocation":"https://example.com/committee#/properties/members/maxContains","error":"maxContains is not met","instanceLocation":"/members","keywordLocation":"/properties/members/maxContains"},{"absoluteKeywordLocation":"https://example.com/committee#/properties/next_meeting/prefixItems","error":"prefixItems is not met","instanceLocation":"/next_meeting","keywordLocation":"/properties/next_meeting/prefixItems"},{"absoluteKeywordLocation":"https://example.com/committee#/properties/next_meeting/prefixItems/1/maximum","error":"maximum is not met","instanceLocation":"/next_meeting/1","keywordLocation":"/properties/next_meeting/prefixItems/1/maximum"},{"absoluteKeywordLocation":"https://example.com/committee#/properties/next_meeting/unevaluatedItems","error":"unevaluatedItems is not met","instanceLocation":"/next_meeting","keywordLocation":"/properties/next_meeting/unevaluatedItems"},{"absoluteKeywordLocation":"https://example.com/committee#/properties/next_meeting/unevaluatedItems","error":"no value is allowed","instanceLocation":"/next_meeting/3","keywordLocation":"/properties/next_meeting/unevaluatedItems"}],"valid":false}"#,
-        ),
-    ] {
-        assert_eq!(rt;
-            check_files(rt.alloc(), uri, schema, instance)?.as_str(),
-            answer
-        );
-    }
-    Ok(())
-}
+/// URI, schema, instance and answer.
+pub const FILES: &[(&str, &str, &str, &str)] = &[
+    (
+        DEFAULT_URI,
+        SCHEMA,
+        r#"{ "members": [{ "role": "chair" }, { "role": "clerk" }, {}], "next_meeting": [2025, 3, 31] }"#,
+        r#"{"annotations":[{"absoluteKeywordLocation":"https://example.com/committee#/properties","annotation":["members","next_meeting"],"instanceLocation":"","keywordLocation":"/properties"},{"absoluteKeywordLocation":"https://example.com/committee#/properties/members/contains","annotation":[0],"instanceLocation":"/members","keywordLocation":"/properties/members/contains"},{"absoluteKeywordLocation":"https://example.com/committee#/properties/members/contains/properties","annotation":["role"],"instanceLocation":"/members/0","keywordLocation":"/properties/members/contains/properties"},{"absoluteKeywordLocation":"https://example.com/committee#/properties/next_meeting/prefixItems","annotation":true,"instanceLocation":"/next_meeting","keywordLocation":"/properties/next_meeting/prefixItems"}],"valid":true}"#,
+    ),
+    (
+        DEFAULT_URI,
+        SCHEMA,
+        r#"{ "members": [{ "role": "chair" }, { "role": "chair" }], "next_meeting": [2025, 13, 31, 9], "last_meeting": [2024, 12] }"#,
+        r#"{"errors":[{"absoluteKeywordLocation":"https://example.com/committee#/properties","error":"properties is not met","instanceLocation":"","keywordLocation":"/properties"},{"absoluteKeywordLocation":"https://example.com/committee#/properties/last_meeting/$ref","error":"$ref is not met","instanceLocation":"/last_meeting","keywordLocation":"/properties/last_meeting/$ref"},{"absoluteKeywordLocation":"https://example.com/committee#/properties/next_meeting/minItems","error":"minItems is not met","instanceLocation":"/last_meeting","keywordLocation":"/properties/last_meeting/$ref/minItems"},{"absoluteKeywordLocation":"https://example.com/committee#/properties/members/minItems","error":"minItems is not met","instanceLocation":"/members","keywordLocation":"/properties/members/minItems"},{"absoluteKeywordLocation":"https://example.com/committee#/properties/members/maxContains","error":"maxContains is not met","instanceLocation":"/members","keywordLocation":"/properties/members/maxContains"},{"absoluteKeywordLocation":"https://example.com/committee#/properties/next_meeting/prefixItems","error":"prefixItems is not met","instanceLocation":"/next_meeting","keywordLocation":"/properties/next_meeting/prefixItems"},{"absoluteKeywordLocation":"https://example.com/committee#/properties/next_meeting/prefixItems/1/maximum","error":"maximum is not met","instanceLocation":"/next_meeting/1","keywordLocation":"/properties/next_meeting/prefixItems/1/maximum"},{"absoluteKeywordLocation":"https://example.com/committee#/properties/next_meeting/unevaluatedItems","error":"unevaluatedItems is not met","instanceLocation":"/next_meeting","keywordLocation":"/properties/next_meeting/unevaluatedItems"},{"absoluteKeywordLocation":"https://example.com/committee#/properties/next_meeting/unevaluatedItems","error":"no value is allowed","instanceLocation":"/next_meeting/3","keywordLocation":"/properties/next_meeting/unevaluatedItems"}],"valid":false}"#,
+    ),
+];

@@ -1,8 +1,6 @@
 //! The examples in `examples/folders`, written by `examples/write_tests.py`.
 
-use crate::answers::check_files;
 use checks::DEFAULT_URI;
-use std::test::Fail;
 
 const SCHEMA: &str = r##"{
   "type": "object",
@@ -21,13 +19,12 @@ const SCHEMA: &str = r##"{
   ]
 }"##;
 
-#[test]
-fn files_have_their_answers(rt: HostRuntime) -> Result<(), Fail> {
-    for (uri, schema, instance, answer) in [
-        (
-            DEFAULT_URI,
-            SCHEMA,
-            r#"{
+/// URI, schema, instance and answer.
+pub const FILES: &[(&str, &str, &str, &str)] = &[
+    (
+        DEFAULT_URI,
+        SCHEMA,
+        r#"{
   "name": "home",
   "entries": [
     { "name": "notes.txt", "bytes": 120 },
@@ -35,25 +32,18 @@ fn files_have_their_answers(rt: HostRuntime) -> Result<(), Fail> {
     { "name": "empty", "entries": [] }
   ]
 }"#,
-            r#"{"annotations":[{"absoluteKeywordLocation":"urn:schemareg:root#/properties","annotation":["entries","name"],"instanceLocation":"","keywordLocation":"/properties"},{"absoluteKeywordLocation":"urn:schemareg:root#/properties/entries/items","annotation":true,"instanceLocation":"/entries","keywordLocation":"/properties/entries/items"},{"absoluteKeywordLocation":"urn:schemareg:root#/properties","annotation":["bytes","name"],"instanceLocation":"/entries/0","keywordLocation":"/properties/entries/items/$ref/properties"},{"absoluteKeywordLocation":"urn:schemareg:root#/properties","annotation":["entries","name"],"instanceLocation":"/entries/1","keywordLocation":"/properties/entries/items/$ref/properties"},{"absoluteKeywordLocation":"urn:schemareg:root#/properties/entries/items","annotation":true,"instanceLocation":"/entries/1/entries","keywordLocation":"/properties/entries/items/$ref/properties/entries/items"},{"absoluteKeywordLocation":"urn:schemareg:root#/properties","annotation":["bytes","name"],"instanceLocation":"/entries/1/entries/0","keywordLocation":"/properties/entries/items/$ref/properties/entries/items/$ref/properties"},{"absoluteKeywordLocation":"urn:schemareg:root#/properties","annotation":["entries","name"],"instanceLocation":"/entries/2","keywordLocation":"/properties/entries/items/$ref/properties"}],"valid":true}"#,
-        ),
-        (
-            DEFAULT_URI,
-            SCHEMA,
-            r#"{
+        r#"{"annotations":[{"absoluteKeywordLocation":"urn:schemareg:root#/properties","annotation":["entries","name"],"instanceLocation":"","keywordLocation":"/properties"},{"absoluteKeywordLocation":"urn:schemareg:root#/properties/entries/items","annotation":true,"instanceLocation":"/entries","keywordLocation":"/properties/entries/items"},{"absoluteKeywordLocation":"urn:schemareg:root#/properties","annotation":["bytes","name"],"instanceLocation":"/entries/0","keywordLocation":"/properties/entries/items/$ref/properties"},{"absoluteKeywordLocation":"urn:schemareg:root#/properties","annotation":["entries","name"],"instanceLocation":"/entries/1","keywordLocation":"/properties/entries/items/$ref/properties"},{"absoluteKeywordLocation":"urn:schemareg:root#/properties/entries/items","annotation":true,"instanceLocation":"/entries/1/entries","keywordLocation":"/properties/entries/items/$ref/properties/entries/items"},{"absoluteKeywordLocation":"urn:schemareg:root#/properties","annotation":["bytes","name"],"instanceLocation":"/entries/1/entries/0","keywordLocation":"/properties/entries/items/$ref/properties/entries/items/$ref/properties"},{"absoluteKeywordLocation":"urn:schemareg:root#/properties","annotation":["entries","name"],"instanceLocation":"/entries/2","keywordLocation":"/properties/entries/items/$ref/properties"}],"valid":true}"#,
+    ),
+    (
+        DEFAULT_URI,
+        SCHEMA,
+        r#"{
   "name": "home",
   "entries": [
     { "name": "pictures", "entries": [{ "name": "cat.png" }] },
     { "name": "both", "bytes": 0, "entries": [] }
   ]
 }"#,
-            r#"{"errors":[{"absoluteKeywordLocation":"urn:schemareg:root#/properties","error":"properties is not met","instanceLocation":"","keywordLocation":"/properties"},{"absoluteKeywordLocation":"urn:schemareg:root#/properties/entries/items","error":"items is not met","instanceLocation":"/entries","keywordLocation":"/properties/entries/items"},{"absoluteKeywordLocation":"urn:schemareg:root#/properties/entries/items/$ref","error":"$ref is not met","instanceLocation":"/entries/0","keywordLocation":"/properties/entries/items/$ref"},{"absoluteKeywordLocation":"urn:schemareg:root#/properties","error":"properties is not met","instanceLocation":"/entries/0","keywordLocation":"/properties/entries/items/$ref/properties"},{"absoluteKeywordLocation":"urn:schemareg:root#/properties/entries/items","error":"items is not met","instanceLocation":"/entries/0/entries","keywordLocation":"/properties/entries/items/$ref/properties/entries/items"},{"absoluteKeywordLocation":"urn:schemareg:root#/properties/entries/items/$ref","error":"$ref is not met","instanceLocation":"/entries/0/entries/0","keywordLocation":"/properties/entries/items/$ref/properties/entries/items/$ref"},{"absoluteKeywordLocation":"urn:schemareg:root#/oneOf","error":"oneOf is not met","instanceLocation":"/entries/0/entries/0","keywordLocation":"/properties/entries/items/$ref/properties/entries/items/$ref/oneOf"},{"absoluteKeywordLocation":"urn:schemareg:root#/oneOf/0/required","error":"required is not met","instanceLocation":"/entries/0/entries/0","keywordLocation":"/properties/entries/items/$ref/properties/entries/items/$ref/oneOf/0/required"},{"absoluteKeywordLocation":"urn:schemareg:root#/oneOf/1/required","error":"required is not met","instanceLocation":"/entries/0/entries/0","keywordLocation":"/properties/entries/items/$ref/properties/entries/items/$ref/oneOf/1/required"},{"absoluteKeywordLocation":"urn:schemareg:root#/properties/entries/items/$ref","error":"$ref is not met","instanceLocation":"/entries/1","keywordLocation":"/properties/entries/items/$ref"},{"absoluteKeywordLocation":"urn:schemareg:root#/oneOf","error":"oneOf is not met","instanceLocation":"/entries/1","keywordLocation":"/properties/entries/items/$ref/oneOf"}],"valid":false}"#,
-        ),
-    ] {
-        assert_eq!(rt;
-            check_files(rt.alloc(), uri, schema, instance)?.as_str(),
-            answer
-        );
-    }
-    Ok(())
-}
+        r#"{"errors":[{"absoluteKeywordLocation":"urn:schemareg:root#/properties","error":"properties is not met","instanceLocation":"","keywordLocation":"/properties"},{"absoluteKeywordLocation":"urn:schemareg:root#/properties/entries/items","error":"items is not met","instanceLocation":"/entries","keywordLocation":"/properties/entries/items"},{"absoluteKeywordLocation":"urn:schemareg:root#/properties/entries/items/$ref","error":"$ref is not met","instanceLocation":"/entries/0","keywordLocation":"/properties/entries/items/$ref"},{"absoluteKeywordLocation":"urn:schemareg:root#/properties","error":"properties is not met","instanceLocation":"/entries/0","keywordLocation":"/properties/entries/items/$ref/properties"},{"absoluteKeywordLocation":"urn:schemareg:root#/properties/entries/items","error":"items is not met","instanceLocation":"/entries/0/entries","keywordLocation":"/properties/entries/items/$ref/properties/entries/items"},{"absoluteKeywordLocation":"urn:schemareg:root#/properties/entries/items/$ref","error":"$ref is not met","instanceLocation":"/entries/0/entries/0","keywordLocation":"/properties/entries/items/$ref/properties/entries/items/$ref"},{"absoluteKeywordLocation":"urn:schemareg:root#/oneOf","error":"oneOf is not met","instanceLocation":"/entries/0/entries/0","keywordLocation":"/properties/entries/items/$ref/properties/entries/items/$ref/oneOf"},{"absoluteKeywordLocation":"urn:schemareg:root#/oneOf/0/required","error":"required is not met","instanceLocation":"/entries/0/entries/0","keywordLocation":"/properties/entries/items/$ref/properties/entries/items/$ref/oneOf/0/required"},{"absoluteKeywordLocation":"urn:schemareg:root#/oneOf/1/required","error":"required is not met","instanceLocation":"/entries/0/entries/0","keywordLocation":"/properties/entries/items/$ref/properties/entries/items/$ref/oneOf/1/required"},{"absoluteKeywordLocation":"urn:schemareg:root#/properties/entries/items/$ref","error":"$ref is not met","instanceLocation":"/entries/1","keywordLocation":"/properties/entries/items/$ref"},{"absoluteKeywordLocation":"urn:schemareg:root#/oneOf","error":"oneOf is not met","instanceLocation":"/entries/1","keywordLocation":"/properties/entries/items/$ref/oneOf"}],"valid":false}"#,
+    ),
+];

@@ -1,8 +1,6 @@
 //! The examples in `examples/generic-list`, written by `examples/write_tests.py`.
 
-use crate::answers::check_files;
 use checks::DEFAULT_URI;
-use std::test::Fail;
 
 const SCHEMA: &str = r##"{
   "$id": "https://example.com/list-of-dates",
@@ -30,26 +28,18 @@ const SCHEMA: &str = r##"{
   }
 }"##;
 
-#[test]
-fn files_have_their_answers(rt: HostRuntime) -> Result<(), Fail> {
-    for (uri, schema, instance, answer) in [
-        (
-            DEFAULT_URI,
-            SCHEMA,
-            r#"{ "items": ["2024-02-29", "2025-01-01"] }"#,
-            r#"{"annotations":[{"absoluteKeywordLocation":"https://example.com/list-of-t#/properties","annotation":["items"],"instanceLocation":"","keywordLocation":"/$ref/properties"},{"absoluteKeywordLocation":"https://example.com/list-of-t#/properties/items/items","annotation":true,"instanceLocation":"/items","keywordLocation":"/$ref/properties/items/items"}],"valid":true}"#,
-        ),
-        (
-            DEFAULT_URI,
-            SCHEMA,
-            r#"{ "items": ["2024-02-29", "tomorrow"] }"#,
-            r#"{"errors":[{"absoluteKeywordLocation":"https://example.com/list-of-dates#/$ref","error":"$ref is not met","instanceLocation":"","keywordLocation":"/$ref"},{"absoluteKeywordLocation":"https://example.com/list-of-t#/properties","error":"properties is not met","instanceLocation":"","keywordLocation":"/$ref/properties"},{"absoluteKeywordLocation":"https://example.com/list-of-t#/properties/items/items","error":"items is not met","instanceLocation":"/items","keywordLocation":"/$ref/properties/items/items"},{"absoluteKeywordLocation":"https://example.com/list-of-t#/properties/items/items/$dynamicRef","error":"$dynamicRef is not met","instanceLocation":"/items/1","keywordLocation":"/$ref/properties/items/items/$dynamicRef"},{"absoluteKeywordLocation":"https://example.com/list-of-dates#/$defs/date/pattern","error":"pattern is not met","instanceLocation":"/items/1","keywordLocation":"/$ref/properties/items/items/$dynamicRef/pattern"}],"valid":false}"#,
-        ),
-    ] {
-        assert_eq!(rt;
-            check_files(rt.alloc(), uri, schema, instance)?.as_str(),
-            answer
-        );
-    }
-    Ok(())
-}
+/// URI, schema, instance and answer.
+pub const FILES: &[(&str, &str, &str, &str)] = &[
+    (
+        DEFAULT_URI,
+        SCHEMA,
+        r#"{ "items": ["2024-02-29", "2025-01-01"] }"#,
+        r#"{"annotations":[{"absoluteKeywordLocation":"https://example.com/list-of-t#/properties","annotation":["items"],"instanceLocation":"","keywordLocation":"/$ref/properties"},{"absoluteKeywordLocation":"https://example.com/list-of-t#/properties/items/items","annotation":true,"instanceLocation":"/items","keywordLocation":"/$ref/properties/items/items"}],"valid":true}"#,
+    ),
+    (
+        DEFAULT_URI,
+        SCHEMA,
+        r#"{ "items": ["2024-02-29", "tomorrow"] }"#,
+        r#"{"errors":[{"absoluteKeywordLocation":"https://example.com/list-of-dates#/$ref","error":"$ref is not met","instanceLocation":"","keywordLocation":"/$ref"},{"absoluteKeywordLocation":"https://example.com/list-of-t#/properties","error":"properties is not met","instanceLocation":"","keywordLocation":"/$ref/properties"},{"absoluteKeywordLocation":"https://example.com/list-of-t#/properties/items/items","error":"items is not met","instanceLocation":"/items","keywordLocation":"/$ref/properties/items/items"},{"absoluteKeywordLocation":"https://example.com/list-of-t#/properties/items/items/$dynamicRef","error":"$dynamicRef is not met","instanceLocation":"/items/1","keywordLocation":"/$ref/properties/items/items/$dynamicRef"},{"absoluteKeywordLocation":"https://example.com/list-of-dates#/$defs/date/pattern","error":"pattern is not met","instanceLocation":"/items/1","keywordLocation":"/$ref/properties/items/items/$dynamicRef/pattern"}],"valid":false}"#,
+    ),
+];

@@ -1,8 +1,6 @@
 //! The examples in `examples/refusals`, written by `examples/write_tests.py`.
 
-use crate::answers::{check_files, check_standard_input};
 use checks::DEFAULT_URI;
-use std::test::Fail;
 
 const BAD_ANCHOR: &str = r#"{
   "$defs": {
@@ -129,91 +127,78 @@ const UNRESOLVED: &str = r#"{
   }
 }"#;
 
-#[test]
-fn files_have_their_answers(rt: HostRuntime) -> Result<(), Fail> {
-    for (uri, schema, instance, answer) in [
-        (DEFAULT_URI, BAD_ANCHOR, "{}", "refused: 10 BadAnchor"),
-        (DEFAULT_URI, BAD_ID, "{}", "refused: 9 BadId"),
-        (
-            DEFAULT_URI,
-            BAD_JSON,
-            r#"{ "name": "Ada" }"#,
-            "refused: 1 BadJson",
-        ),
-        (
-            DEFAULT_URI,
-            BAD_JSON_IN_INSTANCE,
-            "{ 'name': 'Ada' }",
-            "refused: 1 BadJson",
-        ),
-        (
-            DEFAULT_URI,
-            BAD_KEYWORD,
-            r#"{ "age": 36 }"#,
-            "refused: 8 BadKeyword /properties/age/type",
-        ),
-        (
-            DEFAULT_URI,
-            BAD_NUMBER,
-            r#"{ "share": 1 }"#,
-            "refused: 2 BadNumber",
-        ),
-        (
-            DEFAULT_URI,
-            BAD_NUMBER_IN_INSTANCE,
-            r#"{ "price": 9.99 }"#,
-            "refused: 2 BadNumber",
-        ),
-        (
-            DEFAULT_URI,
-            BAD_PATTERN,
-            r#"{ "password": "correct horse 1" }"#,
-            "refused: 5 BadPattern",
-        ),
-        ("person.json", BAD_URI, "{}", "refused: 25 BadUri"),
-        (DEFAULT_URI, COSTLY, "{}", "refused: 16 Costly"),
-        (
-            DEFAULT_URI,
-            DEEP,
-            r#"{"inner":{"inner":{"inner":{"inner":{"inner":{"inner":{"inner":{"inner":{"inner":{"inner":{"inner":{"inner":{"inner":{"inner":{"inner":{"inner":{"inner":{"inner":{"inner":{"inner":{"inner":{"inner":{"inner":{"inner":{"inner":{"inner":{"inner":{"inner":{"inner":{"inner":{"inner":{"inner":{"inner":{"inner":{"inner":{"inner":{"inner":{"inner":{"inner":{"inner":{"inner":{"inner":{"inner":{"inner":{"inner":{"inner":{"inner":{"inner":{"inner":{"inner":{"inner":{"inner":{"inner":{"inner":{"inner":{"inner":{"inner":{"inner":{"inner":{"inner":{"inner":{"inner":{"inner":{"inner":{"inner":{"inner":{"inner":{"inner":{"inner":{"inner":{"inner":{"inner":{"inner":{"inner":{"inner":{"inner":{"inner":{"inner":{"inner":{"inner":{"inner":{"inner":{"inner":{"inner":{"inner":{"inner":{"inner":{"inner":{"inner":{"inner":{"inner":{"inner":{"inner":{"inner":{"inner":{"inner":{"inner":{"inner":{"inner":{"inner":{"inner":{"inner":{"inner":{"inner":{"inner":{"inner":{"inner":{"inner":{"inner":{"inner":{"inner":{"inner":{"inner":{"inner":{"inner":{"inner":{"inner":{"inner":{"inner":{"inner":{"inner":{"inner":{"inner":{"inner":{"inner":{"inner":{}}}}}}}}}}}}}}}}}}}}}}}}}}}}}}}}}}}}}}}}}}}}}}}}}}}}}}}}}}}}}}}}}}}}}}}}}}}}}}}}}}}}}}}}}}}}}}}}}}}}}}}}}}}}}}}}}}}}}}}}}}}}}}}"#,
-            "refused: 18 Deep",
-        ),
-        (DEFAULT_URI, DIALECT, "{}", "refused: 11 Dialect"),
-        (
-            DEFAULT_URI,
-            DUPLICATE_ANCHOR,
-            "{}",
-            "refused: 13 DuplicateAnchor",
-        ),
-        (DEFAULT_URI, DUPLICATE_URI, "{}", "refused: 12 DuplicateUri"),
-        (DEFAULT_URI, LOOP, "{}", "refused: 17 Loop"),
-        (DEFAULT_URI, NOT_OBJECT, "null", "refused: 6 NotObject"),
-        (DEFAULT_URI, TOO_NESTED, "[]", "refused: 7 TooNested"),
-        (
-            DEFAULT_URI,
-            UNRESOLVED,
-            "{}",
-            "refused: 15 Unresolved https://example.com/address#town",
-        ),
-    ] {
-        assert_eq!(rt;
-            check_files(rt.alloc(), uri, schema, instance)?.as_str(),
-            answer
-        );
-    }
-    Ok(())
-}
+/// URI, schema, instance and answer.
+pub const FILES: &[(&str, &str, &str, &str)] = &[
+    (DEFAULT_URI, BAD_ANCHOR, "{}", "refused: 10 BadAnchor"),
+    (DEFAULT_URI, BAD_ID, "{}", "refused: 9 BadId"),
+    (
+        DEFAULT_URI,
+        BAD_JSON,
+        r#"{ "name": "Ada" }"#,
+        "refused: 1 BadJson",
+    ),
+    (
+        DEFAULT_URI,
+        BAD_JSON_IN_INSTANCE,
+        "{ 'name': 'Ada' }",
+        "refused: 1 BadJson",
+    ),
+    (
+        DEFAULT_URI,
+        BAD_KEYWORD,
+        r#"{ "age": 36 }"#,
+        "refused: 8 BadKeyword /properties/age/type",
+    ),
+    (
+        DEFAULT_URI,
+        BAD_NUMBER,
+        r#"{ "share": 1 }"#,
+        "refused: 2 BadNumber",
+    ),
+    (
+        DEFAULT_URI,
+        BAD_NUMBER_IN_INSTANCE,
+        r#"{ "price": 9.99 }"#,
+        "refused: 2 BadNumber",
+    ),
+    (
+        DEFAULT_URI,
+        BAD_PATTERN,
+        r#"{ "password": "correct horse 1" }"#,
+        "refused: 5 BadPattern",
+    ),
+    ("person.json", BAD_URI, "{}", "refused: 25 BadUri"),
+    (DEFAULT_URI, COSTLY, "{}", "refused: 16 Costly"),
+    (
+        DEFAULT_URI,
+        DEEP,
+        r#"{"inner":{"inner":{"inner":{"inner":{"inner":{"inner":{"inner":{"inner":{"inner":{"inner":{"inner":{"inner":{"inner":{"inner":{"inner":{"inner":{"inner":{"inner":{"inner":{"inner":{"inner":{"inner":{"inner":{"inner":{"inner":{"inner":{"inner":{"inner":{"inner":{"inner":{"inner":{"inner":{"inner":{"inner":{"inner":{"inner":{"inner":{"inner":{"inner":{"inner":{"inner":{"inner":{"inner":{"inner":{"inner":{"inner":{"inner":{"inner":{"inner":{"inner":{"inner":{"inner":{"inner":{"inner":{"inner":{"inner":{"inner":{"inner":{"inner":{"inner":{"inner":{"inner":{"inner":{"inner":{"inner":{"inner":{"inner":{"inner":{"inner":{"inner":{"inner":{"inner":{"inner":{"inner":{"inner":{"inner":{"inner":{"inner":{"inner":{"inner":{"inner":{"inner":{"inner":{"inner":{"inner":{"inner":{"inner":{"inner":{"inner":{"inner":{"inner":{"inner":{"inner":{"inner":{"inner":{"inner":{"inner":{"inner":{"inner":{"inner":{"inner":{"inner":{"inner":{"inner":{"inner":{"inner":{"inner":{"inner":{"inner":{"inner":{"inner":{"inner":{"inner":{"inner":{"inner":{"inner":{"inner":{"inner":{"inner":{"inner":{"inner":{"inner":{"inner":{"inner":{"inner":{"inner":{}}}}}}}}}}}}}}}}}}}}}}}}}}}}}}}}}}}}}}}}}}}}}}}}}}}}}}}}}}}}}}}}}}}}}}}}}}}}}}}}}}}}}}}}}}}}}}}}}}}}}}}}}}}}}}}}}}}}}}}}}}}}}}}"#,
+        "refused: 18 Deep",
+    ),
+    (DEFAULT_URI, DIALECT, "{}", "refused: 11 Dialect"),
+    (
+        DEFAULT_URI,
+        DUPLICATE_ANCHOR,
+        "{}",
+        "refused: 13 DuplicateAnchor",
+    ),
+    (DEFAULT_URI, DUPLICATE_URI, "{}", "refused: 12 DuplicateUri"),
+    (DEFAULT_URI, LOOP, "{}", "refused: 17 Loop"),
+    (DEFAULT_URI, NOT_OBJECT, "null", "refused: 6 NotObject"),
+    (DEFAULT_URI, TOO_NESTED, "[]", "refused: 7 TooNested"),
+    (
+        DEFAULT_URI,
+        UNRESOLVED,
+        "{}",
+        "refused: 15 Unresolved https://example.com/address#town",
+    ),
+];
 
-#[test]
-fn inputs_have_their_answers(rt: HostRuntime) -> Result<(), Fail> {
-    for (input, answer) in [(
-        r#"{
+/// Input and answer.
+pub const INPUTS: &[(&str, &str)] = &[(
+    r#"{
   "schema": { "type": "object" },
   "data": {}
 }"#,
-        "refused: 41 BadInput",
-    )] {
-        assert_eq!(rt; check_standard_input(rt.alloc(), input)?.as_str(), answer);
-    }
-    Ok(())
-}
+    "refused: 41 BadInput",
+)];

@@ -1,13 +1,9 @@
 //! The examples in `examples/standard-input`, written by `examples/write_tests.py`.
 
-use crate::answers::check_standard_input;
-use std::test::Fail;
-
-#[test]
-fn inputs_have_their_answers(rt: HostRuntime) -> Result<(), Fail> {
-    for (input, answer) in [
-        (
-            r#"{
+/// Input and answer.
+pub const INPUTS: &[(&str, &str)] = &[
+    (
+        r#"{
   "schema": {
     "type": "object",
     "required": ["name"],
@@ -15,10 +11,10 @@ fn inputs_have_their_answers(rt: HostRuntime) -> Result<(), Fail> {
   },
   "instance": { "nmae": "Ada" }
 }"#,
-            r#"{"errors":[{"absoluteKeywordLocation":"urn:schemareg:root#/required","error":"required is not met","instanceLocation":"","keywordLocation":"/required"}],"valid":false}"#,
-        ),
-        (
-            r#"{
+        r#"{"errors":[{"absoluteKeywordLocation":"urn:schemareg:root#/required","error":"required is not met","instanceLocation":"","keywordLocation":"/required"}],"valid":false}"#,
+    ),
+    (
+        r#"{
   "uri": "https://example.com/person",
   "schema": {
     "type": "object",
@@ -27,10 +23,6 @@ fn inputs_have_their_answers(rt: HostRuntime) -> Result<(), Fail> {
   },
   "instance": { "name": "Ada" }
 }"#,
-            r#"{"annotations":[{"absoluteKeywordLocation":"https://example.com/person#/properties","annotation":["name"],"instanceLocation":"","keywordLocation":"/properties"}],"valid":true}"#,
-        ),
-    ] {
-        assert_eq!(rt; check_standard_input(rt.alloc(), input)?.as_str(), answer);
-    }
-    Ok(())
-}
+        r#"{"annotations":[{"absoluteKeywordLocation":"https://example.com/person#/properties","annotation":["name"],"instanceLocation":"","keywordLocation":"/properties"}],"valid":true}"#,
+    ),
+];

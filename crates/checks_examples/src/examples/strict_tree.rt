@@ -1,8 +1,6 @@
 //! The examples in `examples/strict-tree`, written by `examples/write_tests.py`.
 
-use crate::answers::check_files;
 use checks::DEFAULT_URI;
-use std::test::Fail;
 
 const SCHEMA: &str = r##"{
   "$id": "https://example.com/strict-tree",
@@ -25,26 +23,18 @@ const SCHEMA: &str = r##"{
   }
 }"##;
 
-#[test]
-fn files_have_their_answers(rt: HostRuntime) -> Result<(), Fail> {
-    for (uri, schema, instance, answer) in [
-        (
-            DEFAULT_URI,
-            SCHEMA,
-            r#"{ "children": [{ "daat": 1 }] }"#,
-            r#"{"errors":[{"absoluteKeywordLocation":"https://example.com/strict-tree#/$ref","error":"$ref is not met","instanceLocation":"","keywordLocation":"/$ref"},{"absoluteKeywordLocation":"https://example.com/tree#/properties","error":"properties is not met","instanceLocation":"","keywordLocation":"/$ref/properties"},{"absoluteKeywordLocation":"https://example.com/tree#/properties/children/items","error":"items is not met","instanceLocation":"/children","keywordLocation":"/$ref/properties/children/items"},{"absoluteKeywordLocation":"https://example.com/tree#/properties/children/items/$dynamicRef","error":"$dynamicRef is not met","instanceLocation":"/children/0","keywordLocation":"/$ref/properties/children/items/$dynamicRef"},{"absoluteKeywordLocation":"https://example.com/strict-tree#/unevaluatedProperties","error":"unevaluatedProperties is not met","instanceLocation":"/children/0","keywordLocation":"/$ref/properties/children/items/$dynamicRef/unevaluatedProperties"},{"absoluteKeywordLocation":"https://example.com/strict-tree#/unevaluatedProperties","error":"no value is allowed","instanceLocation":"/children/0/daat","keywordLocation":"/$ref/properties/children/items/$dynamicRef/unevaluatedProperties"},{"absoluteKeywordLocation":"https://example.com/strict-tree#/unevaluatedProperties","error":"unevaluatedProperties is not met","instanceLocation":"","keywordLocation":"/unevaluatedProperties"},{"absoluteKeywordLocation":"https://example.com/strict-tree#/unevaluatedProperties","error":"no value is allowed","instanceLocation":"/children","keywordLocation":"/unevaluatedProperties"}],"valid":false}"#,
-        ),
-        (
-            DEFAULT_URI,
-            SCHEMA,
-            r#"{ "data": 1, "children": [{ "data": 2 }, { "children": [] }] }"#,
-            r#"{"annotations":[{"absoluteKeywordLocation":"https://example.com/tree#/properties","annotation":["children","data"],"instanceLocation":"","keywordLocation":"/$ref/properties"},{"absoluteKeywordLocation":"https://example.com/tree#/properties/children/items","annotation":true,"instanceLocation":"/children","keywordLocation":"/$ref/properties/children/items"},{"absoluteKeywordLocation":"https://example.com/tree#/properties","annotation":["data"],"instanceLocation":"/children/0","keywordLocation":"/$ref/properties/children/items/$dynamicRef/$ref/properties"},{"absoluteKeywordLocation":"https://example.com/strict-tree#/unevaluatedProperties","annotation":[],"instanceLocation":"/children/0","keywordLocation":"/$ref/properties/children/items/$dynamicRef/unevaluatedProperties"},{"absoluteKeywordLocation":"https://example.com/tree#/properties","annotation":["children"],"instanceLocation":"/children/1","keywordLocation":"/$ref/properties/children/items/$dynamicRef/$ref/properties"},{"absoluteKeywordLocation":"https://example.com/strict-tree#/unevaluatedProperties","annotation":[],"instanceLocation":"/children/1","keywordLocation":"/$ref/properties/children/items/$dynamicRef/unevaluatedProperties"},{"absoluteKeywordLocation":"https://example.com/strict-tree#/unevaluatedProperties","annotation":[],"instanceLocation":"","keywordLocation":"/unevaluatedProperties"}],"valid":true}"#,
-        ),
-    ] {
-        assert_eq!(rt;
-            check_files(rt.alloc(), uri, schema, instance)?.as_str(),
-            answer
-        );
-    }
-    Ok(())
-}
+/// URI, schema, instance and answer.
+pub const FILES: &[(&str, &str, &str, &str)] = &[
+    (
+        DEFAULT_URI,
+        SCHEMA,
+        r#"{ "children": [{ "daat": 1 }] }"#,
+        r#"{"errors":[{"absoluteKeywordLocation":"https://example.com/strict-tree#/$ref","error":"$ref is not met","instanceLocation":"","keywordLocation":"/$ref"},{"absoluteKeywordLocation":"https://example.com/tree#/properties","error":"properties is not met","instanceLocation":"","keywordLocation":"/$ref/properties"},{"absoluteKeywordLocation":"https://example.com/tree#/properties/children/items","error":"items is not met","instanceLocation":"/children","keywordLocation":"/$ref/properties/children/items"},{"absoluteKeywordLocation":"https://example.com/tree#/properties/children/items/$dynamicRef","error":"$dynamicRef is not met","instanceLocation":"/children/0","keywordLocation":"/$ref/properties/children/items/$dynamicRef"},{"absoluteKeywordLocation":"https://example.com/strict-tree#/unevaluatedProperties","error":"unevaluatedProperties is not met","instanceLocation":"/children/0","keywordLocation":"/$ref/properties/children/items/$dynamicRef/unevaluatedProperties"},{"absoluteKeywordLocation":"https://example.com/strict-tree#/unevaluatedProperties","error":"no value is allowed","instanceLocation":"/children/0/daat","keywordLocation":"/$ref/properties/children/items/$dynamicRef/unevaluatedProperties"},{"absoluteKeywordLocation":"https://example.com/strict-tree#/unevaluatedProperties","error":"unevaluatedProperties is not met","instanceLocation":"","keywordLocation":"/unevaluatedProperties"},{"absoluteKeywordLocation":"https://example.com/strict-tree#/unevaluatedProperties","error":"no value is allowed","instanceLocation":"/children","keywordLocation":"/unevaluatedProperties"}],"valid":false}"#,
+    ),
+    (
+        DEFAULT_URI,
+        SCHEMA,
+        r#"{ "data": 1, "children": [{ "data": 2 }, { "children": [] }] }"#,
+        r#"{"annotations":[{"absoluteKeywordLocation":"https://example.com/tree#/properties","annotation":["children","data"],"instanceLocation":"","keywordLocation":"/$ref/properties"},{"absoluteKeywordLocation":"https://example.com/tree#/properties/children/items","annotation":true,"instanceLocation":"/children","keywordLocation":"/$ref/properties/children/items"},{"absoluteKeywordLocation":"https://example.com/tree#/properties","annotation":["data"],"instanceLocation":"/children/0","keywordLocation":"/$ref/properties/children/items/$dynamicRef/$ref/properties"},{"absoluteKeywordLocation":"https://example.com/strict-tree#/unevaluatedProperties","annotation":[],"instanceLocation":"/children/0","keywordLocation":"/$ref/properties/children/items/$dynamicRef/unevaluatedProperties"},{"absoluteKeywordLocation":"https://example.com/tree#/properties","annotation":["children"],"instanceLocation":"/children/1","keywordLocation":"/$ref/properties/children/items/$dynamicRef/$ref/properties"},{"absoluteKeywordLocation":"https://example.com/strict-tree#/unevaluatedProperties","annotation":[],"instanceLocation":"/children/1","keywordLocation":"/$ref/properties/children/items/$dynamicRef/unevaluatedProperties"},{"absoluteKeywordLocation":"https://example.com/strict-tree#/unevaluatedProperties","annotation":[],"instanceLocation":"","keywordLocation":"/unevaluatedProperties"}],"valid":true}"#,
+    ),
+];

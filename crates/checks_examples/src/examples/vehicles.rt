@@ -1,8 +1,6 @@
 //! The examples in `examples/vehicles`, written by `examples/write_tests.py`.
 
-use crate::answers::check_files;
 use checks::DEFAULT_URI;
-use std::test::Fail;
 
 const SCHEMA: &str = r##"{
   "$id": "https://example.com/lorry",
@@ -33,32 +31,24 @@ const SCHEMA: &str = r##"{
   }
 }"##;
 
-#[test]
-fn files_have_their_answers(rt: HostRuntime) -> Result<(), Fail> {
-    for (uri, schema, instance, answer) in [
-        (
-            DEFAULT_URI,
-            SCHEMA,
-            r#"{ "plate": "B-LK 12", "wheels": 6, "load": 7500, "policy": "P-1" }"#,
-            r#"{"annotations":[{"absoluteKeywordLocation":"https://example.com/lorry#/$defs/vehicle/properties","annotation":["plate","wheels"],"instanceLocation":"","keywordLocation":"/allOf/0/$ref/properties"},{"absoluteKeywordLocation":"https://example.com/lorry#/$defs/insured/anyOf/0/properties","annotation":["policy"],"instanceLocation":"","keywordLocation":"/allOf/1/$ref/anyOf/0/properties"},{"absoluteKeywordLocation":"https://example.com/lorry#/properties","annotation":["load"],"instanceLocation":"","keywordLocation":"/properties"},{"absoluteKeywordLocation":"https://example.com/lorry#/unevaluatedProperties","annotation":[],"instanceLocation":"","keywordLocation":"/unevaluatedProperties"}],"valid":true}"#,
-        ),
-        (
-            DEFAULT_URI,
-            SCHEMA,
-            r#"{ "plate": "B-LK 12", "wheels": 5, "load": 7500, "policy": "P-1" }"#,
-            r#"{"errors":[{"absoluteKeywordLocation":"https://example.com/lorry#/allOf","error":"allOf is not met","instanceLocation":"","keywordLocation":"/allOf"},{"absoluteKeywordLocation":"https://example.com/lorry#/allOf/0/$ref","error":"$ref is not met","instanceLocation":"","keywordLocation":"/allOf/0/$ref"},{"absoluteKeywordLocation":"https://example.com/lorry#/$defs/vehicle/properties","error":"properties is not met","instanceLocation":"","keywordLocation":"/allOf/0/$ref/properties"},{"absoluteKeywordLocation":"https://example.com/lorry#/$defs/vehicle/properties/wheels/multipleOf","error":"multipleOf is not met","instanceLocation":"/wheels","keywordLocation":"/allOf/0/$ref/properties/wheels/multipleOf"},{"absoluteKeywordLocation":"https://example.com/lorry#/unevaluatedProperties","error":"unevaluatedProperties is not met","instanceLocation":"","keywordLocation":"/unevaluatedProperties"},{"absoluteKeywordLocation":"https://example.com/lorry#/unevaluatedProperties","error":"no value is allowed","instanceLocation":"/plate","keywordLocation":"/unevaluatedProperties"},{"absoluteKeywordLocation":"https://example.com/lorry#/unevaluatedProperties","error":"no value is allowed","instanceLocation":"/wheels","keywordLocation":"/unevaluatedProperties"}],"valid":false}"#,
-        ),
-        (
-            DEFAULT_URI,
-            SCHEMA,
-            r#"{ "plate": "B-LK 12", "wheels": 6, "load": 7500, "fleet": true, "owner": "A. Lovelace" }"#,
-            r#"{"errors":[{"absoluteKeywordLocation":"https://example.com/lorry#/unevaluatedProperties","error":"unevaluatedProperties is not met","instanceLocation":"","keywordLocation":"/unevaluatedProperties"},{"absoluteKeywordLocation":"https://example.com/lorry#/unevaluatedProperties","error":"no value is allowed","instanceLocation":"/owner","keywordLocation":"/unevaluatedProperties"}],"valid":false}"#,
-        ),
-    ] {
-        assert_eq!(rt;
-            check_files(rt.alloc(), uri, schema, instance)?.as_str(),
-            answer
-        );
-    }
-    Ok(())
-}
+/// URI, schema, instance and answer.
+pub const FILES: &[(&str, &str, &str, &str)] = &[
+    (
+        DEFAULT_URI,
+        SCHEMA,
+        r#"{ "plate": "B-LK 12", "wheels": 6, "load": 7500, "policy": "P-1" }"#,
+        r#"{"annotations":[{"absoluteKeywordLocation":"https://example.com/lorry#/$defs/vehicle/properties","annotation":["plate","wheels"],"instanceLocation":"","keywordLocation":"/allOf/0/$ref/properties"},{"absoluteKeywordLocation":"https://example.com/lorry#/$defs/insured/anyOf/0/properties","annotation":["policy"],"instanceLocation":"","keywordLocation":"/allOf/1/$ref/anyOf/0/properties"},{"absoluteKeywordLocation":"https://example.com/lorry#/properties","annotation":["load"],"instanceLocation":"","keywordLocation":"/properties"},{"absoluteKeywordLocation":"https://example.com/lorry#/unevaluatedProperties","annotation":[],"instanceLocation":"","keywordLocation":"/unevaluatedProperties"}],"valid":true}"#,
+    ),
+    (
+        DEFAULT_URI,
+        SCHEMA,
+        r#"{ "plate": "B-LK 12", "wheels": 5, "load": 7500, "policy": "P-1" }"#,
+        r#"{"errors":[{"absoluteKeywordLocation":"https://example.com/lorry#/allOf","error":"allOf is not met","instanceLocation":"","keywordLocation":"/allOf"},{"absoluteKeywordLocation":"https://example.com/lorry#/allOf/0/$ref","error":"$ref is not met","instanceLocation":"","keywordLocation":"/allOf/0/$ref"},{"absoluteKeywordLocation":"https://example.com/lorry#/$defs/vehicle/properties","error":"properties is not met","instanceLocation":"","keywordLocation":"/allOf/0/$ref/properties"},{"absoluteKeywordLocation":"https://example.com/lorry#/$defs/vehicle/properties/wheels/multipleOf","error":"multipleOf is not met","instanceLocation":"/wheels","keywordLocation":"/allOf/0/$ref/properties/wheels/multipleOf"},{"absoluteKeywordLocation":"https://example.com/lorry#/unevaluatedProperties","error":"unevaluatedProperties is not met","instanceLocation":"","keywordLocation":"/unevaluatedProperties"},{"absoluteKeywordLocation":"https://example.com/lorry#/unevaluatedProperties","error":"no value is allowed","instanceLocation":"/plate","keywordLocation":"/unevaluatedProperties"},{"absoluteKeywordLocation":"https://example.com/lorry#/unevaluatedProperties","error":"no value is allowed","instanceLocation":"/wheels","keywordLocation":"/unevaluatedProperties"}],"valid":false}"#,
+    ),
+    (
+        DEFAULT_URI,
+        SCHEMA,
+        r#"{ "plate": "B-LK 12", "wheels": 6, "load": 7500, "fleet": true, "owner": "A. Lovelace" }"#,
+        r#"{"errors":[{"absoluteKeywordLocation":"https://example.com/lorry#/unevaluatedProperties","error":"unevaluatedProperties is not met","instanceLocation":"","keywordLocation":"/unevaluatedProperties"},{"absoluteKeywordLocation":"https://example.com/lorry#/unevaluatedProperties","error":"no value is allowed","instanceLocation":"/owner","keywordLocation":"/unevaluatedProperties"}],"valid":false}"#,
+    ),
+];

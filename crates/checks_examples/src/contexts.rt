@@ -1,0 +1,31 @@
+//! Where applications stand, and loops by JSON Schema 2020-12 Core, 9.4.1: a schema that is applied again at the same
+//! place.
+
+use applications::Context;
+use json_doc::Doc;
+use schema_scan::Located;
+use std::test::Fail;
+
+#[test]
+fn knows_what_is_being_applied_and_where(rt: HostRuntime) -> Result<(), Fail> {
+    let schema = Doc::Bool(true);
+    let root = Located {
+        resource: "https://ex.org/s",
+        steps: Vec::new(rt.alloc()),
+        schema: &schema,
+    };
+    let mut context = Context::new(rt.alloc(), root)?;
+    assert!(rt; !context.is_running());
+    context.enter_object()?;
+    assert!(rt; context.is_running() && context.scope().len() == 1);
+    context.enter_keyword("not")?;
+    assert!(rt; !context.is_running());
+    let location = context.location();
+    assert!(rt; location.resource == context.resource() && location.path.len() == 1);
+    assert!(rt; location.pointer.len() == 1 && location.place.is_empty());
+    context.leave_keyword();
+    assert!(rt; context.is_running());
+    context.leave_object();
+    assert!(rt; !context.is_running());
+    Ok(())
+}

@@ -1,0 +1,54 @@
+//! What keywords look at, their names, and how they annotate.
+
+use basic_output::Says;
+use json_doc::read;
+use keyword_plans::{Annotation, Evaluated, Keyword, Subject, annotate};
+use std::test::Fail;
+
+#[test]
+fn subjects_are_strings_arrays_or_objects(rt: HostRuntime) -> Result<(), Fail> {
+    let name = Subject::Name("a");
+    assert!(rt; name.as_str() == Some("a") && name.members().is_none() && name.get("a").is_none());
+    assert!(rt; name.elements().is_empty() && !name.is_array() && !name.is_object());
+    let doc = read(rt.alloc(), b"[null,true]")?;
+    let array = Subject::Value(&doc);
+    assert!(rt; array.elements().len() == 2 && array.is_array() && array.as_str().is_none());
+    let doc = read(rt.alloc(), br#"{"a":null}"#)?;
+    let object = Subject::Value(&doc);
+    assert!(rt; object.is_object() && object.members().is_some());
+    assert!(rt; object.get("a").is_some() && object.get("b").is_none());
+    Ok(())
+}
+
+#[test]
+fn keywords_have_their_names(rt: HostRuntime) {
+    assert!(rt; Keyword::Ref.name() == "$ref");
+    assert!(rt; Keyword::UnevaluatedProperties.name() == "unevaluatedProperties");
+}
+
+// `patternProperties` names each member once.
+#[test]
+fn keywords_annotate_with_what_they_evaluated(rt: HostRuntime) -> Result<(), Fail> {
+    let alloc = rt.alloc();
+    let doc = read(alloc, b"{}")?;
+    let evaluated = Evaluated {
+        names: &["b", "a", "b"],
+        indexes: &[],
+    };
+    let keyword = Keyword::PatternProperties;
+    match annotate(alloc, keyword, Subject::Value(&doc), 3, evaluated)? {
+        Annotation::Names(names) => assert_eq!(rt; names.as_slice(), ["b", "a"].as_slice()),
+        _ => assert!(rt; false),
+    }
+    let doc = read(alloc, b"[null,null,null]")?;
+    let evaluated = Evaluated {
+        names: &[],
+        indexes: &[0, 1],
+    };
+    let keyword = Keyword::PrefixItems;
+    match annotate(alloc, keyword, Subject::Value(&doc), 2, evaluated)? {
+        Annotation::Says(Says::Index(index)) => assert_eq!(rt; index, 1),
+        _ => assert!(rt; false),
+    }
+    Ok(())
+}

@@ -1,0 +1,135 @@
+//! Where patterns match, each on a machine that the searches before it have used.
+
+use patterns::Pattern;
+use std::test::Fail;
+
+// A pattern, and whether it matches in each of the texts.
+const PATTERNS: &[(&str, &[(&str, bool)])] = &[
+    (
+        "a+",
+        &[("xaay", true), ("xy", false), ("", false), ("10", false)],
+    ),
+    (r"^\d+$", &[("xaay", false), ("10", true), ("", false)]),
+    (
+        r"^\d{4}-\d{2}-\d{2}$",
+        &[
+            ("2026-11-22", true),
+            ("on 2026-11-22", false),
+            ("2026-11-221", false),
+        ],
+    ),
+    ("", &[("", true), ("x", true)]),
+    ("^$", &[("", true), ("x", false)]),
+    ("^.$", &[("é", true), ("🐲", true)]),
+    ("^..$", &[("🐲", false)]),
+    ("^[α-ω]+$", &[("λογος", true), ("λόγος", false)]),
+    (r"^\p{L}+$", &[("Straße", true), ("Straße 1", false)]),
+    (r"^[\w.-]{1,255}$", &[("Łódź_1.txt", true)]),
+    ("b+", &[("abbc", true)]),
+    // In an empty text, within words, at an end of a line, in what isn't ASCII.
+    (
+        "$",
+        &[
+            ("", true),
+            ("a", true),
+            ("é", true),
+            ("aé b", true),
+            ("a\nb", true),
+        ],
+    ),
+    (
+        "^$",
+        &[
+            ("", true),
+            ("a", false),
+            ("é", false),
+            ("aé b", false),
+            ("a\nb", false),
+        ],
+    ),
+    (
+        "(?m)^b",
+        &[
+            ("", false),
+            ("a", false),
+            ("é", false),
+            ("aé b", false),
+            ("a\nb", true),
+        ],
+    ),
+    (
+        r"\B",
+        &[
+            ("", true),
+            ("a", false),
+            ("é", false),
+            ("aé b", true),
+            ("a\nb", false),
+        ],
+    ),
+    (
+        r"\bb",
+        &[
+            ("", false),
+            ("a", false),
+            ("é", false),
+            ("aé b", true),
+            ("a\nb", true),
+        ],
+    ),
+    (
+        "(é|)$",
+        &[
+            ("", true),
+            ("a", true),
+            ("é", true),
+            ("aé b", true),
+            ("a\nb", true),
+        ],
+    ),
+    (
+        "é$",
+        &[
+            ("", false),
+            ("a", false),
+            ("é", true),
+            ("aé b", false),
+            ("a\nb", false),
+        ],
+    ),
+    (
+        "^.$",
+        &[
+            ("", false),
+            ("a", true),
+            ("é", true),
+            ("aé b", false),
+            ("a\nb", false),
+        ],
+    ),
+    (
+        "[^a]",
+        &[
+            ("", false),
+            ("a", false),
+            ("é", true),
+            ("aé b", true),
+            ("a\nb", true),
+        ],
+    ),
+];
+
+#[test]
+fn patterns_match_somewhere(rt: HostRuntime) -> Result<(), Fail> {
+    for (source, texts) in PATTERNS {
+        let pattern = Pattern::build(rt.alloc(), source)?;
+        assert_eq!(rt; pattern.text(), *source);
+        for _ in 0..3 {
+            for (text, is_match) in *texts {
+                let found = pattern.matches(rt.alloc(), text)?;
+                assert_eq!(rt; found, *is_match, "{source}, {text}");
+            }
+        }
+    }
+    Ok(())
+}

@@ -1,0 +1,6 @@
+pub mod ShortArrays
+pub mod Docs
+pub mod Puts
+pub mod Others
+pub mod Making
+pub mod LinkedDocuments

@@ -1,0 +1,2 @@
+pub mod Constituents
+pub mod Alone

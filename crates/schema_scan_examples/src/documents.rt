@@ -103,7 +103,10 @@ const TARGETS: &[(&str, &str, &str, usize)] = &[
 fn names(
     alloc: Global,
     document: &Compiled,
-    (uri, fragment, resource, steps): (&str, &str, &str, usize),
+    uri: &str,
+    fragment: &str,
+    resource: &str,
+    steps: usize,
 ) -> Result<bool, Fault> {
     let kind = fragment_kind(alloc, Some(fragment))?;
     match document.target(alloc, uri, &kind)? {
@@ -115,8 +118,9 @@ fn names(
 #[test]
 fn fragments_name_schemas(rt: HostRuntime) -> Result<(), Fail> {
     let document = compiled(rt.alloc(), OUTER, DOCUMENT)?;
-    for row in TARGETS {
-        assert!(rt; names(rt.alloc(), &document, *row)?, "{row:?}");
+    for (uri, fragment, resource, steps) in TARGETS {
+        let is_named = names(rt.alloc(), &document, uri, fragment, resource, *steps)?;
+        assert!(rt; is_named, "{fragment} in {uri}");
     }
     Ok(())
 }

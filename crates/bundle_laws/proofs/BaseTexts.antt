@@ -1,17 +1,15 @@
 -- The documents of a registry stand under URIs in UTF-8, where each put's URI is.
-use Rattle.std.proofs.Common.{◌≡◌, true, not, List, [], ◌∷◌, is_some, None, Ok, Contains, filter, sym, subst, inl, inr}
+use Rattle.std.proofs.Common.{◌≡◌, true, not, List, [], ◌∷◌, is_some, Ok, Contains, sym, subst, inl, inr}
 use Rattle.std.specs.Str.{is_utf8}
 use Rattle.definitions.specs.Values.{Text, same_text}
 use Rattle.definitions.specs.Resolution.{base_form}
 use Rattle.definitions.specs.Schemas.{Document, document_from}
 use Rattle.definitions.specs.Documents.{document_of, placed, placed_all}
 use Rattle.definitions.specs.Reach.{reach}
-use Rattle.definitions.specs.Registries.{Registry, documents_seen, is_in_library, Request, put, delete, validate, bundled_from, batch, Reply, put_refusal, body_value}
+use Rattle.definitions.specs.Registries.{Registry, documents_seen, is_in_library, put, delete, validate, bundled_from, batch, put_refusal, body_value}
 use Rattle.definitions.specs.Searches.{Search}
-use Rattle.definitions.specs.Batches.{Entry, batch_entries, entry_documents, library_of}
+use Rattle.definitions.specs.Batches.{Entry, batch_entries, entry_documents}
 use Rattle.definitions.specs.Steps.{step}
-use Rattle.definitions.specs.Runs.{Course}
-use Rattle.definitions.specs.Keeping.{IsKept}
 use Rattle.definition_laws.proofs.Membership.{nothing_in, from_filter, is_first, is_later}
 use Rattle.definition_laws.proofs.PlacedDocuments.{from_placed}
 use Rattle.definition_laws.proofs.JoinedDocuments.{from_all}
@@ -24,7 +22,7 @@ use Rattle.definition_laws.proofs.SeenDocuments.{puts, deletes, batches}
 use Rattle.definition_laws.proofs.AcceptedDocuments.{accepted}
 use Rattle.definition_laws.proofs.AcceptedBatches.{granted}
 use Rattle.definition_laws.proofs.Steps.{for_base_keeps, for_value_keeps, decided_keeps, found_keeps, deleted_keeps, for_entries_keeps}
-use Rattle.bundle_laws.specs.Registered.{PutsText, HaveBaseTexts, LibrariesHaveBaseTexts, StepsKeepBaseTexts, CoursesKeepBaseTexts, ReachedDocumentsAreRegistered}
+use Rattle.bundle_laws.specs.Registered.{HaveBaseTexts, LibrariesHaveBaseTexts, StepsKeepBaseTexts, CoursesKeepBaseTexts, ReachedDocumentsAreRegistered}
 use Rattle.bundle_laws.proofs.CanonicalTexts.{base_form_text}
 
 entered_texts : (search : Search) (bytes : Text) (es : List Entry) (ds : List Document) → batch_entries bytes ≡ Ok es → entry_documents search 0 es ≡ Ok ds → HaveBaseTexts ds

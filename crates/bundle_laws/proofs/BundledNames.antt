@@ -3,7 +3,7 @@ use Rattle.std.proofs.Common.{◌≡◌, ◌<◌, ◌+◌, ◌++◌, ◌&&◌, �
 use Rattle.std.proofs.lemmas.Bool.{and_parts, false_from_ne_true}
 use Rattle.std.proofs.lemmas.List.Sorted.{IsPermutation-trans, IsPermutation-append_comm, Contains-permutation}
 use Rattle.std.specs.Cmp.{IsEquivalence}
-use Rattle.std.specs.List.{flat_map, list_all}
+use Rattle.std.specs.List.{flat_map}
 use Rattle.std.specs.List.Sorted.{IsPermutation}
 use Rattle.definitions.specs.Values.{Text, Value, nesting, members, is_object, same_text}
 use Rattle.definitions.specs.Lists.{has_repeat}
@@ -23,8 +23,8 @@ use Rattle.definition_laws.proofs.ReachedTables.{one_has, own_uri}
 use Rattle.definition_laws.proofs.BundledDocuments.{root_schema, bundle_unbundled}
 use Rattle.definition_laws.proofs.BundledValues.{under_definite}
 use Rattle.definition_laws.proofs.Bundled.{own_root_is, own_root_in, IsMade, top_is}
-use Rattle.bundle_laws.specs.Registered.{AreRegistered}
-use Rattle.bundle_laws.proofs.RegisteredDocuments.{registered_scanned}
+use Rattle.bundle_laws.specs.Registered.{AreIdentified}
+use Rattle.bundle_laws.proofs.RegisteredDocuments.{identified_scanned}
 use Rattle.bundle_laws.proofs.Walks.{all_from}
 use Rattle.bundle_laws.proofs.Collected.{flat_same, flat_mapped, flat_flat, collected, of_schemas}
 use Rattle.bundle_laws.proofs.BundledLists.{IsCommon, root_uri, root_uri_common, anchors_common, patterns_common, uris_listed, AreUnlike, IsFit, bundle_moved}
@@ -81,7 +81,7 @@ anchors_clear (d ∷ ds) own distinct =
     let apart : same_text a.0 b.0 ≡ false = parts.apart a.0 b.0 (contains_from_in (resources_of d) a.0 i) (contains_from_in (uris_in ds) b.0 j) in
     ap (λ x. x && same_text a.1 b.1) apart)
 
-module _ (search : Search) (ds : List Document) (r : AreRegistered search ds) where
+module _ (search : Search) (ds : List Document) (r : AreIdentified search ds) where
   own_in : (d : Document) → IsIn d ds → IsIn d.canonical (resources_of d)
   own_in d i = own_uri d (root_schema d.canonical d.value) (own_root_in d (r.kept.named d (contains_from_in ds d i)))
 
@@ -108,7 +108,7 @@ module _ (search : Search) (ds : List Document) (r : AreRegistered search ds) wh
   root_first : (uri : Text) (root : Document) → document_of ds uri ≡ Some root → has_repeat same_text (uris_in (root ∷ others_of uri ds)) ≡ false
   root_first uri root e =
       let inside : IsIn root ds = found_in (λ c. same_text uri c.canonical) ds root e in
-      joined same_text (resources_of root) (uris_in (others_of uri ds)) (registered_scanned search ds r root (contains_from_in ds root inside)).uris
+      joined same_text (resources_of root) (uris_in (others_of uri ds)) (identified_scanned search ds r root (contains_from_in ds root inside)).uris
       (filtered same_text resources_of (λ c. not (same_text uri c.canonical)) ds r.kept.distinct)
       (λ t u c k. false_from_ne_true (same_text t u) (λ same.
       let d = in_flat_map resources_of (others_of uri ds) u (in_from_contains (uris_in (others_of uri ds)) u k) in
@@ -185,8 +185,8 @@ module _ (search : Search) (ds : List Document) (r : AreRegistered search ds) wh
           ∙ anchors_clear (root ∷ others_of uri ds) own (root_first uri root found)
         where
           own : (d : Document) → IsIn d (root ∷ others_of uri ds) → has_repeat same_anchor (anchors_in d) ≡ false
-          own d (inl same) = subst (λ x. has_repeat same_anchor (anchors_in x) ≡ false) same (registered_scanned search ds r root (contains_from_in ds root made.root_in)).anchors
-          own d (inr i) = (registered_scanned search ds r d (contains_from_in ds d (made.others_in d i))).anchors
+          own d (inl same) = subst (λ x. has_repeat same_anchor (anchors_in x) ≡ false) same (identified_scanned search ds r root (contains_from_in ds root made.root_in)).anchors
+          own d (inr i) = (identified_scanned search ds r d (contains_from_in ds d (made.others_in d i))).anchors
 
 -- ---- patterns hang on the values alone
 by_value : (s : Schema) (n : ℕ) → flat_map (λ t. collected patterns_of n t.1) (subschemas_by keywords s)
@@ -219,7 +219,7 @@ patterns_anywhere base v =
     ∙ patterns_by_value (suc (nesting v)) (schema_at base [] v) (schema_at [] [] v) (value-opened base [] v _ ∙ sym (value-opened [] [] v _))
     ∙ sym (of_schemas patterns_of [] v (suc (nesting v)) (omega arith))
 
-pub bundle_regular : (search : Search) (ds : List Document) (r : AreRegistered search ds) (uri : Text) (root : Document) → IsMade ds root (others_of uri ds)
+pub bundle_regular : (search : Search) (ds : List Document) (r : AreIdentified search ds) (uri : Text) (root : Document) → IsMade ds root (others_of uri ds)
     → is_regular search (bundle_of root (others_of uri ds)) ≡ true
 bundle_regular search ds r uri root made = all_from search.reads (patterns (bundle_of root (others_of uri ds))) read
   where

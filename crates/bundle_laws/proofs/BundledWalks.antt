@@ -20,17 +20,17 @@ use Rattle.definition_laws.proofs.MembersPut.{put_in, put_from, members_with, is
 use Rattle.definition_laws.proofs.BundledDocuments.{root_schema, step_moved, under_had, under_unbundled, bundle_had, bundle_unbundled, unlike, new_defs, members-new, members-bundle, embedded_from}
 use Rattle.definition_laws.proofs.BundledValues.{under_definite}
 use Rattle.definition_laws.proofs.Bundled.{own_root_is, IsMade, embedded_is, definite_made}
-use Rattle.bundle_laws.specs.Registered.{AreRegistered}
+use Rattle.bundle_laws.specs.Registered.{AreIdentified}
 use Rattle.definition_laws.proofs.AcceptedDocuments.{unless_none}
 use Rattle.bundle_laws.proofs.Walks.{all_from, unless_true, under_base, under_other, id_alone, HasNoFault, IsFaultless, faultless_deeper}
 use Rattle.bundle_laws.proofs.Scans.{scanned_faultless}
 use Rattle.bundle_laws.proofs.Identified.{identifier_id}
-use Rattle.bundle_laws.proofs.RegisteredDocuments.{registered_scanned, registered_identifier}
+use Rattle.bundle_laws.proofs.RegisteredDocuments.{identified_scanned}
 
 object_schema : (v : Value) → is_object v ≡ true → is_schema v ≡ true
 object_schema v h = rw h refl
 
-module _ (search : Search) (ds : List Document) (r : AreRegistered search ds) where
+module _ (search : Search) (ds : List Document) (r : AreIdentified search ds) where
   -- ---- the documents
   faultless_in : (n : ℕ) (d : Document) → IsIn d ds → IsFaultless n d.base (root_schema d.canonical d.value)
   faultless_in n d i =
@@ -41,10 +41,10 @@ module _ (search : Search) (ds : List Document) (r : AreRegistered search ds) wh
       subst (IsFaultless n d.base) (own_root_is d (r.kept.named d c)) (faultless_deeper (suc (nesting d.value)) n d.base top near (scanned_faultless d.base d.value (r.kept.scanned d c)))
 
   object_in : (d : Document) → IsIn d ds → is_object d.value ≡ true
-  object_in d i = (registered_scanned search ds r d (contains_from_in ds d i)).object
+  object_in d i = (identified_scanned search ds r d (contains_from_in ds d i)).object
 
   identifier_in : (base : Text) (d : Document) → IsIn d ds → is_id base (string d.canonical) ≡ true
-  identifier_in base d i = identifier_id base d.canonical (registered_identifier search ds r d (contains_from_in ds d i))
+  identifier_in base d i = identifier_id base d.canonical (r.identifiers d (contains_from_in ds d i))
 
   -- ---- a document under its URI
   under_members : (base : Text) (d : Document) → IsIn d ds → IsDefinite (under_its_uri d) → HasNoFault base (root_schema d.canonical (under_its_uri d))

@@ -1,4 +1,4 @@
--- A bundle of registered documents passes the scan, and stands alone.
+-- A bundle of documents with identifiers passes the scan, and stands alone.
 use Rattle.std.proofs.Common.{◌≡◌, ◌||◌, suc, List, [], ◌∷◌, Bool, true, false, cond, Option, Some, None, Ok, Err, nat_lt, length, refl, sym, ap, subst, ◌∙◌}
 use Rattle.definitions.specs.Values.{Text, Value, nesting, is_object}
 use Rattle.definitions.specs.Texts.{text}
@@ -16,7 +16,7 @@ use Rattle.definition_laws.proofs.Bundled.{IsMade, made_of, bundle_parts, top_is
 use Rattle.bundle_laws.specs.Standing.{IsBundle, BundlesPassTheScan, BundlesAreRegular, BundlesStandAlone}
 use Rattle.bundle_laws.proofs.Walks.{walked_faultless}
 use Rattle.bundle_laws.proofs.Scans.{passed}
-use Rattle.bundle_laws.proofs.RegisteredDocuments.{registered_documents_are_whole}
+use Rattle.bundle_laws.proofs.RegisteredDocuments.{identified_documents_are_whole}
 use Rattle.bundle_laws.proofs.BundledWalks.{bundle_faultless}
 use Rattle.bundle_laws.proofs.BundledNames.{uris_once, anchors_once, bundle_regular}
 
@@ -64,7 +64,7 @@ bundle_from_documents search ds uri v b =
     let root : Document = parts.0 in
     let e : bundle_unless (clash root (others_of uri ds)) root (others_of uri ds) ≡ Ok v =
     subst (λ o. bundle_from o (others_of uri ds) ≡ Ok v) parts.1 b.made in
-    parts_by search ds uri v (registered_documents_are_whole search ds b.documents b.linked) root parts.1 (parts.2).0 (parts.2).1 e
+    parts_by search ds uri v (identified_documents_are_whole search ds b.documents b.linked) root parts.1 (parts.2).0 (parts.2).1 e
 
 object_bundle : (root : Document) (others : List Document) → is_object root.value ≡ true → is_object (bundle_of root others) ≡ true
 object_bundle root [] h = is_object-with _ _ root.value h
@@ -98,8 +98,10 @@ bundles_are_regular search ds uri v b =
 
 pub bundles_stand_alone : BundlesStandAlone
 bundles_stand_alone search ds uri base v b =
-    let whole : AreWhole ds = registered_documents_are_whole search ds b.documents b.linked in
+    let whole : AreWhole ds = identified_documents_are_whole search ds b.documents b.linked in
     record {
+      faultless = bundles_pass_the_scan search ds uri base v b;
+      regular = bundles_are_regular search ds uri v b;
       canonical = bundles_keep_their_uri ds uri base v whole b.made;
       resources = bundles_keep_the_resources ds uri base v whole b.made;
       alike = bundles_are_alike ds uri base v whole b.made;

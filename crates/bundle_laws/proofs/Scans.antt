@@ -1,9 +1,8 @@
 -- What a scan without a fault says of a document.
 use Rattle.std.proofs.Common.{◌≡◌, ◌++◌, suc, List, [], Bool, true, false, Some, None, nat_lt, codes, refl, ap, ◌∙◌}
 use Rattle.std.specs.List.{flat_map}
-use Rattle.definitions.specs.Values.{Text, Value, null, boolean, integer, string, array, object, nesting, is_object, same_text, as_string, get, text_at}
+use Rattle.definitions.specs.Values.{Text, Value, string, nesting, is_object, same_text, get, text_at}
 use Rattle.definitions.specs.Lists.{has_repeat, unless, when, first}
-use Rattle.std.proofs.Common.{Option, option_and_then}
 use Rattle.definitions.specs.Faults.{Fault, not_object, too_nested, bad_id, duplicate_uri, duplicate_anchor}
 use Rattle.definitions.specs.Schemas.{Schema, schema_at, schemas_of, document_from}
 use Rattle.definitions.specs.Scanning.{is_id, walked, resource_uris, anchors_of, same_anchor, scan_faults, scan_fault}

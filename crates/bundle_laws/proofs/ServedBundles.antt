@@ -1,5 +1,5 @@
 -- A bundle that a registry replies answers alone as the registry does.
-use Rattle.std.proofs.Common.{◌≡◌, ◌<◌, ◌≤◌, ◌||◌, ◌++◌, List, [], ◌∷◌, Bool, true, false, cond, Option, Some, None, Result, Ok, Err, is_some, is_none, length, codes, refl, sym, ap, ap₂, subst, ◌∙◌, inl, inr}
+use Rattle.std.proofs.Common.{◌≡◌, ◌<◌, ◌≤◌, ◌++◌, List, [], ◌∷◌, Bool, true, false, cond, Option, Some, None, Result, Ok, Err, is_some, is_none, length, codes, refl, sym, ap, ap₂, subst, ◌∙◌, inl, inr}
 use Rattle.std.specs.List.{flat_map, filter}
 use Rattle.definitions.specs.Values.{Text, Value, same_text}
 use Rattle.definitions.specs.Texts.{text}
@@ -13,7 +13,7 @@ use Rattle.definitions.specs.Bundles.{bundle}
 use Rattle.definitions.specs.Documents.{document_of}
 use Rattle.definitions.specs.Answers.{answer}
 use Rattle.definitions.specs.Alike.{AreAlike}
-use Rattle.definitions.specs.Registries.{Registry, documents_seen, Reply, put, validate, bundled_from, bundled, refused, for_base, for_value, body_value, unless_missing, linked, answered, made, validation, bundling}
+use Rattle.definitions.specs.Registries.{Registry, documents_seen, Reply, put, validate, bundled, refused, for_base, for_value, body_value, unless_missing, linked, answered, made, validation, bundling}
 use Rattle.definitions.specs.Searches.{Search}
 use Rattle.definitions.specs.Steps.{step}
 use Rattle.definitions.specs.Tenants.{Tenant, empty_registry}
@@ -24,10 +24,9 @@ use Rattle.definition_laws.proofs.Targets.{alike_reference}
 use Rattle.definition_laws.proofs.LeastTexts.{no_least}
 use Rattle.definition_laws.proofs.StoredDocuments.{holds_itself}
 use Rattle.definition_laws.proofs.Bundled.{bundle_corresponds, bundles_are_alike}
-use Rattle.bundle_laws.specs.Registered.{AreRegistered}
 use Rattle.bundle_laws.specs.Standing.{IsBundle}
 use Rattle.bundle_laws.specs.Served.{RepliedBundlesAnswerTheSame}
-use Rattle.bundle_laws.proofs.RegisteredDocuments.{registered_documents_are_whole}
+use Rattle.bundle_laws.proofs.RegisteredDocuments.{registered_documents_are_identified, identified_documents_are_whole}
 use Rattle.bundle_laws.proofs.BaseTexts.{reached_documents_are_registered}
 use Rattle.bundle_laws.proofs.Passing.{bundle_from_documents, bundles_stand_alone}
 use Rattle.bundle_laws.proofs.StoredBundles.{bundles_are_stored}
@@ -92,7 +91,7 @@ of_bundling false ds uri bytes h = absurd (cc)
 -- ---- the law
 module _ (search : Search) (ds : List Document) (b : Text) (v : Value) (is : IsBundle search ds b v) (base : Text) where
   whole : AreWhole ds
-  whole = registered_documents_are_whole search ds is.documents is.linked
+  whole = identified_documents_are_whole search ds is.documents is.linked
 
   validated_same : (x : Value) → validation search b x (reach (document_from base v ∷ []) b) ≡ validation search b x ds
   validated_same x =
@@ -129,6 +128,10 @@ replied_bundles_answer_the_same search g t uri at base bytes body registered rep
     by (Ok b) e h =
         let ds : List Document = reach (documents_seen g) b in
         let r = of_bundling (is_some (document_of ds b)) ds b bytes h in
-        let is : IsBundle search ds b r.value = record { documents = reached_documents_are_registered search (documents_seen g) b registered; linked = r.none_missing; made = r.is_made } in
+        let is : IsBundle search ds b r.value = record {
+          documents = registered_documents_are_identified search (reach (documents_seen g) b) (reached_documents_are_registered search (documents_seen g) b registered);
+          linked = r.none_missing;
+          made = r.is_made;
+        } in
         subst (λ bs. (step search (step search (empty_registry [] t) (put at bs)).1 (validate uri body)).0 ≡ (step search g (validate uri body)).0) r.written
         (answered_same search g t uri b at base body r.value e is form few (subst (λ bs. length bs ≤ t.most_bytes) (sym r.written) small))

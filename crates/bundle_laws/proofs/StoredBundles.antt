@@ -18,7 +18,7 @@ use Rattle.definition_laws.specs.Identities.{IsDefinite}
 use Rattle.definition_laws.proofs.AcceptedDocuments.{first_none}
 use Rattle.definition_laws.proofs.Bundled.{bundles_are_definite, bundles_keep_their_uri}
 use Rattle.bundle_laws.specs.Standing.{IsBundle, BundlesAreStored}
-use Rattle.bundle_laws.proofs.RegisteredDocuments.{registered_documents_are_whole}
+use Rattle.bundle_laws.proofs.RegisteredDocuments.{identified_documents_are_whole}
 use Rattle.bundle_laws.proofs.ReadBack.{text_read_back}
 use Rattle.bundle_laws.proofs.Passing.{IsSized, bundle_from_documents, bundles_pass_the_scan, bundles_are_regular}
 
@@ -39,7 +39,7 @@ no_refusal faults regular owned uri many large a b c d e f = rw (a, b, c, d, e, 
 
 module _ (search : Search) (ds : List Document) (uri : Text) (v : Value) (b : IsBundle search ds uri v) where
   whole : AreWhole ds
-  whole = registered_documents_are_whole search ds b.documents b.linked
+  whole = identified_documents_are_whole search ds b.documents b.linked
 
   sized : IsSized v
   sized = (bundle_from_documents search ds uri v b).within

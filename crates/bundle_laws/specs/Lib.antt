@@ -1,3 +1,4 @@
+pub mod Equality
 pub mod Identifying
 pub mod Registered
 pub mod Standing

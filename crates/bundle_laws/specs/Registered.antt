@@ -10,7 +10,9 @@ use Rattle.definitions.specs.Batches.{library_of}
 use Rattle.definitions.specs.Steps.{step}
 use Rattle.definitions.specs.Runs.{Course}
 use Rattle.definitions.specs.Keeping.{AreKept, IsKept}
+use Rattle.definition_laws.specs.Identities.{IsDefinite}
 use Rattle.definition_laws.specs.Keeping.{HaveBodyValues, HaveBaseForms}
+use Rattle.bundle_laws.specs.Identifying.{IsIdentifierText}
 
 abbrev pub HaveBaseTexts : List Document → Type 0
 HaveBaseTexts ds = (d : Document) → Contains ds d → IsTrue (is_utf8 d.base)
@@ -21,6 +23,17 @@ pub record AreRegistered (search : Search) (ds : List Document) : Type 0 where
   pub body_values : HaveBodyValues ds
   pub base_forms : HaveBaseForms ds
   pub base_texts : HaveBaseTexts ds
+
+-- kept, with values whose names stand once, under canonical URIs that are identifiers in UTF-8, which stay theirs wherever
+-- the documents stand
+pub record AreIdentified (search : Search) (ds : List Document) : Type 0 where
+  pub kept : AreKept search ds
+  pub values : (d : Document) → Contains ds d → IsDefinite d.value
+  pub identifiers : (d : Document) → Contains ds d → IsIdentifierText d.canonical
+  pub texts : (d : Document) → Contains ds d → IsTrue (is_utf8 d.canonical)
+
+abbrev pub RegisteredDocumentsAreIdentified : Type 0
+RegisteredDocumentsAreIdentified = (search : Search) (ds : List Document) → AreRegistered search ds → AreIdentified search ds
 
 -- those that a URI reaches among such documents are such
 abbrev pub ReachedDocumentsAreRegistered : Type 0

@@ -1,5 +1,5 @@
--- A bundle of documents of a registry stands alone (JSON Schema 2020-12 Core, 9.3).
-use Rattle.std.specs.Prelude.{◌≡◌, ◌↔◌, ◌<◌, ◌≤◌, ℕ, List, [], ◌∷◌, Bool, false, Ok, None, IsTrue, Contains, length}
+-- A bundle of documents stands alone (JSON Schema 2020-12 Core, 9.3).
+use Rattle.std.specs.Prelude.{◌≡◌, ◌↔◌, ◌<◌, ◌≤◌, List, [], ◌∷◌, Bool, false, Ok, None, IsTrue, Contains, length}
 use Rattle.definitions.specs.Values.{Text, Value}
 use Rattle.definitions.specs.Texts.{text}
 use Rattle.definitions.specs.Resolution.{base_form}
@@ -14,17 +14,17 @@ use Rattle.definitions.specs.Searches.{Search, is_regular}
 use Rattle.definitions.specs.Steps.{step}
 use Rattle.definitions.specs.Tenants.{Tenant, empty_registry}
 use Rattle.definition_laws.specs.Bundling.{AreWhole}
-use Rattle.bundle_laws.specs.Registered.{AreRegistered}
+use Rattle.bundle_laws.specs.Registered.{AreIdentified}
 
--- a bundle of documents of a registry, with no reference missing
+-- a bundle of such documents, with no reference missing
 pub record IsBundle (search : Search) (ds : List Document) (uri : Text) (v : Value) : Type 0 where
-  pub documents : AreRegistered search ds
+  pub documents : AreIdentified search ds
   pub linked : missing ds ≡ []
   pub made : bundle ds uri ≡ Ok v
 
 -- so the documents are as a bundle wants them
-abbrev pub RegisteredDocumentsAreWhole : Type 0
-RegisteredDocumentsAreWhole = (search : Search) (ds : List Document) → AreRegistered search ds → missing ds ≡ [] → AreWhole ds
+abbrev pub IdentifiedDocumentsAreWhole : Type 0
+IdentifiedDocumentsAreWhole = (search : Search) (ds : List Document) → AreIdentified search ds → missing ds ≡ [] → AreWhole ds
 
 -- no schema in it has a fault, whatever it is put under
 abbrev pub BundlesPassTheScan : Type 0
@@ -40,13 +40,15 @@ BundlesAreStored =
     → base_form at ≡ Ok base → 0 < t.most_documents → length (text v) ≤ t.most_bytes
     → step search (empty_registry [] t) (put at (text v)) ≡ (stored uri false, record (empty_registry [] t) { documents = document_from base v ∷ [] })
 
--- what a bundle is, put alone under this base: its resources are those of the documents, its table is alike to theirs, and
--- it answers as they do
-pub record StandsAlone (ds : List Document) (uri base : Text) (v : Value) : Type 0 where
+-- what a bundle is, put alone under this base: it has no fault, its resources are those of the documents, its table is alike
+-- to theirs, and it answers as they do
+pub record StandsAlone (search : Search) (ds : List Document) (uri base : Text) (v : Value) : Type 0 where
+  pub faultless : scan_fault base v ≡ None
+  pub regular : IsTrue (is_regular search v)
   pub canonical : (document_from base v).canonical ≡ uri
   pub resources : (u : Text) → Contains (resource_uris (table_of (document_from base v ∷ []))) u ↔ Contains (resource_uris (table_of ds)) u
   pub alike : IsAlike (table_of ds) (table_of (document_from base v ∷ []))
   pub answers : (matches : Text → Text → Bool) (x : Value) → answer matches (document_from base v ∷ []) uri x ≡ answer matches ds uri x
 
 abbrev pub BundlesStandAlone : Type 0
-BundlesStandAlone = (search : Search) (ds : List Document) (uri base : Text) (v : Value) → IsBundle search ds uri v → StandsAlone ds uri base v
+BundlesStandAlone = (search : Search) (ds : List Document) (uri base : Text) (v : Value) → IsBundle search ds uri v → StandsAlone search ds uri base v

@@ -1,6 +1,6 @@
 //! What the documents of a registry are like.
 
-ghost use Rattle.bundle_laws.specs.Registered.{CoursesKeepBaseTexts, LibrariesHaveBaseTexts, ReachedDocumentsAreRegistered, StepsKeepBaseTexts};
+ghost use Rattle.bundle_laws.specs.Registered.{CoursesKeepBaseTexts, LibrariesHaveBaseTexts, ReachedDocumentsAreRegistered, RegisteredDocumentsAreIdentified, StepsKeepBaseTexts};
 
 /// The URIs that a library's documents stand under are in UTF-8.
 pub fn libraries_have_base_texts()
@@ -21,4 +21,9 @@ pub fn courses_keep_base_texts()
 /// are such documents too.
 pub fn reached_documents_are_registered()
     ensures { ReachedDocumentsAreRegistered }
+{}
+
+/// Such documents have canonical URIs that are identifiers in UTF-8, and values whose names stand once.
+pub fn registered_documents_are_identified()
+    ensures { RegisteredDocumentsAreIdentified }
 {}

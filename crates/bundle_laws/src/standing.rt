@@ -1,10 +1,10 @@
 //! Bundles that stand alone (JSON Schema 2020-12 Core, 9.3).
 
-ghost use Rattle.bundle_laws.specs.Standing.{BundlesAreRegular, BundlesAreStored, BundlesPassTheScan, BundlesStandAlone, RegisteredDocumentsAreWhole};
+ghost use Rattle.bundle_laws.specs.Standing.{BundlesAreRegular, BundlesAreStored, BundlesPassTheScan, BundlesStandAlone, IdentifiedDocumentsAreWhole};
 
-/// Documents of a registry, none of whose references is missing, are as a bundle wants its documents.
-pub fn registered_documents_are_whole()
-    ensures { RegisteredDocumentsAreWhole }
+/// Kept documents under identifiers, none of whose references is missing, are as a bundle wants its documents.
+pub fn identified_documents_are_whole()
+    ensures { IdentifiedDocumentsAreWhole }
 {}
 
 /// A bundle of them has no fault, whatever it is put under: its schemas keep the shapes of their keywords, its resources
@@ -24,7 +24,7 @@ pub fn bundles_are_stored()
     ensures { BundlesAreStored }
 {}
 
-/// Alone, it holds the resources of the documents, and answers as they do.
+/// Alone, under whatever base, it has no fault, holds the resources of the documents, and answers as they do.
 pub fn bundles_stand_alone()
     ensures { BundlesStandAlone }
 {}

@@ -1,8 +1,8 @@
 -- What holds of a batch that isn't refused, and of a library that a batch gives.
-use Rattle.std.proofs.Common.{◌≡◌, ℕ, suc, Bool, true, false, not, cond, List, [], ◌∷◌, ◌++◌, map, flat_map, length, nat_lt, Contains, Option, Some, None, option_map, Result, Ok, Err, is_some, refl, sym, ap, ◌∙◌, subst, inl, inr}
+use Rattle.std.proofs.Common.{◌≡◌, ℕ, suc, Bool, true, false, not, cond, List, [], ◌∷◌, ◌++◌, map, flat_map, length, nat_lt, Contains, Option, Some, None, option_map, Result, Ok, Err, refl, sym, ap, ◌∙◌, subst, inl, inr}
 use Rattle.std.proofs.lemmas.Bool.{or_from}
 use Rattle.std.specs.List.{list_any}
-use Rattle.definitions.specs.Values.{Text, Value, same_text}
+use Rattle.definitions.specs.Values.{Text, same_text}
 use Rattle.definitions.specs.Lists.{has_repeat, option_list, first, when}
 use Rattle.definitions.specs.Faults.{Fault, bad_pattern, library_owned, taken, same_document, quota_documents, quota_bytes}
 use Rattle.definitions.specs.Resolution.{base_form}
@@ -11,7 +11,7 @@ use Rattle.definitions.specs.Scanning.{scan_faults}
 use Rattle.definitions.specs.Reach.{least}
 use Rattle.definitions.specs.Registries.{Registry, is_in_library}
 use Rattle.definitions.specs.Searches.{Search, is_regular}
-use Rattle.definitions.specs.Documents.{joined, taken_uri, taken_uris, bytes_of, placed_all}
+use Rattle.definitions.specs.Documents.{joined, taken_uris, bytes_of, placed_all}
 use Rattle.definitions.specs.Batches.{Entry, accepted_document, document_under, entry_document, with_later, Numbered, entry_documents, repeats, repeated_uri, taken_by, batch_refusal, unless_shared, library_with}
 use Rattle.definition_laws.proofs.Membership.{nothing_in, is_first, is_later, first_or_later}
 use Rattle.definition_laws.proofs.Repeats.{none_of}

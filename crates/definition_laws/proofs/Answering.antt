@@ -1,15 +1,15 @@
 -- What decides the reply to a request, and what no reply is refused for.
-use Rattle.std.proofs.Common.{◌≡◌, ◌↔◌, ◌&&◌, ℕ, zero, suc, List, [], ◌∷◌, ◌++◌, Bool, true, false, not, Option, Some, None, is_none, is_some, is_ok, option_map, length, nat_lt, ◌+◌, ◌≤◌, arith, Result, Ok, Err, IsTrue, refl, sym, ap, ◌∙◌, subst, inl, inr, true≢false}
+use Rattle.std.proofs.Common.{◌≡◌, ◌↔◌, ◌&&◌, ℕ, zero, suc, List, [], ◌∷◌, ◌++◌, Bool, true, false, not, Option, Some, None, is_none, is_some, is_ok, option_map, length, nat_lt, ◌+◌, ◌≤◌, arith, Result, Ok, Err, refl, sym, ap, ◌∙◌, subst, inl, inr, true≢false}
 use Rattle.std.proofs.lemmas.Bool.{and_parts}
 use Rattle.definitions.specs.Values.{Text, Value}
-use Rattle.definitions.specs.Faults.{Fault, bad_pattern, library_owned, taken, quota_documents, quota_bytes, no_room}
+use Rattle.definitions.specs.Faults.{Fault, bad_pattern, library_owned, taken, quota_documents, quota_bytes}
 use Rattle.definitions.specs.Resolution.{base_form}
 use Rattle.definitions.specs.Schemas.{Document, document_from}
 use Rattle.definitions.specs.Lists.{option_list, first, when}
 use Rattle.definitions.specs.Scanning.{scan_fault, scan_faults}
 use Rattle.definitions.specs.Reach.{reach, IsReached}
 use Rattle.definitions.specs.Alike.{Agree}
-use Rattle.definitions.specs.Registries.{Registry, documents_seen, is_in_library, Request, put, delete, validate, bundled_from, batch, Reply, stored, stored_all, refused, refused_at, for_base, for_value, decided, put_into, bundling, body_value}
+use Rattle.definitions.specs.Registries.{Registry, documents_seen, is_in_library, Request, put, delete, validate, bundled_from, batch, stored, stored_all, refused, refused_at, for_base, for_value, decided, put_into, bundling, body_value}
 use Rattle.definitions.specs.Searches.{Search, is_regular, has_patterns, builds}
 use Rattle.definitions.specs.Documents.{taken_uri, bytes_of, placed, document_of, placed_all}
 use Rattle.definitions.specs.Batches.{Entry, Numbered, batch_entries, entry_document, entry_documents, batch_refusal, each_stored, for_documents, for_entries, document_under, with_later}

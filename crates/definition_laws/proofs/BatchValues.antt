@@ -1,5 +1,5 @@
 -- The entries of a batch stand in its body: their schemas are values as bodies are.
-use Rattle.std.proofs.Common.{◌≡◌, ℕ, Bool, true, false, cond, List, [], ◌∷◌, length, nat_le, Contains, Option, Some, None, option_and_then, option_map, Result, Ok, Err, IsTrue, codes, refl, sym, ap, ◌∙◌, subst, inl, inr}
+use Rattle.std.proofs.Common.{◌≡◌, Bool, true, false, cond, List, [], ◌∷◌, length, nat_le, Contains, Option, Some, None, option_and_then, option_map, Result, Ok, Err, codes, refl, sym, ap, ◌∙◌, subst, inl, inr}
 use Rattle.std.proofs.lemmas.Bool.{and_parts}
 use Rattle.std.specs.Str.{is_utf8}
 use Rattle.definitions.specs.Values.{Text, Value, null, boolean, integer, string, array, object, Elements, no_elements, element, Members, no_members, member, elements_list, members_list, entry, get, as_string, text_at, same_text, is_before, is_well_formed, are_well_formed, are_well_formed_members}

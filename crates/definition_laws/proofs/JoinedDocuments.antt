@@ -1,5 +1,5 @@
 -- A library's documents among others: what is placed or left out there is so in the joined list.
-use Rattle.std.proofs.Common.{◌≡◌, ◌⊎◌, Bool, true, false, not, cond, List, [], ◌∷◌, map, Option, Some, None, is_some, Contains, filter, find, Ordering, Less, Equal, sym, refl, ap, ◌∙◌, subst, inl, inr, true≢false}
+use Rattle.std.proofs.Common.{◌≡◌, ◌⊎◌, Bool, true, false, not, cond, List, [], ◌∷◌, map, Option, Some, is_some, Contains, filter, Less, Equal, sym, refl, ap, ◌∙◌, subst, inl, inr, true≢false}
 use Rattle.std.proofs.lemmas.Bool.{false_from_ne_true}
 use Rattle.std.proofs.lemmas.Cmp.{nat_list_cmp_total, tied_itself}
 use Rattle.std.proofs.lemmas.List.Elements.{All-from_recursion, All-contains}
@@ -8,10 +8,9 @@ use Rattle.std.specs.List.{list_any}
 use Rattle.std.specs.List.Sorted.{IsStrictlySortedBy}
 use Rattle.std.specs.Ordering.{nat_cmp}
 use Rattle.definitions.specs.Values.{Text, same_text}
-use Rattle.definitions.specs.Lists.{has_repeat}
 use Rattle.definitions.specs.Schemas.{Document}
 use Rattle.definitions.specs.Documents.{document_of, others_of, placed, joined, placed_all, Ascend}
-use Rattle.definition_laws.proofs.Membership.{nothing_in, is_first, is_later, first_or_later, in_filter, from_filter, in_map, found_some}
+use Rattle.definition_laws.proofs.Membership.{nothing_in, is_first, is_later, first_or_later, from_filter, in_map, found_some}
 use Rattle.definition_laws.proofs.Repeats.{none_of}
 use Rattle.definition_laws.proofs.Resources.{same_text-unlike}
 use Rattle.definition_laws.proofs.Placing.{inserted, ascending, kept_ascending}

@@ -1,5 +1,5 @@
 -- What holds of a registry holds after a request.
-use Rattle.std.proofs.Common.{◌≡◌, Ok, Err, Result, ℕ, ◌≤◌, Bool, true, false, not, List, [], map, length, None, Contains, sum_by, filter, refl, sym, subst, inl, inr, arith}
+use Rattle.std.proofs.Common.{◌≡◌, Ok, Err, Result, ℕ, ◌≤◌, Bool, false, not, List, [], length, None, Contains, sum_by, filter, refl, sym, subst, inl, inr, arith}
 use Rattle.std.proofs.lemmas.Bool.{ltb-false}
 use Rattle.std.proofs.lemmas.List.Filters.{sum_by-filter_both}
 use Rattle.std.specs.List.Sorted.{IsStrictlySortedBy}
@@ -18,7 +18,7 @@ use Rattle.definitions.specs.Keeping.{AreKept, IsKept}
 use Rattle.definitions.specs.Tenants.{Tenant, empty_registry}
 use Rattle.definition_laws.specs.Keeping.{IsBaseForm, HaveBaseForms, IsBodyValue, HaveBodyValues}
 use Rattle.definition_laws.proofs.Membership.{nothing_in, from_filter, filter_short}
-use Rattle.definition_laws.proofs.Steps.{IsKeptByChanges, step_keeps, course_keeps}
+use Rattle.definition_laws.proofs.Steps.{step_keeps, course_keeps}
 use Rattle.definition_laws.proofs.PlacedDocuments.{from_placed}
 use Rattle.definition_laws.proofs.AcceptedDocuments.{accepted, free_of_others}
 use Rattle.definition_laws.proofs.JoinedDocuments.{ascend_placed, ascend_part, ascend_all, joined_alone, from_all}

@@ -49,3 +49,4 @@ pub mod AppliedSchemas
 pub mod Reports
 pub mod TenantCourses
 pub mod Answering
+pub mod QuotaSums

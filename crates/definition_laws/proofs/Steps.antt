@@ -1,5 +1,5 @@
 -- What each change of a registry keeps, every request keeps, and every course of requests.
-use Rattle.std.proofs.Common.{◌≡◌, ℕ, Bool, true, false, cond, List, [], ◌∷◌, is_some, Some, None, Ok, Err, Option, Result, sym, refl, subst, inl, inr}
+use Rattle.std.proofs.Common.{◌≡◌, Bool, true, false, cond, List, [], ◌∷◌, is_some, Some, None, Ok, Err, Option, Result, sym, refl, subst, inl, inr}
 use Rattle.definitions.specs.Values.{Text, Value}
 use Rattle.definitions.specs.Faults.{Fault}
 use Rattle.definitions.specs.Resolution.{base_form}

@@ -1,5 +1,5 @@
 -- Documents by their canonical URIs.
-use Rattle.std.proofs.Common.{◌≡◌, ◌≢◌, ◌↔◌, ◌&&◌, List, [], ◌∷◌, Bool, true, false, not, cond, Option, Some, None, is_some, filter, find, codes, Contains, refl, sym, ap, ◌∙◌, subst, inl, inr, true≢false, IsTrue}
+use Rattle.std.proofs.Common.{◌≡◌, ◌≢◌, ◌↔◌, ◌&&◌, List, [], ◌∷◌, Bool, true, false, not, cond, Option, Some, None, is_some, filter, find, codes, Contains, refl, sym, ap, ◌∙◌, subst, true≢false, IsTrue}
 use Rattle.std.proofs.lemmas.Bool.{and_from, not-true}
 use Rattle.std.specs.Cmp.Lexicographic.{bytes_decides}
 use Rattle.std.specs.List.{list_any}

@@ -1,5 +1,5 @@
 -- One tenant's part of calls of several.
-use Rattle.std.proofs.Common.{◌≡◌, ◌≢◌, ℕ, List, [], ◌∷◌, ◌++◌, Bool, true, false, cond, is_some, Option, Some, None, Result, Ok, Err, map, refl, sym, ap, ◌∙◌, subst, inl, inr, true≢false, IsTrue}
+use Rattle.std.proofs.Common.{◌≡◌, ◌≢◌, ℕ, List, [], ◌∷◌, ◌++◌, Bool, true, false, cond, is_some, Option, Some, None, Ok, refl, sym, ap, ◌∙◌, subst, inl, inr, true≢false, IsTrue}
 use Rattle.std.specs.Cmp.Lexicographic.{bytes_decides}
 use Rattle.definitions.specs.Values.{Text, same_text}
 use Rattle.definitions.specs.Faults.{Fault, unknown_tenant}
@@ -7,10 +7,10 @@ use Rattle.definitions.specs.Schemas.{Document}
 use Rattle.definitions.specs.Registries.{Registry, Request, Reply, refused}
 use Rattle.definitions.specs.Searches.{Search}
 use Rattle.definitions.specs.Steps.{step}
-use Rattle.definitions.specs.Runs.{IsForRoom, Course, IsAnswer, replies}
+use Rattle.definitions.specs.Runs.{Course, IsAnswer, replies}
 use Rattle.definitions.specs.Keeping.{AreKept, IsKept}
-use Rattle.definitions.specs.Services.{KeyedRegistry, Call, registry_of, with_registry, call_at, call_step, IsCallAnswer, CallCourse, own, replies_at, AllUnknown}
-use Rattle.definitions.specs.Tenants.{Tenant, server_fault, empty_registry, empty_registries, over_library, unless_refused, new_server}
+use Rattle.definitions.specs.Services.{KeyedRegistry, Call, registry_of, with_registry, call_at, IsCallAnswer, CallCourse, own, replies_at, AllUnknown}
+use Rattle.definitions.specs.Tenants.{Tenant, server_fault, empty_registry, empty_registries, unless_refused, new_server}
 use Rattle.definition_laws.specs.Laws.{NoneIsForRoom}
 use Rattle.definition_laws.specs.Services.{AreAllKept}
 use Rattle.definition_laws.proofs.Registries.{course_replies}
@@ -64,9 +64,10 @@ stepped_at search ks c (Some f) g e = ap (λ x. ((step search x c.1).0, with_reg
 pub answered : (search : Search) (ks ls : List KeyedRegistry) (c : Call) (r : Reply) (g : Registry) → IsCallAnswer search ks c r ls → registry_of ks c.0 ≡ Some g
     → (h : Registry) × ((registry_of ls c.0 ≡ Some h) × IsAnswer search g c.1 r h)
 answered search ks ls c r g (inl s) is =
-    let made = stepped_at search ks c (registry_of ks c.0) g is in
-    ((step search g c.1).1,
-    (ap (λ ms. registry_of ms c.0) (s.1 ∙ ap (λ x. x.1) made) ∙ own_after ks c.0 g (step search g c.1).1 is, inl (s.0 ∙ ap (λ x. x.0) made, refl)))
+    let made = stepped_at search ks c (registry_of ks c.0) g is in (
+      (step search g c.1).1,
+      (ap (λ ms. registry_of ms c.0) (s.1 ∙ ap (λ x. x.1) made) ∙ own_after ks c.0 g (step search g c.1).1 is, inl (s.0 ∙ ap (λ x. x.0) made, refl)),
+    )
 answered search ks ls c r g (inr s) is = (g, (ap (λ ms. registry_of ms c.0) s.2 ∙ is, inr (s.1, refl)))
 
 unknown_at : (search : Search) (ks : List KeyedRegistry) (c : Call) (o : Option Registry) → o ≡ None → call_at search ks c o ≡ (refused unknown_tenant, ks)

@@ -14,3 +14,4 @@ pub mod Distinctness
 pub mod Applications
 pub mod Libraries
 pub mod Services
+pub mod Quotas

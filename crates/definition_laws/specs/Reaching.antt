@@ -1,5 +1,5 @@
 -- What the laws say of the documents that a URI reaches (JSON Schema 2020-12 Core, 8.2.3 and 9.2).
-use Rattle.std.specs.Prelude.{◌≡◌, ◌≢◌, ◌↔◌, List, [], false, None, Contains, IsTrue}
+use Rattle.std.specs.Prelude.{◌≡◌, ◌≢◌, ◌↔◌, List, [], false, Contains, IsTrue}
 use Rattle.definitions.specs.Values.{Text, same_text}
 use Rattle.definitions.specs.Lists.{has_repeat}
 use Rattle.definitions.specs.Schemas.{Document, table_of}

@@ -11,6 +11,7 @@ mod likeness;
 mod linking;
 mod locations;
 mod pointers;
+mod quotas;
 mod reaching;
 mod reading;
 mod services;
@@ -38,6 +39,7 @@ pub use likeness::{alike_tables_answer_the_same, alike_tables_give_the_same, rea
 pub use linking::{least_is_least, linked_name_all, missing_name_nothing, no_texts_have_no_least};
 pub use locations::locations_name_schemas;
 pub use pointers::{pointers_are_read_back, read_pointers_have_one_text};
+pub use quotas::quotas_add_up;
 pub use reaching::{
     kept_documents_reach_least_sets, nothing_is_reached_from_nothing, reached_documents_are_kept,
     reached_resources_are_distinct, reached_sets_are_least, resources_have_one_document,
@@ -51,9 +53,9 @@ pub use services::{
     unknown_keys_are_refused, unknown_keys_stay_unknown,
 };
 pub use storing::{
-    canonical_uris_find_their_holders, holders_are_unique, kept_documents_are_sound,
-    documents_are_found_by_their_uris, documents_hold_their_uris, free_uris_are_held_by_no_other,
-    stored_documents_are_reached, taken_uris_are_held_by_another,
+    canonical_uris_find_their_holders, documents_are_found_by_their_uris,
+    documents_hold_their_uris, free_uris_are_held_by_no_other, holders_are_unique,
+    kept_documents_are_sound, stored_documents_are_reached, taken_uris_are_held_by_another,
 };
 pub use uniqueness::sorted_repeats_are_neighbours;
 

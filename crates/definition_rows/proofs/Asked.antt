@@ -143,3 +143,8 @@ numbered (suc n) = tenant (codes "k" ++ decimal n) 100 10000 ∷ numbered n
 -- the replies to calls by tenants with these keys
 abbrev pub called : List Text → List Call → List ToldReply
 called keys calls = map told_reply (call_replies (reading_all_but []) (empty_registries [] (map (λ key. tenant key 100 10000) keys)) calls)
+
+-- beside the library that a text gives, each with 2 documents and 100 bytes
+abbrev pub called_with : Text → List Text → List Call → List ToldReply
+called_with bytes keys calls =
+    map told_reply (call_replies (reading_all_but []) (empty_registries (documents_or_none (library_of (reading_all_but []) bytes)) (map (λ key. tenant key 2 100) keys)) calls)

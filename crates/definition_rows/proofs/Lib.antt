@@ -9,3 +9,4 @@ mod DynamicBundles
 mod Batches
 mod Tenants
 mod Caches
+mod LargeBodies

@@ -9,7 +9,7 @@ use Rattle.regex_hir.specs.Re.{attempt, rounds}
 use Rattle.regex.proofs.OnLiterals.{regex_on_literals}
 use Rattle.serde_json.proofs.OnLiterals.{serde_json_on_literals}
 use Rattle.definitions.specs.Limits.{limits}
-use Rattle.definitions.specs.Values.{null, string}
+use Rattle.definitions.specs.Values.{null}
 use Rattle.definitions.specs.Faults.{too_large, bundle_too_large}
 use Rattle.definitions.specs.Outcomes.{object_outcome, outcome}
 use Rattle.definitions.specs.Bundles.{sized_within}
@@ -123,6 +123,14 @@ refused_pattern_keeps_the_old : replied ((codes "(?=a)") ∷ []) 100 10000 (
     ∷ gave (codes "BadNumber") None ∷ []
 unfolding serde_json_on_literals digits is_utf8 chars object_outcome outcome
 refused_pattern_keeps_the_old = refl
+
+one_anchor_in_two_resources : replied [] 100 10000 (
+    put (codes "https://ex.org/s") (codes "{\"$anchor\":\"n\",\"$defs\":{\"d\":{\"$dynamicAnchor\":\"n\"}}}")
+    ∷ put (codes "https://ex.org/s") (codes "{\"$anchor\":\"n\",\"$defs\":{\"d\":{\"$dynamicAnchor\":\"n\",\"$id\":\"e\"}}}") ∷ [])
+    ≡ gave (codes "DuplicateAnchor") None
+    ∷ was (stored (codes "https://ex.org/s") false) ∷ []
+unfolding serde_json_on_literals digits is_utf8 chars object_outcome outcome
+one_anchor_in_two_resources = refl
 
 -- ---- two that refer to each other, before and after they are bundled
 loop_in_a_registry : replied [] 100 10000 (

@@ -6,9 +6,9 @@ use Rattle.std.specs.Str.{is_utf8, chars}
 use Rattle.serde_json.proofs.OnLiterals.{serde_json_on_literals}
 use Rattle.definitions.specs.Faults.{bad_json, bad_number, bad_capacity, duplicate_tenant, too_many_tenants, bad_tenants, bad_batch}
 use Rattle.definitions.specs.Outcomes.{object_outcome, outcome}
-use Rattle.definitions.specs.Registries.{put, validate, stored, validated}
+use Rattle.definitions.specs.Registries.{put, delete, validate, stored, validated}
 use Rattle.definitions.specs.Tenants.{file_tenants, server_fault, new_server}
-use Rattle.definition_rows.proofs.Asked.{tenant, numbered, called, was, gave}
+use Rattle.definition_rows.proofs.Asked.{tenant, numbered, called, called_with, was, gave}
 
 -- ---- the file
 one_tenant : file_tenants (codes "{\"tenants\":[{\"bytes\":1000000,\"documents\":100,\"key\":\"k1\"}]}") ≡ Ok (tenant (codes "k1") 100 1000000 ∷ [])
@@ -68,6 +68,10 @@ over_most_capacity : server_fault (numbered 1) 4097 ≡ Some bad_capacity
 unfolding digits
 over_most_capacity = refl
 
+too_many : server_fault (numbered 65) 256 ≡ Some too_many_tenants
+unfolding digits
+too_many = refl
+
 number_before_keys : server_fault (tenant [] 1 1 ∷ numbered 64) 1 ≡ Some too_many_tenants
 unfolding digits
 number_before_keys = refl
@@ -114,3 +118,26 @@ alternating : called (codes "k1" ∷ codes "k2" ∷ []) (
     ∷ gave (codes "UnknownTenant") None ∷ []
 unfolding serde_json_on_literals digits is_utf8 chars object_outcome outcome
 alternating = refl
+
+-- ---- and all have the library, which no quota counts
+library_of_all : called_with (codes "{\"put\":[{\"schema\":{\"type\":\"integer\"},\"uri\":\"https://ex.org/lib\"},{\"schema\":{\"$ref\":\"own\"},\"uri\":\"https://ex.org/lib2\"}]}") (codes "k1" ∷ codes "k2" ∷ []) (
+    (codes "k1", put (codes "https://ex.org/lib") (codes "{}"))
+    ∷ (codes "k1", delete (codes "https://ex.org/lib"))
+    ∷ (codes "k1", put (codes "https://ex.org/t") (codes "{\"$defs\":{\"e\":{\"$id\":\"lib\"}}}"))
+    ∷ (codes "k2", validate (codes "https://ex.org/lib") (codes "5"))
+    ∷ (codes "k1", put (codes "https://ex.org/s") (codes "{\"$ref\":\"lib\"}"))
+    ∷ (codes "k1", put (codes "https://ex.org/own") (codes "{\"type\":\"string\"}"))
+    ∷ (codes "k1", validate (codes "https://ex.org/s") (codes "\"x\""))
+    ∷ (codes "k1", validate (codes "https://ex.org/lib2") (codes "5"))
+    ∷ (codes "k2", validate (codes "https://ex.org/lib2") (codes "5")) ∷ [])
+    ≡ gave (codes "LibraryOwned") None
+    ∷ gave (codes "LibraryOwned") None
+    ∷ gave (codes "Taken") (Some (codes "https://ex.org/lib"))
+    ∷ was (validated (codes "{\"annotations\":[],\"valid\":true}"))
+    ∷ was (stored (codes "https://ex.org/s") false)
+    ∷ was (stored (codes "https://ex.org/own") false)
+    ∷ was (validated (codes "{\"errors\":[{\"absoluteKeywordLocation\":\"https://ex.org/s#/$ref\",\"error\":\"$ref is not met\",\"instanceLocation\":\"\",\"keywordLocation\":\"/$ref\"},{\"absoluteKeywordLocation\":\"https://ex.org/lib#/type\",\"error\":\"type is not met\",\"instanceLocation\":\"\",\"keywordLocation\":\"/$ref/type\"}],\"valid\":false}"))
+    ∷ was (validated (codes "{\"errors\":[{\"absoluteKeywordLocation\":\"https://ex.org/lib2#/$ref\",\"error\":\"$ref is not met\",\"instanceLocation\":\"\",\"keywordLocation\":\"/$ref\"},{\"absoluteKeywordLocation\":\"https://ex.org/own#/type\",\"error\":\"type is not met\",\"instanceLocation\":\"\",\"keywordLocation\":\"/$ref/type\"}],\"valid\":false}"))
+    ∷ gave (codes "Unresolved") (Some (codes "https://ex.org/own")) ∷ []
+unfolding serde_json_on_literals digits is_utf8 chars object_outcome outcome
+library_of_all = refl

@@ -15,10 +15,10 @@ use Rattle.definition_laws.proofs.AcceptedDocuments.{first_none, scanned}
 use Rattle.definition_laws.proofs.Membership.{any_at, found_there}
 use Rattle.definition_laws.proofs.PlacedDocuments.{key_of, as_inserted}
 use Rattle.definition_laws.proofs.Placing.{ascending, distinct}
-use Rattle.definition_laws.proofs.Repeats.{none_of}
 use Rattle.definition_laws.proofs.Resources.{apart_from_held, same_text-unlike, root_opens}
 use Rattle.definition_laws.proofs.StoredDocuments.{holds_itself}
 use Rattle.linker.specs.Sources.{shares_resource}
+use Rattle.linker.specs.Together.{unshared}
 
 -- ---- tests of images
 found_at : {X : Type 0} (p : X → Bool) (x : X) (xs : List X) (b : Bool) → is_some (find p xs) ≡ list_any p xs → is_some (cond b (Some x) (find p xs)) ≡ (b || list_any p xs)
@@ -45,11 +45,6 @@ all_placed p d [] here rest = and_from (p d) true here refl
 all_placed p d (e ∷ es) here rest =
     let parts = and_parts (p e) (list_all p es) rest in
     all_placed_at p d e es (slice_cmp nat_cmp d.canonical e.canonical) here parts.0 parts.1 (all_placed p d es here parts.1)
-
-unshared : (ds : List Document) (d e : Document) → shares_resource ds d ≡ false → Contains ds e → (u : Text) → Contains (resources_of d) u → holds_resource u e ≡ false
-unfolding shares_resource
-unshared ds d e none c u own =
-    none_of (holds_resource u) e ds (none_of (λ v. list_any (holds_resource v) ds) u (resources_of d) none own) c
 
 pub record IsSoundWith (d : Document) (ds : List Document) : Type 0 where
   pub ascend : Ascend (placed d ds)

@@ -5,10 +5,11 @@ pub mod CutTexts
 pub mod Patterns
 pub mod NamedSchemas
 pub mod Shared
-pub mod Sound
+pub mod CanonicalHolders
 pub mod Positions
 pub mod Adding
 pub mod Visits
 pub mod Least
 pub mod Judged
 pub mod LinkFaults
+pub mod BothSources

@@ -12,7 +12,7 @@ use Rattle.std.specs.List.Sorted.{IsStrictlySortedBy, IsSearchInRange, IsBinaryS
 use Rattle.definitions.specs.Values.{Text, same_text}
 use Rattle.definitions.specs.Lists.{has_repeat}
 use Rattle.definitions.specs.Schemas.{Document}
-use Rattle.definitions.specs.Documents.{document_of}
+use Rattle.definitions.specs.Documents.{document_of, Ascend}
 use Rattle.definition_laws.proofs.Membership.{nothing_in, first_or_later, in_map, one_of, found_there, found_some, found_none}
 use Rattle.definition_laws.proofs.Placing.{inserted, ascending_distinct}
 use Rattle.definition_laws.proofs.PlacedDocuments.{key_of, as_inserted, tied}
@@ -172,7 +172,7 @@ standing_some ds uri at stands = some_one ds at stands.inside stands.named
         ap is_none there_is.1
 
 -- ---- shared documents
-get_or-map : {X Y : Type 0} (f : X → Y) (xs : List X) (k : ℕ) (d : X) → get_or (map f xs) k (f d) ≡ f (get_or xs k d)
+pub get_or-map : {X Y : Type 0} (f : X → Y) (xs : List X) (k : ℕ) (d : X) → get_or (map f xs) k (f d) ≡ f (get_or xs k d)
 get_or-map f [] k d = refl
 get_or-map f (x ∷ xs) zero d = refl
 get_or-map f (x ∷ xs) (suc k) d = get_or-map f xs k d

@@ -4,18 +4,22 @@ use Rattle.std.proofs.lemmas.Bool.{or_cases, or_left, or_right}
 use Rattle.std.proofs.lemmas.Cmp.{nat_list_cmp_total}
 use Rattle.std.proofs.lemmas.List.Elements.{Contains-append_left, Contains-append_right, Contains-append_cases}
 use Rattle.std.specs.Cmp.Lexicographic.{slice_cmp, bytes_decides}
+use Rattle.std.specs.List.{list_any}
 use Rattle.std.specs.List.Sorted.{IsStrictlySortedBy}
 use Rattle.std.specs.Ordering.{nat_cmp, match_ordering}
 use Rattle.definitions.specs.Values.{Text, same_text}
-use Rattle.definitions.specs.Schemas.{Document}
-use Rattle.definitions.specs.Documents.{document_of, placed, Ascend, AreSound}
+use Rattle.definitions.specs.Schemas.{Document, table_of}
+use Rattle.definitions.specs.Documents.{document_of, placed, resources_of, resource_uris_of, Ascend, AreSound}
+use Rattle.definitions.specs.Lists.{has_repeat}
+use Rattle.definitions.specs.Scanning.{resource_uris}
 use Rattle.definitions.specs.Reach.{IsReached, holds, referred, holds_resource, refers_to, reach}
 use Rattle.lemmas.proofs.Options.{some_from_is_some}
-use Rattle.definition_laws.proofs.Membership.{nothing_in, is_first, is_later, first_or_later, in_filter, from_filter, filter_short, one_of, found_there, found_some}
+use Rattle.definition_laws.proofs.Membership.{nothing_in, is_first, is_later, first_or_later, any_where, in_filter, from_filter, filter_short, one_of, found_there, found_some}
 use Rattle.definition_laws.proofs.PlacedDocuments.{key_of, as_inserted, from_placed, in_placed, tied}
 use Rattle.definition_laws.proofs.Placing.{ascending, kept_ascending, same_ascending}
 use Rattle.definition_laws.proofs.ReachedSets.{reach_is_least, reach_as_filter, same_text-back}
-use Rattle.definition_laws.proofs.Resources.{one_document}
+use Rattle.definition_laws.proofs.Repeats.{filtered}
+use Rattle.definition_laws.proofs.Resources.{one_document, table_uris}
 use Rattle.linker.specs.Visits.{IsPart, Keeps, Adds}
 use Rattle.linker.proofs.Positions.{ascend_distinct}
 
@@ -31,6 +35,22 @@ adds_none all p reached waiting ascend none = record {
   waiting_reached = λ d c. inl c;
   one_for_one = refl;
 }
+
+-- a resource that is held already
+pub adds_held : (all : List Document) (uri : Text) (reached waiting : List Document) → AreSound all → IsPart reached all → list_any (holds_resource uri) reached ≡ true
+    → Adds all (holds_resource uri) reached waiting reached waiting
+adds_held all uri reached waiting sound part held =
+    let by : (d : Document) × (Contains reached d × (holds_resource uri d ≡ true)) = any_where (holds_resource uri) reached held in
+    record {
+      ascend = part.ascend;
+      kept = λ e c. c;
+      found = λ e c passes. subst (Contains reached) (one_document all uri by.0 e sound.distinct (part.inside by.0 by.1.0) c by.1.1 passes) by.1.0;
+      only = λ e c. inl c;
+      new_wait = λ e c. inl c;
+      still_wait = λ e c. c;
+      waiting_reached = λ e c. inl c;
+      one_for_one = refl;
+    }
 
 pub adds_then : (all : List Document) (p q r : Document → Bool) (a v b w c x : List Document) → Adds all p a v b w → Adds all q b w c x → ((d : Document) → r d ≡ (p d || q d)) → Adds all r a v c x
 adds_then all p q r a v b w c x one two both = record {
@@ -65,7 +85,7 @@ placed_itself_at d e es Less more = is_first d (e ∷ es)
 placed_itself_at d e es Equal more = is_first d es
 placed_itself_at d e es Greater more = is_later e d (placed d es) more
 
-placed_itself : (d : Document) (ds : List Document) → Contains (placed d ds) d
+pub placed_itself : (d : Document) (ds : List Document) → Contains (placed d ds) d
 placed_itself d [] = is_first d []
 placed_itself d (e ∷ es) = placed_itself_at d e es (slice_cmp nat_cmp d.canonical e.canonical) (placed_itself d es)
 
@@ -205,16 +225,26 @@ finished all uri reached ascend visit =
     (λ d c. (reach_is_least all uri (ascend_distinct all ascend) d).1 (visit.in_set d c))
     (λ d c. complete all uri reached visit d ((reach_is_least all uri (ascend_distinct all ascend) d).0 c))
 
--- part of the documents are no more than all
-pub no_more : (reached all : List Document) → Ascend all → IsPart reached all → length reached ≤ length all
-no_more reached all ascend part =
-    let same : reached ≡ filter (λ d. is_some (document_of reached d.canonical)) all =
+-- part of the documents are those of all that stand in it
+as_part : (reached all : List Document) → Ascend all → IsPart reached all → reached ≡ filter (λ d. is_some (document_of reached d.canonical)) all
+as_part reached all ascend part =
     same_ascending (slice_cmp nat_cmp) nat_list_cmp_total key_of reached (filter (λ d. is_some (document_of reached d.canonical)) all) part.ascend
     (kept_ascending (slice_cmp nat_cmp) key_of (λ d. is_some (document_of reached d.canonical)) all ascend)
     (λ d c. in_filter (λ e. is_some (document_of reached e.canonical)) d all (part.inside d c)
     (ap is_some (found_some (λ (x : Document). same_text d.canonical x.canonical) d reached c ((bytes_decides d.canonical d.canonical).1 refl)).1))
-    (λ d c. let kept = from_filter (λ e. is_some (document_of reached e.canonical)) d all c in found_itself reached all d ascend part kept.0 kept.1) in
-    omega (arith, ap length same, filter_short (λ d. is_some (document_of reached d.canonical)) all)
+    (λ d c. let kept = from_filter (λ e. is_some (document_of reached e.canonical)) d all c in found_itself reached all d ascend part kept.0 kept.1)
+
+-- so no two of them hold one resource
+pub part_table : (reached all : List Document) → AreSound all → IsPart reached all → has_repeat same_text (resource_uris (table_of reached)) ≡ false
+part_table reached all sound part =
+    ap (has_repeat same_text) (table_uris reached)
+    ∙ subst (λ ds. has_repeat same_text (resource_uris_of ds) ≡ false) (sym (as_part reached all sound.ascend part))
+    (filtered same_text resources_of (λ d. is_some (document_of reached d.canonical)) all sound.distinct)
+
+-- they are no more than all
+pub no_more : (reached all : List Document) → Ascend all → IsPart reached all → length reached ≤ length all
+no_more reached all ascend part =
+    omega (arith, ap length (as_part reached all ascend part), filter_short (λ d. is_some (document_of reached d.canonical)) all)
 
 pub none_part : (all : List Document) → IsPart [] all
 unfolding IsStrictlySortedBy

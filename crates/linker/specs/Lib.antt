@@ -8,3 +8,5 @@ pub mod Positions
 pub mod Visits
 pub mod Missing
 pub mod LinkFaults
+pub mod SoundLists
+pub mod Together

@@ -1,30 +1,50 @@
 //! The document of a list that holds a resource.
 
-ghost use Rattle.std.specs.Prelude.{◌≡◌, find, is_some, option_map};
+ghost use Rattle.std.specs.Prelude.{◌≡◌, false, find, option_map};
 ghost use Rattle.std.specs.List.{list_any};
+ghost use Rattle.definitions.specs.Documents.{Ascend};
+ghost use Rattle.definitions.specs.Lists.{has_repeat};
 ghost use Rattle.definitions.specs.Reach.{holds_resource};
+ghost use Rattle.definitions.specs.Scanning.{resource_uris};
+ghost use Rattle.definitions.specs.Schemas.{table_of};
+ghost use Rattle.definitions.specs.Values.{same_text};
 ghost use Rattle.schema_scan.specs.CompiledDocuments.{compiled_document};
 ghost use Rattle.linker.specs.SharedDocuments.{shared_documents};
-ghost use Rattle.linker.specs.Sources.{shares_resource};
+ghost use Rattle.linker.specs.Sources.{embeds, shares_resource};
 
+use crate::placing::position;
 use schema_scan::Compiled;
 use std::rc::Rc;
 
-// The first document with a resource of this URI.
+// The document with a resource of this URI: most often it is the document's canonical URI, so that is looked for first.
 pub(crate) fn holder<'a>(documents: &'a [Rc<Compiled>], uri: &str) -> Option<&'a Rc<Compiled>>
+    requires ascend { Ascend (shared_documents documents.now) }
+    requires distinct { has_repeat same_text (resource_uris (table_of (shared_documents documents.now))) ≡ false }
     ensures { option_map (λ d. compiled_document d.now.value) result ≡ find (holds_resource uri.now) (shared_documents documents.now) }
 {
-    documents.iter().find(|document| holds(document, uri))
+    match position(documents, uri) {
+        Ok(at) => Some(&documents[at]),
+        Err(_) => embedding(documents, uri),
+    }
 }
 
-fn holds(document: &Rc<Compiled>, uri: &str) -> bool
-    ensures { result ≡ holds_resource uri.now (compiled_document document.now.value) }
+// The first document of several resources that has this one.
+fn embedding<'a>(documents: &'a [Rc<Compiled>], uri: &str) -> Option<&'a Rc<Compiled>>
+    ensures { option_map (λ d. compiled_document d.now.value) result ≡ find (embeds uri.now) (shared_documents documents.now) }
 {
-    document.resource_uri(uri).is_some()
+    documents.iter().find(|document| embeds(document, uri))
+}
+
+fn embeds(document: &Rc<Compiled>, uri: &str) -> bool
+    ensures { result ≡ embeds uri.now (compiled_document document.now.value) }
+{
+    document.resource_uris().len() > 1 && document.resource_uri(uri).is_some()
 }
 
 // Whether some resource of the document is held by one of these.
 pub(crate) fn shares_resource(documents: &[Rc<Compiled>], document: &Compiled) -> bool
+    requires ascend { Ascend (shared_documents documents.now) }
+    requires distinct { has_repeat same_text (resource_uris (table_of (shared_documents documents.now))) ≡ false }
     ensures { result ≡ shares_resource (shared_documents documents.now) (compiled_document document.now) }
 {
     document
@@ -33,7 +53,9 @@ pub(crate) fn shares_resource(documents: &[Rc<Compiled>], document: &Compiled) -
         .any(|uri| is_held(documents, uri))
 }
 
-fn is_held(documents: &[Rc<Compiled>], uri: &str) -> bool
+pub(crate) fn is_held(documents: &[Rc<Compiled>], uri: &str) -> bool
+    requires ascend { Ascend (shared_documents documents.now) }
+    requires distinct { has_repeat same_text (resource_uris (table_of (shared_documents documents.now))) ≡ false }
     ensures { result ≡ list_any (holds_resource uri.now) (shared_documents documents.now) }
 {
     holder(documents, uri).is_some()

@@ -1,6 +1,7 @@
 //! References without a target (JSON Schema 2020-12 Core, section 8.2.3).
 
 ghost use Rattle.std.specs.Prelude.{◌≡◌, ◌++◌, List, Some, false, IfErr, IfOk, if◌then◌else◌, is_some, option_map};
+ghost use Rattle.definitions.specs.Documents.{Ascend};
 ghost use Rattle.definitions.specs.Fragments.{fragment_kind};
 ghost use Rattle.definitions.specs.Reach.{least, lesser, missing};
 ghost use Rattle.definitions.specs.Scanning.{resource_uris};
@@ -22,7 +23,8 @@ use uri_ref::{fragment_kind, split, without_fragment};
 
 // Whether the absolute reference names a schema of these documents. A fragment that can't be read names nothing.
 fn names_schema(alloc: Global, documents: &[Rc<Compiled>], reference: &str) -> Result<bool, Fault>
-    requires { has_repeat same_text (resource_uris (table_of (shared_documents documents.now))) ≡ false }
+    requires ascend { Ascend (shared_documents documents.now) }
+    requires distinct { has_repeat same_text (resource_uris (table_of (shared_documents documents.now))) ≡ false }
     ensures ok { IfOk result (λ named. named ≡ is_some (target (table_of (shared_documents documents.now)) reference.now)) }
     ensures err { IfErr result (λ f. f ≡ Fault.NoRoom) }
 {
@@ -55,7 +57,8 @@ pub(crate) fn least_missing<'a>(
     alloc: Global,
     documents: &'a [Rc<Compiled>],
 ) -> Result<Option<&'a str>, Fault>
-    requires { has_repeat same_text (resource_uris (table_of (shared_documents documents.now))) ≡ false }
+    requires ascend { Ascend (shared_documents documents.now) }
+    requires distinct { has_repeat same_text (resource_uris (table_of (shared_documents documents.now))) ≡ false }
     ensures ok { IfOk result (λ t. option_map (λ t. t.now) t ≡ least (missing (shared_documents documents.now))) }
     ensures err { IfErr result (λ f. f ≡ Fault.NoRoom) }
 {
@@ -73,7 +76,8 @@ fn least_missing_of<'a>(
     document: &'a Compiled,
     found: Option<&'a str>,
 ) -> Result<Option<&'a str>, Fault>
-    requires { has_repeat same_text (resource_uris (table_of (shared_documents documents.now))) ≡ false }
+    requires ascend { Ascend (shared_documents documents.now) }
+    requires distinct { has_repeat same_text (resource_uris (table_of (shared_documents documents.now))) ≡ false }
     ensures ok { (before : List Text) → option_map (λ t. t.now) found.entry ≡ least before
         → IfOk result (λ t. option_map (λ t. t.now) t ≡ least (before ++ missing_in (shared_documents documents.now) (compiled_document document.now))) }
     ensures err { IfErr result (λ f. f ≡ Fault.NoRoom) }
@@ -92,7 +96,8 @@ fn least_with<'a>(
     reference: &'a str,
     found: Option<&'a str>,
 ) -> Result<Option<&'a str>, Fault>
-    requires { has_repeat same_text (resource_uris (table_of (shared_documents documents.now))) ≡ false }
+    requires ascend { Ascend (shared_documents documents.now) }
+    requires distinct { has_repeat same_text (resource_uris (table_of (shared_documents documents.now))) ≡ false }
     ensures ok { IfOk result (λ t. option_map (λ t. t.now) t ≡ (if is_some (target (table_of (shared_documents documents.now)) reference.now) then option_map (λ t. t.now) found.entry else Some (lesser reference.now (option_map (λ t. t.now) found.entry)))) }
     ensures err { IfErr result (λ f. f ≡ Fault.NoRoom) }
 {

@@ -1,11 +1,13 @@
 //! Links a resource with all documents that it refers to (JSON Schema 2020-12 Core, sections 8.2.3 and 9.2).
 #![tactic(auto)]
 
+mod both;
 mod contents;
 mod holders;
 mod judging;
 mod linked;
 mod linking;
+mod list_holding;
 mod list_source;
 mod lookups;
 mod placing;
@@ -13,6 +15,7 @@ mod references;
 mod source;
 mod visiting;
 
+pub use both::Both;
 pub use contents::{asked, reached, value_of};
 pub use faults::Fault;
 pub use linked::Linked;

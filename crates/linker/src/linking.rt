@@ -1,6 +1,7 @@
 //! Linking of a resource with what it refers to (JSON Schema 2020-12 Core, sections 8.2.3 and 9.2).
 
 ghost use Rattle.std.specs.Prelude.{◌≡◌, ◌≢◌, None, Some, false, IfErr, IfOk, OnOk};
+ghost use Rattle.definitions.specs.Documents.{Ascend};
 ghost use Rattle.definitions.specs.Reach.{reach};
 ghost use Rattle.definitions.specs.Scanning.{resource_uris};
 ghost use Rattle.definitions.specs.Schemas.{table_of};
@@ -41,7 +42,8 @@ pub fn link<S: Source>(alloc: Global, source: &mut S, resource: &str) -> Result<
 
 // Fails where there are no documents, or where a reference of theirs names no schema.
 fn judge(alloc: Global, documents: &[Rc<Compiled>]) -> Result<(), Fault>
-    requires { has_repeat same_text (resource_uris (table_of (shared_documents documents.now))) ≡ false }
+    requires ascend { Ascend (shared_documents documents.now) }
+    requires distinct { has_repeat same_text (resource_uris (table_of (shared_documents documents.now))) ≡ false }
     ensures ok { OnOk result (link_fault (shared_documents documents.now) ≡ None) }
     ensures err { IfErr result (λ f. f ≢ Fault.NoRoom → link_fault (shared_documents documents.now) ≡ Some (fault f)) }
 {

@@ -12,9 +12,8 @@ ghost use Rattle.schema_scan.specs.CompiledDocuments.{compiled_base, compiled_va
 ghost use Rattle.linker.specs.Sources.{shares_resource};
 ghost use Rattle.linker.specs.SharedDocuments.{shared_documents};
 
-use crate::holders::{holder, shares_resource};
+use crate::holders::shares_resource;
 use crate::placing::place;
-use crate::source::Source;
 use faults::Fault;
 use schema_scan::Compiled;
 use std::alloc::Global;
@@ -26,7 +25,7 @@ use std::rc::Rc;
 #[derive(Drop)]
 pub struct ListSource {
     // In byte order of canonical URIs.
-    documents: Vec<Rc<Compiled>>,
+    pub(crate) documents: Vec<Rc<Compiled>>,
     ghost ascend: { Ascend (shared_documents documents.items) } by { IsStrictlySortedBy-prop _ _ },
     ghost distinct: { has_repeat same_text (resource_uris_of (shared_documents documents.items)) ≡ false },
     ghost faultless: { list_all is_faultless (shared_documents documents.items) ≡ true },
@@ -56,19 +55,6 @@ impl ListSource {
             return Ok(false);
         }
         Ok(place(&mut self.documents, document)?)
-    }
-}
-
-impl Source for ListSource {
-    ghost use Rattle.linker.specs.ListedDocuments.{listed_documents};
-
-    ghost documents = { listed_documents };
-
-    fn holding(&mut self, alloc: Global, resource: &str) -> Result<Option<Rc<Compiled>>, Fault> {
-        match holder(&self.documents, resource) {
-            Some(document) => Ok(Some(document.clone()?)),
-            None => Ok(None),
-        }
     }
 }
 

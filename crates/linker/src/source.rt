@@ -1,10 +1,10 @@
 //! Where documents come from.
 
 ghost use Rattle.std.specs.Prelude.{◌≡◌, List, IfOk, IfErr, find, option_map};
+ghost use Rattle.definitions.specs.Documents.{AreSound};
 ghost use Rattle.definitions.specs.Reach.{holds_resource};
 ghost use Rattle.definitions.specs.Schemas.{Document};
 ghost use Rattle.schema_scan.specs.CompiledDocuments.{compiled_document};
-ghost use Rattle.definitions.specs.Documents.{AreSound};
 
 use faults::Fault;
 use schema_scan::Compiled;
@@ -24,6 +24,8 @@ pub trait Source {
     fn holding(&mut self, alloc: Global, resource: &str) -> Result<Option<Rc<Compiled>>, Fault>
         ensures held { IfOk result (λ d. option_map (λ it. compiled_document it.value) d ≡ find (holds_resource resource.now) (documents self.old)) }
         ensures err { IfErr result (λ f. f ≡ Fault.NoRoom) }
-        ensures same { documents self.new ≡ documents self.old }
-        ensures sound { AreSound (documents self.new) };
+        ensures same { documents self.new ≡ documents self.old };
+
+    /// They have no fault, stand in byte order, and hold each resource once.
+    ghost sound: { (s : Self) → AreSound (documents s) };
 }

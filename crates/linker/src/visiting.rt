@@ -4,9 +4,10 @@ ghost use Rattle.std.specs.Prelude.{◌≡◌, IfErr, IfOk, OnOk};
 ghost use Rattle.definitions.specs.Reach.{holds_resource, reach, refers_to};
 ghost use Rattle.schema_scan.specs.CompiledDocuments.{compiled_document};
 ghost use Rattle.linker.specs.SharedDocuments.{shared_documents};
-ghost use Rattle.definitions.specs.Documents.{Ascend, AreSound};
+ghost use Rattle.definitions.specs.Documents.{Ascend};
 ghost use Rattle.linker.specs.Visits.{Adds, IsPart, Keeps};
 
+use crate::holders::is_held;
 use crate::placing::place;
 use crate::source::Source;
 use faults::Fault;
@@ -22,7 +23,6 @@ pub(crate) fn reached_documents<S: Source>(
     resource: &str,
 ) -> Result<Vec<Rc<Compiled>>, Fault>
     ensures ok { IfOk result (λ ds. shared_documents ds.items ≡ reach (S.documents source.old) resource.now) }
-    ensures sound { OnOk result (AreSound (S.documents source.old)) }
     ensures err { IfErr result (λ f. f ≡ Fault.NoRoom) }
     ensures same { S.documents source.new ≡ S.documents source.old }
 {
@@ -35,7 +35,7 @@ pub(crate) fn reached_documents<S: Source>(
     Ok(reached)
 }
 
-// Follows the references of a document: each is looked up in the source once.
+// Follows the references of a document.
 fn follow<S: Source>(
     alloc: Global,
     source: &mut S,
@@ -43,8 +43,7 @@ fn follow<S: Source>(
     reached: &mut Vec<Rc<Compiled>>,
     waiting: &mut Vec<Rc<Compiled>>,
 ) -> Result<(), Fault>
-    requires part { IsPart (shared_documents reached.old.items) (S.documents source.old) }
-    requires sound { AreSound (S.documents source.old) }
+    requires { IsPart (shared_documents reached.old.items) (S.documents source.old) }
     ensures ok { OnOk result (Adds (S.documents source.old) (refers_to (compiled_document document.now)) (shared_documents reached.old.items) (shared_documents waiting.old.items) (shared_documents reached.new.items) (shared_documents waiting.new.items)) }
     ensures err { IfErr result (λ f. f ≡ Fault.NoRoom) }
     ensures same { S.documents source.new ≡ S.documents source.old }
@@ -55,7 +54,7 @@ fn follow<S: Source>(
     Ok(())
 }
 
-// Looks a URI up in the source, and keeps the document that has it.
+// Looks a URI up in the source, unless a reached document has it, and keeps the document that has it.
 fn visit<S: Source>(
     alloc: Global,
     source: &mut S,
@@ -67,8 +66,10 @@ fn visit<S: Source>(
     ensures ok { OnOk result (Adds (S.documents source.old) (holds_resource uri.now) (shared_documents reached.old.items) (shared_documents waiting.old.items) (shared_documents reached.new.items) (shared_documents waiting.new.items)) }
     ensures err { IfErr result (λ f. f ≡ Fault.NoRoom) }
     ensures same { S.documents source.new ≡ S.documents source.old }
-    ensures sound { AreSound (S.documents source.new) }
 {
+    if is_held(reached, uri) {
+        return Ok(());
+    }
     match source.holding(alloc, uri)? {
         Some(document) => Ok(keep(document, reached, waiting)?),
         None => Ok(()),

@@ -2,6 +2,7 @@
 use Rattle.std.specs.Prelude.{◌≡◌, ◌≢◌, ℕ, ◌++◌, ◌∷◌, [], Bool, true, false, not, Option, Some, None, Result, Ok, Err, IfSome, if◌then◌else◌, ⊤, codes}
 use Rattle.std.specs.Io.KnownBytes.{Appends, Keeps}
 use Rattle.std.specs.List.{list_any}
+use Rattle.definitions.specs.Bytes.{line_feed}
 use Rattle.definitions.specs.Values.{Text}
 use Rattle.faults.specs.View.{fault, printed}
 use Rattle.faults.specs.declared.Fault.TheVariants.{NoRoom}

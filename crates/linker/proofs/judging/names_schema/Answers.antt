@@ -23,7 +23,7 @@ returns-in-Some-clause-ok c =
     (ap (λ f. target_in (compiled_schemas c.deref.result.now) c.without_fragment-uri.result.now (fragment_kind f)) (c.fragment.ensures ∙ ap (λ p. p.fragment) c.split.ensures.parts)
     ∙ ap (λ d. target_in (compiled_schemas d) c.without_fragment-uri.result.now (fragment_of reference)) c.deref.ensures
     ∙ ap (λ u. target_in (compiled_schemas document) u (fragment_of reference)) c.without_fragment-uri.ensures
-    ∙ sym (target_where_held ds reference (compiled_document document) c.requires found))
+    ∙ sym (target_where_held ds reference (compiled_document document) c.requires.distinct found))
     c.names_in.ensures.ok
 
 pub returns-in-None-clause-ok : goal.returns-in-None-clause-ok

@@ -1,4 +1,5 @@
 use Rattle.std.proofs.Common.{◌≡◌, None, string_bytes, ap, sym, ◌∙◌, subst}
+use Rattle.definitions.specs.Documents.{Ascend}
 use Rattle.definitions.specs.Scanning.{resource_uris}
 use Rattle.definitions.specs.Schemas.{table_of}
 use Rattle.definitions.specs.Values.{same_text}
@@ -7,19 +8,25 @@ use Rattle.linker.specs.LinkFaults.{link_fault}
 use Rattle.linker.specs.LinkedDocuments.{linked_uri, linked_documents}
 use Rattle.linker.specs.SharedDocuments.{shared_documents}
 use Rattle.linker.proofs.LinkFaults.{IsLinked, is_linked, reached_table}
+use Rattle.linker.proofs.Visits.{reach_ascends}
 use Rattle.linker.proofs.linking.link.Goals as goal
 
 pub judge-requires : goal.judge-requires
 judge-requires g c =
-    ap (λ ds. has_repeat same_text (resource_uris (table_of ds))) (ap shared_documents c.deref.ensures.value ∙ c.in_ok-documents.ensures.ok)
-    ∙ reached_table (g.S.Source.documents c.args.source.now) c.args.resource.now c.in_ok-documents.ensures.sound
+    let all = g.S.Source.documents c.args.source.now in
+    let sound = g.met.S.Source.sound c.args.source.now in
+    let same = ap shared_documents c.deref.ensures.value ∙ c.in_ok-documents.ensures.ok in
+    record {
+      ascend = subst Ascend (sym same) (reach_ascends all c.args.resource.now sound.ascend);
+      distinct = ap (λ ds. has_repeat same_text (resource_uris (table_of ds))) same ∙ reached_table all c.args.resource.now sound;
+    }
 
 pub invariant_of-result : goal.invariant_of-result
 invariant_of-result g c =
     let ds = shared_documents c.in_ok-documents.documents.items in
     let linked : IsLinked ds (string_bytes c.in_ok-uri.uri) =
     subst (IsLinked ds) (sym c.in_ok-uri.ensures.ok)
-    (is_linked (g.S.Source.documents c.args.source.now) ds c.args.resource.now c.in_ok-documents.ensures.sound c.in_ok-documents.ensures.ok
+    (is_linked (g.S.Source.documents c.args.source.now) ds c.args.resource.now (g.met.S.Source.sound c.args.source.now) c.in_ok-documents.ensures.ok
     (subst (λ xs. link_fault (shared_documents xs) ≡ None) c.deref.ensures.value c.in_ok-judge.ensures.ok)) in
     record { ascend = linked.ascend; distinct = linked.distinct; whole = linked.whole; asked = linked.asked }
 

@@ -34,7 +34,7 @@ named_more items i s uri l is named e =
 pub visit-requires : goal.visit-requires
 visit-requires g c =
     subst (IsPart (shared_documents c.loop-reference.reached.items)) (sym c.loop-reference.invariant.same)
-    (part_after (g.S.Source.documents c.args.source.now) _ _ _ _ _ c.requires.part c.loop-reference.invariant.adds)
+    (part_after (g.S.Source.documents c.args.source.now) _ _ _ _ _ c.requires c.loop-reference.invariant.adds)
 
 pub loop-reference-preserved : goal.loop-reference-preserved
 loop-reference-preserved g c =

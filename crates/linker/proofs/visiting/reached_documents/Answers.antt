@@ -2,7 +2,6 @@ use Rattle.std.proofs.Common.{◌≡◌, [], length, ap, sym, ◌∙◌, subst, 
 use Rattle.definitions.specs.Reach.{holds_resource, refers_to}
 use Rattle.schema_scan.specs.CompiledDocuments.{compiled_document}
 use Rattle.linker.specs.SharedDocuments.{shared_documents}
-use Rattle.definitions.specs.Documents.{AreSound}
 use Rattle.linker.specs.Visits.{Adds, IsPart}
 use Rattle.linker.proofs.Positions.{shared_as_long}
 use Rattle.linker.proofs.Shared.{shared_empty, shared_none, shared_pushed}
@@ -21,7 +20,6 @@ loop-document-init g c =
     (ap shared_documents c.new-reached.ensures.items ∙ shared_none) c.in_ok-visit.ensures.ok in
     record {
       same = c.in_ok-visit.ensures.same;
-      sound = subst AreSound c.in_ok-visit.ensures.same c.in_ok-visit.ensures.sound;
       visit = begun all c.args.resource.now (shared_documents c.visit.new.reached.items) (shared_documents c.visit.new.waiting.items) (none_part all)
           (subst (λ ds. Adds all (holds_resource c.args.resource.now) [] ds (shared_documents c.visit.new.reached.items) (shared_documents c.visit.new.waiting.items))
           (ap shared_documents c.new-waiting.ensures.items ∙ shared_none) adds);
@@ -37,8 +35,8 @@ loop-document-smaller g c =
     omega (
       arith,
       adds.one_for_one,
-      no_more (shared_documents c.follow.new.reached.items) all c.loop-document.invariant.sound.ascend (part_after all (refers_to d) _ _ _ _ c.loop-document.invariant.visit.part adds),
-      no_more (shared_documents c.loop-document.reached.items) all c.loop-document.invariant.sound.ascend c.loop-document.invariant.visit.part,
+      no_more (shared_documents c.follow.new.reached.items) all (g.met.S.Source.sound c.args.source.now).ascend (part_after all (refers_to d) _ _ _ _ c.loop-document.invariant.visit.part adds),
+      no_more (shared_documents c.loop-document.reached.items) all (g.met.S.Source.sound c.args.source.now).ascend c.loop-document.invariant.visit.part,
       shared_as_long c.loop-document.reached.items,
       shared_as_long c.pop.new.self.items,
       shared_as_long c.follow.new.reached.items,
@@ -56,7 +54,6 @@ loop-document-preserved g c =
     c.deref.ensures here in
     record {
       same = c.in_ok-follow.ensures.same ∙ c.loop-document.invariant.same;
-      sound = c.loop-document.invariant.sound;
       visit = gone_on all c.args.resource.now d _ _ _ _
           (subst (IsVisit all c.args.resource.now (shared_documents c.loop-document.reached.items))
           (ap shared_documents c.in-Some.ensures.items ∙ shared_pushed c.pop.new.self.items c.in-Some.document) c.loop-document.invariant.visit) adds;
@@ -66,5 +63,5 @@ pub returns-clause-ok : goal.returns-clause-ok
 returns-clause-ok g c =
     let all = g.S.Source.documents c.args.source.now in
     let none : length c.loop-document.waiting.items ≡ 0 = omega (arith, c.in_default.ensures.cases.0) in
-    finished all c.args.resource.now (shared_documents c.loop-document.reached.items) c.loop-document.invariant.sound.ascend
+    finished all c.args.resource.now (shared_documents c.loop-document.reached.items) (g.met.S.Source.sound c.args.source.now).ascend
     (subst (IsVisit all c.args.resource.now (shared_documents c.loop-document.reached.items)) (shared_empty c.loop-document.waiting.items none) c.loop-document.invariant.visit)

@@ -1,6 +1,5 @@
 use Rattle.std.proofs.Common.{◌≡◌, ◌+◌, ◌-◌, length}
 use Rattle.linker.specs.SharedDocuments.{shared_documents}
-use Rattle.definitions.specs.Documents.{AreSound}
 use Rattle.linker.proofs.Visits.{IsVisit}
 use Rattle.linker.proofs.visiting.reached_documents.Given as goal
 
@@ -9,7 +8,6 @@ invariant-loop-document g l =
     let all = g.S.Source.documents l.fn.source in
     record {
       same : g.S.Source.documents l.source ≡ all;
-      sound : AreSound all;
       visit : IsVisit all l.resource (shared_documents l.reached.items) (shared_documents l.waiting.items);
     }
 

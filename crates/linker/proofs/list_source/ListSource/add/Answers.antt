@@ -1,12 +1,26 @@
-use Rattle.std.proofs.Common.{◌≡◌, false, ap, sym, ◌∙◌}
-use Rattle.definitions.specs.Scanning.{scan_fault}
+use Rattle.std.proofs.Common.{◌≡◌, false, ap, sym, ◌∙◌, subst}
+use Rattle.definitions.specs.Documents.{Ascend}
+use Rattle.definitions.specs.Lists.{has_repeat}
+use Rattle.definitions.specs.Scanning.{resource_uris, scan_fault}
+use Rattle.definitions.specs.Schemas.{table_of}
+use Rattle.definitions.specs.Values.{same_text}
+use Rattle.definition_laws.proofs.Resources.{table_uris}
 use Rattle.definition_laws.proofs.StoredDocuments.{holds_itself}
 use Rattle.schema_scan.specs.CompiledDocuments.{compiled_document, compiled_base, compiled_value}
 use Rattle.linker.specs.SharedDocuments.{shared_documents}
 use Rattle.linker.specs.Sources.{shares_resource}
 use Rattle.linker.proofs.Adding.{IsSoundList, kept_or_put, sound_after, unfound}
-use Rattle.linker.proofs.Sound.{shared_made}
+use Rattle.linker.specs.SoundLists.{shared_made}
 use Rattle.linker.proofs.list_source.ListSource.add.Goals as goal
+
+pub shares_resource-requires : goal.shares_resource-requires
+shares_resource-requires c =
+    let same = sym (ap shared_documents c.deref.ensures.value) in
+    record {
+      ascend = subst Ascend same c.args.self.now.ascend;
+      distinct = subst (λ ds. has_repeat same_text (resource_uris (table_of ds)) ≡ false) same
+          (ap (has_repeat same_text) (table_uris (shared_documents c.args.self.now.documents.items)) ∙ c.args.self.now.distinct);
+    }
 
 pub invariant_of-self : goal.invariant_of-self
 invariant_of-self c =

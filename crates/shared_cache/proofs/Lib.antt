@@ -1,0 +1,3 @@
+mod KeyUses
+mod ReadValues
+mod DeepDocuments

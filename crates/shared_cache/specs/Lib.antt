@@ -1,0 +1,4 @@
+pub mod Digests
+pub mod Readings
+pub mod Refusals
+pub mod Entries

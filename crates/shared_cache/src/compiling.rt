@@ -1,0 +1,47 @@
+//! A document that isn't kept yet.
+
+ghost use Rattle.std.specs.Prelude.{◌≡◌, ◌≢◌, ◌<◌, true, None, Some, IfErr, IfOk, OnOk};
+ghost use Rattle.definitions.specs.Patterns.{regular_search};
+ghost use Rattle.definitions.specs.Scanning.{scan_fault};
+ghost use Rattle.definitions.specs.Searches.{is_regular};
+ghost use Rattle.definitions.specs.Uris.{recompose};
+ghost use Rattle.definitions.specs.Values.{nesting};
+ghost use Rattle.faults.specs.View.{fault};
+ghost use Rattle.json_doc.specs.Docs.{value};
+ghost use Rattle.schema_scan.specs.CompiledDocuments.{compiled_base, compiled_value};
+ghost use Rattle.shared_cache.specs.Refusals.{Refuses};
+
+use faults::Fault;
+use json_doc::Doc;
+use schema_scan::{Compiled, compile, scan};
+use std::alloc::Global;
+use std::rc::Rc;
+use uri_ref::Parts;
+
+// The document under this base, scanned and compiled.
+pub(crate) fn compiled_anew(
+    alloc: Global,
+    base: &Parts,
+    document: &Doc,
+) -> Result<Rc<Compiled>, Fault>
+    ensures base { IfOk result (λ c. compiled_base c.value ≡ recompose base.now) }
+    ensures value { IfOk result (λ c. compiled_value c.value ≡ value document.now) }
+    ensures sound { OnOk result (scan_fault (recompose base.now) (value document.now) ≡ None) }
+    ensures regular { OnOk result (is_regular regular_search (value document.now) ≡ true) }
+    ensures err { IfErr result (λ f. f ≢ Fault.NoRoom → Refuses (recompose base.now) (value document.now) (fault f)) }
+{
+    let scanned = scan(alloc, base, document)?;
+    let compiled = compile(alloc, scanned)?;
+    Ok(Rc::new(alloc, compiled)?)
+}
+
+// The fault of a document that nests too deep, or want of memory.
+pub(crate) fn refusal(alloc: Global, base: &Parts, document: &Doc) -> Fault
+    requires { 120 < nesting (value document.now) }
+    ensures { result ≢ Fault.NoRoom → scan_fault (recompose base.now) (value document.now) ≡ Some (fault result) }
+{
+    match scan(alloc, base, document) {
+        Ok(_) => unreachable!(),
+        Err(fault) => fault,
+    }
+}

@@ -1,0 +1,3 @@
+mod Each
+mod RepeatedKeys
+mod Refusals

@@ -1,0 +1,7 @@
+-- The entries of a batch as the definitions have them.
+use Rattle.definitions.specs.Batches as meaning
+use Rattle.json_doc.specs.Docs.{value}
+use Rattle.tenants_file.specs.declared.batches.Entry.{Entry}
+
+abbrev pub entry_view : Entry → meaning.Entry
+entry_view e = record { uri = e.uri.now; schema = value e.schema.now }

@@ -5,7 +5,7 @@
 
 PROGRAM is the path of the program; without it, it is crates/schemareg/out/schemareg, where `rt run` leaves it.
 An example passes where the program prints what the file NAME.answer holds, byte for byte, on the right stream, nothing on
-the other, and ends with the right status. The crate `checks_examples` passes where its module `examples` has the rows that
+the other, and ends with the right status. The crate `checks_examples` passes where its module `examples` has the tests that
 the examples give. The exit status is 0 where all pass, and else 1.
 """
 

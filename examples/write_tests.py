@@ -1,5 +1,5 @@
 #!/usr/bin/env python3
-"""Writes the examples of this folder as rows: the module `examples` of the crate `checks_examples`.
+"""Writes the examples of this folder as tests: the module `examples` of the crate `checks_examples`.
 
     python3 examples/write_tests.py
 
@@ -54,7 +54,7 @@ def instances(leaf):
 def table(name, columns, rows):
     """A constant with a row for each use, in the layout of `rt fmt`."""
     kind = f"&[({', '.join(['&str'] * columns)})]"
-    head = f"pub const {name}: {kind} = &["
+    head = f"const {name}: {kind} = &["
     if len(rows) == 1:
         return [f"{head}(", *(f"    {part}," for part in rows[0]), ")];", ""]
     lines = [head]
@@ -86,35 +86,34 @@ def uses(folder):
     return constants, files, inputs
 
 
+def test(name, columns, call):
+    """A test that goes over a table."""
+    head = f"fn {name.lower()}_have_their_answers(rt: HostRuntime) -> Result<(), Fail> {{"
+    loop = [f"    for ({', '.join(columns)}, answer) in {name} {{", f"        let found = {call}(rt.alloc(), {', '.join(columns)})?;"]
+    return ["#[test]", head, *loop, "        assert_eq!(rt; found.as_str(), *answer);", "    }", "    Ok(())", "}", ""]
+
+
 def module(folder):
-    """The source of the rows of one use."""
+    """The source of the tests of one use."""
     constants, files, inputs = uses(folder)
-    lines = [f"//! The examples in `examples/{folder.name}`, {WRITTEN}.", ""]
-    if any(row[0] == "DEFAULT_URI" for row in files):
-        lines += ["use checks::DEFAULT_URI;", ""]
-    lines += constants
+    helpers = ["check_files"] * bool(files) + ["check_standard_input"] * bool(inputs)
+    imported = helpers[0] if len(helpers) == 1 else "{" + ", ".join(helpers) + "}"
+    lines = [f"//! The examples in `examples/{folder.name}`, {WRITTEN}.", "", f"use crate::answers::{imported};"]
+    lines += ["use checks::DEFAULT_URI;"] * any(row[0] == "DEFAULT_URI" for row in files)
+    lines += ["use std::test::Fail;", "", *constants]
     if files:
-        lines += ["/// URI, schema, instance and answer.", *table("FILES", 4, files)]
+        lines += ["// URI, schema, instance and answer.", *table("FILES", 4, files)]
+        lines += test("FILES", ["uri", "schema", "instance"], "check_files")
     if inputs:
-        lines += ["/// Input and answer.", *table("INPUTS", 2, inputs)]
+        lines += ["// Input and answer.", *table("INPUTS", 2, inputs)]
+        lines += test("INPUTS", ["input"], "check_standard_input")
     return "\n".join(lines)
 
 
 def listing(folders):
-    """The source of the module that the rows of each use stand in."""
+    """The source of the module that the tests of each use stand in."""
     lines = [f"//! The examples of the folder `examples`, a module each, {WRITTEN}.", ""]
-    lines += [f"mod {rust_name(it.name)};" for it in folders]
-    for at, name, columns, says in [
-        (1, "FILES", 4, "The rows of files of each use: URI, schema, instance and answer."),
-        (2, "INPUTS", 2, "The rows of inputs of each use: input and answer."),
-    ]:
-        named = [f"{rust_name(it.name)}::{name}" for it in folders if uses(it)[at]]
-        kind = f"&[&[({', '.join(['&str'] * columns)})]]"
-        head = f"pub const {name}: {kind} = &["
-        within = len(", ".join(named)) <= NARROW
-        rows = [head + ", ".join(named) + "];"] if within else [head, *(f"    {it}," for it in named), "];"]
-        lines += ["", f"/// {says}", *rows]
-    return "\n".join(lines) + "\n"
+    return "\n".join(lines + [f"mod {rust_name(it.name)};" for it in folders]) + "\n"
 
 
 def sources():

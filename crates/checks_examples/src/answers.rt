@@ -1,6 +1,5 @@
-//! What the program prints for a check, without the line feed, for each of the examples.
+//! What the program prints for a check, without the line feed.
 
-use crate::examples;
 use checks::{Fault, Report, check_bytes, check_input};
 use std::alloc::Global;
 use std::test::Fail;
@@ -12,27 +11,15 @@ fn printed(alloc: Global, outcome: Result<Report, Fault>) -> Result<String, Fail
     }
 }
 
-#[test]
-fn files_have_their_answers(rt: HostRuntime) -> Result<(), Fail> {
-    let alloc = rt.alloc();
-    for rows in examples::FILES {
-        for (uri, schema, instance, answer) in *rows {
-            let outcome = check_bytes(alloc, uri, schema.as_bytes(), instance.as_bytes());
-            let found = printed(alloc, outcome)?;
-            assert_eq!(rt; found.as_str(), *answer, "{instance} by {schema}");
-        }
-    }
-    Ok(())
+/// What is printed for the two texts, where the schema stands under this URI.
+pub fn check_files(alloc: Global, uri: &str, schema: &str, instance: &str) -> Result<String, Fail> {
+    printed(
+        alloc,
+        check_bytes(alloc, uri, schema.as_bytes(), instance.as_bytes()),
+    )
 }
 
-#[test]
-fn inputs_have_their_answers(rt: HostRuntime) -> Result<(), Fail> {
-    let alloc = rt.alloc();
-    for rows in examples::INPUTS {
-        for (input, answer) in *rows {
-            let found = printed(alloc, check_input(alloc, input.as_bytes()))?;
-            assert_eq!(rt; found.as_str(), *answer, "{input}");
-        }
-    }
-    Ok(())
+/// What is printed for the one text that holds both.
+pub fn check_standard_input(alloc: Global, input: &str) -> Result<String, Fail> {
+    printed(alloc, check_input(alloc, input.as_bytes()))
 }

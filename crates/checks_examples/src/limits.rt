@@ -82,7 +82,7 @@ fn each_element_is_an_application(rt: HostRuntime) -> Result<(), Fail> {
         }
         zeros.push(']')?;
         let found = answer(alloc, URI, r#"{"items":true}"#, zeros.as_str())?;
-        assert!(rt; found.starts_with(text), "{count}");
+        assert!(rt; found.as_str().starts_with(*text), "{count}");
     }
     Ok(())
 }

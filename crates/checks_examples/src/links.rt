@@ -96,15 +96,18 @@ fn linked(alloc: Global, source: &mut ListSource, uri: &str) -> Result<String, F
     Ok(text)
 }
 
+fn answer(alloc: Global, documents: &[(&str, &str)], uri: &str) -> Result<String, Fail> {
+    let mut source = listed(alloc, documents)?;
+    match linked(alloc, &mut source, uri) {
+        Ok(text) => Ok(text),
+        Err(fault) => Ok(format!(in alloc; "{fault}")?),
+    }
+}
+
 #[test]
 fn links_what_is_reached(rt: HostRuntime) -> Result<(), Fail> {
-    let alloc = rt.alloc();
     for (documents, uri, text) in LINKS {
-        let mut source = listed(alloc, documents)?;
-        let found = match linked(alloc, &mut source, uri) {
-            Ok(found) => found,
-            Err(fault) => format!(in alloc; "{fault}")?,
-        };
+        let found = answer(rt.alloc(), documents, uri)?;
         assert_eq!(rt; found.as_str(), *text, "{uri}");
     }
     Ok(())

@@ -1,6 +1,8 @@
 //! The examples in `examples/annotations`, written by `examples/write_tests.py`.
 
+use crate::answers::check_files;
 use checks::DEFAULT_URI;
+use std::test::Fail;
 
 const SCHEMA: &str = r#"{
   "title": "Account",
@@ -18,8 +20,8 @@ const SCHEMA: &str = r#"{
   }
 }"#;
 
-/// URI, schema, instance and answer.
-pub const FILES: &[(&str, &str, &str, &str)] = &[
+// URI, schema, instance and answer.
+const FILES: &[(&str, &str, &str, &str)] = &[
     (
         DEFAULT_URI,
         SCHEMA,
@@ -33,3 +35,12 @@ pub const FILES: &[(&str, &str, &str, &str)] = &[
         r#"{"errors":[{"absoluteKeywordLocation":"urn:schemareg:root#/properties","error":"properties is not met","instanceLocation":"","keywordLocation":"/properties"},{"absoluteKeywordLocation":"urn:schemareg:root#/properties/language/type","error":"type is not met","instanceLocation":"/language","keywordLocation":"/properties/language/type"}],"valid":false}"#,
     ),
 ];
+
+#[test]
+fn files_have_their_answers(rt: HostRuntime) -> Result<(), Fail> {
+    for (uri, schema, instance, answer) in FILES {
+        let found = check_files(rt.alloc(), uri, schema, instance)?;
+        assert_eq!(rt; found.as_str(), *answer);
+    }
+    Ok(())
+}

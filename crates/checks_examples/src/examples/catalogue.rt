@@ -1,6 +1,8 @@
 //! The examples in `examples/catalogue`, written by `examples/write_tests.py`.
 
+use crate::answers::check_files;
 use checks::DEFAULT_URI;
+use std::test::Fail;
 
 const SCHEMA: &str = r##"{
   "$schema": "https://json-schema.org/draft/2020-12/schema",
@@ -51,8 +53,8 @@ const SCHEMA: &str = r##"{
   }
 }"##;
 
-/// URI, schema, instance and answer.
-pub const FILES: &[(&str, &str, &str, &str)] = &[
+// URI, schema, instance and answer.
+const FILES: &[(&str, &str, &str, &str)] = &[
     (
         DEFAULT_URI,
         SCHEMA,
@@ -95,3 +97,12 @@ pub const FILES: &[(&str, &str, &str, &str)] = &[
         r#"{"annotations":[{"absoluteKeywordLocation":"https://example.com/catalogue#/properties","annotation":["products"],"instanceLocation":"","keywordLocation":"/properties"},{"absoluteKeywordLocation":"https://example.com/catalogue#/properties/products/items","annotation":true,"instanceLocation":"/products","keywordLocation":"/properties/products/items"},{"absoluteKeywordLocation":"https://example.com/catalogue#/$defs/product/properties","annotation":["name","price","size","sku","stock","tags"],"instanceLocation":"/products/0","keywordLocation":"/properties/products/items/$ref/properties"},{"absoluteKeywordLocation":"https://example.com/catalogue#/$defs/money/properties","annotation":["cents","currency"],"instanceLocation":"/products/0/price","keywordLocation":"/properties/products/items/$ref/properties/price/$ref/properties"},{"absoluteKeywordLocation":"https://example.com/catalogue#/$defs/product/properties/size/properties","annotation":["height","width"],"instanceLocation":"/products/0/size","keywordLocation":"/properties/products/items/$ref/properties/size/properties"},{"absoluteKeywordLocation":"https://example.com/catalogue#/$defs/product/properties/tags/items","annotation":true,"instanceLocation":"/products/0/tags","keywordLocation":"/properties/products/items/$ref/properties/tags/items"},{"absoluteKeywordLocation":"https://example.com/catalogue#/$defs/product/additionalProperties","annotation":[],"instanceLocation":"/products/0","keywordLocation":"/properties/products/items/$ref/additionalProperties"},{"absoluteKeywordLocation":"https://example.com/catalogue#/$defs/product/properties","annotation":["name","price","sku"],"instanceLocation":"/products/1","keywordLocation":"/properties/products/items/$ref/properties"},{"absoluteKeywordLocation":"https://example.com/catalogue#/$defs/money/properties","annotation":["cents","currency"],"instanceLocation":"/products/1/price","keywordLocation":"/properties/products/items/$ref/properties/price/$ref/properties"},{"absoluteKeywordLocation":"https://example.com/catalogue#/$defs/product/additionalProperties","annotation":[],"instanceLocation":"/products/1","keywordLocation":"/properties/products/items/$ref/additionalProperties"},{"absoluteKeywordLocation":"https://example.com/catalogue#/additionalProperties","annotation":[],"instanceLocation":"","keywordLocation":"/additionalProperties"}],"valid":true}"#,
     ),
 ];
+
+#[test]
+fn files_have_their_answers(rt: HostRuntime) -> Result<(), Fail> {
+    for (uri, schema, instance, answer) in FILES {
+        let found = check_files(rt.alloc(), uri, schema, instance)?;
+        assert_eq!(rt; found.as_str(), *answer);
+    }
+    Ok(())
+}

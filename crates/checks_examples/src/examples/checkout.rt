@@ -1,6 +1,8 @@
 //! The examples in `examples/checkout`, written by `examples/write_tests.py`.
 
+use crate::answers::check_files;
 use checks::DEFAULT_URI;
+use std::test::Fail;
 
 const SCHEMA: &str = r#"{
   "$id": "https://example.com/checkout",
@@ -41,8 +43,8 @@ const SCHEMA: &str = r#"{
   ]
 }"#;
 
-/// URI, schema, instance and answer.
-pub const FILES: &[(&str, &str, &str, &str)] = &[
+// URI, schema, instance and answer.
+const FILES: &[(&str, &str, &str, &str)] = &[
     (
         DEFAULT_URI,
         SCHEMA,
@@ -68,3 +70,12 @@ pub const FILES: &[(&str, &str, &str, &str)] = &[
         r#"{"errors":[{"absoluteKeywordLocation":"https://example.com/checkout#/dependentRequired","error":"dependentRequired is not met","instanceLocation":"","keywordLocation":"/dependentRequired"},{"absoluteKeywordLocation":"https://example.com/checkout#/else","error":"else is not met","instanceLocation":"","keywordLocation":"/else"},{"absoluteKeywordLocation":"https://example.com/checkout#/else/properties","error":"properties is not met","instanceLocation":"","keywordLocation":"/else/properties"},{"absoluteKeywordLocation":"https://example.com/checkout#/else/properties/postcode/minLength","error":"minLength is not met","instanceLocation":"/postcode","keywordLocation":"/else/properties/postcode/minLength"},{"absoluteKeywordLocation":"https://example.com/checkout#/properties","error":"properties is not met","instanceLocation":"","keywordLocation":"/properties"},{"absoluteKeywordLocation":"https://example.com/checkout#/properties/card/pattern","error":"pattern is not met","instanceLocation":"/card","keywordLocation":"/properties/card/pattern"}],"valid":false}"#,
     ),
 ];
+
+#[test]
+fn files_have_their_answers(rt: HostRuntime) -> Result<(), Fail> {
+    for (uri, schema, instance, answer) in FILES {
+        let found = check_files(rt.alloc(), uri, schema, instance)?;
+        assert_eq!(rt; found.as_str(), *answer);
+    }
+    Ok(())
+}

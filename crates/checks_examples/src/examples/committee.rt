@@ -1,6 +1,8 @@
 //! The examples in `examples/committee`, written by `examples/write_tests.py`.
 
+use crate::answers::check_files;
 use checks::DEFAULT_URI;
+use std::test::Fail;
 
 const SCHEMA: &str = r##"{
   "$id": "https://example.com/committee",
@@ -30,8 +32,8 @@ const SCHEMA: &str = r##"{
   }
 }"##;
 
-/// URI, schema, instance and answer.
-pub const FILES: &[(&str, &str, &str, &str)] = &[
+// URI, schema, instance and answer.
+const FILES: &[(&str, &str, &str, &str)] = &[
     (
         DEFAULT_URI,
         SCHEMA,
@@ -45,3 +47,12 @@ pub const FILES: &[(&str, &str, &str, &str)] = &[
         r#"{"errors":[{"absoluteKeywordLocation":"https://example.com/committee#/properties","error":"properties is not met","instanceLocation":"","keywordLocation":"/properties"},{"absoluteKeywordLocation":"https://example.com/committee#/properties/last_meeting/$ref","error":"$ref is not met","instanceLocation":"/last_meeting","keywordLocation":"/properties/last_meeting/$ref"},{"absoluteKeywordLocation":"https://example.com/committee#/properties/next_meeting/minItems","error":"minItems is not met","instanceLocation":"/last_meeting","keywordLocation":"/properties/last_meeting/$ref/minItems"},{"absoluteKeywordLocation":"https://example.com/committee#/properties/members/minItems","error":"minItems is not met","instanceLocation":"/members","keywordLocation":"/properties/members/minItems"},{"absoluteKeywordLocation":"https://example.com/committee#/properties/members/maxContains","error":"maxContains is not met","instanceLocation":"/members","keywordLocation":"/properties/members/maxContains"},{"absoluteKeywordLocation":"https://example.com/committee#/properties/next_meeting/prefixItems","error":"prefixItems is not met","instanceLocation":"/next_meeting","keywordLocation":"/properties/next_meeting/prefixItems"},{"absoluteKeywordLocation":"https://example.com/committee#/properties/next_meeting/prefixItems/1/maximum","error":"maximum is not met","instanceLocation":"/next_meeting/1","keywordLocation":"/properties/next_meeting/prefixItems/1/maximum"},{"absoluteKeywordLocation":"https://example.com/committee#/properties/next_meeting/unevaluatedItems","error":"unevaluatedItems is not met","instanceLocation":"/next_meeting","keywordLocation":"/properties/next_meeting/unevaluatedItems"},{"absoluteKeywordLocation":"https://example.com/committee#/properties/next_meeting/unevaluatedItems","error":"no value is allowed","instanceLocation":"/next_meeting/3","keywordLocation":"/properties/next_meeting/unevaluatedItems"}],"valid":false}"#,
     ),
 ];
+
+#[test]
+fn files_have_their_answers(rt: HostRuntime) -> Result<(), Fail> {
+    for (uri, schema, instance, answer) in FILES {
+        let found = check_files(rt.alloc(), uri, schema, instance)?;
+        assert_eq!(rt; found.as_str(), *answer);
+    }
+    Ok(())
+}

@@ -1,6 +1,8 @@
 //! The examples in `examples/folders`, written by `examples/write_tests.py`.
 
+use crate::answers::check_files;
 use checks::DEFAULT_URI;
+use std::test::Fail;
 
 const SCHEMA: &str = r##"{
   "type": "object",
@@ -19,8 +21,8 @@ const SCHEMA: &str = r##"{
   ]
 }"##;
 
-/// URI, schema, instance and answer.
-pub const FILES: &[(&str, &str, &str, &str)] = &[
+// URI, schema, instance and answer.
+const FILES: &[(&str, &str, &str, &str)] = &[
     (
         DEFAULT_URI,
         SCHEMA,
@@ -47,3 +49,12 @@ pub const FILES: &[(&str, &str, &str, &str)] = &[
         r#"{"errors":[{"absoluteKeywordLocation":"urn:schemareg:root#/properties","error":"properties is not met","instanceLocation":"","keywordLocation":"/properties"},{"absoluteKeywordLocation":"urn:schemareg:root#/properties/entries/items","error":"items is not met","instanceLocation":"/entries","keywordLocation":"/properties/entries/items"},{"absoluteKeywordLocation":"urn:schemareg:root#/properties/entries/items/$ref","error":"$ref is not met","instanceLocation":"/entries/0","keywordLocation":"/properties/entries/items/$ref"},{"absoluteKeywordLocation":"urn:schemareg:root#/properties","error":"properties is not met","instanceLocation":"/entries/0","keywordLocation":"/properties/entries/items/$ref/properties"},{"absoluteKeywordLocation":"urn:schemareg:root#/properties/entries/items","error":"items is not met","instanceLocation":"/entries/0/entries","keywordLocation":"/properties/entries/items/$ref/properties/entries/items"},{"absoluteKeywordLocation":"urn:schemareg:root#/properties/entries/items/$ref","error":"$ref is not met","instanceLocation":"/entries/0/entries/0","keywordLocation":"/properties/entries/items/$ref/properties/entries/items/$ref"},{"absoluteKeywordLocation":"urn:schemareg:root#/oneOf","error":"oneOf is not met","instanceLocation":"/entries/0/entries/0","keywordLocation":"/properties/entries/items/$ref/properties/entries/items/$ref/oneOf"},{"absoluteKeywordLocation":"urn:schemareg:root#/oneOf/0/required","error":"required is not met","instanceLocation":"/entries/0/entries/0","keywordLocation":"/properties/entries/items/$ref/properties/entries/items/$ref/oneOf/0/required"},{"absoluteKeywordLocation":"urn:schemareg:root#/oneOf/1/required","error":"required is not met","instanceLocation":"/entries/0/entries/0","keywordLocation":"/properties/entries/items/$ref/properties/entries/items/$ref/oneOf/1/required"},{"absoluteKeywordLocation":"urn:schemareg:root#/properties/entries/items/$ref","error":"$ref is not met","instanceLocation":"/entries/1","keywordLocation":"/properties/entries/items/$ref"},{"absoluteKeywordLocation":"urn:schemareg:root#/oneOf","error":"oneOf is not met","instanceLocation":"/entries/1","keywordLocation":"/properties/entries/items/$ref/oneOf"}],"valid":false}"#,
     ),
 ];
+
+#[test]
+fn files_have_their_answers(rt: HostRuntime) -> Result<(), Fail> {
+    for (uri, schema, instance, answer) in FILES {
+        let found = check_files(rt.alloc(), uri, schema, instance)?;
+        assert_eq!(rt; found.as_str(), *answer);
+    }
+    Ok(())
+}

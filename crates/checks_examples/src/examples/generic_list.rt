@@ -1,6 +1,8 @@
 //! The examples in `examples/generic-list`, written by `examples/write_tests.py`.
 
+use crate::answers::check_files;
 use checks::DEFAULT_URI;
+use std::test::Fail;
 
 const SCHEMA: &str = r##"{
   "$id": "https://example.com/list-of-dates",
@@ -28,8 +30,8 @@ const SCHEMA: &str = r##"{
   }
 }"##;
 
-/// URI, schema, instance and answer.
-pub const FILES: &[(&str, &str, &str, &str)] = &[
+// URI, schema, instance and answer.
+const FILES: &[(&str, &str, &str, &str)] = &[
     (
         DEFAULT_URI,
         SCHEMA,
@@ -43,3 +45,12 @@ pub const FILES: &[(&str, &str, &str, &str)] = &[
         r#"{"errors":[{"absoluteKeywordLocation":"https://example.com/list-of-dates#/$ref","error":"$ref is not met","instanceLocation":"","keywordLocation":"/$ref"},{"absoluteKeywordLocation":"https://example.com/list-of-t#/properties","error":"properties is not met","instanceLocation":"","keywordLocation":"/$ref/properties"},{"absoluteKeywordLocation":"https://example.com/list-of-t#/properties/items/items","error":"items is not met","instanceLocation":"/items","keywordLocation":"/$ref/properties/items/items"},{"absoluteKeywordLocation":"https://example.com/list-of-t#/properties/items/items/$dynamicRef","error":"$dynamicRef is not met","instanceLocation":"/items/1","keywordLocation":"/$ref/properties/items/items/$dynamicRef"},{"absoluteKeywordLocation":"https://example.com/list-of-dates#/$defs/date/pattern","error":"pattern is not met","instanceLocation":"/items/1","keywordLocation":"/$ref/properties/items/items/$dynamicRef/pattern"}],"valid":false}"#,
     ),
 ];
+
+#[test]
+fn files_have_their_answers(rt: HostRuntime) -> Result<(), Fail> {
+    for (uri, schema, instance, answer) in FILES {
+        let found = check_files(rt.alloc(), uri, schema, instance)?;
+        assert_eq!(rt; found.as_str(), *answer);
+    }
+    Ok(())
+}

@@ -1,6 +1,8 @@
 //! The examples in `examples/order-bundle`, written by `examples/write_tests.py`.
 
+use crate::answers::check_files;
 use checks::DEFAULT_URI;
+use std::test::Fail;
 
 const SCHEMA: &str = r##"{
   "$id": "https://example.com/orders/order",
@@ -43,8 +45,8 @@ const SCHEMA: &str = r##"{
   }
 }"##;
 
-/// URI, schema, instance and answer.
-pub const FILES: &[(&str, &str, &str, &str)] = &[
+// URI, schema, instance and answer.
+const FILES: &[(&str, &str, &str, &str)] = &[
     (
         DEFAULT_URI,
         SCHEMA,
@@ -65,3 +67,12 @@ pub const FILES: &[(&str, &str, &str, &str)] = &[
         r#"{"annotations":[{"absoluteKeywordLocation":"https://example.com/orders/order#/properties","annotation":["customer","lines"],"instanceLocation":"","keywordLocation":"/properties"},{"absoluteKeywordLocation":"https://example.com/people/customer#/properties","annotation":["home","name"],"instanceLocation":"/customer","keywordLocation":"/properties/customer/$ref/properties"},{"absoluteKeywordLocation":"https://example.com/orders/order#/properties/lines/items","annotation":true,"instanceLocation":"/lines","keywordLocation":"/properties/lines/items"},{"absoluteKeywordLocation":"https://example.com/orders/line#/properties","annotation":["count"],"instanceLocation":"/lines/0","keywordLocation":"/properties/lines/items/$ref/properties"}],"valid":true}"#,
     ),
 ];
+
+#[test]
+fn files_have_their_answers(rt: HostRuntime) -> Result<(), Fail> {
+    for (uri, schema, instance, answer) in FILES {
+        let found = check_files(rt.alloc(), uri, schema, instance)?;
+        assert_eq!(rt; found.as_str(), *answer);
+    }
+    Ok(())
+}

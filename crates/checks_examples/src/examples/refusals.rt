@@ -1,6 +1,8 @@
 //! The examples in `examples/refusals`, written by `examples/write_tests.py`.
 
+use crate::answers::{check_files, check_standard_input};
 use checks::DEFAULT_URI;
+use std::test::Fail;
 
 const BAD_ANCHOR: &str = r#"{
   "$defs": {
@@ -127,8 +129,8 @@ const UNRESOLVED: &str = r#"{
   }
 }"#;
 
-/// URI, schema, instance and answer.
-pub const FILES: &[(&str, &str, &str, &str)] = &[
+// URI, schema, instance and answer.
+const FILES: &[(&str, &str, &str, &str)] = &[
     (DEFAULT_URI, BAD_ANCHOR, "{}", "refused: 10 BadAnchor"),
     (DEFAULT_URI, BAD_ID, "{}", "refused: 9 BadId"),
     (
@@ -194,11 +196,29 @@ pub const FILES: &[(&str, &str, &str, &str)] = &[
     ),
 ];
 
-/// Input and answer.
-pub const INPUTS: &[(&str, &str)] = &[(
+#[test]
+fn files_have_their_answers(rt: HostRuntime) -> Result<(), Fail> {
+    for (uri, schema, instance, answer) in FILES {
+        let found = check_files(rt.alloc(), uri, schema, instance)?;
+        assert_eq!(rt; found.as_str(), *answer);
+    }
+    Ok(())
+}
+
+// Input and answer.
+const INPUTS: &[(&str, &str)] = &[(
     r#"{
   "schema": { "type": "object" },
   "data": {}
 }"#,
     "refused: 41 BadInput",
 )];
+
+#[test]
+fn inputs_have_their_answers(rt: HostRuntime) -> Result<(), Fail> {
+    for (input, answer) in INPUTS {
+        let found = check_standard_input(rt.alloc(), input)?;
+        assert_eq!(rt; found.as_str(), *answer);
+    }
+    Ok(())
+}

@@ -1,6 +1,8 @@
 //! The examples in `examples/settings-file`, written by `examples/write_tests.py`.
 
+use crate::answers::check_files;
 use checks::DEFAULT_URI;
+use std::test::Fail;
 
 const SCHEMA: &str = r#"{
   "type": "object",
@@ -15,8 +17,8 @@ const SCHEMA: &str = r#"{
   "propertyNames": { "maxLength": 20 }
 }"#;
 
-/// URI, schema, instance and answer.
-pub const FILES: &[(&str, &str, &str, &str)] = &[
+// URI, schema, instance and answer.
+const FILES: &[(&str, &str, &str, &str)] = &[
     (
         DEFAULT_URI,
         SCHEMA,
@@ -36,3 +38,12 @@ pub const FILES: &[(&str, &str, &str, &str)] = &[
         r#"{"annotations":[{"absoluteKeywordLocation":"urn:schemareg:root#/properties","annotation":["version"],"instanceLocation":"","keywordLocation":"/properties"},{"absoluteKeywordLocation":"urn:schemareg:root#/patternProperties","annotation":["DATABASE","DATABASE_PORT"],"instanceLocation":"","keywordLocation":"/patternProperties"},{"absoluteKeywordLocation":"urn:schemareg:root#/additionalProperties","annotation":["verbose"],"instanceLocation":"","keywordLocation":"/additionalProperties"}],"valid":true}"#,
     ),
 ];
+
+#[test]
+fn files_have_their_answers(rt: HostRuntime) -> Result<(), Fail> {
+    for (uri, schema, instance, answer) in FILES {
+        let found = check_files(rt.alloc(), uri, schema, instance)?;
+        assert_eq!(rt; found.as_str(), *answer);
+    }
+    Ok(())
+}

@@ -1,7 +1,10 @@
 //! The examples in `examples/standard-input`, written by `examples/write_tests.py`.
 
-/// Input and answer.
-pub const INPUTS: &[(&str, &str)] = &[
+use crate::answers::check_standard_input;
+use std::test::Fail;
+
+// Input and answer.
+const INPUTS: &[(&str, &str)] = &[
     (
         r#"{
   "schema": {
@@ -26,3 +29,12 @@ pub const INPUTS: &[(&str, &str)] = &[
         r#"{"annotations":[{"absoluteKeywordLocation":"https://example.com/person#/properties","annotation":["name"],"instanceLocation":"","keywordLocation":"/properties"}],"valid":true}"#,
     ),
 ];
+
+#[test]
+fn inputs_have_their_answers(rt: HostRuntime) -> Result<(), Fail> {
+    for (input, answer) in INPUTS {
+        let found = check_standard_input(rt.alloc(), input)?;
+        assert_eq!(rt; found.as_str(), *answer);
+    }
+    Ok(())
+}

@@ -1,6 +1,8 @@
 //! The examples in `examples/strict-tree`, written by `examples/write_tests.py`.
 
+use crate::answers::check_files;
 use checks::DEFAULT_URI;
+use std::test::Fail;
 
 const SCHEMA: &str = r##"{
   "$id": "https://example.com/strict-tree",
@@ -23,8 +25,8 @@ const SCHEMA: &str = r##"{
   }
 }"##;
 
-/// URI, schema, instance and answer.
-pub const FILES: &[(&str, &str, &str, &str)] = &[
+// URI, schema, instance and answer.
+const FILES: &[(&str, &str, &str, &str)] = &[
     (
         DEFAULT_URI,
         SCHEMA,
@@ -38,3 +40,12 @@ pub const FILES: &[(&str, &str, &str, &str)] = &[
         r#"{"annotations":[{"absoluteKeywordLocation":"https://example.com/tree#/properties","annotation":["children","data"],"instanceLocation":"","keywordLocation":"/$ref/properties"},{"absoluteKeywordLocation":"https://example.com/tree#/properties/children/items","annotation":true,"instanceLocation":"/children","keywordLocation":"/$ref/properties/children/items"},{"absoluteKeywordLocation":"https://example.com/tree#/properties","annotation":["data"],"instanceLocation":"/children/0","keywordLocation":"/$ref/properties/children/items/$dynamicRef/$ref/properties"},{"absoluteKeywordLocation":"https://example.com/strict-tree#/unevaluatedProperties","annotation":[],"instanceLocation":"/children/0","keywordLocation":"/$ref/properties/children/items/$dynamicRef/unevaluatedProperties"},{"absoluteKeywordLocation":"https://example.com/tree#/properties","annotation":["children"],"instanceLocation":"/children/1","keywordLocation":"/$ref/properties/children/items/$dynamicRef/$ref/properties"},{"absoluteKeywordLocation":"https://example.com/strict-tree#/unevaluatedProperties","annotation":[],"instanceLocation":"/children/1","keywordLocation":"/$ref/properties/children/items/$dynamicRef/unevaluatedProperties"},{"absoluteKeywordLocation":"https://example.com/strict-tree#/unevaluatedProperties","annotation":[],"instanceLocation":"","keywordLocation":"/unevaluatedProperties"}],"valid":true}"#,
     ),
 ];
+
+#[test]
+fn files_have_their_answers(rt: HostRuntime) -> Result<(), Fail> {
+    for (uri, schema, instance, answer) in FILES {
+        let found = check_files(rt.alloc(), uri, schema, instance)?;
+        assert_eq!(rt; found.as_str(), *answer);
+    }
+    Ok(())
+}

@@ -1,6 +1,8 @@
 //! The examples in `examples/vehicles`, written by `examples/write_tests.py`.
 
+use crate::answers::check_files;
 use checks::DEFAULT_URI;
+use std::test::Fail;
 
 const SCHEMA: &str = r##"{
   "$id": "https://example.com/lorry",
@@ -31,8 +33,8 @@ const SCHEMA: &str = r##"{
   }
 }"##;
 
-/// URI, schema, instance and answer.
-pub const FILES: &[(&str, &str, &str, &str)] = &[
+// URI, schema, instance and answer.
+const FILES: &[(&str, &str, &str, &str)] = &[
     (
         DEFAULT_URI,
         SCHEMA,
@@ -52,3 +54,12 @@ pub const FILES: &[(&str, &str, &str, &str)] = &[
         r#"{"errors":[{"absoluteKeywordLocation":"https://example.com/lorry#/unevaluatedProperties","error":"unevaluatedProperties is not met","instanceLocation":"","keywordLocation":"/unevaluatedProperties"},{"absoluteKeywordLocation":"https://example.com/lorry#/unevaluatedProperties","error":"no value is allowed","instanceLocation":"/owner","keywordLocation":"/unevaluatedProperties"}],"valid":false}"#,
     ),
 ];
+
+#[test]
+fn files_have_their_answers(rt: HostRuntime) -> Result<(), Fail> {
+    for (uri, schema, instance, answer) in FILES {
+        let found = check_files(rt.alloc(), uri, schema, instance)?;
+        assert_eq!(rt; found.as_str(), *answer);
+    }
+    Ok(())
+}

@@ -5,7 +5,7 @@ use Rattle.definitions.specs.Uris.{split, is_identifier}
 use Rattle.definitions.specs.Schemas.{Document}
 use Rattle.definitions.specs.Scanning.{scan_faults}
 use Rattle.definitions.specs.Searches.{Search}
-use Rattle.bundle_laws.specs.Registered.{AreRegistered, AreIdentified, RegisteredDocumentsAreIdentified}
+use Rattle.bundle_laws.specs.Registered.{AreIdentified, RegisteredDocumentsAreIdentified}
 use Rattle.bundle_laws.specs.Standing.{IdentifiedDocumentsAreWhole}
 use Rattle.definition_laws.proofs.AcceptedDocuments.{first_none, IsScanned, scanned}
 use Rattle.definition_laws.proofs.DistinctDocuments.{kept_distinct_schemas}

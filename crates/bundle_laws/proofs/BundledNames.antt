@@ -22,7 +22,7 @@ use Rattle.lemmas.proofs.Texts.{same_text_itself, same_text_is}
 use Rattle.definition_laws.proofs.ReachedTables.{one_has, own_uri}
 use Rattle.definition_laws.proofs.BundledDocuments.{root_schema, bundle_unbundled}
 use Rattle.definition_laws.proofs.BundledValues.{under_definite}
-use Rattle.definition_laws.proofs.Bundled.{own_root_is, own_root_in, IsMade, top_is}
+use Rattle.definition_laws.proofs.MadeBundles.{own_root_is, own_root_in, IsMade, top_is}
 use Rattle.bundle_laws.specs.Registered.{AreIdentified}
 use Rattle.bundle_laws.proofs.RegisteredDocuments.{identified_scanned}
 use Rattle.bundle_laws.proofs.Walks.{all_from}

@@ -19,7 +19,8 @@ use Rattle.definition_laws.proofs.Applying.{get_in}
 use Rattle.definition_laws.proofs.MembersPut.{put_in, put_from, members_with, is_object-with}
 use Rattle.definition_laws.proofs.BundledDocuments.{root_schema, step_moved, under_had, under_unbundled, bundle_had, bundle_unbundled, unlike, new_defs, members-new, members-bundle, embedded_from}
 use Rattle.definition_laws.proofs.BundledValues.{under_definite}
-use Rattle.definition_laws.proofs.Bundled.{own_root_is, IsMade, embedded_is, definite_made}
+use Rattle.definition_laws.proofs.Bundled.{definite_made}
+use Rattle.definition_laws.proofs.MadeBundles.{own_root_is, IsMade, embedded_is}
 use Rattle.bundle_laws.specs.Registered.{AreIdentified}
 use Rattle.definition_laws.proofs.AcceptedDocuments.{unless_none}
 use Rattle.bundle_laws.proofs.Walks.{all_from, unless_true, under_base, under_other, id_alone, HasNoFault, IsFaultless, faultless_deeper}

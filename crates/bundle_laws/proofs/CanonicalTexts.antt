@@ -11,7 +11,8 @@ use Rattle.definition_laws.proofs.BatchValues.{text_value}
 use Rattle.definition_laws.proofs.Places.{definite_members}
 use Rattle.bundle_laws.specs.Identifying.{CanonicalUrisAreTexts}
 use Rattle.bundle_laws.proofs.Identified.{form_parts}
-use Rattle.bundle_laws.proofs.Utf8Parts.{split_texts, resolve_texts, recompose_text, cut_texts}
+use Rattle.bundle_laws.proofs.Utf8Parts.{split_texts, recompose_text, cut_texts}
+use Rattle.bundle_laws.proofs.Utf8Resolution.{resolve_texts}
 
 resolved_text : (base reference : Text) → IsUtf8 base → IsUtf8 reference → IsUtf8 (resolved base reference)
 resolved_text base reference u v =

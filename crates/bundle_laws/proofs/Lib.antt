@@ -3,6 +3,7 @@ pub mod Collected
 pub mod Scans
 pub mod Identified
 pub mod Utf8Parts
+pub mod Utf8Resolution
 pub mod CanonicalTexts
 pub mod RegisteredDocuments
 pub mod BundledWalks

@@ -12,7 +12,8 @@ use Rattle.definitions.specs.Searches.{Search, is_regular}
 use Rattle.definition_laws.specs.Bundling.{AreWhole}
 use Rattle.definition_laws.proofs.Occurrences.{contains_from_in}
 use Rattle.definition_laws.proofs.MembersPut.{is_object-with}
-use Rattle.definition_laws.proofs.Bundled.{IsMade, made_of, bundle_parts, top_is, bundles_are_alike, bundles_answer_the_same, bundles_keep_their_uri, bundles_keep_the_resources}
+use Rattle.definition_laws.proofs.Bundled.{made_of, bundle_parts, bundles_are_alike, bundles_answer_the_same, bundles_keep_their_uri, bundles_keep_the_resources}
+use Rattle.definition_laws.proofs.MadeBundles.{IsMade, top_is}
 use Rattle.bundle_laws.specs.Standing.{IsBundle, BundlesPassTheScan, BundlesAreRegular, BundlesStandAlone}
 use Rattle.bundle_laws.proofs.Walks.{walked_faultless}
 use Rattle.bundle_laws.proofs.Scans.{passed}

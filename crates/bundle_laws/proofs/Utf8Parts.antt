@@ -1,20 +1,18 @@
--- URI references in UTF-8: their parts, and what they resolve to, are in UTF-8 too.
-use Rattle.std.proofs.Common.{◌≡◌, ◌<◌, ◌==◌, ◌&&◌, ◌||◌, ◌++◌, ℕ, zero, suc, [], ◌∷◌, Bool, true, false, not, cond, Option, Some, None, is_some, unwrap_or, get_or, take, drop, length, codes, refl, sym, ap, ap₂, subst, ◌∙◌, arith, append-nil, length-append}
+-- URI references in UTF-8: their parts are in UTF-8 too.
+use Rattle.std.proofs.Common.{◌≡◌, ◌<◌, ◌==◌, ◌&&◌, ◌++◌, ℕ, zero, suc, [], ◌∷◌, Bool, true, false, cond, Option, Some, None, is_some, unwrap_or, get_or, take, drop, length, codes, refl, sym, ap, subst, arith, append-nil, length-append}
 use Rattle.std.proofs.lemmas.Bool.{eqb-true}
 use Rattle.std.proofs.lemmas.Str.{IsUtf8-nil, IsUtf8-append, IsUtf8-take, IsUtf8-drop, IsUtf8-from_ascii, IsCharBoundary-before_ascii, IsCharBoundary-after_ascii}
-use Rattle.std.specs.List.{list_any}
 use Rattle.std.specs.Str.{IsUtf8, IsCharBoundary}
-use Rattle.definitions.specs.Values.{Text, same_text}
+use Rattle.definitions.specs.Values.{Text}
 use Rattle.definitions.specs.Uris.{Parts, split, recompose, begins, led_by, ended_by, is_scheme, scheme_and_rest}
 use Rattle.definitions.specs.Lists.{cut_at, split_before}
-use Rattle.definitions.specs.Resolution.{resolve, merge, remove_dot_segments, rewritten, rewritten_times, first_segment, without_last_segment, up_to_last_slash, is_empty}
 use Rattle.uri_ref.proofs.Missing.{is_rooted, rest_is_rooted}
 use Rattle.uri_ref.proofs.Recomposed.{cut_joined, before_joined}
-use Rattle.uri_ref.proofs.Rules.{front, whichever}
+use Rattle.uri_ref.proofs.Rules.{front}
 
 -- ---- where a text may be cut
 -- empty, or an ASCII byte first
-abbrev IsPlainFirst : Text → Type 0
+abbrev pub IsPlainFirst : Text → Type 0
 IsPlainFirst [] = Unit {0}
 IsPlainFirst (c ∷ cs) = c < 128
 
@@ -32,7 +30,7 @@ seam_reads : (xs ys : Text) (c : ℕ) → get_or (xs ++ c ∷ ys) (length xs) 0 
 seam_reads [] ys c = refl
 seam_reads (x ∷ xs) ys c = seam_reads xs ys c
 
-halves : (xs ys : Text) → IsUtf8 (xs ++ ys) → IsPlainFirst ys → IsUtf8 xs × IsUtf8 ys
+pub halves : (xs ys : Text) → IsUtf8 (xs ++ ys) → IsPlainFirst ys → IsUtf8 xs × IsUtf8 ys
 halves xs [] u p = (subst IsUtf8 (append-nil xs) u, IsUtf8-nil)
 halves xs (c ∷ cs) u p =
     let within : length xs < length (xs ++ c ∷ cs) = omega (arith, length-append xs (c ∷ cs)) in
@@ -42,7 +40,7 @@ halves xs (c ∷ cs) u p =
       subst IsUtf8 (drop_front xs (c ∷ cs)) (IsUtf8-drop (xs ++ c ∷ cs) (length xs) u at),
     )
 
-past_plain : (c : ℕ) (cs : Text) → IsUtf8 (c ∷ cs) → c < 128 → IsUtf8 cs
+pub past_plain : (c : ℕ) (cs : Text) → IsUtf8 (c ∷ cs) → c < 128 → IsUtf8 cs
 past_plain c cs u l = IsUtf8-drop (c ∷ cs) 1 u (IsCharBoundary-after_ascii (c ∷ cs) 0 u (omega arith) l)
 
 one_ascii : (c : ℕ) → c < 128 → (i : ℕ) → get_or (c ∷ []) i 0 < 128
@@ -52,13 +50,13 @@ one_ascii c l (suc i) = omega arith
 pub one_plain : (c : ℕ) → c < 128 → IsUtf8 (c ∷ [])
 one_plain c l = IsUtf8-from_ascii (c ∷ []) (one_ascii c l)
 
-slash : IsUtf8 (codes "/")
+pub slash : IsUtf8 (codes "/")
 slash = one_plain 47 (omega arith)
 
 slashes : IsUtf8 (codes "//")
 slashes = IsUtf8-append (codes "/") (codes "/") slash slash
 
-rooted_plain : (t : Text) → is_rooted t ≡ true → IsPlainFirst t
+pub rooted_plain : (t : Text) → is_rooted t ≡ true → IsPlainFirst t
 rooted_plain [] h = tt
 rooted_plain (c ∷ cs) h = let e : 47 ≡ c = eqb-true 47 c h in omega arith
 
@@ -142,139 +140,3 @@ split_texts t u =
     let at_s = scheme_texts q.0 at_q.0 in
     let at_a = authority_step s.1 (begins s.1 (codes "//")) refl at_s.1 in
     record { scheme = at_s.0; authority = at_a.0; path = at_a.1; query = at_q.1; fragment = at_f.1 }
-
--- ---- paths without dot segments
-abbrev has_slash : Text → Bool
-has_slash t = list_any (λ d. d == 47) t
-
--- what stands before the last slash, and what follows
-record IsCutLast (t : Text) : Type 0 where
-  rest : Text
-  joined : without_last_segment t ++ rest ≡ t
-  plain : has_slash t ≡ true → IsPlainFirst rest
-
-pop_step : (c : ℕ) (cs : Text) (a b : Bool) → (c == 47) ≡ a → has_slash cs ≡ b → IsCutLast cs → (rest : Text)
-    × (cond (a || b) (cond (a && not b) [] (c ∷ without_last_segment cs)) [] ++ rest ≡ c ∷ cs) × ((a || b) ≡ true → IsPlainFirst rest)
-pop_step c cs true true e f h = (h.rest, ap (λ r. c ∷ r) h.joined, λ k. h.plain f)
-pop_step c cs true false e f h = (c ∷ cs, refl, λ k. let same : c ≡ 47 = eqb-true c 47 e in omega arith)
-pop_step c cs false true e f h = (h.rest, ap (λ r. c ∷ r) h.joined, λ k. h.plain f)
-pop_step c cs false false e f h = (c ∷ cs, refl, λ k. absurd (let no : false ≡ true = k in cc))
-
-cut_last : (t : Text) → IsCutLast t
-cut_last [] = record { rest = []; joined = refl; plain = λ k. tt }
-cut_last (c ∷ cs) =
-    let s = pop_step c cs (c == 47) (has_slash cs) refl refl (cut_last cs) in
-    record { rest = s.0; joined = s.1; plain = s.2 }
-
-none_popped : (c : ℕ) (cs : Text) (b : Bool) → has_slash (c ∷ cs) ≡ b → b ≡ false → IsUtf8 (without_last_segment (c ∷ cs))
-none_popped c cs true e f = absurd (cc)
-none_popped c cs false e f = subst IsUtf8 (sym (ap (λ b. cond b (cond ((c == 47) && not (has_slash cs)) [] (c ∷ without_last_segment cs)) []) e)) IsUtf8-nil
-
-popped_text : (t : Text) → IsUtf8 t → IsUtf8 (without_last_segment t)
-popped_text [] u = u
-popped_text (c ∷ cs) u = by (has_slash (c ∷ cs)) refl
-  where
-    by : (b : Bool) → has_slash (c ∷ cs) ≡ b → IsUtf8 (without_last_segment (c ∷ cs))
-    by true e = let h = cut_last (c ∷ cs) in (halves (without_last_segment (c ∷ cs)) h.rest (subst IsUtf8 (sym h.joined) u) (h.plain e)).0
-    by false e = none_popped c cs false e refl
-
-segment_texts : (t : Text) → IsUtf8 t → IsUtf8 (first_segment t).0 × IsUtf8 (first_segment t).1
-segment_texts [] u = (u, u)
-segment_texts (c ∷ cs) u =
-    let r = split_before (λ d. d == 47) cs in
-    halves (c ∷ r.0) r.1 (subst IsUtf8 (sym (ap (λ x. c ∷ x) (before_joined (λ d. d == 47) cs))) u) (rooted_plain r.1 (rest_is_rooted cs))
-
-step_texts : (i o : Text) → IsUtf8 i → IsUtf8 o → IsUtf8 (rewritten (i, o)).0 × IsUtf8 (rewritten (i, o)).1
-step_texts i o ui uo =
-    let P : Text × Text → Type 0 = λ s. IsUtf8 s.0 × IsUtf8 s.1 in
-    let popped = popped_text o uo in
-    let segment = segment_texts i ui in
-    whichever P (begins i (codes "../")) _ _
-    (λ e. let u : IsUtf8 (46 ∷ 46 ∷ 47 ∷ drop 3 i) = subst IsUtf8 (front (codes "../") i e) ui in
-    (past_plain 47 (drop 3 i) (past_plain 46 (47 ∷ drop 3 i) (past_plain 46 (46 ∷ 47 ∷ drop 3 i) u (omega arith)) (omega arith)) (omega arith), uo))
-    (whichever P (begins i (codes "./")) _ _
-    (λ e. let u : IsUtf8 (46 ∷ 47 ∷ drop 2 i) = subst IsUtf8 (front (codes "./") i e) ui in
-    (past_plain 47 (drop 2 i) (past_plain 46 (47 ∷ drop 2 i) u (omega arith)) (omega arith), uo))
-    (whichever P (begins i (codes "/./")) _ _
-    (λ e. let same : i ≡ 47 ∷ 46 ∷ 47 ∷ drop 3 i = front (codes "/./") i e in
-    let u : IsUtf8 (47 ∷ 46 ∷ 47 ∷ drop 3 i) = subst IsUtf8 same ui in
-    (subst IsUtf8 (sym (ap (drop 2) same)) (past_plain 46 (47 ∷ drop 3 i) (past_plain 47 (46 ∷ 47 ∷ drop 3 i) u (omega arith)) (omega arith)), uo))
-    (whichever P (same_text i (codes "/.")) _ _ (λ e. (slash, uo))
-    (whichever P (begins i (codes "/../")) _ _
-    (λ e. let same : i ≡ 47 ∷ 46 ∷ 46 ∷ 47 ∷ drop 4 i = front (codes "/../") i e in
-    let u : IsUtf8 (47 ∷ 46 ∷ 46 ∷ 47 ∷ drop 4 i) = subst IsUtf8 same ui in (
-      subst IsUtf8 (sym (ap (drop 3) same))
-          (past_plain 46 (47 ∷ drop 4 i) (past_plain 46 (46 ∷ 47 ∷ drop 4 i) (past_plain 47 (46 ∷ 46 ∷ 47 ∷ drop 4 i) u (omega arith)) (omega arith)) (omega arith)),
-      popped,
-    ))
-    (whichever P (same_text i (codes "/..")) _ _ (λ e. (slash, popped))
-    (whichever P (same_text i (codes ".") || same_text i (codes "..")) _ _ (λ e. (IsUtf8-nil, uo))
-    (segment.1, IsUtf8-append o (first_segment i).0 uo segment.0)))))))
-
-times_texts : (n : ℕ) (i o : Text) → IsUtf8 i → IsUtf8 o → IsUtf8 (rewritten_times n (i, o)).1
-times_texts zero i o ui uo = uo
-times_texts (suc n) i o ui uo = let step = step_texts i o ui uo in times_texts n (rewritten (i, o)).0 (rewritten (i, o)).1 step.0 step.1
-
-undotted_text : (path : Text) → IsUtf8 path → IsUtf8 (remove_dot_segments path)
-undotted_text path u = times_texts (length path) path [] u IsUtf8-nil
-
--- ---- a merged path
-record IsUpTo (t : Text) : Type 0 where
-  before : Text
-  rest : Text
-  up : up_to_last_slash t ≡ before ++ 47 ∷ []
-  whole : before ++ 47 ∷ rest ≡ t
-
-no_slash : (t : Text) → has_slash t ≡ false → up_to_last_slash t ≡ []
-no_slash [] h = refl
-no_slash (c ∷ cs) h = ap (λ b. cond b (c ∷ up_to_last_slash cs) []) h
-
-up_step : (c : ℕ) (cs : Text) (a b : Bool) → (c == 47) ≡ a → has_slash cs ≡ b → (has_slash cs ≡ true → IsUpTo cs) → (a || b) ≡ true
-    → (before : Text) × (rest : Text) × (c ∷ up_to_last_slash cs ≡ before ++ 47 ∷ []) × (before ++ 47 ∷ rest ≡ c ∷ cs)
-up_step c cs a true e f later h =
-    let l = later f in
-    (c ∷ l.before, l.rest, ap (λ r. c ∷ r) l.up, ap (λ r. c ∷ r) l.whole)
-up_step c cs true false e f later h =
-    let same : c ≡ 47 = eqb-true c 47 e in
-    ([], cs, ap₂ (λ x r. x ∷ r) same (no_slash cs f), ap (λ x. x ∷ cs) (sym same))
-up_step c cs false false e f later h = absurd (let no : false ≡ true = h in cc)
-
-up_to : (t : Text) → has_slash t ≡ true → IsUpTo t
-up_to [] h = absurd (let no : false ≡ true = h in cc)
-up_to (c ∷ cs) h =
-    let s = up_step c cs (c == 47) (has_slash cs) refl refl (up_to cs) h in
-    record { before = s.0; rest = s.1; up = ap (λ b. cond b (c ∷ up_to_last_slash cs) []) h ∙ s.2; whole = s.3 }
-
-up_text : (t : Text) → IsUtf8 t → IsUtf8 (up_to_last_slash t)
-up_text t u = by (has_slash t) refl
-  where
-    by : (b : Bool) → has_slash t ≡ b → IsUtf8 (up_to_last_slash t)
-    by false e = subst IsUtf8 (sym (no_slash t e)) IsUtf8-nil
-    by true e =
-        let l = up_to t e in
-        let front_text = (halves l.before (47 ∷ l.rest) (subst IsUtf8 (sym l.whole) u) (omega arith)).0 in
-        subst IsUtf8 (sym l.up) (IsUtf8-append l.before (47 ∷ []) front_text slash)
-
-merge_text : (b : Bool) (base path : Text) → IsUtf8 base → IsUtf8 path → IsUtf8 (cond b (47 ∷ path) (up_to_last_slash base ++ path))
-merge_text true base path u v = IsUtf8-append (47 ∷ []) path slash v
-merge_text false base path u v = IsUtf8-append (up_to_last_slash base) path (up_text base u) v
-
--- ---- what parts resolve to
-either : (b : Bool) (x y : Parts) → AreTexts x → AreTexts y → AreTexts (cond b x y)
-either true x y h k = h
-either false x y h k = k
-
-chosen : (b : Bool) (o p : Option Text) → IsText o → IsText p → IsText (cond b o p)
-chosen true o p h k = h
-chosen false o p h k = k
-
-pub resolve_texts : (base r : Parts) → AreTexts base → AreTexts r → AreTexts (resolve base r)
-resolve_texts base r hb hr =
-    let path = undotted_text r.path hr.path in
-    let merged = undotted_text (merge base r.path) (merge_text (is_some base.authority && is_empty base.path) base.path r.path hb.path hr.path) in
-    either (is_some r.scheme) _ _ (record { scheme = hr.scheme; authority = hr.authority; path = path; query = hr.query; fragment = hr.fragment })
-    (either (is_some r.authority) _ _ (record { scheme = hb.scheme; authority = hr.authority; path = path; query = hr.query; fragment = hr.fragment })
-    (either (is_empty r.path) _ _
-    (record { scheme = hb.scheme; authority = hb.authority; path = hb.path; query = chosen (is_some r.query) r.query base.query hr.query hb.query; fragment = hr.fragment })
-    (either (begins r.path (codes "/")) _ _ (record { scheme = hb.scheme; authority = hb.authority; path = path; query = hr.query; fragment = hr.fragment })
-    (record { scheme = hb.scheme; authority = hb.authority; path = merged; query = hr.query; fragment = hr.fragment }))))

@@ -12,7 +12,8 @@ use Rattle.definitions.specs.Applied.{Application, Outcome, Part, whole, named, 
 use Rattle.definition_laws.proofs.Occurrences.{IsIn, in_map, in_flat_map, from_filter, zipped_first, all_pass_in, in_from_contains, contains_from_in}
 use Rattle.definition_laws.proofs.Places.{IsStep}
 use Rattle.definition_laws.proofs.Tables.{IsClosed, table_closed, step_closed, target_held, dynamically_anchored_in}
-use Rattle.definition_laws.proofs.Applying.{fits, is_one, is_list, is_map, one_is, list_is, map_is, step_one, step_listed, step_named, get_in}
+use Rattle.definition_laws.proofs.Applying.{get_in}
+use Rattle.definition_laws.proofs.KeywordShapes.{fits, is_one, is_list, is_map, one_is, list_is, map_is, step_one, step_listed, step_named}
 use Rattle.definition_laws.specs.Applications.{AppliedSchemasAreKnown}
 
 -- ---- a dynamic reference

@@ -7,7 +7,9 @@ pub mod Roots
 pub mod Unbundled
 pub mod Tables
 pub mod Targets
+pub mod KeywordShapes
 pub mod Applying
+pub mod SameUses
 pub mod Gathering
 pub mod AlikeTables
 pub mod ReachedTables
@@ -26,12 +28,14 @@ pub mod JoinedDocuments
 pub mod SeenDocuments
 pub mod KeptDocuments
 pub mod AcceptedBatches
+pub mod CodeUnits
 pub mod StringContents
 pub mod TokenTexts
 pub mod TextGrammar
 pub mod WholeNumbers
 pub mod ReadValues
 pub mod ShortTokens
+pub mod ShortParses
 pub mod ShortArrays
 pub mod BatchValues
 pub mod Steps
@@ -41,6 +45,7 @@ pub mod StoredDocuments
 pub mod MembersPut
 pub mod Extending
 pub mod BundledDocuments
+pub mod MadeBundles
 pub mod Bundled
 pub mod FragmentTexts
 pub mod LocatedSchemas

@@ -120,7 +120,7 @@ pub(crate) fn first_slash(bytes: &[u8]) -> Option<usize>
 
 // Where the last `/` stands.
 pub(crate) fn last_slash(text: &str) -> Option<usize>
-    ensures { MatchOption result (Lacks 47 text.now) (λ at. IsLast 47 text.now at) }
+    ensures { MatchOption result (Lacks slash text.now) (λ at. IsLast slash text.now at) }
 {
     text.rfind('/')
 }

@@ -1,0 +1,62 @@
+//! Documents on texts, their bundles, and what they say of instances.
+
+use bundler::{Fault, bundle};
+use evaluator::evaluate;
+use json_doc::{read, write};
+use linker::{ListSource, link};
+use schema_scan::{compile, scan};
+use std::alloc::Global;
+use std::rc::Rc;
+use std::test::Fail;
+use uri_ref::split;
+
+// A list of documents, each with the URI that it stands under.
+fn listed(alloc: Global, documents: &[(&str, &str)]) -> Result<ListSource, Fault> {
+    let mut source = ListSource::new(alloc);
+    for (base, text) in documents {
+        let document = read(alloc, text.as_bytes())?;
+        let compiled = compile(alloc, scan(alloc, &split(base), &document)?)?;
+        source.add(Rc::new(alloc, compiled)?)?;
+    }
+    Ok(source)
+}
+
+fn bundled(alloc: Global, documents: &[(&str, &str)], uri: &str) -> Result<String, Fault> {
+    let mut source = listed(alloc, documents)?;
+    let linked = link(alloc, &mut source, uri)?;
+    write(alloc, &bundle(alloc, &linked)?)
+}
+
+fn evaluated(
+    alloc: Global,
+    documents: &[(&str, &str)],
+    uri: &str,
+    instance: &str,
+) -> Result<String, Fault> {
+    let mut source = listed(alloc, documents)?;
+    let linked = link(alloc, &mut source, uri)?;
+    let instance = read(alloc, instance.as_bytes())?;
+    Ok(evaluate(alloc, &linked, &instance)?.into_text())
+}
+
+/// The text of the bundle of what this URI reaches, or the fault.
+pub fn bundle_text(alloc: Global, documents: &[(&str, &str)], uri: &str) -> Result<String, Fail> {
+    told(alloc, bundled(alloc, documents, uri))
+}
+
+/// What the resource with this URI says of the instance, or the fault.
+pub fn answer(
+    alloc: Global,
+    documents: &[(&str, &str)],
+    uri: &str,
+    instance: &str,
+) -> Result<String, Fail> {
+    told(alloc, evaluated(alloc, documents, uri, instance))
+}
+
+fn told(alloc: Global, answered: Result<String, Fault>) -> Result<String, Fail> {
+    match answered {
+        Ok(text) => Ok(text),
+        Err(fault) => Ok(format!(in alloc; "{fault}")?),
+    }
+}

@@ -6,6 +6,7 @@ use Rattle.definitions.specs.Values as json
 use Rattle.definitions.specs.Values.{Value, elements_list, to_elements}
 use Rattle.definition_laws.specs.Identities.{has_short_arrays, have_short_arrays, members_have_short_arrays}
 use Rattle.json_doc.specs.Docs.{value, value_step, members_step, members_view}
+use Rattle.json_doc.proofs.Views.{elements_list-to_elements}
 use Rattle.json_doc.specs.declared.doc.Doc.{Doc, map-Doc}
 use Rattle.json_doc.specs.declared.doc.Doc.TheFolds.{ind-Doc, fold-roll-Doc, fold-roll-Members}
 use Rattle.json_doc.specs.declared.doc.Doc.TheOpen.{Doc-F}
@@ -36,13 +37,9 @@ is_below a b l = by (nat_lt a b) refl
     by true e = refl
     by false e = absurd (omega (arith, ltb-false a b e))
 
-listed : (vs : List Value) → elements_list (to_elements vs) ≡ vs
-listed [] = refl
-listed (v ∷ vs) = ap (λ ws. v ∷ ws) (listed vs)
-
 length_small : {X : Type 0} (vs : List Value) (v : Vec X Global) → length vs ≡ length v.items → nat_lt (length (elements_list (to_elements vs))) (2 ^ 64) ≡ true
 length_small vs v e =
-    let as_long : length (elements_list (to_elements vs)) ≡ length v.items = ap length (listed vs) ∙ e in
+    let as_long : length (elements_list (to_elements vs)) ≡ length v.items = ap length (elements_list-to_elements vs) ∙ e in
     let small : length v.items < 2 ^ 64 = omega (arith, v.ok.0, v.ok.1, v.small) in
     is_below (length (elements_list (to_elements vs))) (2 ^ 64) (omega (arith, as_long, small))
 

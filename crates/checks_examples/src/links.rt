@@ -1,7 +1,7 @@
 //! What links reach, and what they refuse.
 
 use crate::documents::{compiled, listed};
-use linker::{Fault, ListSource, Source, asked, link, reached, value_of};
+use linker::{Both, Fault, ListSource, Source, asked, link, reached, value_of};
 use std::alloc::Global;
 use std::test::Fail;
 
@@ -86,7 +86,7 @@ const LINKS: &[(&[(&str, &str)], &str, &str)] = &[
     ),
 ];
 
-fn linked(alloc: Global, source: &mut ListSource, uri: &str) -> Result<String, Fault> {
+fn linked<S: Source>(alloc: Global, source: &mut S, uri: &str) -> Result<String, Fault> {
     let linked = link(alloc, source, uri)?;
     let mut text = String::from_str(alloc, asked(&linked))?;
     for uri in &reached(alloc, &linked)? {
@@ -146,5 +146,18 @@ fn a_list_holds_each_resource_once(rt: HostRuntime) -> Result<(), Fail> {
     }
     assert!(rt; source.holding(alloc, "https://ex.org/d")?.is_some());
     assert!(rt; source.holding(alloc, "https://ex.org/t")?.is_none());
+    Ok(())
+}
+
+#[test]
+fn two_sources_are_linked_as_one(rt: HostRuntime) -> Result<(), Fail> {
+    let alloc = rt.alloc();
+    let first = listed(alloc, THREE)?;
+    let mut both = Both::new(&first, ListSource::new(alloc));
+    assert_eq!(rt;
+        linked(alloc, &mut both, "https://ex.org/b")?.as_str(),
+        "https://ex.org/b https://ex.org/a https://ex.org/b"
+    );
+    assert!(rt; both.holding(alloc, "https://ex.org/d")?.is_none());
     Ok(())
 }

@@ -2,3 +2,5 @@ pub mod Skipped
 pub mod Whole
 pub mod Joined
 pub mod Turned
+pub mod Fed
+pub mod SameHistory

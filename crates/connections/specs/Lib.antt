@@ -4,3 +4,4 @@ pub mod Messages
 pub mod Progress
 pub mod Views
 pub mod Connected
+pub mod Feeding

@@ -4,6 +4,7 @@
 mod answering;
 mod buffers;
 mod connection;
+mod feeding;
 mod handlers;
 mod messages;
 mod phases;
@@ -11,5 +12,6 @@ mod sessions;
 mod taking;
 mod turns;
 
+pub use feeding::{cuts_decide_nothing, fed_pieces_are_answered};
 pub use handlers::Handler;
 pub use sessions::Sessions;

@@ -78,6 +78,9 @@ impl<H: Handler> Sessions<H> {
     /// Takes a piece of a connection's stream and answers the bytes to be sent. The errors are [`Fault::NoSession`], which
     /// changes nothing, and want of memory, [`Fault::NoRoom`]: then the connection is closed, no bytes are answered, and
     /// the first of the requests may be answered.
+    ///
+    /// How streams are cut decides nothing: [`fed_pieces_are_answered`](crate::fed_pieces_are_answered),
+    /// [`cuts_decide_nothing`](crate::cuts_decide_nothing).
     pub fn feed(&mut self, alloc: Global, id: u64, piece: &[u8]) -> Result<Vec<u8>, Fault>
         ensures fed { IsFed H.answers (connection_at self.old id) piece.now (handler_of self.old)
             result (connection_at self.new id) (handler_of self.new) }

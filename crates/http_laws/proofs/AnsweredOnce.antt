@@ -14,7 +14,7 @@ use Rattle.http_laws.proofs.SpelledOnce.{waiting_has_none, hopeless_has_none, sp
 use Rattle.http_laws.proofs.Hopeless.{hopeless_has_bytes}
 
 -- ---- the same requests
-ended_has_none : (rest told : Text) (now : Connection) → Ends false rest told now → HasNoRequestWhole rest
+pub ended_has_none : (rest told : Text) (now : Connection) → Ends false rest told now → HasNoRequestWhole rest
 ended_has_none rest told now e = elim e [
   | inl x ↦ waiting_has_none rest x.0
   | inr x ↦ hopeless_has_none rest x.0
@@ -31,7 +31,7 @@ asked_once : {S : Type 0} (answers : Answers S) (key : Text) (o : Option Request
 asked_once answers key None s t u r p once x y = (x.0 ∙ sym y.0, x.1 ∙ sym y.1)
 asked_once answers key (Some q) s t u r p once x y = once key q s r p t u x y
 
-replied_once : {S : Type 0} (answers : Answers S) (ms : List Message) (rs ps : List Reply) (s t u : S) → AnswerOnce answers
+pub replied_once : {S : Type 0} (answers : Answers S) (ms : List Message) (rs ps : List Reply) (s t u : S) → AnswerOnce answers
     → AnswersAll answers s ms rs t → AnswersAll answers s ms ps u → (rs ≡ ps) × (t ≡ u)
 replied_once answers [] [] [] s t u once x y = (refl, x ∙ sym y)
 replied_once answers [] [] (p ∷ ps) s t u once x y = absurd y
@@ -44,7 +44,7 @@ replied_once {S} answers (m ∷ ms) (r ∷ rs) (p ∷ ps) s t u once x y =
     (ap₂ (λ a b. a ∷ b) one.0 rest.0, rest.1)
 
 -- ---- the same end
-ends_alike : (c : Bool) (rest told other_told text : Text) (now other : Connection) → Ends c rest told now → Ends c rest other_told other
+pub ends_alike : (c : Bool) (rest told other_told text : Text) (now other : Connection) → Ends c rest told now → Ends c rest other_told other
     → IsSameSoFar (text ++ told) now (text ++ other_told) other
 ends_alike true rest told other_told text now other x y = inl (ap (λ t. text ++ t) (x.0 ∙ sym y.0), x.1 ∙ sym y.1)
 ends_alike false rest told other_told text now other x y = elim x [

@@ -1,0 +1,54 @@
+-- Resource URIs that another document holds, among documents with distinct resource URIs.
+use Rattle.std.proofs.Common.{◌≡◌, ◌++◌, List, [], ◌∷◌, Bool, true, false, not, cond, Option, Some, None, filter, find, Contains, sym, refl, ap, ◌∙◌, subst, append-nil}
+use Rattle.std.proofs.lemmas.Bool.{false_from_ne_true, not-true}
+use Rattle.std.proofs.lemmas.List.Elements.{filter-append}
+use Rattle.std.specs.List.{list_any}
+use Rattle.definitions.specs.Documents.{others_of, resource_uris_of}
+use Rattle.definitions.specs.Lists.{has_repeat}
+use Rattle.definitions.specs.Reach.{holds_resource, least, lesser}
+use Rattle.definitions.specs.Schemas.{Document}
+use Rattle.definitions.specs.Values.{Text, same_text}
+use Rattle.definition_laws.proofs.Membership.{any_at, any_where, in_filter, from_filter, found_there, found_some}
+use Rattle.definition_laws.proofs.Resources.{one_document}
+use Rattle.linker.proofs.Least.{least_more}
+
+-- ---- one URI more
+more_at : (ts : List Text) (t : Text) (b : Bool) → least (ts ++ cond b (t ∷ []) []) ≡ cond b (Some (lesser t (least ts))) (least ts)
+more_at ts t true = least_more ts t
+more_at ts t false = ap least (append-nil ts)
+
+pub taken_more : (p : Text → Bool) (ts : List Text) (t : Text)
+    → least (filter p (ts ++ t ∷ [])) ≡ cond (p t) (Some (lesser t (least (filter p ts)))) (least (filter p ts))
+taken_more p ts t = ap least (filter-append p ts (t ∷ [])) ∙ more_at (filter p ts) t (p t)
+
+-- ---- where the holder is another
+holder_among : (canonical uri : Text) (ds : List Document) (d : Document) (b : Bool) → has_repeat same_text (resource_uris_of ds) ≡ false → find (holds_resource uri) ds ≡ Some d
+    → same_text canonical d.canonical ≡ b → list_any (holds_resource uri) (others_of canonical ds) ≡ not b
+holder_among canonical uri ds d false distinct found other =
+    let there = found_there (holds_resource uri) ds d found in
+    any_at (holds_resource uri) d (others_of canonical ds) (in_filter (λ x. not (same_text canonical x.canonical)) d ds there.0 (ap not other)) there.1
+holder_among canonical uri ds d true distinct found same =
+    false_from_ne_true (list_any (holds_resource uri) (others_of canonical ds)) (λ held.
+    let there = found_there (holds_resource uri) ds d found in
+    let by : (x : Document) × (Contains (others_of canonical ds) x × (holds_resource uri x ≡ true)) = any_where (holds_resource uri) (others_of canonical ds) held in
+    let out = from_filter (λ x. not (same_text canonical x.canonical)) by.0 ds by.1.0 in
+    let one = one_document ds uri by.0 d distinct out.0 there.0 by.1.1 there.1 in
+    unlike (same_text canonical d.canonical) same (ap (λ x. not (same_text canonical x.canonical)) (sym one) ∙ out.1))
+  where
+    unlike : (b : Bool) → b ≡ true → not b ≡ true → ⊥
+    unlike true e f = cc
+    unlike false e f = cc
+
+pub held_by_another : (canonical uri : Text) (ds : List Document) (d : Document) → has_repeat same_text (resource_uris_of ds) ≡ false → find (holds_resource uri) ds ≡ Some d
+    → list_any (holds_resource uri) (others_of canonical ds) ≡ not (same_text canonical d.canonical)
+held_by_another canonical uri ds d distinct found = holder_among canonical uri ds d (same_text canonical d.canonical) distinct found refl
+
+pub held_by_none : (canonical uri : Text) (ds : List Document) → find (holds_resource uri) ds ≡ None → list_any (holds_resource uri) (others_of canonical ds) ≡ false
+held_by_none canonical uri ds none =
+    false_from_ne_true (list_any (holds_resource uri) (others_of canonical ds)) (λ held.
+    let by : (x : Document) × (Contains (others_of canonical ds) x × (holds_resource uri x ≡ true)) = any_where (holds_resource uri) (others_of canonical ds) held in
+    let out = from_filter (λ x. not (same_text canonical x.canonical)) by.0 ds by.1.0 in
+    nowhere by.0 (found_some (holds_resource uri) by.0 ds out.0 by.1.1))
+  where
+    nowhere : (x : Document) → (z : Document) × (find (holds_resource uri) ds ≡ Some z) → ⊥
+    nowhere x some = cc (none, some.1)

@@ -1,0 +1,4 @@
+pub mod StoredDocuments
+pub mod SharedStored
+pub mod DocumentLists
+pub mod KeptDocuments

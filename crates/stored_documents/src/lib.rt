@@ -1,0 +1,13 @@
+//! The documents that a tenant has put, as they are stored.
+#![tactic(auto)]
+
+mod documents;
+mod placing;
+mod resource_texts;
+mod stored;
+mod taken_uris;
+mod together;
+
+pub use documents::Documents;
+pub use faults::Fault;
+pub use stored::Stored;

@@ -1,0 +1,117 @@
+//! A stored document.
+
+ghost use Rattle.std.specs.Prelude.{◌≡◌, ◌≢◌, true, None, IfErr, IfOk, OnErr, OnOk, length, map, string_bytes};
+ghost use Rattle.definitions.specs.Caches.{IsUsed};
+ghost use Rattle.definitions.specs.Documents.{resources_of};
+ghost use Rattle.definitions.specs.Patterns.{regular_search};
+ghost use Rattle.definitions.specs.Reach.{holds_resource};
+ghost use Rattle.definitions.specs.Scanning.{scan_fault};
+ghost use Rattle.definitions.specs.Schemas.{document_from};
+ghost use Rattle.definitions.specs.Searches.{is_regular};
+ghost use Rattle.definitions.specs.Texts.{text};
+ghost use Rattle.definitions.specs.Uris.{recompose};
+ghost use Rattle.faults.specs.View.{fault};
+ghost use Rattle.json_doc.specs.Docs.{value};
+ghost use Rattle.shared_cache.specs.Readings.{is_read_as};
+ghost use Rattle.shared_cache.specs.Refusals.{Refuses};
+
+use crate::resource_texts::{copied, stands};
+use faults::Fault;
+use json_doc::Doc;
+use schema_scan::canonical;
+use shared_cache::{Cache, Key};
+use std::alloc::Global;
+use std::rc::Rc;
+use uri_ref::Parts;
+
+/// A document that the scan found no fault in and whose patterns were built, with its key and its resources' URIs.
+///
+/// Nothing compiled is held: a cache is asked for that, by the key. Contracts see the document by `stored_document`.
+#[derive(Drop)]
+pub struct Stored {
+    key: Rc<Key>,
+    document: Doc,
+    canonical: String,
+    // In the order of a walk.
+    resources: Vec<String>,
+    ghost reads_back: { is_read_as key.value.1 (value document) ≡ true },
+    ghost compact: { key.value.1 ≡ text (value document) },
+    ghost faultless: { scan_fault key.value.0 (value document) ≡ None },
+    ghost regular: { is_regular regular_search (value document) ≡ true },
+    ghost named: { string_bytes canonical ≡ (document_from key.value.0 (value document)).canonical },
+    ghost opened: { map string_bytes resources.items ≡ resources_of (document_from key.value.0 (value document)) },
+}
+
+impl Stored {
+    ghost use Rattle.stored_documents.specs.StoredDocuments.{stored_document};
+
+    /// The document under this base, as the cache scans and compiles it.
+    ///
+    /// The faults are those of [`Cache::compiled`], in the same order.
+    pub fn of(
+        alloc: Global,
+        cache: &mut Cache,
+        base: &Parts,
+        document: Doc,
+    ) -> Result<Stored, Fault>
+        ensures ok { IfOk result (λ s. stored_document s ≡ document_from (recompose base.now) (value document)) }
+        ensures err { IfErr result (λ f. f ≢ Fault.NoRoom → Refuses (recompose base.now) (value document) (fault f)) }
+        ensures used { OnOk result (IsUsed cache.old (recompose base.now, text (value document)) cache.new) }
+    {
+        let (key, compiled) = cache.compiled_with_key(alloc, base, &document)?;
+        let canonical = canonical(&compiled).to_owned(alloc)?;
+        let resources = copied(alloc, compiled.resource_uris())?;
+        Ok(Stored {
+            key,
+            document,
+            canonical,
+            resources,
+        })
+    }
+
+    /// The key under which a cache keeps what is compiled of it. Its text is read as the document's value.
+    pub fn key(&self) -> &Rc<Key>
+        ensures base { result.now.value.0 ≡ (stored_document self.now).base }
+        ensures text { result.now.value.1 ≡ text (stored_document self.now).value }
+        ensures reads_back { is_read_as result.now.value.1 (stored_document self.now).value ≡ true }
+    {
+        &self.key
+    }
+
+    /// The document.
+    pub fn document(&self) -> &Doc
+        ensures value { value result.now ≡ (stored_document self.now).value }
+        ensures faultless { scan_fault (stored_document self.now).base (stored_document self.now).value ≡ None }
+        ensures regular { is_regular regular_search (stored_document self.now).value ≡ true }
+    {
+        &self.document
+    }
+
+    /// Its canonical URI: that of its root's resource (JSON Schema 2020-12 Core, section 8.2.1).
+    pub fn canonical(&self) -> &str
+        ensures { result.now ≡ (stored_document self.now).canonical }
+    {
+        self.canonical.as_str()
+    }
+
+    /// The URIs of its resources, in the order of a walk.
+    pub fn resource_uris(&self) -> &[String]
+        ensures { map string_bytes result.now ≡ resources_of (stored_document self.now) }
+    {
+        self.resources.as_slice()
+    }
+
+    /// How many bytes its compact text has.
+    pub fn length(&self) -> usize
+        ensures { result ≡ length (text (stored_document self.now).value) }
+    {
+        self.key.text().len()
+    }
+
+    /// Whether one of its resources has this URI.
+    pub fn holds(&self, uri: &str) -> bool
+        ensures { result ≡ holds_resource uri.now (stored_document self.now) }
+    {
+        stands(self.resources.as_slice(), uri)
+    }
+}

@@ -1,0 +1,17 @@
+pub mod Holders
+pub mod Refusals
+pub mod SentDocuments
+pub mod Sums
+pub mod KeptRegistries
+pub mod QuotaFaults
+pub mod LeastTaken
+pub mod RepeatedTexts
+pub mod ClaimedUris
+pub mod EnteredDocuments
+pub mod LibraryDocuments
+pub mod AnsweredBatches
+pub mod GrantedBatches
+pub mod BatchClaims
+pub mod BatchSizes
+pub mod StoredLists
+pub mod HeldUris

@@ -1,0 +1,8 @@
+use Rattle.std.proofs.Common.{◌≡◌, Bor, map, take}
+use Rattle.definitions.specs.Documents.{resource_uris_of}
+use Rattle.definitions.specs.Values.{Text}
+use Rattle.stored_documents.specs.SharedStored.{stored_documents}
+use Rattle.tenant_documents.proofs.batch_uris.resource_uris.Given as goal
+
+abbrev pub invariant-loop-document : goal.invariant-loop-document
+invariant-loop-document l = map (λ (t : Bor Text). t.now) l.uris.items ≡ resource_uris_of (stored_documents (take l.document-index l.documents))

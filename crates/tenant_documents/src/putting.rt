@@ -1,0 +1,76 @@
+//! A document is put.
+
+ghost use Rattle.std.specs.Prelude.{IfErr, IfOk};
+ghost use Rattle.definitions.specs.Patterns.{regular_search};
+ghost use Rattle.definitions.specs.Registries.{put, refused};
+ghost use Rattle.definitions.specs.Runs.{IsAnswer};
+ghost use Rattle.faults.specs.View.{fault};
+ghost use Rattle.requests.specs.Views.{reply_view};
+ghost use Rattle.stored_documents.specs.StoredDocuments.{stored_document};
+ghost use Rattle.tenant_documents.specs.Puts.{IsPut};
+ghost use Rattle.tenant_documents.specs.Registries.{registry_view};
+
+use crate::accepting::accept;
+use crate::registry::Registry;
+use requests::{Fault, Reply};
+use shared_cache::Cache;
+use std::alloc::Global;
+use std::rc::Rc;
+use stored_documents::Stored;
+
+impl Registry {
+    /// Stores the schema document that the body spells under the URI, instead of the one with its canonical URI, where there
+    /// is one, and answers this canonical URI.
+    ///
+    /// The first of these faults is answered, and then nothing changes: `BadUri` for a URI that nothing may be put under;
+    /// `TooLarge`, `BadJson` and `BadNumber` of the body; the faults of the scan (JSON Schema 2020-12 Core, section 8) in
+    /// their order; `BadPattern`; `LibraryOwned` where the library has a document of this canonical URI; `Taken` with the
+    /// least resource URI that another document has, the tenant's or the library's; `QuotaDocuments` and `QuotaBytes` on the
+    /// documents as they would be. `NoRoom` may take the place of any answer.
+    pub fn put(&mut self, alloc: Global, cache: &mut Cache, uri: &str, body: &[u8]) -> Reply
+        ensures { IsAnswer regular_search (registry_view self.old) (put uri.now body.now)
+            (reply_view result) (registry_view self.new) }
+    {
+        match self.stored(alloc, cache, uri, body) {
+            Ok(reply) => reply,
+            Err(fault) => Reply::Refused(fault),
+        }
+    }
+
+    fn stored(
+        &mut self,
+        alloc: Global,
+        cache: &mut Cache,
+        uri: &str,
+        body: &[u8],
+    ) -> Result<Reply, Fault>
+        ensures ok { IfOk result (λ r. IsAnswer regular_search (registry_view self.old)
+            (put uri.now body.now) (reply_view r) (registry_view self.new)) }
+        ensures err { IfErr result (λ f. IsAnswer regular_search (registry_view self.old)
+            (put uri.now body.now) (refused (fault f)) (registry_view self.new)) }
+    {
+        let document = accept(alloc, cache, uri, body)?;
+        self.place(alloc, document)
+    }
+
+    // Puts a document in its place, unless it is refused there.
+    fn place(&mut self, alloc: Global, document: Stored) -> Result<Reply, Fault>
+        ensures ok { IfOk result (λ r. IsPut (registry_view self.old) (stored_document document)
+            (reply_view r) (registry_view self.new)) }
+        ensures err { IfErr result (λ f. IsPut (registry_view self.old) (stored_document document)
+            (refused (fault f)) (registry_view self.new)) }
+    {
+        // The number shows that what is within the quota fits 64 bits.
+        let _ = self.byte_quota();
+        self.judge(alloc, &document)?;
+        let uri = document.canonical().to_owned(alloc)?;
+        let document = match Rc::new(alloc, document) {
+            Ok(document) => document,
+            Err(_) => return Err(Fault::NoRoom),
+        };
+        match self.documents.insert(alloc, document) {
+            Ok(replaced) => Ok(Reply::Stored(uri, replaced)),
+            Err(fault) => Err(fault),
+        }
+    }
+}

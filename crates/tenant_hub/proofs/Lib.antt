@@ -1,0 +1,12 @@
+mod Places
+mod Courses
+mod NewServers
+mod RegisteredDocuments
+mod KeptRegistries
+mod SentTexts
+mod ServedBundles
+mod Refusals
+mod LinkedReplies
+mod NamedDocuments
+mod ValidationReplies
+mod BundleReplies

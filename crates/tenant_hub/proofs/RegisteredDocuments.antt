@@ -1,0 +1,143 @@
+-- The documents of a registry are such as a registry gets them, from request to request.
+use Rattle.std.proofs.Common.{◌≡◌, ◌==◌, ◌&&◌, ◌||◌, codes, List, [], ◌∷◌, Bool, true, false, not, cond, Option, Some, None, Result, Ok, Err, is_some, is_none, Contains, refl, sym, ap, subst, ◌∙◌, inl, inr}
+use Rattle.std.proofs.lemmas.Bool.{and_parts, and_from}
+use Rattle.std.specs.List.{list_all, list_any, slice_split}
+use Rattle.std.specs.Str.{is_utf8}
+use Rattle.definitions.specs.Batches.{library_of}
+use Rattle.definitions.specs.Documents.{Ascend}
+use Rattle.definitions.specs.Faults.{Fault, bad_uri}
+use Rattle.definitions.specs.Keeping.{AreKept, IsKept}
+use Rattle.definitions.specs.Limits.{limits}
+use Rattle.definitions.specs.Patterns.{regular_search}
+use Rattle.definitions.specs.Registries.{Registry, documents_seen, Request, Reply}
+use Rattle.definitions.specs.Resolution.{resolve}
+use Rattle.definitions.specs.Runs.{IsAnswer}
+use Rattle.definitions.specs.Schemas.{Document}
+use Rattle.definitions.specs.Searches.{Search}
+use Rattle.definitions.specs.Steps.{step}
+use Rattle.definitions.specs.Tenants.{Tenant, empty_registry}
+use Rattle.definitions.specs.Uris.{Parts, split, recompose, is_identifier, is_dot_segment, begins}
+use Rattle.definitions.specs.Values.{Text, is_well_formed}
+use Rattle.definition_laws.specs.Keeping.{IsBodyValue, HaveBodyValues, IsBaseForm, HaveBaseForms}
+use Rattle.definition_laws.specs.Reading.{has_arrays_within}
+use Rattle.definition_laws.proofs.JoinedDocuments.{joined_alone}
+use Rattle.definition_laws.proofs.KeptRegistries.{values_kept, bases_kept, library_kept}
+use Rattle.definition_laws.proofs.Membership.{is_first, is_later}
+use Rattle.definition_laws.proofs.Occurrences.{all_pass_in, in_from_contains}
+use Rattle.bundle_laws.specs.Registered.{AreRegistered, HaveBaseTexts, PutsText}
+use Rattle.bundle_laws.proofs.BaseTexts.{steps_keep_base_texts, libraries_have_base_texts}
+use Rattle.bundle_laws.proofs.Identified.{form_parts}
+use Rattle.uri_ref.proofs.Identifiers.{stays}
+use Rattle.uri_ref.proofs.Recomposed.{recomposes}
+use Rattle.uri_ref.proofs.Sound.{split_sound, resolve_sound}
+use Rattle.uri_ref.proofs.Unique as unique
+use Rattle.tenant_hub.specs.RegisteredDocuments.{is_registered}
+
+-- ---- base forms are the identifiers
+is_some_parts : (o : Option Text) → is_some o ≡ true → is_none o ≡ false
+is_some_parts (Some t) e = refl
+is_some_parts None e = cc
+
+is_none_parts : (o : Option Text) → is_none o ≡ true → is_some o ≡ false
+is_none_parts None e = refl
+is_none_parts (Some t) e = cc
+
+record IsWhole (p : Parts) : Type 0 where
+  no_fragment : is_some p.fragment ≡ false
+  scheme : is_none p.scheme ≡ false
+
+whole_of : (p : Parts) → is_identifier p ≡ true → IsWhole p
+whole_of p h =
+    let dots = list_any is_dot_segment (slice_split (λ c. c == 47) p.path) in
+    let whole = and_parts (is_some p.scheme && is_none p.fragment && not dots) (is_some p.authority || not (begins p.path (codes "//"))) h in
+    let front = and_parts (is_some p.scheme && is_none p.fragment) (not dots) whole.0 in
+    let both = and_parts (is_some p.scheme) (is_none p.fragment) front.0 in
+    record { no_fragment = is_none_parts p.fragment both.1; scheme = is_some_parts p.scheme both.0 }
+
+form_from : (a b c : Bool) (t : Text) → a ≡ false → b ≡ false → c ≡ true
+    → cond {A = Result Text Fault} (a || b) (Err bad_uri) (cond {A = Result Text Fault} c (Ok t) (Err bad_uri)) ≡ Ok t
+form_from false false true t e h k = refl
+form_from true b c t e h k = cc
+form_from false true c t e h k = cc
+form_from false false false t e h k = cc
+
+form_of_identifier : (base : Text) → is_identifier (split base) ≡ true → IsBaseForm base
+form_of_identifier base h =
+    let p = split base in
+    let whole = whole_of p h in
+    let same : resolve p p ≡ p = stays p h p in
+    record {
+      uri = base;
+      is = form_from (is_some p.fragment) (is_none p.scheme) (is_identifier (resolve p p)) (recompose (resolve p p)) whole.no_fragment whole.scheme (ap is_identifier same ∙ h)
+          ∙ ap (λ q. Ok (recompose q)) same ∙ ap Ok (recomposes base);
+    }
+
+identifier_of_form : (base : Text) → IsBaseForm base → is_identifier (split base) ≡ true
+identifier_of_form base h =
+    let p = split h.uri in
+    let q = resolve p p in
+    let parts = form_parts (is_some p.fragment || is_none p.scheme) (is_identifier q) (recompose q) base h.is in
+    let back : split (recompose q) ≡ q = unique.identified q (resolve_sound p p (split_sound h.uri) (split_sound h.uri)) parts.0 in
+    subst (λ t. is_identifier (split t) ≡ true) parts.1 (ap is_identifier back ∙ parts.0)
+
+-- ---- the test of a document
+registered : (d : Document) → IsBodyValue d.value → IsBaseForm d.base → is_utf8 d.base ≡ true → is_registered d ≡ true
+unfolding is_registered
+registered d value form text =
+    and_from (is_well_formed d.value && has_arrays_within limits.body_bytes d.value) (is_identifier (split d.base) && is_utf8 d.base)
+    (and_from (is_well_formed d.value) (has_arrays_within limits.body_bytes d.value) value.well_formed value.short_arrays)
+    (and_from (is_identifier (split d.base)) (is_utf8 d.base) (identifier_of_form d.base form) text)
+
+record IsRegistered (d : Document) : Type 0 where
+  value : IsBodyValue d.value
+  form : IsBaseForm d.base
+  text : is_utf8 d.base ≡ true
+
+from_test : (d : Document) → is_registered d ≡ true → IsRegistered d
+unfolding is_registered
+from_test d e =
+    let parts = and_parts (is_well_formed d.value && has_arrays_within limits.body_bytes d.value) (is_identifier (split d.base) && is_utf8 d.base) e in
+    let values = and_parts (is_well_formed d.value) (has_arrays_within limits.body_bytes d.value) parts.0 in
+    let bases = and_parts (is_identifier (split d.base)) (is_utf8 d.base) parts.1 in
+    record { value = record { well_formed = values.0; short_arrays = values.1 }; form = form_of_identifier d.base bases.0; text = bases.1 }
+
+-- ---- of several
+all_registered : (ds : List Document) → HaveBodyValues ds → HaveBaseForms ds → HaveBaseTexts ds → list_all is_registered ds ≡ true
+all_registered [] values forms texts = refl
+all_registered (d ∷ ds) values forms texts =
+    and_from (is_registered d) (list_all is_registered ds)
+    (registered d (values d (is_first d ds)) (forms d (is_first d ds)) (texts d (is_first d ds)))
+    (all_registered ds (λ e c. values e (is_later d e ds c)) (λ e c. forms e (is_later d e ds c)) (λ e c. texts e (is_later d e ds c)))
+
+each_registered : (ds : List Document) → list_all is_registered ds ≡ true → (d : Document) → Contains ds d → IsRegistered d
+each_registered ds all d c = from_test d (all_pass_in is_registered ds d all (in_from_contains ds d c))
+
+pub are_registered : (search : Search) (ds : List Document) → AreKept search ds → list_all is_registered ds ≡ true → AreRegistered search ds
+are_registered search ds kept all = record {
+  kept = kept;
+  body_values = λ d c. (each_registered ds all d c).value;
+  base_forms = λ d c. (each_registered ds all d c).form;
+  base_texts = λ d c. (each_registered ds all d c).text;
+}
+
+-- ---- from request to request
+pub still_registered : (g h : Registry) (q : Request) (r : Reply) → IsKept regular_search g → PutsText q → list_all is_registered (documents_seen g) ≡ true
+    → IsAnswer regular_search g q r h → list_all is_registered (documents_seen h) ≡ true
+still_registered g h q r kept text all (inl s) =
+    let each = each_registered (documents_seen g) all in
+    subst (λ i. list_all is_registered (documents_seen i) ≡ true) (sym s.1)
+    (all_registered (documents_seen (step regular_search g q).1)
+    (values_kept regular_search g q kept (λ d c. (each d c).value))
+    (bases_kept regular_search g q kept (λ d c. (each d c).form))
+    (steps_keep_base_texts regular_search g q kept text (λ d c. (each d c).text)))
+still_registered g h q r kept text all (inr s) = subst (λ i. list_all is_registered (documents_seen i) ≡ true) (sym s.1) all
+
+pub library_registered : (bytes : Text) (library : List Document) → library_of regular_search bytes ≡ Ok library → list_all is_registered library ≡ true
+library_registered bytes library e =
+    let kept = library_kept regular_search bytes library e in
+    all_registered library kept.1.0 kept.1.1 (libraries_have_base_texts regular_search bytes library e)
+
+pub first_registered : (g : Registry) (library : List Document) (t : Tenant) → g ≡ empty_registry library t → Ascend library → list_all is_registered library ≡ true
+    → list_all is_registered (documents_seen g) ≡ true
+first_registered g library t e ascend all =
+    ap (λ h. list_all is_registered (documents_seen h)) e ∙ ap (list_all is_registered) (joined_alone library ascend) ∙ all

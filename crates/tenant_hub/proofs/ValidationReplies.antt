@@ -1,0 +1,68 @@
+-- What a validation replies, by what its parts answer.
+use Rattle.std.proofs.Common.{◌≡◌, List, Bool, None, Some, Result, Ok, Err, refl, sym, ap, ◌∙◌, inl}
+use Rattle.definitions.specs.Answers.{answer, output_text}
+use Rattle.definitions.specs.Applied.{Outcome}
+use Rattle.definitions.specs.Faults.{Fault}
+use Rattle.definitions.specs.Patterns.{regular_search, has_match}
+use Rattle.definitions.specs.Reach.{reach}
+use Rattle.definitions.specs.Registries.{Registry, Reply, validate, validated, refused, documents_seen, for_base, for_value, body_value, validation, answered}
+use Rattle.definitions.specs.Resolution.{base_form}
+use Rattle.definitions.specs.Runs.{IsAnswer}
+use Rattle.definitions.specs.Schemas.{Document}
+use Rattle.definitions.specs.Values.{Text, Value}
+use Rattle.evaluator.specs.Reports.{reported}
+use Rattle.linker.specs.LinkFaults.{link_fault}
+use Rattle.tenant_hub.specs.SourceReplies.{validation_over}
+use Rattle.tenant_hub.proofs.LinkedReplies.{links, links_not}
+
+-- ---- what is evaluated
+both_same : {X Y : Type 0} {x y : X} → ◌≡◌ {A = Result X Y} (Ok x) (Ok y) → x ≡ y
+both_same e = cc
+
+shown : (o : Result Outcome Fault) (valid : Bool) (t : Text) → reported o ≡ Ok (valid, t) → answered o ≡ validated t
+shown (Ok o) valid t e = let pairs : ◌≡◌ {A = Bool × Text} (o.valid, output_text o) (valid, t) = both_same e in ap (λ (p : Bool × Text). validated p.1) pairs
+shown (Err f) valid t e = cc
+
+-- ---- one validation, by its four parts
+module _ (ds : List Document) (base : Result Text Fault) (body : Result Value Fault) where
+  pub bad_base : (f : Fault) → base ≡ Err f → validation_over ds base body ≡ refused f
+  unfolding validation_over
+  bad_base f e = ap (λ b. validation_over ds b body) e
+
+  pub bad_body : (b : Text) (f : Fault) → base ≡ Ok b → body ≡ Err f → validation_over ds base body ≡ refused f
+  unfolding validation_over
+  bad_body b f e h = ap (λ b. validation_over ds b body) e ∙ ap (validation_over ds (Ok b)) h
+
+  both : (b : Text) (x : Value) → base ≡ Ok b → body ≡ Ok x → validation_over ds base body ≡ validation regular_search b x (reach ds b)
+  unfolding validation_over
+  both b x e h = ap (λ b. validation_over ds b body) e ∙ ap (validation_over ds (Ok b)) h
+
+  pub unlinked : (b : Text) (x : Value) (f : Fault) → base ≡ Ok b → body ≡ Ok x → link_fault (reach ds b) ≡ Some f → validation_over ds base body ≡ refused f
+  unlinked b x f e h none = both b x e h ∙ links_not (reach ds b) f (answered (answer has_match (reach ds b) b x)) none
+
+  pub evaluated : (b : Text) (x : Value) (reached : List Document) (uri : Text) (valid : Bool) (t : Text) → base ≡ Ok b → body ≡ Ok x → link_fault (reach ds b) ≡ None
+      → reached ≡ reach ds b → uri ≡ b → reported (answer has_match reached uri x) ≡ Ok (valid, t) → validation_over ds base body ≡ validated t
+  evaluated b x reached uri valid t e h none r u says =
+      both b x e h ∙ links (reach ds b) (answered (answer has_match (reach ds b) b x)) none
+      ∙ shown (answer has_match (reach ds b) b x) valid t (
+      ap (λ rs. reported (answer has_match rs b x)) (sym r) ∙ ap (λ k. reported (answer has_match reached k x)) (sym u) ∙ says)
+
+  pub unevaluated : (b : Text) (x : Value) (reached : List Document) (uri : Text) (f : Fault) → base ≡ Ok b → body ≡ Ok x → link_fault (reach ds b) ≡ None
+      → reached ≡ reach ds b → uri ≡ b → answer has_match reached uri x ≡ Err f → validation_over ds base body ≡ refused f
+  unevaluated b x reached uri f e h none r u says =
+      both b x e h ∙ links (reach ds b) (answered (answer has_match (reach ds b) b x)) none
+      ∙ ap answered (ap (λ rs. answer has_match rs b x) (sym r) ∙ ap (λ k. answer has_match reached k x) (sym u) ∙ says)
+
+-- ---- as a step
+step_over : (g : Registry) (base : Result Text Fault) (v : Result Value Fault)
+    → for_base g base (λ b. for_value g v (λ x. (validation regular_search b x (reach (documents_seen g) b), g))) ≡ (validation_over (documents_seen g) base v, g)
+unfolding validation_over
+step_over g (Ok b) (Ok x) = refl
+step_over g (Ok b) (Err f) = refl
+step_over g (Err e) v = refl
+
+pub validation_answer : (g : Registry) (ds : List Document) (uri body : Text) (r : Reply) → documents_seen g ≡ ds → validation_over ds (base_form uri) (body_value body) ≡ r
+    → IsAnswer regular_search g (validate uri body) r g
+validation_answer g ds uri body r e says =
+    let made = step_over g (base_form uri) (body_value body) in
+    inl (sym says ∙ ap (λ es. validation_over es (base_form uri) (body_value body)) (sym e) ∙ sym (ap (λ x. x.0) made), sym (ap (λ x. x.1) made))

@@ -1,0 +1,83 @@
+//! What a tenant is answered by its own registry.
+
+ghost use Rattle.std.specs.Prelude.{◌≡◌, true, string_bytes};
+ghost use Rattle.std.specs.List.{list_all};
+ghost use Rattle.definitions.specs.Patterns.{regular_search};
+ghost use Rattle.definitions.specs.Runs.{IsAnswer};
+ghost use Rattle.definitions.specs.Values.{same_text};
+ghost use Rattle.linker.specs.ListedDocuments.{listed_documents};
+ghost use Rattle.requests.specs.Views.{request_view, reply_view};
+ghost use Rattle.tenants_file.specs.Tenants.{tenant_view};
+ghost use Rattle.tenant_hub.specs.RegisteredDocuments.{is_registered};
+ghost use Rattle.tenant_documents.specs.Registries.{registry_view};
+ghost use Rattle.tenant_hub.specs.KeyedRegistries.{keyed_view, new_registry, place_of};
+
+use crate::bundling::bundle_reply;
+use crate::keyed_registry::KeyedRegistry;
+use crate::validating::validation_reply;
+use linker::ListSource;
+use requests::{Reply, Request};
+use shared_cache::Cache;
+use std::alloc::Global;
+use std::rc::Rc;
+use tenant_documents::Registry;
+use tenants_file::Tenant;
+
+impl KeyedRegistry {
+    // The registry of a tenant before its first request.
+    pub(crate) fn new(alloc: Global, tenant: Tenant, library: Rc<ListSource>) -> KeyedRegistry
+        requires { list_all is_registered (listed_documents library.value) ≡ true }
+        ensures { keyed_view result ≡ new_registry (listed_documents library.value) (tenant_view tenant) }
+    {
+        KeyedRegistry {
+            key: tenant.key,
+            registry: Registry::new(library, tenant.documents, tenant.bytes, alloc),
+        }
+    }
+
+    // Answers one request of the tenant.
+    pub(crate) fn answer(&mut self, alloc: Global, cache: &mut Cache, request: &Request) -> Reply
+        ensures key { string_bytes self.new.key ≡ string_bytes self.old.key }
+        ensures answer { IsAnswer regular_search (registry_view self.old.registry)
+            (request_view request.now) (reply_view result) (registry_view self.new.registry) }
+    {
+        answer_of(&mut self.registry, alloc, cache, request)
+    }
+
+    fn has_key(&self, key: &str) -> bool
+        ensures { result ≡ same_text key.now (string_bytes self.now.key) }
+    {
+        key == self.key.as_str()
+    }
+}
+
+fn answer_of(registry: &mut Registry, alloc: Global, cache: &mut Cache, request: &Request) -> Reply
+    ensures { IsAnswer regular_search (registry_view registry.old)
+        (request_view request.now) (reply_view result) (registry_view registry.new) }
+{
+    match request {
+        Request::Put(uri, body) => registry.put(alloc, cache, uri.as_str(), body.as_slice()),
+        Request::Delete(uri) => registry.delete(alloc, uri.as_str()),
+        Request::Validate(uri, body) => {
+            let mut source = registry.source(cache);
+            validation_reply(alloc, &mut source, uri.as_str(), body.as_slice())
+        }
+        Request::Bundle(uri) => {
+            let mut source = registry.source(cache);
+            bundle_reply(alloc, &mut source, uri.as_str())
+        }
+        Request::Batch(body) => registry.put_all(alloc, cache, body.as_slice()),
+    }
+}
+
+// The place of the tenant with this key.
+pub(crate) fn place_of(registries: &[KeyedRegistry], key: &str) -> Option<usize>
+    ensures { result ≡ place_of key.now 0 registries.now }
+{
+    for (place, registry) in registries.iter().enumerate() {
+        if registry.has_key(key) {
+            return Some(place);
+        }
+    }
+    None
+}

@@ -1,0 +1,192 @@
+//! The registries of all tenants.
+
+ghost use Rattle.std.specs.Prelude.{◌≡◌, ◌≢◌, [], false, true, Ok, Err, IfOk, IfErr, OnErr, map};
+ghost use Rattle.std.specs.List.{list_all};
+ghost use Rattle.definitions.specs.Batches.{library_of};
+ghost use Rattle.definitions.specs.Caches.{is_capacity};
+ghost use Rattle.definitions.specs.Patterns.{regular_search};
+ghost use Rattle.definitions.specs.Services.{IsCallAnswer, CallCourse};
+ghost use Rattle.definitions.specs.Tenants.{new_server, empty_registries};
+ghost use Rattle.definition_laws.specs.Laws.{IsRefused};
+ghost use Rattle.definition_laws.specs.Services.{AreAllKept};
+ghost use Rattle.faults.specs.View.{fault};
+ghost use Rattle.linker.specs.ListedDocuments.{listed_documents};
+ghost use Rattle.requests.specs.Views.{request_view, reply_view};
+ghost use Rattle.tenants_file.specs.Tenants.{tenant_view};
+ghost use Rattle.tenant_hub.specs.Calls.{call_view};
+ghost use Rattle.tenant_hub.specs.Hubs.{hub_registries};
+ghost use Rattle.tenant_hub.specs.KeyedRegistries.{keyed_view, new_registry};
+ghost use Rattle.tenant_hub.specs.Isolation.{HaveOwnCourses, HaveOwnReplies, RefuseUnknownKeys};
+ghost use Rattle.tenant_hub.specs.RefusedServers.{IsRefusedServer};
+ghost use Rattle.tenant_hub.specs.RegisteredDocuments.{is_registered};
+ghost use Rattle.tenant_hub.specs.ServedBundles.{AnswersAlone};
+
+use crate::answering::place_of;
+use crate::keyed_registry::KeyedRegistry;
+use definition_laws::{
+    courses_go_on, tenants_have_their_courses, tenants_have_their_replies,
+    unknown_keys_stay_unknown,
+};
+use linker::ListSource;
+use requests::{Fault, Reply, Request};
+use shared_cache::Cache;
+use std::alloc::Global;
+use std::rc::Rc;
+use tenant_documents::library_of;
+use tenants_file::{Tenant, server_fault};
+
+/// The registries of all tenants, over one library, and one cache of compiled documents that they share. No reply depends
+/// on what the cache keeps.
+///
+/// Contracts see them as the definitions' list of registries with their keys, by `hub_registries`.
+#[derive(Drop)]
+pub struct Hub {
+    registries: Vec<KeyedRegistry>,
+    cache: Cache,
+}
+
+impl Hub {
+    /// A registry without documents for each tenant.
+    ///
+    /// The first of these faults is answered: `BadCapacity` where the capacity is outside 1 to 4096, `TooManyTenants` above
+    /// 64 tenants, `BadTenants` where a key isn't 1 to 64 characters from 0x21 to 0x7E, `DuplicateTenant` where two tenants
+    /// have one key. `NoRoom` may take the place of any answer.
+    pub fn new(alloc: Global, tenants: Vec<Tenant>, capacity: usize) -> Result<Hub, Fault>
+        ensures ok { IfOk result (λ h.
+            new_server (map tenant_view tenants.items) capacity (Ok []) ≡ Ok (hub_registries h)) }
+        ensures err { IfErr result (λ f. f ≢ Fault.NoRoom
+            → new_server (map tenant_view tenants.items) capacity (Ok []) ≡ Err (fault f)) }
+    {
+        match server_fault(&tenants, capacity) {
+            Some(fault) => Err(fault),
+            None => over_library(alloc, tenants, capacity, ListSource::new(alloc)),
+        }
+    }
+
+    /// The same over a library, which a batch gives: its documents are seen by every tenant, and no request changes them.
+    ///
+    /// After the faults of [`Hub::new`] come those of the batch, the first of these: `TooLarge` above 1,048,576 bytes,
+    /// `BadJson`, `BadNumber`, `BadBatch`; of each entry in turn `BadUri`, those of a scan and `BadPattern`; `SameDocument`
+    /// with the least canonical URI that two entries have; `Taken` with the least resource URI that two of its documents
+    /// have. `NoRoom` may take the place of any answer, and `BadPattern` may be for a pattern that can be read and is too big
+    /// once it is built.
+    pub fn with_library(
+        alloc: Global,
+        tenants: Vec<Tenant>,
+        capacity: usize,
+        batch: &[u8],
+    ) -> Result<Hub, Fault>
+        ensures ok { IfOk result (λ h. new_server (map tenant_view tenants.items) capacity
+            (library_of regular_search batch.now) ≡ Ok (hub_registries h)) }
+        ensures err { IfErr result (λ f. f ≢ Fault.NoRoom
+            → IsRefusedServer (map tenant_view tenants.items) capacity batch.now (fault f)) }
+    {
+        match server_fault(&tenants, capacity) {
+            Some(fault) => Err(fault),
+            None => over_library(alloc, tenants, capacity, library_of(alloc, batch)?),
+        }
+    }
+
+    /// Answers one request of the tenant with this key, by its own registry alone. A refused request changes nothing.
+    ///
+    /// Each registry stays within its quotas, and its documents and the library's stay without a fault, no two of them with
+    /// a resource of one URI. A bundle that is replied (JSON Schema 2020-12 Core, section 9.3) answers alone: put under any
+    /// URI into an empty registry that has room for it, and no library, it gets each instance the output that the tenant's
+    /// registry gives it, byte for byte.
+    ///
+    /// `UnknownTenant` is for a key that no tenant has, and takes no memory; want of memory is answered as `NoRoom`.
+    pub fn apply(&mut self, alloc: Global, key: &str, request: &Request) -> Reply
+        ensures answer { IsCallAnswer regular_search (hub_registries self.old)
+            (key.now, request_view request.now) (reply_view result) (hub_registries self.new) }
+        ensures refused { IsRefused (reply_view result)
+            → hub_registries self.new ≡ hub_registries self.old }
+        ensures kept { AreAllKept regular_search (hub_registries self.new) }
+        ensures alone { AnswersAlone (hub_registries self.old)
+            (key.now, request_view request.now) (reply_view result) }
+    {
+        match place_of(&self.registries, key) {
+            Some(place) => self.registries[place].answer(alloc, &mut self.cache, request),
+            None => Reply::Refused(Fault::UnknownTenant),
+        }
+    }
+
+    /// Answers requests of many tenants in turn, each with its tenant's key.
+    ///
+    /// Whatever the other tenants ask, a tenant's replies are a course of its own requests from its own registry; where
+    /// none of them is refused for room, they are the replies to its own requests alone. The only error is `NoRoom`, and
+    /// then nothing was applied.
+    pub fn run(&mut self, alloc: Global, calls: &[(String, Request)]) -> Result<Vec<Reply>, Fault>
+        ensures course { IfOk result (λ rs. CallCourse regular_search (hub_registries self.old)
+            (map call_view calls.now) (map reply_view rs.items) (hub_registries self.new)) }
+        ensures own_courses { IfOk result (λ rs. HaveOwnCourses (hub_registries self.old)
+            (map call_view calls.now) (map reply_view rs.items) (hub_registries self.new)) }
+        ensures own_replies { IfOk result (λ rs. HaveOwnReplies (hub_registries self.old)
+            (map call_view calls.now) (map reply_view rs.items)) }
+        ensures unknown { IfOk result (λ rs. RefuseUnknownKeys (hub_registries self.old)
+            (map call_view calls.now) (map reply_view rs.items)) }
+        ensures room { IfErr result (λ f. f ≡ Fault.NoRoom) }
+        ensures unchanged { OnErr result (hub_registries self.new ≡ hub_registries self.old) }
+    {
+        tenants_have_their_courses();
+        tenants_have_their_replies();
+        unknown_keys_stay_unknown();
+        self.replies_of(alloc, calls)
+    }
+
+    fn replies_of(
+        &mut self,
+        alloc: Global,
+        calls: &[(String, Request)],
+    ) -> Result<Vec<Reply>, Fault>
+        ensures course { IfOk result (λ rs. CallCourse regular_search (hub_registries self.old)
+            (map call_view calls.now) (map reply_view rs.items) (hub_registries self.new)) }
+        ensures room { IfErr result (λ f. f ≡ Fault.NoRoom) }
+        ensures unchanged { OnErr result (hub_registries self.new ≡ hub_registries self.old) }
+    {
+        courses_go_on();
+        let mut replies = Vec::with_capacity(alloc, calls.len())?;
+        for call in calls {
+            let reply = self.apply(alloc, call.0.as_str(), &call.1);
+            match replies.push(reply) {
+                Ok(()) => {}
+                Err(_) => unreachable!(),
+            }
+        }
+        Ok(replies)
+    }
+}
+
+// Registries without documents beside this library, for tenants that a server isn't refused for.
+fn over_library(
+    alloc: Global,
+    tenants: Vec<Tenant>,
+    capacity: usize,
+    library: ListSource,
+) -> Result<Hub, Fault>
+    requires { list_all is_registered (listed_documents library) ≡ true }
+    ensures ok { IfOk result (λ h. hub_registries h
+        ≡ empty_registries (listed_documents library) (map tenant_view tenants.items)) }
+    ensures err { IfErr result (λ f. f ≢ Fault.NoRoom → is_capacity capacity ≡ false) }
+{
+    let library = Rc::new(alloc, library)?;
+    let registries = new_registries(alloc, tenants, &library)?;
+    let cache = Cache::new(alloc, capacity)?;
+    Ok(Hub { registries, cache })
+}
+
+fn new_registries(
+    alloc: Global,
+    tenants: Vec<Tenant>,
+    library: &Rc<ListSource>,
+) -> Result<Vec<KeyedRegistry>, Fault>
+    requires { list_all is_registered (listed_documents library.now.value) ≡ true }
+    ensures ok { IfOk result (λ rs. map keyed_view rs.items
+        ≡ map (λ t. new_registry (listed_documents library.now.value) (tenant_view t)) tenants.items) }
+    ensures err { IfErr result (λ f. f ≡ Fault.NoRoom) }
+{
+    let mut registries = Vec::with_capacity(alloc, tenants.len())?;
+    for tenant in tenants {
+        registries.push(KeyedRegistry::new(alloc, tenant, library.clone()?))?;
+    }
+    Ok(registries)
+}

@@ -1,0 +1,5 @@
+mod Walks
+pub mod Written
+pub mod Exchanged
+pub mod Turned
+pub mod Ended

@@ -1,0 +1,35 @@
+use Rattle.std.proofs.Common.{[], ◌∙◌, refl, arith, inl, inr}
+use Rattle.http_definitions.specs.Connections.{holding}
+use Rattle.serving.proofs.Exchanged.{reads_nothing}
+use Rattle.serving.proofs.exchanges.exchange.Goals as goal
+
+pub loop-reads-init : goal.loop-reads-init
+loop-reads-init g c =
+    record { told = ([], c.requires, reads_nothing g.H.Handler.answers _, refl); others = λ k other. refl; within = omega arith }
+
+pub loop-reads-preserved : goal.loop-reads-preserved
+loop-reads-preserved g c =
+    let before = c.loop-reads.invariant in
+    let turned = rw c.in-Ok-Goes.field-0-is at c.in-Ok-Goes.ensures.turned in
+    let on = turned _ before.told.0 before.told.1 before.told.2 in
+    record {
+      told = (on.0, on.1, on.2, omega (arith, on.3, before.told.3));
+      others = λ k other. c.in-Ok-Goes.ensures.others k other ∙ before.others k other;
+      within = omega (arith, c.loop-reads-test.true);
+    }
+
+pub returns-in-Ok-Ends-clause-exchanged : goal.returns-in-Ok-Ends-clause-exchanged
+returns-in-Ok-Ends-clause-exchanged g c =
+    let before = c.loop-reads.invariant in
+    let turned = rw c.in-Ok-Ends.field-0-is at c.in-Ok-Ends.ensures.turned in
+    turned _ before.told.0 before.told.1 before.told.2
+
+pub returns-in-Err-clause-exchanged : goal.returns-in-Err-clause-exchanged
+returns-in-Err-clause-exchanged g c =
+    let before = c.loop-reads.invariant in
+    inl (c.in-Err.ensures.turned _ before.told.0 before.told.1 before.told.2)
+
+pub returns-clause-exchanged : goal.returns-clause-exchanged
+returns-clause-exchanged g c =
+    let before = c.loop-reads.invariant in
+    inr (refl, (holding before.told.0, before.told.2, omega (arith, before.told.3, before.within, c.loop-reads-test.false)))

@@ -1,0 +1,9 @@
+pub mod Transfers
+pub mod Codes
+pub mod Notes
+pub mod Streams
+pub mod Memory
+pub mod Writing
+pub mod Exchanges
+pub mod Turns
+pub mod Serving

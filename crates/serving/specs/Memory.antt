@@ -1,0 +1,11 @@
+-- The transfers of readers and writers over memory.
+use Rattle.std.specs.Prelude.{List}
+use Rattle.serving.specs.Transfers.{Transfer}
+use Rattle.serving.specs.declared.memory.MemoryReader.{MemoryReader}
+use Rattle.serving.specs.declared.memory.MemoryWriter.{MemoryWriter}
+
+abbrev pub reads_of : MemoryReader → List Transfer
+reads_of s = s.log.transfers
+
+abbrev pub writes_of : MemoryWriter → List Transfer
+writes_of s = s.log.transfers

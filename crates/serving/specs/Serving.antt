@@ -1,0 +1,31 @@
+-- What a connection from its start to its end comes to.
+use Rattle.std.specs.Prelude.{◌≡◌, ◌⊎◌, ℕ, List, [], Option, Some, None, Result, Ok, Err, length}
+use Rattle.http_definitions.specs.Connections.{Answers, Connection}
+use Rattle.faults.specs.declared.Fault.{Fault}
+use Rattle.faults.specs.declared.Fault.TheVariants.{IdInUse, ReadBound}
+use Rattle.serving.specs.Transfers.{Transfer}
+use Rattle.serving.specs.Exchanges.{Wire, Tells, TellsAll, HasEnded, BreaksOff}
+
+abbrev pub most_reads : ℕ
+most_reads = 65536
+
+-- so many reads came to no end
+abbrev pub ReachesBound : {S : Type 0} → Answers S → Wire S → Wire S → Type 0
+ReachesBound answers before after =
+    (now : Connection) × (x : Tells answers before [] now after) × (length x.0.pieces ≡ most_reads)
+
+abbrev pub IsCutOff : {S : Type 0} → Answers S → Wire S → Fault → Wire S → Type 0
+IsCutOff answers before f after = BreaksOff answers before f after ⊎ ((f ≡ ReadBound) × ReachesBound answers before after)
+
+-- all but what is told at the end of the stream
+abbrev pub IsExchanged : {S : Type 0} → Answers S → Wire S → Result (Unit {0}) Fault → Option Connection → Wire S → Type 0
+IsExchanged answers before (Ok u) c after =
+    (now : Connection) × (last : List Transfer) × (c ≡ Some now) × HasEnded last now × Tells answers before last now after
+IsExchanged answers before (Err f) c after = IsCutOff answers before f after
+
+-- a connection with an id that isn't in use is served
+abbrev pub IsServed : {S : Type 0} → Answers S → Option Connection → Wire S → Result (Unit {0}) Fault → Wire S → Type 0
+IsServed answers (Some c) before result after = (result ≡ Err IdInUse) × (after ≡ before)
+IsServed answers None before (Ok u) after =
+    (now : Connection) × (last : List Transfer) × HasEnded last now × TellsAll answers before last now after
+IsServed answers None before (Err f) after = IsCutOff answers before f after

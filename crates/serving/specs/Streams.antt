@@ -1,0 +1,7 @@
+-- The transfers of a reader or a writer of std.
+use Rattle.std.specs.Prelude.{List}
+use Rattle.serving.specs.Transfers.{Transfer}
+use Rattle.serving.specs.declared.recorded.Recorded.{Recorded}
+
+abbrev pub transfers_of : {S : Type 0} → Recorded S → List Transfer
+transfers_of s = s.log.transfers

@@ -1,0 +1,18 @@
+-- What the calls of a reader or a writer moved.
+use Rattle.std.specs.Prelude.{ℕ, List, [], ◌∷◌, ◌++◌, Option, Some, None, Result, Ok, Err, take}
+use Rattle.definitions.specs.Values.{Text}
+
+-- the bytes that a call moved; none where it failed
+abbrev pub Transfer : Type 0
+Transfer = Option Text
+
+-- all bytes of some calls, in order
+abbrev pub transferred : List Transfer → Text
+transferred [] = []
+transferred (None ∷ ts) = transferred ts
+transferred (Some bytes ∷ ts) = bytes ++ transferred ts
+
+-- what a call moved of these bytes
+abbrev pub transfer_of : {E : Type 0} → Result ℕ E → Text → Transfer
+transfer_of (Ok n) bytes = Some (take n bytes)
+transfer_of (Err e) bytes = None

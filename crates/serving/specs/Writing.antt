@@ -1,0 +1,29 @@
+-- What is written.
+use Rattle.std.specs.Prelude.{◌≡◌, ◌⊎◌, List, [], ◌∷◌, ◌++◌, Some, None, Result, Ok, Err}
+use Rattle.definitions.specs.Values.{Text}
+use Rattle.faults.specs.declared.Fault.{Fault}
+use Rattle.faults.specs.declared.Fault.TheVariants.{WriteFailed}
+use Rattle.serving.specs.Transfers.{Transfer, transferred}
+
+-- all of these bytes
+pub record Writes (before : List Transfer) (bytes : Text) (after : List Transfer) : Type 0 where
+  pub writes : List Transfer
+  pub on : after ≡ before ++ writes
+  pub whole : transferred writes ≡ bytes
+
+-- a write that failed, or took none of some bytes
+abbrev pub IsBroken : Transfer → Type 0
+IsBroken t = (t ≡ None) ⊎ (t ≡ Some [])
+
+-- a first part of these bytes, up to a broken write
+pub record WritesSome (before : List Transfer) (bytes : Text) (after : List Transfer) : Type 0 where
+  pub writes : List Transfer
+  pub last : Transfer
+  pub on : after ≡ before ++ (writes ++ (last ∷ []))
+  pub rest : Text
+  pub part : bytes ≡ transferred writes ++ rest
+  pub broken : IsBroken last
+
+abbrev pub IsWriting : List Transfer → Text → Result (Unit {0}) Fault → List Transfer → Type 0
+IsWriting before bytes (Ok u) after = Writes before bytes after
+IsWriting before bytes (Err f) after = (f ≡ WriteFailed) × WritesSome before bytes after

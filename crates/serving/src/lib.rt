@@ -1,0 +1,19 @@
+//! Connections served by readers and writers.
+#![tactic(auto)]
+
+mod broken;
+mod exchanges;
+mod log;
+mod memory;
+mod pieces;
+mod recorded;
+mod served;
+mod streams;
+mod writing;
+
+pub use broken::Broken;
+pub use faults::Fault;
+pub use memory::{MemoryReader, MemoryWriter, Pace, Pause};
+pub use recorded::Recorded;
+pub use served::serve;
+pub use streams::{ByteReader, ByteWriter};

@@ -1,0 +1,4 @@
+pub mod Viewed
+pub mod Calls
+pub mod Refused
+pub mod Libraries

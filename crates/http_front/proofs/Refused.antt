@@ -1,0 +1,30 @@
+-- A server that is refused.
+use Rattle.std.proofs.Common.{◌≡◌, ◌≢◌, ◌⊎◌, List, [], Result, Ok, Err, refl, inl, inr}
+use Rattle.definitions.specs.Faults as meaning
+use Rattle.definitions.specs.Services.{KeyedRegistry}
+use Rattle.faults.specs.View.{fault}
+use Rattle.faults.specs.declared.Fault.{Fault}
+use Rattle.faults.specs.declared.Fault.TheVariants.{NoRoom}
+use Rattle.http_definitions.specs.Connections.{holding}
+use Rattle.serving.specs.Transfers.{Transfer}
+use Rattle.serving.specs.Exchanges.{wire}
+use Rattle.serving.proofs.Exchanged.{reads_nothing}
+use Rattle.http_front.specs.HubAnswers.{call_answers}
+use Rattle.http_front.specs.Running.{IsHubServed, IsRun}
+
+pub is_no_room : (f : Fault) → (f ≡ NoRoom) ⊎ (f ≢ NoRoom)
+is_no_room NoRoom = inl refl
+is_no_room f = inr (λ e. cc e)
+
+pub refused_run : (server : Result (List KeyedRegistry) meaning.Fault) (reads writes : List Transfer) (f : Fault)
+    → (f ≢ NoRoom → server ≡ Err (fault f)) → IsRun server reads writes (Err f) reads writes
+refused_run (Err g) reads writes f why = ((λ other. cc (why other)), refl, refl)
+refused_run (Ok ks) reads writes f why = elim (is_no_room f) [
+  | inl e ↦ (ks, inl (inr (inr (e, inl (holding [], [], reads_nothing call_answers (wire ks reads writes))))))
+  | inr e ↦ absurd (cc (why e))
+]
+
+pub run_of : (server : Result (List KeyedRegistry) meaning.Fault) (ks : List KeyedRegistry) (reads writes more others : List Transfer) (r : Result (Unit {0}) Fault)
+    → server ≡ Ok ks → IsHubServed ks reads writes r more others → IsRun server reads writes r more others
+run_of (Err g) ks reads writes more others r e x = absurd (cc e)
+run_of (Ok ls) ks reads writes more others r e x = let same : ls ≡ ks = cc e in rw same x

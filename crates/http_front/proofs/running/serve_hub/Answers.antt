@@ -1,0 +1,24 @@
+use Rattle.std.proofs.Common.{List, None, Option, subst, ◌∙◌, ap}
+use Rattle.definitions.specs.Services.{KeyedRegistry}
+use Rattle.http_definitions.specs.Connections.{Connection}
+use Rattle.connections.specs.Connected.{handler_of}
+use Rattle.serving.specs.Exchanges.{wire}
+use Rattle.serving.specs.Serving.{IsServed}
+use Rattle.http_front.specs.HubAnswers.{registries_of, call_answers, hub_answers}
+use Rattle.http_front.proofs.Viewed.{served_viewed}
+use Rattle.http_front.proofs.running.serve_hub.Goals as goal
+
+pub returns : goal.returns
+returns g c =
+    let sessions = c.new-sessions.result in
+    let reads = g.R.ByteReader.reads c.args.reader.now in
+    let writes = g.W.ByteWriter.writes c.args.writer.now in
+    let more = g.R.ByteReader.reads c.serve.new.reader in
+    let others = g.W.ByteWriter.writes c.serve.new.writer in
+    let served = subst (λ (k : Option Connection). IsServed hub_answers k (wire (handler_of sessions) reads writes) c.serve.result (wire (handler_of c.serve.new.sessions) more others))
+    (c.new-sessions.ensures.none 1) c.serve.ensures.served in
+    let seen = served_viewed registries_of call_answers _ _ c.serve.result served in (
+      registries_of (handler_of c.serve.new.sessions),
+      subst (λ (ks : List KeyedRegistry). IsServed call_answers None (wire ks reads writes) c.serve.result (wire (registries_of (handler_of c.serve.new.sessions)) more others))
+          (ap registries_of c.new-sessions.ensures.handler ∙ c.new.ensures) seen,
+    )

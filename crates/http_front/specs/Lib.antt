@@ -1,0 +1,5 @@
+pub mod HubAnswers
+pub mod Isolation
+pub mod Servers
+pub mod Running
+pub mod Libraries

@@ -1,0 +1,25 @@
+-- One connection to a new server.
+use Rattle.std.specs.Prelude.{◌≡◌, ◌≢◌, List, None, Result, Ok, Err}
+use Rattle.definitions.specs.Faults as meaning
+use Rattle.definitions.specs.Services.{KeyedRegistry}
+use Rattle.faults.specs.View.{fault}
+use Rattle.faults.specs.declared.Fault.{Fault}
+use Rattle.faults.specs.declared.Fault.TheVariants.{NoRoom}
+use Rattle.serving.specs.Transfers.{Transfer}
+use Rattle.serving.specs.Exchanges.{wire}
+use Rattle.serving.specs.Serving.{IsServed}
+use Rattle.http_front.specs.HubAnswers.{call_answers}
+
+-- the registries answer the connection, from these on
+abbrev pub IsHubServed : List KeyedRegistry → List Transfer → List Transfer → Result (Unit {0}) Fault → List Transfer → List Transfer → Type 0
+IsHubServed ks reads writes result more others =
+    (ls : List KeyedRegistry) × IsServed call_answers None (wire ks reads writes) result (wire ls more others)
+
+abbrev pub IsRefusedBy : meaning.Fault → Result (Unit {0}) Fault → Type 0
+IsRefusedBy f (Ok u) = ⊥
+IsRefusedBy f (Err g) = g ≢ NoRoom → f ≡ fault g
+
+-- a server that is refused reads and writes nothing
+abbrev pub IsRun : Result (List KeyedRegistry) meaning.Fault → List Transfer → List Transfer → Result (Unit {0}) Fault → List Transfer → List Transfer → Type 0
+IsRun (Ok ks) reads writes result more others = IsHubServed ks reads writes result more others
+IsRun (Err f) reads writes result more others = IsRefusedBy f result × (more ≡ reads) × (others ≡ writes)

@@ -184,13 +184,16 @@ spelled_fault _ _ (two_files p s i e f) =
 spelled_fault _ _ (with_uri p u s i d e f) =
     uri_fault p u s i ∙ ap (λ k. or_else (end_fault k (walk_over (uri_words u s i))) []) (uri_turns u s i d e f) ∙ ap (λ w. or_else (end_fault [] w) []) (uri_walk u s i d e f)
 
--- so its only error is the want of memory
-pub memory_alone : (words : List Text) (call : Asked) → Spells words call → (e : Error) → HasKind (fault_of program words) e → kind_of e ≡ OutOfMemory
-memory_alone words call s e h = go (subst (λ kinds. HasKind kinds e) (spelled_fault words call s) h)
+-- where there is no fault, the only error is the want of memory
+pub no_fault : (kinds : Kinds) → kinds ≡ [] → (e : Error) → HasKind kinds e → kind_of e ≡ OutOfMemory
+no_fault kinds none e h = go (subst (λ ks. HasKind ks e) none h)
   where
     go : HasKind [] e → kind_of e ≡ OutOfMemory
     go (inl m) = m
-    go (inr none) = absurd none
+    go (inr found) = absurd found
+
+pub memory_alone : (words : List Text) (call : Asked) → Spells words call → (e : Error) → HasKind (fault_of program words) e → kind_of e ≡ OutOfMemory
+memory_alone words call s e h = no_fault (fault_of program words) (spelled_fault words call s) e h
 
 -- ---- what asks for help or for the version has that fault
 

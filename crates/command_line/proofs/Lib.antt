@@ -1,1 +1,2 @@
 pub mod FormLemmas
+pub mod Numbers

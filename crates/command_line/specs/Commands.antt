@@ -1,24 +1,50 @@
 -- The words that the program takes, in the terms of `clap`'s own definitions.
-use Rattle.std.specs.Prelude.{[], ◌∷◌, Some, true, codes}
+use Rattle.std.specs.Prelude.{◌∷◌, [], Some, true, codes, pos}
 use Rattle.clap.specs.Words.{App, Rule, Text, new_app, new_rule, with_rule, with_subcommand}
 use Rattle.clap.specs.declared.builder.ArgAction.TheVariants.{Set}
-
--- `--uri URI`, with its default
-abbrev pub uri_option : Rule
-uri_option = record (new_rule (codes "uri")) {
-  long = Some (codes "uri");
-  action = Some Set;
-  value_names = 1;
-  defaults = codes "urn:schemareg:root" ∷ [];
-}
+use Rattle.clap.specs.declared.builder.value_parser.ValueParser.TheVariants.{Signed}
 
 -- a word that has to be there
 abbrev pub required_text : Text → Rule
 required_text id = record (new_rule id) { action = Some Set; required = true }
 
+-- `--id VALUE`
+abbrev pub named_option : Text → Rule
+named_option id = record (new_rule id) { long = Some id; action = Some Set; value_names = 1 }
+
+abbrev pub required_option : Text → Rule
+required_option id = record (named_option id) { required = true }
+
+-- `--uri URI`, with its default
+abbrev pub uri_option : Rule
+uri_option = record (named_option (codes "uri")) { defaults = codes "urn:schemareg:root" ∷ [] }
+
+-- `--cache N`, from 1 to 4096, with its default
+abbrev pub cache_option : Rule
+cache_option = record (named_option (codes "cache")) {
+  parser = Some (Signed (pos 1) (pos 4096));
+  defaults = codes "256" ∷ [];
+}
+
+-- `--accept N`, from 1 to 65536
+abbrev pub accept_option : Rule
+accept_option = record (required_option (codes "accept")) { parser = Some (Signed (pos 1) (pos 65536)) }
+
 -- `check [--uri URI] SCHEMA INSTANCE`
 abbrev pub check_command : App
 check_command = with_rule (with_rule (with_rule (new_app (codes "check")) uri_option) (required_text (codes "SCHEMA"))) (required_text (codes "INSTANCE"))
+
+-- `--tenants FILE [--library FILE]`, of the command with this name
+abbrev pub over_registries : Text → App
+over_registries name = with_rule (with_rule (new_app name) (required_option (codes "tenants"))) (named_option (codes "library"))
+
+-- `run --tenants FILE [--library FILE] [--cache N]`
+abbrev pub run_command : App
+run_command = with_rule (over_registries (codes "run")) cache_option
+
+-- `serve --tenants FILE [--library FILE] --listen ADDR --accept N [--cache N]`
+abbrev pub serve_command : App
+serve_command = with_rule (with_rule (with_rule (over_registries (codes "serve")) (required_option (codes "listen"))) accept_option) cache_option
 
 abbrev pub named : App
 named = new_app (codes "schemareg")
@@ -28,4 +54,4 @@ abbrev pub versioned : App
 versioned = record named { top = record named.top { has_version = true } }
 
 abbrev pub program : App
-program = with_subcommand versioned check_command.top
+program = with_subcommand (with_subcommand (with_subcommand versioned check_command.top) run_command.top) serve_command.top

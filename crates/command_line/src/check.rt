@@ -2,12 +2,13 @@
 ghost use Rattle.std.specs.Prelude.{◌≡◌, IfOk, false};
 ghost use Rattle.clap.specs.Words.{app_of, found_of, rows_of, rule_of};
 ghost use Rattle.clap.specs.declared.builder.command.Command.TheViews.{out-Command as fields_of};
-ghost use Rattle.command_line.specs.Commands.{check_command, required_text, uri_option};
+ghost use Rattle.command_line.specs.Commands.{check_command, uri_option};
 ghost use Rattle.command_line.specs.Calls.{asked, check_asked};
 
 use crate::Call;
+use crate::arguments::{named, required};
 use crate::values::value;
-use clap::{Arg, ArgAction, ArgMatches, Command};
+use clap::{Arg, ArgMatches, Command};
 use std::alloc::{AllocError, Global};
 
 /// The option `--uri`, under which the schema stands.
@@ -15,23 +16,7 @@ fn uri<'a>(alloc: Global) -> Arg<'a>
     ensures rule { rule_of result ≡ uri_option }
     ensures local { result.global ≡ false }
 {
-    Arg::new(alloc, "uri")
-        .long("uri")
-        .value_name("URI")
-        .action(ArgAction::Set)
-        .default_value("urn:schemareg:root")
-        .help("The URI of the schema")
-}
-
-/// A word that has to be there.
-fn required<'a>(alloc: Global, id: &'a str, help: &'a str) -> Arg<'a>
-    ensures rule { rule_of result ≡ required_text id.now }
-    ensures local { result.global ≡ false }
-{
-    Arg::new(alloc, id)
-        .required(true)
-        .action(ArgAction::Set)
-        .help(help)
+    named(alloc, "uri", "URI", "The URI of the schema").default_value("urn:schemareg:root")
 }
 
 /// The form's own words.
@@ -43,6 +28,12 @@ pub(crate) fn command<'a>(alloc: Global) -> Result<Command<'a>, AllocError>
     let instance = required(alloc, "INSTANCE", "The file of the instance");
     Command::new(alloc, "check")
         .about("Checks an instance by a schema")
+        .after_help(
+            "Both files are read before either is judged. Standard output gets the Basic output of\n\
+             JSON Schema 2020-12 as one line.\n\n\
+             Status: 0 where the instance is valid, 1 where it isn't, 2 where there is no answer;\n\
+             standard error then says why.",
+        )
         .arg(uri(alloc))?
         .arg(schema)?
         .arg(instance)

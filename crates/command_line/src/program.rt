@@ -1,19 +1,21 @@
 //! The program's own words, and the call that a command line spells.
-ghost use Rattle.std.specs.Prelude.{◌≡◌, [], ◌∷◌, IfOk, map};
-ghost use Rattle.clap.specs.Words.{FailsBy, app_of, fault_of, subcommand_of, subcommand_rows_of};
-ghost use Rattle.command_line.specs.Calls.{Asked, asked, asked_by, call_of};
-ghost use Rattle.command_line.specs.Commands.{program};
+ghost use Rattle.std.specs.Prelude.{◌≡◌, [], ◌∷◌, IfOk, false, map};
+ghost use Rattle.clap.specs.Words.{FailsBy, app_of, fault_of, found_of, rows_of, subcommand_of, subcommand_rows_of};
+ghost use Rattle.command_line.specs.Calls.{Asked, Means, asked, asked_by, call_of, form_asked};
+ghost use Rattle.command_line.specs.Commands.{program, versioned};
+ghost use Rattle.clap.specs.declared.builder.command.Command.TheViews.{out-Command as fields_of};
 ghost use Rattle.command_line.specs.Forms.{Asks, IsCall, Spells};
 
-use crate::{Call, check};
+use crate::{Call, check, run, serve};
 use clap::error::ErrorKind;
 use clap::{ArgMatches, Command, Error};
 use std::alloc::{AllocError, Global};
 use std::convert::AsStr;
 
-/// The program with its forms, its version and what it is in a line.
-fn command<'a>(alloc: Global) -> Result<Command<'a>, AllocError>
-    ensures { IfOk result (λ c. app_of c ≡ program) }
+/// The program with its version and what it is in a line, without its forms.
+fn named<'a>(alloc: Global) -> Command<'a>
+    ensures shape { app_of result ≡ versioned }
+    ensures local { (fields_of result).has_globals ≡ false }
 {
     Command::new(alloc, "schemareg")
         .version("0.1.0")
@@ -21,7 +23,19 @@ fn command<'a>(alloc: Global) -> Result<Command<'a>, AllocError>
         .after_help(
             "Without a command, standard input holds one check: {\"schema\": .., \"instance\": .., \"uri\": ..}",
         )
-        .subcommand(check::command(alloc)?)
+}
+
+/// The program with its forms.
+fn command<'a>(alloc: Global) -> Result<Command<'a>, AllocError>
+    ensures { IfOk result (λ c. app_of c ≡ program) }
+{
+    let check = check::command(alloc)?;
+    let run = run::command(alloc)?;
+    let serve = serve::command(alloc)?;
+    named(alloc)
+        .subcommand(check)?
+        .subcommand(run)?
+        .subcommand(serve)
 }
 
 /// What `clap` finds in `words`.
@@ -32,13 +46,24 @@ fn matches<'a, S: AsStr>(alloc: Global, words: &'a [S]) -> Result<ArgMatches<'a>
     command(alloc)?.try_get_matches_from(words)
 }
 
+/// The call that the words of the form with this name spell.
+fn call_of_form<'a>(name: &str, matches: &ArgMatches<'a>) -> Call<'a>
+    ensures { asked result ≡ form_asked name.now (rows_of (found_of matches.now)) }
+{
+    match name {
+        "run" => run::call(matches),
+        "serve" => serve::call(matches),
+        _ => check::call(matches),
+    }
+}
+
 /// The call of the form that was found, if any.
 fn call<'a>(matches: &ArgMatches<'a>) -> Call<'a>
     ensures { asked result ≡ asked_by (subcommand_rows_of matches.now) }
 {
     match matches.subcommand() {
         None => Call::Input,
-        Some((_check, inner)) => check::call(inner),
+        Some((name, inner)) => call_of_form(name, inner),
     }
 }
 
@@ -52,6 +77,7 @@ pub fn read<'a, S: AsStr>(alloc: Global, words: &'a [S]) -> Result<Call<'a>, Err
         → FailsBy (kind ∷ []) result }
 
     // Of any words, by `clap`'s own definitions.
+    ensures calls { (call : Asked) → Means (map S.text words.now) call → IsCall call result }
     ensures ok { IfOk result (λ call. asked call ≡ call_of (map S.text words.now)) }
     ensures err { FailsBy (fault_of program (map S.text words.now)) result }
 {

@@ -1,6 +1,6 @@
 //! The call of each form, and the text, the stream and the status of what is no call.
 
-use command_line::{Call, read};
+use command_line::{Call, Setup, read};
 use std::process::Abort;
 
 #[test]
@@ -68,6 +68,120 @@ fn shows_help_and_version(rt: HostRuntime) {
         &rt,
         ["schemareg", "--version"].as_slice(),
         "schemareg 0.1.0\n",
+        false,
+    );
+}
+
+#[test]
+fn reads_the_forms_that_serve(rt: HostRuntime) {
+    let alloc = rt.alloc();
+    let words = ["schemareg", "run", "--tenants", "t"];
+    let call = read(alloc, words.as_slice()).expect(&rt, "run with its tenants");
+    let setup = Setup {
+        tenants: "t",
+        library: None,
+        cache: 256,
+    };
+    assert_eq!(rt; call, Call::Run { setup });
+
+    let words = [
+        "schemareg",
+        "run",
+        "--tenants",
+        "t",
+        "--library",
+        "l",
+        "--cache",
+        "4096",
+    ];
+    let call = read(alloc, words.as_slice()).expect(&rt, "run with all its words");
+    let setup = Setup {
+        tenants: "t",
+        library: Some("l"),
+        cache: 4096,
+    };
+    assert_eq!(rt; call, Call::Run { setup });
+
+    let words = [
+        "schemareg",
+        "serve",
+        "--tenants",
+        "t",
+        "--library",
+        "l",
+        "--listen",
+        "127.0.0.1:8080",
+        "--accept",
+        "65536",
+        "--cache",
+        "1",
+    ];
+    let call = read(alloc, words.as_slice()).expect(&rt, "serve with all its words");
+    let setup = Setup {
+        tenants: "t",
+        library: Some("l"),
+        cache: 1,
+    };
+    let listen = "127.0.0.1:8080";
+    assert_eq!(rt;
+        call,
+        Call::Serve {
+            setup,
+            listen,
+            accept: 65536
+        }
+    );
+}
+
+#[test]
+fn refuses_mistakes_in_the_forms_that_serve(rt: HostRuntime) {
+    let cache = "error: invalid value '0' for '--cache <N>': 0 is not in 1..=4096\n\n\
+        For more information, try '--help'.\n";
+    let words = ["schemareg", "run", "--tenants", "t", "--cache", "0"];
+    assert_prints(&rt, words.as_slice(), cache, true);
+    let cache = "error: invalid value '4097' for '--cache <N>': 4097 is not in 1..=4096\n\n";
+    let words = ["schemareg", "run", "--tenants", "t", "--cache", "4097"];
+    assert_prints(&rt, words.as_slice(), cache, true);
+    let missing =
+        "error: the following required arguments were not provided:\n  --tenants <FILE>\n\n";
+    assert_prints(&rt, ["schemareg", "run"].as_slice(), missing, true);
+    let accept = "error: invalid value '65537' for '--accept <N>': 65537 is not in 1..=65536\n\n";
+    let words = [
+        "schemareg",
+        "serve",
+        "--tenants",
+        "t",
+        "--listen",
+        "127.0.0.1:0",
+        "--accept",
+        "65537",
+    ];
+    assert_prints(&rt, words.as_slice(), accept, true);
+    let missing =
+        "error: the following required arguments were not provided:\n  --tenants <FILE>\n  \
+        --listen <ADDR>\n  --accept <N>\n\n";
+    assert_prints(&rt, ["schemareg", "serve"].as_slice(), missing, true);
+}
+
+#[test]
+fn shows_the_help_of_each_form(rt: HostRuntime) {
+    let help =
+        "Checks an instance by a schema\n\nUsage: schemareg check [OPTIONS] <SCHEMA> <INSTANCE>\n";
+    assert_prints(
+        &rt,
+        ["schemareg", "check", "--help"].as_slice(),
+        help,
+        false,
+    );
+    let help = "Serves one HTTP connection on standard input and output\n\n\
+        Usage: schemareg run [OPTIONS] --tenants <FILE>\n";
+    assert_prints(&rt, ["schemareg", "run", "--help"].as_slice(), help, false);
+    let help = "Serves HTTP connections at an address, one after the other\n\n\
+        Usage: schemareg serve [OPTIONS] --tenants <FILE> --listen <ADDR> --accept <N>\n";
+    assert_prints(
+        &rt,
+        ["schemareg", "serve", "--help"].as_slice(),
+        help,
         false,
     );
 }

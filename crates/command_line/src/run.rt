@@ -1,0 +1,38 @@
+//! The form `run --tenants FILE [--library FILE] [--cache N]`.
+ghost use Rattle.std.specs.Prelude.{◌≡◌, IfOk, false};
+ghost use Rattle.clap.specs.Words.{app_of, found_of, rows_of};
+ghost use Rattle.clap.specs.declared.builder.command.Command.TheViews.{out-Command as fields_of};
+ghost use Rattle.command_line.specs.Commands.{run_command};
+ghost use Rattle.command_line.specs.Calls.{asked, run, start_asked};
+
+use crate::Call;
+use crate::arguments::{cache, over_registries};
+use crate::values::setup;
+use clap::{ArgMatches, Command};
+use std::alloc::{AllocError, Global};
+
+/// The form's own words.
+pub(crate) fn command<'a>(alloc: Global) -> Result<Command<'a>, AllocError>
+    ensures shape { IfOk result (λ c. app_of c ≡ run_command) }
+    ensures local { IfOk result (λ c. (fields_of c).has_globals ≡ false) }
+{
+    over_registries(
+        alloc,
+        "run",
+        "Serves one HTTP connection on standard input and output",
+        "Both files are read before either is judged. Standard input holds requests, and standard\n\
+         output gets their replies; the registries end with the connection.\n\n\
+         Status: 0 where the connection ended, also by a reply that closes it, 2 where it couldn't\n\
+         be served; standard error then says why.",
+    )?
+    .arg(cache(alloc))
+}
+
+/// The call that the form's words spell.
+pub(crate) fn call<'a>(matches: &ArgMatches<'a>) -> Call<'a>
+    ensures { asked result ≡ run (start_asked (rows_of (found_of matches.now))) }
+{
+    Call::Run {
+        setup: setup(matches),
+    }
+}

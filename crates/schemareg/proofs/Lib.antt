@@ -1,1 +1,2 @@
 pub mod Mistakes
+pub mod Judged

@@ -1,10 +1,10 @@
 -- Mistakes in the words go to standard error.
-use Rattle.std.proofs.Common.{◌≡◌, ◌||◌, ◌∙◌, ℕ, List, [], ◌∷◌, Bool, true, false, not, Result, Ok, Err, refl, ap, inl, inr}
+use Rattle.std.proofs.Common.{◌≡◌, ◌||◌, ◌∙◌, [], ◌∷◌, Bool, true, false, not, Err, refl, ap, inl, inr}
 use Rattle.std.specs.List.{list_any}
 use Rattle.clap.specs.Words.{IsAmong, Kinds, kind_of}
 use Rattle.clap.specs.declared.error.kind.ErrorKind.{ErrorKind}
 use Rattle.schemareg.specs.declared.stop.Stop.{Stop}
-use Rattle.schemareg.specs.declared.stop.Stop.TheVariants.{Words, NotText, CannotRead, Refused, CannotWrite}
+use Rattle.schemareg.specs.declared.stop.Stop.TheVariants.{Words, NotText, CannotRead, Refused, CannotWrite, CannotListen, CannotAccept}
 use Rattle.schemareg.specs.Stops.{AreMistakes, IsFoundIn, is_error, is_request}
 
 first_false : (a b : Bool) → (a || b) ≡ false → a ≡ false
@@ -29,3 +29,5 @@ mistaken kinds NotText m found = refl
 mistaken kinds (CannotRead name) m found = refl
 mistaken kinds (Refused f) m found = refl
 mistaken kinds CannotWrite m found = refl
+mistaken kinds (CannotListen address) m found = refl
+mistaken kinds CannotAccept m found = refl

@@ -1,5 +1,5 @@
 -- How a check ends.
-use Rattle.std.specs.Prelude.{◌≡◌, ◌≢◌, ◌≤◌, ◌⊎◌, ℕ, ◌++◌, ◌∷◌, [], List, Bool, true, false, Option, Some, None, Result, Ok, Err, IfOk, IfSome, ⊤, codes}
+use Rattle.std.specs.Prelude.{◌≡◌, ◌≢◌, ◌⊎◌, ℕ, ◌++◌, ◌∷◌, [], Bool, true, false, Option, Result, Ok, Err, IfOk, IfSome, ⊤}
 use Rattle.std.specs.Io.KnownBytes.{Appends, Keeps}
 use Rattle.definitions.specs.Faults as meaning
 use Rattle.definitions.specs.Texts.{reading}
@@ -45,6 +45,7 @@ abbrev pub OnCheck : (Text → Option Text) → Option Text → Asked → (Check
 OnCheck files bytes call.input P = IfSome bytes (λ b. P (check_of_input b))
 OnCheck files bytes (call.check uri schema instance) P =
     IfSome (files schema) (λ s. IfSome (files instance) (λ i. P (check_of_texts uri s i)))
+OnCheck files bytes _ P = ⊤
 
 -- The check ends as it was judged, with its output as a line; or it refuses a pattern of the schema. Else something that it
 -- reads or writes failed, or memory ran out. Nothing is written but a report
@@ -64,21 +65,3 @@ abbrev pub IsUnprinted : Option Text → Option Text → Stop → Type 0
 IsUnprinted old new CannotWrite = ⊤
 IsUnprinted old new (Refused f) = (f ≡ NoRoom) × Keeps old new
 IsUnprinted old new _ = ⊥
-
--- ---- whatever is read
-abbrev pub IsNamed : Text → List Text → Type 0
-IsNamed name [] = ⊥
-IsNamed name (n ∷ ns) = (name ≡ n) ⊎ IsNamed name ns
-
--- what a call reads, by name
-abbrev pub names_of : Asked → List Text
-names_of call.input = codes "-" ∷ []
-names_of (call.check uri schema instance) = schema ∷ instance ∷ []
-
--- the status of a check, or why there is none: what cannot be read has one of these names
-abbrev pub EndsReading : List Text → Result ℕ Stop → Type 0
-EndsReading names (Ok status) = status ≤ 1
-EndsReading names (Err (CannotRead name)) = IsNamed name.now names
-EndsReading names (Err (Refused f)) = ⊤
-EndsReading names (Err CannotWrite) = ⊤
-EndsReading names (Err _) = ⊥

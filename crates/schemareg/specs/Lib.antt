@@ -1,2 +1,4 @@
 pub mod Stops
+pub mod Endings
 pub mod Answers
+pub mod Services

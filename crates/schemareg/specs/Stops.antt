@@ -1,5 +1,5 @@
 -- Why the program ends without a report: what is printed, where, and with which status.
-use Rattle.std.specs.Prelude.{◌≡◌, ◌≢◌, ℕ, ◌++◌, ◌∷◌, [], Bool, true, false, not, Option, Some, None, Result, Ok, Err, IfSome, if◌then◌else◌, ⊤, codes}
+use Rattle.std.specs.Prelude.{◌≡◌, ◌≢◌, ◌⊎◌, ℕ, ◌++◌, ◌∷◌, [], List, Bool, true, false, not, Option, Some, None, Result, Ok, Err, IfSome, if◌then◌else◌, ⊤, codes}
 use Rattle.std.specs.Io.KnownBytes.{Appends, Keeps}
 use Rattle.std.specs.List.{list_any}
 use Rattle.definitions.specs.Bytes.{line_feed}
@@ -11,7 +11,7 @@ use Rattle.clap.specs.declared.error.Error.{Error}
 use Rattle.clap.specs.declared.error.kind.ErrorKind.{ErrorKind}
 use Rattle.clap.specs.declared.error.kind.ErrorKind.TheVariants.{DisplayHelp, DisplayVersion, OutOfMemory}
 use Rattle.schemareg.specs.declared.stop.Stop.{Stop}
-use Rattle.schemareg.specs.declared.stop.Stop.TheVariants.{Words, NotText, CannotRead, Refused, CannotWrite}
+use Rattle.schemareg.specs.declared.stop.Stop.TheVariants.{Words, NotText, CannotRead, Refused, CannotWrite, CannotListen, CannotAccept}
 
 -- what is printed, and none where the text is `clap`'s
 abbrev pub text_of : Stop → Option Text
@@ -20,6 +20,8 @@ text_of NotText = Some (codes "error: the command line is not UTF-8" ++ line_fee
 text_of (CannotRead name) = Some (codes "cannot read " ++ name.now ++ line_feed ∷ [])
 text_of (Refused f) = Some (codes "refused: " ++ printed (fault f) ++ line_feed ∷ [])
 text_of CannotWrite = Some (codes "cannot write -" ++ line_feed ∷ [])
+text_of (CannotListen address) = Some (codes "cannot listen on " ++ address.now ++ line_feed ∷ [])
+text_of CannotAccept = Some (codes "cannot accept" ++ line_feed ∷ [])
 
 -- the words ask for help or for the version
 abbrev pub is_request : ErrorKind → Bool
@@ -48,6 +50,17 @@ abbrev pub IsUnread : Text → Stop → Type 0
 IsUnread name (CannotRead n) = n.now ≡ name
 IsUnread name (Refused f) = f ≡ NoRoom
 IsUnread name _ = ⊥
+
+-- what cannot be read has one of these names
+abbrev pub IsNamed : Text → List Text → Type 0
+IsNamed name [] = ⊥
+IsNamed name (n ∷ ns) = (name ≡ n) ⊎ IsNamed name ns
+
+-- something that has one of these names cannot be read, or memory ran out
+abbrev pub IsUnreadAmong : List Text → Stop → Type 0
+IsUnreadAmong names (CannotRead n) = IsNamed n.now names
+IsUnreadAmong names (Refused f) = f ≡ NoRoom
+IsUnreadAmong names _ = ⊥
 
 -- a stream to which the text goes, or not
 abbrev pub Tells : Bool → Option Text → Option Text → Option Text → Type 0

@@ -1,9 +1,10 @@
 //! A check of one text or of two, from reading them to the status.
-ghost use Rattle.std.specs.Prelude.{◌≡◌, ◌++◌, ◌∷◌, [], List, IfOk, IfErr, IfSome, OnOk, codes};
+ghost use Rattle.std.specs.Prelude.{◌≡◌, ◌++◌, ◌∷◌, [], List, None, IfOk, IfErr, IfSome, OnOk, codes};
 ghost use Rattle.std.specs.Io.KnownBytes.{Appends};
 ghost use Rattle.definitions.specs.Values.{Text};
 ghost use Rattle.evaluator.specs.Reports.{is_valid, report_text};
-ghost use Rattle.schemareg.specs.Answers.{EndsBy, EndsReading, IsUnprinted, check_of_input, check_of_texts, check_status};
+ghost use Rattle.schemareg.specs.Endings.{EndsReading};
+ghost use Rattle.schemareg.specs.Answers.{EndsBy, IsUnprinted, check_of_input, check_of_texts, check_status};
 
 use crate::files::Texts;
 use crate::stop::Stop;
@@ -20,7 +21,7 @@ pub fn check_input<'a, I: Read, O: Write>(
 ) -> Result<u8, Stop<'a>>
     ensures ends { IfSome (I.remaining input.old) (λ bytes.
         EndsBy (check_of_input bytes) (O.contents out.old) (O.contents out.new) result) }
-    ensures reading { EndsReading (codes "-" ∷ []) result }
+    ensures reading { EndsReading (codes "-" ∷ []) None result }
 {
     match reading::whole(alloc, input, "-") {
         Ok(bytes) => check_text(alloc, bytes.as_slice(), out),
@@ -32,7 +33,7 @@ pub fn check_input<'a, I: Read, O: Write>(
 fn check_text<'a, O: Write>(alloc: Global, text: &[u8], out: &mut O) -> Result<u8, Stop<'a>>
     ensures ends { EndsBy (check_of_input text.now)
         (O.contents out.old) (O.contents out.new) result }
-    ensures reading { (names : List Text) → EndsReading names result }
+    ensures reading { (names : List Text) → EndsReading names None result }
 {
     let report = checks::check_input(alloc, text)?;
     print(report, out)
@@ -51,7 +52,7 @@ pub fn check_files<'a, F: Texts, O: Write>(
     ensures ends { IfSome (F.text_at files.now schema.now) (λ s.
         IfSome (F.text_at files.now instance.now) (λ i.
         EndsBy (check_of_texts uri.now s i) (O.contents out.old) (O.contents out.new) result)) }
-    ensures reading { EndsReading (schema.now ∷ instance.now ∷ []) result }
+    ensures reading { EndsReading (schema.now ∷ instance.now ∷ []) None result }
 {
     match files.whole(alloc, schema) {
         Ok(schema) => check_file(alloc, files, uri, schema.as_slice(), instance, out),
@@ -71,7 +72,7 @@ fn check_file<'a, F: Texts, O: Write>(
     ensures ends { IfSome (F.text_at files.now instance.now) (λ i.
         EndsBy (check_of_texts uri.now schema.now i)
         (O.contents out.old) (O.contents out.new) result) }
-    ensures reading { EndsReading (instance.now ∷ []) result }
+    ensures reading { EndsReading (instance.now ∷ []) None result }
 {
     match files.whole(alloc, instance) {
         Ok(instance) => check_texts(alloc, uri, schema, instance.as_slice(), out),
@@ -89,7 +90,7 @@ fn check_texts<'a, O: Write>(
 ) -> Result<u8, Stop<'a>>
     ensures ends { EndsBy (check_of_texts uri.now schema.now instance.now)
         (O.contents out.old) (O.contents out.new) result }
-    ensures reading { (names : List Text) → EndsReading names result }
+    ensures reading { (names : List Text) → EndsReading names None result }
 {
     let report = checks::check_bytes(alloc, uri, schema, instance)?;
     print(report, out)

@@ -6,6 +6,7 @@ mod files;
 mod printing;
 mod program;
 mod reading;
+mod service;
 mod stop;
 
 use std::io;

@@ -18,6 +18,10 @@ pub enum Stop<'a> {
     Refused(Fault),
     /// Standard output cannot be written.
     CannotWrite,
+    /// No connections can be had at the address.
+    CannotListen(&'a str),
+    /// A connection cannot be accepted.
+    CannotAccept,
 }
 
 impl Stop<'_> {
@@ -53,6 +57,8 @@ impl fmt::Display for Stop<'_> {
             Stop::CannotRead(name) => write!(f, "cannot read {name}\n"),
             Stop::Refused(fault) => write!(f, "refused: {fault}\n"),
             Stop::CannotWrite => f.write_str("cannot write -\n"),
+            Stop::CannotListen(address) => write!(f, "cannot listen on {address}\n"),
+            Stop::CannotAccept => f.write_str("cannot accept\n"),
         }
     }
 }

@@ -1,0 +1,180 @@
+-- Registries are judged by what their files hold.
+use Rattle.std.proofs.Common.{◌≡◌, ◌≢◌, ℕ, List, Vec, Option, Some, None, Result, Ok, Err, true≢false, refl, sym, subst, inl, inr}
+use Rattle.std.specs.Prelude.{IfSome, IfErr, IsOk}
+use Rattle.std.specs.Global.{Global}
+use Rattle.definitions.specs.Batches.{library_of}
+use Rattle.definitions.specs.Faults as meaning
+use Rattle.definitions.specs.Patterns.{regular_search}
+use Rattle.definitions.specs.Schemas.{Document}
+use Rattle.definitions.specs.Values.{Text}
+use Rattle.faults.specs.View.{fault}
+use Rattle.faults.specs.declared.Fault.{Fault}
+use Rattle.faults.specs.declared.Fault.TheVariants.{NoRoom}
+use Rattle.command_line.specs.Calls.{Start}
+use Rattle.http_front.specs.Libraries.{OnLibraryOf}
+use Rattle.http_front.specs.Servers.{server_of}
+use Rattle.http_front.specs.Running.{IsRun}
+use Rattle.http_front.proofs.Libraries.{each_library}
+use Rattle.http_front.proofs.Refused.{is_no_room}
+use Rattle.serving.specs.Transfers.{Transfer}
+use Rattle.schemareg.specs.declared.service.Sources.{Sources}
+use Rattle.schemareg.specs.declared.stop.Stop.{Stop}
+use Rattle.schemareg.specs.declared.stop.Stop.TheVariants.{Words, NotText, CannotRead, Refused, CannotWrite, CannotListen, CannotAccept}
+use Rattle.schemareg.specs.Services.{HoldsLibrary, HoldsSources, IsJudged, OnLibrary, OnLibraryIn, OnServer, OnServerIn, Server}
+use Rattle.schemareg.specs.Stops.{IsUnreadAmong}
+
+at_text : (P : Text → Type 0) (read : Text) (known : Option Text) → IfSome known (λ text. read ≡ text) → P read → IfSome known P
+at_text P read None h p = tt
+at_text P read (Some text) h p = subst P h p
+
+on_library : (files : Text → Option Text) (path : Option Text) (bytes : Option (Vec ℕ Global)) (P : Result (List Document) meaning.Fault → Type 0)
+    → HoldsLibrary files path bytes → OnLibraryIn bytes P → OnLibrary files path P
+on_library files None None P h p = p
+on_library files None (Some bytes) P h p = absurd h
+on_library files (Some path) None P h p = absurd h
+on_library files (Some path) (Some bytes) P h p = at_text (λ batch. OnLibraryOf batch P) bytes.items (files path) h p
+
+-- what holds of the server that was read
+pub on_server : (files : Text → Option Text) (start : Start) (sources : Sources) (P : Server → Type 0)
+    → HoldsSources files start sources → OnServerIn sources start.cache P → OnServer files start P
+on_server files start sources P h p =
+    at_text (λ tenants. OnLibrary files start.library (λ library. P (server_of tenants start.cache library))) sources.tenants.items (files start.tenants) h.0
+    (on_library files start.library sources.library (λ library. P (server_of sources.tenants.items start.cache library)) h.1 p)
+
+-- what follows for each server follows for the one of what was read
+pub each_server : (sources : Sources) (capacity : ℕ) (P Q : Server → Type 0) → ((s : Server) → P s → Q s)
+    → OnServerIn sources capacity P → OnServerIn sources capacity Q
+each_server sources capacity P Q f h = by sources.library h
+  where
+    server : Result (List Document) meaning.Fault → Server
+    server library = server_of sources.tenants.items capacity library
+
+    by : (library : Option (Vec ℕ Global)) → OnLibraryIn library (λ l. P (server l)) → OnLibraryIn library (λ l. Q (server l))
+    by None p = f _ p
+    by (Some batch) p = each_library batch.items (λ l. P (server l)) (λ l. Q (server l)) (λ l q. f (server l) q) p
+
+all_known : (P Q : Text → Type 0) (known : Option Text) → ((text : Text) → P text → Q text) → IfSome known P → IfSome known Q
+all_known P Q None f p = tt
+all_known P Q (Some text) f p = f text p
+
+all_libraries : (files : Text → Option Text) (path : Option Text) (P Q : Result (List Document) meaning.Fault → Type 0)
+    → ((l : Result (List Document) meaning.Fault) → P l → Q l) → OnLibrary files path P → OnLibrary files path Q
+all_libraries files None P Q f p = f _ p
+all_libraries files (Some path) P Q f p =
+    all_known (λ batch. OnLibraryOf batch P) (λ batch. OnLibraryOf batch Q) (files path) (λ batch h. each_library batch P Q f h) p
+
+-- what follows for each server follows for the one that files give
+pub on_servers : (files : Text → Option Text) (start : Start) (P Q : Server → Type 0) → ((s : Server) → P s → Q s) → OnServer files start P → OnServer files start Q
+on_servers files start P Q f p =
+    all_known (λ tenants. OnLibrary files start.library (λ library. P (server_of tenants start.cache library)))
+    (λ tenants. OnLibrary files start.library (λ library. Q (server_of tenants start.cache library)))
+    (files start.tenants)
+    (λ tenants h. all_libraries files start.library (λ library. P (server_of tenants start.cache library)) (λ library. Q (server_of tenants start.cache library)) (λ library q. f (server_of tenants start.cache library) q) h)
+    p
+
+known : (P : Text → Type 0) (o : Option Text) → ((text : Text) → P text) → IfSome o P
+known P None f = tt
+known P (Some text) f = f text
+
+libraries : (files : Text → Option Text) (path : Option Text) (P : Result (List Document) meaning.Fault → Type 0)
+    → ((l : Result (List Document) meaning.Fault) → P l) → OnLibrary files path P
+libraries files None P f = f _
+libraries files (Some path) P f = known (λ batch. OnLibraryOf batch P) (files path) (λ batch. inl (f (library_of regular_search batch)))
+
+unread_judged : (T : Type 0) (names : List Text) (stop : Stop) → IsUnreadAmong names stop → (server : Server) → IsJudged {T = T} server (Err stop)
+unread_judged T names stop h (Ok registries) = tt
+unread_judged T names (CannotRead name) h (Err g) = tt
+unread_judged T names (Refused f) h (Err g) = λ other. absurd (other h)
+unread_judged T names (Words e) h (Err g) = absurd h
+unread_judged T names NotText h (Err g) = absurd h
+unread_judged T names CannotWrite h (Err g) = absurd h
+unread_judged T names (CannotListen a) h (Err g) = absurd h
+unread_judged T names CannotAccept h (Err g) = absurd h
+
+-- where a file could not be read
+pub unread_on_server : (T : Type 0) (files : Text → Option Text) (start : Start) (names : List Text) (stop : Stop) → IsUnreadAmong names stop
+    → OnServer files start (λ server. IsJudged {T = T} server (Err stop))
+unread_on_server T files start names stop h =
+    let judged : (server : Server) → Type 0 = λ server. IsJudged {T = T} server (Err stop) in
+    known (λ tenants. OnLibrary files start.library (λ library. judged (server_of tenants start.cache library))) (files start.tenants)
+    (λ tenants. libraries files start.library (λ library. judged (server_of tenants start.cache library))
+    (λ library. unread_judged T names stop h (server_of tenants start.cache library)))
+
+-- an error is judged alike, whatever there would have been without it
+pub judged_alike : (T U : Type 0) (stop : Stop) (server : Server) → IsJudged {T = T} server (Err stop) → IsJudged {T = U} server (Err stop)
+judged_alike T U stop (Ok registries) h = tt
+judged_alike T U (CannotRead name) (Err g) h = tt
+judged_alike T U (Refused f) (Err g) h = h
+judged_alike T U (Words e) (Err g) h = absurd h
+judged_alike T U NotText (Err g) h = absurd h
+judged_alike T U CannotWrite (Err g) h = absurd h
+judged_alike T U (CannotListen a) (Err g) h = absurd h
+judged_alike T U CannotAccept (Err g) h = absurd h
+
+-- registries that stand are not refused
+pub judged_behind : (T U : Type 0) (made : T) (result : Result U Stop) (server : Server) → IsJudged server (Ok made) → IsJudged server result
+judged_behind T U made result (Ok registries) h = tt
+judged_behind T U made result (Err g) h = absurd h
+
+pub judged_made : (T : Type 0) (made : T) (server : Server) → IsOk server → IsJudged {T = T} server (Ok made)
+judged_made T made (Ok registries) h = tt
+judged_made T made (Err g) h = absurd (true≢false (sym h))
+
+refused_alike : (T : Type 0) (f : Fault) (server : Server) → server ≡ Err (fault f) → IsJudged {T = T} server (Err (Refused f))
+refused_alike T f (Ok registries) h = tt
+refused_alike T f (Err g) h = λ other. cc h
+
+any_library : (library : Option (Vec ℕ Global)) (P : Result (List Document) meaning.Fault → Type 0)
+    → ((l : Result (List Document) meaning.Fault) → P l) → OnLibraryIn library P
+any_library None P f = f _
+any_library (Some batch) P f = inl (f (library_of regular_search batch.items))
+
+lacking_judged : (T : Type 0) (f : Fault) (server : Server) → f ≡ NoRoom → IsJudged {T = T} server (Err (Refused f))
+lacking_judged T f (Ok registries) e = tt
+lacking_judged T f (Err g) e = λ other. absurd (other e)
+
+pub judged_refused : (T : Type 0) (f : Fault) (sources : Sources) (capacity : ℕ) → (f ≢ NoRoom → OnServerIn sources capacity (λ server. server ≡ Err (fault f)))
+    → OnServerIn sources capacity (λ server. IsJudged {T = T} server (Err (Refused f)))
+judged_refused T f sources capacity why = elim (is_no_room f) [
+  | inl e ↦ any_library sources.library (λ l. IsJudged {T = T} (server_of sources.tenants.items capacity l) (Err (Refused f)))
+      (λ l. lacking_judged T f (server_of sources.tenants.items capacity l) e)
+  | inr other ↦ each_server sources capacity (λ server. server ≡ Err (fault f)) (λ server. IsJudged {T = T} server (Err (Refused f)))
+      (refused_alike T f) (why other)
+]
+
+-- ---- a connection over the server
+pub ended_judged : (server : Server) (reads writes more others : List Transfer) → IsRun server reads writes (Ok tt) more others → IsJudged {T = ℕ} server (Ok 0)
+ended_judged (Ok registries) reads writes more others h = tt
+ended_judged (Err g) reads writes more others h = absurd h.0
+
+pub fault_judged : (server : Server) (f : Fault) (reads writes more others : List Transfer) → IsRun server reads writes (Err f) more others
+    → IsJudged {T = ℕ} server (Err (Refused f))
+fault_judged (Ok registries) f reads writes more others h = tt
+fault_judged (Err g) f reads writes more others h = h.0
+
+pub ran_ended : (sources : Sources) (capacity : ℕ) (reads writes more others : List Transfer)
+    → OnServerIn sources capacity (λ server. IsRun server reads writes (Ok tt) more others) → OnServerIn sources capacity (λ server. IsJudged {T = ℕ} server (Ok 0))
+ran_ended sources capacity reads writes more others h =
+    each_server sources capacity (λ server. IsRun server reads writes (Ok tt) more others) (λ server. IsJudged {T = ℕ} server (Ok 0))
+    (λ server q. ended_judged server reads writes more others q) h
+
+pub ran_refused : (sources : Sources) (capacity : ℕ) (f : Fault) (reads writes more others : List Transfer)
+    → OnServerIn sources capacity (λ server. IsRun server reads writes (Err f) more others)
+    → OnServerIn sources capacity (λ server. IsJudged {T = ℕ} server (Err (Refused f)))
+ran_refused sources capacity f reads writes more others h =
+    each_server sources capacity (λ server. IsRun server reads writes (Err f) more others) (λ server. IsJudged {T = ℕ} server (Err (Refused f)))
+    (λ server q. fault_judged server f reads writes more others q) h
+
+-- refused over the same texts
+pub refused_over : (T : Type 0) (t u a b : Text) (capacity : ℕ) (r : Result T Fault) → t ≡ u → a ≡ b
+    → IfErr r (λ f. f ≢ NoRoom → OnLibraryOf a (λ l. server_of t capacity l ≡ Err (fault f)))
+    → IfErr r (λ f. f ≢ NoRoom → OnLibraryOf b (λ l. server_of u capacity l ≡ Err (fault f)))
+refused_over T t u a b capacity r e k h =
+    subst (λ x. IfErr r (λ f. f ≢ NoRoom → OnLibraryOf x (λ l. server_of u capacity l ≡ Err (fault f)))) k
+    (subst (λ x. IfErr r (λ f. f ≢ NoRoom → OnLibraryOf a (λ l. server_of x capacity l ≡ Err (fault f)))) e h)
+
+pub refused_in : (T : Type 0) (sources : Sources) (capacity : ℕ) (batch : Vec ℕ Global) (r : Result T Fault) → sources.library ≡ Some batch
+    → IfErr r (λ f. f ≢ NoRoom → OnLibraryOf batch.items (λ l. server_of sources.tenants.items capacity l ≡ Err (fault f)))
+    → IfErr r (λ f. f ≢ NoRoom → OnServerIn sources capacity (λ server. server ≡ Err (fault f)))
+refused_in T sources capacity batch r e h =
+    subst (λ (o : Option (Vec ℕ Global)). IfErr r (λ f. f ≢ NoRoom → OnLibraryIn o (λ l. server_of sources.tenants.items capacity l ≡ Err (fault f)))) (sym e) h

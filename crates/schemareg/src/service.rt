@@ -1,0 +1,225 @@
+//! The forms that serve connections: `run` and `serve`.
+ghost use Rattle.std.specs.Prelude.{◌≡◌, ◌≢◌, List, None, Some, Err, IsOk, IfOk, IfErr};
+ghost use Rattle.definitions.specs.Values.{Text};
+ghost use Rattle.faults.specs.View.{fault};
+ghost use Rattle.http_front.specs.Running.{IsRun};
+ghost use Rattle.command_line.specs.Calls.{start};
+ghost use Rattle.schemareg.specs.Endings.{EndsReading, files_of, library_name};
+ghost use Rattle.schemareg.specs.Services.{HoldsLibrary, HoldsSources, IsJudged, IsUnstarted, OnServer, OnServerIn, library_path};
+ghost use Rattle.schemareg.specs.Stops.{IsUnreadAmong};
+
+use crate::files::Texts;
+use crate::stop::Stop;
+use command_line::Setup;
+use faults::Fault;
+use http_front::{
+    Hub, HubHandler, Sessions, hub_of, hub_over, run_connection, run_connection_with,
+};
+use serving::{ByteReader, ByteWriter, Recorded};
+use sockets::{Limits, bind, serve_connections};
+use std::alloc::Global;
+use std::io::{Read, Write};
+use std::net::{Net, TcpListener, TcpStream};
+use std::time::Clock;
+
+/// What the files of a service hold.
+#[derive(Drop)]
+pub struct Sources {
+    pub tenants: Vec<u8>,
+    pub library: Option<Vec<u8>>,
+}
+
+/// Reads the file of the library, if there is one.
+fn read_library<'a, F: Texts>(
+    alloc: Global,
+    files: &F,
+    path: Option<&'a str>,
+) -> Result<Option<Vec<u8>>, Stop<'a>>
+    ensures ok { IfOk result (λ bytes.
+        HoldsLibrary (F.text_at files.now) (library_path path.entry) bytes) }
+    ensures err { IfErr result (IsUnreadAmong (library_name (library_path path.entry))) }
+{
+    match path {
+        None => Ok(None),
+        Some(path) => match files.whole(alloc, path) {
+            Ok(bytes) => Ok(Some(bytes)),
+            Err(stop) => Err(stop),
+        },
+    }
+}
+
+/// Reads the files of a service, the tenants first. All are read before any is judged.
+fn read_sources<'a, F: Texts>(
+    alloc: Global,
+    files: &F,
+    setup: Setup<'a>,
+) -> Result<Sources, Stop<'a>>
+    ensures ok { IfOk result (HoldsSources (F.text_at files.now) (start setup.entry)) }
+    ensures err { IfErr result (IsUnreadAmong (files_of (start setup.entry))) }
+{
+    match files.whole(alloc, setup.tenants) {
+        Ok(tenants) => match read_library(alloc, files, setup.library) {
+            Ok(library) => Ok(Sources { tenants, library }),
+            Err(stop) => Err(stop),
+        },
+        Err(stop) => Err(stop),
+    }
+}
+
+/// Serves one connection over new registries.
+fn connect<R: ByteReader, W: ByteWriter>(
+    alloc: Global,
+    sources: &Sources,
+    capacity: usize,
+    reader: &mut R,
+    writer: &mut W,
+) -> Result<(), Fault>
+    ensures { OnServerIn sources.now capacity (λ server. IsRun server (R.reads reader.old)
+        (W.writes writer.old) result (R.reads reader.new) (W.writes writer.new)) }
+{
+    let tenants = sources.tenants.as_slice();
+    match &sources.library {
+        None => run_connection(alloc, tenants, capacity, reader, writer),
+        Some(library) => {
+            run_connection_with(alloc, tenants, capacity, library.as_slice(), reader, writer)
+        }
+    }
+}
+
+/// Serves one connection on standard input and output over new registries, and gives the status 0.
+fn run_over<'a, I: Read, O: Write>(
+    alloc: Global,
+    sources: &Sources,
+    capacity: usize,
+    input: &mut I,
+    out: &mut O,
+) -> Result<u8, Stop<'a>>
+    ensures reading { (names : List Text) → EndsReading names None result }
+    ensures status { IfOk result (λ status. status ≡ 0) }
+    ensures judged { OnServerIn sources.now capacity (λ server. IsJudged server result) }
+{
+    let mut reader = Recorded::new(input);
+    let mut writer = Recorded::new(out);
+    match connect(alloc, sources, capacity, &mut reader, &mut writer) {
+        Ok(()) => Ok(0),
+        Err(fault) => Err(Stop::Refused(fault)),
+    }
+}
+
+/// Serves one connection on standard input and output, and gives the status 0 where it ended without a fault.
+pub fn run<'a, F: Texts, I: Read, O: Write>(
+    alloc: Global,
+    files: &F,
+    setup: Setup<'a>,
+    input: &mut I,
+    out: &mut O,
+) -> Result<u8, Stop<'a>>
+    ensures reading { EndsReading (files_of (start setup.entry)) None result }
+    ensures status { IfOk result (λ status. status ≡ 0) }
+    ensures judged { OnServer (F.text_at files.now) (start setup.entry)
+        (λ server. IsJudged server result) }
+{
+    match read_sources(alloc, files, setup) {
+        Ok(sources) => run_over(alloc, &sources, setup.cache as usize, input, out),
+        Err(stop) => Err(stop),
+    }
+}
+
+/// New registries.
+fn hub(alloc: Global, sources: &Sources, capacity: usize) -> Result<Hub, Fault>
+    ensures ok { IfOk result (λ _. OnServerIn sources.now capacity IsOk) }
+    ensures err { IfErr result (λ f. f ≢ Fault.NoRoom
+        → OnServerIn sources.now capacity (λ server. server ≡ Err (fault f))) }
+{
+    let tenants = sources.tenants.as_slice();
+    match &sources.library {
+        None => hub_of(alloc, tenants, capacity),
+        Some(library) => hub_over(alloc, tenants, capacity, library.as_slice()),
+    }
+}
+
+/// The same as the start of a call.
+fn start_hub<'a>(alloc: Global, sources: &Sources, capacity: usize) -> Result<Hub, Stop<'a>>
+    ensures err { (names : List Text) → IfErr result (IsUnstarted names) }
+    ensures judged { OnServerIn sources.now capacity (λ server. IsJudged server result) }
+{
+    match hub(alloc, sources, capacity) {
+        Ok(hub) => Ok(hub),
+        Err(fault) => Err(Stop::Refused(fault)),
+    }
+}
+
+/// New registries, of what the files of a service hold.
+fn new_hub<'a, F: Texts>(alloc: Global, files: &F, setup: Setup<'a>) -> Result<Hub, Stop<'a>>
+    ensures err { IfErr result (IsUnstarted (files_of (start setup.entry))) }
+    ensures judged { OnServer (F.text_at files.now) (start setup.entry)
+        (λ server. IsJudged server result) }
+{
+    match read_sources(alloc, files, setup) {
+        Ok(sources) => start_hub(alloc, &sources, setup.cache as usize),
+        Err(stop) => Err(stop),
+    }
+}
+
+/// Listens at the address.
+fn listen<'a, N: Net<Listener = TcpListener, Stream = TcpStream>>(
+    net: &N,
+    address: &'a str,
+) -> Result<TcpListener, Stop<'a>>
+    ensures err { IfErr result (λ stop. stop ≡ Stop.CannotListen address.entry) }
+{
+    match bind(net, address) {
+        Ok(listener) => Ok(listener),
+        Err(_) => Err(Stop::CannotListen(address)),
+    }
+}
+
+/// Serves `accept` connections at the address, one after the other over the same registries, and gives the status 0.
+fn serve_at<'a, N, E: Write>(
+    alloc: Global,
+    net: &N,
+    hub: Hub,
+    address: &'a str,
+    accept: u32,
+    errors: &mut E,
+) -> Result<u8, Stop<'a>>
+where
+    N: Net<Listener = TcpListener, Stream = TcpStream> + Clock,
+    ensures reading { (names : List Text) → EndsReading names (Some address.now) result }
+    ensures status { IfOk result (λ status. status ≡ 0) }
+{
+    let listener = match listen(net, address) {
+        Ok(listener) => listener,
+        Err(stop) => return Err(stop),
+    };
+    let mut sessions = Sessions::new(alloc, HubHandler::new(hub));
+    let limits = Limits::standard();
+    match serve_connections(alloc, net, &listener, limits, accept, &mut sessions, errors) {
+        Ok(()) => Ok(0),
+        Err(_) => Err(Stop::CannotAccept),
+    }
+}
+
+/// Serves `accept` connections at the address, one after the other over the same registries, and gives the status 0.
+/// What ends one of them early is told on `errors`. The registries are judged before the address is.
+pub fn serve<'a, N, F: Texts, E: Write>(
+    alloc: Global,
+    net: &N,
+    files: &F,
+    setup: Setup<'a>,
+    address: &'a str,
+    accept: u32,
+    errors: &mut E,
+) -> Result<u8, Stop<'a>>
+where
+    N: Net<Listener = TcpListener, Stream = TcpStream> + Clock,
+    ensures reading { EndsReading (files_of (start setup.entry)) (Some address.now) result }
+    ensures status { IfOk result (λ status. status ≡ 0) }
+    ensures judged { OnServer (F.text_at files.now) (start setup.entry)
+        (λ server. IsJudged server result) }
+{
+    match new_hub(alloc, files, setup) {
+        Ok(hub) => serve_at(alloc, net, hub, address, accept, errors),
+        Err(stop) => Err(stop),
+    }
+}

@@ -284,14 +284,14 @@ class Bench:
 
     def turn(self, part, file):
         """The seconds that one turn takes."""
+        start = min(self.took(part, file, 0)[0] for _ in range(3))
         times = 1
         while True:
-            took = self.took(part, file, times)[0]
+            took = self.took(part, file, times)[0] - start
             if took >= self.seconds / 4:
                 break
             times *= 4 if took < self.seconds / 40 else 2
         best = min(self.took(part, file, times)[0] for _ in range(3))
-        start = min(self.took(part, file, 0)[0] for _ in range(3))
         return max(best - start, 0) / times
 
     def counted(self, part, file, times):

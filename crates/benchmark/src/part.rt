@@ -1,6 +1,6 @@
-//! The parts of a check.
+//! The parts of a check, and of the service.
 
-/// A part of a check.
+/// A part of a check, or of the service.
 #[derive(Clone, Copy, Debug, PartialEq, Eq)]
 pub enum Part {
     /// The text of the instance is read.
@@ -11,6 +11,10 @@ pub enum Part {
     Validate,
     /// All of it, from the text that holds the schema and the instance.
     Check,
+    /// A tenant's requests are answered.
+    Ask,
+    /// A connection's bytes are fed in pieces.
+    Feed,
 }
 
 /// The part that has this name.
@@ -20,6 +24,8 @@ pub fn named(name: &str) -> Option<Part> {
         "compile" => Some(Part::Compile),
         "validate" => Some(Part::Validate),
         "check" => Some(Part::Check),
+        "ask" => Some(Part::Ask),
+        "feed" => Some(Part::Feed),
         _ => None,
     }
 }

@@ -1,5 +1,7 @@
 //! The program: its words, its input, and the number that it prints.
 
+use crate::asking::repeat_calls;
+use crate::feeding::feed_pieces;
 use crate::part::{Part, named};
 use crate::repeating::{linked, repeat_check, repeat_evaluate, repeat_link, repeat_read};
 use crate::stop::Stop;
@@ -43,7 +45,8 @@ fn input<R: Input + AllocGlobal>(rt: &R) -> Result<Vec<u8>, Stop> {
     Ok(bytes)
 }
 
-/// The part that the words name, after the program's own name, and how often it is to be done.
+/// The part that the words name, after the program's own name, and the number with it: how often it is to be done, or the size
+/// of the pieces that are fed.
 pub fn order(words: &[String]) -> Result<(Part, u32), Stop> {
     match words {
         [_, part, times] => match (named(part.as_str()), times.parse::<u32>()) {
@@ -54,16 +57,28 @@ pub fn order(words: &[String]) -> Result<(Part, u32), Stop> {
     }
 }
 
-/// Does the part of the check that the text holds so often. The number is that of the times, or of those at which the
-/// instance was valid, where it is judged.
-pub fn count(alloc: Global, part: Part, text: &[u8], times: u32) -> Result<u32, Fault> {
+/// Does the part on the text. The answer is how often it was done, or how often the instance was valid, where it is judged; how
+/// many replies were no refusals; or how many bytes were sent.
+pub fn count(alloc: Global, part: Part, text: &[u8], number: u32) -> Result<u64, Fault> {
     match part {
-        Part::Check => repeat_check(alloc, text, times),
-        _ => count_part(alloc, part, &read(alloc, text)?, times),
+        Part::Feed if number > 0 => feed_pieces(alloc, text, number as usize),
+        Part::Feed => Ok(0),
+        Part::Check => Ok(repeat_check(alloc, text, number)? as u64),
+        _ => count_part(alloc, part, &read(alloc, text)?, number),
     }
 }
 
-fn count_part(alloc: Global, part: Part, input: &Doc, times: u32) -> Result<u32, Fault> {
+fn count_part(alloc: Global, part: Part, input: &Doc, times: u32) -> Result<u64, Fault> {
+    match part {
+        Part::Ask => {
+            let before = member(input, "before")?;
+            repeat_calls(alloc, before, member(input, "repeat")?, times)
+        }
+        _ => Ok(count_of_check(alloc, part, input, times)? as u64),
+    }
+}
+
+fn count_of_check(alloc: Global, part: Part, input: &Doc, times: u32) -> Result<u32, Fault> {
     let schema = member(input, "schema")?;
     let instance = member(input, "instance")?;
     if part == Part::Read {

@@ -56,7 +56,8 @@ pub fn repeat_evaluate(
     instance: &Doc,
     times: u32,
 ) -> Result<u32, Fault>
-    ensures { IfOk result (λ count. count ≡ valid_count (reported (answer has_match (linked_documents linked.now) (linked_uri linked.now) (value instance.now))) times) }
+    ensures { IfOk result (λ count. count ≡ valid_count (reported (answer has_match
+        (linked_documents linked.now) (linked_uri linked.now) (value instance.now))) times) }
 {
     let mut valid = 0;
     for _ in 0..times {

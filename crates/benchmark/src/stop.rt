@@ -6,7 +6,7 @@ use std::{fmt, io};
 /// Why the program ends without a number. Its `Display` is what is printed.
 #[derive(Debug, Drop)]
 pub enum Stop {
-    /// The words of the command line are not a part of a check and a number of at most 32 bits.
+    /// The words of the command line are not a part and a number of at most 32 bits.
     Words,
     /// The words or standard input cannot be read, or standard output cannot be written.
     Unmoved,
@@ -17,7 +17,9 @@ pub enum Stop {
 impl fmt::Display for Stop {
     fn fmt<W: fmt::Write>(&self, f: &mut fmt::Formatter<W>) -> fmt::Result {
         match self {
-            Stop::Words => f.write_str("usage: benchmark read|compile|validate|check TIMES"),
+            Stop::Words => f.write_str(
+                "usage: benchmark read|compile|validate|check|ask TIMES, benchmark feed SIZE",
+            ),
             Stop::Unmoved => f.write_str("cannot read or write"),
             Stop::Refused(fault) => write!(f, "refused: {fault}"),
         }

@@ -1,0 +1,58 @@
+//! A tenant's requests, so often.
+
+ghost use Rattle.std.specs.Prelude.{◌≡◌, map, IfOk};
+ghost use Rattle.requests.specs.Views.{reply_view};
+ghost use Rattle.tenant_hub.specs.Calls.{call_view};
+ghost use Rattle.tenant_hub.specs.Hubs.{hub_registries};
+ghost use Rattle.benchmark.specs.Counts.{answered_count, is_refused, CountsAnswered};
+
+use crate::calls::calls_of;
+use crate::tenant::one_tenant;
+use faults::Fault;
+use json_doc::Doc;
+use std::alloc::Global;
+use tenant_hub::{Hub, Reply, Request};
+
+/// Has a new server with one tenant answer the requests of `before` once and those of `repeat` so often, and answers how many
+/// of the latter were not refused.
+pub fn repeat_calls(alloc: Global, before: &Doc, repeat: &Doc, times: u32) -> Result<u64, Fault> {
+    let mut hub = one_tenant(alloc)?;
+    count_answered(alloc, &mut hub, &calls_of(alloc, before)?)?;
+    let calls = calls_of(alloc, repeat)?;
+    let mut count: u64 = 0;
+    for _ in 0..times {
+        count = count.saturating_add(count_answered(alloc, &mut hub, &calls)?);
+    }
+    Ok(count)
+}
+
+/// Has the requests answered in turn, and answers how many of them were not refused.
+pub fn count_answered(
+    alloc: Global,
+    hub: &mut Hub,
+    calls: &[(String, Request)],
+) -> Result<u64, Fault>
+    ensures { IfOk result (λ count. CountsAnswered (hub_registries hub.old)
+        (map call_view calls.now) count (hub_registries hub.new)) }
+{
+    let replies = hub.run(alloc, calls)?;
+    Ok(answered(&replies) as u64)
+}
+
+fn answered(replies: &[Reply]) -> usize
+    ensures { result ≡ answered_count (map reply_view replies.now) }
+{
+    let mut count = 0;
+    for reply in replies {
+        if !is_refused(reply) {
+            count += 1;
+        }
+    }
+    count
+}
+
+fn is_refused(reply: &Reply) -> bool
+    ensures { result ≡ is_refused (reply_view reply.now) }
+{
+    matches!(reply, Reply::Refused(_) | Reply::RefusedAt(_, _))
+}

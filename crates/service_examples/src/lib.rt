@@ -1,9 +1,11 @@
-//! Servers of several tenants, the cache that they share, bundles, heads, replies and whole connections, on texts: tests
-//! alone, for the crates of the service.
+//! Servers of several tenants, from the tenants' file to the bytes of a connection, and what they stand on: the cache, bundles,
+//! heads and replies. Tests alone, for the crates of the service.
 #![tactic(auto)]
 
 #[cfg(test)]
 mod batches;
+#[cfg(test)]
+mod bodies;
 #[cfg(test)]
 mod bundled_documents;
 #[cfg(test)]
@@ -17,16 +19,44 @@ mod handlers;
 #[cfg(test)]
 mod heads;
 #[cfg(test)]
+mod hub_connections;
+#[cfg(test)]
+mod kept_documents;
+#[cfg(test)]
+mod libraries;
+#[cfg(test)]
+mod long_bodies;
+#[cfg(test)]
 mod new_servers;
+#[cfg(test)]
+mod own_registries;
 #[cfg(test)]
 mod refusals;
 #[cfg(test)]
+mod registries;
+#[cfg(test)]
+mod replied_bundles;
+#[cfg(test)]
 mod replies;
+#[cfg(test)]
+mod served_hubs;
+#[cfg(test)]
+mod served_streams;
+#[cfg(test)]
+mod several_tenants;
+#[cfg(test)]
+mod socket_connections;
 #[cfg(test)]
 mod standing_alone;
 #[cfg(test)]
+mod stored_batches;
+#[cfg(test)]
 mod streams;
+#[cfg(test)]
+mod talks;
 #[cfg(test)]
 mod targets;
 #[cfg(test)]
 mod tenants;
+#[cfg(test)]
+mod whole_connections;

@@ -1,0 +1,290 @@
+//! One tenant's registry: what is stored, replaced, deleted and refused.
+
+use crate::talks::{SMALL_TENANT, TWO_TENANTS, unlike_anyhow};
+use std::test::Fail;
+
+const REFUSED_PUT: &[(&str, &str, &str)] = &[
+    (
+        "k1",
+        r#"put https://ex.org/s {"pattern":"a+"}"#,
+        "stored https://ex.org/s",
+    ),
+    (
+        "k1",
+        r#"validate https://ex.org/s "xaay""#,
+        r#"{"annotations":[],"valid":true}"#,
+    ),
+    (
+        "k1",
+        r#"put https://ex.org/s {"pattern":"(?=a)"}"#,
+        "5 BadPattern",
+    ),
+    (
+        "k1",
+        r#"validate https://ex.org/s "xaay""#,
+        r#"{"annotations":[],"valid":true}"#,
+    ),
+    (
+        "k1",
+        r#"validate https://ex.org/s "xy""#,
+        r#"{"errors":[{"absoluteKeywordLocation":"https://ex.org/s#/pattern","error":"pattern is not met","instanceLocation":"","keywordLocation":"/pattern"}],"valid":false}"#,
+    ),
+];
+
+#[test]
+fn a_refused_put_leaves_the_old_document(rt: HostRuntime) -> Result<(), Fail> {
+    let unlike = unlike_anyhow(rt.alloc(), TWO_TENANTS, 256, REFUSED_PUT)?;
+    assert_eq!(rt; unlike.as_str(), "");
+    Ok(())
+}
+
+const TAKEN: &[(&str, &str, &str)] = &[
+    ("k1", "put https://ex.org/x {}", "stored https://ex.org/x"),
+    (
+        "k1",
+        r#"put https://ex.org/y {"$defs":{"e":{"$id":"x"}}}"#,
+        "27 Taken https://ex.org/x",
+    ),
+    (
+        "k1",
+        r#"put https://ex.org/z {"$defs":{"e":{"$id":"w"}}}"#,
+        "stored https://ex.org/z",
+    ),
+    (
+        "k1",
+        "validate https://ex.org/w null",
+        r#"{"annotations":[],"valid":true}"#,
+    ),
+    ("k1", "put https://ex.org/w {}", "27 Taken https://ex.org/w"),
+    (
+        "k1",
+        r#"put https://ex.org/v {"$defs":{"a":{"$id":"z"},"b":{"$id":"x"},"c":{"$id":"w"}}}"#,
+        "27 Taken https://ex.org/w",
+    ),
+    ("k1", "bundle https://ex.org/w", "14 NotFound"),
+    ("k1", "delete https://ex.org/w", "14 NotFound"),
+    ("k1", "put https://ex.org/z {}", "replaced https://ex.org/z"),
+    ("k1", "validate https://ex.org/w null", "14 NotFound"),
+    ("k1", "put https://ex.org/w {}", "stored https://ex.org/w"),
+];
+
+#[test]
+fn a_resource_belongs_to_one_document(rt: HostRuntime) -> Result<(), Fail> {
+    for capacity in [1_usize, 2, 4096] {
+        let unlike = unlike_anyhow(rt.alloc(), TWO_TENANTS, capacity, TAKEN)?;
+        assert_eq!(rt; unlike.as_str(), "");
+    }
+    Ok(())
+}
+
+const REFERENCES: &[(&str, &str, &str)] = &[
+    (
+        "k1",
+        r#"put https://ex.org/s {"$defs":{"u":{"$ref":"q"},"v":{"$ref":"p"}}}"#,
+        "stored https://ex.org/s",
+    ),
+    (
+        "k1",
+        "validate https://ex.org/s null",
+        "15 Unresolved https://ex.org/p",
+    ),
+    (
+        "k1",
+        "bundle https://ex.org/s",
+        "15 Unresolved https://ex.org/p",
+    ),
+    ("k1", "put https://ex.org/p {}", "stored https://ex.org/p"),
+    (
+        "k1",
+        "validate https://ex.org/s null",
+        "15 Unresolved https://ex.org/q",
+    ),
+    ("k1", "put https://ex.org/q {}", "stored https://ex.org/q"),
+    (
+        "k1",
+        "validate https://ex.org/s null",
+        r#"{"annotations":[],"valid":true}"#,
+    ),
+    ("k1", "delete https://ex.org/p", "deleted https://ex.org/p"),
+    (
+        "k1",
+        "validate https://ex.org/s null",
+        "15 Unresolved https://ex.org/p",
+    ),
+];
+
+#[test]
+fn each_reference_of_a_reached_document_has_a_target(rt: HostRuntime) -> Result<(), Fail> {
+    let unlike = unlike_anyhow(rt.alloc(), TWO_TENANTS, 1, REFERENCES)?;
+    assert_eq!(rt; unlike.as_str(), "");
+    Ok(())
+}
+
+const QUOTAS: &[(&str, &str, &str)] = &[
+    ("k1", "put https://ex.org/a {}", "stored https://ex.org/a"),
+    ("k1", "put https://ex.org/b {}", "28 QuotaDocuments"),
+    (
+        "k1",
+        r#"put https://ex.org/a {"type":"string"}"#,
+        "replaced https://ex.org/a",
+    ),
+    (
+        "k1",
+        r#"put https://ex.org/a {"minLength":10000000}"#,
+        "29 QuotaBytes",
+    ),
+    (
+        "k1",
+        r#"put https://ex.org/a {"minLength" : 100000}"#,
+        "replaced https://ex.org/a",
+    ),
+    ("k1", "delete https://ex.org/a", "deleted https://ex.org/a"),
+    ("k1", "delete https://ex.org/a", "14 NotFound"),
+    ("k1", "put https://ex.org/b {}", "stored https://ex.org/b"),
+];
+
+#[test]
+fn quotas_are_judged_on_what_is_left(rt: HostRuntime) -> Result<(), Fail> {
+    let unlike = unlike_anyhow(rt.alloc(), SMALL_TENANT, 256, QUOTAS)?;
+    assert_eq!(rt; unlike.as_str(), "");
+    Ok(())
+}
+
+const URIS: &[(&str, &str, &str)] = &[
+    (
+        "k1",
+        "put https://ex.org/x/../a {}",
+        "stored https://ex.org/a",
+    ),
+    (
+        "k1",
+        "validate https://ex.org/./a null",
+        r#"{"annotations":[],"valid":true}"#,
+    ),
+    (
+        "k1",
+        "bundle https://ex.org/y/../a",
+        r#"{"$id":"https://ex.org/a"}"#,
+    ),
+    ("k1", "put s {}", "25 BadUri"),
+    ("k1", "put https://ex.org/a# {}", "25 BadUri"),
+    ("k1", "put x:/.//a {}", "25 BadUri"),
+    ("k1", "delete s", "25 BadUri"),
+    ("k1", "validate https://ex.org/a#/$defs/b null", "25 BadUri"),
+    ("k1", "bundle //ex.org/a", "25 BadUri"),
+    (
+        "k1",
+        r#"put https://ex.org/a/c/x {"$id":"../b"}"#,
+        "stored https://ex.org/a/b",
+    ),
+    (
+        "k1",
+        "validate https://ex.org/a/b null",
+        r#"{"annotations":[],"valid":true}"#,
+    ),
+    ("k1", "validate https://ex.org/a/c/x null", "14 NotFound"),
+    (
+        "k1",
+        r#"put https://ex.org/other {"$id":"https://ex.org/a/b"}"#,
+        "replaced https://ex.org/a/b",
+    ),
+    (
+        "k1",
+        "delete https://ex.org/x/../a",
+        "deleted https://ex.org/a",
+    ),
+    ("k1", "validate https://ex.org/a null", "14 NotFound"),
+];
+
+#[test]
+fn documents_are_named_by_their_canonical_uris(rt: HostRuntime) -> Result<(), Fail> {
+    let unlike = unlike_anyhow(rt.alloc(), TWO_TENANTS, 256, URIS)?;
+    assert_eq!(rt; unlike.as_str(), "");
+    Ok(())
+}
+
+const REFUSED_DOCUMENTS: &[(&str, &str, &str)] = &[
+    ("k1", "put https://ex.org/s [1", "1 BadJson"),
+    ("k1", "put https://ex.org/s [1.0]", "2 BadNumber"),
+    ("k1", "put https://ex.org/s []", "6 NotObject"),
+    ("k1", "put https://ex.org/s true", "6 NotObject"),
+    (
+        "k1",
+        r#"put https://ex.org/s {"not":5}"#,
+        "8 BadKeyword /not",
+    ),
+    (
+        "k1",
+        r#"put https://ex.org/s {"$defs":{"d":{"type":"int"}},"allOf":[]}"#,
+        "8 BadKeyword /allOf",
+    ),
+    (
+        "k1",
+        r#"put https://ex.org/s {"$defs":{"d":{"type":"int"}}}"#,
+        "8 BadKeyword /$defs/d/type",
+    ),
+    ("k1", r#"put https://ex.org/s {"$id":"a#b"}"#, "9 BadId"),
+    (
+        "k1",
+        r#"put https://ex.org/s {"$anchor":"1"}"#,
+        "10 BadAnchor",
+    ),
+    (
+        "k1",
+        r#"put https://ex.org/s {"$schema":"x:y"}"#,
+        "11 Dialect",
+    ),
+    (
+        "k1",
+        r#"put https://ex.org/s {"$defs":{"d":{"$id":"s"}}}"#,
+        "12 DuplicateUri",
+    ),
+    (
+        "k1",
+        r#"put https://ex.org/s {"$anchor":"n","$defs":{"d":{"$dynamicAnchor":"n"}}}"#,
+        "13 DuplicateAnchor",
+    ),
+    ("k1", "validate https://ex.org/s null", "14 NotFound"),
+    (
+        "k1",
+        r#"put https://ex.org/s {"$anchor":"n","$defs":{"d":{"$dynamicAnchor":"n","$id":"e"}}}"#,
+        "stored https://ex.org/s",
+    ),
+];
+
+#[test]
+fn documents_with_a_fault_are_not_stored(rt: HostRuntime) -> Result<(), Fail> {
+    let unlike = unlike_anyhow(rt.alloc(), TWO_TENANTS, 256, REFUSED_DOCUMENTS)?;
+    assert_eq!(rt; unlike.as_str(), "");
+    Ok(())
+}
+
+const REFUSED_VALIDATIONS: &[(&str, &str, &str)] = &[
+    ("k1", "validate s [1", "25 BadUri"),
+    ("k1", "validate https://ex.org/s [1", "1 BadJson"),
+    ("k1", "validate https://ex.org/s 1.5", "2 BadNumber"),
+    ("k1", "validate https://ex.org/s 1", "14 NotFound"),
+    (
+        "k1",
+        r##"put https://ex.org/s {"$ref":"#"}"##,
+        "stored https://ex.org/s",
+    ),
+    ("k1", "validate https://ex.org/s 1", "17 Loop"),
+    (
+        "k1",
+        r##"put https://ex.org/t {"$ref":"#/$defs/a"}"##,
+        "stored https://ex.org/t",
+    ),
+    (
+        "k1",
+        "validate https://ex.org/t 1",
+        "15 Unresolved https://ex.org/t#/$defs/a",
+    ),
+];
+
+#[test]
+fn validations_are_refused_by_the_first_fault(rt: HostRuntime) -> Result<(), Fail> {
+    let unlike = unlike_anyhow(rt.alloc(), TWO_TENANTS, 256, REFUSED_VALIDATIONS)?;
+    assert_eq!(rt; unlike.as_str(), "");
+    Ok(())
+}

@@ -1,0 +1,42 @@
+//! A hub behind connections, and the exchange that is sent to it most often.
+
+use connections::Sessions;
+use http_front::{Fault, HubHandler, hub_of, hub_over};
+use std::alloc::Global;
+
+/// The file of two tenants.
+pub const TENANTS: &str =
+    r#"{"tenants":[{"bytes":1000000,"documents":100,"key":"k1"},{"bytes":1000000,"documents":100,"key":"k2"}]}"#;
+
+/// Stores a document.
+pub const PUT: &str =
+    "PUT /schemas?uri=https://ex.org/s HTTP/1.1\r\nx-tenant-key: k1\r\ncontent-length: 2\r\n\r\n{}";
+
+/// The same without its last byte.
+pub const PUT_FRONT: &str =
+    "PUT /schemas?uri=https://ex.org/s HTTP/1.1\r\nx-tenant-key: k1\r\ncontent-length: 2\r\n\r\n{";
+
+/// Validates an instance by it.
+pub const POST: &str =
+    "POST /validate?uri=https://ex.org/s HTTP/1.1\r\nx-tenant-key: k1\r\ncontent-length: 4\r\n\r\nnull";
+
+/// Both, in one stream.
+pub const EXAMPLE: &str =
+    "PUT /schemas?uri=https://ex.org/s HTTP/1.1\r\nx-tenant-key: k1\r\ncontent-length: 2\r\n\r\n{}POST /validate?uri=https://ex.org/s HTTP/1.1\r\nx-tenant-key: k1\r\ncontent-length: 4\r\n\r\nnull";
+
+/// What is sent for both.
+pub const EXAMPLE_REPLIES: &str =
+    "HTTP/1.1 201 Created\r\ncontent-type: application/json\r\ncontent-length: 46\r\n\r\n{\"replaced\":false,\"stored\":\"https://ex.org/s\"}HTTP/1.1 200 OK\r\ncontent-type: application/json\r\ncontent-length: 31\r\n\r\n{\"annotations\":[],\"valid\":true}";
+
+/// No connection yet, to a hub of the two tenants.
+pub fn hub_sessions(alloc: Global) -> Result<Sessions<HubHandler>, Fault> {
+    let hub = hub_of(alloc, TENANTS.as_bytes(), 2)?;
+    Ok(Sessions::new(alloc, HubHandler::new(hub)))
+}
+
+/// No connection yet, to a hub of the two tenants over a library of one document.
+pub fn library_sessions(alloc: Global) -> Result<Sessions<HubHandler>, Fault> {
+    let library = br#"{"put":[{"schema":{"type":"null"},"uri":"https://ex.org/s"}]}"#;
+    let hub = hub_over(alloc, TENANTS.as_bytes(), 2, library)?;
+    Ok(Sessions::new(alloc, HubHandler::new(hub)))
+}

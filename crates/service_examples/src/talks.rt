@@ -1,0 +1,127 @@
+//! Talks with a hub: requests and their replies, each as a text.
+
+use std::alloc::{AllocError, Global};
+use std::test::Fail;
+use tenant_hub::{Fault, Hub, Reply, Request, StoredEntry, read_tenants};
+
+/// Two tenants with room for a hundred documents each.
+pub const TWO_TENANTS: &str =
+    r#"{"tenants":[{"bytes":1000000,"documents":100,"key":"k1"},{"bytes":1000000,"documents":100,"key":"k2"}]}"#;
+
+/// A tenant with room for one document of 20 bytes.
+pub const SMALL_TENANT: &str = r#"{"tenants":[{"bytes":20,"documents":1,"key":"k1"}]}"#;
+
+/// What is said of an instance that passes and gives no annotation.
+pub const VALID: &str = r#"{"annotations":[],"valid":true}"#;
+
+/// A hub of the tenants in this file, without a library.
+pub fn new_hub(alloc: Global, tenants: &str, capacity: usize) -> Result<Hub, Fault> {
+    Hub::new(alloc, read_tenants(alloc, tenants.as_bytes())?, capacity)
+}
+
+/// A hub of the tenants in this file, over the library that the batch gives.
+pub fn library_hub(alloc: Global, tenants: &str, batch: &str) -> Result<Hub, Fault> {
+    let tenants = read_tenants(alloc, tenants.as_bytes())?;
+    Hub::with_library(alloc, tenants, 256, batch.as_bytes())
+}
+
+// What a text asks for: `put URI BODY`, `delete URI`, `validate URI BODY`, `bundle URI` or `batch BODY`.
+fn asked(alloc: Global, text: &str) -> Result<Request, AllocError> {
+    let (kind, rest) = text.split_once(' ').unwrap_or((text, ""));
+    if kind == "batch" {
+        return Ok(Request::Batch(Vec::from_slice(alloc, rest.as_bytes())?));
+    }
+    let (uri, body) = rest.split_once(' ').unwrap_or((rest, ""));
+    let uri = String::from_str(alloc, uri)?;
+    let body = Vec::from_slice(alloc, body.as_bytes())?;
+    Ok(match kind {
+        "put" => Request::Put(uri, body),
+        "delete" => Request::Delete(uri),
+        "validate" => Request::Validate(uri, body),
+        _ => Request::Bundle(uri),
+    })
+}
+
+fn verb(replaced: bool) -> &'static str {
+    if replaced { "replaced" } else { "stored" }
+}
+
+fn entries_told(alloc: Global, entries: &[StoredEntry]) -> Result<String, Fail> {
+    let mut text = String::new(alloc);
+    for entry in entries {
+        if !text.is_empty() {
+            text.push_str(", ")?;
+        }
+        text.push_str(verb(entry.replaced))?;
+        text.push(' ')?;
+        text.push_str(entry.uri.as_str())?;
+    }
+    Ok(text)
+}
+
+/// A reply as a text: `stored URI`, `replaced URI`, `deleted URI`, the output, the bundle, `NUMBER NAME AT` of a fault, and
+/// of a batch `stored URI, replaced URI` or `entry K: NUMBER NAME AT`.
+pub fn told(alloc: Global, reply: &Reply) -> Result<String, Fail> {
+    Ok(match reply {
+        Reply::Stored(uri, replaced) => format!(in alloc; "{} {uri}", verb(*replaced))?,
+        Reply::Deleted(uri) => format!(in alloc; "deleted {uri}")?,
+        Reply::Output(text) | Reply::Bundled(text) => String::from_str(alloc, text.as_str())?,
+        Reply::StoredAll(entries) => entries_told(alloc, entries)?,
+        Reply::Refused(fault) => format!(in alloc; "{fault}")?,
+        Reply::RefusedAt(entry, fault) => format!(in alloc; "entry {entry}: {fault}")?,
+    })
+}
+
+/// What a tenant is told when it asks for what the text says.
+pub fn answered(alloc: Global, hub: &mut Hub, key: &str, text: &str) -> Result<String, Fail> {
+    let reply = hub.apply(alloc, key, &asked(alloc, text)?);
+    told(alloc, &reply)
+}
+
+/// The first line of a talk (a tenant's key, what it asks, what it is told) that the hub answers otherwise, with what it
+/// answers; an empty text where there is none.
+pub fn unlike(alloc: Global, hub: &mut Hub, lines: &[(&str, &str, &str)]) -> Result<String, Fail> {
+    for (key, text, reply) in lines {
+        let found = answered(alloc, hub, key, text)?;
+        if found.as_str() != *reply {
+            return Ok(format!(in alloc; "{key} {text}: {found}")?);
+        }
+    }
+    Ok(String::new(alloc))
+}
+
+/// The same by one call for all lines.
+pub fn unlike_by_run(
+    alloc: Global,
+    hub: &mut Hub,
+    lines: &[(&str, &str, &str)],
+) -> Result<String, Fail> {
+    let mut calls = Vec::new(alloc);
+    for (key, text, _) in lines {
+        calls.push((String::from_str(alloc, key)?, asked(alloc, text)?))?;
+    }
+    let replies = hub.run(alloc, &calls)?;
+    if replies.len() != lines.len() {
+        return Ok(format!(in alloc; "{} replies", replies.len())?);
+    }
+    for ((key, text, reply), answer) in lines.iter().zip(&replies) {
+        let found = told(alloc, answer)?;
+        if found.as_str() != *reply {
+            return Ok(format!(in alloc; "{key} {text}: {found}")?);
+        }
+    }
+    Ok(String::new(alloc))
+}
+
+/// The same one by one with a new hub, and by one call with another.
+pub fn unlike_anyhow(
+    alloc: Global,
+    tenants: &str,
+    capacity: usize,
+    lines: &[(&str, &str, &str)],
+) -> Result<String, Fail> {
+    let mut found = unlike(alloc, &mut new_hub(alloc, tenants, capacity)?, lines)?;
+    let by_run = unlike_by_run(alloc, &mut new_hub(alloc, tenants, capacity)?, lines)?;
+    found.push_str(by_run.as_str())?;
+    Ok(found)
+}

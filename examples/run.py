@@ -5,14 +5,16 @@
 
 PROGRAM is the path of the program; without it, it is crates/schemareg/out/schemareg, where `rt run` leaves it.
 An example passes where the program prints what the file NAME.answer holds, byte for byte, on the right stream, nothing on
-the other, and ends with the right status. The crate `checks_examples` passes where its module `examples` has the tests that
+the other, and ends with the right status. The service is run by `serving.py`, with curl where it is installed. The crate `checks_examples` passes where its module `examples` has the tests that
 the examples give. The exit status is 0 where all pass, and else 1.
 """
 
 import subprocess
 import sys
+from http.client import HTTPException
 from pathlib import Path
 
+import serving
 import write_tests
 
 FOLDER = Path(__file__).resolve().parent
@@ -24,9 +26,9 @@ def cases():
     """Each instance and each list of words: its name, the words of the command line, the standard input, and the file of
     the answer."""
     for instance in sorted(FOLDER.rglob("*.json")):
-        if instance.name == "schema.json":
-            continue
         folder = instance.parent
+        if instance.name == "schema.json" or folder == serving.SERVICE:
+            continue
         schema = folder / "schema.json"
         answer = instance.with_suffix(".answer")
         name = str(instance.relative_to(FOLDER).with_suffix(""))
@@ -78,6 +80,20 @@ def main():
                 if want != have:
                     print(f"        {part}: wanted {want!r}")
                     print(f"        {' ' * len(part)}     got {have!r}")
+    for name, trial in serving.trials(program.resolve()):
+        if trial is None:
+            print(f"skipped {name}: curl is not installed")
+            continue
+        try:
+            wrong = trial()
+        except (OSError, HTTPException, subprocess.TimeoutExpired) as error:
+            wrong = str(error)
+        if wrong is None:
+            passed += 1
+            print(f"passed  {name}")
+        else:
+            failed += 1
+            print(f"FAILED  {name}\n        {wrong}")
     behind = write_tests.stale()
     if behind:
         failed += 1

@@ -9,6 +9,12 @@ transferred-append [] us = refl
 transferred-append (None ∷ ts) us = transferred-append ts us
 transferred-append (Some b ∷ ts) us = ap (λ t. b ++ t) (transferred-append ts us) ∙ sym (append_assoc b (transferred ts) (transferred us))
 
+pub took_some : (ts : List Transfer) (b : Text) → transferred (ts ++ (Some b ∷ [])) ≡ transferred ts ++ b
+took_some ts b = transferred-append ts (Some b ∷ []) ∙ ap (λ t. transferred ts ++ t) (append-nil b)
+
+pub took_nothing : (ts : List Transfer) → transferred (ts ++ (None ∷ [])) ≡ transferred ts
+took_nothing ts = transferred-append ts (None ∷ []) ∙ append-nil (transferred ts)
+
 pub took_none : (n : ℕ) (bytes : Text) → n ≡ 0 → ◌≡◌ {A = Transfer} (Some (take n bytes)) (Some [])
 took_none n bytes e = rw e refl
 

@@ -1,6 +1,7 @@
 //! Readers and writers over memory.
 
-ghost use Rattle.std.specs.Prelude.{◌≡◌, ◌≤◌, [], IfOk, length, take};
+ghost use Rattle.std.specs.Prelude.{◌≡◌, ◌≤◌, ◌++◌, [], IfOk, OnErr, length, take};
+ghost use Rattle.serving.specs.Transfers.{transferred};
 
 use crate::broken::Broken;
 use crate::log::{Log, Note};
@@ -107,6 +108,7 @@ pub struct MemoryWriter {
     bytes: Vec<u8>,
     pace: Pace,
     log: Log,
+    ghost told: { bytes.items ≡ transferred log.transfers },
 }
 
 impl MemoryWriter {
@@ -123,21 +125,11 @@ impl MemoryWriter {
         }
     }
 
-    /// The bytes that it took.
-    pub fn bytes(&self) -> &[u8] {
-        &self.bytes
-    }
-
-    // Keeps some of the first of the bytes; want of memory is a failure.
-    fn keep(&mut self, bytes: &[u8]) -> Result<usize, Broken>
-        ensures within { IfOk result (λ n. n ≤ length bytes.now) }
-        ensures unrecorded { writes_of self.new ≡ writes_of self.old }
+    /// The bytes that it took, in order.
+    pub fn bytes(&self) -> &[u8]
+        ensures { result.now ≡ transferred (writes_of self.now) }
     {
-        let count = self.pace.next(bytes.len())?;
-        match self.bytes.extend_from_slice(&bytes[..count]) {
-            Ok(()) => Ok(count),
-            Err(_) => Err(Broken),
-        }
+        &self.bytes
     }
 }
 
@@ -145,7 +137,7 @@ impl ByteWriter for MemoryWriter {
     ghost writes = { λ s. s.log.transfers };
 
     fn write(&mut self, bytes: &[u8]) -> Result<usize, Broken> {
-        match self.keep(bytes) {
+        match keep(&mut self.bytes, &mut self.pace, bytes) {
             Ok(count) => {
                 self.log = self.log.then(&Note::Moved(&bytes[..count]));
                 Ok(count)
@@ -155,5 +147,18 @@ impl ByteWriter for MemoryWriter {
                 Err(broken)
             }
         }
+    }
+}
+
+// Keeps some of the first of the bytes; want of memory is a failure.
+fn keep(kept: &mut Vec<u8>, pace: &mut Pace, bytes: &[u8]) -> Result<usize, Broken>
+    ensures within { IfOk result (λ n. n ≤ length bytes.now) }
+    ensures ok { IfOk result (λ n. kept.new.items ≡ kept.old.items ++ take n bytes.now) }
+    ensures err { OnErr result (kept.new.items ≡ kept.old.items) }
+{
+    let count = pace.next(bytes.len())?;
+    match kept.extend_from_slice(&bytes[..count]) {
+        Ok(()) => Ok(count),
+        Err(_) => Err(Broken),
     }
 }

@@ -13,3 +13,4 @@ pub mod Places
 pub mod TokenReads
 pub mod WholeTexts
 pub mod Grammar
+pub mod Numerals

@@ -1,7 +1,6 @@
 -- Where a name stands among entries in order of names, and what an edit at that place does.
 use Rattle.std.proofs.Common.{◌≡◌, ℕ, zero, suc, ◌+◌, ◌-◌, ◌++◌, slice_get, ◌<◌, ◌≤◌, List, [], ◌∷◌, length, take, drop, get_or, set, Option, Some, None, option_map, String, Global, Ordering, Less, Equal, Greater, string_bytes, string_cmp, nat_cmp, is_eq, true, refl, sym, ap, ◌∙◌, arith, add-one, subst}
 use Rattle.std.proofs.lemmas.Cmp.{nat_list_cmp_total}
-use Rattle.std.proofs.Math.Seq.{drop-length}
 use Rattle.std.proofs.lemmas.List.{take_all}
 use Rattle.std.proofs.lemmas.Map.Text.{is_eq-slice_cmp}
 use Rattle.std.proofs.lemmas.Option.{get_or_from_slice_get, slice_get-get_or}
@@ -176,13 +175,6 @@ module _ {T : Type 0} where
   pub above_last : (name text : Text) (es : List (Entry T)) (last : Entry T) (r : Ordering) → InOrder es → Some last ≡ slice_get es (length es - 1) → text ≡ string_bytes last.0 → r ≡ compared name text
       → is_gt r ≡ true → IsAbove name es
   above_last name text es last r order at is answer holds = above_all name es last order at (told name text last r is answer ∙ greater r holds)
-
-  pub gap_at_end : (name : Text) (es : List (Entry T)) → IsAbove name es → IsGapFor name es (length es)
-  gap_at_end name es h = record {
-    within = omega arith;
-    above = subst (IsAbove name) (sym (take_all (length es) es (omega arith))) h;
-    below = subst (IsBelow name) (sym (drop-length es)) tt;
-  }
 
   pub above_none : (name : Text) (es : List (Entry T)) → None ≡ slice_get es (length es - 1) → IsAbove name es
   above_none name [] at = tt

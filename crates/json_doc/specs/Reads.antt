@@ -1,5 +1,6 @@
 -- What the first tokens of a text spell, by `serde_json`'s reading of the grammar.
-use Rattle.std.specs.Prelude.{◌≡◌, ℕ, List, length, ℤ, Option, Some, option_and_then}
+use Rattle.std.specs.Prelude.{◌≡◌, ◌<◌, ◌^◌, ℕ, List, length, ℤ, Option, Some, option_and_then}
+use Rattle.std.specs.Str.Parse.{AllDigits, digits_value}
 use Rattle.json.specs.Token.{Token}
 use Rattle.json.specs.Json as grammar
 use Rattle.serde_json.specs.Data.{no_members}
@@ -27,3 +28,10 @@ IsTextOf text v = option_and_then value_of (read text) ≡ Some v
 -- the number that a token spells, if it is whole
 abbrev pub whole_at : Text → Option ℤ
 whole_at text = option_and_then as_integer (number_of text)
+
+-- the digits of a number of at most 18 of them
+pub record IsNumeralOf (ds : Text) (n : ℕ) : Type 0 where
+  pub some : 0 < length ds
+  pub digits : AllDigits 10 ds
+  pub value : digits_value 10 ds ≡ n
+  pub small : n < 10 ^ 18

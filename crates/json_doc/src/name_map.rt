@@ -1,6 +1,6 @@
 //! Values by name, in one list.
 
-ghost use Rattle.std.specs.Prelude.{◌≡◌, ◌<◌, ◌↔◌, [], IsTrue, length, IfOk, IfErr, OnOk, OnErr, option_map};
+ghost use Rattle.std.specs.Prelude.{◌≡◌, ◌<◌, ◌↔◌, [], IsTrue, length, IfOk, IfErr, OnOk, OnErr, option_map, string_bytes};
 ghost use Rattle.std.specs.BTreeMap.{insert_entry};
 ghost use Rattle.std.specs.List.Sorted.{IsStrictlySortedBy};
 ghost use Rattle.std.specs.Map.{keys_of};
@@ -118,6 +118,27 @@ impl<T: Drop> NameMap<T> {
         ensures ok { OnOk result (self.new ≡ insert_entry string_cmp self.old name value) }
         ensures unchanged { OnErr result (self.new ≡ self.old) }
     {
+        if self.ends_before(name.as_str()) {
+            return self.push(name, value);
+        }
+        self.put(name, value)
+    }
+
+    // The same, where the name comes after all that are here.
+    fn push(&mut self, name: String, value: T) -> Result<(), AllocError>
+        requires { IsAbove (string_bytes name) self.old }
+        ensures ok { OnOk result (self.new ≡ insert_entry string_cmp self.old name value) }
+        ensures unchanged { OnErr result (self.new ≡ self.old) }
+    {
+        self.entries.push((name, value))?;
+        Ok(())
+    }
+
+    // The same, wherever the name goes.
+    fn put(&mut self, name: String, value: T) -> Result<(), AllocError>
+        ensures ok { OnOk result (self.new ≡ insert_entry string_cmp self.old name value) }
+        ensures unchanged { OnErr result (self.new ≡ self.old) }
+    {
         match place_of(self.entries.as_slice(), name.as_str()) {
             Ok(place) => {
                 self.entries[place].1 = value;
@@ -147,9 +168,6 @@ fn place_of<T>(entries: &[(String, T)], name: &str) -> Result<usize, usize>
     ensures found { IfOk result (IsPlaceOf name.now entries.now) }
     ensures gap { IfErr result (IsGapFor name.now entries.now) }
 {
-    if is_above_all(entries, name) {
-        return Err(entries.len());
-    }
     let mut low = 0;
     let mut high = entries.len();
     while low < high {

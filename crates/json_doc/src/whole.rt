@@ -1,6 +1,6 @@
 //! Whole numbers that 64 bits hold.
 
-ghost use Rattle.std.specs.Prelude.{◌≡◌, ◌↔◌, ◌<ℤ◌, ◌^◌, pos, true, IsSome, IfSome};
+ghost use Rattle.std.specs.Prelude.{◌≡◌, ◌↔◌, ◌<◌, ◌<ℤ◌, ◌^◌, pos, negsuc, true, IsSome, IfSome};
 ghost use Rattle.definitions.specs.Values.{fits_64_bits};
 ghost use Rattle.json_doc.specs.Wholes.{as_natural};
 
@@ -45,12 +45,20 @@ impl Whole {
         ensures { result ≡ number }
     {
         if number < 0 {
-            Whole {
-                distance: (-1 - number) as u64,
-                is_negative: true,
-            }
+            Whole::below_zero((-1 - number) as u64)
         } else {
             Whole::of(number as u64)
+        }
+    }
+
+    /// The number that is so far below -1.
+    pub(crate) fn below_zero(distance: u64) -> Whole
+        requires { distance < 2 ^ 63 }
+        ensures { result ≡ negsuc distance }
+    {
+        Whole {
+            distance,
+            is_negative: true,
         }
     }
 

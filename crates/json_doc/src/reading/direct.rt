@@ -1,22 +1,25 @@
 //! A value straight from the tokens of its text, where each of them is plain.
 
 ghost use Rattle.std.specs.Prelude.{◌≡◌, ◌==◌, ◌<◌, Some, true, false, IsTrue, IfOk, IfSome, OnOk, length, map, slice_index, option_and_then};
+ghost use Rattle.fast_float.specs.Text.{scan};
 ghost use Rattle.serde_json.specs.Find.{as_integer};
 ghost use Rattle.serde_json.specs.Read.{number_from};
 ghost use Rattle.definitions.specs.Values.{to_elements};
 ghost use Rattle.json_doc.specs.Docs.{value, members_view};
-ghost use Rattle.json_doc.specs.Reads.{value_at, elements_at, members_at, whole_at, IsTextOf};
+ghost use Rattle.json_doc.specs.Reads.{value_at, elements_at, members_at, whole_at, IsNumeralOf, IsTextOf};
 
 use crate::doc::Doc;
 use crate::gathered::Gathered;
 use crate::members::Members;
 use crate::whole::Whole;
-use fast_float::Numeral;
 use json::{Invalid, Reader, Scratch, Token};
 use std::alloc::{AllocError, AllocFailed, Global};
 
 // How deep arrays and objects may nest.
 const MAX_NESTING: usize = 127;
+
+// How many digits surely fit 64 bits, with a sign too.
+const MAX_DIGITS: usize = 18;
 
 /// Why a text was not read.
 #[derive(Clone, Copy, Debug, Drop)]
@@ -118,43 +121,62 @@ fn dict_from(alloc: Global, reader: &mut Reader<'_>, depth: usize) -> Result<Mem
     Ok(gathered.into_members(alloc)?)
 }
 
-// The number that the token spells, if it is whole and 64 bits hold it.
+// The number that the token spells, if it is whole and has at most 18 digits.
 #[inline(always)]
 fn whole_from(text: &str) -> Option<Whole>
     ensures { IfSome result (λ z. whole_at text.now ≡ Some z) }
 {
     let bytes = text.as_bytes();
     if has_minus(bytes) {
-        negative_from(&Numeral::scan(&bytes[1..]))
+        negative_from(&bytes[1..])
     } else {
-        natural_from(&Numeral::scan(bytes))
+        positive_from(bytes)
     }
 }
 
 #[inline(always)]
-fn natural_from(numeral: &Numeral<'_>) -> Option<Whole>
+fn positive_from(digits: &[u8]) -> Option<Whole>
     ensures { IfSome result (λ z.
-        option_and_then as_integer (number_from false numeral.now) ≡ Some z) }
+        option_and_then as_integer (number_from false (scan digits.now)) ≡ Some z) }
 {
-    match numeral.to_u64() {
+    match natural_from(digits) {
         Some(natural) => Some(Whole::of(natural)),
         None => None,
     }
 }
 
+// Zero is none: `-0` is no whole number.
 #[inline(always)]
-fn negative_from(numeral: &Numeral<'_>) -> Option<Whole>
+fn negative_from(digits: &[u8]) -> Option<Whole>
     ensures { IfSome result (λ z.
-        option_and_then as_integer (number_from true numeral.now) ≡ Some z) }
+        option_and_then as_integer (number_from true (scan digits.now)) ≡ Some z) }
 {
-    match numeral.to_i64(true) {
-        Some(number) => if number < 0 {
-            Some(Whole::of_signed(number))
+    match natural_from(digits) {
+        Some(natural) => if natural > 0 {
+            Some(Whole::below_zero(natural - 1))
         } else {
             None
         },
         None => None,
     }
+}
+
+// The number that the bytes write, if they are 1 to 18 digits.
+#[inline(always)]
+fn natural_from(digits: &[u8]) -> Option<u64>
+    ensures { IfSome result (IsNumeralOf digits.now) }
+{
+    if digits.is_empty() || digits.len() > MAX_DIGITS {
+        return None;
+    }
+    let mut natural = 0;
+    for digit in digits {
+        match *digit {
+            b'0'..=b'9' => natural = natural * 10 + u64::from(*digit - b'0'),
+            _ => return None,
+        }
+    }
+    Some(natural)
 }
 
 #[inline(always)]

@@ -1,7 +1,7 @@
-use Rattle.std.proofs.Common.{refl, ◌<◌, ◌+◌, ◌-◌, ◌/◌, ℕ, length, get_or, ap, ◌∙◌, arith}
+use Rattle.std.proofs.Common.{◌<◌, ◌+◌, ◌-◌, ◌/◌, ℕ, length, get_or, ap, ◌∙◌, arith}
 use Rattle.std.proofs.lemmas.List.{get_or_default}
 use Rattle.json_doc.specs.NameMaps.{order_to}
-use Rattle.json_doc.proofs.Places.{gap_at_end, above_next, above_before, below_from, told}
+use Rattle.json_doc.proofs.Places.{above_next, above_before, below_from, told}
 use Rattle.json_doc.proofs.name_map.place_of.Goals as goal
 
 pub loop-low-preserved-in-Less : goal.loop-low-preserved-in-Less
@@ -43,6 +43,3 @@ loop-low-preserved g c =
       above = above_next c.args.name.now es middle c.index-entries-middle.result c.requires there here;
       below = l.invariant.below;
     }
-
-pub returns-then-is_above_all-clause-gap : goal.returns-then-is_above_all-clause-gap
-returns-then-is_above_all-clause-gap g c = gap_at_end c.args.name.now c.args.entries.now (c.if-is_above_all.ensures refl)

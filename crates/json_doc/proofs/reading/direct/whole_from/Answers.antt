@@ -9,10 +9,9 @@ unfolding number_of
 returns-then-has_minus c =
     let s = c.as_bytes-bytes.result.now in
     let signed : (get_or s 0 0 == 45) ≡ true = sym c.if-has_minus.ensures.value in
-    let parts : c.scan.result ≡ scan (drop 1 s) = c.scan.ensures.parts ∙ ap scan (take_all _ (drop 1 s) (omega (arith, length-drop 1 s))) in
     let read : number_from true (scan (drop 1 s)) ≡ number_of s = rw signed in
     subst (λ n. IfSome c.negative_from.result (λ z. option_and_then as_integer n ≡ Some z))
-    (ap (number_from true) parts ∙ read ∙ ap number_of c.as_bytes-bytes.ensures.value) c.negative_from.ensures
+    (ap (λ ds. number_from true (scan ds)) (take_all _ (drop 1 s) (omega (arith, length-drop 1 s))) ∙ read ∙ ap number_of c.as_bytes-bytes.ensures.value) c.negative_from.ensures
 
 pub returns-else-has_minus : goal.returns-else-has_minus
 unfolding number_of
@@ -20,5 +19,4 @@ returns-else-has_minus c =
     let s = c.as_bytes-bytes.result.now in
     let unsigned : (get_or s 0 0 == 45) ≡ false = sym c.if-has_minus.ensures.value in
     let read : number_from false (scan s) ≡ number_of s = rw unsigned in
-    subst (λ n. IfSome c.natural_from.result (λ z. option_and_then as_integer n ≡ Some z))
-    (ap (number_from false) c.scan-else-has_minus.ensures.parts ∙ read ∙ ap number_of c.as_bytes-bytes.ensures.value) c.natural_from.ensures
+    subst (λ n. IfSome c.positive_from.result (λ z. option_and_then as_integer n ≡ Some z)) (read ∙ ap number_of c.as_bytes-bytes.ensures.value) c.positive_from.ensures

@@ -1,13 +1,12 @@
 -- The number that digits write, as `serde_json` reads it.
-use Rattle.std.proofs.Common.{◌≡◌, ℕ, zero, suc, ◌-◌, ◌^◌, ◌<◌, ◌≤◌, ◌+◌, ◌*◌, ℤ, negsuc, pos, List, [], ◌∷◌, ◌++◌, length, take, get_or, true, false, Some, option_and_then, refl, sym, ap, ◌∙◌, subst, arith, append-nil, take_all, length-take-le, lt-ltb, le-leb}
+use Rattle.std.proofs.Common.{◌≡◌, ℕ, zero, suc, ◌-◌, ◌^◌, ◌<◌, ◌≤◌, ◌+◌, negsuc, pos, [], ◌∷◌, ◌++◌, length, take, get_or, true, false, Some, option_and_then, refl, sym, ap, ◌∙◌, subst, arith, append-nil, take_all, length-take-le, lt-ltb, le-leb}
 use Rattle.std.proofs.lemmas.List.{take_more}
 use Rattle.std.proofs.lemmas.Str.{digit_value_digit}
 use Rattle.std.proofs.lemmas.Str.Parse.{digits_value_short, numerals_by_value, tells_digits}
 use Rattle.std.specs.Char.{digit_value}
 use Rattle.std.specs.Str.Parse.{AllDigits, digits_value}
-use Rattle.fast_float.specs.Text.{Parts, IsWellFormed, scan, digits_of, with_sign}
+use Rattle.fast_float.specs.Text.{Parts, IsWellFormed, scan, digits_of}
 use Rattle.fast_float.proofs.Writing.{scan-text_of}
-use Rattle.serde_json.specs.Data.{unsigned, negative}
 use Rattle.serde_json.specs.Find.{as_integer}
 use Rattle.serde_json.specs.Read.{number_from, is_integer}
 use Rattle.definitions.specs.Values.{Text}

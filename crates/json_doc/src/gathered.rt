@@ -1,6 +1,6 @@
 //! Members of an object as they are read, in any order of names.
 
-ghost use Rattle.std.specs.Prelude.{◌≡◌, [], IfOk, string_bytes};
+ghost use Rattle.std.specs.Prelude.{◌≡◌, [], IfOk, OnOk, string_bytes};
 ghost use Rattle.json_doc.specs.Docs.{value, members_value};
 ghost use Rattle.json_doc.specs.Gathers.{gathered_view};
 ghost use Rattle.json_doc.specs.Members.{put};
@@ -10,6 +10,7 @@ use crate::members::Members;
 use crate::name_map::NameMap;
 use std::alloc::{AllocError, Global};
 use std::collections::BTreeMap;
+use std::mem;
 
 // How many members may be there for a new one to be put between them. With more of them, moving the later ones takes
 // longer than a map does.
@@ -34,30 +35,68 @@ impl Gathered {
         Gathered::Few(NameMap::new(alloc))
     }
 
-    /// The same with one more member, in place of the one of the same name, if there is one. The time grows with the
-    /// logarithm of the number of members. The only error is want of memory.
-    pub fn with(self, alloc: Global, name: String, member: Doc) -> Result<Gathered, AllocError>
-        ensures { IfOk result (λ g.
-            gathered_view g ≡ put (string_bytes name) (value member) (gathered_view self)) }
+    /// Puts a member in, in place of the one of the same name, if there is one. The time grows with the logarithm of
+    /// the number of members. The only error is want of memory.
+    #[inline(always)]
+    pub fn insert(&mut self, alloc: Global, name: String, member: Doc) -> Result<(), AllocError>
+        ensures { OnOk result
+            (gathered_view self.new ≡ put (string_bytes name) (value member) (gathered_view self.old)) }
     {
+        self.make_room(alloc, name.as_str())?;
         match self {
-            Gathered::Few(mut few) => {
-                if few.len() < MAX_MOVED || few.ends_before(name.as_str()) {
-                    few.insert(name, member)?;
-                    return Ok(Gathered::Few(few));
-                }
-                let mut many = few.into_map(alloc)?;
-                drop(many.insert(name, member)?);
-                Ok(Gathered::Many(many))
+            Gathered::Few(few) => {
+                few.insert(name, member)?;
+                Ok(())
             }
-            Gathered::Many(mut many) => {
+            Gathered::Many(many) => {
                 drop(many.insert(name, member)?);
-                Ok(Gathered::Many(many))
+                Ok(())
             }
         }
     }
 
+    // The same members, in a map where this name would move many.
+    #[inline(always)]
+    fn make_room(&mut self, alloc: Global, name: &str) -> Result<(), AllocError>
+        ensures { OnOk result (gathered_view self.new ≡ gathered_view self.old) }
+    {
+        if self.would_move_many(name) {
+            return self.turn_into_map(alloc);
+        }
+        Ok(())
+    }
+
+    // Whether there are many members, and this name does not come after all of them.
+    #[inline(always)]
+    fn would_move_many(&self, name: &str) -> bool {
+        match self {
+            Gathered::Few(few) => few.len() >= MAX_MOVED && !few.ends_before(name),
+            Gathered::Many(_) => false,
+        }
+    }
+
+    // The same members in a map.
+    #[cold]
+    #[inline(never)]
+    fn turn_into_map(&mut self, alloc: Global) -> Result<(), AllocError>
+        ensures { OnOk result (gathered_view self.new ≡ gathered_view self.old) }
+    {
+        let before = mem::replace(self, Gathered::new(alloc));
+        *self = before.into_many(alloc)?;
+        Ok(())
+    }
+
+    fn into_many(self, alloc: Global) -> Result<Gathered, AllocError>
+        ensures { IfOk result (λ g. gathered_view g ≡ gathered_view self) }
+    {
+        match self {
+            Gathered::Few(few) => Ok(Gathered::Many(few.into_map(alloc)?)),
+            Gathered::Many(many) => Ok(Gathered::Many(many)),
+        }
+    }
+
     /// The object's members. The only error is want of memory.
+    #[inline(always)]
     pub fn into_members(self, alloc: Global) -> Result<Members, AllocError>
         ensures { IfOk result (λ m. members_value m ≡ gathered_view self) }
     {

@@ -81,6 +81,7 @@ impl<T> NameMap<T> {
     }
 
     /// Whether the name comes after all that are here.
+    #[inline(always)]
     pub fn ends_before(&self, name: &str) -> bool
         ensures { IsTrue result → IsAbove name.now self.now }
     {
@@ -114,6 +115,7 @@ impl<T: Drop> NameMap<T> {
 
     /// Puts a value in, in place of the one of the same name, if there is one. The only error is want of memory, and
     /// then the map stays as it was.
+    #[inline(always)]
     pub fn insert(&mut self, name: String, value: T) -> Result<(), AllocError>
         ensures ok { OnOk result (self.new ≡ insert_entry string_cmp self.old name value) }
         ensures unchanged { OnErr result (self.new ≡ self.old) }
@@ -125,6 +127,7 @@ impl<T: Drop> NameMap<T> {
     }
 
     // The same, where the name comes after all that are here.
+    #[inline(always)]
     fn push(&mut self, name: String, value: T) -> Result<(), AllocError>
         requires { IsAbove (string_bytes name) self.old }
         ensures ok { OnOk result (self.new ≡ insert_entry string_cmp self.old name value) }
@@ -135,6 +138,7 @@ impl<T: Drop> NameMap<T> {
     }
 
     // The same, wherever the name goes.
+    #[inline(never)]
     fn put(&mut self, name: String, value: T) -> Result<(), AllocError>
         ensures ok { OnOk result (self.new ≡ insert_entry string_cmp self.old name value) }
         ensures unchanged { OnErr result (self.new ≡ self.old) }
@@ -152,6 +156,7 @@ impl<T: Drop> NameMap<T> {
     }
 }
 
+#[inline(always)]
 fn is_above_all<T>(entries: &[(String, T)], name: &str) -> bool
     requires { IsStrictlySortedBy string_cmp (keys_of entries.now) }
     ensures { IsTrue result → IsAbove name.now entries.now }

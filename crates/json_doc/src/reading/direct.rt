@@ -116,7 +116,7 @@ fn dict_from(alloc: Global, reader: &mut Reader<'_>, depth: usize) -> Result<Mem
     'members: while let Some(name) = reader.next_key()? {
         let key = String::from_str(alloc, name)?;
         let member = doc_from(alloc, reader, depth)?;
-        gathered = gathered.with(alloc, key, member)?;
+        gathered.insert(alloc, key, member)?;
     }
     Ok(gathered.into_members(alloc)?)
 }

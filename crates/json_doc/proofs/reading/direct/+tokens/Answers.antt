@@ -125,7 +125,7 @@ dict_from-members-preserved t c =
     let lesser = done.shorter in
     let copied : string_bytes c.in_ok-key.key ≡ k = search rules in
     let turn = member_put p old n k l.reader s r v (omega (arith, l.invariant.2)) named done.ok in
-    let inserted : gathered_view c.in_ok-gathered.gathered ≡ put k v (gathered_view l.gathered) = c.in_ok-gathered.ensures ∙ ap (λ name. put name v (gathered_view l.gathered)) copied in (
+    let inserted : gathered_view c.insert.new.self ≡ put k v (gathered_view l.gathered) = c.in_ok-insert.ensures ∙ ap (λ name. put name v (gathered_view l.gathered)) copied in (
       n - 1,
       json.put k turn.0 old,
       omega (arith, l.invariant.2),

@@ -1,4 +1,4 @@
-use Rattle.std.proofs.Common.{◌≡◌, ◌<◌, ◌≤◌, ◌^◌, length, take}
+use Rattle.std.proofs.Common.{◌≡◌, ◌<◌, ◌≤◌, length, take}
 use Rattle.std.specs.Str.Parse.{AllDigits, digits_value}
 use Rattle.json_doc.proofs.reading.direct.natural_from.Given as goal
 

@@ -12,6 +12,7 @@ use crate::doc::Doc;
 use crate::gathered::Gathered;
 use crate::members::Members;
 use crate::whole::Whole;
+use fast_float::Numeral;
 use json::{Invalid, Reader, Scratch, Token};
 use std::alloc::{AllocError, AllocFailed, Global};
 
@@ -121,7 +122,7 @@ fn dict_from(alloc: Global, reader: &mut Reader<'_>, depth: usize) -> Result<Mem
     Ok(gathered.into_members(alloc)?)
 }
 
-// The number that the token spells, if it is whole and has at most 18 digits.
+// The number that the token spells, if it is whole and 64 bits hold it.
 #[inline(always)]
 fn whole_from(text: &str) -> Option<Whole>
     ensures { IfSome result (λ z. whole_at text.now ≡ Some z) }
@@ -141,7 +142,7 @@ fn positive_from(digits: &[u8]) -> Option<Whole>
 {
     match natural_from(digits) {
         Some(natural) => Some(Whole::of(natural)),
-        None => None,
+        None => long_positive_from(digits),
     }
 }
 
@@ -154,6 +155,49 @@ fn negative_from(digits: &[u8]) -> Option<Whole>
     match natural_from(digits) {
         Some(natural) => if natural > 0 {
             Some(Whole::below_zero(natural - 1))
+        } else {
+            None
+        },
+        None => long_negative_from(digits),
+    }
+}
+
+// The same with any number of digits.
+#[cold]
+#[inline(never)]
+fn long_positive_from(digits: &[u8]) -> Option<Whole>
+    ensures { IfSome result (λ z.
+        option_and_then as_integer (number_from false (scan digits.now)) ≡ Some z) }
+{
+    positive_of(&Numeral::scan(digits))
+}
+
+#[cold]
+#[inline(never)]
+fn long_negative_from(digits: &[u8]) -> Option<Whole>
+    ensures { IfSome result (λ z.
+        option_and_then as_integer (number_from true (scan digits.now)) ≡ Some z) }
+{
+    negative_of(&Numeral::scan(digits))
+}
+
+fn positive_of(numeral: &Numeral<'_>) -> Option<Whole>
+    ensures { IfSome result (λ z.
+        option_and_then as_integer (number_from false numeral.now) ≡ Some z) }
+{
+    match numeral.to_u64() {
+        Some(number) => Some(Whole::of(number)),
+        None => None,
+    }
+}
+
+fn negative_of(numeral: &Numeral<'_>) -> Option<Whole>
+    ensures { IfSome result (λ z.
+        option_and_then as_integer (number_from true numeral.now) ≡ Some z) }
+{
+    match numeral.to_i64(true) {
+        Some(number) => if number < 0 {
+            Some(Whole::of_signed(number))
         } else {
             None
         },

@@ -5,3 +5,6 @@ pub mod PlacedThere
 pub mod MeasuredDocuments
 pub mod TakenResources
 pub mod PutTogether
+pub mod ClaimedDocuments
+pub mod ClaimMaps
+pub mod MadeClaims

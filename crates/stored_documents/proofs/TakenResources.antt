@@ -1,25 +1,14 @@
 -- Resource URIs that another document holds, among documents with distinct resource URIs.
-use Rattle.std.proofs.Common.{◌≡◌, ◌++◌, List, [], ◌∷◌, Bool, true, false, not, cond, Option, Some, None, filter, find, Contains, sym, refl, ap, ◌∙◌, subst, append-nil}
-use Rattle.std.proofs.lemmas.Bool.{false_from_ne_true, not-true}
-use Rattle.std.proofs.lemmas.List.Elements.{filter-append}
+use Rattle.std.proofs.Common.{◌≡◌, List, Bool, true, false, not, Some, None, find, Contains, sym, refl, ap, ◌∙◌}
+use Rattle.std.proofs.lemmas.Bool.{false_from_ne_true}
 use Rattle.std.specs.List.{list_any}
 use Rattle.definitions.specs.Documents.{others_of, resource_uris_of}
 use Rattle.definitions.specs.Lists.{has_repeat}
-use Rattle.definitions.specs.Reach.{holds_resource, least, lesser}
+use Rattle.definitions.specs.Reach.{holds_resource}
 use Rattle.definitions.specs.Schemas.{Document}
 use Rattle.definitions.specs.Values.{Text, same_text}
 use Rattle.definition_laws.proofs.Membership.{any_at, any_where, in_filter, from_filter, found_there, found_some}
 use Rattle.definition_laws.proofs.Resources.{one_document}
-use Rattle.linker.proofs.Least.{least_more}
-
--- ---- one URI more
-more_at : (ts : List Text) (t : Text) (b : Bool) → least (ts ++ cond b (t ∷ []) []) ≡ cond b (Some (lesser t (least ts))) (least ts)
-more_at ts t true = least_more ts t
-more_at ts t false = ap least (append-nil ts)
-
-pub taken_more : (p : Text → Bool) (ts : List Text) (t : Text)
-    → least (filter p (ts ++ t ∷ [])) ≡ cond (p t) (Some (lesser t (least (filter p ts)))) (least (filter p ts))
-taken_more p ts t = ap least (filter-append p ts (t ∷ [])) ∙ more_at (filter p ts) t (p t)
 
 -- ---- where the holder is another
 holder_among : (canonical uri : Text) (ds : List Document) (d : Document) (b : Bool) → has_repeat same_text (resource_uris_of ds) ≡ false → find (holds_resource uri) ds ≡ Some d

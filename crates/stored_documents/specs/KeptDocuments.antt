@@ -12,9 +12,11 @@ use Rattle.definitions.specs.Searches.{is_regular}
 use Rattle.definitions.specs.Values.{same_text}
 use Rattle.definition_laws.proofs.Membership.{nothing_in, first_or_later}
 use Rattle.stored_documents.specs.DocumentLists.{documents_in}
+use Rattle.stored_documents.specs.OrderedDocuments.{ordered_documents}
 use Rattle.stored_documents.specs.SharedStored.{stored_documents}
 use Rattle.stored_documents.specs.StoredDocuments.{stored_document}
 use Rattle.stored_documents.specs.declared.documents.Documents.{Documents}
+use Rattle.stored_documents.specs.declared.ordered.OrderedDocuments.{OrderedDocuments}
 use Rattle.stored_documents.specs.declared.stored.Stored.{Stored}
 
 pub of_each : (P : Document → Type 0) → ((s : Stored) → P (stored_document s)) → (items : List (Rc Stored Global)) (d : Document) → Contains (stored_documents items) d → P d
@@ -35,6 +37,10 @@ kept_stored items ascend distinct = record {
   regular_patterns = of_each (λ d. IsTrue (is_regular regular_search d.value)) (λ s. s.regular) items;
 }
 
+pub kept_ordered : (ds : OrderedDocuments) → AreKept regular_search (ordered_documents ds)
+unfolding ordered_documents
+kept_ordered ds = kept_stored ds.stored.items ds.ascend ds.distinct
+
 pub kept_documents : (ds : Documents) → AreKept regular_search (documents_in ds)
 unfolding documents_in
-kept_documents ds = kept_stored ds.stored.items ds.ascend ds.distinct
+kept_documents ds = kept_ordered ds.ordered

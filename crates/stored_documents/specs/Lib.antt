@@ -1,4 +1,6 @@
 pub mod StoredDocuments
 pub mod SharedStored
+pub mod OrderedDocuments
+pub mod Claims
 pub mod DocumentLists
 pub mod KeptDocuments

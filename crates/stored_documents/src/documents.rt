@@ -1,48 +1,47 @@
 //! The documents of a tenant.
 
-ghost use Rattle.std.specs.Prelude.{◌≡◌, ◌^◌, ◌<◌, [], None, false, find, is_some, length, option_map, IfErr, IfOk, OnErr, OnOk};
-ghost use Rattle.std.specs.List.Sorted.{IsStrictlySortedBy-prop};
+ghost use Rattle.std.specs.Prelude.{◌≡◌, ◌^◌, ◌<◌, [], None, Some, find, if◌then◌else◌, is_some, length, option_and_then, option_map, IfErr, IfOk, OnErr, OnOk};
 ghost use Rattle.definitions.specs.Batches.{repeated_uri, taken_by};
-ghost use Rattle.definitions.specs.Documents.{bytes_of, document_of, others_of, placed, placed_all, resource_uris_of, taken_uri, Ascend};
+ghost use Rattle.definitions.specs.Documents.{bytes_of, document_of, others_of, placed, placed_all, taken_uri};
 ghost use Rattle.definitions.specs.Keeping.{AreKept};
-ghost use Rattle.definitions.specs.Lists.{has_repeat};
 ghost use Rattle.definitions.specs.Patterns.{regular_search};
 ghost use Rattle.definitions.specs.Reach.{holds_resource};
-ghost use Rattle.definitions.specs.Values.{same_text};
+ghost use Rattle.stored_documents.specs.Claims.{AreClaimed, AreClaimed-prop};
+ghost use Rattle.stored_documents.specs.OrderedDocuments.{ordered_documents};
 ghost use Rattle.stored_documents.specs.SharedStored.{stored_documents};
 ghost use Rattle.stored_documents.specs.StoredDocuments.{stored_document};
 
-use crate::placing::{place, position, take_out};
+use crate::claims::{claims_to_make, make_claims, push_claims};
+use crate::ordered::OrderedDocuments;
 use crate::stored::Stored;
-use crate::together::{place_all, total_length};
 use faults::Fault;
 use std::alloc::Global;
+use std::collections::BTreeMap;
 use std::rc::Rc;
 
 /// Documents in byte order of their canonical URIs, no two of which hold a resource of one URI, and how many bytes their
 /// compact texts have together.
 ///
-/// Contracts see them by `documents_in`.
+/// A look-up by the URI of a resource doesn't grow with their number but by its logarithm. Contracts see them by
+/// `documents_in`.
 #[derive(Drop)]
 pub struct Documents {
-    stored: Vec<Rc<Stored>>,
-    bytes: u64,
-    ghost ascend: { Ascend (stored_documents stored.items) } by { IsStrictlySortedBy-prop _ _ },
-    ghost distinct: { has_repeat same_text (resource_uris_of (stored_documents stored.items)) ≡ false },
-    ghost measured: { bytes ≡ bytes_of (stored_documents stored.items) },
+    ordered: OrderedDocuments,
+    // By the URI of a resource, the document that claims to have it: never missing where one has it, and else stale.
+    pub(crate) claims: BTreeMap<String, Rc<Stored>>,
+    ghost claimed: { AreClaimed claims (ordered_documents ordered) } by { AreClaimed-prop _ _ },
 }
 
 impl Documents {
     ghost use Rattle.stored_documents.specs.DocumentLists.{documents_in};
 
     /// No documents.
-    #[tactic(auto, unfolding(crate::specs::DocumentLists::documents_in, crate::specs::SharedStored::stored_documents))]
     pub fn new(alloc: Global) -> Documents
         ensures { documents_in result ≡ [] }
     {
         Documents {
-            stored: Vec::new(alloc),
-            bytes: 0,
+            ordered: OrderedDocuments::new(alloc),
+            claims: BTreeMap::new(alloc),
         }
     }
 
@@ -52,10 +51,11 @@ impl Documents {
     {}
 
     /// How many documents there are.
+    #[tactic(auto, unfolding(crate::specs::DocumentLists::documents_in))]
     pub fn len(&self) -> usize
         ensures { result ≡ length (documents_in self.now) }
     {
-        self.stored.as_slice().len()
+        self.ordered.len()
     }
 
     /// How many bytes their compact texts have together.
@@ -63,26 +63,40 @@ impl Documents {
     pub fn bytes(&self) -> u64
         ensures { result ≡ bytes_of (documents_in self.now) }
     {
-        self.bytes
+        self.ordered.bytes()
     }
 
     /// The document with this canonical URI.
+    #[tactic(auto, unfolding(crate::specs::DocumentLists::documents_in))]
     pub fn find(&self, canonical: &str) -> Option<&Rc<Stored>>
         ensures { option_map (λ s. stored_document s.now.value) result ≡ document_of (documents_in self.now) canonical.now }
     {
-        match position(&self.stored, canonical) {
-            Ok(at) => Some(&self.stored[at]),
-            Err(_) => None,
-        }
+        self.ordered.find(canonical)
     }
 
     /// The document that has a resource of this URI.
     pub fn holder(&self, uri: &str) -> Option<&Rc<Stored>>
         ensures { option_map (λ s. stored_document s.now.value) result ≡ find (holds_resource uri.now) (documents_in self.now) }
     {
-        match self.find(uri) {
-            Some(document) => Some(document),
-            None => embedding(&self.stored, uri),
+        match self.claims.get(uri) {
+            Some(claim) => self.find_with(claim.canonical(), uri),
+            None => None,
+        }
+    }
+
+    // The document with this canonical URI, where it has a resource of the other URI.
+    fn find_with(&self, canonical: &str, uri: &str) -> Option<&Rc<Stored>>
+        ensures { option_map (λ s. stored_document s.now.value) result ≡ option_and_then (λ d. if holds_resource uri.now d then Some d else None) (document_of (documents_in self.now) canonical.now) }
+    {
+        match self.find(canonical) {
+            Some(document) => {
+                if document.holds(uri) {
+                    Some(document)
+                } else {
+                    None
+                }
+            }
+            None => None,
         }
     }
 
@@ -96,15 +110,23 @@ impl Documents {
         ensures kept { OnErr result (documents_in self.new ≡ documents_in self.old) }
         ensures err { IfErr result (λ f. f ≡ Fault.NoRoom) }
     {
-        let length = document.length() as u64;
-        match place(&mut self.stored, document)? {
-            Some(replaced) => {
-                self.bytes = self.bytes - replaced.length() as u64 + length;
-                Ok(true)
+        let mut made = Vec::new(alloc);
+        push_claims(alloc, &mut made, &document)?;
+        self.claim(alloc, &made)?;
+        match self.ordered.insert(document) {
+            Ok(replaced) => {
+                make_claims(&mut self.claims, made);
+                match replaced {
+                    Some(replaced) => {
+                        self.release_document(&replaced);
+                        Ok(true)
+                    }
+                    None => Ok(false),
+                }
             }
-            None => {
-                self.bytes += length;
-                Ok(false)
+            Err(fault) => {
+                self.release_made(&made);
+                Err(fault)
             }
         }
     }
@@ -119,12 +141,20 @@ impl Documents {
         ensures kept { OnErr result (documents_in self.new ≡ documents_in self.old) }
         ensures err { IfErr result (λ f. f ≡ Fault.NoRoom) }
     {
-        let before = self.bytes;
-        self.stored.reserve(documents.as_slice().len())?;
-        let added = total_length(&documents);
-        let replaced = place_all(&mut self.stored, documents);
-        self.bytes = before - replaced + added;
-        Ok(())
+        let replaced = self.standing(alloc, &documents)?;
+        let made = claims_to_make(alloc, &documents)?;
+        self.claim(alloc, &made)?;
+        match self.ordered.insert_all(documents) {
+            Ok(()) => {
+                make_claims(&mut self.claims, made);
+                self.release_documents(&replaced);
+                Ok(())
+            }
+            Err(fault) => {
+                self.release_made(&made);
+                Err(fault)
+            }
+        }
     }
 
     /// Takes out the document with this canonical URI, and answers whether there was one.
@@ -132,19 +162,12 @@ impl Documents {
         ensures others { documents_in self.new ≡ others_of canonical.now (documents_in self.old) }
         ensures removed { result ≡ is_some (document_of (documents_in self.old) canonical.now) }
     {
-        match take_out(&mut self.stored, canonical) {
+        match self.ordered.remove(canonical) {
             Some(removed) => {
-                self.bytes -= removed.length() as u64;
+                self.release_document(&removed);
                 true
             }
             None => false,
         }
     }
-}
-
-// The first document that has this resource.
-fn embedding<'a>(documents: &'a [Rc<Stored>], uri: &str) -> Option<&'a Rc<Stored>>
-    ensures { option_map (λ s. stored_document s.now.value) result ≡ find (holds_resource uri.now) (stored_documents documents.now) }
-{
-    documents.iter().find(|document| document.holds(uri))
 }

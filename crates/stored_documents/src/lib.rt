@@ -1,8 +1,11 @@
 //! The documents that a tenant has put, as they are stored.
 #![tactic(auto)]
 
+mod claims;
 mod documents;
+mod ordered;
 mod placing;
+mod releases;
 mod resource_texts;
 mod stored;
 mod taken_uris;

@@ -1,17 +1,25 @@
-use Rattle.std.proofs.Common.{find, ap, sym, ◌∙◌}
-use Rattle.definitions.specs.Patterns.{regular_search}
-use Rattle.definitions.specs.Reach.{holds_resource}
-use Rattle.definition_laws.proofs.StoredDocuments.{canonical_holder}
+use Rattle.std.proofs.Common.{Some, option_map, ap, sym, ◌∙◌}
+use Rattle.std.specs.Global.{Global}
+use Rattle.std.specs.declared.rc.Rc.{Rc}
+use Rattle.stored_documents.specs.Claims.{claim_of}
 use Rattle.stored_documents.specs.DocumentLists.{documents_in}
-use Rattle.stored_documents.specs.SharedStored.{stored_documents}
-use Rattle.stored_documents.specs.StoredDocuments.{stored_document}
+use Rattle.stored_documents.specs.OrderedDocuments.{ordered_documents}
 use Rattle.stored_documents.specs.KeptDocuments.{kept_documents}
+use Rattle.stored_documents.specs.StoredDocuments.{stored_document}
+use Rattle.stored_documents.specs.declared.stored.Stored.{Stored}
+use Rattle.stored_documents.proofs.ClaimedDocuments.{claimed_holder, unclaimed}
 use Rattle.stored_documents.proofs.documents.Documents.holder.Goals as goal
 
 pub returns-in-Some : goal.returns-in-Some
+unfolding documents_in claim_of
 returns-in-Some c =
-    sym (canonical_holder regular_search (documents_in c.args.self.now) c.args.uri.now (stored_document c.in-Some.document.now.value) (kept_documents c.args.self.now) (sym c.in-Some.ensures))
+    c.find_with.ensures
+    ∙ claimed_holder c.args.self.now.claims (ordered_documents c.args.self.now.ordered) c.args.uri.now c.canonical.result.now (kept_documents c.args.self.now) c.args.self.now.claimed
+    (ap (option_map (λ (s : Rc Stored Global). (stored_document s.value).canonical)) (sym c.in-Some.ensures.value)
+    ∙ ap Some (sym (c.canonical.ensures ∙ ap (λ s. (stored_document s).canonical) c.deref.ensures)))
 
 pub returns-in-None : goal.returns-in-None
-unfolding documents_in
-returns-in-None c = c.embedding.ensures ∙ ap (λ ds. find (holds_resource c.args.uri.now) (stored_documents ds)) c.deref.ensures.value
+unfolding documents_in claim_of
+returns-in-None c =
+    sym (unclaimed c.args.self.now.claims (ordered_documents c.args.self.now.ordered) c.args.uri.now c.args.self.now.claimed
+    (ap (option_map (λ (s : Rc Stored Global). (stored_document s.value).canonical)) (sym c.in-None.ensures.value)))

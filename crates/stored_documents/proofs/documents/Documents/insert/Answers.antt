@@ -1,86 +1,57 @@
-use Rattle.std.proofs.Common.{◌≡◌, Result, Ok, Err, OnErr, is_some, length, option_map, ap, sym, subst, ◌∙◌}
-use Rattle.definitions.specs.Documents.{bytes_of, others_of, placed}
-use Rattle.definitions.specs.Keeping.{AreKept}
-use Rattle.definitions.specs.Patterns.{regular_search}
-use Rattle.definitions.specs.Texts.{text}
+use Rattle.std.proofs.Common.{◌^◌, ◌<◌, [], ◌∷◌, Contains, is_some, ap, refl, sym, subst, ◌∙◌}
+use Rattle.definitions.specs.Documents.{bytes_of, document_of, placed, taken_uri}
+use Rattle.stored_documents.specs.Claims.{claims_in}
 use Rattle.stored_documents.specs.DocumentLists.{documents_in}
-use Rattle.stored_documents.specs.SharedStored.{stored_documents}
+use Rattle.stored_documents.specs.KeptDocuments.{kept_ordered}
+use Rattle.stored_documents.specs.OrderedDocuments.{ordered_documents}
 use Rattle.stored_documents.specs.StoredDocuments.{stored_document}
-use Rattle.stored_documents.specs.KeptDocuments.{kept_stored}
-use Rattle.stored_documents.proofs.KeptStored.{kept_with}
-use Rattle.stored_documents.proofs.MeasuredDocuments.{fits_as, sum_instead, sum_more}
+use Rattle.stored_documents.proofs.ClaimedDocuments.{claimed_after}
+use Rattle.stored_documents.proofs.MadeClaims.{claims_made}
 use Rattle.stored_documents.proofs.documents.Documents.insert.Goals as goal
 
-on_err : {A E P : Type 0} (r : Result A E) → P → OnErr r P
-on_err (Ok x) p = tt
-on_err (Err e) p = p
-
-pub returns-in_err-replaced-clause-kept : goal.returns-in_err-replaced-clause-kept
+pub insert-requires-clause-free : goal.insert-requires-clause-free
 unfolding documents_in
-returns-in_err-replaced-clause-kept c = on_err c.from_residual.result c.in_err-replaced.ensures.kept
+insert-requires-clause-free c = ap (λ ds. taken_uri ds (stored_document c.args.document.value)) c.claim.ensures.same ∙ c.requires.free
 
-pub overflow_sub-self : goal.overflow_sub-self
-overflow_sub-self c =
-    let ds = stored_documents c.args.self.now.stored.items in
-    (sum_instead (stored_document c.args.document.value) (stored_document c.in-Some.replaced.value) ds c.length.result c.length-length.result c.args.self.now.bytes c.args.self.now.ascend
-    (sym c.in_ok-replaced.ensures.replaced ∙ ap (option_map (λ s. stored_document s.value)) c.in-Some.is)
-    (c.length.ensures ∙ ap (λ s. length (text (stored_document s).value)) c.deref-in-Some.ensures)
-    (c.length-length.ensures ∙ ap (λ s. length (text (stored_document s).value)) c.deref.ensures) c.args.self.now.measured).0
-
-pub overflow_add-self : goal.overflow_add-self
+pub insert-requires-clause-fits : goal.insert-requires-clause-fits
 unfolding documents_in
-overflow_add-self c =
-    let ds = stored_documents c.args.self.now.stored.items in
-    let sum = sum_instead (stored_document c.args.document.value) (stored_document c.in-Some.replaced.value) ds c.length.result c.length-length.result c.args.self.now.bytes c.args.self.now.ascend
-    (sym c.in_ok-replaced.ensures.replaced ∙ ap (option_map (λ s. stored_document s.value)) c.in-Some.is)
-    (c.length.ensures ∙ ap (λ s. length (text (stored_document s).value)) c.deref-in-Some.ensures)
-    (c.length-length.ensures ∙ ap (λ s. length (text (stored_document s).value)) c.deref.ensures) c.args.self.now.measured in
-    fits_as _ (bytes_of (placed (stored_document c.args.document.value) ds)) sum.1 c.requires.fits
+insert-requires-clause-fits c = subst (λ ds. bytes_of (placed (stored_document c.args.document.value) ds) < 2 ^ 64) (sym c.claim.ensures.same) c.requires.fits
 
-pub invariant_of-self-in-Some : goal.invariant_of-self-in-Some
+pub invariant_of-self : goal.invariant_of-self
 unfolding documents_in
-invariant_of-self-in-Some c =
-    let ds = stored_documents c.args.self.now.stored.items in
-    let sum = sum_instead (stored_document c.args.document.value) (stored_document c.in-Some.replaced.value) ds c.length.result c.length-length.result c.args.self.now.bytes c.args.self.now.ascend
-    (sym c.in_ok-replaced.ensures.replaced ∙ ap (option_map (λ s. stored_document s.value)) c.in-Some.is)
-    (c.length.ensures ∙ ap (λ s. length (text (stored_document s).value)) c.deref-in-Some.ensures)
-    (c.length-length.ensures ∙ ap (λ s. length (text (stored_document s).value)) c.deref.ensures) c.args.self.now.measured in
-    let after = subst (AreKept regular_search) (sym c.in_ok-replaced.ensures.placed)
-    (kept_with ds c.args.document.value (kept_stored c.args.self.now.stored.items c.args.self.now.ascend c.args.self.now.distinct) c.requires.free) in
-    record { ascend = after.ordered; distinct = after.distinct; measured = sum.1 ∙ ap bytes_of (sym c.in_ok-replaced.ensures.placed) }
-
-pub overflow_add-self-in-None : goal.overflow_add-self-in-None
-unfolding documents_in
-overflow_add-self-in-None c =
-    let ds = stored_documents c.args.self.now.stored.items in
-    let sum = sum_more (stored_document c.args.document.value) ds c.length-length.result c.args.self.now.bytes c.args.self.now.ascend
-    (sym c.in_ok-replaced.ensures.replaced ∙ ap (option_map (λ s. stored_document s.value)) c.in-None.is)
-    (c.length-length.ensures ∙ ap (λ s. length (text (stored_document s).value)) c.deref.ensures) c.args.self.now.measured in
-    fits_as _ (bytes_of (placed (stored_document c.args.document.value) ds)) sum c.requires.fits
-
-pub invariant_of-self-in-None : goal.invariant_of-self-in-None
-unfolding documents_in
-invariant_of-self-in-None c =
-    let ds = stored_documents c.args.self.now.stored.items in
-    let sum = sum_more (stored_document c.args.document.value) ds c.length-length.result c.args.self.now.bytes c.args.self.now.ascend
-    (sym c.in_ok-replaced.ensures.replaced ∙ ap (option_map (λ s. stored_document s.value)) c.in-None.is)
-    (c.length-length.ensures ∙ ap (λ s. length (text (stored_document s).value)) c.deref.ensures) c.args.self.now.measured in
-    let after = subst (AreKept regular_search) (sym c.in_ok-replaced.ensures.placed)
-    (kept_with ds c.args.document.value (kept_stored c.args.self.now.stored.items c.args.self.now.ascend c.args.self.now.distinct) c.requires.free) in
-    record { ascend = after.ordered; distinct = after.distinct; measured = sum ∙ ap bytes_of (sym c.in_ok-replaced.ensures.placed) }
+invariant_of-self c =
+    let d = stored_document c.args.document.value in
+    let made = c.push_claims.new.made.items in
+    record {
+      claimed = claimed_after c.claim.new.self.claims c.make_claims.new.claims (d ∷ []) (ordered_documents c.claim.new.self.ordered) (ordered_documents c.insert.new.self) (claims_in made)
+          (claims_made c.new-made.result.items made d c.new-made.ensures.items c.in_ok-push_claims.ensures)
+          c.in-Ok.ensures.placed
+          refl
+          (kept_ordered c.insert.new.self).distinct
+          c.claim.new.self.claimed
+          (λ u t k. c.in_ok-claim.ensures.claimed u t (subst (λ ps. Contains (claims_in ps) (u, t)) (sym c.deref.ensures.value) k))
+          c.make_claims.ensures;
+    }
 
 pub returns-in-Some-clause-placed : goal.returns-in-Some-clause-placed
 unfolding documents_in
-returns-in-Some-clause-placed c = c.in_ok-replaced.ensures.placed
+returns-in-Some-clause-placed c =
+    c.release_document.ensures ∙ c.in-Ok.ensures.placed ∙ ap (placed (stored_document c.args.document.value)) c.claim.ensures.same
 
 pub returns-in-Some-clause-replaced : goal.returns-in-Some-clause-replaced
 unfolding documents_in
-returns-in-Some-clause-replaced c = ap is_some (sym (ap (option_map (λ s. stored_document s.value)) c.in-Some.is) ∙ c.in_ok-replaced.ensures.replaced)
+returns-in-Some-clause-replaced c =
+    sym (ap is_some c.in-Some.is) ∙ c.in-Ok.ensures.replaced ∙ ap (λ ds. is_some (document_of ds (stored_document c.args.document.value).canonical)) c.claim.ensures.same
 
 pub returns-in-None-clause-placed : goal.returns-in-None-clause-placed
 unfolding documents_in
-returns-in-None-clause-placed c = c.in_ok-replaced.ensures.placed
+returns-in-None-clause-placed c = c.in-Ok.ensures.placed ∙ ap (placed (stored_document c.args.document.value)) c.claim.ensures.same
 
 pub returns-in-None-clause-replaced : goal.returns-in-None-clause-replaced
 unfolding documents_in
-returns-in-None-clause-replaced c = ap is_some (sym (ap (option_map (λ s. stored_document s.value)) c.in-None.is) ∙ c.in_ok-replaced.ensures.replaced)
+returns-in-None-clause-replaced c =
+    sym (ap is_some c.in-None.is) ∙ c.in-Ok.ensures.replaced ∙ ap (λ ds. is_some (document_of ds (stored_document c.args.document.value).canonical)) c.claim.ensures.same
+
+pub returns-in-Err-clause-kept : goal.returns-in-Err-clause-kept
+unfolding documents_in
+returns-in-Err-clause-kept c = c.release_made.ensures ∙ c.in-Err.ensures.kept ∙ c.claim.ensures.same

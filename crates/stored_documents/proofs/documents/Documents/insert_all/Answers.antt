@@ -1,64 +1,47 @@
-use Rattle.std.proofs.Common.{◌^◌, ◌<◌, ◌≤◌, Result, Ok, Err, OnErr, ap, sym, subst, ◌∙◌, arith}
+use Rattle.std.proofs.Common.{◌^◌, ◌<◌, Contains, ap, sym, subst, ◌∙◌}
+use Rattle.definitions.specs.Batches.{taken_by}
 use Rattle.definitions.specs.Documents.{bytes_of, placed_all}
-use Rattle.definitions.specs.Keeping.{AreKept}
-use Rattle.definitions.specs.Patterns.{regular_search}
+use Rattle.stored_documents.specs.Claims.{claims_in, claims_of}
 use Rattle.stored_documents.specs.DocumentLists.{documents_in}
-use Rattle.stored_documents.specs.KeptDocuments.{kept_stored}
+use Rattle.stored_documents.specs.KeptDocuments.{kept_ordered}
+use Rattle.stored_documents.specs.OrderedDocuments.{ordered_documents}
 use Rattle.stored_documents.specs.SharedStored.{stored_documents}
-use Rattle.stored_documents.proofs.MeasuredDocuments.{fits_as}
-use Rattle.stored_documents.proofs.PutTogether.{below_fits, kept_with_all, own_bytes, sum_together, unrepeated}
+use Rattle.stored_documents.proofs.ClaimedDocuments.{claimed_after}
+use Rattle.stored_documents.proofs.PutTogether.{unrepeated}
 use Rattle.stored_documents.proofs.documents.Documents.insert_all.Goals as goal
 
-on_err : {A E P : Type 0} (r : Result A E) → P → OnErr r P
-on_err (Ok x) p = tt
-on_err (Err e) p = p
-
-pub returns-in_err-reserve-clause-kept : goal.returns-in_err-reserve-clause-kept
+pub insert_all-requires-clause-free : goal.insert_all-requires-clause-free
 unfolding documents_in
-returns-in_err-reserve-clause-kept c = on_err c.from_residual.result (ap stored_documents c.reserve.ensures.items)
-
-pub total_length-added-requires : goal.total_length-added-requires
-unfolding documents_in
-total_length-added-requires c =
-    let ds = stored_documents c.args.self.now.stored.items in
+insert_all-requires-clause-free c =
     let es = stored_documents c.args.documents.items in
-    below_fits (bytes_of (stored_documents c.deref.result.now)) (bytes_of es) (bytes_of (placed_all es ds)) (ap (λ ss. bytes_of (stored_documents ss)) c.deref.ensures.value)
-    (own_bytes es ds c.args.self.now.ascend c.requires.once) c.requires.fits
+    ap (λ ds. taken_by (placed_all es ds) es) c.claim.ensures.same ∙ c.requires.free
 
-pub place_all-replaced-requires-clause-fits : goal.place_all-replaced-requires-clause-fits
-place_all-replaced-requires-clause-fits c =
-    let ds = stored_documents c.args.self.now.stored.items in
-    let small : c.args.self.now.bytes < 2 ^ 64 = omega arith in
-    let same : c.args.self.now.bytes ≤ c.args.self.now.bytes = omega arith in
-    below_fits (bytes_of (stored_documents c.reserve.new.self.items)) c.args.self.now.bytes c.args.self.now.bytes
-    (ap (λ ss. bytes_of (stored_documents ss)) c.reserve.ensures.items ∙ sym c.args.self.now.measured) same small
-
-pub place_all-replaced-requires-clause-once : goal.place_all-replaced-requires-clause-once
-place_all-replaced-requires-clause-once c = unrepeated (stored_documents c.args.documents.items) c.requires.once
-
-pub overflow_add-self : goal.overflow_add-self
+pub insert_all-requires-clause-fits : goal.insert_all-requires-clause-fits
 unfolding documents_in
-overflow_add-self c =
-    let ds = stored_documents c.args.self.now.stored.items in
+insert_all-requires-clause-fits c =
+    subst (λ ds. bytes_of (placed_all (stored_documents c.args.documents.items) ds) < 2 ^ 64) (sym c.claim.ensures.same) c.requires.fits
+
+pub invariant_of-self : goal.invariant_of-self
+unfolding documents_in
+invariant_of-self c =
     let es = stored_documents c.args.documents.items in
-    let sum = sum_together es ds (stored_documents c.reserve.new.self.items) (stored_documents c.place_all-replaced.new.stored.items) c.args.self.now.bytes
-    c.place_all-replaced.result c.total_length-added.result (ap stored_documents c.reserve.ensures.items) c.args.self.now.measured c.place_all-replaced.ensures.placed
-    c.place_all-replaced.ensures.bytes c.place_all-replaced.ensures.within (c.total_length-added.ensures ∙ ap (λ ss. bytes_of (stored_documents ss)) c.deref.ensures.value) in
-    fits_as _ (bytes_of (placed_all es ds)) sum c.requires.fits
+    record {
+      claimed = claimed_after c.claim.new.self.claims c.make_claims.new.claims es (ordered_documents c.claim.new.self.ordered) (ordered_documents c.insert_all.new.self)
+          (claims_in c.in_ok-made.made.items)
+          (c.in_ok-made.ensures ∙ ap (λ ss. claims_of (stored_documents ss)) c.deref-2.ensures.value)
+          c.in-Ok.ensures.placed
+          (unrepeated es c.requires.once)
+          (kept_ordered c.insert_all.new.self).distinct
+          c.claim.new.self.claimed
+          (λ u t k. c.in_ok-claim.ensures.claimed u t (subst (λ ps. Contains (claims_in ps) (u, t)) (sym c.deref-3.ensures.value) k))
+          c.make_claims.ensures;
+    }
 
-pub invariant_of-self-2 : goal.invariant_of-self-2
+pub returns-in-Ok-clause-placed : goal.returns-in-Ok-clause-placed
 unfolding documents_in
-invariant_of-self-2 c =
-    let ds = stored_documents c.args.self.now.stored.items in
-    let es = stored_documents c.args.documents.items in
-    let sum = sum_together es ds (stored_documents c.reserve.new.self.items) (stored_documents c.place_all-replaced.new.stored.items) c.args.self.now.bytes
-    c.place_all-replaced.result c.total_length-added.result (ap stored_documents c.reserve.ensures.items) c.args.self.now.measured c.place_all-replaced.ensures.placed
-    c.place_all-replaced.ensures.bytes c.place_all-replaced.ensures.within (c.total_length-added.ensures ∙ ap (λ ss. bytes_of (stored_documents ss)) c.deref.ensures.value) in
-    let put = c.place_all-replaced.ensures.placed ∙ ap (λ ss. placed_all es (stored_documents ss)) c.reserve.ensures.items in
-    let after = subst (AreKept regular_search) (sym put)
-    (kept_with_all c.args.documents.items ds (kept_stored c.args.self.now.stored.items c.args.self.now.ascend c.args.self.now.distinct) c.requires.once c.requires.free) in
-    record { ascend = after.ordered; distinct = after.distinct; measured = sum ∙ ap bytes_of (sym put) }
+returns-in-Ok-clause-placed c =
+    c.release_documents.ensures ∙ c.in-Ok.ensures.placed ∙ ap (placed_all (stored_documents c.args.documents.items)) c.claim.ensures.same
 
-pub returns-clause-placed : goal.returns-clause-placed
+pub returns-clause-kept : goal.returns-clause-kept
 unfolding documents_in
-returns-clause-placed c = c.place_all-replaced.ensures.placed ∙ ap (λ ss. placed_all (stored_documents c.args.documents.items) (stored_documents ss)) c.reserve.ensures.items
+returns-clause-kept c = c.release_made.ensures ∙ c.in-Err.ensures.kept ∙ c.claim.ensures.same

@@ -1,8 +1,11 @@
-use Rattle.std.proofs.Common.{refl}
-use Rattle.std.specs.List.Sorted.{IsStrictlySortedBy}
-use Rattle.stored_documents.specs.SharedStored.{stored_documents}
+use Rattle.stored_documents.specs.DocumentLists.{documents_in}
+use Rattle.stored_documents.specs.OrderedDocuments.{ordered_documents}
+use Rattle.stored_documents.proofs.ClaimedDocuments.{none_claimed}
 use Rattle.stored_documents.proofs.documents.Documents.new.Goals as goal
 
 pub invariant_of-result : goal.invariant_of-result
-unfolding IsStrictlySortedBy stored_documents
-invariant_of-result c = rw c.new.ensures.items (record { ascend = tt; distinct = refl; measured = refl })
+invariant_of-result c = record { claimed = none_claimed c.new-2.result (ordered_documents c.new.result) c.new.ensures }
+
+pub returns : goal.returns
+unfolding documents_in
+returns c = c.new.ensures

@@ -1,0 +1,18 @@
+use Rattle.std.proofs.Common.{◌≡◌, None, false, Option, Some, is_some, option_map, refl, sym, ◌∙◌}
+use Rattle.std.proofs.lemmas.Map.Text.{btree_map_updates_text}
+use Rattle.stored_documents.specs.DocumentLists.{documents_in}
+use Rattle.stored_documents.specs.OrderedDocuments.{ordered_documents}
+use Rattle.stored_documents.proofs.ClaimedDocuments.{released}
+use Rattle.stored_documents.proofs.documents.Documents.release.Goals as goal
+
+none_shown : {X Y : Type 0} (f : X → Y) (o : Option X) → is_some o ≡ false → option_map f o ≡ None
+none_shown f None e = refl
+none_shown f (Some x) e = cc
+
+pub invariant_of-self : goal.invariant_of-self
+unfolding documents_in
+invariant_of-self c = record {
+  claimed = released c.args.self.now.claims c.remove.new.self (ordered_documents c.args.self.now.ordered) c.args.uri.now c.args.self.now.claimed
+      (sym c.holder.ensures ∙ none_shown _ c.holder.result c.if-is_none.ensures)
+      (btree_map_updates_text c.args.uri.now c.args.self.now.claims c.remove.new.self None c.remove.ensures.updates);
+}

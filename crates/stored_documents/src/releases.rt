@@ -1,0 +1,82 @@
+//! Claims that are made before documents are put, and that are released after documents were taken out.
+
+ghost use Rattle.std.specs.Prelude.{◌≡◌, true, Contains, OnOk, is_some};
+ghost use Rattle.definitions.specs.Values.{Text};
+ghost use Rattle.stored_documents.specs.Claims.{claim_of, claims_in};
+ghost use Rattle.stored_documents.specs.DocumentLists.{documents_in};
+
+use crate::claims::claim_unclaimed;
+use crate::documents::Documents;
+use crate::stored::Stored;
+use std::alloc::{AllocError, Global};
+use std::rc::Rc;
+
+impl Documents {
+    // Makes those of the claims whose URIs nobody claims, or none of them.
+    pub(crate) fn claim(
+        &mut self,
+        alloc: Global,
+        made: &[(String, Rc<Stored>)],
+    ) -> Result<(), AllocError>
+        ensures same { documents_in self.new ≡ documents_in self.old }
+        ensures claimed { OnOk result ((uri claim : Text) → Contains (claims_in made.now) (uri, claim) → is_some (claim_of self.new.claims uri) ≡ true) }
+    {
+        match claim_unclaimed(alloc, &mut self.claims, made) {
+            Ok(()) => Ok(()),
+            Err(fault) => {
+                self.release_made(made);
+                Err(fault)
+            }
+        }
+    }
+
+    // Those that stand where the documents will be put.
+    pub(crate) fn standing(
+        &self,
+        alloc: Global,
+        documents: &[Rc<Stored>],
+    ) -> Result<Vec<Rc<Stored>>, AllocError> {
+        let mut standing = Vec::new(alloc);
+        for document in documents {
+            if let Some(found) = self.find(document.canonical()) {
+                standing.push(found.clone()?)?;
+            }
+        }
+        Ok(standing)
+    }
+
+    // Releases claims that nobody has a resource for.
+    pub(crate) fn release_made(&mut self, made: &[(String, Rc<Stored>)])
+        ensures { documents_in self.new ≡ documents_in self.old }
+    {
+        for claim in made {
+            self.release(claim.0.as_str());
+        }
+    }
+
+    pub(crate) fn release_documents(&mut self, documents: &[Rc<Stored>])
+        ensures { documents_in self.new ≡ documents_in self.old }
+    {
+        for document in documents {
+            self.release_document(document);
+        }
+    }
+
+    pub(crate) fn release_document(&mut self, document: &Stored)
+        ensures { documents_in self.new ≡ documents_in self.old }
+    {
+        for uri in document.resource_uris() {
+            self.release(uri.as_str());
+        }
+    }
+
+    // Releases the claim of a URI where no document has a resource of it.
+    #[tactic(auto, unfolding(crate::specs::DocumentLists::documents_in))]
+    fn release(&mut self, uri: &str)
+        ensures { documents_in self.new ≡ documents_in self.old }
+    {
+        if self.holder(uri).is_none() {
+            self.claims.remove(uri);
+        }
+    }
+}

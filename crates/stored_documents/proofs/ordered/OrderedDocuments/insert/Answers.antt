@@ -1,5 +1,5 @@
-use Rattle.std.proofs.Common.{◌≡◌, Result, Ok, Err, OnErr, is_some, length, option_map, ap, sym, subst, ◌∙◌}
-use Rattle.definitions.specs.Documents.{bytes_of, others_of, placed}
+use Rattle.std.proofs.Common.{Result, Ok, Err, OnErr, is_some, length, option_map, ap, sym, subst, ◌∙◌}
+use Rattle.definitions.specs.Documents.{bytes_of, placed}
 use Rattle.definitions.specs.Keeping.{AreKept}
 use Rattle.definitions.specs.Patterns.{regular_search}
 use Rattle.definitions.specs.Texts.{text}

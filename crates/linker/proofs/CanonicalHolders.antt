@@ -54,7 +54,7 @@ one_alone (x ∷ []) t u few c k = elim (first_or_later x t [] c) [
 ]
 one_alone (x ∷ y ∷ ts) t u few c k = absurd (omega (arith, ltb-false 1 (length (x ∷ y ∷ ts)) few))
 
-embedded_at : (d : Document) (uri : Text) (b : Bool) → nat_lt 1 (length (resources_of d)) ≡ b → d ≡ document_from d.base d.value → d.canonical ≢ uri
+pub embedded_at : (d : Document) (uri : Text) (b : Bool) → nat_lt 1 (length (resources_of d)) ≡ b → d ≡ document_from d.base d.value → d.canonical ≢ uri
     → (b && holds_resource uri d) ≡ holds_resource uri d
 embedded_at d uri true several made other = refl
 embedded_at d uri false few made other =

@@ -9,6 +9,7 @@ pub mod CanonicalHolders
 pub mod Positions
 pub mod Adding
 pub mod Visits
+pub mod Compound
 pub mod Least
 pub mod Judged
 pub mod LinkFaults

@@ -100,7 +100,7 @@ longer d [] other = omega arith
 longer d (e ∷ es) other =
     longer_at d e es (slice_cmp nat_cmp d.canonical e.canonical) refl (other e (is_first e es)) (longer d es (λ x c. other x (is_later e x es c)))
 
-nothing_found : (ds : List Document) (d : Document) → is_some (document_of ds d.canonical) ≡ false → (e : Document) → Contains ds e → e.canonical ≢ d.canonical
+pub nothing_found : (ds : List Document) (d : Document) → is_some (document_of ds d.canonical) ≡ false → (e : Document) → Contains ds e → e.canonical ≢ d.canonical
 nothing_found ds d none e c same =
     let found = found_some (λ (x : Document). same_text d.canonical x.canonical) e ds c ((bytes_decides d.canonical e.canonical).1 (sym same)) in
     true≢false (sym (ap is_some found.1) ∙ none)

@@ -1,12 +1,21 @@
 -- A visit of documents: those that are reached so far, and those of them whose references wait to be followed.
-use Rattle.std.specs.Prelude.{◌≡◌, ◌⊎◌, ◌+◌, ◌++◌, List, [], ◌∷◌, Bool, true, false, Contains, is_some, length}
+use Rattle.std.specs.Prelude.{◌≡◌, ◌⊎◌, ◌+◌, ◌++◌, List, [], ◌∷◌, Bool, true, false, Contains, if◌then◌else◌, is_some, length, nat_lt}
 use Rattle.definitions.specs.Schemas.{Document}
-use Rattle.definitions.specs.Documents.{document_of, placed, Ascend}
+use Rattle.definitions.specs.Documents.{document_of, placed, resources_of, Ascend}
 
 -- documents of the source, in byte order of canonical URIs
 pub record IsPart (reached all : List Document) : Type 0 where
   pub ascend : Ascend reached
   pub inside : (d : Document) → Contains reached d → Contains all d
+
+-- those of the documents that have several resources, in some order
+pub record AreCompound (ds compound : List Document) : Type 0 where
+  pub inside : (d : Document) → Contains compound d → Contains ds d
+  pub each : (d : Document) → Contains ds d → nat_lt 1 (length (resources_of d)) ≡ true → Contains compound d
+
+-- and one document more, if it has several
+unfoldable pub with_compound : Document → List Document → List Document
+with_compound d compound = if nat_lt 1 (length (resources_of d)) then compound ++ d ∷ [] else compound
 
 -- the document is reached; it waits if it is new
 abbrev pub Keeps : Document → List Document → List Document → List Document → List Document → Type 0

@@ -27,6 +27,14 @@ pub fn reached(alloc: Global, linked: &Linked) -> Result<Vec<String>, Fault>
     canonical_uris(alloc, &linked.documents)
 }
 
+/// The linked documents, in byte order of their canonical URIs.
+#[tactic(auto, unfolding(crate::specs::LinkedDocuments::linked_documents))]
+pub fn documents(linked: &Linked) -> &[Rc<Compiled>]
+    ensures { shared_documents result.now ≡ linked_documents linked.now }
+{
+    &linked.documents
+}
+
 /// The URI of the resource that was linked.
 #[tactic(auto, unfolding(crate::specs::LinkedDocuments::linked_uri))]
 pub fn asked(linked: &Linked) -> &str

@@ -11,6 +11,7 @@ ghost use Rattle.definitions.specs.Values.{same_text};
 ghost use Rattle.schema_scan.specs.CompiledDocuments.{compiled_document};
 ghost use Rattle.linker.specs.SharedDocuments.{shared_documents};
 ghost use Rattle.linker.specs.Sources.{embeds, shares_resource};
+ghost use Rattle.linker.specs.Visits.{AreCompound};
 
 use crate::placing::position;
 use schema_scan::Compiled;
@@ -53,10 +54,22 @@ pub(crate) fn shares_resource(documents: &[Rc<Compiled>], document: &Compiled) -
         .any(|uri| is_held(documents, uri))
 }
 
-pub(crate) fn is_held(documents: &[Rc<Compiled>], uri: &str) -> bool
+fn is_held(documents: &[Rc<Compiled>], uri: &str) -> bool
     requires ascend { Ascend (shared_documents documents.now) }
     requires distinct { has_repeat same_text (resource_uris (table_of (shared_documents documents.now))) ≡ false }
     ensures { result ≡ list_any (holds_resource uri.now) (shared_documents documents.now) }
 {
     holder(documents, uri).is_some()
+}
+
+// Whether some document has a resource of this URI, where those of several resources are known.
+pub(crate) fn is_reached(documents: &[Rc<Compiled>], compound: &[Rc<Compiled>], uri: &str) -> bool
+    requires ascend { Ascend (shared_documents documents.now) }
+    requires known { AreCompound (shared_documents documents.now) (shared_documents compound.now) }
+    ensures { result ≡ list_any (holds_resource uri.now) (shared_documents documents.now) }
+{
+    match position(documents, uri) {
+        Ok(_) => true,
+        Err(_) => embedding(compound, uri).is_some(),
+    }
 }

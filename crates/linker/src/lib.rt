@@ -16,7 +16,7 @@ mod source;
 mod visiting;
 
 pub use both::Both;
-pub use contents::{asked, reached, value_of};
+pub use contents::{asked, documents, reached, value_of};
 pub use faults::Fault;
 pub use linked::Linked;
 pub use linking::link;

@@ -5,9 +5,9 @@ ghost use Rattle.definitions.specs.Reach.{holds_resource, reach, refers_to};
 ghost use Rattle.schema_scan.specs.CompiledDocuments.{compiled_document};
 ghost use Rattle.linker.specs.SharedDocuments.{shared_documents};
 ghost use Rattle.definitions.specs.Documents.{Ascend};
-ghost use Rattle.linker.specs.Visits.{Adds, IsPart, Keeps};
+ghost use Rattle.linker.specs.Visits.{Adds, AreCompound, IsPart, Keeps, with_compound};
 
-use crate::holders::is_held;
+use crate::holders::is_reached;
 use crate::placing::place;
 use crate::source::Source;
 use faults::Fault;
@@ -27,29 +27,54 @@ pub(crate) fn reached_documents<S: Source>(
     ensures same { S.documents source.new ≡ S.documents source.old }
 {
     let mut reached = Vec::new(alloc);
+    let mut compound = Vec::new(alloc);
     let mut waiting = Vec::new(alloc);
-    visit(alloc, source, resource, &mut reached, &mut waiting)?;
+    visit(
+        alloc,
+        source,
+        resource,
+        &mut reached,
+        &mut compound,
+        &mut waiting,
+    )?;
     while let Some(document) = waiting.pop() {
-        follow(alloc, source, &document, &mut reached, &mut waiting)?;
+        follow(
+            alloc,
+            source,
+            &document,
+            &mut reached,
+            &mut compound,
+            &mut waiting,
+        )?;
     }
     Ok(reached)
 }
 
-// Follows the references of a document.
+// Follows the references of a document. Those of the reached documents that have several resources are known.
 fn follow<S: Source>(
     alloc: Global,
     source: &mut S,
     document: &Compiled,
     reached: &mut Vec<Rc<Compiled>>,
+    compound: &mut Vec<Rc<Compiled>>,
     waiting: &mut Vec<Rc<Compiled>>,
 ) -> Result<(), Fault>
-    requires { IsPart (shared_documents reached.old.items) (S.documents source.old) }
+    requires part { IsPart (shared_documents reached.old.items) (S.documents source.old) }
+    requires known { AreCompound (shared_documents reached.old.items) (shared_documents compound.old.items) }
     ensures ok { OnOk result (Adds (S.documents source.old) (refers_to (compiled_document document.now)) (shared_documents reached.old.items) (shared_documents waiting.old.items) (shared_documents reached.new.items) (shared_documents waiting.new.items)) }
+    ensures known { OnOk result (AreCompound (shared_documents reached.new.items) (shared_documents compound.new.items)) }
     ensures err { IfErr result (λ f. f ≡ Fault.NoRoom) }
     ensures same { S.documents source.new ≡ S.documents source.old }
 {
     for reference in document.references() {
-        visit(alloc, source, without_fragment(reference), reached, waiting)?;
+        visit(
+            alloc,
+            source,
+            without_fragment(reference),
+            reached,
+            compound,
+            waiting,
+        )?;
     }
     Ok(())
 }
@@ -60,18 +85,21 @@ fn visit<S: Source>(
     source: &mut S,
     uri: &str,
     reached: &mut Vec<Rc<Compiled>>,
+    compound: &mut Vec<Rc<Compiled>>,
     waiting: &mut Vec<Rc<Compiled>>,
 ) -> Result<(), Fault>
-    requires { IsPart (shared_documents reached.old.items) (S.documents source.old) }
+    requires part { IsPart (shared_documents reached.old.items) (S.documents source.old) }
+    requires known { AreCompound (shared_documents reached.old.items) (shared_documents compound.old.items) }
     ensures ok { OnOk result (Adds (S.documents source.old) (holds_resource uri.now) (shared_documents reached.old.items) (shared_documents waiting.old.items) (shared_documents reached.new.items) (shared_documents waiting.new.items)) }
+    ensures known { OnOk result (AreCompound (shared_documents reached.new.items) (shared_documents compound.new.items)) }
     ensures err { IfErr result (λ f. f ≡ Fault.NoRoom) }
     ensures same { S.documents source.new ≡ S.documents source.old }
 {
-    if is_held(reached, uri) {
+    if is_reached(reached, compound, uri) {
         return Ok(());
     }
     match source.holding(alloc, uri)? {
-        Some(document) => Ok(keep(document, reached, waiting)?),
+        Some(document) => Ok(keep(document, reached, compound, waiting)?),
         None => Ok(()),
     }
 }
@@ -80,14 +108,28 @@ fn visit<S: Source>(
 fn keep(
     document: Rc<Compiled>,
     reached: &mut Vec<Rc<Compiled>>,
+    compound: &mut Vec<Rc<Compiled>>,
     waiting: &mut Vec<Rc<Compiled>>,
 ) -> Result<(), AllocError>
-    requires { Ascend (shared_documents reached.old.items) }
-    ensures { OnOk result (Keeps (compiled_document document.value) (shared_documents reached.old.items) (shared_documents waiting.old.items) (shared_documents reached.new.items) (shared_documents waiting.new.items)) }
+    requires ascend { Ascend (shared_documents reached.old.items) }
+    requires known { AreCompound (shared_documents reached.old.items) (shared_documents compound.old.items) }
+    ensures kept { OnOk result (Keeps (compiled_document document.value) (shared_documents reached.old.items) (shared_documents waiting.old.items) (shared_documents reached.new.items) (shared_documents waiting.new.items)) }
+    ensures known { OnOk result (AreCompound (shared_documents reached.new.items) (shared_documents compound.new.items)) }
 {
     let again = document.clone()?;
     if place(reached, document)? {
+        note(&again, compound)?;
         waiting.push(again)?;
+    }
+    Ok(())
+}
+
+// Adds a document to those of several resources, if it has several.
+fn note(document: &Rc<Compiled>, compound: &mut Vec<Rc<Compiled>>) -> Result<(), AllocError>
+    ensures { OnOk result (shared_documents compound.new.items ≡ with_compound (compiled_document document.now.value) (shared_documents compound.old.items)) }
+{
+    if document.resource_uris().len() > 1 {
+        compound.push(document.clone()?)?;
     }
     Ok(())
 }

@@ -11,7 +11,7 @@ use Rattle.lemmas.proofs.Lists.{map-take_more}
 use Rattle.schema_scan.specs.CompiledDocuments.{compiled_document}
 use Rattle.linker.specs.SharedDocuments.{shared_documents}
 use Rattle.linker.specs.Visits.{Adds, IsPart}
-use Rattle.linker.proofs.Visits.{adds_then, part_after}
+use Rattle.linker.proofs.Visits.{adds_none, adds_then, part_after}
 use Rattle.linker.proofs.visiting.follow.Goals as goal
 
 -- whether one of these references names a resource of the document
@@ -31,10 +31,15 @@ named_more items i s uri l is named e =
     ∙ or_false (named_by (map string_bytes (take i items)) e) (holds_resource (without_fragment (string_bytes s)) e)
     ∙ ap (λ u. named_by (map string_bytes (take i items)) e || holds_resource u e) (sym named)
 
+pub loop-reference-init : goal.loop-reference-init
+loop-reference-init g c = record { same = refl; adds = adds_none (g.S.Source.documents c.args.source.now) _ _ _ c.requires.part.ascend (λ d i. refl); known = c.requires.known }
+
 pub visit-requires : goal.visit-requires
-visit-requires g c =
-    subst (IsPart (shared_documents c.loop-reference.reached.items)) (sym c.loop-reference.invariant.same)
-    (part_after (g.S.Source.documents c.args.source.now) _ _ _ _ _ c.requires c.loop-reference.invariant.adds)
+visit-requires g c = record {
+  part = subst (IsPart (shared_documents c.loop-reference.reached.items)) (sym c.loop-reference.invariant.same)
+      (part_after (g.S.Source.documents c.args.source.now) _ _ _ _ _ c.requires.part c.loop-reference.invariant.adds);
+  known = c.loop-reference.invariant.known;
+}
 
 pub loop-reference-preserved : goal.loop-reference-preserved
 loop-reference-preserved g c =
@@ -48,6 +53,7 @@ loop-reference-preserved g c =
       adds = adds_then all _ _ _ _ _ _ _ _ _ c.loop-reference.invariant.adds step
           (named_more c.references-reference-items.result.now c.loop-reference.reference-index c.reference-item.result c.without_fragment.result.now c.loop-reference-test.true c.reference-item.is
           (c.without_fragment.ensures ∙ ap without_fragment c.deref.ensures));
+      known = c.in_ok-visit.ensures.known;
     }
 
 pub returns-clause-ok : goal.returns-clause-ok

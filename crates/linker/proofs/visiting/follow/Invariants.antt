@@ -3,7 +3,7 @@ use Rattle.std.specs.List.{list_any}
 use Rattle.definitions.specs.Uris.{without_fragment}
 use Rattle.definitions.specs.Reach.{holds_resource}
 use Rattle.linker.specs.SharedDocuments.{shared_documents}
-use Rattle.linker.specs.Visits.{Adds}
+use Rattle.linker.specs.Visits.{Adds, AreCompound}
 use Rattle.linker.proofs.visiting.follow.Given as goal
 
 abbrev pub invariant-loop-reference : goal.invariant-loop-reference
@@ -13,4 +13,5 @@ invariant-loop-reference g l =
       same : g.S.Source.documents l.source ≡ all;
       adds : Adds all (λ e. list_any (λ r. holds_resource (without_fragment r) e) (map string_bytes (take l.reference-index l.reference-items)))
           (shared_documents l.fn.reached.items) (shared_documents l.fn.waiting.items) (shared_documents l.reached.items) (shared_documents l.waiting.items);
+      known : AreCompound (shared_documents l.reached.items) (shared_documents l.compound.items);
     }

@@ -2,7 +2,8 @@ use Rattle.std.proofs.Common.{◌≡◌, [], length, ap, sym, ◌∙◌, subst, 
 use Rattle.definitions.specs.Reach.{holds_resource, refers_to}
 use Rattle.schema_scan.specs.CompiledDocuments.{compiled_document}
 use Rattle.linker.specs.SharedDocuments.{shared_documents}
-use Rattle.linker.specs.Visits.{Adds, IsPart}
+use Rattle.linker.specs.Visits.{Adds, AreCompound, IsPart}
+use Rattle.linker.proofs.Compound.{none_compound}
 use Rattle.linker.proofs.Positions.{shared_as_long}
 use Rattle.linker.proofs.Shared.{shared_empty, shared_none, shared_pushed}
 use Rattle.linker.proofs.Visits.{IsVisit, begun, finished, gone_on, no_more, none_part, part_after}
@@ -11,7 +12,18 @@ use Rattle.linker.proofs.visiting.reached_documents.Goals as goal
 pub visit-requires : goal.visit-requires
 visit-requires g c =
     let all = g.S.Source.documents c.args.source.now in
-    subst (λ ds. IsPart ds all) (sym (ap shared_documents c.new-reached.ensures.items ∙ shared_none)) (none_part all)
+    let reached = sym (ap shared_documents c.new-reached.ensures.items ∙ shared_none) in
+    record {
+      part = subst (λ ds. IsPart ds all) reached (none_part all);
+      known = subst (λ ds. AreCompound ds (shared_documents c.new-compound.result.items)) reached
+          (subst (AreCompound []) (sym (ap shared_documents c.new-compound.ensures.items ∙ shared_none)) none_compound);
+    }
+
+pub follow-requires : goal.follow-requires
+follow-requires g c = record {
+  part = subst (IsPart (shared_documents c.loop-document.reached.items)) (sym c.loop-document.invariant.same) c.loop-document.invariant.visit.part;
+  known = c.loop-document.invariant.known;
+}
 
 pub loop-document-init : goal.loop-document-init
 loop-document-init g c =
@@ -23,6 +35,7 @@ loop-document-init g c =
       visit = begun all c.args.resource.now (shared_documents c.visit.new.reached.items) (shared_documents c.visit.new.waiting.items) (none_part all)
           (subst (λ ds. Adds all (holds_resource c.args.resource.now) [] ds (shared_documents c.visit.new.reached.items) (shared_documents c.visit.new.waiting.items))
           (ap shared_documents c.new-waiting.ensures.items ∙ shared_none) adds);
+      known = c.in_ok-visit.ensures.known;
     }
 
 pub loop-document-smaller : goal.loop-document-smaller
@@ -57,6 +70,7 @@ loop-document-preserved g c =
       visit = gone_on all c.args.resource.now d _ _ _ _
           (subst (IsVisit all c.args.resource.now (shared_documents c.loop-document.reached.items))
           (ap shared_documents c.in-Some.ensures.items ∙ shared_pushed c.pop.new.self.items c.in-Some.document) c.loop-document.invariant.visit) adds;
+      known = c.in_ok-follow.ensures.known;
     }
 
 pub returns-clause-ok : goal.returns-clause-ok

@@ -1,5 +1,6 @@
 use Rattle.std.proofs.Common.{◌≡◌, ◌+◌, ◌-◌, length}
 use Rattle.linker.specs.SharedDocuments.{shared_documents}
+use Rattle.linker.specs.Visits.{AreCompound}
 use Rattle.linker.proofs.Visits.{IsVisit}
 use Rattle.linker.proofs.visiting.reached_documents.Given as goal
 
@@ -9,6 +10,7 @@ invariant-loop-document g l =
     record {
       same : g.S.Source.documents l.source ≡ all;
       visit : IsVisit all l.resource (shared_documents l.reached.items) (shared_documents l.waiting.items);
+      known : AreCompound (shared_documents l.reached.items) (shared_documents l.compound.items);
     }
 
 abbrev pub decreases-loop-document : goal.decreases-loop-document

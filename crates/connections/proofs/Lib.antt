@@ -1,4 +1,5 @@
 pub mod Skipped
+pub mod Dropped
 pub mod Whole
 pub mod Joined
 pub mod Turned

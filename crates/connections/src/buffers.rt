@@ -31,11 +31,14 @@ pub fn behind(bytes: &[u8], place: usize) -> &[u8]
 }
 
 /// Drops the bytes up to a place.
+#[tactic(auto, using(crate::proofs::Dropped::moved_to_front))]
 pub fn drop_front(bytes: &mut Vec<u8>, place: usize)
     requires { place ≤ length bytes.old.items }
     ensures { bytes.new.items ≡ drop place bytes.old.items }
 {
-    let rest = bytes.len() - place;
-    bytes.as_mut_slice().rotate_left(place);
-    bytes.truncate(rest);
+    if place > 0 {
+        let rest = bytes.len() - place;
+        bytes.copy_within(place.., 0);
+        bytes.truncate(rest);
+    }
 }

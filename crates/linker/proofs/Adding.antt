@@ -5,7 +5,7 @@ use Rattle.std.proofs.lemmas.Cmp.{nat_list_cmp_total}
 use Rattle.std.specs.Cmp.Lexicographic.{slice_cmp, bytes_decides}
 use Rattle.std.specs.List.{list_any, list_all}
 use Rattle.std.specs.Ordering.{nat_cmp, match_ordering}
-use Rattle.definitions.specs.Values.{Text, same_text}
+use Rattle.definitions.specs.Values.{same_text}
 use Rattle.definitions.specs.Lists.{has_repeat}
 use Rattle.definitions.specs.Schemas.{Document, document_from, schemas_of}
 use Rattle.definitions.specs.Scanning.{scan_fault, scan_faults}

@@ -1,5 +1,5 @@
 -- The documents of two sources that share no resource are sound together.
-use Rattle.std.proofs.Common.{◌≡◌, ◌⊎◌, ◌||◌, true, false, List, [], ◌∷◌, None, Contains, sym, ◌∙◌, subst, inl, inr, true≢false}
+use Rattle.std.proofs.Common.{◌≡◌, ◌⊎◌, false, List, [], ◌∷◌, None, Contains, sym, ◌∙◌, subst, inl, inr, true≢false}
 use Rattle.std.proofs.lemmas.Bool.{false_from_ne_true, or_parts}
 use Rattle.std.proofs.lemmas.Cmp.{nat_list_cmp_total}
 use Rattle.std.specs.Cmp.Lexicographic.{slice_cmp}

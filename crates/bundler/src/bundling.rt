@@ -1,8 +1,8 @@
 //! The bundle of linked documents.
 
-ghost use Rattle.std.specs.Prelude.{◌≡◌, ◌≢◌, Ok, Err, IfOk, IfErr, is_some, find, map, option_map, string_bytes};
+ghost use Rattle.std.specs.Prelude.{◌≡◌, ◌≢◌, Ok, Err, IfOk, IfErr, is_some, find, map, option_map};
 ghost use Rattle.definitions.specs.Bundles.{bundle, defs_of};
-ghost use Rattle.definitions.specs.Documents.{canonicals, others_of};
+ghost use Rattle.definitions.specs.Documents.{others_of};
 ghost use Rattle.definitions.specs.Values.{entry};
 ghost use Rattle.faults.specs.View.{fault};
 ghost use Rattle.json_doc.specs.Docs.{value};
@@ -15,7 +15,8 @@ use crate::embedding::compound;
 use crate::measuring::within_limits;
 use faults::Fault;
 use json_doc::Doc;
-use linker::{Linked, asked, reached, value_of};
+use linker::{Linked, asked, documents, value_of};
+use schema_scan::canonical;
 use std::alloc::Global;
 
 /// The bundle of linked documents (JSON Schema 2020-12 Core, section 9.3): the value of the document that was linked, with
@@ -42,8 +43,7 @@ pub fn bundle(alloc: Global, linked: &Linked) -> Result<Doc, Fault>
         Some(value) => Constituent { uri, value },
         None => return Err(Fault::NotFound),
     };
-    let uris = reached(alloc, linked)?;
-    let others = others_among(alloc, linked, &uris)?;
+    let others = others_among(alloc, linked)?;
     match clash(root.value, &others) {
         Some(other) => Err(Fault::BundleClash(other.uri.to_owned(alloc)?)),
         None => within_limits(alloc, compound(alloc, &root, &others)?),
@@ -51,22 +51,16 @@ pub fn bundle(alloc: Global, linked: &Linked) -> Result<Doc, Fault>
 }
 
 // The linked documents but for the one that was asked for, by their canonical URIs.
-fn others_among<'a>(
-    alloc: Global,
-    linked: &'a Linked,
-    uris: &'a [String],
-) -> Result<Vec<Constituent<'a>>, Fault>
-    requires { map string_bytes uris.now ≡ canonicals (linked_documents linked.now) }
+fn others_among<'a>(alloc: Global, linked: &'a Linked) -> Result<Vec<Constituent<'a>>, Fault>
     ensures ok { IfOk result (λ v. map constituent v.items ≡ map bare (others_of (linked_uri linked.now) (linked_documents linked.now))) }
     ensures err { IfErr result (λ f. f ≡ Fault.NoRoom) }
 {
-    let mut others = Vec::with_capacity(alloc, uris.len())?;
-    for uri in uris {
-        if uri.as_str() != asked(linked) {
-            match value_of(linked, uri) {
-                Some(value) => others.push(Constituent { uri, value })?,
-                None => unreachable!(),
-            }
+    let mut others = Vec::with_capacity(alloc, documents(linked).len())?;
+    for document in documents(linked) {
+        let uri = canonical(document);
+        if uri != asked(linked) {
+            let value = document.document();
+            others.push(Constituent { uri, value })?;
         }
     }
     Ok(others)

@@ -16,8 +16,8 @@ returns-in-Some-clash-clause-err c = λ other.
     let l = c.args.linked.now in
     let root : Some (value c.in-Some.value.now) ≡ option_map (λ d. d.value) (document_of (linked_documents l) (linked_uri l)) =
     c.in-Some.ensures ∙ ap (λ u. option_map (λ d. d.value) (document_of (linked_documents l) u)) c.asked-uri.ensures in
-    bundle_clashes (linked_documents l) (linked_uri l) (value c.in-Some.value.now) (map constituent c.deref-2.result.now) (constituent c.in-Some-clash.other.now) (linked_ascend l) root
-    (ap (map constituent) c.deref-2.ensures.value ∙ c.in_ok-others.ensures.ok) c.in-Some-clash.ensures
+    bundle_clashes (linked_documents l) (linked_uri l) (value c.in-Some.value.now) (map constituent c.deref.result.now) (constituent c.in-Some-clash.other.now) (linked_ascend l) root
+    (ap (map constituent) c.deref.ensures.value ∙ c.in_ok-others.ensures.ok) c.in-Some-clash.ensures
     ∙ ap (λ t. Err (bundle_clash t)) (sym c.in_ok-to_owned-in-Some-clash.ensures.ok)
 
 pub compound-requires : goal.compound-requires
@@ -32,10 +32,10 @@ returns-clause-ok c =
     let v = value c.in-Some.value.now in
     let root : Some v ≡ option_map (λ d. d.value) (document_of (linked_documents l) (linked_uri l)) =
     c.in-Some.ensures ∙ ap (λ u. option_map (λ d. d.value) (document_of (linked_documents l) u)) c.asked-uri.ensures in
-    let os : List Document = map constituent c.deref-2.result.now in
-    let others : os ≡ map constituent c.deref-in-None-clash.result.now = ap (map constituent) (c.deref-2.ensures.value ∙ sym c.deref-in-None-clash.ensures.value) in
+    let os : List Document = map constituent c.deref.result.now in
+    let others : os ≡ map constituent c.deref-in-None-clash.result.now = ap (map constituent) (c.deref.ensures.value ∙ sym c.deref-in-None-clash.ensures.value) in
     let whole : bundle (linked_documents l) (linked_uri l) ≡ sized (value c.in_ok-compound-in-None-clash.field-0) =
-    bundle_sized (linked_documents l) (linked_uri l) v os (linked_ascend l) root (ap (map constituent) c.deref-2.ensures.value ∙ c.in_ok-others.ensures.ok) c.in-None-clash.ensures
+    bundle_sized (linked_documents l) (linked_uri l) v os (linked_ascend l) root (ap (map constituent) c.deref.ensures.value ∙ c.in_ok-others.ensures.ok) c.in-None-clash.ensures
     ∙ ap₂ (λ u ds. sized (bundle_of (named u v) ds)) (sym c.asked-uri.ensures) others
     ∙ ap sized (sym c.in_ok-compound-in-None-clash.ensures.ok) in
     IfOk-weaker c.within_limits.result _ _ (λ d h. whole ∙ h) c.within_limits.ensures.ok
@@ -46,10 +46,10 @@ returns-clause-err c =
     let v = value c.in-Some.value.now in
     let root : Some v ≡ option_map (λ d. d.value) (document_of (linked_documents l) (linked_uri l)) =
     c.in-Some.ensures ∙ ap (λ u. option_map (λ d. d.value) (document_of (linked_documents l) u)) c.asked-uri.ensures in
-    let os : List Document = map constituent c.deref-2.result.now in
-    let others : os ≡ map constituent c.deref-in-None-clash.result.now = ap (map constituent) (c.deref-2.ensures.value ∙ sym c.deref-in-None-clash.ensures.value) in
+    let os : List Document = map constituent c.deref.result.now in
+    let others : os ≡ map constituent c.deref-in-None-clash.result.now = ap (map constituent) (c.deref.ensures.value ∙ sym c.deref-in-None-clash.ensures.value) in
     let whole : bundle (linked_documents l) (linked_uri l) ≡ sized (value c.in_ok-compound-in-None-clash.field-0) =
-    bundle_sized (linked_documents l) (linked_uri l) v os (linked_ascend l) root (ap (map constituent) c.deref-2.ensures.value ∙ c.in_ok-others.ensures.ok) c.in-None-clash.ensures
+    bundle_sized (linked_documents l) (linked_uri l) v os (linked_ascend l) root (ap (map constituent) c.deref.ensures.value ∙ c.in_ok-others.ensures.ok) c.in-None-clash.ensures
     ∙ ap₂ (λ u ds. sized (bundle_of (named u v) ds)) (sym c.asked-uri.ensures) others
     ∙ ap sized (sym c.in_ok-compound-in-None-clash.ensures.ok) in
     IfErr-weaker c.within_limits.result _ _ (λ f h other. whole ∙ h other) c.within_limits.ensures.err

@@ -1,39 +1,51 @@
-use Rattle.std.proofs.Common.{◌≡◌, ◌++◌, ◌∷◌, [], map, string_bytes, sym, ap, ap₂, ◌∙◌}
-use Rattle.std.proofs.lemmas.List.{map-append}
+use Rattle.std.proofs.Common.{◌≡◌, ◌++◌, ◌∷◌, [], List, map, take, sym, ap, ap₂, ◌∙◌}
+use Rattle.std.proofs.lemmas.List.{map-append, take_all}
+use Rattle.std.specs.Global.{Global}
+use Rattle.std.specs.declared.rc.Rc.{Rc}
+use Rattle.definitions.specs.Documents.{others_of}
 use Rattle.json_doc.specs.Docs.{value}
-use Rattle.linker.specs.LinkedDocuments.{linked_uri, linked_documents}
-use Rattle.bundler.specs.Constituents.{named, constituent}
-use Rattle.bundler.proofs.Others.{at_uri, value_at, has_value, value_is, others_kept, others_left, is_another, is_asked}
-use Rattle.bundler.proofs.LinkedDocuments.{linked_ascend}
+use Rattle.linker.specs.LinkedDocuments.{linked_uri}
+use Rattle.linker.specs.SharedDocuments.{shared_documents}
+use Rattle.linker.proofs.Shared.{shared_more, shared_none}
+use Rattle.schema_scan.specs.CompiledDocuments.{compiled_document, compiled_value}
+use Rattle.schema_scan.specs.declared.compiled.Compiled.{Compiled}
+use Rattle.bundler.specs.Constituents.{bare, named, constituent}
+use Rattle.bundler.proofs.Others.{others_kept, others_left, is_another, is_asked}
 use Rattle.bundler.proofs.bundling.others_among.Goals as goal
-use Rattle.bundler.proofs.bundling.others_among.Goals.{then-ne+in-Some+in_ok-push-in-Some, else-ne}
+use Rattle.bundler.proofs.bundling.others_among.Goals.{then-ne+in_ok-push, else-ne}
 
-pub unreachable-requires : goal.unreachable-requires
-unreachable-requires c =
-    let ds = linked_documents c.args.linked.now in
-    let a = at_uri c.args.uris.now ds c.loop-uri.uri-index c.uri-item.result c.requires c.loop-uri-test.true c.uri-item.is in
-    has_value _ _ c.in-None.ensures
-    (value_at ds c.loop-uri.uri-index (string_bytes c.uri-item.result) c.deref.result.now (linked_ascend c.args.linked.now) c.deref.ensures a)
+pub loop-document-init : goal.loop-document-init
+loop-document-init c = ap (map constituent) c.in_ok-others.ensures.items ∙ ap (λ ds. map bare (others_of (linked_uri c.args.linked.now) ds)) (sym shared_none)
 
-pub loop-uri-preserved : goal.loop-uri-preserved
-loop-uri-preserved c =
-    let ds = linked_documents c.args.linked.now in
+pub loop-document-preserved : goal.loop-document-preserved
+loop-document-preserved c =
     let u = linked_uri c.args.linked.now in
-    let i = c.loop-uri.uri-index in
-    let t = string_bytes c.uri-item.result in
-    let a = at_uri c.args.uris.now ds i c.uri-item.result c.requires c.loop-uri-test.true c.uri-item.is in
+    let items : List (Rc Compiled Global) = c.documents-document-items.result.now in
+    let i = c.loop-document.document-index in
+    let ds = shared_documents (take i items) in
+    let d = compiled_document c.document-item.result.value in
+    let t = c.canonical-uri.result.now in
+    let own : t ≡ d.canonical = c.canonical-uri.ensures ∙ ap (λ x. (compiled_document x).canonical) c.deref.ensures in
+    let more = shared_more items i c.document-item.result c.loop-document-test.true c.document-item.is in
     elim c.if-ne.branch [
-      | then-ne+in-Some+in_ok-push-in-Some w ↦
-          let other = is_another c.as_str.result.now c.asked.result.now t u w.if-ne.ensures c.as_str.ensures.value c.asked.ensures in
-          let same : value w.in-Some.value.now ≡ a.document.value =
-          value_is _ _ _ w.in-Some.ensures (value_at ds i t w.deref.result.now (linked_ascend c.args.linked.now) w.deref.ensures a) in
+      | then-ne+in_ok-push w ↦
+          let other = is_another t c.asked.result.now d.canonical u w.if-ne.ensures own c.asked.ensures in
+          let same : value w.document-value.result.now ≡ d.value = w.document-value.ensures.value ∙ ap compiled_value w.deref-then-ne.ensures in
           ap (λ v. map constituent v.items) w.others-is
-          ∙ ap (map constituent) w.in_ok-push-in-Some.ensures.items
-          ∙ map-append constituent c.loop-uri.others.items _
-          ∙ ap₂ (λ xs x. xs ++ x ∷ []) c.loop-uri.invariant (ap₂ named (w.deref-in-Some.ensures ∙ a.is_named) same)
-          ∙ sym (others_kept u ds i t a other)
+          ∙ ap (map constituent) w.in_ok-push.ensures.items
+          ∙ map-append constituent c.loop-document.others.items _
+          ∙ ap₂ (λ xs x. xs ++ x ∷ []) c.loop-document.invariant (ap₂ named own same)
+          ∙ sym (ap (λ es. map bare (others_of u es)) more ∙ others_kept u ds d other)
       | else-ne w ↦
           ap (λ v. map constituent v.items) w.others-is
-          ∙ c.loop-uri.invariant
-          ∙ sym (others_left u ds i t a (is_asked c.as_str.result.now c.asked.result.now t u w.if-ne.ensures c.as_str.ensures.value c.asked.ensures))
+          ∙ c.loop-document.invariant
+          ∙ sym (ap (λ es. map bare (others_of u es)) more ∙ others_left u ds d (is_asked t c.asked.result.now d.canonical u w.if-ne.ensures own c.asked.ensures))
     ]
+
+pub returns-clause-ok : goal.returns-clause-ok
+returns-clause-ok c =
+    let u = linked_uri c.args.linked.now in
+    let items : List (Rc Compiled Global) = c.documents-document-items.result.now in
+    c.loop-document.invariant
+    ∙ ap (λ xs. map bare (others_of u (shared_documents xs))) (take_all c.loop-document.document-index items c.loop-document-test.false)
+    ∙ ap (λ ds. map bare (others_of u ds)) c.documents-document-items.ensures

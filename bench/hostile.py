@@ -100,6 +100,14 @@ def in_place(count, schema):
     return {"allOf": [schema] * count}
 
 
+def unlike_lists(depth):
+    """Lists of two lists each, which are unlike in their depths alone."""
+    made = []
+    for _ in range(depth):
+        made = [made, [made]]
+    return made
+
+
 def names(count, letter="n"):
     return [f"{letter}{number:05}" for number in range(count)]
 
@@ -178,9 +186,8 @@ CASES = [
     Case("oneOf of 50,000", lambda: check({"oneOf": [False] * 49_999 + [True]}, 1), "200 valid"),
     Case("uniqueItems on 40,000 objects", lambda: check(
         {"uniqueItems": True}, [{"a": number % 7, "b": number} for number in range(40_000)]), "200 valid"),
-    Case("uniqueItems on 2^12 lists in one another", lambda: check(
-        {"uniqueItems": True, "items": {"$ref": "#"}},
-        b"[" * 12 + repeated(b"[[1],[2]]", BODY - 100) + b"]" * 12), "200 invalid"),
+    Case("uniqueItems on 3 times 2^13 lists in one another", lambda: check(
+        {"uniqueItems": True, "items": {"$ref": "#"}}, unlike_lists(13)), "200 valid"),
     # -- applications times size
     Case("required of 2,000 names by 2,000 schemas in place", lambda: check(
         {"allOf": [{"$ref": "#/$defs/r"}] * 2_000, "$defs": {"r": {"required": names(2_000)}}},
@@ -209,9 +216,10 @@ CASES = [
         long_names(100, 5_000) + compact([0] * 49_000).encode() + b"}" * 100) + [("k", "validate", f"{SITE}s", 1)],
         "503 NoRoom, 200 valid", over="output"),
     # -- patterns
-    Case("a pattern that is too big", lambda: [("k", "put", f"{SITE}s", {"pattern": r"(?:x{1000}){1000}"})], "400 BadPattern"),
+    Case("a pattern that is too big", lambda: [("k", "put", f"{SITE}s", {"pattern": r"(?:\w{1000}){1000}"})], "400 BadPattern"),
+    Case("a pattern of 1,000,000 letters", lambda: [("k", "put", f"{SITE}s", {"pattern": r"(?:x{1000}){1000}"})], "201"),
     Case("a pattern of parts that read nothing", lambda: [
-        ("k", "put", f"{SITE}s", {"pattern": r"(?:[^\s\S]x{1000}){1000}"})], "400 BadPattern"),
+        ("k", "put", f"{SITE}s", {"pattern": r"(?:[^\s\S]x{1000}){1000}"})], "201"),
     Case("a pattern that nests 300 deep", lambda: [
         ("k", "put", f"{SITE}s", {"pattern": "(" * 300 + "a" + ")" * 300})], "400 BadPattern"),
     Case("a pattern of 1,000 times all letters", lambda: [("k", "put", f"{SITE}s", {"pattern": r"\w{1000}"})], "201", over="pattern"),
@@ -229,6 +237,8 @@ CASES = [
         {"pattern": "[ab]*a[ab]{1000}c"}, "ab" * 50_000), "200 invalid", over="pattern"),
     Case("a pattern of 13,000 threads, 10 KB", lambda: check(
         {"pattern": "(?:[ab]{0,200}a){0,60}c"}, "ab" * 5_000), "200 invalid", over="pattern"),
+    Case("a pattern of 100,000 threads, 20 KB", lambda: check(
+        {"pattern": "[ab]*a(?:[ab]{1000}){100}c"}, "ab" * 10_000), "200 invalid", over="pattern"),
     Case("a pattern that others search by going back", lambda: check({"pattern": "^(a+)+$"}, "a" * 100_000 + "b"), "200 invalid"),
     # -- URIs
     Case("a URI of 8,000 dot segments", lambda: [("k", "put", f"{SITE}" + "a/../" * 3_200 + "s", {})], "201"),
@@ -256,6 +266,20 @@ CASES = [
     Case("the same with --cache 1", lambda: [
         ("k", "put", f"{SITE}{n}", repeated(b"true", BODY, b'{"prefixItems":[', b"]}")) for n in range(20)],
         "201", over="many", words=("--cache", "1")),
+    Case("two documents of 8,000 resources each", lambda: [
+        ("k", "put", f"https://{site}.org/s", {"$defs": {str(n): {"$id": f"https://{site}.org/{n}"} for n in range(8_000)}})
+        for site in "ab"], "201", over="holders"),
+    Case("8 documents of 25 bytes with a large pattern, kept compiled", lambda: [
+        ("k", "put", f"{SITE}{n}", {"pattern": rf"\w{{1000}}{n}"}) for n in range(8)], "201", over="cache"),
+    Case("the same 8 with --cache 1", lambda: [
+        ("k", "put", f"{SITE}{n}", {"pattern": rf"\w{{1000}}{n}"}) for n in range(8)], "201", over="many", words=("--cache", "1")),
+    Case("8 documents of 260,000 lists of one number, with --cache 1", lambda: [
+        ("k", "put", f"{SITE}{n}", repeated(b"[1]", BODY, b'{"const":[', b"]}")) for n in range(8)],
+        "201", over="stored", words=("--cache", "1")),
+    Case("40 documents of 25 bytes with a large pattern, then another tenant's, in 500 MB", lambda: [
+        *[("k", "put", f"{SITE}{n}", {"pattern": rf"\w{{1000}}{n}"}) for n in range(40)],
+        ("l", "put", f"{SITE}s", {}), ("l", "put", f"{SITE}p", {"pattern": r"\w{900}"}), ("l", "validate", f"{SITE}s", 1)],
+        "503 NoRoom, 200 valid", over="cache", memory=500),
     # -- streams
     Case("1 MB of line ends", lambda: b"\r\n" * (BODY // 2), ""),
     Case("a head without an end", lambda: b"GET /bundle HTTP/1.1\r\nx: " + b"a" * BODY, "400 BadRequest"),
@@ -278,14 +302,12 @@ def limited(megabytes):
     return limit
 
 
-def measure(program, words, given, seconds, megabytes):
-    """Standard output, standard error, the status, the processor's seconds and the most memory in bytes."""
-    with tempfile.TemporaryFile() as stream, tempfile.TemporaryFile() as sent, tempfile.TemporaryFile() as told:
-        stream.write(given)
-        stream.seek(0)
+def measure(words, paths, seconds, megabytes):
+    """The status of a run over these files, the processor's seconds and the most memory in bytes."""
+    with open(paths[0], "rb") as stream, open(paths[1], "wb") as sent, open(paths[2], "wb") as told:
         begun = time.monotonic()
         process = subprocess.Popen(
-            [program, *words], stdin=stream, stdout=sent, stderr=told, preexec_fn=limited(megabytes) if megabytes else None
+            words, stdin=stream, stdout=sent, stderr=told, preexec_fn=limited(megabytes) if megabytes else None
         )
         # wait4 tells what this one process used; the time is bounded by asking again and again
         while True:
@@ -298,15 +320,7 @@ def measure(program, words, given, seconds, megabytes):
                 break
             time.sleep(0.002)
         process.returncode = os.waitstatus_to_exitcode(status)
-        sent.seek(0, os.SEEK_END)
-        size = sent.tell()
-        sent.seek(max(0, size - 400))
-        tail = sent.read()
-        sent.seek(0)
-        # all replies are looked at where they are small; of a large output its front and its end tell enough
-        whole = sent.read() if size <= 64 << 20 else None
-        told.seek(0)
-        return whole, tail, size, told.read(), process.returncode, used.ru_utime + used.ru_stime, used.ru_maxrss << 10
+        return process.returncode, used.ru_utime + used.ru_stime, used.ru_maxrss << 10
 
 
 def reply_told(reply):
@@ -341,14 +355,53 @@ def given_by(case):
         return made, b""
     if isinstance(made, list):
         made = b"".join(request(*asked) for asked in made)
-    return tenants("k", documents=100_000, size=1 << 40), made
+    return tenants("k", "l", documents=100_000, size=1 << 40), made
+
+
+def apart(work):
+    """What the work gives, done by another process: what this one takes of memory would count for the programs that it
+    starts."""
+    out, into = os.pipe()
+    child = os.fork()
+    if child == 0:
+        try:
+            os.close(out)
+            with os.fdopen(into, "w") as file:
+                json.dump(work(), file)
+        finally:
+            os._exit(0)
+    os.close(into)
+    with os.fdopen(out) as file:
+        text = file.read()
+    os.waitpid(child, 0)
+    return json.loads(text)
 
 
 def run_case(case, program, seconds, megabytes):
-    keys, stream = given_by(case)
-    with talks.files(tenants=keys) as paths:
-        words = ["run", "--tenants", paths["tenants"], *case.words]
-        return len(stream), measure(program, words, stream, seconds, case.memory or megabytes)
+    """The bytes sent, what the run ended with, the bytes of the replies, the processor's seconds and the most memory."""
+    with tempfile.TemporaryDirectory(prefix="hostile-") as folder:
+        keys, stream, sent, told = (f"{folder}/{name}" for name in ("tenants", "stream", "sent", "told"))
+
+        def write():
+            for path, text in zip((keys, stream), given_by(case)):
+                with open(path, "wb") as file:
+                    file.write(as_bytes(text))
+
+        def answer():
+            size = os.path.getsize(sent)
+            with open(sent, "rb") as file:
+                file.seek(max(0, size - 400))
+                tail = file.read()
+                file.seek(0)
+                # of a large output its end tells enough
+                whole = file.read() if size <= 64 << 20 else None
+            with open(told, "rb") as file:
+                return answer_told(whole, tail, file.read(), status, case.wanted.count(", ") + 1)
+
+        apart(write)
+        words = [program, "run", "--tenants", keys, *case.words]
+        status, took, memory = measure(words, (stream, sent, told), seconds, case.memory or megabytes)
+        return os.path.getsize(stream), apart(answer), os.path.getsize(sent), took, memory
 
 
 def main():
@@ -367,11 +420,10 @@ def main():
     if not os.path.exists(program):
         sys.exit(f"{program} is not there: build it by `cd crates/schemareg && rt run < stdin`")
     print("| Input | Bytes sent | Answered | Bytes of the replies | Time | Memory | |")
-    print("|---|---|---|---|---|---|---|")
+    print("|---|---|---|---|---|---|---|", flush=True)
     wrong = 0
     for case in cases:
-        size, (whole, tail, sent, told, status, seconds, memory) = run_case(case, program, asked.seconds, asked.memory)
-        answer = answer_told(whole, tail, told, status, case.wanted.count(", ") + 1)
+        size, answer, sent, seconds, memory = run_case(case, program, asked.seconds, asked.memory)
         is_right = re.fullmatch(f"(?:{case.wanted}).*" if case.wanted else "", answer, re.S) is not None
         is_over = seconds > SECOND or memory > MEGABYTES << 20
         verdict = "WRONG" if not is_right else "ok" if not is_over else f"over: {case.over}" if case.over else "OVER"

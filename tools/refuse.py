@@ -24,6 +24,7 @@ import struct
 import subprocess
 import sys
 import tempfile
+import time
 
 import talks
 from talks import NO_ROOM, as_bytes, request, tenants
@@ -436,13 +437,14 @@ def free_port():
 
 def talked(port, process, stream):
     """Sends the stream on a new connection and gives what is sent back; None where there is no connection any more."""
-    for _ in range(400):
+    for _ in range(5_000):
         try:
             client = socket.create_connection(("127.0.0.1", port), timeout=30)
             break
         except OSError:
             if process.poll() is not None:
                 return None
+            time.sleep(0.001)
     else:
         return None
     with client:

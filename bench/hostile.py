@@ -6,7 +6,7 @@
 Each case is a run of the program, mostly `run` over the requests of one tenant within all limits of a body, and an answer
 that it has to end with. The program's processor time and the most memory that it had are those of its process, with its
 start. A case is `ok` where it takes at most a second and 256 MB, and else `over`; one that has to be over has a reason
-in docs/LIMITS.md. A run may take S seconds (60 if it isn't said) and MB of address space (2,000 if it isn't said). The
+in docs/LIMITS.md. A run may take S seconds (120 if it isn't said) and MB of address space (2,000 if it isn't said). The
 status is 1 where an answer is wrong or missing, or where a case that isn't marked is over.
 """
 import argparse
@@ -408,7 +408,7 @@ def main():
     reader = argparse.ArgumentParser(description="Sends the built program what a stranger would send.")
     reader.add_argument("--program", default=talks.PROGRAM, metavar="PATH", help="the built program")
     reader.add_argument("--only", metavar="NAME", help="the cases whose name holds this text")
-    reader.add_argument("--seconds", type=float, default=60, metavar="S", help="how long a run may take")
+    reader.add_argument("--seconds", type=float, default=120, metavar="S", help="how long a run may take")
     reader.add_argument("--memory", type=int, default=2_000, metavar="MB", help="the address space of a run; 0: no limit")
     reader.add_argument("--list", action="store_true", help="prints the names alone")
     asked = reader.parse_args()

@@ -1,7 +1,7 @@
 #!/usr/bin/env python3
 """Refuses each allocation of the built program in turn, and looks at what it answers then.
 
-  refuse.py [--program PATH] [--only NAME] [--all-examples] [--burst N]
+  refuse.py [--program PATH] [--only NAME] [--kinds K,..] [--all-examples] [--burst N]
 
 It compiles refuse.c by `cc`, which is loaded before the C library and refuses the n-th allocation. Each row is a run of the
 program, of which the answer is known; it is run for n = 1, 2, .. until a run asks for fewer than n. It is done three times:
@@ -11,9 +11,8 @@ with that one allocation refused, with N from there on (20 if it isn't said), an
            --all-examples the examples of examples/ too, by their stored answers.
   streams  `run` over a stream of requests, sent twice over: the replies are those of a course. The requests that are
            answered NoRoom are left out and the rest is run with ample memory: all other replies have to be those.
-  servers  `serve` with a first connection of these requests, of which the second asks again and puts all anew: where the
-           first ended with NoRoom, a first part of its requests is applied, each wholly, and the second's replies are
-           those of a course from there. The third, with ample memory, is answered without a refusal.
+  servers  `serve` with three connections, each with the same requests: where one ended with NoRoom, a first part of its
+           requests is applied, each wholly, and the next connection's replies are those of a course from there.
 
 It prints a line for each row and the totals, and ends with status 1 where an answer was wrong. It needs glibc.
 """

@@ -250,7 +250,7 @@ CASES = [
         definitions(lambda n: b'"%d":{"$ref":"r%d"}' % (n, n), 900_000), 1), "409 Unresolved"),
     # -- registries
     Case("4,000 documents put one by one", lambda: [
-        ("k", "put", f"{SITE}{number}", {}) for number in range(4_000)], "201", over="holders"),
+        ("k", "put", f"{SITE}{number}", {}) for number in range(4_000)], "201"),
     Case("500 documents in a ring, judged and bundled", lambda: [
         *[("k", "put", f"{SITE}{n}", {"properties": {"a": {"$ref": str((n + 1) % 500)}}}) for n in range(500)],
         ("k", "validate", f"{SITE}0", {}), ("k", "bundle", f"{SITE}0")], "200"),
@@ -268,7 +268,9 @@ CASES = [
         "201", over="many", words=("--cache", "1")),
     Case("two documents of 8,000 resources each", lambda: [
         ("k", "put", f"https://{site}.org/s", {"$defs": {str(n): {"$id": f"https://{site}.org/{n}"} for n in range(8_000)}})
-        for site in "ab"], "201", over="holders"),
+        for site in "ab"], "201"),
+    Case("a document of 8,000 resources, put twice", lambda: [
+        ("k", "put", f"{SITE}s", {"$defs": {str(n): {"$id": f"r{n}"} for n in range(8_000)}})] * 2, "200", over="replaced"),
     Case("8 documents of 25 bytes with a large pattern, kept compiled", lambda: [
         ("k", "put", f"{SITE}{n}", {"pattern": rf"\w{{1000}}{n}"}) for n in range(8)], "201", over="cache"),
     Case("the same 8 with --cache 1", lambda: [

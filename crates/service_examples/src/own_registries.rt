@@ -46,6 +46,25 @@ fn a_registry_over_a_library(rt: HostRuntime) -> Result<(), Fail> {
 }
 
 #[test]
+fn documents_that_are_put_stay_in_a_cache_of_two(rt: HostRuntime) -> Result<(), Fail> {
+    let alloc = rt.alloc();
+    let mut cache = Cache::new(alloc, 2)?;
+    let library = Rc::new(alloc, ListSource::new(alloc))?;
+    let mut registry = Registry::new(library, 3, 100, alloc);
+    assert_eq!(rt; cache.len(), 0);
+    let first = registry.put(alloc, &mut cache, "https://ex.org/a", b"{}");
+    assert!(rt; matches!(first, Reply::Stored(_, false)));
+    assert_eq!(rt; cache.len(), 1);
+    let second = registry.put(alloc, &mut cache, "https://ex.org/b", b"{}");
+    assert!(rt; matches!(second, Reply::Stored(_, false)));
+    assert_eq!(rt; cache.len(), 2);
+    let third = registry.put(alloc, &mut cache, "https://ex.org/c", b"{}");
+    assert!(rt; matches!(third, Reply::Stored(_, false)));
+    assert_eq!(rt; cache.len(), 2);
+    Ok(())
+}
+
+#[test]
 fn an_empty_library_has_nothing(rt: HostRuntime) -> Result<(), Fail> {
     let alloc = rt.alloc();
     let mut cache = Cache::new(alloc, 1)?;

@@ -15,9 +15,9 @@ ghost use Rattle.tenant_hub.specs.KeyedRegistries.{keyed_view, new_registry, pla
 use crate::bundling::bundle_reply;
 use crate::keyed_registry::KeyedRegistry;
 use crate::validating::validation_reply;
+use crate::workspace::Workspace;
 use linker::ListSource;
 use requests::{Reply, Request};
-use shared_cache::Cache;
 use std::alloc::Global;
 use std::rc::Rc;
 use tenant_documents::Registry;
@@ -36,12 +36,17 @@ impl KeyedRegistry {
     }
 
     // Answers one request of the tenant.
-    pub(crate) fn answer(&mut self, alloc: Global, cache: &mut Cache, request: &Request) -> Reply
+    pub(crate) fn answer(
+        &mut self,
+        alloc: Global,
+        workspace: &mut Workspace,
+        request: &Request,
+    ) -> Reply
         ensures key { string_bytes self.new.key ≡ string_bytes self.old.key }
         ensures answer { IsAnswer regular_search (registry_view self.old.registry)
             (request_view request.now) (reply_view result) (registry_view self.new.registry) }
     {
-        answer_of(&mut self.registry, alloc, cache, request)
+        answer_of(&mut self.registry, alloc, workspace, request)
     }
 
     fn has_key(&self, key: &str) -> bool
@@ -51,22 +56,35 @@ impl KeyedRegistry {
     }
 }
 
-fn answer_of(registry: &mut Registry, alloc: Global, cache: &mut Cache, request: &Request) -> Reply
+fn answer_of(
+    registry: &mut Registry,
+    alloc: Global,
+    workspace: &mut Workspace,
+    request: &Request,
+) -> Reply
     ensures { IsAnswer regular_search (registry_view registry.old)
         (request_view request.now) (reply_view result) (registry_view registry.new) }
 {
     match request {
-        Request::Put(uri, body) => registry.put(alloc, cache, uri.as_str(), body.as_slice()),
+        Request::Put(uri, body) => {
+            registry.put(alloc, &mut workspace.cache, uri.as_str(), body.as_slice())
+        }
         Request::Delete(uri) => registry.delete(alloc, uri.as_str()),
         Request::Validate(uri, body) => {
-            let mut source = registry.source(cache);
-            validation_reply(alloc, &mut source, uri.as_str(), body.as_slice())
+            let mut source = registry.source(&mut workspace.cache);
+            validation_reply(
+                alloc,
+                &mut workspace.scratch,
+                &mut source,
+                uri.as_str(),
+                body.as_slice(),
+            )
         }
         Request::Bundle(uri) => {
-            let mut source = registry.source(cache);
+            let mut source = registry.source(&mut workspace.cache);
             bundle_reply(alloc, &mut source, uri.as_str())
         }
-        Request::Batch(body) => registry.put_all(alloc, cache, body.as_slice()),
+        Request::Batch(body) => registry.put_all(alloc, &mut workspace.cache, body.as_slice()),
     }
 }
 

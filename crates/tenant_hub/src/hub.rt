@@ -23,13 +23,13 @@ ghost use Rattle.tenant_hub.specs.ServedBundles.{AnswersAlone};
 
 use crate::answering::place_of;
 use crate::keyed_registry::KeyedRegistry;
+use crate::workspace::Workspace;
 use definition_laws::{
     courses_go_on, tenants_have_their_courses, tenants_have_their_replies,
     unknown_keys_stay_unknown,
 };
 use linker::ListSource;
 use requests::{Fault, Reply, Request};
-use shared_cache::Cache;
 use std::alloc::Global;
 use std::rc::Rc;
 use tenant_documents::library_of;
@@ -42,7 +42,7 @@ use tenants_file::{Tenant, server_fault};
 #[derive(Drop)]
 pub struct Hub {
     registries: Vec<KeyedRegistry>,
-    cache: Cache,
+    workspace: Workspace,
 }
 
 impl Hub {
@@ -105,7 +105,7 @@ impl Hub {
             (key.now, request_view request.now) (reply_view result) }
     {
         match place_of(&self.registries, key) {
-            Some(place) => self.registries[place].answer(alloc, &mut self.cache, request),
+            Some(place) => self.registries[place].answer(alloc, &mut self.workspace, request),
             None => Reply::Refused(Fault::UnknownTenant),
         }
     }
@@ -170,8 +170,11 @@ fn over_library(
 {
     let library = Rc::new(alloc, library)?;
     let registries = new_registries(alloc, tenants, &library)?;
-    let cache = Cache::new(alloc, capacity)?;
-    Ok(Hub { registries, cache })
+    let workspace = Workspace::new(alloc, capacity)?;
+    Ok(Hub {
+        registries,
+        workspace,
+    })
 }
 
 fn new_registries(

@@ -6,6 +6,7 @@ mod bundling;
 mod hub;
 mod keyed_registry;
 mod validating;
+mod workspace;
 
 pub use hub::Hub;
 pub use requests::{Fault, Reply, Request, StoredEntry};

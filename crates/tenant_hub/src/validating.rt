@@ -10,10 +10,11 @@ ghost use Rattle.requests.specs.Views.{reply_view};
 ghost use Rattle.tenant_hub.specs.SourceReplies.{validation_over};
 
 use evaluator::evaluate;
+use json_doc::Scratch;
 use linker::{Source, link};
 use requests::{Fault, Reply};
 use std::alloc::Global;
-use tenants_file::read_body;
+use tenants_file::read_body_with;
 use uri_ref::base_form;
 
 // The basic output for the instance that the bytes spell, by the resource of the URI among the source's documents.
@@ -22,6 +23,7 @@ use uri_ref::base_form;
 // `Loop`, `Deep`. `NoRoom` may take the place of any answer. The source keeps the documents that it had.
 pub(crate) fn validation_reply<S: Source>(
     alloc: Global,
+    scratch: &mut Scratch,
     source: &mut S,
     uri: &str,
     body: &[u8],
@@ -30,7 +32,7 @@ pub(crate) fn validation_reply<S: Source>(
         → IsAnswer regular_search g (validate uri.now body.now) (reply_view result) g }
     ensures same { S.documents source.new ≡ S.documents source.old }
 {
-    match output_text(alloc, source, uri, body) {
+    match output_text(alloc, scratch, source, uri, body) {
         Ok(text) => Reply::Output(text),
         Err(fault) => Reply::Refused(fault),
     }
@@ -38,6 +40,7 @@ pub(crate) fn validation_reply<S: Source>(
 
 fn output_text<S: Source>(
     alloc: Global,
+    scratch: &mut Scratch,
     source: &mut S,
     uri: &str,
     body: &[u8],
@@ -49,7 +52,7 @@ fn output_text<S: Source>(
     ensures same { S.documents source.new ≡ S.documents source.old }
 {
     let base = base_form(alloc, uri)?;
-    let instance = read_body(alloc, body)?;
+    let instance = read_body_with(alloc, scratch, body)?;
     let linked = link(alloc, source, base.as_str())?;
     let report = evaluate(alloc, &linked, &instance)?;
     Ok(report.into_text())

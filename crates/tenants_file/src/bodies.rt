@@ -5,7 +5,7 @@ ghost use Rattle.definitions.specs.Registries.{body_value};
 ghost use Rattle.faults.specs.View.{fault};
 ghost use Rattle.json_doc.specs.Docs.{value};
 
-use json_doc::{Doc, Fault, read};
+use json_doc::{Doc, Fault, Scratch, read_with};
 use std::alloc::Global;
 
 /// How many bytes a body may have.
@@ -19,8 +19,17 @@ pub fn read_body(alloc: Global, body: &[u8]) -> Result<Doc, Fault>
     ensures ok { IfOk result (λ d. body_value body.now ≡ Ok (value d)) }
     ensures err { IfErr result (λ f. f ≢ Fault.NoRoom → body_value body.now ≡ Err (fault f)) }
 {
+    let mut scratch = Scratch::new(alloc);
+    read_body_with(alloc, &mut scratch, body)
+}
+
+/// The same as [`read_body`], in memory that is kept from one body to the next.
+pub fn read_body_with(alloc: Global, scratch: &mut Scratch, body: &[u8]) -> Result<Doc, Fault>
+    ensures ok { IfOk result (λ d. body_value body.now ≡ Ok (value d)) }
+    ensures err { IfErr result (λ f. f ≢ Fault.NoRoom → body_value body.now ≡ Err (fault f)) }
+{
     if body.len() > MOST_BYTES {
         return Err(Fault::TooLarge);
     }
-    read(alloc, body)
+    read_with(alloc, scratch, body)
 }

@@ -9,7 +9,7 @@ mod server_refusals;
 mod tenants;
 
 pub use batches::{Entry, read_batch};
-pub use bodies::read_body;
+pub use bodies::{read_body, read_body_with};
 pub use json_doc::Fault;
 pub use server_refusals::server_fault;
 pub use tenants::{Tenant, read_tenants};

@@ -1,0 +1,28 @@
+//! What is kept from one request to the next beside the registries. No reply depends on it.
+
+ghost use Rattle.std.specs.Prelude.{◌≡◌, ◌≢◌, false, IfErr};
+ghost use Rattle.definitions.specs.Caches.{is_capacity};
+
+use json_doc::Scratch;
+use requests::Fault;
+use shared_cache::Cache;
+use std::alloc::Global;
+
+// Compiled documents, and the memory that instances are read in: it grows to the length of the longest.
+#[derive(Drop)]
+pub(crate) struct Workspace {
+    pub(crate) cache: Cache,
+    pub(crate) scratch: Scratch,
+}
+
+impl Workspace {
+    // `BadCapacity` where the capacity is outside 1 to 4096, else only `NoRoom`.
+    pub(crate) fn new(alloc: Global, capacity: usize) -> Result<Workspace, Fault>
+        ensures err { IfErr result (λ f. f ≢ Fault.NoRoom → is_capacity capacity ≡ false) }
+    {
+        Ok(Workspace {
+            cache: Cache::new(alloc, capacity)?,
+            scratch: Scratch::new(alloc),
+        })
+    }
+}

@@ -7,6 +7,12 @@ ghost use Rattle.command_line.specs.Commands.{cache_option, named_option, over_r
 use clap::{Arg, ArgAction, Command, value_parser};
 use std::alloc::{AllocError, Global};
 
+const TENANTS: &str =
+    "The tenants: {\"tenants\":[{\"key\":\"shop\",\"documents\":100,\"bytes\":1000000}]}";
+
+const LIBRARY: &str =
+    "Documents for all tenants: {\"put\":[{\"uri\":\"https://example.com/s\",\"schema\":{}}]}";
+
 /// A word that has to be there.
 pub(crate) fn required<'a>(alloc: Global, id: &'a str, help: &'a str) -> Arg<'a>
     ensures rule { rule_of result ≡ required_text id.now }
@@ -35,7 +41,7 @@ fn tenants<'a>(alloc: Global) -> Arg<'a>
     ensures rule { rule_of result ≡ required_option (codes "tenants") }
     ensures local { result.global ≡ false }
 {
-    named(alloc, "tenants", "FILE", "The file of the tenants").required(true)
+    named(alloc, "tenants", "FILE", TENANTS).required(true)
 }
 
 /// The option `--library FILE`.
@@ -43,12 +49,7 @@ fn library<'a>(alloc: Global) -> Arg<'a>
     ensures rule { rule_of result ≡ named_option (codes "library") }
     ensures local { result.global ≡ false }
 {
-    named(
-        alloc,
-        "library",
-        "FILE",
-        "The file of documents that all tenants share",
-    )
+    named(alloc, "library", "FILE", LIBRARY)
 }
 
 /// The option `--cache N`, of how many compiled documents are kept at most.

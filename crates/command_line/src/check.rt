@@ -16,7 +16,9 @@ fn uri<'a>(alloc: Global) -> Arg<'a>
     ensures rule { rule_of result ≡ uri_option }
     ensures local { result.global ≡ false }
 {
-    named(alloc, "uri", "URI", "The URI of the schema").default_value("urn:schemareg:root")
+    named(alloc, "uri", "URI", "The URI that the schema stands under").default_value(
+        "urn:schemareg:root",
+    )
 }
 
 /// The form's own words.
@@ -32,7 +34,9 @@ pub(crate) fn command<'a>(alloc: Global) -> Result<Command<'a>, AllocError>
             "Both files are read before either is judged. Standard output gets the Basic output of\n\
              JSON Schema 2020-12 as one line.\n\n\
              Status: 0 where the instance is valid, 1 where it isn't, 2 where there is no answer;\n\
-             standard error then says why.",
+             standard error then says why.\n\n\
+             Example:\n  \
+               schemareg check --uri https://example.com/order order.schema.json order.json",
         )
         .arg(uri(alloc))?
         .arg(schema)?

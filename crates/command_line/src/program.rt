@@ -21,7 +21,14 @@ fn named<'a>(alloc: Global) -> Command<'a>
         .version("0.1.0")
         .about("A registry, validator and bundler for JSON Schema 2020-12")
         .after_help(
-            "Without a command, standard input holds one check: {\"schema\": .., \"instance\": .., \"uri\": ..}",
+            "Without a command, standard input holds one check: {\"schema\": .., \"instance\": .., \"uri\": ..},\n\
+             where \"uri\" may be left out.\n\n\
+             Examples:\n  \
+               schemareg check schema.json instance.json\n  \
+               echo '{\"schema\": {\"type\": \"string\"}, \"instance\": 5}' | schemareg\n  \
+               schemareg serve --tenants tenants.json --listen 127.0.0.1:8080 --accept 1000\n\n\
+             In the sources, docs/PROFILE.md tells which schemas are read and what is refused, docs/LIMITS.md\n\
+             what the limits are, and docs/HTTP.md what requests are answered.",
         )
 }
 

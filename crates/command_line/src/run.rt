@@ -23,7 +23,9 @@ pub(crate) fn command<'a>(alloc: Global) -> Result<Command<'a>, AllocError>
         "Both files are read before either is judged. Standard input holds requests, and standard\n\
          output gets their replies; the registries end with the connection.\n\n\
          Status: 0 where the connection ended, also by a reply that closes it, 2 where it couldn't\n\
-         be served; standard error then says why.",
+         be served; standard error then says why.\n\n\
+         Example:\n  \
+           schemareg run --tenants tenants.json < requests > replies",
     )?
     .arg(cache(alloc))
 }

@@ -50,10 +50,14 @@ pub(crate) fn command<'a>(alloc: Global) -> Result<Command<'a>, AllocError>
         "serve",
         "Serves HTTP connections at an address, one after the other",
         "Both files are read before either is judged. The registries stay from one connection to the\n\
-         next and end with the program. Standard output gets nothing; what ends a connection early is\n\
-         told on standard error as 'connection <k>: <name>', and the next one is served.\n\n\
+         next, are in memory alone, and end with the program. A client that neither sends nor takes a\n\
+         byte for 30 seconds is let go, and each one 5 minutes after it was accepted. Standard output\n\
+         gets nothing; what ends a connection early is told on standard error as\n\
+         'connection <k>: <name>', and the next one is served.\n\n\
          Status: 0 where N connections were accepted, 2 where that couldn't be; standard error then\n\
-         says why.",
+         says why.\n\n\
+         Example:\n  \
+           schemareg serve --tenants tenants.json --listen 127.0.0.1:8080 --accept 1000",
     )?
     .arg(listen(alloc))?
     .arg(accept(alloc))?

@@ -12,19 +12,20 @@ ghost use Rattle.benchmark.specs.Counts.{valid_count};
 use checks::check_input;
 use evaluator::evaluate;
 use faults::Fault;
-use json_doc::{Doc, read};
+use json_doc::{Doc, Scratch, read_with};
 use linker::{Linked, ListSource, link};
 use schema_scan::{canonical, compile, scan};
 use std::alloc::Global;
 use std::rc::Rc;
 use uri_ref::split;
 
-/// Reads the text so often, and answers how often.
+/// Reads the text so often, in memory that is kept from one turn to the next, and answers how often.
 pub fn repeat_read(alloc: Global, text: &[u8], times: u32) -> Result<u32, Fault>
     ensures { IfOk result (λ count. count ≡ times) }
 {
+    let mut scratch = Scratch::new(alloc);
     for _ in 0..times {
-        read(alloc, text)?;
+        read_with(alloc, &mut scratch, text)?;
     }
     Ok(times)
 }

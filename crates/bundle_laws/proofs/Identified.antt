@@ -63,7 +63,7 @@ form_parts true c t base e = cc
 form_parts false true t base e = (refl, cc)
 form_parts false false t base e = cc
 
-base_identifier : (base : Text) → IsBaseForm base → is_identifier (split base) ≡ true
+pub base_identifier : (base : Text) → IsBaseForm base → is_identifier (split base) ≡ true
 base_identifier base h =
     let p = split h.uri in
     let q = resolve p p in

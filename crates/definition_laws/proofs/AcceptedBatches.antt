@@ -11,7 +11,7 @@ use Rattle.definitions.specs.Scanning.{scan_faults}
 use Rattle.definitions.specs.Reach.{least}
 use Rattle.definitions.specs.Registries.{Registry, is_in_library}
 use Rattle.definitions.specs.Searches.{Search, is_regular}
-use Rattle.definitions.specs.Documents.{joined, taken_uris, bytes_of, placed_all}
+use Rattle.definitions.specs.Documents.{canonicals, joined, taken_uris, bytes_of, placed_all}
 use Rattle.definitions.specs.Batches.{Entry, accepted_document, document_under, entry_document, with_later, Numbered, entry_documents, repeats, repeated_uri, taken_by, batch_refusal, unless_shared, library_with}
 use Rattle.definition_laws.proofs.Membership.{nothing_in, is_first, is_later, first_or_later}
 use Rattle.definition_laws.proofs.Repeats.{none_of}
@@ -79,7 +79,10 @@ repeats_none (t ∷ ts) h =
     let parts = repeats_none_at (list_any (same_text t) ts) t ts h in
     or_from (list_any (same_text t) ts) (has_repeat same_text ts) parts.0 (repeats_none ts parts.1)
 
-flat_none : {X Y : Type 0} (f : X → List Y) (x : X) (xs : List X) → flat_map f xs ≡ [] → Contains xs x → f x ≡ []
+pub unrepeated : (ds : List Document) → repeated_uri ds ≡ None → has_repeat same_text (canonicals ds) ≡ false
+unrepeated ds once = repeats_none (canonicals ds) (no_least (repeats (canonicals ds)) once)
+
+pub flat_none : {X Y : Type 0} (f : X → List Y) (x : X) (xs : List X) → flat_map f xs ≡ [] → Contains xs x → f x ≡ []
 flat_none f x [] h c = absurd (nothing_in x c)
 flat_none f x (y ∷ ys) h c =
     let parts = neither (f y) (flat_map f ys) h in
@@ -99,7 +102,7 @@ no_text f (Some x) h = cc
 
 are_free : (all ds : List Document) → repeated_uri ds ≡ None → taken_by all ds ≡ None → AreFree all ds
 are_free all ds once free = record {
-  once = repeats_none (map key_of ds) (no_least (repeats (map key_of ds)) once);
+  once = unrepeated ds once;
   free = λ d c e k other.
       free_of_others all d e (ap least (flat_none (taken_uris all) d ds (no_least (flat_map (taken_uris all) ds) free) c)) k other;
 }
@@ -111,7 +114,7 @@ pub record IsGranted (g : Registry) (ds after : List Document) : Type 0 where
   pub few : nat_lt g.most_documents (length after) ≡ false
   pub small : nat_lt g.most_bytes (bytes_of after) ≡ false
 
-granted_by : (repeated : Option Text) (owned : Bool) (uri : Option Text) (many large : Bool)
+pub granted_by : (repeated : Option Text) (owned : Bool) (uri : Option Text) (many large : Bool)
     → first (option_list (option_map same_document repeated) ++ (when owned library_owned ++ (option_list (option_map taken uri) ++ (when many quota_documents ++ when large quota_bytes)))) ≡ None
     → (repeated ≡ None) × ((owned ≡ false) × ((uri ≡ None) × ((many ≡ false) × (large ≡ false))))
 granted_by repeated owned uri many large e =

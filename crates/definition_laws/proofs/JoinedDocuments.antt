@@ -1,6 +1,6 @@
 -- A library's documents among others: what is placed or left out there is so in the joined list.
-use Rattle.std.proofs.Common.{◌≡◌, ◌⊎◌, Bool, true, false, not, cond, List, [], ◌∷◌, map, Option, Some, is_some, Contains, filter, Less, Equal, sym, refl, ap, ◌∙◌, subst, inl, inr, true≢false}
-use Rattle.std.proofs.lemmas.Bool.{false_from_ne_true}
+use Rattle.std.proofs.Common.{◌≡◌, ◌⊎◌, Bool, true, false, not, cond, List, [], ◌∷◌, map, Option, Some, None, is_some, Contains, filter, Less, Equal, sym, refl, ap, ◌∙◌, subst, inl, inr, true≢false}
+use Rattle.std.proofs.lemmas.Bool.{false_from_ne_true, not-true}
 use Rattle.std.proofs.lemmas.Cmp.{nat_list_cmp_total, tied_itself}
 use Rattle.std.proofs.lemmas.List.Elements.{All-from_recursion, All-contains}
 use Rattle.std.specs.Cmp.Lexicographic.{slice_cmp, bytes_decides}
@@ -10,7 +10,7 @@ use Rattle.std.specs.Ordering.{nat_cmp}
 use Rattle.definitions.specs.Values.{Text, same_text}
 use Rattle.definitions.specs.Schemas.{Document}
 use Rattle.definitions.specs.Documents.{document_of, others_of, placed, joined, placed_all, Ascend}
-use Rattle.definition_laws.proofs.Membership.{nothing_in, is_first, is_later, first_or_later, from_filter, in_map, found_some}
+use Rattle.definition_laws.proofs.Membership.{nothing_in, is_first, is_later, first_or_later, from_filter, in_map, found_none, found_some}
 use Rattle.definition_laws.proofs.Repeats.{none_of}
 use Rattle.definition_laws.proofs.Resources.{same_text-unlike}
 use Rattle.definition_laws.proofs.Placing.{inserted, ascending, kept_ascending}
@@ -125,7 +125,7 @@ pub ascend_all : (es ds : List Document) → Ascend ds → Ascend (placed_all es
 ascend_all [] ds sorted = sorted
 ascend_all (e ∷ es) ds sorted = ascend_all es (placed e ds) (ascend_placed e ds sorted)
 
-ascend_outside : (es ds : List Document) → Ascend ds → Ascend (outside es ds)
+pub ascend_outside : (es ds : List Document) → Ascend ds → Ascend (outside es ds)
 ascend_outside [] ds sorted = sorted
 ascend_outside (e ∷ es) ds sorted = ascend_part (λ x. not (same_text e.canonical x.canonical)) (outside es ds) (ascend_outside es ds sorted)
 
@@ -136,14 +136,15 @@ from_outside (e ∷ es) ds x c =
     let rest = from_outside es ds x here.0 in (
       rest.0,
       λ f k. elim (first_or_later e f es k) [
-        | inl same ↦ subst (λ u. IsOther u.canonical x) same (unlike (same_text e.canonical x.canonical) here.1)
+        | inl same ↦ subst (λ u. IsOther u.canonical x) same (not-true (same_text e.canonical x.canonical) here.1)
         | inr later ↦ rest.1 f later
       ],
     )
-  where
-    unlike : (b : Bool) → not b ≡ true → b ≡ false
-    unlike true h = sym h
-    unlike false h = refl
+
+pub none_outside : (uri : Text) (ds : List Document) → document_of (others_of uri ds) uri ≡ None
+none_outside uri ds =
+    found_none (λ (d : Document). same_text uri d.canonical) (others_of uri ds)
+    (λ d c. not-true (same_text uri d.canonical) (from_filter (λ (x : Document). not (same_text uri x.canonical)) d ds c).1)
 
 pub in_all : (es ds : List Document) (x : Document) → Contains ds x → ((e : Document) → Contains es e → IsOther e.canonical x) → Contains (placed_all es ds) x
 in_all [] ds x c apart = c

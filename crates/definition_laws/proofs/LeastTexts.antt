@@ -8,8 +8,10 @@ use Rattle.definitions.specs.Schemas.{Document, table_of}
 use Rattle.definitions.specs.Targets.{target}
 use Rattle.definitions.specs.Reach.{references_in, missing, least, lesser}
 use Rattle.lemmas.proofs.Options.{none_from_is_none}
+use Rattle.lemmas.proofs.Orders.{less_is_lt}
 use Rattle.definition_laws.specs.Linking.{IsLeast, IsMissing}
 use Rattle.definition_laws.proofs.Membership.{nothing_in, is_first, is_later, first_or_later, in_filter, from_filter}
+use Rattle.definition_laws.proofs.PlacedDocuments.{tied}
 use Rattle.definition_laws.proofs.Repeats.{in_flat_map, from_flat_map}
 
 abbrev cmp : Text → Text → Ordering
@@ -80,6 +82,15 @@ least_is_least ts t e =
       inside = low.inside;
       none_less = λ u c. ap is_lt (nat_list_cmp_total.antisymm u t) ∙ reversed (cmp t u) (low.none_above u c);
     }
+
+-- neither of two texts comes before the other
+neither_at : (s t : Text) (o : Ordering) → cmp s t ≡ o → is_lt (cmp s t) ≡ false → is_lt (cmp t s) ≡ false → s ≡ t
+neither_at s t Less e h k = absurd (less_is_lt (cmp s t) e h)
+neither_at s t Equal e h k = tied s t e
+neither_at s t Greater e h k = absurd (less_is_lt (cmp t s) (nat_list_cmp_total.antisymm t s ∙ ap ordering_reverse e) k)
+
+pub neither_before : (s t : Text) → is_lt (slice_cmp nat_cmp s t) ≡ false → is_lt (slice_cmp nat_cmp t s) ≡ false → s ≡ t
+neither_before s t = neither_at s t (cmp s t) refl
 
 pub no_texts : (ts : List Text) → (least ts ≡ None) ↔ (ts ≡ [])
 no_texts ts = (no_least ts, λ e. ap least e)

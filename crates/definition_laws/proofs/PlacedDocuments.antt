@@ -1,5 +1,5 @@
 -- A document at its place among others.
-use Rattle.std.proofs.Common.{◌≡◌, ◌⊎◌, List, [], ◌∷◌, Contains, is_eq, Equal, sym, refl, ap, ◌∙◌, subst}
+use Rattle.std.proofs.Common.{◌≡◌, ◌⊎◌, List, [], ◌∷◌, Contains, is_eq, Ordering, Less, Equal, Greater, sym, refl, ap, ◌∙◌, subst}
 use Rattle.std.proofs.lemmas.Cmp.{nat_list_cmp_total}
 use Rattle.std.proofs.lemmas.Map.Text.{is_eq-slice_cmp}
 use Rattle.std.specs.Cmp.Lexicographic.{slice_cmp, bytes_decides}
@@ -7,6 +7,7 @@ use Rattle.std.specs.Ordering.{nat_cmp, match_ordering}
 use Rattle.definitions.specs.Values.{Text}
 use Rattle.definitions.specs.Schemas.{Document}
 use Rattle.definitions.specs.Documents.{placed}
+use Rattle.definition_laws.proofs.Membership.{is_first, is_later}
 use Rattle.definition_laws.proofs.Placing.{inserted, in_inserted, from_inserted}
 
 abbrev pub key_of : Document → Text
@@ -15,6 +16,15 @@ key_of d = d.canonical
 pub as_inserted : (d : Document) (ds : List Document) → inserted (slice_cmp nat_cmp) key_of d ds ≡ placed d ds
 as_inserted d [] = refl
 as_inserted d (e ∷ es) = ap (λ r. match_ordering (slice_cmp nat_cmp d.canonical e.canonical) (d ∷ e ∷ es) (d ∷ es) (e ∷ r)) (as_inserted d es)
+
+placed_itself_at : (d e : Document) (es : List Document) (o : Ordering) → Contains (placed d es) d → Contains (match_ordering o (d ∷ e ∷ es) (d ∷ es) (e ∷ placed d es)) d
+placed_itself_at d e es Less more = is_first d (e ∷ es)
+placed_itself_at d e es Equal more = is_first d es
+placed_itself_at d e es Greater more = is_later e d (placed d es) more
+
+pub placed_itself : (d : Document) (ds : List Document) → Contains (placed d ds) d
+placed_itself d [] = is_first d []
+placed_itself d (e ∷ es) = placed_itself_at d e es (slice_cmp nat_cmp d.canonical e.canonical) (placed_itself d es)
 
 pub from_placed : (d e : Document) (ds : List Document) → Contains (placed d ds) e → (d ≡ e) ⊎ Contains ds e
 from_placed d e ds c = from_inserted (slice_cmp nat_cmp) nat_list_cmp_total key_of d e ds (subst (λ es. Contains es e) (sym (as_inserted d ds)) c)

@@ -95,7 +95,7 @@ module _ (f : Document → ℕ) where
 one_more : (all rest len : ℕ) → all ≡ 1 + rest → rest ≡ len → all ≡ suc len
 one_more all rest len e f = omega (arith, e, f)
 
-counted : (ds : List Document) → sum_by (λ (d : Document). 1) ds ≡ length ds
+pub counted : (ds : List Document) → sum_by (λ (d : Document). 1) ds ≡ length ds
 counted [] = refl
 counted (d ∷ ds) =
     one_more (sum_by (λ (d : Document). 1) (d ∷ ds)) (sum_by (λ (d : Document). 1) ds) (length ds) (sum_by-cons (λ (d : Document). 1) d ds) (counted ds)

@@ -34,7 +34,7 @@ holds_on false rest told held e = elim e [
   | inr x ↦ cc x.2
 ]
 
-closes_on : (ms ns : List Message) → close ms ≡ false → close (ms ++ ns) ≡ close ns
+pub closes_on : (ms ns : List Message) → close ms ≡ false → close (ms ++ ns) ≡ close ns
 closes_on [] ns e = refl
 closes_on (m ∷ ms) ns e = by (is_last m.head) e (λ f. closes_on ms ns f)
   where

@@ -14,6 +14,10 @@ pub option_map-twice : {X Y Z : Type 0} (g : Y → Z) (f : X → Y) (o : Option 
 option_map-twice g f None = refl
 option_map-twice g f (Some x) = refl
 
+pub is_some-map : {X Y : Type 0} (f : X → Y) (o : Option X) → is_some (option_map f o) ≡ is_some o
+is_some-map f None = refl
+is_some-map f (Some x) = refl
+
 -- a place that is given only within a bound
 pub past_from_none : (n m : ℕ) (b : Bool) → nat_lt n m ≡ b → cond b (Some n) None ≡ None → m ≤ n
 past_from_none n m true e h = cc

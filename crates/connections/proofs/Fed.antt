@@ -11,7 +11,7 @@ use Rattle.http_definitions.specs.Connections.{Answers, AnswersAll, Connection, 
 use Rattle.http_laws.proofs.Cutting.{cut, begins_on_behind}
 use Rattle.http_laws.proofs.LineEnds.{dropped_all, left_with}
 use Rattle.http_laws.proofs.Hopeless.{hopeless_on, hopeless_has_bytes}
-use Rattle.http_laws.proofs.Pieces.{answers_on, holds_on}
+use Rattle.http_laws.proofs.Pieces.{answers_on, closes_on, holds_on}
 use Rattle.http_laws.proofs.Steps.{nothing_waits}
 use Rattle.connections.specs.Views.{Feeds}
 use Rattle.connections.specs.Feeding.{Fed, FeedsAll, stream_of, sent_to, Answered, messages_of, replies_of, IsSent, IsHistory}
@@ -95,14 +95,6 @@ closed_on a p ms rs out x = by (close ms) refl x.ends
     ]
 
 -- ---- an open one takes a piece
-closes_on : (ms ns : List Message) → close ms ≡ false → close (ms ++ ns) ≡ close ns
-closes_on [] ns e = refl
-closes_on (m ∷ ms) ns e = by (is_last m.head) e (closes_on ms ns)
-  where
-    by : (t : Bool) → (t || close ms) ≡ false → (close ms ≡ false → close (ms ++ ns) ≡ close ns) → (t || close (ms ++ ns)) ≡ close ns
-    by true e f = absurd (true≢false e)
-    by false e f = f e
-
 pub sent_on : {S : Type 0} (answers : Answers S) (a p : Text) (ms : List Message) (rs : List Reply) (first second held : Text) (now : Connection) (s t : S)
     → IsSent a ms rs first (holding held) → (y : Takes answers (held ++ p) s second now t)
     → IsSent (a ++ p) (ms ++ y.messages) (rs ++ y.replies) (first ++ second) now

@@ -7,8 +7,8 @@ use Rattle.request_heads.specs.Fronts.{HasHeading}
 use Rattle.connections.specs.Messages.{HasMessage}
 use Rattle.connections.specs.declared.phases.Phase.{Phase}
 use Rattle.connections.specs.declared.phases.Phase.TheVariants.{Searching, Reading}
-use Rattle.connections.specs.declared.phases.Found.{Found}
-use Rattle.connections.specs.declared.phases.Found.TheVariants.{Waiting, Hopeless, Whole}
+use Rattle.connections.specs.declared.phases.Arrival.{Arrival}
+use Rattle.connections.specs.declared.phases.Arrival.TheVariants.{Waiting, Hopeless, Whole}
 
 -- so far the request at the front was read
 abbrev pub IsOn : Text → Phase → Type 0
@@ -19,8 +19,8 @@ IsOn bytes (Reading x) = HasHeading bytes x
 abbrev pub IsHeld : Text → Phase → Type 0
 IsHeld bytes p = (without_line_ends bytes ≡ bytes) × IsOn bytes p
 
--- what was found at the front is so
-abbrev pub IsFound : Text → Found → Type 0
-IsFound bytes (Waiting p) = IsOn bytes p × IsWaiting bytes
-IsFound bytes Hopeless = IsHopeless bytes
-IsFound bytes (Whole x) = HasMessage bytes x
+-- what stands at the front is so
+abbrev pub HasArrived : Text → Arrival → Type 0
+HasArrived bytes (Waiting p) = IsOn bytes p × IsWaiting bytes
+HasArrived bytes Hopeless = IsHopeless bytes
+HasArrived bytes (Whole x) = HasMessage bytes x

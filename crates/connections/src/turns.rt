@@ -7,7 +7,7 @@ ghost use Rattle.connections.specs.Progress.{IsTurn, TakesSome};
 use crate::answering::answer;
 use crate::buffers::{behind, line_ends};
 use crate::handlers::Handler;
-use crate::phases::{Found, Phase, find};
+use crate::phases::{Arrival, Phase, find};
 use faults::Fault;
 use reply_texts::write_closing;
 use std::alloc::Global;
@@ -42,12 +42,12 @@ pub fn take_turn<H: Handler>(
     let skipped = line_ends(bytes);
     let front = behind(bytes, skipped);
     match find(front, phase) {
-        Found::Waiting(reached) => Ok(Turn::Holds(skipped, reached)),
-        Found::Hopeless => match write_closing(alloc, out) {
+        Arrival::Waiting(reached) => Ok(Turn::Holds(skipped, reached)),
+        Arrival::Hopeless => match write_closing(alloc, out) {
             Err(fault) => Err(fault),
             Ok(()) => Ok(Turn::Closes),
         },
-        Found::Whole(heading) => match answer(alloc, handler, out, front, heading) {
+        Arrival::Whole(heading) => match answer(alloc, handler, out, front, heading) {
             Err(fault) => Err(fault),
             Ok(()) => {
                 if heading.is_last {

@@ -9,7 +9,7 @@ use Rattle.serving.specs.Transfers.{Transfer}
 use Rattle.serving.specs.Writing.{Writes}
 use Rattle.serving.specs.Exchanges.{Wire, wire, has_bytes, Tells, BreaksOff}
 use Rattle.serving.specs.Turns.{AnswersBytes, IsPieceAnswered, Turns}
-use Rattle.serving.specs.declared.pieces.Turn.TheVariants.{Goes, Ends}
+use Rattle.serving.specs.declared.pieces.Progress.TheVariants.{Goes, Ends}
 use Rattle.serving.proofs.Exchanged.{last_read, piece_told, piece_broken}
 use Rattle.serving.proofs.Written.{took_none}
 

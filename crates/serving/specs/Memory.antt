@@ -5,7 +5,7 @@ use Rattle.serving.specs.declared.memory.MemoryReader.{MemoryReader}
 use Rattle.serving.specs.declared.memory.MemoryWriter.{MemoryWriter}
 
 abbrev pub reads_of : MemoryReader → List Transfer
-reads_of s = s.log.transfers
+reads_of s = s.transcript.transfers
 
 abbrev pub writes_of : MemoryWriter → List Transfer
-writes_of s = s.log.transfers
+writes_of s = s.transcript.transfers

@@ -4,4 +4,4 @@ use Rattle.serving.specs.Transfers.{Transfer}
 use Rattle.serving.specs.declared.recorded.Recorded.{Recorded}
 
 abbrev pub transfers_of : {S : Type 0} → Recorded S → List Transfer
-transfers_of s = s.log.transfers
+transfers_of s = s.transcript.transfers

@@ -8,8 +8,8 @@ use Rattle.faults.specs.declared.Fault.TheVariants.{NoRoom, WriteFailed}
 use Rattle.serving.specs.Transfers.{Transfer}
 use Rattle.serving.specs.Writing.{Writes, WritesSome}
 use Rattle.serving.specs.Exchanges.{Wire, Tells, HasEnded, BreaksOff}
-use Rattle.serving.specs.declared.pieces.Turn.{Turn}
-use Rattle.serving.specs.declared.pieces.Turn.TheVariants.{Goes, Ends}
+use Rattle.serving.specs.declared.pieces.Progress.{Progress}
+use Rattle.serving.specs.declared.pieces.Progress.TheVariants.{Goes, Ends}
 
 -- the bytes are taken, and what they give is written
 abbrev pub AnswersBytes : {S : Type 0} → Answers S → Text → S → List Transfer → Result (Unit {0}) Fault → Option Connection → S → List Transfer → Type 0
@@ -27,7 +27,7 @@ IsPieceAnswered answers (Some closed) piece s before result c t after = Unit {0}
 IsPieceAnswered answers None piece s before result c t after = Unit {0}
 
 -- behind so many pieces
-abbrev pub Turns : {S : Type 0} → Answers S → Wire S → ℕ → Result Turn Fault → Option Connection → Wire S → Type 0
+abbrev pub Turns : {S : Type 0} → Answers S → Wire S → ℕ → Result Progress Fault → Option Connection → Wire S → Type 0
 Turns answers start n (Ok Goes) c after =
     (held : Text) × (c ≡ Some (holding held)) × (x : Tells answers start [] (holding held) after) × (length x.0.pieces ≡ n + 1)
 Turns answers start n (Ok Ends) c after =
@@ -35,7 +35,7 @@ Turns answers start n (Ok Ends) c after =
 Turns answers start n (Err f) c after = BreaksOff answers start f after
 
 -- whatever was read and told since the start
-abbrev pub IsTurn : {S : Type 0} → Answers S → Option Connection → Wire S → Result Turn Fault → Option Connection → Wire S → Type 0
+abbrev pub IsTurn : {S : Type 0} → Answers S → Option Connection → Wire S → Result Progress Fault → Option Connection → Wire S → Type 0
 IsTurn {S} answers c before result d after =
     (start : Wire S) (held : Text) → c ≡ Some (holding held) → (x : Tells answers start [] (holding held) before)
     → Turns answers start (length x.0.pieces) result d after

@@ -6,7 +6,7 @@ ghost use Rattle.connections.specs.Connected.{handler_of, connection_at, OthersS
 ghost use Rattle.serving.specs.Exchanges.{wire};
 ghost use Rattle.serving.specs.Serving.{IsExchanged};
 
-use crate::pieces::{Turn, serve_piece};
+use crate::pieces::{Progress, serve_piece};
 use crate::streams::{ByteReader, ByteWriter};
 use connections::{Handler, Sessions};
 use faults::Fault;
@@ -33,8 +33,8 @@ pub fn exchange<H: Handler, R: ByteReader, W: ByteWriter>(
     let mut reads = 0;
     while reads < MOST_READS {
         match serve_piece(alloc, sessions, id, reader, writer) {
-            Ok(Turn::Goes) => reads += 1,
-            Ok(Turn::Ends) => return Ok(()),
+            Ok(Progress::Goes) => reads += 1,
+            Ok(Progress::Ends) => return Ok(()),
             Err(fault) => return Err(fault),
         }
     }

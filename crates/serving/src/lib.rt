@@ -3,12 +3,12 @@
 
 mod broken;
 mod exchanges;
-mod log;
 mod memory;
 mod pieces;
 mod recorded;
 mod served;
 mod streams;
+mod transcript;
 mod writing;
 
 pub use broken::Broken;

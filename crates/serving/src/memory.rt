@@ -4,8 +4,8 @@ ghost use Rattle.std.specs.Prelude.{◌≡◌, ◌≤◌, ◌++◌, [], IfOk, On
 ghost use Rattle.serving.specs.Transfers.{transferred};
 
 use crate::broken::Broken;
-use crate::log::{Log, Note};
 use crate::streams::{ByteReader, ByteWriter};
+use crate::transcript::{Note, Transcript};
 use std::alloc::Global;
 
 /// What a stream over memory does after its last call that moves bytes.
@@ -57,7 +57,7 @@ pub struct MemoryReader {
     bytes: Vec<u8>,
     start: usize,
     pace: Pace,
-    log: Log,
+    transcript: Transcript,
     ghost within: { start ≤ length bytes.items },
 }
 
@@ -72,13 +72,13 @@ impl MemoryReader {
             bytes,
             start: 0,
             pace,
-            log: Log::new(),
+            transcript: Transcript::new(),
         }
     }
 }
 
 impl ByteReader for MemoryReader {
-    ghost reads = { λ s. s.log.transfers };
+    ghost reads = { λ s. s.transcript.transfers };
 
     fn read(&mut self, buffer: &mut [u8]) -> Result<usize, Broken> {
         let left = self.bytes.len() - self.start;
@@ -91,11 +91,11 @@ impl ByteReader for MemoryReader {
             Ok(count) => {
                 buffer[..count].copy_from_slice(&self.bytes[self.start..self.start + count]);
                 self.start += count;
-                self.log = self.log.then(&Note::Moved(&buffer[..count]));
+                self.transcript = self.transcript.then(&Note::Moved(&buffer[..count]));
                 Ok(count)
             }
             Err(broken) => {
-                self.log = self.log.then(&Note::Failed);
+                self.transcript = self.transcript.then(&Note::Failed);
                 Err(broken)
             }
         }
@@ -107,8 +107,8 @@ impl ByteReader for MemoryReader {
 pub struct MemoryWriter {
     bytes: Vec<u8>,
     pace: Pace,
-    log: Log,
-    ghost told: { bytes.items ≡ transferred log.transfers },
+    transcript: Transcript,
+    ghost told: { bytes.items ≡ transferred transcript.transfers },
 }
 
 impl MemoryWriter {
@@ -121,7 +121,7 @@ impl MemoryWriter {
         MemoryWriter {
             bytes: Vec::new(alloc),
             pace,
-            log: Log::new(),
+            transcript: Transcript::new(),
         }
     }
 
@@ -134,16 +134,16 @@ impl MemoryWriter {
 }
 
 impl ByteWriter for MemoryWriter {
-    ghost writes = { λ s. s.log.transfers };
+    ghost writes = { λ s. s.transcript.transfers };
 
     fn write(&mut self, bytes: &[u8]) -> Result<usize, Broken> {
         match keep(&mut self.bytes, &mut self.pace, bytes) {
             Ok(count) => {
-                self.log = self.log.then(&Note::Moved(&bytes[..count]));
+                self.transcript = self.transcript.then(&Note::Moved(&bytes[..count]));
                 Ok(count)
             }
             Err(broken) => {
-                self.log = self.log.then(&Note::Failed);
+                self.transcript = self.transcript.then(&Note::Failed);
                 Err(broken)
             }
         }

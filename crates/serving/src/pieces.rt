@@ -13,9 +13,9 @@ use std::alloc::Global;
 /// How many bytes a read is given room for.
 const MOST_PIECE: usize = 4096;
 
-/// What a turn came to.
+/// Whether a connection goes on behind a piece.
 #[derive(Clone, Copy, Drop)]
-pub enum Turn {
+pub enum Progress {
     /// A piece was read and answered, and the connection is open.
     Goes,
     /// The reader came to its end, or the connection is closed.
@@ -48,7 +48,7 @@ pub fn serve_piece<H: Handler, R: ByteReader, W: ByteWriter>(
     id: u64,
     reader: &mut R,
     writer: &mut W,
-) -> Result<Turn, Fault>
+) -> Result<Progress, Fault>
     ensures turned { IsTurn H.answers (connection_at sessions.old id)
         (wire (handler_of sessions.old) (R.reads reader.old) (W.writes writer.old)) result
         (connection_at sessions.new id)
@@ -58,14 +58,14 @@ pub fn serve_piece<H: Handler, R: ByteReader, W: ByteWriter>(
     let mut buffer = [0u8; MOST_PIECE];
     match reader.read(&mut buffer) {
         Err(_) => Err(Fault::ReadFailed),
-        Ok(0) => Ok(Turn::Ends),
+        Ok(0) => Ok(Progress::Ends),
         Ok(count) => match answer_piece(alloc, sessions, id, &buffer[..count], writer) {
             Err(fault) => Err(fault),
             Ok(()) => {
                 if sessions.is_closed(id) {
-                    Ok(Turn::Ends)
+                    Ok(Progress::Ends)
                 } else {
-                    Ok(Turn::Goes)
+                    Ok(Progress::Goes)
                 }
             }
         },

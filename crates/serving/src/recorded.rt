@@ -3,15 +3,15 @@
 ghost use Rattle.std.specs.Prelude.{◌≡◌, []};
 
 use crate::broken::Broken;
-use crate::log::{Log, Note};
 use crate::streams::{ByteReader, ByteWriter};
+use crate::transcript::{Note, Transcript};
 use std::io::{Read, Write};
 
 /// A reader or a writer of std, as a terminal, a file or a socket, whose transfers proofs know.
 #[derive(Drop)]
 pub struct Recorded<S> {
     stream: S,
-    log: Log,
+    transcript: Transcript,
 }
 
 impl<S> Recorded<S> {
@@ -23,22 +23,22 @@ impl<S> Recorded<S> {
     {
         Recorded {
             stream,
-            log: Log::new(),
+            transcript: Transcript::new(),
         }
     }
 }
 
 impl<R: Read> ByteReader for Recorded<R> {
-    ghost reads = { λ s. s.log.transfers };
+    ghost reads = { λ s. s.transcript.transfers };
 
     fn read(&mut self, buffer: &mut [u8]) -> Result<usize, Broken> {
         match self.stream.read(buffer) {
             Ok(count) => {
-                self.log = self.log.then(&Note::Moved(&buffer[..count]));
+                self.transcript = self.transcript.then(&Note::Moved(&buffer[..count]));
                 Ok(count)
             }
             Err(_) => {
-                self.log = self.log.then(&Note::Failed);
+                self.transcript = self.transcript.then(&Note::Failed);
                 Err(Broken)
             }
         }
@@ -46,16 +46,16 @@ impl<R: Read> ByteReader for Recorded<R> {
 }
 
 impl<W: Write> ByteWriter for Recorded<W> {
-    ghost writes = { λ s. s.log.transfers };
+    ghost writes = { λ s. s.transcript.transfers };
 
     fn write(&mut self, bytes: &[u8]) -> Result<usize, Broken> {
         match self.stream.write(bytes) {
             Ok(count) => {
-                self.log = self.log.then(&Note::Moved(&bytes[..count]));
+                self.transcript = self.transcript.then(&Note::Moved(&bytes[..count]));
                 Ok(count)
             }
             Err(_) => {
-                self.log = self.log.then(&Note::Failed);
+                self.transcript = self.transcript.then(&Note::Failed);
                 Err(Broken)
             }
         }

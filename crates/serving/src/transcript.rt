@@ -9,11 +9,11 @@ use std::marker::Model;
 
 /// The transfers of a stream up to now. It is empty when the program runs.
 #[derive(Drop)]
-pub struct Log {
+pub struct Transcript {
     ghost transfers: { List Transfer } by { transfers_code },
 }
 
-impl Model for Log {
+impl Model for Transcript {
     ghost also_owns = { λ _. ftrue };
 }
 
@@ -26,20 +26,20 @@ pub enum Note<'a> {
     Failed,
 }
 
-impl Log {
+impl Transcript {
     ghost use Rattle.serving.specs.Notes.{transfer_in};
 
     /// No transfer.
-    pub fn new() -> Log
+    pub fn new() -> Transcript
         ensures { result.transfers ≡ [] }
     {
-        Log {}
+        Transcript {}
     }
 
     /// One more.
-    pub fn then(&self, _note: &Note<'_>) -> Log
+    pub fn then(&self, _note: &Note<'_>) -> Transcript
         ensures { result.transfers ≡ self.now.transfers ++ (transfer_in _note.now ∷ []) }
     {
-        Log {}
+        Transcript {}
     }
 }

@@ -1,17 +1,17 @@
 -- How many documents there are, and of how many bytes, where several are put together.
-use Rattle.std.proofs.Common.{◌≡◌, ℕ, suc, ◌+◌, ◌-◌, ◌≤◌, Bool, true, false, not, cond, List, [], ◌∷◌, length, sum_by, filter, find, Contains, Some, None, refl, sym, ap, ◌∙◌, subst, true≢false, arith}
+use Rattle.std.proofs.Common.{◌≡◌, ℕ, ◌+◌, ◌-◌, ◌≤◌, Bool, true, false, not, cond, List, [], ◌∷◌, length, sum_by, filter, find, Contains, Some, refl, sym, ap, ap₂, ◌∙◌, subst, true≢false, arith}
 use Rattle.std.proofs.lemmas.Bool.{or_parts}
 use Rattle.std.proofs.lemmas.List.Sums.{sum_by-append, sum_by-cons}
 use Rattle.std.specs.List.{list_any}
-use Rattle.definitions.specs.Documents.{bytes_of, canonicals, document_of, others_of, placed, placed_all, Ascend}
+use Rattle.definitions.specs.Documents.{bytes_of, canonicals, document_of, placed, placed_all, Ascend}
 use Rattle.definitions.specs.Lists.{has_repeat, option_list}
 use Rattle.definitions.specs.Schemas.{Document}
 use Rattle.definitions.specs.Texts.{text}
 use Rattle.definitions.specs.Values.{Text, same_text}
 use Rattle.lemmas.proofs.Texts.{same_text_is}
-use Rattle.definition_laws.proofs.JoinedDocuments.{ascend_part, ascend_placed, first_apart, outside, outside_rest}
-use Rattle.definition_laws.proofs.Membership.{found_none, from_filter, is_first, is_later}
-use Rattle.definition_laws.proofs.QuotaSums.{added, taken_off}
+use Rattle.definition_laws.proofs.JoinedDocuments.{ascend_outside, ascend_placed, first_apart, none_outside, outside, outside_rest}
+use Rattle.definition_laws.proofs.Membership.{is_first, is_later}
+use Rattle.definition_laws.proofs.QuotaSums.{added, counted, taken_off}
 use Rattle.definition_laws.proofs.Resources.{same_text-unlike}
 use Rattle.tenant_documents.specs.HeldBeside.{replaced_by}
 
@@ -32,18 +32,6 @@ found_beside (e ∷ es) ds uri apart =
     found_in_part (λ (d : Document). same_text uri d.canonical) (λ (d : Document). not (same_text e.canonical d.canonical)) (outside es ds)
     (λ d same. ap not (subst (λ t. same_text e.canonical t ≡ false) (same_text_is uri d.canonical same) (apart e (is_first e es))))
     ∙ found_beside es ds uri (λ x c. apart x (is_later e x es c))
-
-ascend_outside : (es ds : List Document) → Ascend ds → Ascend (outside es ds)
-ascend_outside [] ds ascend = ascend
-ascend_outside (e ∷ es) ds ascend = ascend_part (λ x. not (same_text e.canonical x.canonical)) (outside es ds) (ascend_outside es ds ascend)
-
-none_outside : (uri : Text) (ds : List Document) → document_of (others_of uri ds) uri ≡ None
-none_outside uri ds =
-    found_none (λ (d : Document). same_text uri d.canonical) (others_of uri ds) (λ d c. unlike (same_text uri d.canonical) (from_filter (λ (x : Document). not (same_text uri x.canonical)) d ds c).1)
-  where
-    unlike : (b : Bool) → not b ≡ true → b ≡ false
-    unlike true h = sym h
-    unlike false h = refl
 
 -- ---- of numbers alone
 nothing_put : (n m : ℕ) → m ≡ 0 → n ≡ m + n
@@ -85,14 +73,6 @@ module _ (f : Document → ℕ) where
       (sum_gone es ds ascend apart.1)
 
 -- ---- their number
-one_counted : (all rest len : ℕ) → all ≡ 1 + rest → rest ≡ len → all ≡ suc len
-one_counted all rest len e f = omega (arith, e, f)
-
-counted : (ds : List Document) → sum_by (λ (d : Document). 1) ds ≡ length ds
-counted [] = refl
-counted (d ∷ ds) =
-    one_counted (sum_by (λ (d : Document). 1) (d ∷ ds)) (sum_by (λ (d : Document). 1) ds) (length ds) (sum_by-cons (λ (d : Document). 1) d ds) (counted ds)
-
 within : (out gone there : ℕ) → out + gone ≡ there → gone ≤ there
 within out gone there e = omega (arith, e)
 
@@ -102,23 +82,16 @@ left_and_put after own out gone there e f = omega (arith, e, f)
 no_less : (after own out : ℕ) → after ≡ own + out → own ≤ after
 no_less after own out e = omega (arith, e)
 
-in_numbers : (a b c i j k : ℕ) → a ≡ i → b ≡ j → c ≡ k → a ≡ b + c → i ≡ j + k
-in_numbers a b c i j k e f g h = omega (arith, e, f, g, h)
-
-in_numbers_left : (a b c i j k : ℕ) → a ≡ i → b ≡ j → c ≡ k → a + b ≡ c → i + j ≡ k
-in_numbers_left a b c i j k e f g h = omega (arith, e, f, g, h)
-
 module _ (es ds : List Document) (ascend : Ascend ds) (once : has_repeat same_text (canonicals es) ≡ false) where
   number_put : length (placed_all es ds) ≡ length es + length (outside es ds)
   number_put =
-      in_numbers (sum_by (λ (d : Document). 1) (placed_all es ds)) (sum_by (λ (d : Document). 1) es) (sum_by (λ (d : Document). 1) (outside es ds))
-      (length (placed_all es ds)) (length es) (length (outside es ds)) (counted (placed_all es ds)) (counted es) (counted (outside es ds)) (sum_put (λ (d : Document). 1) es ds ascend once)
+      sym (counted (placed_all es ds)) ∙ sum_put (λ (d : Document). 1) es ds ascend once
+      ∙ ap₂ (λ n m. n + m) (counted es) (counted (outside es ds))
 
   number_gone : length (outside es ds) + length (replaced_by es ds) ≡ length ds
   number_gone =
-      in_numbers_left (sum_by (λ (d : Document). 1) (outside es ds)) (sum_by (λ (d : Document). 1) (replaced_by es ds)) (sum_by (λ (d : Document). 1) ds)
-      (length (outside es ds)) (length (replaced_by es ds)) (length ds) (counted (outside es ds)) (counted (replaced_by es ds)) (counted ds)
-      (sum_gone (λ (d : Document). 1) es ds ascend once)
+      ap₂ (λ n m. n + m) (sym (counted (outside es ds))) (sym (counted (replaced_by es ds)))
+      ∙ sum_gone (λ (d : Document). 1) es ds ascend once ∙ counted ds
 
   pub few_replaced : length (replaced_by es ds) ≤ length ds
   few_replaced = within (length (outside es ds)) (length (replaced_by es ds)) (length ds) number_gone

@@ -1,15 +1,14 @@
 -- What holds of a batch that isn't refused: its documents can be stored together, and the registry is within its limits then.
-use Rattle.std.proofs.Common.{◌≡◌, ◌⊎◌, ◌≤◌, Bool, true, false, not, List, [], ◌∷◌, ◌++◌, flat_map, length, nat_lt, Contains, Option, Some, None, is_some, option_map, refl, sym, ap, subst, inl, inr}
+use Rattle.std.proofs.Common.{◌≡◌, ◌⊎◌, ◌≤◌, Bool, true, false, not, List, [], ◌∷◌, flat_map, length, nat_lt, Contains, None, is_some, refl, sym, ap, subst, inl, inr}
 use Rattle.std.proofs.lemmas.Bool.{ltb-false, false_from_ne_true}
 use Rattle.std.specs.List.{list_any}
 use Rattle.definitions.specs.Batches.{batch_refusal, repeated_uri, taken_by}
 use Rattle.definitions.specs.Documents.{bytes_of, document_of, joined, others_of, placed_all, resources_of, taken_uris}
-use Rattle.definitions.specs.Faults.{library_owned, quota_bytes, quota_documents, same_document, taken}
-use Rattle.definitions.specs.Lists.{first, option_list, when}
 use Rattle.definitions.specs.Reach.{holds_resource, least}
 use Rattle.definitions.specs.Schemas.{Document, schemas_of}
 use Rattle.definitions.specs.Values.{Text, same_text}
 use Rattle.lemmas.proofs.Texts.{same_text_itself}
+use Rattle.definition_laws.proofs.AcceptedBatches.{granted_by}
 use Rattle.definition_laws.proofs.JoinedDocuments.{from_all, is_other, is_unequal}
 use Rattle.definition_laws.proofs.LeastTexts.{no_least}
 use Rattle.definition_laws.proofs.Membership.{nothing_in, is_first, any_at, any_where, in_filter, from_filter}
@@ -25,17 +24,6 @@ use Rattle.tenant_documents.specs.Registries.{registry_view}
 use Rattle.tenant_documents.specs.declared.registry.Registry.{Registry}
 use Rattle.tenant_documents.proofs.Holders.{AreBoth}
 use Rattle.tenant_documents.proofs.KeptRegistries.{IsWithin, registry_both, unowned}
-
--- ---- no fault
-none_of_each : (repeated : Option Text) (owned : Bool) (uri : Option Text) (many large : Bool)
-    → first (option_list (option_map same_document repeated) ++ (when owned library_owned ++ (option_list (option_map taken uri) ++ (when many quota_documents ++ when large quota_bytes)))) ≡ None
-    → (repeated ≡ None) × ((owned ≡ false) × ((uri ≡ None) × ((many ≡ false) × (large ≡ false))))
-none_of_each None false None false false e = (refl, (refl, (refl, (refl, refl))))
-none_of_each None false None false true e = cc
-none_of_each None false None true large e = cc
-none_of_each None false (Some u) many large e = cc
-none_of_each None true uri many large e = cc
-none_of_each (Some t) owned uri many large e = cc
 
 none_there : (ts : List Text) → ((u : Text) → Contains ts u → ⊥) → least ts ≡ None
 none_there [] h = refl
@@ -116,7 +104,7 @@ are_granted r ds none =
     let ls = listed_documents r.library.value in
     let after = placed_all ds own in
     let both = registry_both r in
-    let parts = none_of_each (repeated_uri ds) (owns_any ls ds) (taken_by (joined ls after) ds) (nat_lt r.most_documents (length after)) (nat_lt r.most_bytes (bytes_of after)) none in
+    let parts = granted_by (repeated_uri ds) (owns_any ls ds) (taken_by (joined ls after) ds) (nat_lt r.most_documents (length after)) (nat_lt r.most_bytes (bytes_of after)) none in
     record {
       once = parts.0;
       free = free_within after (joined ls after) ds (λ d c. seen_then ds own ls d both parts.1.0 (inr c)) parts.1.1.0;

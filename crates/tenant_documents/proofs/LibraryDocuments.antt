@@ -1,12 +1,12 @@
 -- The documents of a library: what they are refused for together, and that they go into a list one after the other.
-use Rattle.std.proofs.Common.{◌≡◌, ◌<◌, ◌+◌, ◌++◌, ℕ, Bool, true, false, cond, List, [], ◌∷◌, map, filter, take, drop, length, get_or, Some, None, Ok, Err, not, option_map, Contains, Less, Equal, Greater, Ordering, sym, refl, ap, ap₂, ◌∙◌, subst, inl, inr, true≢false}
-use Rattle.std.proofs.lemmas.Bool.{and_from, and_parts, false_from_ne_true, or_parts, or_from}
+use Rattle.std.proofs.Common.{◌≡◌, ◌<◌, ◌+◌, ◌++◌, ℕ, Bool, true, false, cond, List, [], ◌∷◌, map, filter, take, drop, length, get_or, Some, None, Ok, Err, not, option_map, Contains, Equal, append-nil, sym, refl, ap, ap₂, ◌∙◌, subst, inl, inr, true≢false}
+use Rattle.std.proofs.lemmas.Bool.{and_from, and_parts, false_from_ne_true, or_parts}
 use Rattle.std.proofs.lemmas.List.{map-append, drop_more, take-append-drop}
 use Rattle.std.proofs.lemmas.List.Elements.{Contains-append_left, Contains-append_right}
 use Rattle.std.specs.Cmp.Lexicographic.{slice_cmp}
 use Rattle.std.specs.Global.{Global}
 use Rattle.std.specs.List.{list_all, list_any}
-use Rattle.std.specs.Ordering.{nat_cmp, match_ordering}
+use Rattle.std.specs.Ordering.{nat_cmp}
 use Rattle.std.specs.declared.rc.Rc.{Rc}
 use Rattle.definitions.specs.Batches.{library_with, repeated_uri, repeats, taken_by, unless_shared}
 use Rattle.definitions.specs.Documents.{canonicals, is_faultless, placed, placed_all, resource_uris_of}
@@ -18,12 +18,11 @@ use Rattle.definitions.specs.Schemas.{Document, schemas_of}
 use Rattle.definitions.specs.Values.{Text, same_text}
 use Rattle.lemmas.proofs.Texts.{same_text_itself}
 use Rattle.lemmas.proofs.Lists.{map-take_more}
-use Rattle.definition_laws.proofs.AcceptedBatches.{library_free}
+use Rattle.definition_laws.proofs.AcceptedBatches.{library_free, unrepeated}
 use Rattle.definition_laws.proofs.AcceptedDocuments.{first_none, scanned}
 use Rattle.definition_laws.proofs.JoinedDocuments.{first_apart, from_all, in_all}
-use Rattle.definition_laws.proofs.LeastTexts.{no_least}
-use Rattle.definition_laws.proofs.Membership.{nothing_in, is_first, is_later, first_or_later, in_map}
-use Rattle.definition_laws.proofs.PlacedDocuments.{tied}
+use Rattle.definition_laws.proofs.Membership.{nothing_in, is_first, first_or_later, in_map}
+use Rattle.definition_laws.proofs.PlacedDocuments.{placed_itself, tied}
 use Rattle.definition_laws.proofs.Repeats.{cut}
 use Rattle.definition_laws.proofs.Resources.{root_opens, same_text-unlike}
 use Rattle.linker.specs.SharedDocuments.{shared_documents}
@@ -34,38 +33,14 @@ use Rattle.schema_scan.specs.CompiledDocuments.{compiled_document}
 use Rattle.schema_scan.specs.declared.compiled.Compiled.{Compiled}
 use Rattle.tenant_documents.proofs.ClaimedUris.{AreDistinctEach, TellsHeld, claimed_are_taken}
 
--- ---- texts that don't stand twice
-none_kept : (b : Bool) (t : Text) (ts : List Text) → cond b (t ∷ ts) ts ≡ [] → (b ≡ false) × (ts ≡ [])
-none_kept true t ts h = cc
-none_kept false t ts h = (refl, h)
-
-without_repeats : (ts : List Text) → repeats ts ≡ [] → has_repeat same_text ts ≡ false
-without_repeats [] h = refl
-without_repeats (t ∷ ts) h =
-    let parts = none_kept (list_any (same_text t) ts) t (repeats ts) h in
-    or_from (list_any (same_text t) ts) (has_repeat same_text ts) parts.0 (without_repeats ts parts.1)
-
-pub are_once : (ds : List Document) → repeated_uri ds ≡ None → has_repeat same_text (canonicals ds) ≡ false
-are_once ds e = without_repeats (canonicals ds) (no_least (repeats (canonicals ds)) e)
-
 -- ---- what is placed is there
-placed_at : (d e : Document) (es : List Document) (o : Ordering) → Contains (placed d es) d
-    → Contains (match_ordering o (d ∷ e ∷ es) (d ∷ es) (e ∷ placed d es)) d
-placed_at d e es Less more = is_first d (e ∷ es)
-placed_at d e es Equal more = is_first d es
-placed_at d e es Greater more = is_later e d (placed d es) more
-
-pub is_placed : (d : Document) (ds : List Document) → Contains (placed d ds) d
-is_placed d [] = is_first d []
-is_placed d (e ∷ es) = placed_at d e es (slice_cmp nat_cmp d.canonical e.canonical) (is_placed d es)
-
 pub are_placed : (es ds : List Document) → has_repeat same_text (canonicals es) ≡ false → (d : Document) → Contains es d → Contains (placed_all es ds) d
 are_placed [] ds once d c = absurd (nothing_in d c)
 are_placed (e ∷ es) ds once d c =
     let parts = or_parts (list_any (same_text e.canonical) (canonicals es)) (has_repeat same_text (canonicals es)) once in
     elim (first_or_later e d es c) [
       | inl same ↦ subst (Contains (placed_all es (placed e ds))) same
-          (in_all es (placed e ds) e (is_placed e ds) (λ f k. same_text-unlike e.canonical f.canonical (first_apart e es parts.0 f k)))
+          (in_all es (placed e ds) e (placed_itself e ds) (λ f k. same_text-unlike e.canonical f.canonical (first_apart e es parts.0 f k)))
       | inr later ↦ are_placed es (placed e ds) parts.1 d later
     ]
 
@@ -78,10 +53,6 @@ nothing_passes : (ts : List Text) → filter (λ t. false) ts ≡ []
 nothing_passes [] = refl
 nothing_passes (t ∷ ts) = nothing_passes ts
 
-and_nothing : (ts : List Text) → ts ++ [] ≡ ts
-and_nothing [] = refl
-and_nothing (t ∷ ts) = ap (λ us. t ∷ us) (and_nothing ts)
-
 tells_none : (ds : List Document) → has_repeat same_text (canonicals ds) ≡ false → TellsHeld (λ u. false) (placed_all ds []) ds
 tells_none ds once = record {
   inside = are_placed ds [] once;
@@ -92,9 +63,9 @@ tells_none ds once = record {
 pub taken_together : (ds : List Document) → repeated_uri ds ≡ None → list_all is_faultless ds ≡ true
     → taken_by (placed_all ds []) ds ≡ least (repeats (resource_uris_of ds))
 taken_together ds once fine =
-    claimed_are_taken (λ u. false) (placed_all ds []) ds (are_once ds once) (distinct_each ds fine) (tells_none ds (are_once ds once))
+    claimed_are_taken (λ u. false) (placed_all ds []) ds (unrepeated ds once) (distinct_each ds fine) (tells_none ds (unrepeated ds once))
     ∙ ap (λ us. least (repeats (resource_uris_of ds ++ us))) (nothing_passes (resource_uris_of ds))
-    ∙ ap (λ us. least (repeats us)) (and_nothing (resource_uris_of ds))
+    ∙ ap (λ us. least (repeats us)) (append-nil (resource_uris_of ds))
 
 -- ---- what they are refused for
 pub twice_there : (ds : List Document) (t : Text) → repeated_uri ds ≡ Some t → library_with ds ≡ Err (same_document t)

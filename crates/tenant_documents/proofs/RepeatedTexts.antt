@@ -1,19 +1,16 @@
 -- Texts that stand twice, and the least of them.
-use Rattle.std.proofs.Common.{◌≡◌, ◌<◌, ◌+◌, ◌||◌, ℕ, zero, suc, not, arith, map, take, length, get_or, Bor, ◌⊎◌, Bool, true, false, cond, List, [], ◌∷◌, ◌++◌, Option, Some, None, Contains, Ordering, Less, Equal, Greater, is_lt, sym, refl, ap, ◌∙◌, subst, inl, inr, true≢false}
-use Rattle.std.proofs.lemmas.Cmp.{nat_list_cmp_total}
+use Rattle.std.proofs.Common.{◌≡◌, ◌<◌, ◌+◌, ◌||◌, ℕ, zero, suc, not, arith, map, take, length, get_or, Bor, ◌⊎◌, Bool, true, false, cond, List, [], ◌∷◌, ◌++◌, Option, Some, None, Contains, sym, refl, ap, ◌∙◌, subst, inl, inr, true≢false}
 use Rattle.std.proofs.lemmas.List.Folds.{list_any-append}
 use Rattle.std.proofs.lemmas.List.Elements.{Contains-append_left, Contains-append_right, Contains-append_cases}
-use Rattle.std.specs.Cmp.Lexicographic.{slice_cmp}
 use Rattle.std.specs.List.{list_any}
-use Rattle.std.specs.Ordering.{eq_by_cmp, nat_cmp, ordering_reverse}
+use Rattle.std.specs.Ordering.{eq_by_cmp}
 use Rattle.definitions.specs.Batches.{repeats}
 use Rattle.definitions.specs.Reach.{least, lesser}
 use Rattle.definitions.specs.Values.{Text, same_text}
 use Rattle.lemmas.proofs.Lists.{map-take_more}
 use Rattle.lemmas.proofs.Texts.{same_text_itself, same_text_is, same_text_turned, text_order, text_order-same}
-use Rattle.definition_laws.proofs.LeastTexts.{least_is_least, no_least}
+use Rattle.definition_laws.proofs.LeastTexts.{least_is_least, neither_before, no_least}
 use Rattle.definition_laws.proofs.Membership.{nothing_in, is_first, is_later, first_or_later, any_at, any_where}
-use Rattle.definition_laws.proofs.PlacedDocuments.{tied}
 
 -- ---- a text stands in a list
 pub stands_any : (t : Text) (ts : List Text) → Contains ts t → list_any (same_text t) ts ≡ true
@@ -86,19 +83,6 @@ in_second [] ys u c = c
 in_second (x ∷ xs) ys u c = still_kept (list_any (same_text x) (xs ++ ys)) x u (repeats (xs ++ ys)) (in_second xs ys u c)
 
 -- ---- the least of lists that have the same texts
-abbrev cmp : Text → Text → Ordering
-cmp = slice_cmp nat_cmp
-
-less_is_lt : (o : Ordering) → o ≡ Less → is_lt o ≡ false → ⊥
-less_is_lt Less e h = cc
-less_is_lt Equal e h = cc
-less_is_lt Greater e h = cc
-
-same_by : (s t : Text) (o : Ordering) → cmp s t ≡ o → is_lt (cmp s t) ≡ false → is_lt (cmp t s) ≡ false → s ≡ t
-same_by s t Less e h k = absurd (less_is_lt (cmp s t) e h)
-same_by s t Equal e h k = tied s t e
-same_by s t Greater e h k = absurd (less_is_lt (cmp t s) (nat_list_cmp_total.antisymm t s ∙ ap ordering_reverse e) k)
-
 abbrev pub AreWithin : List Text → List Text → Type 0
 AreWithin xs ys = (u : Text) → Contains xs u → Contains ys u
 
@@ -111,7 +95,7 @@ alike_at xs ys (Some t) None e f there back =
 alike_at xs ys (Some t) (Some s) e f there back =
     let one = least_is_least xs t e in
     let two = least_is_least ys s f in
-    ap Some (same_by t s (cmp t s) refl (two.none_less t (there t one.inside)) (one.none_less s (back s two.inside)))
+    ap Some (neither_before t s (two.none_less t (there t one.inside)) (one.none_less s (back s two.inside)))
 
 pub least_alike : (xs ys : List Text) → AreWithin xs ys → AreWithin ys xs → least xs ≡ least ys
 least_alike xs ys there back = alike_at xs ys (least xs) (least ys) refl refl there back

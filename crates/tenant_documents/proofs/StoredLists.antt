@@ -2,7 +2,7 @@
 use Rattle.std.proofs.Common.{◌≡◌, ◌<◌, ◌≤◌, ◌+◌, ◌-◌, ◌^◌, ◌++◌, ℕ, Bool, true, false, List, [], ◌∷◌, map, take, drop, length, get_or, refl, sym, ap, subst, ◌∙◌, arith}
 use Rattle.std.proofs.lemmas.Bool.{or_from}
 use Rattle.std.proofs.lemmas.List.{length-append, length-map, take-append-drop, take-map}
-use Rattle.std.proofs.lemmas.List.Sums.{sum_by-append, sum_by-cons}
+use Rattle.std.proofs.lemmas.List.Sums.{sum_by-append}
 use Rattle.std.proofs.lemmas.List.Folds.{list_any-append}
 use Rattle.std.specs.Global.{Global}
 use Rattle.std.specs.List.{list_any}
@@ -49,22 +49,6 @@ stored_once ss i once =
     let view = λ (x : Rc Stored Global). stored_document x.value in
     subst (λ ts. has_repeat same_text ts ≡ false) (take-map (λ (d : Document). d.canonical) i (map view ss) ∙ ap canonicals (take-map view i ss))
     (first_once (canonicals (map view ss)) i once)
-
--- ---- their bytes
-pub alone : (d : Document) → bytes_of (d ∷ []) ≡ length (text d.value)
-alone d = no_more (bytes_of (d ∷ [])) (length (text d.value)) (sum_by-cons (λ (x : Document). length (text x.value)) d [])
-  where
-    no_more : (n m : ℕ) → n ≡ m + 0 → n ≡ m
-    no_more n m e = omega (arith, e)
-
-pub bytes_more : (ss : List (Rc Stored Global)) (i : ℕ) (s : Rc Stored Global) → i < length ss → s ≡ get_or ss i s
-    → bytes_of (stored_documents (take (i + 1) ss)) ≡ bytes_of (stored_documents (take i ss)) + length (text (stored_document s.value).value)
-bytes_more ss i s lt is =
-    let before = stored_documents (take i ss) in
-    let d = stored_document s.value in
-    ap bytes_of (stored_more ss i s lt is)
-    ∙ sum_by-append (λ (x : Document). length (text x.value)) before (d ∷ [])
-    ∙ ap (λ n. bytes_of before + n) (alone d)
 
 -- ---- those that they take the place of
 gone_more : (ss : List (Rc Stored Global)) (i : ℕ) (s : Rc Stored Global) (ds : List Document) → i < length ss → s ≡ get_or ss i s

@@ -16,7 +16,7 @@ use shared_cache::Cache;
 use std::alloc::Global;
 use std::rc::Rc;
 use stored_documents::Stored;
-use tenants_file::Entry;
+use tenants_file::BatchEntry;
 use uri_ref::{base_form, split};
 
 // What the entries of a batch give, before any registry judges them.
@@ -32,7 +32,7 @@ pub(crate) enum EnteredBatch {
 pub(crate) fn entered(
     alloc: Global,
     cache: &mut Cache,
-    entries: &[Entry],
+    entries: &[BatchEntry],
 ) -> Result<EnteredBatch, Fault>
     ensures ok { IfOk result (λ e. IsEntered (map entry_view entries.now) e) }
     ensures err { IfErr result (λ f. f ≡ Fault.NoRoom) }
@@ -58,7 +58,7 @@ fn refused(number: usize, why: Fault) -> Result<EnteredBatch, Fault>
     }
 }
 
-fn stored_entry(alloc: Global, cache: &mut Cache, entry: &Entry) -> Result<Rc<Stored>, Fault>
+fn stored_entry(alloc: Global, cache: &mut Cache, entry: &BatchEntry) -> Result<Rc<Stored>, Fault>
     ensures ok { IfOk result (λ s. entry_document regular_search (entry_view entry.now)
         ≡ Ok (stored_document s.value)) }
     ensures err { IfErr result (λ f. f ≢ Fault.NoRoom

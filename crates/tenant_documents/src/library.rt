@@ -11,7 +11,7 @@ ghost use Rattle.linker.specs.SharedDocuments.{shared_documents};
 ghost use Rattle.tenant_documents.specs.EntryRefusals.{IsRefusedLibrary};
 
 use crate::library_entries::compiled_entries;
-use crate::library_uris::{repeated_uri, taken_uri};
+use crate::library_uris::{repeated_uri, shared_uri};
 use json_doc::Doc;
 use linker::ListSource;
 use requests::Fault;
@@ -58,7 +58,7 @@ fn listed_together(alloc: Global, documents: &[Rc<Compiled>]) -> Result<ListSour
     if let Some(uri) = repeated_uri(alloc, documents)? {
         return Err(Fault::SameDocument(uri.to_owned(alloc)?));
     }
-    if let Some(uri) = taken_uri(alloc, documents)? {
+    if let Some(uri) = shared_uri(alloc, documents)? {
         return Err(Fault::Taken(uri.to_owned(alloc)?));
     }
     listed(alloc, documents)

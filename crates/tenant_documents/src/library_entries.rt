@@ -15,11 +15,14 @@ use requests::Fault;
 use schema_scan::{Compiled, compile, scan};
 use std::alloc::Global;
 use std::rc::Rc;
-use tenants_file::Entry;
+use tenants_file::BatchEntry;
 use uri_ref::{base_form, split};
 
 // The documents of the entries, in their order.
-pub(crate) fn compiled_entries(alloc: Global, entries: &[Entry]) -> Result<Vec<Rc<Compiled>>, Fault>
+pub(crate) fn compiled_entries(
+    alloc: Global,
+    entries: &[BatchEntry],
+) -> Result<Vec<Rc<Compiled>>, Fault>
     ensures ok { IfOk result (λ ds. entry_documents regular_search 0 (map entry_view entries.now)
         ≡ Ok (shared_documents ds.items)) }
     ensures err { IfErr result (λ f. f ≢ Fault.NoRoom
@@ -32,7 +35,7 @@ pub(crate) fn compiled_entries(alloc: Global, entries: &[Entry]) -> Result<Vec<R
     Ok(documents)
 }
 
-fn compiled_entry(alloc: Global, entry: &Entry) -> Result<Rc<Compiled>, Fault>
+fn compiled_entry(alloc: Global, entry: &BatchEntry) -> Result<Rc<Compiled>, Fault>
     ensures ok { IfOk result (λ c. entry_document regular_search (entry_view entry.now)
         ≡ Ok (compiled_document c.value)) }
     ensures err { IfErr result (λ f. f ≢ Fault.NoRoom

@@ -25,7 +25,7 @@ pub(crate) fn repeated_uri<'a>(
 }
 
 // The least resource URI that two of the documents have.
-pub(crate) fn taken_uri<'a>(
+pub(crate) fn shared_uri<'a>(
     alloc: Global,
     documents: &'a [Rc<Compiled>],
 ) -> Result<Option<&'a str>, AllocError>

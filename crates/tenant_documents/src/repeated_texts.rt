@@ -2,10 +2,10 @@
 
 ghost use Rattle.std.specs.Prelude.{◌≡◌, ◌++◌, IfOk, OnOk, map, option_map, string_bytes};
 ghost use Rattle.definitions.specs.Batches.{repeats};
-ghost use Rattle.definitions.specs.Reach.{least, lesser};
+ghost use Rattle.definitions.specs.Reach.{least};
 
+use crate::taken_uris::lesser;
 use std::alloc::{AllocError, Global};
-use std::cmp::Ordering;
 use std::collections::BTreeSet;
 
 // The least in byte order of the texts that stand twice.
@@ -34,16 +34,4 @@ pub(crate) fn push_texts<'a>(texts: &mut Vec<&'a str>, more: &'a [String]) -> Re
         texts.push(text.as_str())?;
     }
     Ok(())
-}
-
-fn lesser<'a>(text: &'a str, other: Option<&'a str>) -> &'a str
-    ensures { result.now ≡ lesser text.now (option_map (λ t. t.now) other.entry) }
-{
-    match other {
-        Some(other) => match text.cmp(other) {
-            Ordering::Greater => other,
-            _ => text,
-        },
-        None => text,
-    }
 }

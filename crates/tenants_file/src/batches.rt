@@ -17,7 +17,7 @@ const MOST_ENTRIES: usize = 64;
 
 /// An entry of a batch: a schema document, and the URI that it is put under.
 #[derive(Clone, Copy, Debug)]
-pub struct Entry<'a> {
+pub struct BatchEntry<'a> {
     /// The text that was sent, not resolved yet.
     pub uri: &'a str,
     /// The document.
@@ -28,7 +28,7 @@ pub struct Entry<'a> {
 /// ignored.
 ///
 /// `BadBatch` where the value has another shape, no entry, or more than 64; `NoRoom` may take its place.
-pub fn read_batch(alloc: Global, batch: &Doc) -> Result<Vec<Entry<'_>>, Fault>
+pub fn read_batch(alloc: Global, batch: &Doc) -> Result<Vec<BatchEntry<'_>>, Fault>
     ensures ok { IfOk result (λ es. entries_of (Ok (value batch.now)) ≡ Ok (map entry_view es.items)) }
     ensures err { IfErr result (λ f. f ≢ Fault.NoRoom
         → entries_of (Ok (value batch.now)) ≡ Err (fault f)) }
@@ -39,7 +39,7 @@ pub fn read_batch(alloc: Global, batch: &Doc) -> Result<Vec<Entry<'_>>, Fault>
     }
 }
 
-fn counted_entries(alloc: Global, items: &[Doc]) -> Result<Vec<Entry<'_>>, Fault>
+fn counted_entries(alloc: Global, items: &[Doc]) -> Result<Vec<BatchEntry<'_>>, Fault>
     ensures ok { IfOk result (λ es. some_entries (each entry_in (map value items.now))
         ≡ Ok (map entry_view es.items)) }
     ensures err { IfErr result (λ f. f ≢ Fault.NoRoom
@@ -57,7 +57,7 @@ fn is_entry_count(count: usize) -> bool
     0 < count && count <= MOST_ENTRIES
 }
 
-fn each_entry(alloc: Global, items: &[Doc]) -> Result<Vec<Entry<'_>>, Fault>
+fn each_entry(alloc: Global, items: &[Doc]) -> Result<Vec<BatchEntry<'_>>, Fault>
     ensures ok { IfOk result (λ es. each entry_in (map value items.now) ≡ Some (map entry_view es.items)) }
     ensures err { IfErr result (λ f. f ≢ Fault.NoRoom
         → (f ≡ Fault.BadBatch) × (each entry_in (map value items.now) ≡ None)) }
@@ -72,10 +72,10 @@ fn each_entry(alloc: Global, items: &[Doc]) -> Result<Vec<Entry<'_>>, Fault>
     Ok(entries)
 }
 
-fn entry_of(item: &Doc) -> Option<Entry<'_>>
+fn entry_of(item: &Doc) -> Option<BatchEntry<'_>>
     ensures { option_map entry_view result ≡ entry_in (value item.now) }
 {
     let uri = text_at(item, "uri")?;
     let schema = item.get("schema")?;
-    Some(Entry { uri, schema })
+    Some(BatchEntry { uri, schema })
 }

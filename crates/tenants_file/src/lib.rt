@@ -8,7 +8,7 @@ mod member_values;
 mod server_refusals;
 mod tenants;
 
-pub use batches::{Entry, read_batch};
+pub use batches::{BatchEntry, read_batch};
 pub use bodies::{read_body, read_body_with};
 pub use json_doc::Fault;
 pub use server_refusals::server_fault;

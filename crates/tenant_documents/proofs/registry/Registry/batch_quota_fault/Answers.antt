@@ -1,5 +1,6 @@
 use Rattle.std.proofs.Common.{◌<◌, ◌^◌, length, subst, arith}
 use Rattle.definitions.specs.Documents.{bytes_of, placed_all}
+use Rattle.definition_laws.proofs.AcceptedBatches.{unrepeated}
 use Rattle.stored_documents.specs.DocumentLists.{documents_in}
 use Rattle.stored_documents.specs.SharedStored.{stored_documents}
 use Rattle.tenant_documents.specs.HeldBeside.{replaced_by}
@@ -7,7 +8,6 @@ use Rattle.tenant_documents.specs.Puts.{IsSum}
 use Rattle.tenant_documents.specs.Registries.{registry_view}
 use Rattle.tenant_documents.proofs.BatchSizes.{bytes_after, number_after, small_replaced}
 use Rattle.tenant_documents.proofs.KeptRegistries.{registry_both}
-use Rattle.tenant_documents.proofs.LibraryDocuments.{are_once}
 use Rattle.tenant_documents.proofs.QuotaFaults.{too_many}
 use Rattle.tenant_documents.proofs.StoredLists.{count_after, over_all, stored_long, with_added}
 use Rattle.tenant_documents.proofs.registry.Registry.batch_quota_fault.Goals as goal
@@ -19,7 +19,7 @@ returns-in-Some c =
     let ss = c.args.documents.now in
     let es = stored_documents ss in
     let ascend = (registry_both c.args.self.now).own.ascend in
-    let once = are_once es c.requires.once in
+    let once = unrepeated es c.requires.once in
     let left = c.left_over-count in
     c.quota_fault.ensures (placed_all es ds) (record {
       documents =
@@ -39,7 +39,7 @@ returns-in-None c =
     let ss = c.args.documents.now in
     let es = stored_documents ss in
     let ascend = (registry_both c.args.self.now).own.ascend in
-    let once = are_once es c.requires.once in
+    let once = unrepeated es c.requires.once in
     let left = c.left_over-count in
     let small : c.document_quota.result < 2 ^ 64 = omega (arith, c.document_quota.type_inv) in
     too_many (registry_view c.args.self.now) (placed_all es ds)

@@ -1,16 +1,13 @@
-use Rattle.std.proofs.Common.{◌≡◌, Option, Some, None, is_some, option_map, refl, sym, ap, ap₂, ◌∙◌, Bor}
+use Rattle.std.proofs.Common.{is_some, sym, ap, ap₂, ◌∙◌, Bor}
 use Rattle.std.specs.Global.{Global}
 use Rattle.std.specs.declared.rc.Rc.{Rc}
 use Rattle.definitions.specs.Documents.{document_of}
+use Rattle.lemmas.proofs.Options.{is_some-map}
 use Rattle.stored_documents.specs.DocumentLists.{documents_in}
 use Rattle.stored_documents.specs.StoredDocuments.{stored_document}
 use Rattle.stored_documents.specs.declared.stored.Stored.{Stored}
 use Rattle.tenant_documents.specs.Registries.{registry_view}
 use Rattle.tenant_documents.proofs.registry.Registry.stored_reply.Goals as goal
-
-is_some-map : {X Y : Type 0} (f : X → Y) (o : Option X) → is_some (option_map f o) ≡ is_some o
-is_some-map f None = refl
-is_some-map f (Some x) = refl
 
 pub returns-clause-ok : goal.returns-clause-ok
 unfolding registry_view

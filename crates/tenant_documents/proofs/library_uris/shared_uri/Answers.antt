@@ -4,7 +4,7 @@ use Rattle.definitions.specs.Reach.{least}
 use Rattle.definitions.specs.Values.{Text}
 use Rattle.linker.specs.SharedDocuments.{shared_documents}
 use Rattle.tenant_documents.proofs.LibraryDocuments.{taken_together}
-use Rattle.tenant_documents.proofs.library_uris.taken_uri.Goals as goal
+use Rattle.tenant_documents.proofs.library_uris.shared_uri.Goals as goal
 
 pub returns : goal.returns
 returns c =

@@ -1,23 +1,18 @@
 -- What holds of the registry of each tenant.
-use Rattle.std.proofs.Common.{◌≡◌, true, List, [], ◌∷◌, Bool, false, cond, Option, Some, None, map, string_bytes, subst}
+use Rattle.std.proofs.Common.{◌≡◌, true, List, [], ◌∷◌, Bool, false, cond, Option, Some, map, string_bytes, subst}
 use Rattle.definitions.specs.Keeping.{IsKept}
 use Rattle.definitions.specs.Patterns.{regular_search}
 use Rattle.definitions.specs.Registries as meaning
 use Rattle.definitions.specs.Services.{registry_of}
 use Rattle.definitions.specs.Values.{Text, same_text}
 use Rattle.definition_laws.specs.Services.{AreAllKept}
+use Rattle.lemmas.proofs.SomeValues.{none_some, some_same}
 use Rattle.tenant_documents.proofs.KeptRegistries.{registry_kept}
 use Rattle.tenant_hub.specs.KeyedRegistries.{keyed_view}
 use Rattle.tenant_documents.specs.Registries.{registry_view}
 use Rattle.tenant_hub.specs.declared.keyed_registry.KeyedRegistry.{KeyedRegistry}
 
 -- ---- by a key
-none_some : {A : Type 0} {x : A} → ◌≡◌ {A = Option A} None (Some x) → ⊥
-none_some e = cc
-
-some_same : {A : Type 0} {x y : A} → ◌≡◌ {A = Option A} (Some x) (Some y) → x ≡ y
-some_same e = cc
-
 at_key : (P : meaning.Registry → Type 0) (b : Bool) (h g : meaning.Registry) (rest : Option meaning.Registry) → P h → (rest ≡ Some g → P g)
     → cond b (Some h) rest ≡ Some g → P g
 at_key P true h g rest own more e = subst P (some_same e) own

@@ -8,12 +8,10 @@ use Rattle.definitions.specs.Values.{Text, same_text}
 use Rattle.definition_laws.proofs.Membership.{found_there, found_some, from_filter}
 use Rattle.definition_laws.proofs.ReachedSets.{reach_is_least, reach_as_filter}
 use Rattle.definition_laws.proofs.Resources.{one_document}
+use Rattle.lemmas.proofs.SomeValues.{none_some}
 use Rattle.linker.proofs.CanonicalHolders.{own_resource}
 use Rattle.linker.proofs.Positions.{ascend_distinct}
 use Rattle.tenant_hub.specs.SourceReplies.{is_named}
-
-none_some : {A : Type 0} {x : A} → ◌≡◌ {A = Option A} None (Some x) → ⊥
-none_some e = cc
 
 module _ (ds : List Document) (uri : Text) (sound : AreSound ds) where
   -- a reached document with this canonical URI

@@ -9,16 +9,11 @@ use Rattle.definitions.specs.Services as meaning
 use Rattle.definitions.specs.Services.{registry_of, with_registry, call_at, IsCallAnswer}
 use Rattle.definitions.specs.Values.{Text, same_text}
 use Rattle.definition_laws.specs.Laws.{IsRefused}
+use Rattle.lemmas.proofs.SomeValues.{some_same}
 use Rattle.definition_laws.proofs.Registries.{step_keeps}
 use Rattle.tenant_hub.specs.KeyedRegistries.{keyed_view, place_of}
 use Rattle.tenant_documents.specs.Registries.{registry_view}
 use Rattle.tenant_hub.specs.declared.keyed_registry.KeyedRegistry.{KeyedRegistry}
-
-some_same : {A : Type 0} {x y : A} → ◌≡◌ {A = Option A} (Some x) (Some y) → x ≡ y
-some_same e = cc
-
-none_some : {A : Type 0} {x : A} → ◌≡◌ {A = Option A} None (Some x) → ⊥
-none_some e = cc
 
 abbrev keyed : Text → Registry → meaning.KeyedRegistry
 keyed key g = record { key = key; registry = g }

@@ -1,5 +1,5 @@
 -- The documents of a registry are such as a registry gets them, from request to request.
-use Rattle.std.proofs.Common.{◌≡◌, ◌==◌, ◌&&◌, ◌||◌, codes, List, [], ◌∷◌, Bool, true, false, not, cond, Option, Some, None, Result, Ok, Err, is_some, is_none, Contains, refl, sym, ap, subst, ◌∙◌, inl, inr}
+use Rattle.std.proofs.Common.{◌≡◌, ◌==◌, ◌&&◌, ◌||◌, codes, List, [], ◌∷◌, Bool, true, false, not, cond, Result, Ok, Err, is_some, is_none, Contains, refl, sym, ap, subst, ◌∙◌, inl, inr}
 use Rattle.std.proofs.lemmas.Bool.{and_parts, and_from}
 use Rattle.std.specs.List.{list_all, list_any, slice_split}
 use Rattle.std.specs.Str.{is_utf8}
@@ -20,28 +20,19 @@ use Rattle.definitions.specs.Uris.{Parts, split, recompose, is_identifier, is_do
 use Rattle.definitions.specs.Values.{Text, is_well_formed}
 use Rattle.definition_laws.specs.Keeping.{IsBodyValue, HaveBodyValues, IsBaseForm, HaveBaseForms}
 use Rattle.definition_laws.specs.Reading.{has_arrays_within}
+use Rattle.lemmas.proofs.Options.{none_from_is_none, some_from_is_some}
 use Rattle.definition_laws.proofs.JoinedDocuments.{joined_alone}
 use Rattle.definition_laws.proofs.KeptRegistries.{values_kept, bases_kept, library_kept}
 use Rattle.definition_laws.proofs.Membership.{is_first, is_later}
 use Rattle.definition_laws.proofs.Occurrences.{all_pass_in, in_from_contains}
 use Rattle.bundle_laws.specs.Registered.{AreRegistered, HaveBaseTexts, PutsText}
 use Rattle.bundle_laws.proofs.BaseTexts.{steps_keep_base_texts, libraries_have_base_texts}
-use Rattle.bundle_laws.proofs.Identified.{form_parts}
+use Rattle.bundle_laws.proofs.Identified.{base_identifier}
 use Rattle.uri_ref.proofs.Identifiers.{stays}
 use Rattle.uri_ref.proofs.Recomposed.{recomposes}
-use Rattle.uri_ref.proofs.Sound.{split_sound, resolve_sound}
-use Rattle.uri_ref.proofs.Unique as unique
 use Rattle.tenant_hub.specs.RegisteredDocuments.{is_registered}
 
 -- ---- base forms are the identifiers
-is_some_parts : (o : Option Text) → is_some o ≡ true → is_none o ≡ false
-is_some_parts (Some t) e = refl
-is_some_parts None e = cc
-
-is_none_parts : (o : Option Text) → is_none o ≡ true → is_some o ≡ false
-is_none_parts None e = refl
-is_none_parts (Some t) e = cc
-
 record IsWhole (p : Parts) : Type 0 where
   no_fragment : is_some p.fragment ≡ false
   scheme : is_none p.scheme ≡ false
@@ -52,7 +43,7 @@ whole_of p h =
     let whole = and_parts (is_some p.scheme && is_none p.fragment && not dots) (is_some p.authority || not (begins p.path (codes "//"))) h in
     let front = and_parts (is_some p.scheme && is_none p.fragment) (not dots) whole.0 in
     let both = and_parts (is_some p.scheme) (is_none p.fragment) front.0 in
-    record { no_fragment = is_none_parts p.fragment both.1; scheme = is_some_parts p.scheme both.0 }
+    record { no_fragment = ap is_some (none_from_is_none p.fragment both.1); scheme = ap is_none (some_from_is_some p.scheme both.0).1 }
 
 form_from : (a b c : Bool) (t : Text) → a ≡ false → b ≡ false → c ≡ true
     → cond {A = Result Text Fault} (a || b) (Err bad_uri) (cond {A = Result Text Fault} c (Ok t) (Err bad_uri)) ≡ Ok t
@@ -72,21 +63,13 @@ form_of_identifier base h =
           ∙ ap (λ q. Ok (recompose q)) same ∙ ap Ok (recomposes base);
     }
 
-identifier_of_form : (base : Text) → IsBaseForm base → is_identifier (split base) ≡ true
-identifier_of_form base h =
-    let p = split h.uri in
-    let q = resolve p p in
-    let parts = form_parts (is_some p.fragment || is_none p.scheme) (is_identifier q) (recompose q) base h.is in
-    let back : split (recompose q) ≡ q = unique.identified q (resolve_sound p p (split_sound h.uri) (split_sound h.uri)) parts.0 in
-    subst (λ t. is_identifier (split t) ≡ true) parts.1 (ap is_identifier back ∙ parts.0)
-
 -- ---- the test of a document
 registered : (d : Document) → IsBodyValue d.value → IsBaseForm d.base → is_utf8 d.base ≡ true → is_registered d ≡ true
 unfolding is_registered
 registered d value form text =
     and_from (is_well_formed d.value && has_arrays_within limits.body_bytes d.value) (is_identifier (split d.base) && is_utf8 d.base)
     (and_from (is_well_formed d.value) (has_arrays_within limits.body_bytes d.value) value.well_formed value.short_arrays)
-    (and_from (is_identifier (split d.base)) (is_utf8 d.base) (identifier_of_form d.base form) text)
+    (and_from (is_identifier (split d.base)) (is_utf8 d.base) (base_identifier d.base form) text)
 
 record IsRegistered (d : Document) : Type 0 where
   value : IsBodyValue d.value

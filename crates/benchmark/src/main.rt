@@ -1,14 +1,14 @@
-//! The program `benchmark`: does one part of a check or of the service again and again, so that it can be measured.
+//! The program `benchmark`: does one workload again and again, so that it can be measured.
 #![tactic(auto)]
 
 mod asking;
 mod calls;
+mod failure;
 mod feeding;
-mod part;
 mod program;
 mod repeating;
-mod stop;
 mod tenant;
+mod workload;
 
 use std::process::ExitCode;
 

@@ -1,6 +1,6 @@
-//! Each part on a small input.
-use crate::part::{Part, named};
+//! Each workload on a small input.
 use crate::program::{count, order};
+use crate::workload::{Workload, named};
 use faults::Fault;
 use std::test::Fail;
 
@@ -17,8 +17,8 @@ fn counts_each_part(rt: HostRuntime) -> Result<(), Fail> {
         assert_eq!(rt; count(rt.alloc(), part, INPUT, 3)?, 3);
     }
     let invalid = br#"{"schema":{"required":["a"]},"instance":{}}"#;
-    assert_eq!(rt; count(rt.alloc(), Part::Validate, invalid, 3)?, 0);
-    assert_eq!(rt; count(rt.alloc(), Part::Check, invalid, 3)?, 0);
+    assert_eq!(rt; count(rt.alloc(), Workload::Validate, invalid, 3)?, 0);
+    assert_eq!(rt; count(rt.alloc(), Workload::Check, invalid, 3)?, 0);
     Ok(())
 }
 
@@ -28,7 +28,7 @@ fn takes_a_part_and_a_number(rt: HostRuntime) -> Result<(), Fail> {
     for word in ["benchmark", "compile", "12"] {
         words.push(String::from_str(rt.alloc(), word)?)?;
     }
-    assert!(rt; matches!(order(words.as_slice()), Ok((Part::Compile, 12))));
+    assert!(rt; matches!(order(words.as_slice()), Ok((Workload::Compile, 12))));
     let _ = words.pop();
     assert!(rt; order(words.as_slice()).is_err());
     Ok(())
@@ -36,10 +36,15 @@ fn takes_a_part_and_a_number(rt: HostRuntime) -> Result<(), Fail> {
 
 #[test]
 fn counts_replies_that_are_no_refusals(rt: HostRuntime) -> Result<(), Fail> {
-    assert_eq!(rt; count(rt.alloc(), Part::Ask, CALLS, 3)?, 12);
-    assert_eq!(rt; count(rt.alloc(), Part::Ask, CALLS, 0)?, 0);
+    assert_eq!(rt; count(rt.alloc(), Workload::Ask, CALLS, 3)?, 12);
+    assert_eq!(rt; count(rt.alloc(), Workload::Ask, CALLS, 0)?, 0);
     let wrong = br#"{"before":[["get","https://ex.org/s"]],"repeat":[]}"#;
-    assert!(rt; matches!(count(rt.alloc(), Part::Ask, wrong, 3), Err(Fault::BadInput)));
+    assert!(rt;
+        matches!(
+            count(rt.alloc(), Workload::Ask, wrong, 3),
+            Err(Fault::BadInput)
+        )
+    );
     Ok(())
 }
 
@@ -47,8 +52,8 @@ fn counts_replies_that_are_no_refusals(rt: HostRuntime) -> Result<(), Fail> {
 fn counts_bytes_that_are_sent(rt: HostRuntime) -> Result<(), Fail> {
     let stream = b"GET /bundle?uri=https://ex.org/s HTTP/1.1\r\n\r\n";
     for size in [1, 7, 1000] {
-        assert_eq!(rt; count(rt.alloc(), Part::Feed, stream, size)?, 113);
+        assert_eq!(rt; count(rt.alloc(), Workload::Feed, stream, size)?, 113);
     }
-    assert_eq!(rt; count(rt.alloc(), Part::Feed, stream, 0)?, 0);
+    assert_eq!(rt; count(rt.alloc(), Workload::Feed, stream, 0)?, 0);
     Ok(())
 }

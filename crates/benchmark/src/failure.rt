@@ -5,8 +5,8 @@ use std::{fmt, io};
 
 /// Why the program ends without a number. Its `Display` is what is printed.
 #[derive(Debug, Drop)]
-pub enum Stop {
-    /// The words of the command line are not a part and a number of at most 32 bits.
+pub enum Failure {
+    /// The words of the command line are not a workload and a number of at most 32 bits.
     Words,
     /// The words or standard input cannot be read, or standard output cannot be written.
     Unmoved,
@@ -14,26 +14,26 @@ pub enum Stop {
     Refused(Fault),
 }
 
-impl fmt::Display for Stop {
+impl fmt::Display for Failure {
     fn fmt<W: fmt::Write>(&self, f: &mut fmt::Formatter<W>) -> fmt::Result {
         match self {
-            Stop::Words => f.write_str(
+            Failure::Words => f.write_str(
                 "usage: benchmark read|compile|validate|check|ask TIMES, benchmark feed SIZE",
             ),
-            Stop::Unmoved => f.write_str("cannot read or write"),
-            Stop::Refused(fault) => write!(f, "refused: {fault}"),
+            Failure::Unmoved => f.write_str("cannot read or write"),
+            Failure::Refused(fault) => write!(f, "refused: {fault}"),
         }
     }
 }
 
-impl From<Fault> for Stop {
+impl From<Fault> for Failure {
     fn from(fault: Fault) -> Self {
-        Stop::Refused(fault)
+        Failure::Refused(fault)
     }
 }
 
-impl From<io::Error> for Stop {
+impl From<io::Error> for Failure {
     fn from(_error: io::Error) -> Self {
-        Stop::Unmoved
+        Failure::Unmoved
     }
 }

@@ -1,8 +1,8 @@
-//! The parts of a check, and of the service.
+//! What is measured: parts of a check, and of the service.
 
-/// A part of a check, or of the service.
+/// A part of a check, or of the service, that is done again and again.
 #[derive(Clone, Copy, Debug, PartialEq, Eq)]
-pub enum Part {
+pub enum Workload {
     /// The text of the instance is read.
     Read,
     /// The schema is scanned, compiled and linked.
@@ -17,15 +17,15 @@ pub enum Part {
     Feed,
 }
 
-/// The part that has this name.
-pub fn named(name: &str) -> Option<Part> {
+/// The workload that has this name.
+pub fn named(name: &str) -> Option<Workload> {
     match name {
-        "read" => Some(Part::Read),
-        "compile" => Some(Part::Compile),
-        "validate" => Some(Part::Validate),
-        "check" => Some(Part::Check),
-        "ask" => Some(Part::Ask),
-        "feed" => Some(Part::Feed),
+        "read" => Some(Workload::Read),
+        "compile" => Some(Workload::Compile),
+        "validate" => Some(Workload::Validate),
+        "check" => Some(Workload::Check),
+        "ask" => Some(Workload::Ask),
+        "feed" => Some(Workload::Feed),
         _ => None,
     }
 }

@@ -1,3 +1,4 @@
 pub mod Elements
 pub mod Repeats
 pub mod Sizes
+pub mod Shapes

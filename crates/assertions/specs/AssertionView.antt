@@ -1,10 +1,9 @@
--- A keyword as the definitions have it.
+-- An assertion as the definitions have it.
 use Rattle.definitions.specs.Assertions as meaning
-use Rattle.definitions.specs.Assertions.{Assertion}
-use Rattle.assertions.specs.declared.keyword.Keyword.{Keyword}
-use Rattle.assertions.specs.declared.keyword.Keyword.TheVariants.{TypeIs, EnumOf, ConstIs, MultipleOf, Maximum, ExclusiveMaximum, Minimum, ExclusiveMinimum, MaxLength, MinLength, MaxProperties, MinProperties, Required, DependentRequired, MaxItems, MinItems, UniqueItems}
+use Rattle.assertions.specs.declared.assertion.Assertion.{Assertion}
+use Rattle.assertions.specs.declared.assertion.Assertion.TheVariants.{TypeIs, EnumOf, ConstIs, MultipleOf, Maximum, ExclusiveMaximum, Minimum, ExclusiveMinimum, MaxLength, MinLength, MaxProperties, MinProperties, Required, DependentRequired, MaxItems, MinItems, UniqueItems}
 
-abbrev pub assertion_view : Keyword → Assertion
+abbrev pub assertion_view : Assertion → meaning.Assertion
 assertion_view TypeIs = meaning.type_is
 assertion_view EnumOf = meaning.enum_of
 assertion_view ConstIs = meaning.const_is

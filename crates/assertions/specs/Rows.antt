@@ -1,14 +1,14 @@
--- The row of a keyword in the definitions' table.
+-- The row of an assertion in the definitions' table.
 use Rattle.std.specs.Prelude.{codes}
 use Rattle.definitions.specs.Values.{Text}
 use Rattle.definitions.specs.Keywords as table
 use Rattle.definitions.specs.Keywords.{asserting}
 use Rattle.assertions.specs.AssertionView.{assertion_view}
-use Rattle.assertions.specs.declared.keyword.Keyword.{Keyword}
-use Rattle.assertions.specs.declared.keyword.Keyword.TheVariants.{TypeIs, EnumOf, ConstIs, MultipleOf, Maximum, ExclusiveMaximum, Minimum, ExclusiveMinimum, MaxLength, MinLength, MaxProperties, MinProperties, Required, DependentRequired, MaxItems, MinItems, UniqueItems}
+use Rattle.assertions.specs.declared.assertion.Assertion.{Assertion}
+use Rattle.assertions.specs.declared.assertion.Assertion.TheVariants.{TypeIs, EnumOf, ConstIs, MultipleOf, Maximum, ExclusiveMaximum, Minimum, ExclusiveMinimum, MaxLength, MinLength, MaxProperties, MinProperties, Required, DependentRequired, MaxItems, MinItems, UniqueItems}
 
 -- the name under which it stands in a schema
-abbrev pub name_of : Keyword → Text
+abbrev pub name_of : Assertion → Text
 name_of TypeIs = codes "type"
 name_of EnumOf = codes "enum"
 name_of ConstIs = codes "const"
@@ -27,5 +27,5 @@ name_of MaxItems = codes "maxItems"
 name_of MinItems = codes "minItems"
 name_of UniqueItems = codes "uniqueItems"
 
-abbrev pub row_of : Keyword → table.Keyword
-row_of keyword = asserting (name_of keyword) (assertion_view keyword)
+abbrev pub row_of : Assertion → table.Keyword
+row_of assertion = asserting (name_of assertion) (assertion_view assertion)

@@ -3,7 +3,7 @@ use Rattle.std.specs.Prelude.{ℕ, suc, List, [], ◌∷◌, ◌++◌, Bool, tru
 use Rattle.std.specs.List.{list_all, list_any}
 use Rattle.definitions.specs.Values.{Text, Value, same_text}
 use Rattle.definitions.specs.Keywords as table
-use Rattle.assertions.specs.declared.keyword.Keyword.TheVariants.{TypeIs, EnumOf, ConstIs, MultipleOf, Maximum, ExclusiveMaximum, Minimum, ExclusiveMinimum, MaxLength, MinLength, MaxProperties, MinProperties, Required, DependentRequired, MaxItems, MinItems, UniqueItems}
+use Rattle.assertions.specs.declared.assertion.Assertion.TheVariants.{TypeIs, EnumOf, ConstIs, MultipleOf, Maximum, ExclusiveMaximum, Minimum, ExclusiveMinimum, MaxLength, MinLength, MaxProperties, MinProperties, Required, DependentRequired, MaxItems, MinItems, UniqueItems}
 use Rattle.keyword_plans.specs.Plans.{counts_contained, is_consequence}
 use Rattle.keyword_plans.specs.Rows.{row_of}
 use Rattle.keyword_plans.specs.declared.keyword.Keyword.TheVariants.{Ref, DynamicRef, Asserts, Pattern, AllOf, AnyOf, OneOf, Not, If, Then, Else, DependentSchemas, PrefixItems, Items, Contains, MinContains, MaxContains, Properties, PatternProperties, AdditionalProperties, PropertyNames, UnevaluatedItems, UnevaluatedProperties}

@@ -3,7 +3,7 @@
 ghost use Rattle.std.specs.Prelude.{◌≡◌};
 ghost use Rattle.evaluator.specs.Groups.{in_order};
 
-use assertions::Keyword as Assertion;
+use assertions::Assertion;
 use keyword_plans::Keyword;
 
 /// Keywords that stand one after the other in the order of evaluation, and know of each other.

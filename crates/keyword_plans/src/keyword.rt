@@ -3,7 +3,7 @@
 ghost use Rattle.std.specs.Prelude.{◌≡◌};
 ghost use Rattle.keyword_plans.specs.Rows.{row_of};
 
-use assertions::Keyword as Assertion;
+use assertions::Assertion;
 
 /// A keyword that is evaluated (JSON Schema 2020-12 Core, 8.2.3, 10 and 11; Validation, 6).
 #[derive(Clone, Copy, Debug, PartialEq, Eq)]

@@ -18,7 +18,7 @@ use crate::keyword::Keyword;
 use crate::searching::is_match;
 use crate::site::Site;
 use crate::subject::Subject;
-use assertions::{Keyword as Assertion, holds};
+use assertions::{Assertion, holds};
 use distinct_values::is_unique;
 use faults::Fault;
 use json_doc::{Doc, Whole};

@@ -19,6 +19,9 @@ use Rattle.definition_laws.proofs.Occurrences.{IsIn, contains_from_in, into_map}
 use Rattle.definition_laws.proofs.Places.{step_to, value-below, places}
 use Rattle.definition_laws.proofs.Placing.{ascending_distinct}
 use Rattle.definition_laws.proofs.Roots.{elements_nest, members_nest}
+use Rattle.keywords.specs.Shapes.{shape_view}
+use Rattle.keywords.specs.declared.shape.Shape as asked
+use Rattle.keywords.specs.declared.shape.Shape.TheVariants.{OneSchema, SchemaList, SchemaMap}
 use Rattle.schema_index.specs.Descents.{led, LeadsNowhere, StepsTo, schemas_held, row, name_of, IsHeld}
 use Rattle.schema_index.proofs.Lookups.{look, prefixed, keyed, look_keyed-none, look_keyed-some, look_keyed-empty}
 use Rattle.schema_index.proofs.Levels.{within_behind, within_levels}
@@ -262,11 +265,11 @@ from_no_map k rest v w h e none s is =
     at_shape k rest s w schema_map (held_in v s.value w k is h) e
     ∙ ap (λ xs. look rest (keyed (λ (x : Text × Value). x.0) (λ x. schemas_within keywords (nesting s.value) [] (below s (k ∷ x.0 ∷ []) x.1)) xs)) none
 
-pub shape_held : (shape other : Shape) → Some other ≡ schemas_held shape → shape ≡ other
-shape_held one_schema other e = cc
-shape_held schema_list other e = cc
-shape_held schema_map other e = cc
-shape_held _ other e = cc
+pub holds_none : (s : asked.Shape) → (s ≡ OneSchema → ⊥) → (s ≡ SchemaList → ⊥) → (s ≡ SchemaMap → ⊥) → schemas_held (shape_view s) ≡ None
+holds_none OneSchema one all each = absurd (one refl)
+holds_none SchemaList one all each = absurd (all refl)
+holds_none SchemaMap one all each = absurd (each refl)
+holds_none _ one all each = refl
 
 pub led_here : (s : Schema) → led [] s ≡ Some s
 unfolding led

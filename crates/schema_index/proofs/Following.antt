@@ -8,12 +8,12 @@ use Rattle.std.specs.Cmp.Lexicographic.{slice_cmp}
 use Rattle.std.specs.List.{AllByRecursion, slice_get}
 use Rattle.std.specs.Ordering.{is_eq, ordering_reverse}
 use Rattle.definitions.specs.Values.{Text, Value, null, boolean, integer, string, array, object, Elements, no_elements, element, elements_list, Members, no_members, member, members_list, entry, same_text, is_before, is_well_formed, are_well_formed, are_well_formed_members}
+use Rattle.definitions.specs.Shapes.{Shape, one_schema, schema_list, schema_map}
+use Rattle.keywords.specs.Rows.{shape_named}
 use Rattle.lemmas.proofs.Orders.{is_less}
 use Rattle.lemmas.proofs.Members.{member_parts}
 use Rattle.schema_index.specs.Hops.{Hop, to_member, to_element, hop_value, follow}
-use Rattle.schema_index.specs.Spots.{Spot, resource_of, start_of, holding_named, spots, spots_below, spots_at, spots_in_list, spots_in_map}
-use Rattle.schema_index.specs.declared.holdings.Holding.{Holding}
-use Rattle.schema_index.specs.declared.holdings.Holding.TheVariants.{Nothing, Schema as a_schema, Schemas, NamedSchemas}
+use Rattle.schema_index.specs.Spots.{Spot, resource_of, start_of, spots, spots_below, spots_at, spots_in_list, spots_in_map}
 
 -- ---- one hop more
 after : (o : Option Value) (hs : List Hop) (h : Hop) (u : Value) → ((w : Value) → follow hs w ≡ Some u → follow (hs ++ h ∷ []) w ≡ hop_value h u)
@@ -127,31 +127,31 @@ module _ (root : Value) where
     below-followed way start uri no_members h l = tt
     below-followed way start uri (member n v ms) h l =
         let p = member_parts n v ms h in
-        followed-append (spots_at (holding_named n) (way ++ to_member n ∷ []) start uri v) (spots_below way start uri ms)
-        (at-followed (holding_named n) (way ++ to_member n ∷ []) start uri v p.1 l.0)
+        followed-append (spots_at (shape_named n) (way ++ to_member n ∷ []) start uri v) (spots_below way start uri ms)
+        (at-followed (shape_named n) (way ++ to_member n ∷ []) start uri v p.1 l.0)
         (below-followed way start uri ms p.2 l.1)
 
-    at-followed : (k : Holding) (way : List Hop) (start : ℕ) (uri : Text) (v : Value) → is_well_formed v ≡ true → follow way root ≡ Some v → AreFollowed (spots_at k way start uri v)
-    at-followed a_schema way start uri (object ms) h f =
+    at-followed : (k : Shape) (way : List Hop) (start : ℕ) (uri : Text) (v : Value) → is_well_formed v ≡ true → follow way root ≡ Some v → AreFollowed (spots_at k way start uri v)
+    at-followed one_schema way start uri (object ms) h f =
         (f, below-followed way (start_of start way (object ms)) (resource_of uri (object ms)) ms h (leads-to-members way ms h f))
-    at-followed a_schema way start uri null h f = (f, tt)
-    at-followed a_schema way start uri (boolean b) h f = (f, tt)
-    at-followed a_schema way start uri (integer z) h f = (f, tt)
-    at-followed a_schema way start uri (string t) h f = (f, tt)
-    at-followed a_schema way start uri (array vs) h f = (f, tt)
-    at-followed Schemas way start uri (array vs) h f = list-followed way start uri 0 vs h (leads-to-elements way vs f)
-    at-followed Schemas way start uri (object ms) h f = tt
-    at-followed Schemas way start uri null h f = tt
-    at-followed Schemas way start uri (boolean b) h f = tt
-    at-followed Schemas way start uri (integer z) h f = tt
-    at-followed Schemas way start uri (string t) h f = tt
-    at-followed NamedSchemas way start uri (object ms) h f = map-followed way start uri ms h (leads-to-members way ms h f)
-    at-followed NamedSchemas way start uri (array vs) h f = tt
-    at-followed NamedSchemas way start uri null h f = tt
-    at-followed NamedSchemas way start uri (boolean b) h f = tt
-    at-followed NamedSchemas way start uri (integer z) h f = tt
-    at-followed NamedSchemas way start uri (string t) h f = tt
-    at-followed Nothing way start uri v h f = tt
+    at-followed one_schema way start uri null h f = (f, tt)
+    at-followed one_schema way start uri (boolean b) h f = (f, tt)
+    at-followed one_schema way start uri (integer z) h f = (f, tt)
+    at-followed one_schema way start uri (string t) h f = (f, tt)
+    at-followed one_schema way start uri (array vs) h f = (f, tt)
+    at-followed schema_list way start uri (array vs) h f = list-followed way start uri 0 vs h (leads-to-elements way vs f)
+    at-followed schema_list way start uri (object ms) h f = tt
+    at-followed schema_list way start uri null h f = tt
+    at-followed schema_list way start uri (boolean b) h f = tt
+    at-followed schema_list way start uri (integer z) h f = tt
+    at-followed schema_list way start uri (string t) h f = tt
+    at-followed schema_map way start uri (object ms) h f = map-followed way start uri ms h (leads-to-members way ms h f)
+    at-followed schema_map way start uri (array vs) h f = tt
+    at-followed schema_map way start uri null h f = tt
+    at-followed schema_map way start uri (boolean b) h f = tt
+    at-followed schema_map way start uri (integer z) h f = tt
+    at-followed schema_map way start uri (string t) h f = tt
+    at-followed _ way start uri v h f = tt
 
     list-followed : (way : List Hop) (start : ℕ) (uri : Text) (i : ℕ) (vs : Elements) → are_well_formed vs ≡ true → LeadsToElements way i vs → AreFollowed (spots_in_list way start uri i vs)
     list-followed way start uri i no_elements h l = tt

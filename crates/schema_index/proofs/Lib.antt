@@ -4,8 +4,6 @@ pub mod Descents
 pub mod HeldValues
 pub mod Standing
 pub mod Subschemas
-pub mod Holders
-pub mod TableOfHoldings
 pub mod Following
 pub mod Gatherings
 pub mod Visiting

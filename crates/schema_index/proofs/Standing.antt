@@ -8,10 +8,11 @@ use Rattle.definitions.specs.Pointers.{Pointer}
 use Rattle.definitions.specs.Shapes.{Shape, any_value, truth, whole_number, size, divisor, any_text, value_list, text_list, text_lists, type_names, reference, one_schema, schema_list, schema_map, identifier, anchor_name, dialect}
 use Rattle.definitions.specs.Keywords.{keywords, shape_in}
 use Rattle.definitions.specs.Schemas.{Schema, opened, schema_at, below, at_place, schemas_within, schemas_of}
+use Rattle.keywords.specs.Rows.{shape_named}
+use Rattle.keywords.proofs.Names.{shape_named-row}
 use Rattle.definition_laws.proofs.Places.{value-opened}
 use Rattle.schema_index.specs.Hops.{Hop, to_member, to_element, hop_token, hop_tokens}
-use Rattle.schema_index.specs.Spots.{spot_schema, spot_in, id_of, opened_uri, opened_start, resource_of, start_of, shape_holding, holding_named, spots, spots_below, spots_at, spots_in_list, spots_in_map}
-use Rattle.schema_index.specs.declared.holdings.Holding.TheVariants.{Schema as a_schema}
+use Rattle.schema_index.specs.Spots.{spot_schema, spot_in, id_of, opened_uri, opened_start, resource_of, start_of, spots, spots_below, spots_at, spots_in_list, spots_in_map}
 
 abbrev schema_with : Text → Value → Pointer → Schema
 schema_with uri v p = record { resource = uri; pointer = p; value = v }
@@ -34,15 +35,11 @@ pub start_within : (start : ℕ) (way : List Hop) (v : Value) → start ≤ leng
 unfolding start_of
 start_within start way v h = opened_within start way (id_of v) h
 
-held-holding : (name : Text) → shape_holding (shape_in keywords name) ≡ holding_named name
-unfolding holding_named
-held-holding name = refl
-
 abbrev pub of_schema : Pointer × Schema → Schema
 of_schema t = t.1
 
 -- a single schema
-pub one-spots : (way : List Hop) (start : ℕ) (base : Text) (v : Value) → spots_at a_schema way start base v ≡ spots way start base v
+pub one-spots : (way : List Hop) (start : ℕ) (base : Text) (v : Value) → spots_at one_schema way start base v ≡ spots way start base v
 one-spots way start base (object ms) = refl
 one-spots way start base null = refl
 one-spots way start base (boolean b) = refl
@@ -107,7 +104,7 @@ module _ (n : ℕ) (holds : Holds n) (w : Pointer) (way : List Hop) (start : ℕ
       ∙ held (to_member name ∷ []) v h
 
   at_spots : (shape : Shape) (name : Text) (v : Value) → nesting v < n
-      → map of_schema (flat_map within (at_place around name v shape)) ≡ map spot_schema (spots_at (shape_holding shape) (way ++ to_member name ∷ []) start uri v)
+      → map of_schema (flat_map within (at_place around name v shape)) ≡ map spot_schema (spots_at shape (way ++ to_member name ∷ []) start uri v)
   at_spots one_schema name v h = one_spot name v h ∙ ap (map spot_schema) (sym (one-spots (way ++ to_member name ∷ []) start uri v))
   at_spots schema_list name (array vs) h = list_spots name 0 vs (omega arith)
   at_spots schema_list name null h = refl
@@ -143,9 +140,9 @@ module _ (n : ℕ) (holds : Holds n) (w : Pointer) (way : List Hop) (start : ℕ
       ap (map of_schema) (flat_map-append within (at_place around name v (shape_in keywords name)) (flat_map (λ m. at_place around m.0 m.1 (shape_in keywords m.0)) (members_list ms)))
       ∙ map-append of_schema (flat_map within (at_place around name v (shape_in keywords name))) (flat_map within (flat_map (λ m. at_place around m.0 m.1 (shape_in keywords m.0)) (members_list ms)))
       ∙ ap₂ (λ a b. a ++ b)
-      (at_spots (shape_in keywords name) name v (omega arith) ∙ ap (λ k. map spot_schema (spots_at k (way ++ to_member name ∷ []) start uri v)) (held-holding name))
+      (at_spots (shape_in keywords name) name v (omega arith) ∙ ap (λ k. map spot_schema (spots_at k (way ++ to_member name ∷ []) start uri v)) (shape_named-row name))
       (below_spots ms (omega arith))
-      ∙ sym (map-append spot_schema (spots_at (holding_named name) (way ++ to_member name ∷ []) start uri v) (spots_below way start uri ms))
+      ∙ sym (map-append spot_schema (spots_at (shape_named name) (way ++ to_member name ∷ []) start uri v) (spots_below way start uri ms))
 
 level_spots : (n : ℕ) → Holds n → (w : Pointer) (way : List Hop) (start : ℕ) (base : Text) (v : Value) → start ≤ length way → nesting v < suc n
     → map of_schema (schemas_within keywords (suc n) w (spot_schema (spot_in way (start_of start way v) (resource_of base v) v))) ≡ map spot_schema (spots way start base v)

@@ -1,7 +1,6 @@
 pub mod Locateds
 pub mod IndexedDocuments
 pub mod Descents
-pub mod Holdings
 pub mod DescentViews
 pub mod Hops
 pub mod Spots

@@ -5,11 +5,9 @@ use Rattle.definitions.specs.Values.{Text, Value, array, object, Elements, no_el
 use Rattle.definitions.specs.Uris.{without_fragment}
 use Rattle.definitions.specs.Resolution.{resolved}
 use Rattle.definitions.specs.Shapes.{Shape, one_schema, schema_list, schema_map}
-use Rattle.definitions.specs.Keywords.{keywords, shape_in}
 use Rattle.definitions.specs.Schemas.{Schema}
+use Rattle.keywords.specs.Rows.{shape_named}
 use Rattle.schema_index.specs.Hops.{Hop, to_member, to_element, hop_tokens}
-use Rattle.schema_index.specs.declared.holdings.Holding.{Holding}
-use Rattle.schema_index.specs.declared.holdings.Holding.TheVariants.{Nothing, Schema as a_schema, Schemas, NamedSchemas}
 
 -- a schema: the way to it, how many hops of it lead to its resource's root, that resource's URI, and its value
 pub record Spot : Type 0 where
@@ -45,16 +43,6 @@ start_of start way v = opened_start start (length way) (id_of v)
 abbrev pub spot_in : List Hop → ℕ → Text → Value → Spot
 spot_in way start uri v = record { way = way; start = start; resource = uri; value = v }
 
--- which schemas the value of a keyword holds
-abbrev pub shape_holding : Shape → Holding
-shape_holding one_schema = a_schema
-shape_holding schema_list = Schemas
-shape_holding schema_map = NamedSchemas
-shape_holding _ = Nothing
-
-unfoldable pub holding_named : Text → Holding
-holding_named name = shape_holding (shape_in keywords name)
-
 abbrev mutual
   -- the schema that stands there, where this is the base around, and those below it
   pub spots : List Hop → ℕ → Text → Value → List Spot
@@ -65,16 +53,16 @@ abbrev mutual
 
   pub spots_below : List Hop → ℕ → Text → Members → List Spot
   spots_below way start uri no_members = []
-  spots_below way start uri (member name v ms) = spots_at (holding_named name) (way ++ to_member name ∷ []) start uri v ++ spots_below way start uri ms
+  spots_below way start uri (member name v ms) = spots_at (shape_named name) (way ++ to_member name ∷ []) start uri v ++ spots_below way start uri ms
 
-  -- the schemas at the value of a keyword that holds so much
-  pub spots_at : Holding → List Hop → ℕ → Text → Value → List Spot
-  spots_at a_schema way start uri (object ms) =
+  -- the schemas at the value of a keyword of this shape
+  pub spots_at : Shape → List Hop → ℕ → Text → Value → List Spot
+  spots_at one_schema way start uri (object ms) =
       spot_in way (start_of start way (object ms)) (resource_of uri (object ms)) (object ms)
       ∷ spots_below way (start_of start way (object ms)) (resource_of uri (object ms)) ms
-  spots_at a_schema way start uri v = spot_in way (start_of start way v) (resource_of uri v) v ∷ []
-  spots_at Schemas way start uri (array vs) = spots_in_list way start uri 0 vs
-  spots_at NamedSchemas way start uri (object ms) = spots_in_map way start uri ms
+  spots_at one_schema way start uri v = spot_in way (start_of start way v) (resource_of uri v) v ∷ []
+  spots_at schema_list way start uri (array vs) = spots_in_list way start uri 0 vs
+  spots_at schema_map way start uri (object ms) = spots_in_map way start uri ms
   spots_at _ _ _ _ _ = []
 
   -- from this index on

@@ -6,7 +6,6 @@ mod anchor_numbers;
 mod anchors;
 mod gathered;
 mod gathering;
-mod holdings;
 mod indexed;
 mod located;
 mod numbers;

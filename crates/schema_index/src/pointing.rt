@@ -22,7 +22,6 @@ use std::alloc::{AllocError, Global};
 use uri_ref::{recompose, resolve, split, without_fragment};
 
 mod descending;
-mod holding;
 
 use descending::{Descent, descend};
 

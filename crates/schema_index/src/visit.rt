@@ -5,12 +5,14 @@ ghost use Rattle.definitions.specs.Values.{to_elements};
 ghost use Rattle.json_doc.specs.Docs.{value, members_view};
 ghost use Rattle.schema_index.specs.Gathering.{Gathers};
 ghost use Rattle.schema_index.specs.Hops.{Hop, step_hop, step_hops, to_element, to_member};
-ghost use Rattle.schema_index.specs.Spots.{holding_named, spots, spots_at, spots_below, spots_from, spots_in_list, spots_in_map};
+ghost use Rattle.keywords.specs.Rows.{shape_named};
+ghost use Rattle.keywords.specs.Shapes.{shape_view};
+ghost use Rattle.schema_index.specs.Spots.{spots, spots_at, spots_below, spots_from, spots_in_list, spots_in_map};
 
 use crate::gathered::Gathered;
-use crate::holdings::{Holding, holding_named};
 use crate::resources::{opened_uri, text_at};
 use json_doc::{Doc, Members};
+use keywords::{Shape, shape_named};
 use locations::Step;
 use std::alloc::{AllocError, Global};
 
@@ -95,22 +97,14 @@ fn visit_keyword<'a>(
     name: &'a str,
     member: &'a Doc,
 ) -> Result<(), AllocError>
-    ensures gathers { OnOk result (Gathers gathered.old gathered.new (spots_at (holding_named name.now) (step_hops way.old.items ++ to_member name.now ∷ []) start uri.now (value member.now))) }
+    ensures gathers { OnOk result (Gathers gathered.old gathered.new (spots_at (shape_named name.now) (step_hops way.old.items ++ to_member name.now ∷ []) start uri.now (value member.now))) }
     ensures way { OnOk result (step_hops way.new.items ≡ step_hops way.old.items) }
 {
     match push_step(way, Step::Name(name)) {
         Ok(()) => {}
         Err(fault) => return Err(fault),
     }
-    match visit_place(
-        alloc,
-        gathered,
-        way,
-        start,
-        uri,
-        holding_named(name),
-        member,
-    ) {
+    match visit_place(alloc, gathered, way, start, uri, shape_named(name), member) {
         Ok(()) => {}
         Err(fault) => return Err(fault),
     }
@@ -118,7 +112,7 @@ fn visit_keyword<'a>(
     Ok(())
 }
 
-// The schemas in a value that holds them so.
+// The schemas at the value of a keyword of this shape.
 #[cycle(visit)]
 fn visit_place<'a>(
     alloc: Global,
@@ -126,18 +120,18 @@ fn visit_place<'a>(
     way: &mut Vec<Step<'a>>,
     start: usize,
     uri: &str,
-    holding: Holding,
+    shape: Shape,
     member: &'a Doc,
 ) -> Result<(), AllocError>
-    ensures gathers { OnOk result (Gathers gathered.old gathered.new (spots_at holding (step_hops way.old.items) start uri.now (value member.now))) }
+    ensures gathers { OnOk result (Gathers gathered.old gathered.new (spots_at (shape_view shape) (step_hops way.old.items) start uri.now (value member.now))) }
     ensures way { OnOk result (step_hops way.new.items ≡ step_hops way.old.items) }
 {
-    match (holding, member) {
-        (Holding::Schema, schema) => visit_schema(alloc, gathered, way, start, uri, schema),
-        (Holding::Schemas, Doc::List(schemas)) => {
+    match (shape, member) {
+        (Shape::OneSchema, schema) => visit_schema(alloc, gathered, way, start, uri, schema),
+        (Shape::SchemaList, Doc::List(schemas)) => {
             visit_list(alloc, gathered, way, start, uri, schemas)
         }
-        (Holding::NamedSchemas, Doc::Dict(schemas)) => {
+        (Shape::SchemaMap, Doc::Dict(schemas)) => {
             visit_map(alloc, gathered, way, start, uri, schemas)
         }
         _ => Ok(()),

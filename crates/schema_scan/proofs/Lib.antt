@@ -2,7 +2,6 @@ pub mod Opened
 pub mod Placed
 pub mod Walked
 pub mod Asked
-pub mod TableOfForms
 pub mod Extended
 pub mod Rows
 pub mod Visits

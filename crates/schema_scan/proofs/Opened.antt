@@ -7,7 +7,8 @@ use Rattle.definitions.specs.Pointers.{Pointer}
 use Rattle.definitions.specs.Keywords.{keywords, shape_in}
 use Rattle.definitions.specs.Schemas.{opened, schema_at, is_root}
 use Rattle.definition_laws.proofs.Places.{value-opened}
-use Rattle.schema_scan.specs.Places.{shape_named, opened_uri, resource_of, opens_resource}
+use Rattle.keywords.specs.Rows.{shape_named}
+use Rattle.schema_scan.specs.Places.{opened_uri, resource_of, opens_resource}
 
 pub value-at : (base : Text) (p : Pointer) (v : Value) → (schema_at base p v).value ≡ v
 value-at base p v = value-opened base p v (text_at (codes "$id") v)
@@ -34,7 +35,3 @@ not_zero n = grind (arith, nat_tests)
 pub not_empty : (p : Pointer) (t : Text) (ts : Pointer) → (length (p ++ t ∷ ts) == 0) ≡ false
 not_empty [] t ts = not_zero (length ts)
 not_empty (u ∷ p) t ts = not_zero (length (p ++ t ∷ ts))
-
-pub shape_named-row : (name : Text) → shape_in keywords name ≡ shape_named name
-unfolding shape_named
-shape_named-row name = refl

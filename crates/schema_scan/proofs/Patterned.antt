@@ -9,7 +9,8 @@ use Rattle.definitions.specs.Searches.{patterns, patterns_of}
 use Rattle.definitions.specs.Shapes.{Shape, any_value, truth, whole_number, size, divisor, any_text, value_list, text_list, text_lists, type_names, reference, one_schema, schema_list, schema_map, identifier, anchor_name, dialect}
 use Rattle.json_doc.specs.Kinds.{as_members}
 use Rattle.schema_scan.specs.PatternTexts.{patterns_at, names_at, patterns_in}
-use Rattle.schema_scan.specs.Places.{Place, shape_named, resource_of, places, places_below, places_at, places_in_list, places_in_map}
+use Rattle.keywords.specs.Rows.{shape_named}
+use Rattle.schema_scan.specs.Places.{Place, resource_of, places, places_below, places_at, places_in_list, places_in_map}
 use Rattle.schema_scan.proofs.Placed.{placed, schemas_of-places}
 
 -- ---- of a schema

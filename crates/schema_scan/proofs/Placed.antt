@@ -9,7 +9,8 @@ use Rattle.definitions.specs.Shapes.{Shape, any_value, truth, whole_number, size
 use Rattle.definitions.specs.Keywords.{keywords, shape_in}
 use Rattle.definitions.specs.Schemas.{Schema, schema_at, below, at_place, schemas_within, schemas_of, is_root}
 use Rattle.schema_scan.specs.Places.{Place, resource_of, opens_resource, place_of, places, places_below, places_at, places_in_list, places_in_map}
-use Rattle.schema_scan.proofs.Opened.{value-at, resource-at, is_root-at, not_empty, shape_named-row}
+use Rattle.keywords.proofs.Names.{shape_named-row}
+use Rattle.schema_scan.proofs.Opened.{value-at, resource-at, is_root-at, not_empty}
 
 -- the place of a schema
 abbrev pub placed : Schema → Place

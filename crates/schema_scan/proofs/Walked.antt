@@ -11,9 +11,11 @@ use Rattle.definitions.specs.Keywords.{Keyword, keywords, keyword_named, shape_i
 use Rattle.definitions.specs.Schemas.{Schema, schema_at, below, at_place, is_root}
 use Rattle.definitions.specs.Scanning.{shape_faults, keyword_faults, walked}
 use Rattle.definitions.specs.Lists.{unless}
-use Rattle.schema_scan.specs.Places.{shape_named, resource_of, opens_resource}
+use Rattle.keywords.specs.Rows.{shape_named}
+use Rattle.schema_scan.specs.Places.{resource_of, opens_resource}
 use Rattle.schema_scan.specs.Missteps.{Misstep, wrong_shape, wrong_id, wrong_anchor, wrong_dialect, misstep_fault, deeper, below_name, is_as_asked, misstep_at, shape_missteps, own_missteps, missteps, missteps_below, missteps_at, missteps_in_list, missteps_in_map}
-use Rattle.schema_scan.proofs.Opened.{value-at, resource-at, is_root-at, not_empty, shape_named-row}
+use Rattle.keywords.proofs.Names.{shape_named-row}
+use Rattle.schema_scan.proofs.Opened.{value-at, resource-at, is_root-at, not_empty}
 
 -- ---- a schema's own keywords
 unless-misstep : (b : Bool) (way : Pointer) (m : Misstep) → unless b (misstep_fault way m) ≡ map (misstep_fault way) (cond b [] (m ∷ []))

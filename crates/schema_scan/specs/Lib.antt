@@ -1,6 +1,5 @@
 pub mod Places
 pub mod Missteps
-pub mod Forms
 pub mod Refusals
 pub mod Uris
 pub mod Tables

@@ -5,17 +5,13 @@ use Rattle.definitions.specs.Values.{Text, Value, array, object, Elements, no_el
 use Rattle.definitions.specs.Uris.{without_fragment}
 use Rattle.definitions.specs.Resolution.{resolved}
 use Rattle.definitions.specs.Shapes.{Shape, one_schema, schema_list, schema_map}
-use Rattle.definitions.specs.Keywords.{keywords, shape_in}
+use Rattle.keywords.specs.Rows.{shape_named}
 
 -- a schema, with the URI of the resource that it stands in, and whether it is that resource's root
 pub record Place : Type 0 where
   pub resource : Text
   pub at_root : Bool
   pub value : Value
-
--- the shape that the keyword of this name asks for
-unfoldable pub shape_named : Text → Shape
-shape_named name = shape_in keywords name
 
 -- Core, 8.2.1: the `$id` that opens a resource
 abbrev pub id_of : Value → Option Text

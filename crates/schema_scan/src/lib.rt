@@ -4,7 +4,6 @@
 
 mod compiled;
 mod compiling;
-mod forms;
 mod keyword_values;
 mod names;
 mod pattern_table;

@@ -3,19 +3,18 @@
 ghost use Rattle.std.specs.Prelude.{◌≡◌, ◌<◌, [], ◌++◌, OnOk, IfErr, length, map};
 ghost use Rattle.definitions.specs.Values.{to_elements};
 ghost use Rattle.json_doc.specs.Docs.{value, members_view};
-ghost use Rattle.schema_scan.specs.Forms.{form_view};
+ghost use Rattle.keywords.specs.Shapes.{shape_view};
 ghost use Rattle.schema_scan.specs.Tables.{uris_of, places_of};
 ghost use Rattle.schema_scan.specs.Uris.{uri_at, Extends};
 ghost use Rattle.schema_scan.specs.Places.{places, places_below, places_at, places_in_list, places_in_map};
 ghost use Rattle.schema_scan.specs.Missteps.{own_missteps, missteps, missteps_below, missteps_at, missteps_in_list, missteps_in_map};
 ghost use Rattle.schema_scan.specs.Refusals.{Refuses};
 
-use crate::forms::{Form, form_named};
 use crate::keyword_values::check_value;
 use crate::refusal::Refusal;
 use crate::table::Table;
 use json_doc::{Doc, Members};
-use keyword_shapes::Shape;
+use keywords::{Shape, shape_named};
 use std::alloc::Global;
 
 /// Adds a schema that stands in the resource of this index, and those below it, to the table. The walk stops at the first
@@ -89,7 +88,7 @@ fn visit_below<'a>(
     ensures refused { IfErr result (λ r. Refuses r (missteps_below (uri_at (uris_of table.old) resource) (members_view members.now))) }
 {
     for (name, member) in members.iter() {
-        match visit_place(alloc, table, resource, form_named(name), member) {
+        match visit_place(alloc, table, resource, shape_named(name), member) {
             Ok(()) => {}
             Err(refusal) => return Err(refusal.under_name(name)),
         }
@@ -97,31 +96,25 @@ fn visit_below<'a>(
     Ok(())
 }
 
-// The schemas at the value of a keyword of this form.
+// The schemas at the value of a keyword of this shape.
 #[cycle(visit)]
 fn visit_place<'a>(
     alloc: Global,
     table: &mut Table<'a>,
     resource: usize,
-    form: Form,
+    shape: Shape,
     member: &'a Doc,
 ) -> Result<(), Refusal<'a>>
     requires { resource < length (uris_of table.old) }
     ensures extends { OnOk result (Extends (uris_of table.old) (uris_of table.new)) }
-    ensures places { OnOk result (places_of table.new ≡ places_of table.old ++ places_at (form_view form) (uri_at (uris_of table.old) resource) (value member.now)) }
-    ensures passed { OnOk result (missteps_at (form_view form) (uri_at (uris_of table.old) resource) (value member.now) ≡ []) }
-    ensures refused { IfErr result (λ r. Refuses r (missteps_at (form_view form) (uri_at (uris_of table.old) resource) (value member.now))) }
+    ensures places { OnOk result (places_of table.new ≡ places_of table.old ++ places_at (shape_view shape) (uri_at (uris_of table.old) resource) (value member.now)) }
+    ensures passed { OnOk result (missteps_at (shape_view shape) (uri_at (uris_of table.old) resource) (value member.now) ≡ []) }
+    ensures refused { IfErr result (λ r. Refuses r (missteps_at (shape_view shape) (uri_at (uris_of table.old) resource) (value member.now))) }
 {
-    match (form, member) {
-        (Form::Of(Shape::OneSchema), schema) => {
-            visit_schema(alloc, table, resource, false, schema)
-        }
-        (Form::Of(Shape::SchemaList), Doc::List(schemas)) => {
-            visit_list(alloc, table, resource, schemas)
-        }
-        (Form::Of(Shape::SchemaMap), Doc::Dict(schemas)) => {
-            visit_map(alloc, table, resource, schemas)
-        }
+    match (shape, member) {
+        (Shape::OneSchema, schema) => { visit_schema(alloc, table, resource, false, schema) }
+        (Shape::SchemaList, Doc::List(schemas)) => { visit_list(alloc, table, resource, schemas) }
+        (Shape::SchemaMap, Doc::Dict(schemas)) => { visit_map(alloc, table, resource, schemas) }
         _ => Ok(()),
     }
 }
@@ -183,7 +176,7 @@ fn check_keywords<'a>(
     ensures refused { IfErr result (λ r. Refuses r (own_missteps base.now at_root (members_view members.now))) }
 {
     for (name, member) in members.iter() {
-        check_value(alloc, form_named(name), base, at_root, name, member)?;
+        check_value(alloc, shape_named(name), base, at_root, name, member)?;
     }
     Ok(())
 }

@@ -1,7 +1,7 @@
 //! The shapes that values have.
 
 use json_doc::read;
-use keyword_shapes::{Shape, fits};
+use keywords::{Shape, fits};
 use std::test::Fail;
 
 const SHAPES: &[(Shape, &str, bool)] = &[

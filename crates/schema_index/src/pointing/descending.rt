@@ -9,8 +9,8 @@ ghost use Rattle.json_doc.specs.Members.{member_shown, HasNamesInOrder};
 ghost use Rattle.schema_index.specs.Descents.{IsHeld, row, name_of};
 ghost use Rattle.schema_index.specs.DescentViews.{GoesOn};
 
-use super::holding::{Holding, holding_named};
 use json_doc::{Doc, Members};
+use keywords::{Shape, shape_named};
 use locations::Step;
 
 /// What a pointer's first tokens lead to: the keyword, the place in its value where that is a list or a map, the schema
@@ -32,16 +32,16 @@ pub(crate) fn descend<'a, 't>(
     ensures { GoesOn (keyword.now ∷ map string_bytes rest.now) (value schema.now) result }
 {
     let (name, member) = named(schema.as_dict()?, keyword)?;
-    match holding_named(name) {
-        Some(Holding::One) => Some(Descent {
+    match shape_named(name) {
+        Shape::OneSchema => Some(Descent {
             keyword: name,
             place: None,
             schema: member,
             rest,
         }),
-        Some(Holding::List) => descend_into_list(name, member, rest),
-        Some(Holding::Map) => descend_into_map(name, member, rest),
-        None => None,
+        Shape::SchemaList => descend_into_list(name, member, rest),
+        Shape::SchemaMap => descend_into_map(name, member, rest),
+        _ => None,
     }
 }
 

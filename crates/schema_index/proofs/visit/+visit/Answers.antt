@@ -9,7 +9,8 @@ use Rattle.json_doc.specs.Members.{members_left}
 use Rattle.json_doc.proofs.Views.{to_members-value}
 use Rattle.schema_index.specs.Gathering.{Gathers}
 use Rattle.schema_index.specs.Hops.{step_hop, step_hops, to_element, to_member}
-use Rattle.schema_index.specs.Spots.{Spot, holding_named, spots, spots_from, spots_at, spots_below, spots_in_list, spots_in_map}
+use Rattle.keywords.specs.Rows.{shape_named}
+use Rattle.schema_index.specs.Spots.{Spot, spots, spots_from, spots_at, spots_below, spots_in_list, spots_in_map}
 use Rattle.schema_index.proofs.Gatherings.{gathers-none, gathers-append}
 use Rattle.schema_index.proofs.Visiting.{spots-by, spots-index}
 use Rattle.schema_index.proofs.visit.+visit.Goals as goal
@@ -33,14 +34,14 @@ visit_below-loop-name-preserved t c =
     let name = c.in-Some.name.now in
     let v = value c.in-Some.member.now in
     let rest = to_members (members_left c.next.new.self) in
-    let here : List Spot = spots_at (holding_named name) (way ++ to_member name ∷ []) c.args.start c.args.uri.now v in
+    let here : List Spot = spots_at (shape_named name) (way ++ to_member name ∷ []) c.args.start c.args.uri.now v in
     record {
       done = inv.done ++ here;
       nests = omega (arith, inv.nests, ap (λ ms. members_nesting (to_members ms)) c.in-Some.ensures.steps);
       way = c.in-Ok.ensures.way ∙ inv.way;
       gathers =
           gathers-append c.args.gathered.now c.loop-name.gathered c.visit_keyword.new.gathered inv.done here inv.gathers
-          (subst (λ hops. Gathers c.loop-name.gathered c.visit_keyword.new.gathered (spots_at (holding_named name) (hops ++ to_member name ∷ []) c.args.start c.args.uri.now v)) inv.way c.in-Ok.ensures.gathers);
+          (subst (λ hops. Gathers c.loop-name.gathered c.visit_keyword.new.gathered (spots_at (shape_named name) (hops ++ to_member name ∷ []) c.args.start c.args.uri.now v)) inv.way c.in-Ok.ensures.gathers);
       left =
           inv.left ∙ ap (λ ms. inv.done ++ spots_below way c.args.start c.args.uri.now (to_members ms)) c.in-Some.ensures.steps
           ∙ sym (append_assoc inv.done here (spots_below way c.args.start c.args.uri.now rest));

@@ -3,7 +3,8 @@ use Rattle.definitions.specs.Values.{to_elements, to_members, members_nesting}
 use Rattle.json_doc.specs.Docs.{value, members_view}
 use Rattle.json_doc.specs.Members.{members_left}
 use Rattle.json_doc.proofs.Views.{to_members-value}
-use Rattle.schema_scan.specs.Places.{shape_named, places, places_below, places_at, places_in_map}
+use Rattle.keywords.specs.Rows.{shape_named}
+use Rattle.schema_scan.specs.Places.{places, places_below, places_at, places_in_map}
 use Rattle.schema_scan.specs.Missteps.{below_name, missteps, missteps_below, missteps_at, missteps_in_list, missteps_in_map}
 use Rattle.schema_scan.specs.Refusals.{Refuses}
 use Rattle.schema_scan.specs.Tables.{uris_of, places_of}
@@ -40,10 +41,10 @@ visit_below-loop-name-preserved t c =
       places =
           places-step (places_of c.args.table.now) (places_of c.loop-name.table) (places_of c.visit_place.new.table) (places_at (shape_named name) base v) (places_below base rest) (places_below base (members_view c.args.members.now))
           (inv.places ∙ ap (λ ms. places_of c.loop-name.table ++ places_below base (to_members ms)) c.in-Some.ensures.steps)
-          (c.in-Ok.ensures.places ∙ ap₂ (λ k b. places_of c.loop-name.table ++ places_at k b v) c.form_named.ensures same);
+          (c.in-Ok.ensures.places ∙ ap₂ (λ k b. places_of c.loop-name.table ++ places_at k b v) c.shape_named.ensures same);
       missteps =
           inv.missteps ∙ ap (λ ms. missteps_below base (to_members ms)) c.in-Some.ensures.steps
-          ∙ ap (λ ms. below_name name ms ++ missteps_below base rest) (sym (ap₂ (λ k b. missteps_at k b v) c.form_named.ensures same) ∙ c.in-Ok.ensures.passed);
+          ∙ ap (λ ms. below_name name ms ++ missteps_below base rest) (sym (ap₂ (λ k b. missteps_at k b v) c.shape_named.ensures same) ∙ c.in-Ok.ensures.passed);
     }
 
 pub visit_below-returns-in-Err-clause-refused : goal.visit_below-returns-in-Err-clause-refused
@@ -54,7 +55,7 @@ visit_below-returns-in-Err-clause-refused t c =
     let rest = to_members (members_left c.next.new.self) in
     let same : uri_at (uris_of c.loop-name.table) c.args.resource ≡ base = c.loop-name.invariant.extends.same c.args.resource c.requires in
     let refused : Refuses c.in-Err.refusal (missteps_at (shape_named name) base v) =
-    subst (Refuses c.in-Err.refusal) (ap₂ (λ k b. missteps_at k b v) c.form_named.ensures same) c.in-Err.ensures.refused in
+    subst (Refuses c.in-Err.refusal) (ap₂ (λ k b. missteps_at k b v) c.shape_named.ensures same) c.in-Err.ensures.refused in
     let all : missteps_below base (members_view c.args.members.now) ≡ below_name name (missteps_at (shape_named name) base v) ++ missteps_below base rest =
     c.loop-name.invariant.missteps ∙ ap (λ ms. missteps_below base (to_members ms)) c.in-Some.ensures.steps in
     rw all (Refuses-append c.under_name.result _ _ (c.under_name.ensures _ refused))

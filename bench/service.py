@@ -30,7 +30,8 @@ import time
 from contextlib import contextmanager
 from pathlib import Path
 
-from run import ADDRESS, ORDER_LINE, TOP, Bench, amount, compact, order, print_table, small_object, time_of
+from run import TOP, Bench, amount, print_table, time_of
+from workloads import ADDRESS, ORDER_LINE, compact, order, small_object
 
 KEY = "k1"
 SITE = "https://example.com"

@@ -96,7 +96,8 @@ impl Assertion {
 /// Whether the keyword, with this value, holds of the instance (Validation, section 6). An instance of a kind that the
 /// keyword does not speak of passes, and a value that lacks the keyword's shape asks for nothing. This takes no memory.
 pub fn holds(assertion: Assertion, keyword_value: &Doc, instance: &Doc) -> bool
-    ensures { result ≡ holds (assertion_view assertion) (value keyword_value.now) (value instance.now) }
+    ensures { result ≡ holds (assertion_view assertion) (value keyword_value.now)
+        (value instance.now) }
 {
     !has_its_shape(assertion, keyword_value) || is_asserted(assertion, keyword_value, instance)
 }
@@ -117,7 +118,8 @@ fn shape_of(assertion: Assertion) -> Shape
 
 // What the keyword asks, where its value has its shape.
 fn is_asserted(assertion: Assertion, keyword_value: &Doc, instance: &Doc) -> bool
-    ensures { result ≡ asserted (assertion_view assertion) (value keyword_value.now) (value instance.now) }
+    ensures { result ≡ asserted (assertion_view assertion) (value keyword_value.now)
+        (value instance.now) }
 {
     match assertion {
         Assertion::TypeIs => is_of_types(instance, keyword_value),

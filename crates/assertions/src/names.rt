@@ -53,7 +53,9 @@ pub(crate) fn has_dependents(instance: &Doc, dependents: &Doc) -> bool
 }
 
 fn has_each_dependent(instance: &Doc, dependents: &Doc) -> bool
-    ensures { result ≡ list_all (λ d. not (is_some (get d.0 (value instance.now))) || has_names (value instance.now) d.1) (members (value dependents.now)) }
+    ensures { result ≡ list_all
+        (λ d. not (is_some (get d.0 (value instance.now))) || has_names (value instance.now) d.1)
+        (members (value dependents.now)) }
 {
     match dependents {
         Doc::Dict(lists) => lists
@@ -65,7 +67,8 @@ fn has_each_dependent(instance: &Doc, dependents: &Doc) -> bool
 
 // Where the instance has the name, it has these too.
 fn has_those_of(instance: &Doc, name: &str, names: &Doc) -> bool
-    ensures { result ≡ (not (is_some (get name.now (value instance.now))) || has_names (value instance.now) (value names.now)) }
+    ensures { result ≡ (not (is_some (get name.now (value instance.now)))
+        || has_names (value instance.now) (value names.now)) }
 {
     instance.get(name).is_none() || has_names(instance, names)
 }

@@ -47,7 +47,8 @@ pub(crate) fn keep<'a>(
 ) -> Result<Entry<'a>, AllocError>
     ensures grows { Grows steps.old.items steps.new.items }
     ensures fits { IfOk result (λ e. fits (length steps.new.items) e ≡ true) }
-    ensures view { IfOk result (λ e. entry_view steps.new.items e ≡ unit_at location.entry says.entry) }
+    ensures view { IfOk result
+        (λ e. entry_view steps.new.items e ≡ unit_at location.entry says.entry) }
 {
     let path = keep_steps(steps, location.path)?;
     let pointer = keep_steps(steps, location.pointer)?;
@@ -87,7 +88,8 @@ fn keep_says<'a>(steps: &mut Vec<Step<'a>>, says: Says<'_, 'a>) -> Result<Said<'
 fn keep_steps<'a>(steps: &mut Vec<Step<'a>>, more: &[Step<'a>]) -> Result<Segment, AllocError>
     ensures ok { OnOk result (steps.new.items ≡ steps.old.items ++ more.now) }
     ensures unchanged { OnErr result (steps.new.items ≡ steps.old.items) }
-    ensures segment { IfOk result (λ s. s ≡ record { start = length steps.old.items; end = length steps.new.items }) }
+    ensures segment { IfOk result
+        (λ s. s ≡ record { start = length steps.old.items; end = length steps.new.items }) }
 {
     let start = steps.len();
     steps.extend_from_slice(more)?;
@@ -100,7 +102,8 @@ fn keep_steps<'a>(steps: &mut Vec<Step<'a>>, more: &[Step<'a>]) -> Result<Segmen
 fn keep_names<'a>(steps: &mut Vec<Step<'a>>, names: &[&'a str]) -> Result<Segment, AllocError>
     ensures grows { Grows steps.old.items steps.new.items }
     ensures ok { OnOk result (steps.new.items ≡ steps.old.items ++ named_steps names.now) }
-    ensures segment { IfOk result (λ s. s ≡ record { start = length steps.old.items; end = length steps.new.items }) }
+    ensures segment { IfOk result
+        (λ s. s ≡ record { start = length steps.old.items; end = length steps.new.items }) }
 {
     let start = steps.len();
     for name in names {
@@ -115,7 +118,8 @@ fn keep_names<'a>(steps: &mut Vec<Step<'a>>, names: &[&'a str]) -> Result<Segmen
 fn keep_indexes<'a>(steps: &mut Vec<Step<'a>>, indexes: &[usize]) -> Result<Segment, AllocError>
     ensures grows { Grows steps.old.items steps.new.items }
     ensures ok { OnOk result (steps.new.items ≡ steps.old.items ++ indexed_steps indexes.now) }
-    ensures segment { IfOk result (λ s. s ≡ record { start = length steps.old.items; end = length steps.new.items }) }
+    ensures segment { IfOk result
+        (λ s. s ≡ record { start = length steps.old.items; end = length steps.new.items }) }
 {
     let start = steps.len();
     for index in indexes {

@@ -26,7 +26,8 @@ use std::alloc::{AllocError, Global};
 /// The text of the basic output: compact JSON, with the names of each object in byte order. The units are the
 /// annotations of a valid instance, or the errors of another. The only error is want of memory, [`Fault::NoRoom`].
 pub fn output_text<'a>(alloc: Global, valid: bool, units: &Units<'a>) -> Result<String, Fault>
-    ensures text { IfOk result (λ s. string_bytes s ≡ text (units_output valid (units_view units.now))) }
+    ensures text { IfOk result
+        (λ s. string_bytes s ≡ text (units_output valid (units_view units.now))) }
     ensures answer { (o : Outcome) → o.valid ≡ valid → reported o ≡ units_view units.now
         → IfOk result (λ s. string_bytes s ≡ output_text o) }
     ensures room { IfErr result (λ f. f ≡ Fault.NoRoom) }
@@ -43,7 +44,9 @@ fn write_output<'a>(
     units: &Units<'a>,
     out: &mut Writer,
 ) -> Result<(), AllocError>
-    ensures ok { OnOk result (out.new.tokens ≡ out.old.tokens ++ value_tokens (units_output valid (units_view units.now))) }
+    ensures ok { OnOk result
+        (out.new.tokens ≡ out.old.tokens
+        ++ value_tokens (units_output valid (units_view units.now))) }
     ensures before { out.new.before ≡ out.old.before }
 {
     out.begin_object()?;
@@ -60,7 +63,8 @@ fn write_reported<'a>(
     units: &Units<'a>,
     out: &mut Writer,
 ) -> Result<(), AllocError>
-    ensures ok { OnOk result (out.new.tokens ≡ out.old.tokens ++ reported_tokens valid (units_view units.now)) }
+    ensures ok { OnOk result
+        (out.new.tokens ≡ out.old.tokens ++ reported_tokens valid (units_view units.now)) }
     ensures before { out.new.before ≡ out.old.before }
 {
     if valid {
@@ -78,7 +82,9 @@ fn write_units<'a>(
     units: &Units<'a>,
     out: &mut Writer,
 ) -> Result<(), AllocError>
-    ensures ok { OnOk result (out.new.tokens ≡ out.old.tokens ++ value_tokens (units_value kind.now (units_view units.now))) }
+    ensures ok { OnOk result
+        (out.new.tokens ≡ out.old.tokens
+        ++ value_tokens (units_value kind.now (units_view units.now))) }
     ensures before { out.new.before ≡ out.old.before }
 {
     out.begin_array()?;
@@ -95,7 +101,10 @@ fn write_entries<'a>(
     out: &mut Writer,
 ) -> Result<(), AllocError>
     requires { list_all (fits (length steps.now)) entries.now ≡ true }
-    ensures ok { OnOk result (out.new.tokens ≡ out.old.tokens ++ elements_tokens (to_elements (map (unit_value kind.now) (map (entry_view steps.now) entries.now)))) }
+    ensures ok { OnOk result
+        (out.new.tokens ≡ out.old.tokens
+        ++ elements_tokens (to_elements
+        (map (unit_value kind.now) (map (entry_view steps.now) entries.now)))) }
     ensures before { out.new.before ≡ out.old.before }
 {
     let mut location = String::new(alloc);
@@ -113,7 +122,9 @@ fn write_unit<'a>(
     out: &mut Writer,
 ) -> Result<(), AllocError>
     requires { fits (length steps.now) entry ≡ true }
-    ensures ok { OnOk result (out.new.tokens ≡ out.old.tokens ++ value_tokens (unit_value kind.now (entry_view steps.now entry.entry))) }
+    ensures ok { OnOk result
+        (out.new.tokens ≡ out.old.tokens
+        ++ value_tokens (unit_value kind.now (entry_view steps.now entry.entry))) }
     ensures before { out.new.before ≡ out.old.before }
 {
     out.begin_object()?;
@@ -149,7 +160,8 @@ fn write_locations(
 }
 
 fn write_member(name: &str, text: &str, out: &mut Writer) -> Result<(), AllocError>
-    ensures ok { OnOk result (out.new.tokens ≡ out.old.tokens ++ json.key name.now ∷ json.string text.now ∷ []) }
+    ensures ok { OnOk result
+        (out.new.tokens ≡ out.old.tokens ++ json.key name.now ∷ json.string text.now ∷ []) }
     ensures before { out.new.before ≡ out.old.before }
 {
     out.key(name)?;
@@ -162,7 +174,8 @@ fn absolute_location(
     resource: &str,
     steps: &[Step<'_>],
 ) -> Result<(), AllocError>
-    ensures { OnOk result (string_bytes location.new ≡ resource.now ++ (number_sign ∷ fragment_text (tokens steps.now))) }
+    ensures { OnOk result (string_bytes location.new
+        ≡ resource.now ++ (number_sign ∷ fragment_text (tokens steps.now))) }
 {
     location.clear();
     location.push_str(resource)?;
@@ -186,7 +199,8 @@ fn write_said<'a>(
     out: &mut Writer,
 ) -> Result<(), AllocError>
     requires { said_fits (length steps.now) says ≡ true }
-    ensures ok { OnOk result (out.new.tokens ≡ out.old.tokens ++ value_tokens (said_value steps.now says.entry)) }
+    ensures ok { OnOk result
+        (out.new.tokens ≡ out.old.tokens ++ value_tokens (said_value steps.now says.entry)) }
     ensures before { out.new.before ≡ out.old.before }
 {
     match says {
@@ -200,7 +214,8 @@ fn write_said<'a>(
 }
 
 fn write_not_met(keyword: &str, buffer: &mut String, out: &mut Writer) -> Result<(), AllocError>
-    ensures ok { OnOk result (out.new.tokens ≡ out.old.tokens ++ json.string (keyword.now ++ codes " is not met") ∷ []) }
+    ensures ok { OnOk result
+        (out.new.tokens ≡ out.old.tokens ++ json.string (keyword.now ++ codes " is not met") ∷ []) }
     ensures before { out.new.before ≡ out.old.before }
 {
     buffer.clear();
@@ -210,7 +225,9 @@ fn write_not_met(keyword: &str, buffer: &mut String, out: &mut Writer) -> Result
 }
 
 fn write_list(steps: &[Step<'_>], out: &mut Writer) -> Result<(), AllocError>
-    ensures ok { OnOk result (out.new.tokens ≡ out.old.tokens ++ json.begin_array ∷ elements_tokens (to_elements (map step_value steps.now))) }
+    ensures ok { OnOk result
+        (out.new.tokens ≡ out.old.tokens
+        ++ json.begin_array ∷ elements_tokens (to_elements (map step_value steps.now))) }
     ensures before { out.new.before ≡ out.old.before }
 {
     out.begin_array()?;
@@ -219,7 +236,9 @@ fn write_list(steps: &[Step<'_>], out: &mut Writer) -> Result<(), AllocError>
 
 // The names or indexes and the closing bracket.
 fn write_steps(steps: &[Step<'_>], out: &mut Writer) -> Result<(), AllocError>
-    ensures ok { OnOk result (out.new.tokens ≡ out.old.tokens ++ elements_tokens (to_elements (map step_value steps.now))) }
+    ensures ok { OnOk result
+        (out.new.tokens ≡ out.old.tokens
+        ++ elements_tokens (to_elements (map step_value steps.now))) }
     ensures before { out.new.before ≡ out.old.before }
 {
     for step in steps {
@@ -229,7 +248,8 @@ fn write_steps(steps: &[Step<'_>], out: &mut Writer) -> Result<(), AllocError>
 }
 
 fn write_step(step: Step<'_>, out: &mut Writer) -> Result<(), AllocError>
-    ensures ok { OnOk result (out.new.tokens ≡ out.old.tokens ++ value_tokens (step_value step.entry)) }
+    ensures ok { OnOk result
+        (out.new.tokens ≡ out.old.tokens ++ value_tokens (step_value step.entry)) }
     ensures before { out.new.before ≡ out.old.before }
 {
     match step {

@@ -73,7 +73,8 @@ impl<'a> Units<'a> {
 
     /// Puts a unit last. The only error is want of memory, and then the units stay as they were.
     pub fn push(&mut self, location: Location<'_, 'a>, says: Says<'_, 'a>) -> Result<(), AllocError>
-        ensures ok { OnOk result (units_view self.new ≡ units_view self.old ++ unit_at location.entry says.entry ∷ []) }
+        ensures ok { OnOk result
+            (units_view self.new ≡ units_view self.old ++ unit_at location.entry says.entry ∷ []) }
         ensures unchanged { OnErr result (units_view self.new ≡ units_view self.old) }
     {
         self.insert(self.mark(), location, says)
@@ -88,7 +89,9 @@ impl<'a> Units<'a> {
         location: Location<'_, 'a>,
         says: Says<'_, 'a>,
     ) -> Result<(), AllocError>
-        ensures ok { OnOk result (units_view self.new ≡ insert (units_view self.old) mark (unit_at location.entry says.entry)) }
+        ensures ok { OnOk result
+            (units_view self.new ≡ insert (units_view self.old) mark
+            (unit_at location.entry says.entry)) }
         ensures unchanged { OnErr result (units_view self.new ≡ units_view self.old) }
     {
         let place = mark.units.min(self.entries.len());
@@ -134,7 +137,8 @@ fn raise(reach: &mut Vec<usize>, start: usize, number: usize) -> Result<(), Allo
 // Puts this number in place of all from there on.
 fn fill_from(numbers: &mut [usize], start: usize, number: usize)
     requires { start ≤ length numbers.old }
-    ensures { numbers.new ≡ take start numbers.old ++ replicate (length numbers.old - start) number }
+    ensures { numbers.new ≡ take start numbers.old
+        ++ replicate (length numbers.old - start) number }
 {
     numbers[start..].fill(number);
 }

@@ -34,8 +34,11 @@ use std::alloc::Global;
 /// Where the canonical URIs are identifiers, the bundle stands alone: put under whatever base, it has no fault, its canonical
 /// URI is the one that was linked, its resources are those of the documents, and it says of each instance what they say.
 pub fn bundle(alloc: Global, linked: &Linked) -> Result<Doc, Fault>
-    ensures ok { IfOk result (λ d. bundle (linked_documents linked.now) (linked_uri linked.now) ≡ Ok (value d)) }
-    ensures err { IfErr result (λ f. f ≢ Fault.NoRoom → bundle (linked_documents linked.now) (linked_uri linked.now) ≡ Err (fault f)) }
+    ensures ok { IfOk result
+        (λ d. bundle (linked_documents linked.now) (linked_uri linked.now) ≡ Ok (value d)) }
+    ensures err { IfErr result
+        (λ f. f ≢ Fault.NoRoom → bundle (linked_documents linked.now) (linked_uri linked.now)
+        ≡ Err (fault f)) }
     ensures alone { IfOk result (λ d. AnswersAlone linked.now (value d)) }
 {
     let uri = asked(linked);
@@ -52,7 +55,9 @@ pub fn bundle(alloc: Global, linked: &Linked) -> Result<Doc, Fault>
 
 // The linked documents but for the one that was asked for, by their canonical URIs.
 fn others_among<'a>(alloc: Global, linked: &'a Linked) -> Result<Vec<Constituent<'a>>, Fault>
-    ensures ok { IfOk result (λ v. map constituent v.items ≡ map bare (others_of (linked_uri linked.now) (linked_documents linked.now))) }
+    ensures ok { IfOk result
+        (λ v. map constituent v.items
+        ≡ map bare (others_of (linked_uri linked.now) (linked_documents linked.now))) }
     ensures err { IfErr result (λ f. f ≡ Fault.NoRoom) }
 {
     let mut others = Vec::with_capacity(alloc, documents(linked).len())?;
@@ -68,7 +73,9 @@ fn others_among<'a>(alloc: Global, linked: &'a Linked) -> Result<Vec<Constituent
 
 // The first of these documents whose URI is the name of a member of the root's `$defs`.
 fn clash<'a>(root: &Doc, others: &'a [Constituent<'a>]) -> Option<&'a Constituent<'a>>
-    ensures { option_map (λ d. constituent d.now) result ≡ find (λ d. is_some (entry d.canonical (defs_of (value root.now)))) (map constituent others.now) }
+    ensures { option_map (λ d. constituent d.now) result
+        ≡ find (λ d. is_some (entry d.canonical (defs_of (value root.now))))
+        (map constituent others.now) }
 {
     others.iter().find(|other| has_def(root, other.uri))
 }

@@ -19,7 +19,8 @@ pub(crate) fn compound(
     others: &[Constituent<'_>],
 ) -> Result<Doc, Fault>
     requires { Ascend (map constituent others.now) }
-    ensures ok { IfOk result (λ d. value d ≡ bundle_of (constituent root.now) (map constituent others.now)) }
+    ensures ok { IfOk result
+        (λ d. value d ≡ bundle_of (constituent root.now) (map constituent others.now)) }
     ensures err { IfErr result (λ f. f ≡ Fault.NoRoom) }
 {
     let whole = under_its_uri(alloc, root)?;
@@ -51,7 +52,8 @@ fn with_member(alloc: Global, whole: Doc, name: &str, member: Doc) -> Result<Doc
 }
 
 fn with_entry(alloc: Global, members: Members, name: &str, member: Doc) -> Result<Members, Fault>
-    ensures ok { IfOk result (λ m. members_value m ≡ put_member name.now (value member) (members_value members)) }
+    ensures ok { IfOk result
+        (λ m. members_value m ≡ put_member name.now (value member) (members_value members)) }
     ensures err { IfErr result (λ f. f ≡ Fault.NoRoom) }
 {
     let mut members = members;
@@ -84,7 +86,8 @@ fn own_members(alloc: Global, doc: &Doc) -> Result<Members, Fault>
 // The members, and the documents under their URIs.
 fn with_others(alloc: Global, defs: Members, others: &[Constituent<'_>]) -> Result<Members, Fault>
     requires { Ascend (map constituent others.now) }
-    ensures ok { IfOk result (λ m. members_value m ≡ embedded (map constituent others.now) (members_value defs)) }
+    ensures ok { IfOk result
+        (λ m. members_value m ≡ embedded (map constituent others.now) (members_value defs)) }
     ensures err { IfErr result (λ f. f ≡ Fault.NoRoom) }
 {
     let mut members = defs;

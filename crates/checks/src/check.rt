@@ -32,8 +32,13 @@ pub fn check_bytes(
     schema: &[u8],
     instance: &[u8],
 ) -> Result<Report, Fault>
-    ensures ok { IfOk result (λ r. judgement uri.now (reading schema.now) (reading instance.now) ≡ Ok (is_valid r, report_text r)) }
-    ensures err { IfErr result (λ f. f ≢ Fault.NoRoom → is_for_pattern (fault f) (builds_patterns uri.now (reading schema.now)) ≡ false → judgement uri.now (reading schema.now) (reading instance.now) ≡ Err (fault f)) }
+    ensures ok { IfOk result
+        (λ r. judgement uri.now (reading schema.now) (reading instance.now)
+        ≡ Ok (is_valid r, report_text r)) }
+    ensures err { IfErr result
+        (λ f. f ≢ Fault.NoRoom → is_for_pattern (fault f)
+        (builds_patterns uri.now (reading schema.now)) ≡ false
+        → judgement uri.now (reading schema.now) (reading instance.now) ≡ Err (fault f)) }
 {
     let base = base_form(alloc, uri)?;
     let schema = read(alloc, schema)?;
@@ -50,8 +55,13 @@ pub(crate) fn check_docs(
     schema: &Doc,
     instance: &Doc,
 ) -> Result<Report, Fault>
-    ensures ok { IfOk result (λ r. judgement uri.now (Ok (value schema.now)) (Ok (value instance.now)) ≡ Ok (is_valid r, report_text r)) }
-    ensures err { IfErr result (λ f. f ≢ Fault.NoRoom → is_for_pattern (fault f) (builds_patterns uri.now (Ok (value schema.now))) ≡ false → judgement uri.now (Ok (value schema.now)) (Ok (value instance.now)) ≡ Err (fault f)) }
+    ensures ok { IfOk result
+        (λ r. judgement uri.now (Ok (value schema.now)) (Ok (value instance.now))
+        ≡ Ok (is_valid r, report_text r)) }
+    ensures err { IfErr result
+        (λ f. f ≢ Fault.NoRoom → is_for_pattern (fault f)
+        (builds_patterns uri.now (Ok (value schema.now))) ≡ false
+        → judgement uri.now (Ok (value schema.now)) (Ok (value instance.now)) ≡ Err (fault f)) }
 {
     let base = base_form(alloc, uri)?;
     let compiled = accept(alloc, base.as_str(), schema)?;
@@ -63,7 +73,10 @@ pub(crate) fn check_docs(
 fn accept(alloc: Global, base: &str, schema: &Doc) -> Result<Compiled, Fault>
     ensures base { IfOk result (λ c. compiled_base c ≡ base.now) }
     ensures ok { IfOk result (λ c. accepted base.now (value schema.now) ≡ Ok (compiled_value c)) }
-    ensures err { IfErr result (λ f. f ≢ Fault.NoRoom → is_for_pattern (fault f) (builds_under (Ok base.now) (Ok (value schema.now))) ≡ false → accepted base.now (value schema.now) ≡ Err (fault f)) }
+    ensures err { IfErr result
+        (λ f. f ≢ Fault.NoRoom → is_for_pattern (fault f)
+        (builds_under (Ok base.now) (Ok (value schema.now))) ≡ false
+        → accepted base.now (value schema.now) ≡ Err (fault f)) }
 {
     let scanned = scan(alloc, &split(base), schema)?;
     compile(alloc, scanned)
@@ -71,8 +84,12 @@ fn accept(alloc: Global, base: &str, schema: &Doc) -> Result<Compiled, Fault>
 
 // What the document says of the instance.
 fn judge(alloc: Global, document: Compiled, instance: &Doc) -> Result<Report, Fault>
-    ensures ok { IfOk result (λ r. said_by (compiled_document document) (value instance.now) ≡ Ok (is_valid r, report_text r)) }
-    ensures err { IfErr result (λ f. f ≢ Fault.NoRoom → said_by (compiled_document document) (value instance.now) ≡ Err (fault f)) }
+    ensures ok { IfOk result
+        (λ r. said_by (compiled_document document) (value instance.now)
+        ≡ Ok (is_valid r, report_text r)) }
+    ensures err { IfErr result
+        (λ f. f ≢ Fault.NoRoom → said_by (compiled_document document) (value instance.now)
+        ≡ Err (fault f)) }
 {
     let uri = canonical(&document).to_owned(alloc)?;
     let mut source = alone(alloc, document)?;

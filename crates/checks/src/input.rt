@@ -22,16 +22,23 @@ pub const DEFAULT_URI: &str = "urn:schemareg:root";
 /// with both members or `uri` is no text, then `BadUri`, and those of a check from `NotObject` on. `NoRoom` may take the
 /// place of any answer.
 pub fn check_input(alloc: Global, bytes: &[u8]) -> Result<Report, Fault>
-    ensures ok { IfOk result (λ r. judgement_of (input_of bytes.now) ≡ Ok (is_valid r, report_text r)) }
-    ensures err { IfErr result (λ f. f ≢ Fault.NoRoom → is_for_pattern (fault f) (builds_patterns_of (input_of bytes.now)) ≡ false → judgement_of (input_of bytes.now) ≡ Err (fault f)) }
+    ensures ok { IfOk result
+        (λ r. judgement_of (input_of bytes.now) ≡ Ok (is_valid r, report_text r)) }
+    ensures err { IfErr result
+        (λ f. f ≢ Fault.NoRoom → is_for_pattern (fault f) (builds_patterns_of (input_of bytes.now))
+        ≡ false → judgement_of (input_of bytes.now) ≡ Err (fault f)) }
 {
     let input = read(alloc, bytes)?;
     check_object(alloc, &input)
 }
 
 fn check_object(alloc: Global, input: &Doc) -> Result<Report, Fault>
-    ensures ok { IfOk result (λ r. judgement_of (input_in (value input.now)) ≡ Ok (is_valid r, report_text r)) }
-    ensures err { IfErr result (λ f. f ≢ Fault.NoRoom → is_for_pattern (fault f) (builds_patterns_of (input_in (value input.now))) ≡ false → judgement_of (input_in (value input.now)) ≡ Err (fault f)) }
+    ensures ok { IfOk result
+        (λ r. judgement_of (input_in (value input.now)) ≡ Ok (is_valid r, report_text r)) }
+    ensures err { IfErr result
+        (λ f. f ≢ Fault.NoRoom → is_for_pattern (fault f)
+        (builds_patterns_of (input_in (value input.now))) ≡ false
+        → judgement_of (input_in (value input.now)) ≡ Err (fault f)) }
 {
     let uri = uri_in(input)?;
     let schema = member_in(input, "schema")?;
@@ -53,7 +60,8 @@ fn uri_in(input: &Doc) -> Result<&str, Fault>
 }
 
 fn member_in<'a>(input: &'a Doc, name: &str) -> Result<&'a Doc, Fault>
-    ensures ok { IfOk result (λ member. member_in (get name.now (value input.now)) ≡ Ok (value member.now)) }
+    ensures ok { IfOk result
+        (λ member. member_in (get name.now (value input.now)) ≡ Ok (value member.now)) }
     ensures err { IfErr result (λ f. member_in (get name.now (value input.now)) ≡ Err (fault f)) }
 {
     match input.get(name) {

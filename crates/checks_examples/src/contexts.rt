@@ -1,7 +1,7 @@
 //! Where applications stand, and loops by JSON Schema 2020-12 Core, 9.4.1: a schema that is applied again at the same
 //! place.
 
-use applications::Context;
+use evaluation_context::Context;
 use json_doc::Doc;
 use schema_scan::Located;
 use std::test::Fail;

@@ -47,7 +47,8 @@ fn command<'a>(alloc: Global) -> Result<Command<'a>, AllocError>
 
 /// What `clap` finds in `words`.
 fn matches<'a, S: AsStr>(alloc: Global, words: &'a [S]) -> Result<ArgMatches<'a>, Error>
-    ensures ok { IfOk result (λ m. subcommand_rows_of m ≡ subcommand_of program (map S.text words.now)) }
+    ensures ok { IfOk result
+        (λ m. subcommand_rows_of m ≡ subcommand_of program (map S.text words.now)) }
     ensures err { FailsBy (fault_of program (map S.text words.now)) result }
 {
     command(alloc)?.try_get_matches_from(words)

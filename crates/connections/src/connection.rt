@@ -67,7 +67,8 @@ impl Held {
         piece: &[u8],
     ) -> Result<Connection, Fault>
         ensures ok { IfOk result
-            (λ c. Tells H.answers (self.buffer.items ++ piece.now) handler.old (string_bytes out.old)
+            (λ c. Tells H.answers (self.buffer.items ++ piece.now) handler.old
+            (string_bytes out.old)
             (connection_view c) handler.new (string_bytes out.new)) }
         ensures err { IfErr result (λ f. f ≡ Fault.NoRoom) }
         ensures some { OnErr result

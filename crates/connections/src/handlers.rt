@@ -13,5 +13,6 @@ pub trait Handler {
 
     /// Answers a request with a key. Want of memory is a reply like any other.
     fn apply(&mut self, alloc: Global, key: &str, request: &asked::Request) -> asked::Reply
-        ensures { answers self.old key.now (request_view request.now) (reply_view result) self.new };
+        ensures { answers self.old key.now (request_view request.now)
+            (reply_view result) self.new };
 }

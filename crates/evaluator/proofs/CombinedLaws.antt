@@ -6,8 +6,8 @@ use Rattle.definitions.specs.Values.{Value}
 use Rattle.definitions.specs.Applied.{Application, entered}
 use Rattle.definitions.specs.Outcomes.{Use, combined, other_annotations, use_annotations, use_errors}
 use Rattle.linker.specs.declared.linked.Linked.{Linked}
-use Rattle.applications.specs.Frames.{Frame, standing}
-use Rattle.applications.specs.Standings.{Standing, application_at, standing_of, within_object}
+use Rattle.evaluation_context.specs.Frames.{Frame, standing}
+use Rattle.evaluation_context.specs.Standings.{Standing, application_at, standing_of, within_object}
 use Rattle.evaluator.specs.Findings.{Finds, FindsObject}
 use Rattle.evaluator.specs.Notes.{added, kept_annotations, outcome_notes, uses_notes}
 use Rattle.evaluator.specs.Rounds.{IsAt}

@@ -18,8 +18,8 @@ use Rattle.keyword_plans.specs.Subjects.{subject_value}
 use Rattle.keyword_plans.specs.declared.planned.Planned.{Planned}
 use Rattle.keyword_plans.specs.declared.planned.Chosen.{Chosen}
 use Rattle.keyword_plans.specs.declared.planned.Chosen.TheVariants.{Below, Target}
-use Rattle.applications.specs.Frames.{Frame, standing}
-use Rattle.applications.specs.Standings.{Standing, application_at, standing_of}
+use Rattle.evaluation_context.specs.Frames.{Frame, standing}
+use Rattle.evaluation_context.specs.Standings.{Standing, application_at, standing_of}
 use Rattle.evaluator.specs.Findings.{Finds, IsWithin, AreWithin, FindsAll, Outcomes, count_of}
 use Rattle.evaluator.specs.Notes.{Notes, added, part_notes, parts_notes}
 use Rattle.evaluator.specs.Rounds.{IsAt, IsKnown, chosen_value}

@@ -14,7 +14,7 @@ use Rattle.linker.specs.declared.linked.Linked.{Linked}
 use Rattle.keyword_plans.specs.Rows.{row_of}
 use Rattle.keyword_plans.specs.Sites.{linked_rules}
 use Rattle.keyword_plans.specs.declared.keyword.Keyword.TheVariants.{Ref, If, Then, Else, Contains, MinContains, MaxContains, UnevaluatedItems, UnevaluatedProperties}
-use Rattle.applications.specs.Frames.{Frame}
+use Rattle.evaluation_context.specs.Frames.{Frame}
 use Rattle.evaluator.specs.Groups.{are_marked, has_name, in_order, place_in, places, rows_of}
 use Rattle.evaluator.specs.Rounds.{IsAt, group_uses, groups_uses, object_uses, said, unevaluated_uses}
 use Rattle.evaluator.specs.declared.groups.Group.{Group}

@@ -20,8 +20,8 @@ use Rattle.basic_output.specs.Units.{units_view}
 use Rattle.linker.specs.LinkedDocuments.{linked_documents, linked_schemas, linked_uri}
 use Rattle.linker.specs.declared.linked.Linked.{Linked}
 use Rattle.keyword_plans.specs.Sites.{linked_rules}
-use Rattle.applications.specs.Frames.{Frame, standing}
-use Rattle.applications.specs.Standings.{application_at}
+use Rattle.evaluation_context.specs.Frames.{Frame, standing}
+use Rattle.evaluation_context.specs.Standings.{application_at}
 use Rattle.evaluator.specs.Logs.{notes}
 use Rattle.evaluator.specs.Notes.{Notes, added, nothing, outcome_notes}
 use Rattle.evaluator.specs.declared.report.Report.{Report}

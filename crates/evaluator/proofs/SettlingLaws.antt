@@ -21,8 +21,8 @@ use Rattle.keyword_plans.specs.declared.keyword.Keyword.TheVariants as keyword
 use Rattle.keyword_plans.specs.declared.keyword.Keyword.TheVariants.{Ref, DynamicRef, Asserts, Pattern, AllOf, AnyOf, OneOf, Not, If, Then, Else, DependentSchemas, PrefixItems, Items, MinContains, MaxContains, Properties, PatternProperties, AdditionalProperties, PropertyNames, UnevaluatedItems, UnevaluatedProperties}
 use Rattle.keyword_plans.specs.declared.planned.Planned.{Planned}
 use Rattle.assertions.specs.declared.assertion.Assertion.TheVariants.{TypeIs, EnumOf, ConstIs, MultipleOf, Maximum, ExclusiveMaximum, Minimum, ExclusiveMinimum, MaxLength, MinLength, MaxProperties, MinProperties, Required, DependentRequired, MaxItems, MinItems, UniqueItems}
-use Rattle.applications.specs.Frames.{Frame, standing}
-use Rattle.applications.specs.Standings.{at_keyword, standing_of}
+use Rattle.evaluation_context.specs.Frames.{Frame, standing}
+use Rattle.evaluation_context.specs.Standings.{at_keyword, standing_of}
 use Rattle.evaluator.specs.Findings.{FindsAll, FindsUse, count_of, use_count}
 use Rattle.evaluator.specs.declared.found.Applied as found
 use Rattle.evaluator.specs.declared.found.Found.{Found}

@@ -16,8 +16,8 @@ use Rattle.keyword_plans.specs.declared.keyword.Keyword.TheVariants.{Unevaluated
 use Rattle.keyword_plans.specs.declared.planned.Planned.{Planned}
 use Rattle.keyword_plans.specs.declared.planned.Chosen.{Chosen}
 use Rattle.keyword_plans.specs.declared.planned.Chosen.TheVariants.{Below, Target}
-use Rattle.applications.specs.Frames.{Frame, standing}
-use Rattle.applications.specs.Standings.{application_at, at_keyword, standing_of}
+use Rattle.evaluation_context.specs.Frames.{Frame, standing}
+use Rattle.evaluation_context.specs.Standings.{application_at, at_keyword, standing_of}
 use Rattle.evaluator.specs.Findings.{Outcomes}
 use Rattle.evaluator.specs.Groups.{in_order, rows_of}
 use Rattle.evaluator.specs.Notes.{Notes, added, nothing, outcome_notes, uses_notes}

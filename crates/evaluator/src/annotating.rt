@@ -6,8 +6,8 @@ ghost use Rattle.definitions.specs.Evaluated.{is_annotation};
 ghost use Rattle.definitions.specs.Keywords.{is_keyword_of, keywords};
 ghost use Rattle.definitions.specs.Outcomes.{other_annotations, unit};
 ghost use Rattle.json_doc.specs.Docs.{value, members_value};
-ghost use Rattle.applications.specs.Frames.{frame, standing};
-ghost use Rattle.applications.specs.Standings.{standing_of};
+ghost use Rattle.evaluation_context.specs.Frames.{frame, standing};
+ghost use Rattle.evaluation_context.specs.Standings.{standing_of};
 ghost use Rattle.evaluator.specs.Annotations.{annotations_among, declaring};
 ghost use Rattle.evaluator.specs.Logs.{notes};
 ghost use Rattle.evaluator.specs.Notes.{added, nothing};
@@ -15,8 +15,8 @@ ghost use Rattle.keyword_plans.specs.Subjects.{subject_value};
 
 use crate::log::Log;
 use crate::places::is_evaluated;
-use applications::Context;
 use basic_output::Says;
+use evaluation_context::Context;
 use json_doc::{Doc, Members};
 use keyword_plans::Subject;
 use std::alloc::AllocError;
@@ -30,8 +30,10 @@ pub(crate) fn note_others<'a>(
     subject: Subject<'a>,
 ) -> Result<(), AllocError>
     ensures back { OnOk result (frame context.new ≡ frame context.old) }
-    ensures noted { (a : Application) → standing (frame context.old) ≡ standing_of a → a.schema.value ≡ value schema.now → a.instance ≡ subject_value subject.entry
-        → OnOk result (notes log.new ≡ added (notes log.old) (record nothing { annotations = other_annotations a })) }
+    ensures noted { (a : Application) → standing (frame context.old) ≡ standing_of a
+        → a.schema.value ≡ value schema.now → a.instance ≡ subject_value subject.entry
+        → OnOk result (notes log.new
+        ≡ added (notes log.old) (record nothing { annotations = other_annotations a })) }
 {
     match schema.as_dict() {
         Some(members) => note_members(context, log, schema, members, subject),
@@ -47,8 +49,13 @@ fn note_members<'a>(
     subject: Subject<'a>,
 ) -> Result<(), AllocError>
     ensures back { OnOk result (frame context.new ≡ frame context.old) }
-    ensures noted { (a : Application) → standing (frame context.old) ≡ standing_of a → a.schema.value ≡ value schema.now → a.instance ≡ subject_value subject.entry
-        → OnOk result (notes log.new ≡ added (notes log.old) (record nothing { annotations = annotations_among a (members_value members.now) })) }
+    ensures noted { (a : Application) → standing (frame context.old) ≡ standing_of a
+        → a.schema.value ≡ value schema.now → a.instance ≡ subject_value subject.entry
+        → OnOk result (notes log.new
+        ≡ added (notes log.old) (record nothing {
+          annotations = annotations_among a
+              (members_value members.now);
+        })) }
 {
     for (name, member) in members.iter() {
         if annotates(name, schema, subject) {
@@ -66,7 +73,11 @@ fn note_member<'a>(
 ) -> Result<(), AllocError>
     ensures back { OnOk result (frame context.new ≡ frame context.old) }
     ensures noted { (a : Application) → standing (frame context.old) ≡ standing_of a
-        → OnOk result (notes log.new ≡ added (notes log.old) (record nothing { annotations = unit a name.now (value member.now) ∷ [] })) }
+        → OnOk result (notes log.new
+        ≡ added (notes log.old) (record nothing {
+          annotations = unit a name.now (value member.now)
+              ∷ [];
+        })) }
 {
     context.enter_keyword(name)?;
     log.push_annotation(context.location(), Says::Value(member))?;

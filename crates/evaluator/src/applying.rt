@@ -12,8 +12,8 @@ use crate::log::{Before, Log, LogMark};
 use crate::present::Present;
 use crate::settling::{evaluated_since, settle};
 use crate::settling_object::settle_object;
-use applications::Context;
 use basic_output::Says;
+use evaluation_context::Context;
 use faults::Fault;
 use json_doc::Doc;
 use keyword_plans::{Chosen, Keyword, Planned, Site, Subject, Tally, passes, plan};
@@ -41,8 +41,8 @@ impl<'a> Evaluation<'a> {
     ghost use Rattle.keyword_plans.specs.Rows.{row_of};
     ghost use Rattle.keyword_plans.specs.Sites.{linked_rules};
     ghost use Rattle.keyword_plans.specs.Subjects.{subject_value};
-    ghost use Rattle.applications.specs.Frames.{Frame, frame, keyword_entered, standing};
-    ghost use Rattle.applications.specs.Standings.{application_at};
+    ghost use Rattle.evaluation_context.specs.Frames.{Frame, frame, keyword_entered, standing};
+    ghost use Rattle.evaluation_context.specs.Standings.{application_at};
     ghost use Rattle.evaluator.specs.Findings.{AreWithin, Finds, FindsAll, FindsObject, FindsUse, FindsUses, IsWithin, count_of, use_count};
     ghost use Rattle.evaluator.specs.Groups.{are_marked, in_order, stands_alone};
     ghost use Rattle.evaluator.specs.declared.groups.Group.TheVariants.{One, Conditional, Counted};
@@ -64,12 +64,20 @@ impl<'a> Evaluation<'a> {
         ensures linked { self.new.linked ≡ self.old.linked }
         ensures back { OnOk result (frame self.new.context ≡ frame self.old.context) }
         ensures within { IfOk result (λ f. IsWithin f budget) }
-        ensures found { (a : Application) → IsAt self.old.linked.now (frame self.old.context) (value schema.now) (subject_value subject.entry) a
+        ensures found { (a : Application)
+            → IsAt self.old.linked.now (frame self.old.context) (value schema.now)
+            (subject_value subject.entry) a
             → IfOk result (λ f. Finds f budget (said self.old.linked.now left a)) }
-        ensures noted { (a : Application) → IsAt self.old.linked.now (frame self.old.context) (value schema.now) (subject_value subject.entry) a
-            → OnOk result (notes self.new.log ≡ added (notes self.old.log) (outcome_notes (said self.old.linked.now left a))) }
-        ensures err { (a : Application) → IsAt self.old.linked.now (frame self.old.context) (value schema.now) (subject_value subject.entry) a
-            → IfErr result (λ f. f ≢ Fault.NoRoom → (f ≡ Fault.Costly) × (budget < (said self.old.linked.now left a).count)) }
+        ensures noted { (a : Application)
+            → IsAt self.old.linked.now (frame self.old.context) (value schema.now)
+            (subject_value subject.entry) a
+            → OnOk result (notes self.new.log
+            ≡ added (notes self.old.log) (outcome_notes (said self.old.linked.now left a))) }
+        ensures err { (a : Application)
+            → IsAt self.old.linked.now (frame self.old.context) (value schema.now)
+            (subject_value subject.entry) a
+            → IfErr result (λ f. f ≢ Fault.NoRoom
+            → (f ≡ Fault.Costly) × (budget < (said self.old.linked.now left a).count)) }
     {
         if budget == 0 {
             return Err(Fault::Costly);
@@ -85,8 +93,10 @@ impl<'a> Evaluation<'a> {
         ensures linked { self.new.linked ≡ self.old.linked }
         ensures back { OnOk result (frame self.new.context ≡ frame self.old.context) }
         ensures found { IfOk result (λ f. f ≡ boolean_found left allowed) }
-        ensures noted { (a : Application) (s x : Value) → a ≡ application_at (standing (frame self.old.context)) s x
-            → OnOk result (notes self.new.log ≡ added (notes self.old.log) (boolean_notes left a allowed)) }
+        ensures noted { (a : Application) (s x : Value)
+            → a ≡ application_at (standing (frame self.old.context)) s x
+            → OnOk result (notes self.new.log
+            ≡ added (notes self.old.log) (boolean_notes left a allowed)) }
         ensures err { IfErr result (λ f. f ≡ Fault.NoRoom) }
     {
         if left == 0 {
@@ -99,8 +109,10 @@ impl<'a> Evaluation<'a> {
     fn note_boolean(&mut self, allowed: bool) -> Result<(), Fault>
         ensures linked { self.new.linked ≡ self.old.linked }
         ensures back { self.new.context ≡ self.old.context }
-        ensures noted { (a : Application) (s x : Value) → a ≡ application_at (standing (frame self.old.context)) s x
-            → OnOk result (notes self.new.log ≡ added (notes self.old.log) (outcome_notes (boolean_outcome a allowed))) }
+        ensures noted { (a : Application) (s x : Value)
+            → a ≡ application_at (standing (frame self.old.context)) s x
+            → OnOk result (notes self.new.log
+            ≡ added (notes self.old.log) (outcome_notes (boolean_outcome a allowed))) }
         ensures err { IfErr result (λ f. f ≡ Fault.NoRoom) }
     {
         if allowed {
@@ -125,12 +137,20 @@ impl<'a> Evaluation<'a> {
         ensures linked { self.new.linked ≡ self.old.linked }
         ensures back { OnOk result (frame self.new.context ≡ frame self.old.context) }
         ensures within { IfOk result (λ f. IsWithin f budget) }
-        ensures found { (a : Application) → IsAt self.old.linked.now (frame self.old.context) (value schema.now) (subject_value subject.entry) a
+        ensures found { (a : Application)
+            → IsAt self.old.linked.now (frame self.old.context) (value schema.now)
+            (subject_value subject.entry) a
             → IfOk result (λ f. Finds f budget (said self.old.linked.now left a)) }
-        ensures noted { (a : Application) → IsAt self.old.linked.now (frame self.old.context) (value schema.now) (subject_value subject.entry) a
-            → OnOk result (notes self.new.log ≡ added (notes self.old.log) (outcome_notes (said self.old.linked.now left a))) }
-        ensures err { (a : Application) → IsAt self.old.linked.now (frame self.old.context) (value schema.now) (subject_value subject.entry) a
-            → IfErr result (λ f. f ≢ Fault.NoRoom → (f ≡ Fault.Costly) × (budget < (said self.old.linked.now left a).count)) }
+        ensures noted { (a : Application)
+            → IsAt self.old.linked.now (frame self.old.context) (value schema.now)
+            (subject_value subject.entry) a
+            → OnOk result (notes self.new.log
+            ≡ added (notes self.old.log) (outcome_notes (said self.old.linked.now left a))) }
+        ensures err { (a : Application)
+            → IsAt self.old.linked.now (frame self.old.context) (value schema.now)
+            (subject_value subject.entry) a
+            → IfErr result (λ f. f ≢ Fault.NoRoom
+            → (f ≡ Fault.Costly) × (budget < (said self.old.linked.now left a).count)) }
     {
         if self.is_looping(schema) {
             return Ok(Found::leaf(true, false));
@@ -143,7 +163,8 @@ impl<'a> Evaluation<'a> {
 
     /// Whether this schema is being applied here already.
     fn is_looping(&self, schema: &Doc) -> bool
-        ensures { (x : Value) → result ≡ is_running (application_at (standing (frame self.now.context)) (value schema.now) x) }
+        ensures { (x : Value) → result
+            ≡ is_running (application_at (standing (frame self.now.context)) (value schema.now) x) }
     {
         is_object(schema) && self.context.is_running()
     }
@@ -161,12 +182,25 @@ impl<'a> Evaluation<'a> {
         ensures linked { self.new.linked ≡ self.old.linked }
         ensures back { OnOk result (frame self.new.context ≡ frame self.old.context) }
         ensures within { IfOk result (λ f. IsWithin f budget) }
-        ensures found { (a : Application) → IsAt self.old.linked.now (frame self.old.context) (value schema.now) (subject_value subject.entry) a
-            → IfOk result (λ f. Finds f budget (object_outcome (linked_rules self.old.linked.now) (said self.old.linked.now left) a)) }
-        ensures noted { (a : Application) → IsAt self.old.linked.now (frame self.old.context) (value schema.now) (subject_value subject.entry) a
-            → OnOk result (notes self.new.log ≡ added (notes self.old.log) (outcome_notes (object_outcome (linked_rules self.old.linked.now) (said self.old.linked.now left) a))) }
-        ensures err { (a : Application) → IsAt self.old.linked.now (frame self.old.context) (value schema.now) (subject_value subject.entry) a
-            → IfErr result (λ f. f ≢ Fault.NoRoom → (f ≡ Fault.Costly) × (budget < (object_outcome (linked_rules self.old.linked.now) (said self.old.linked.now left) a).count)) }
+        ensures found { (a : Application)
+            → IsAt self.old.linked.now (frame self.old.context) (value schema.now)
+            (subject_value subject.entry) a
+            → IfOk result (λ f. Finds f budget
+            (object_outcome (linked_rules self.old.linked.now) (said self.old.linked.now left) a)) }
+        ensures noted { (a : Application)
+            → IsAt self.old.linked.now (frame self.old.context) (value schema.now)
+            (subject_value subject.entry) a
+            → OnOk result (notes self.new.log
+            ≡ added (notes self.old.log)
+            (outcome_notes (object_outcome (linked_rules self.old.linked.now)
+            (said self.old.linked.now left) a))) }
+        ensures err { (a : Application)
+            → IsAt self.old.linked.now (frame self.old.context) (value schema.now)
+            (subject_value subject.entry) a
+            → IfErr result (λ f. f ≢ Fault.NoRoom
+            → (f ≡ Fault.Costly) × (budget
+            < (object_outcome (linked_rules self.old.linked.now)
+            (said self.old.linked.now left) a).count)) }
     {
         let mark = self.log.mark();
         self.context.enter_object()?;
@@ -202,12 +236,21 @@ impl<'a> Evaluation<'a> {
         ensures linked { self.new.linked ≡ self.old.linked }
         ensures back { OnOk result (frame self.new.context ≡ frame self.old.context) }
         ensures within { IfOk result (λ f. IsWithin f budget) }
-        ensures found { (a : Application) → IsAt self.old.linked.now (frame self.old.context) (value schema.now) (subject_value subject.entry) a
+        ensures found { (a : Application)
+            → IsAt self.old.linked.now (frame self.old.context) (value schema.now)
+            (subject_value subject.entry) a
             → IfOk result (λ f. FindsObject f budget (object_uses self.old.linked.now left a)) }
-        ensures noted { (a : Application) → IsAt self.old.linked.now (frame self.old.context) (value schema.now) (subject_value subject.entry) a
-            → OnOk result (notes self.new.log ≡ added (notes self.old.log) (uses_notes a (object_uses self.old.linked.now left a))) }
-        ensures err { (a : Application) → IsAt self.old.linked.now (frame self.old.context) (value schema.now) (subject_value subject.entry) a
-            → IfErr result (λ f. f ≢ Fault.NoRoom → (f ≡ Fault.Costly) × (budget < suc (use_count (object_uses self.old.linked.now left a)))) }
+        ensures noted { (a : Application)
+            → IsAt self.old.linked.now (frame self.old.context) (value schema.now)
+            (subject_value subject.entry) a
+            → OnOk result (notes self.new.log
+            ≡ added (notes self.old.log) (uses_notes a (object_uses self.old.linked.now left a))) }
+        ensures err { (a : Application)
+            → IsAt self.old.linked.now (frame self.old.context) (value schema.now)
+            (subject_value subject.entry) a
+            → IfErr result (λ f. f ≢ Fault.NoRoom
+            → (f ≡ Fault.Costly) × (budget
+            < suc (use_count (object_uses self.old.linked.now left a)))) }
     {
         let present = Present::of(schema);
         match self.use_groups(schema, &present, subject, before, left, budget) {
@@ -253,12 +296,23 @@ impl<'a> Evaluation<'a> {
         ensures linked { self.new.linked ≡ self.old.linked }
         ensures back { OnOk result (frame self.new.context ≡ frame self.old.context) }
         ensures within { IfOk result (λ f. IsWithin f budget) }
-        ensures found { (a : Application) → IsAt self.old.linked.now (frame self.old.context) (value schema.now) (subject_value subject.entry) a
-            → IfOk result (λ f. FindsObject f budget (groups_uses self.old.linked.now left a in_order)) }
-        ensures noted { (a : Application) → IsAt self.old.linked.now (frame self.old.context) (value schema.now) (subject_value subject.entry) a
-            → OnOk result (notes self.new.log ≡ added (notes self.old.log) (uses_notes a (groups_uses self.old.linked.now left a in_order))) }
-        ensures err { (a : Application) → IsAt self.old.linked.now (frame self.old.context) (value schema.now) (subject_value subject.entry) a
-            → IfErr result (λ f. f ≢ Fault.NoRoom → (f ≡ Fault.Costly) × (budget < suc (use_count (groups_uses self.old.linked.now left a in_order)))) }
+        ensures found { (a : Application)
+            → IsAt self.old.linked.now (frame self.old.context) (value schema.now)
+            (subject_value subject.entry) a
+            → IfOk result (λ f. FindsObject f budget
+            (groups_uses self.old.linked.now left a in_order)) }
+        ensures noted { (a : Application)
+            → IsAt self.old.linked.now (frame self.old.context) (value schema.now)
+            (subject_value subject.entry) a
+            → OnOk result (notes self.new.log
+            ≡ added (notes self.old.log)
+            (uses_notes a (groups_uses self.old.linked.now left a in_order))) }
+        ensures err { (a : Application)
+            → IsAt self.old.linked.now (frame self.old.context) (value schema.now)
+            (subject_value subject.entry) a
+            → IfErr result (λ f. f ≢ Fault.NoRoom
+            → (f ≡ Fault.Costly) × (budget
+            < suc (use_count (groups_uses self.old.linked.now left a in_order)))) }
     {
         let mut found = Found::boolean(true);
         for (place, group) in groups().iter().enumerate() {
@@ -287,12 +341,22 @@ impl<'a> Evaluation<'a> {
         ensures linked { self.new.linked ≡ self.old.linked }
         ensures back { OnOk result (frame self.new.context ≡ frame self.old.context) }
         ensures within { IfOk result (λ f. f.count ≤ budget) }
-        ensures found { (a : Application) → IsAt self.old.linked.now (frame self.old.context) (value schema.now) (subject_value subject.entry) a
+        ensures found { (a : Application)
+            → IsAt self.old.linked.now (frame self.old.context) (value schema.now)
+            (subject_value subject.entry) a
             → IfOk result (λ f. FindsUses f budget (group_uses self.old.linked.now left a group)) }
-        ensures noted { (a : Application) → IsAt self.old.linked.now (frame self.old.context) (value schema.now) (subject_value subject.entry) a
-            → OnOk result (notes self.new.log ≡ added (notes self.old.log) (uses_notes a (group_uses self.old.linked.now left a group))) }
-        ensures err { (a : Application) → IsAt self.old.linked.now (frame self.old.context) (value schema.now) (subject_value subject.entry) a
-            → IfErr result (λ f. f ≢ Fault.NoRoom → (f ≡ Fault.Costly) × (budget < use_count (group_uses self.old.linked.now left a group))) }
+        ensures noted { (a : Application)
+            → IsAt self.old.linked.now (frame self.old.context) (value schema.now)
+            (subject_value subject.entry) a
+            → OnOk result (notes self.new.log
+            ≡ added (notes self.old.log)
+            (uses_notes a (group_uses self.old.linked.now left a group))) }
+        ensures err { (a : Application)
+            → IsAt self.old.linked.now (frame self.old.context) (value schema.now)
+            (subject_value subject.entry) a
+            → IfErr result (λ f. f ≢ Fault.NoRoom
+            → (f ≡ Fault.Costly) × (budget
+            < use_count (group_uses self.old.linked.now left a group))) }
     {
         match group {
             Group::One(keyword) => self.use_one(keyword, schema, subject, before, left, budget),
@@ -316,12 +380,23 @@ impl<'a> Evaluation<'a> {
         ensures linked { self.new.linked ≡ self.old.linked }
         ensures back { OnOk result (frame self.new.context ≡ frame self.old.context) }
         ensures within { IfOk result (λ f. f.count ≤ budget) }
-        ensures found { (a : Application) → IsAt self.old.linked.now (frame self.old.context) (value schema.now) (subject_value subject.entry) a
-            → IfOk result (λ f. FindsUses f budget (group_uses self.old.linked.now left a (One keyword))) }
-        ensures noted { (a : Application) → IsAt self.old.linked.now (frame self.old.context) (value schema.now) (subject_value subject.entry) a
-            → OnOk result (notes self.new.log ≡ added (notes self.old.log) (uses_notes a (group_uses self.old.linked.now left a (One keyword)))) }
-        ensures err { (a : Application) → IsAt self.old.linked.now (frame self.old.context) (value schema.now) (subject_value subject.entry) a
-            → IfErr result (λ f. f ≢ Fault.NoRoom → (f ≡ Fault.Costly) × (budget < use_count (group_uses self.old.linked.now left a (One keyword)))) }
+        ensures found { (a : Application)
+            → IsAt self.old.linked.now (frame self.old.context) (value schema.now)
+            (subject_value subject.entry) a
+            → IfOk result (λ f. FindsUses f budget
+            (group_uses self.old.linked.now left a (One keyword))) }
+        ensures noted { (a : Application)
+            → IsAt self.old.linked.now (frame self.old.context) (value schema.now)
+            (subject_value subject.entry) a
+            → OnOk result (notes self.new.log
+            ≡ added (notes self.old.log)
+            (uses_notes a (group_uses self.old.linked.now left a (One keyword)))) }
+        ensures err { (a : Application)
+            → IsAt self.old.linked.now (frame self.old.context) (value schema.now)
+            (subject_value subject.entry) a
+            → IfErr result (λ f. f ≢ Fault.NoRoom
+            → (f ≡ Fault.Costly) × (budget
+            < use_count (group_uses self.old.linked.now left a (One keyword)))) }
     {
         let beside = Beside {
             condition: None,
@@ -346,12 +421,23 @@ impl<'a> Evaluation<'a> {
         ensures linked { self.new.linked ≡ self.old.linked }
         ensures back { OnOk result (frame self.new.context ≡ frame self.old.context) }
         ensures within { IfOk result (λ f. f.count ≤ budget) }
-        ensures found { (a : Application) → IsAt self.old.linked.now (frame self.old.context) (value schema.now) (subject_value subject.entry) a
-            → IfOk result (λ f. FindsUses f budget (group_uses self.old.linked.now left a Conditional)) }
-        ensures noted { (a : Application) → IsAt self.old.linked.now (frame self.old.context) (value schema.now) (subject_value subject.entry) a
-            → OnOk result (notes self.new.log ≡ added (notes self.old.log) (uses_notes a (group_uses self.old.linked.now left a Conditional))) }
-        ensures err { (a : Application) → IsAt self.old.linked.now (frame self.old.context) (value schema.now) (subject_value subject.entry) a
-            → IfErr result (λ f. f ≢ Fault.NoRoom → (f ≡ Fault.Costly) × (budget < use_count (group_uses self.old.linked.now left a Conditional))) }
+        ensures found { (a : Application)
+            → IsAt self.old.linked.now (frame self.old.context) (value schema.now)
+            (subject_value subject.entry) a
+            → IfOk result (λ f. FindsUses f budget
+            (group_uses self.old.linked.now left a Conditional)) }
+        ensures noted { (a : Application)
+            → IsAt self.old.linked.now (frame self.old.context) (value schema.now)
+            (subject_value subject.entry) a
+            → OnOk result (notes self.new.log
+            ≡ added (notes self.old.log)
+            (uses_notes a (group_uses self.old.linked.now left a Conditional))) }
+        ensures err { (a : Application)
+            → IsAt self.old.linked.now (frame self.old.context) (value schema.now)
+            (subject_value subject.entry) a
+            → IfErr result (λ f. f ≢ Fault.NoRoom
+            → (f ≡ Fault.Costly) × (budget
+            < use_count (group_uses self.old.linked.now left a Conditional))) }
     {
         let nothing = Beside {
             condition: None,
@@ -394,12 +480,23 @@ impl<'a> Evaluation<'a> {
         ensures linked { self.new.linked ≡ self.old.linked }
         ensures back { OnOk result (frame self.new.context ≡ frame self.old.context) }
         ensures within { IfOk result (λ f. f.count ≤ budget) }
-        ensures found { (a : Application) → IsAt self.old.linked.now (frame self.old.context) (value schema.now) (subject_value subject.entry) a
-            → IfOk result (λ f. FindsUses f budget (group_uses self.old.linked.now left a Counted)) }
-        ensures noted { (a : Application) → IsAt self.old.linked.now (frame self.old.context) (value schema.now) (subject_value subject.entry) a
-            → OnOk result (notes self.new.log ≡ added (notes self.old.log) (uses_notes a (group_uses self.old.linked.now left a Counted))) }
-        ensures err { (a : Application) → IsAt self.old.linked.now (frame self.old.context) (value schema.now) (subject_value subject.entry) a
-            → IfErr result (λ f. f ≢ Fault.NoRoom → (f ≡ Fault.Costly) × (budget < use_count (group_uses self.old.linked.now left a Counted))) }
+        ensures found { (a : Application)
+            → IsAt self.old.linked.now (frame self.old.context) (value schema.now)
+            (subject_value subject.entry) a
+            → IfOk result (λ f. FindsUses f budget
+            (group_uses self.old.linked.now left a Counted)) }
+        ensures noted { (a : Application)
+            → IsAt self.old.linked.now (frame self.old.context) (value schema.now)
+            (subject_value subject.entry) a
+            → OnOk result (notes self.new.log
+            ≡ added (notes self.old.log)
+            (uses_notes a (group_uses self.old.linked.now left a Counted))) }
+        ensures err { (a : Application)
+            → IsAt self.old.linked.now (frame self.old.context) (value schema.now)
+            (subject_value subject.entry) a
+            → IfErr result (λ f. f ≢ Fault.NoRoom
+            → (f ≡ Fault.Costly) × (budget
+            < use_count (group_uses self.old.linked.now left a Counted))) }
     {
         let nothing = Beside {
             condition: None,
@@ -453,15 +550,31 @@ impl<'a> Evaluation<'a> {
         ensures linked { self.new.linked ≡ self.old.linked }
         ensures back { OnOk result (frame self.new.context ≡ frame self.old.context) }
         ensures within { IfOk result (λ f. f.count ≤ budget) }
-        ensures found { (a : Application) → IsAt self.old.linked.now (frame self.old.context) (value schema.now) (subject_value subject.entry) a
-            → Knows self.old.linked.now left a (row_of first).meaning beside → Knows self.old.linked.now left a (row_of second).meaning beside
-            → IfOk result (λ f. FindsUses f budget (two_uses self.old.linked.now left a first second before (notes self.old.log))) }
-        ensures noted { (a : Application) → IsAt self.old.linked.now (frame self.old.context) (value schema.now) (subject_value subject.entry) a
-            → Knows self.old.linked.now left a (row_of first).meaning beside → Knows self.old.linked.now left a (row_of second).meaning beside
-            → OnOk result (notes self.new.log ≡ added (notes self.old.log) (uses_notes a (two_uses self.old.linked.now left a first second before (notes self.old.log)))) }
-        ensures err { (a : Application) → IsAt self.old.linked.now (frame self.old.context) (value schema.now) (subject_value subject.entry) a
-            → Knows self.old.linked.now left a (row_of first).meaning beside → Knows self.old.linked.now left a (row_of second).meaning beside
-            → IfErr result (λ f. f ≢ Fault.NoRoom → (f ≡ Fault.Costly) × (budget < use_count (two_uses self.old.linked.now left a first second before (notes self.old.log)))) }
+        ensures found { (a : Application)
+            → IsAt self.old.linked.now (frame self.old.context) (value schema.now)
+            (subject_value subject.entry) a
+            → Knows self.old.linked.now left a (row_of first).meaning beside
+            → Knows self.old.linked.now left a (row_of second).meaning beside
+            → IfOk result (λ f. FindsUses f budget
+            (two_uses self.old.linked.now left a first second before (notes self.old.log))) }
+        ensures noted { (a : Application)
+            → IsAt self.old.linked.now (frame self.old.context) (value schema.now)
+            (subject_value subject.entry) a
+            → Knows self.old.linked.now left a (row_of first).meaning beside
+            → Knows self.old.linked.now left a (row_of second).meaning beside
+            → OnOk result (notes self.new.log
+            ≡ added (notes self.old.log)
+            (uses_notes a (two_uses self.old.linked.now left a first second before
+            (notes self.old.log)))) }
+        ensures err { (a : Application)
+            → IsAt self.old.linked.now (frame self.old.context) (value schema.now)
+            (subject_value subject.entry) a
+            → Knows self.old.linked.now left a (row_of first).meaning beside
+            → Knows self.old.linked.now left a (row_of second).meaning beside
+            → IfErr result (λ f. f ≢ Fault.NoRoom
+            → (f ≡ Fault.Costly) × (budget
+            < use_count (two_uses self.old.linked.now left a first second before
+            (notes self.old.log)))) }
     {
         match self.use_named(first, schema, subject, before, beside, left, budget) {
             Ok(used) => match self.use_named(
@@ -495,15 +608,28 @@ impl<'a> Evaluation<'a> {
         ensures linked { self.new.linked ≡ self.old.linked }
         ensures back { OnOk result (frame self.new.context ≡ frame self.old.context) }
         ensures within { IfOk result (λ u. u.found.count ≤ budget) }
-        ensures found { (a : Application) → IsAt self.old.linked.now (frame self.old.context) (value schema.now) (subject_value subject.entry) a
+        ensures found { (a : Application)
+            → IsAt self.old.linked.now (frame self.old.context) (value schema.now)
+            (subject_value subject.entry) a
             → Knows self.old.linked.now left a (row_of keyword).meaning beside
-            → IfOk result (λ u. FindsUse u budget (uses_since self.old.linked.now left a keyword before (notes self.old.log))) }
-        ensures noted { (a : Application) → IsAt self.old.linked.now (frame self.old.context) (value schema.now) (subject_value subject.entry) a
+            → IfOk result (λ u. FindsUse u budget
+            (uses_since self.old.linked.now left a keyword before (notes self.old.log))) }
+        ensures noted { (a : Application)
+            → IsAt self.old.linked.now (frame self.old.context) (value schema.now)
+            (subject_value subject.entry) a
             → Knows self.old.linked.now left a (row_of keyword).meaning beside
-            → OnOk result (notes self.new.log ≡ added (notes self.old.log) (uses_notes a (uses_since self.old.linked.now left a keyword before (notes self.old.log)))) }
-        ensures err { (a : Application) → IsAt self.old.linked.now (frame self.old.context) (value schema.now) (subject_value subject.entry) a
+            → OnOk result (notes self.new.log
+            ≡ added (notes self.old.log)
+            (uses_notes a (uses_since self.old.linked.now left a keyword before
+            (notes self.old.log)))) }
+        ensures err { (a : Application)
+            → IsAt self.old.linked.now (frame self.old.context) (value schema.now)
+            (subject_value subject.entry) a
             → Knows self.old.linked.now left a (row_of keyword).meaning beside
-            → IfErr result (λ f. f ≢ Fault.NoRoom → (f ≡ Fault.Costly) × (budget < use_count (uses_since self.old.linked.now left a keyword before (notes self.old.log)))) }
+            → IfErr result (λ f. f ≢ Fault.NoRoom
+            → (f ≡ Fault.Costly) × (budget
+            < use_count (uses_since self.old.linked.now left a keyword before
+            (notes self.old.log)))) }
     {
         match schema.get(keyword.name()) {
             Some(keyword_value) => self.use_keyword(
@@ -539,18 +665,34 @@ impl<'a> Evaluation<'a> {
         ensures linked { self.new.linked ≡ self.old.linked }
         ensures back { OnOk result (frame self.new.context ≡ frame self.old.context) }
         ensures within { IfOk result (λ u. u.found.count ≤ budget) }
-        ensures found { (a : Application) → IsAt self.old.linked.now (frame self.old.context) (value schema.now) (subject_value subject.entry) a
+        ensures found { (a : Application)
+            → IsAt self.old.linked.now (frame self.old.context) (value schema.now)
+            (subject_value subject.entry) a
             → Knows self.old.linked.now left a (row_of keyword).meaning beside
             → get (row_of keyword).name a.schema.value ≡ Some (value keyword_value.now)
-            → IfOk result (λ u. FindsUse u budget (uses_with self.old.linked.now left a keyword (names_since before (notes self.old.log)) (indexes_since before (notes self.old.log)) (Some (value keyword_value.now)))) }
-        ensures noted { (a : Application) → IsAt self.old.linked.now (frame self.old.context) (value schema.now) (subject_value subject.entry) a
+            → IfOk result (λ u. FindsUse u budget
+            (uses_with self.old.linked.now left a keyword (names_since before (notes self.old.log))
+            (indexes_since before (notes self.old.log)) (Some (value keyword_value.now)))) }
+        ensures noted { (a : Application)
+            → IsAt self.old.linked.now (frame self.old.context) (value schema.now)
+            (subject_value subject.entry) a
             → Knows self.old.linked.now left a (row_of keyword).meaning beside
             → get (row_of keyword).name a.schema.value ≡ Some (value keyword_value.now)
-            → OnOk result (notes self.new.log ≡ added (notes self.old.log) (uses_notes a (uses_with self.old.linked.now left a keyword (names_since before (notes self.old.log)) (indexes_since before (notes self.old.log)) (Some (value keyword_value.now))))) }
-        ensures err { (a : Application) → IsAt self.old.linked.now (frame self.old.context) (value schema.now) (subject_value subject.entry) a
+            → OnOk result (notes self.new.log
+            ≡ added (notes self.old.log)
+            (uses_notes a (uses_with self.old.linked.now left a keyword
+            (names_since before (notes self.old.log)) (indexes_since before (notes self.old.log))
+            (Some (value keyword_value.now))))) }
+        ensures err { (a : Application)
+            → IsAt self.old.linked.now (frame self.old.context) (value schema.now)
+            (subject_value subject.entry) a
             → Knows self.old.linked.now left a (row_of keyword).meaning beside
             → get (row_of keyword).name a.schema.value ≡ Some (value keyword_value.now)
-            → IfErr result (λ f. f ≢ Fault.NoRoom → (f ≡ Fault.Costly) × (budget < use_count (uses_with self.old.linked.now left a keyword (names_since before (notes self.old.log)) (indexes_since before (notes self.old.log)) (Some (value keyword_value.now))))) }
+            → IfErr result (λ f. f ≢ Fault.NoRoom
+            → (f ≡ Fault.Costly) × (budget
+            < use_count (uses_with self.old.linked.now left a keyword
+            (names_since before (notes self.old.log)) (indexes_since before (notes self.old.log))
+            (Some (value keyword_value.now))))) }
     {
         let mark = self.log.mark();
         let planned = self.plan_keyword(keyword, keyword_value, schema, subject, before, beside)?;
@@ -582,11 +724,14 @@ impl<'a> Evaluation<'a> {
         ensures linked { self.new.linked ≡ self.old.linked }
         ensures back { self.new.context ≡ self.old.context }
         ensures noted { self.new.log ≡ self.old.log }
-        ensures planned { (a : Application) (left : ℕ) → IsAt self.old.linked.now (frame self.old.context) (value schema.now) (subject_value subject.entry) a
+        ensures planned { (a : Application) (left : ℕ)
+            → IsAt self.old.linked.now (frame self.old.context) (value schema.now)
+            (subject_value subject.entry) a
             → Knows self.old.linked.now left a (row_of keyword).meaning beside
             → get (row_of keyword).name a.schema.value ≡ Some (value keyword_value.now)
             → IfOk result (λ ps. map (planned_view (row_of keyword).name a) ps.items
-            ≡ definition.applied (linked_rules self.old.linked.now) (said self.old.linked.now left) (names_since before (notes self.old.log)) (indexes_since before (notes self.old.log)) a
+            ≡ definition.applied (linked_rules self.old.linked.now) (said self.old.linked.now left)
+            (names_since before (notes self.old.log)) (indexes_since before (notes self.old.log)) a
             (row_of keyword).name (row_of keyword).meaning (value keyword_value.now)) }
         ensures err { IfErr result (λ f. f ≡ Fault.NoRoom) }
     {
@@ -622,17 +767,25 @@ impl<'a> Evaluation<'a> {
         applied: Applied,
     ) -> Result<Used, Fault>
         ensures linked { self.new.linked ≡ self.old.linked }
-        ensures back { (older : Frame) → frame self.old.context ≡ keyword_entered (row_of keyword).name older → OnOk result (frame self.new.context ≡ older) }
+        ensures back { (older : Frame)
+            → frame self.old.context ≡ keyword_entered (row_of keyword).name older
+            → OnOk result (frame self.new.context ≡ older) }
         ensures count { IfOk result (λ r. r.found.count ≡ applied.count) }
         ensures found { (a : Application) (left budget : ℕ) (names : List Text) (indexes : List ℕ)
-            → IsAtKeyword self.old.linked.now left (frame self.old.context) (value schema.now) (subject_value subject.entry) keyword (value keyword_value.now) beside a
-            → let u = use_there self.old.linked.now left a keyword names indexes (value keyword_value.now) in
+            → IsAtKeyword self.old.linked.now left (frame self.old.context) (value schema.now)
+            (subject_value subject.entry) keyword (value keyword_value.now) beside a
+            → let u = use_there self.old.linked.now left a keyword names indexes
+            (value keyword_value.now) in
             FindsAll applied budget u.outcomes → IfOk result (λ r. FindsUse r budget (u ∷ [])) }
-        ensures noted { (a : Application) (left : ℕ) (names : List Text) (indexes : List ℕ) (older : Notes)
-            → IsAtKeyword self.old.linked.now left (frame self.old.context) (value schema.now) (subject_value subject.entry) keyword (value keyword_value.now) beside a
-            → let u = use_there self.old.linked.now left a keyword names indexes (value keyword_value.now) in
+        ensures noted { (a : Application) (left : ℕ) (names : List Text) (indexes : List ℕ)
+            (older : Notes)
+            → IsAtKeyword self.old.linked.now left (frame self.old.context) (value schema.now)
+            (subject_value subject.entry) keyword (value keyword_value.now) beside a
+            → let u = use_there self.old.linked.now left a keyword names indexes
+            (value keyword_value.now) in
             applied.number ≡ length u.outcomes → applied.passing ≡ passing u.outcomes
-            → marked mark.now ≡ lengths older → notes self.old.log ≡ added older (parts_notes (row_of keyword).meaning u.outcomes)
+            → marked mark.now ≡ lengths older
+            → notes self.old.log ≡ added older (parts_notes (row_of keyword).meaning u.outcomes)
             → OnOk result (notes self.new.log ≡ added older (uses_notes a (u ∷ []))) }
         ensures err { IfErr result (λ f. f ≡ Fault.NoRoom) }
     {
@@ -668,8 +821,10 @@ impl<'a> Evaluation<'a> {
         ensures back { self.new.context ≡ self.old.context }
         ensures noted { self.new.log ≡ self.old.log }
         ensures passes { (a : Application) (left : ℕ) (names : List Text) (indexes : List ℕ)
-            → IsAtKeyword self.old.linked.now left (frame self.old.context) (value schema.now) (subject_value subject.entry) keyword (value keyword_value.now) beside a
-            → let u = use_there self.old.linked.now left a keyword names indexes (value keyword_value.now) in
+            → IsAtKeyword self.old.linked.now left (frame self.old.context) (value schema.now)
+            (subject_value subject.entry) keyword (value keyword_value.now) beside a
+            → let u = use_there self.old.linked.now left a keyword names indexes
+            (value keyword_value.now) in
             applied.number ≡ length u.outcomes → applied.passing ≡ passing u.outcomes
             → IfOk result (λ b. b ≡ u.passes) }
         ensures err { IfErr result (λ f. f ≡ Fault.NoRoom) }
@@ -708,14 +863,24 @@ impl<'a> Evaluation<'a> {
         ensures back { OnOk result (frame self.new.context ≡ frame self.old.context) }
         ensures within { IfOk result (λ f. AreWithin f budget) }
         ensures found { (a : Application) → IsUnder (frame self.old.context) (row_of keyword).name a
-            → ((p : Planned) → Contains planned.now.items p → IsKnown self.old.linked.now (row_of keyword).name a p)
-            → IfOk result (λ f. FindsAll f budget (part_outcomes self.old.linked.now left (row_of keyword).name a planned.now.items)) }
+            → ((p : Planned) → Contains planned.now.items p
+            → IsKnown self.old.linked.now (row_of keyword).name a p)
+            → IfOk result (λ f. FindsAll f budget
+            (part_outcomes self.old.linked.now left (row_of keyword).name a planned.now.items)) }
         ensures noted { (a : Application) → IsUnder (frame self.old.context) (row_of keyword).name a
-            → ((p : Planned) → Contains planned.now.items p → IsKnown self.old.linked.now (row_of keyword).name a p)
-            → OnOk result (notes self.new.log ≡ added (notes self.old.log) (parts_notes (row_of keyword).meaning (part_outcomes self.old.linked.now left (row_of keyword).name a planned.now.items))) }
+            → ((p : Planned) → Contains planned.now.items p
+            → IsKnown self.old.linked.now (row_of keyword).name a p)
+            → OnOk result (notes self.new.log
+            ≡ added (notes self.old.log)
+            (parts_notes (row_of keyword).meaning
+            (part_outcomes self.old.linked.now left (row_of keyword).name a planned.now.items))) }
         ensures err { (a : Application) → IsUnder (frame self.old.context) (row_of keyword).name a
-            → ((p : Planned) → Contains planned.now.items p → IsKnown self.old.linked.now (row_of keyword).name a p)
-            → IfErr result (λ f. f ≢ Fault.NoRoom → (f ≡ Fault.Costly) × (budget < count_of (part_outcomes self.old.linked.now left (row_of keyword).name a planned.now.items))) }
+            → ((p : Planned) → Contains planned.now.items p
+            → IsKnown self.old.linked.now (row_of keyword).name a p)
+            → IfErr result (λ f. f ≢ Fault.NoRoom
+            → (f ≡ Fault.Costly) × (budget
+            < count_of (part_outcomes self.old.linked.now left
+            (row_of keyword).name a planned.now.items))) }
     {
         let mut applied = Applied::none();
         for one in planned {
@@ -739,12 +904,22 @@ impl<'a> Evaluation<'a> {
         ensures linked { self.new.linked ≡ self.old.linked }
         ensures back { OnOk result (frame self.new.context ≡ frame self.old.context) }
         ensures within { IfOk result (λ f. IsWithin f budget) }
-        ensures found { (a : Application) → IsUnder (frame self.old.context) (row_of keyword).name a → IsKnown self.old.linked.now (row_of keyword).name a planned.now
-            → IfOk result (λ f. Finds f budget (part_outcome self.old.linked.now left (row_of keyword).name a planned.now).1) }
-        ensures noted { (a : Application) → IsUnder (frame self.old.context) (row_of keyword).name a → IsKnown self.old.linked.now (row_of keyword).name a planned.now
-            → OnOk result (notes self.new.log ≡ added (notes self.old.log) (part_notes (row_of keyword).meaning (part_outcome self.old.linked.now left (row_of keyword).name a planned.now))) }
-        ensures err { (a : Application) → IsUnder (frame self.old.context) (row_of keyword).name a → IsKnown self.old.linked.now (row_of keyword).name a planned.now
-            → IfErr result (λ f. f ≢ Fault.NoRoom → (f ≡ Fault.Costly) × (budget < (part_outcome self.old.linked.now left (row_of keyword).name a planned.now).1.count)) }
+        ensures found { (a : Application) → IsUnder (frame self.old.context) (row_of keyword).name a
+            → IsKnown self.old.linked.now (row_of keyword).name a planned.now
+            → IfOk result (λ f. Finds f budget
+            (part_outcome self.old.linked.now left (row_of keyword).name a planned.now).1) }
+        ensures noted { (a : Application) → IsUnder (frame self.old.context) (row_of keyword).name a
+            → IsKnown self.old.linked.now (row_of keyword).name a planned.now
+            → OnOk result (notes self.new.log
+            ≡ added (notes self.old.log)
+            (part_notes (row_of keyword).meaning
+            (part_outcome self.old.linked.now left (row_of keyword).name a planned.now))) }
+        ensures err { (a : Application) → IsUnder (frame self.old.context) (row_of keyword).name a
+            → IsKnown self.old.linked.now (row_of keyword).name a planned.now
+            → IfErr result (λ f. f ≢ Fault.NoRoom
+            → (f ≡ Fault.Costly) × (budget
+            < (part_outcome self.old.linked.now left
+            (row_of keyword).name a planned.now).1.count)) }
     {
         let mark = self.log.mark();
         let back = self

@@ -41,7 +41,14 @@ impl Found {
     /// Both pass, and together they count so much.
     pub(crate) fn and(self, other: Found) -> Found
         requires { self.count + other.count < 2 ^ 64 }
-        ensures { result ≡ record { valid = self.valid && other.valid; count = self.count + other.count; looped = self.looped || other.looped; deep = self.deep || other.deep } }
+        ensures { result ≡ record {
+          valid = self.valid
+              && other.valid;
+          count = self.count + other.count;
+          looped = self.looped
+              || other.looped;
+          deep = self.deep || other.deep;
+        } }
     {
         Found {
             valid: self.valid && other.valid,
@@ -66,7 +73,14 @@ pub(crate) struct Applied {
 impl Applied {
     /// Nothing was applied.
     pub(crate) fn none() -> Applied
-        ensures { result ≡ record { number = 0; passing = 0; count = 0; looped = false; deep = false } }
+        ensures { result ≡ record {
+          number = 0;
+          passing = 0;
+          count = 0;
+          looped = false;
+          deep =
+              false;
+        } }
     {
         Applied {
             number: 0,
@@ -82,7 +96,16 @@ impl Applied {
         requires number { self.number + 1 < 2 ^ 64 }
         requires passing { self.passing + 1 < 2 ^ 64 }
         requires count { self.count + found.count < 2 ^ 64 }
-        ensures { result ≡ record { number = self.number + 1; passing = (if found.valid then self.passing + 1 else self.passing); count = self.count + found.count; looped = self.looped || found.looped; deep = self.deep || found.deep } }
+        ensures { result ≡ record {
+          number = self.number
+              + 1;
+          passing = (if found.valid then self.passing + 1 else self.passing);
+          count =
+              self.count + found.count;
+          looped = self.looped || found.looped;
+          deep = self.deep
+              || found.deep;
+        } }
     {
         Applied {
             number: self.number + 1,
@@ -99,7 +122,13 @@ impl Applied {
 
     /// What a keyword found that applied these.
     pub(crate) fn under(self, passes: bool) -> Found
-        ensures { result ≡ record { valid = passes; count = self.count; looped = self.looped; deep = self.deep } }
+        ensures { result ≡ record {
+          valid = passes;
+          count = self.count;
+          looped = self.looped;
+          deep =
+              self.deep;
+        } }
     {
         Found {
             valid: passes,

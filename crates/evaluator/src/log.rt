@@ -86,7 +86,9 @@ impl<'a> Log<'a> {
         location: Location<'_, 'a>,
         says: Says<'_, 'a>,
     ) -> Result<(), AllocError>
-        ensures { OnOk result (notes self.new ≡ added (notes self.old) (record nothing { errors = unit_at location.entry says.entry ∷ [] })) }
+        ensures { OnOk result (notes self.new
+            ≡ added (notes self.old)
+            (record nothing { errors = unit_at location.entry says.entry ∷ [] })) }
     {
         self.errors.push(location, says)
     }
@@ -97,14 +99,17 @@ impl<'a> Log<'a> {
         location: Location<'_, 'a>,
         says: Says<'_, 'a>,
     ) -> Result<(), AllocError>
-        ensures { OnOk result (notes self.new ≡ added (notes self.old) (record nothing { annotations = unit_at location.entry says.entry ∷ [] })) }
+        ensures { OnOk result (notes self.new
+            ≡ added (notes self.old)
+            (record nothing { annotations = unit_at location.entry says.entry ∷ [] })) }
     {
         self.annotations.push(location, says)
     }
 
     /// A name was evaluated. The only error is want of memory.
     pub(crate) fn push_name(&mut self, name: &'a str) -> Result<(), AllocError>
-        ensures { OnOk result (notes self.new ≡ added (notes self.old) (record nothing { names = name.now ∷ [] })) }
+        ensures { OnOk result (notes self.new
+            ≡ added (notes self.old) (record nothing { names = name.now ∷ [] })) }
     {
         self.names.push(name)?;
         Ok(())
@@ -112,7 +117,8 @@ impl<'a> Log<'a> {
 
     /// An index was evaluated. The only error is want of memory.
     pub(crate) fn push_index(&mut self, index: usize) -> Result<(), AllocError>
-        ensures { OnOk result (notes self.new ≡ added (notes self.old) (record nothing { indexes = index ∷ [] })) }
+        ensures { OnOk result (notes self.new
+            ≡ added (notes self.old) (record nothing { indexes = index ∷ [] })) }
     {
         self.indexes.push(index)?;
         Ok(())
@@ -125,8 +131,13 @@ impl<'a> Log<'a> {
         location: Location<'_, 'a>,
         says: Says<'_, 'a>,
     ) -> Result<(), AllocError>
-        ensures { (older more : Notes) → marked mark.now ≡ lengths older → notes self.old ≡ added older more
-            → OnOk result (notes self.new ≡ added older (record more { errors = unit_at location.entry says.entry ∷ more.errors })) }
+        ensures { (older more : Notes) → marked mark.now ≡ lengths older
+            → notes self.old ≡ added older more
+            → OnOk result (notes self.new
+            ≡ added older (record more {
+              errors = unit_at location.entry says.entry
+                  ∷ more.errors;
+            })) }
     {
         self.errors.insert(mark.errors, location, says)
     }
@@ -138,15 +149,21 @@ impl<'a> Log<'a> {
         location: Location<'_, 'a>,
         says: Says<'_, 'a>,
     ) -> Result<(), AllocError>
-        ensures { (older more : Notes) → marked mark.now ≡ lengths older → notes self.old ≡ added older more
-            → OnOk result (notes self.new ≡ added older (record more { annotations = unit_at location.entry says.entry ∷ more.annotations })) }
+        ensures { (older more : Notes) → marked mark.now ≡ lengths older
+            → notes self.old ≡ added older more
+            → OnOk result (notes self.new
+            ≡ added older (record more {
+              annotations = unit_at location.entry says.entry
+                  ∷ more.annotations;
+            })) }
     {
         self.annotations.insert(mark.annotations, location, says)
     }
 
     /// Cuts off the errors that came after the mark.
     pub(crate) fn cut_errors(&mut self, mark: &LogMark)
-        ensures { (older more : Notes) → marked mark.now ≡ lengths older → notes self.old ≡ added older more
+        ensures { (older more : Notes) → marked mark.now ≡ lengths older
+            → notes self.old ≡ added older more
             → notes self.new ≡ added older (record more { errors = [] }) }
     {
         self.errors.cut_back(mark.errors);
@@ -154,7 +171,8 @@ impl<'a> Log<'a> {
 
     /// Cuts off the annotations that came after the mark.
     pub(crate) fn cut_annotations(&mut self, mark: &LogMark)
-        ensures { (older more : Notes) → marked mark.now ≡ lengths older → notes self.old ≡ added older more
+        ensures { (older more : Notes) → marked mark.now ≡ lengths older
+            → notes self.old ≡ added older more
             → notes self.new ≡ added older (record more { annotations = [] }) }
     {
         self.annotations.cut_back(mark.annotations);
@@ -162,7 +180,8 @@ impl<'a> Log<'a> {
 
     /// Cuts off the names and the indexes that came after the mark.
     pub(crate) fn cut_evaluated(&mut self, mark: &LogMark)
-        ensures { (older more : Notes) → marked mark.now ≡ lengths older → notes self.old ≡ added older more
+        ensures { (older more : Notes) → marked mark.now ≡ lengths older
+            → notes self.old ≡ added older more
             → notes self.new ≡ added older (record more { names = []; indexes = [] }) }
     {
         self.names.truncate(mark.names);
@@ -179,8 +198,10 @@ impl<'a> Log<'a> {
         mark: &LogMark,
         passed: bool,
     ) -> Result<(), AllocError>
-        ensures { (older : Notes) (o : Outcome) → marked mark.now ≡ lengths older → notes self.old ≡ added older (outcome_notes o) → passed ≡ o.valid
-            → OnOk result (notes self.new ≡ added older (part_notes (row_of keyword).meaning (part_view part.entry, o))) }
+        ensures { (older : Notes) (o : Outcome) → marked mark.now ≡ lengths older
+            → notes self.old ≡ added older (outcome_notes o) → passed ≡ o.valid
+            → OnOk result (notes self.new
+            ≡ added older (part_notes (row_of keyword).meaning (part_view part.entry, o))) }
     {
         match part {
             Part::Whole => Ok(()),

@@ -16,8 +16,8 @@ ghost use Rattle.evaluator.specs.Reports.{Gives, is_valid, report_text, reported
 
 use crate::applying::Evaluation;
 use crate::log::Log;
-use applications::Context;
 use basic_output::output_text;
+use evaluation_context::Context;
 use faults::Fault;
 use json_doc::Doc;
 use keyword_plans::Subject;
@@ -71,9 +71,15 @@ impl Report {
 ///
 /// No document that the linked resource doesn't reach changes the answer.
 pub fn evaluate<'a>(alloc: Global, linked: &'a Linked, instance: &'a Doc) -> Result<Report, Fault>
-    ensures ok { IfOk result (λ r. reported (answer has_match (linked_documents linked.now) (linked_uri linked.now) (value instance.now)) ≡ Ok (is_valid r, report_text r)) }
-    ensures err { IfErr result (λ f. f ≢ Fault.NoRoom → answer has_match (linked_documents linked.now) (linked_uri linked.now) (value instance.now) ≡ Err (fault f)) }
-    ensures whole { (G : List Document) → HaveDistinctResources G → linked_documents linked.now ≡ reach G (linked_uri linked.now) → Gives result (answer has_match G (linked_uri linked.now) (value instance.now)) }
+    ensures ok { IfOk result
+        (λ r. reported (answer has_match (linked_documents linked.now) (linked_uri linked.now)
+        (value instance.now)) ≡ Ok (is_valid r, report_text r)) }
+    ensures err { IfErr result
+        (λ f. f ≢ Fault.NoRoom → answer has_match (linked_documents linked.now)
+        (linked_uri linked.now) (value instance.now) ≡ Err (fault f)) }
+    ensures whole { (G : List Document) → HaveDistinctResources G
+        → linked_documents linked.now ≡ reach G (linked_uri linked.now)
+        → Gives result (answer has_match G (linked_uri linked.now) (value instance.now)) }
 {
     let root = linked.root(alloc);
     let schema = root.schema;
@@ -106,7 +112,8 @@ pub fn evaluate<'a>(alloc: Global, linked: &'a Linked, instance: &'a Doc) -> Res
 // The report of all that was noted.
 fn made<'a>(alloc: Global, valid: bool, log: &Log<'a>) -> Result<Report, Fault>
     ensures valid { IfOk result (λ r. is_valid r ≡ valid) }
-    ensures text { (o : Outcome) → valid ≡ o.valid → notes log.now ≡ outcome_notes o → IfOk result (λ r. output_text o ≡ report_text r) }
+    ensures text { (o : Outcome) → valid ≡ o.valid → notes log.now ≡ outcome_notes o
+        → IfOk result (λ r. output_text o ≡ report_text r) }
     ensures err { IfErr result (λ f. f ≡ Fault.NoRoom) }
 {
     let units = if valid { &log.annotations } else { &log.errors };

@@ -34,11 +34,14 @@ pub(crate) fn settle<'a>(
     applied: u64,
     passes: bool,
 ) -> Result<(), Fault>
-    ensures noted { (l : Linked) (left : ℕ) (a : Application) (names : List Text) (indexes : List ℕ) (v : Value) (older : Notes)
+    ensures noted { (l : Linked) (left : ℕ) (a : Application) (names : List Text) (indexes : List ℕ)
+        (v : Value) (older : Notes)
         → let u = use_there l left a keyword names indexes v in
         a.instance ≡ subject_value subject.entry → applied ≡ length u.outcomes → passes ≡ u.passes
-        → ((says : output.Says) → unit_at location.entry says ≡ unit a (row_of keyword).name (says_value says))
-        → marked mark.now ≡ lengths older → notes log.old ≡ added older (parts_notes (row_of keyword).meaning u.outcomes)
+        → ((says : output.Says) → unit_at location.entry says
+        ≡ unit a (row_of keyword).name (says_value says))
+        → marked mark.now ≡ lengths older
+        → notes log.old ≡ added older (parts_notes (row_of keyword).meaning u.outcomes)
         → OnOk result (notes log.new ≡ added older (uses_notes a (u ∷ []))) }
     ensures err { IfErr result (λ f. f ≡ Fault.NoRoom) }
 {
@@ -55,7 +58,8 @@ pub(crate) fn settle<'a>(
 
 // What `not` and `propertyNames` apply doesn't annotate, and `not` evaluates nothing.
 fn hide(log: &mut Log<'_>, keyword: Keyword, mark: &LogMark)
-    ensures { (older more : Notes) → marked mark.now ≡ lengths older → notes log.old ≡ added older more
+    ensures { (older more : Notes) → marked mark.now ≡ lengths older
+        → notes log.old ≡ added older more
         → notes log.new ≡ added older (shown (row_of keyword).meaning more) }
 {
     match keyword {
@@ -78,12 +82,19 @@ fn note_own<'a>(
     mark: &LogMark,
     applied: u64,
 ) -> Result<(), Fault>
-    ensures noted { (l : Linked) (left : ℕ) (a : Application) (names : List Text) (indexes : List ℕ) (v : Value) (older more : Notes)
+    ensures noted { (l : Linked) (left : ℕ) (a : Application) (names : List Text) (indexes : List ℕ)
+        (v : Value) (older more : Notes)
         → let u = use_there l left a keyword names indexes v in
         a.instance ≡ subject_value subject.entry → applied ≡ length u.outcomes
-        → ((says : output.Says) → unit_at location.entry says ≡ unit a (row_of keyword).name (says_value says))
-        → marked mark.now ≡ lengths older → notes log.old ≡ added older more → more.names ≡ u.names → more.indexes ≡ u.indexes
-        → OnOk result (notes log.new ≡ added older (record more { annotations = own_annotation a u u.annotation ++ more.annotations })) }
+        → ((says : output.Says) → unit_at location.entry says
+        ≡ unit a (row_of keyword).name (says_value says))
+        → marked mark.now ≡ lengths older → notes log.old ≡ added older more → more.names ≡ u.names
+        → more.indexes ≡ u.indexes
+        → OnOk result (notes log.new
+        ≡ added older (record more {
+          annotations = own_annotation a u u.annotation
+              ++ more.annotations;
+        })) }
     ensures err { IfErr result (λ f. f ≡ Fault.NoRoom) }
 {
     let evaluated = evaluated_since(&log.names, &log.indexes, mark.before());
@@ -105,7 +116,8 @@ pub(crate) fn evaluated_since<'s, 'a>(
     indexes: &'s [usize],
     before: Before,
 ) -> Evaluated<'s, 'a>
-    ensures names { map (λ n. n.now) result.names.now ≡ drop before.names (map (λ n. n.now) names.now) }
+    ensures names { map (λ n. n.now) result.names.now
+        ≡ drop before.names (map (λ n. n.now) names.now) }
     ensures indexes { result.indexes.now ≡ drop before.indexes indexes.now }
 {
     Evaluated {

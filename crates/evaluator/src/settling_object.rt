@@ -5,15 +5,15 @@ ghost use Rattle.std.specs.List.{list_all};
 ghost use Rattle.definitions.specs.Applied.{Application};
 ghost use Rattle.definitions.specs.Outcomes.{Use, combined};
 ghost use Rattle.json_doc.specs.Docs.{value};
-ghost use Rattle.applications.specs.Frames.{frame, standing};
-ghost use Rattle.applications.specs.Standings.{application_at};
+ghost use Rattle.evaluation_context.specs.Frames.{frame, standing};
+ghost use Rattle.evaluation_context.specs.Standings.{application_at};
 ghost use Rattle.evaluator.specs.Logs.{marked, notes};
 ghost use Rattle.evaluator.specs.Notes.{Notes, added, lengths, outcome_notes, uses_notes};
 ghost use Rattle.keyword_plans.specs.Subjects.{subject_value};
 
 use crate::annotating::note_others;
 use crate::log::{Log, LogMark};
-use applications::Context;
+use evaluation_context::Context;
 use json_doc::Doc;
 use keyword_plans::Subject;
 use std::alloc::AllocError;
@@ -29,8 +29,11 @@ pub(crate) fn settle_object<'a>(
     valid: bool,
 ) -> Result<(), AllocError>
     ensures back { OnOk result (frame context.new ≡ frame context.old) }
-    ensures noted { (a : Application) (older : Notes) (us : List Use) → a ≡ application_at (standing (frame context.old)) (value schema.now) (subject_value subject.entry)
-        → marked mark.now ≡ lengths older → notes log.old ≡ added older (uses_notes a us) → valid ≡ list_all (λ u. u.passes) us
+    ensures noted { (a : Application) (older : Notes) (us : List Use)
+        → a ≡ application_at (standing (frame context.old)) (value schema.now)
+        (subject_value subject.entry)
+        → marked mark.now ≡ lengths older → notes log.old ≡ added older (uses_notes a us)
+        → valid ≡ list_all (λ u. u.passes) us
         → OnOk result (notes log.new ≡ added older (outcome_notes (combined a us))) }
 {
     if valid {

@@ -40,7 +40,8 @@ impl Gathered {
     #[inline(always)]
     pub fn insert(&mut self, alloc: Global, name: String, member: Doc) -> Result<(), AllocError>
         ensures { OnOk result
-            (gathered_view self.new ≡ put (string_bytes name) (value member) (gathered_view self.old)) }
+            (gathered_view self.new ≡ put (string_bytes name) (value member)
+            (gathered_view self.old)) }
     {
         self.make_room(alloc, name.as_str())?;
         match self {

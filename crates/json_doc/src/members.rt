@@ -58,7 +58,8 @@ impl Members {
     /// The member of this name, with its name as it stands here. The time grows with the logarithm of the number of
     /// members, as that of `get` does.
     pub fn get_key_value(&self, name: &str) -> Option<(&str, &Doc)>
-        ensures found { option_map member_shown result ≡ option_map (λ v. (name.now, v)) (entry name.now (members_value self.now)) }
+        ensures found { option_map member_shown result
+            ≡ option_map (λ v. (name.now, v)) (entry name.now (members_value self.now)) }
         ensures ordered { HasNamesInOrder (members_value self.now) }
     {
         let entries = &self.entries;
@@ -83,7 +84,9 @@ impl Members {
     /// Puts a member in, in place of the one of the same name, if there is one: the last of repeated names wins
     /// (RFC 8259, section 4). The only error is want of memory, and then the members stay as they were.
     pub fn insert(&mut self, name: String, member: Doc) -> Result<(), Fault>
-        ensures ok { OnOk result (members_value self.new ≡ put (string_bytes name) (value member) (members_value self.old)) }
+        ensures ok { OnOk result
+            (members_value self.new ≡ put (string_bytes name) (value member)
+            (members_value self.old)) }
         ensures unchanged { OnErr result (members_value self.new ≡ members_value self.old) }
         ensures room { IfErr result (λ f. f ≡ Fault.NoRoom) }
     {

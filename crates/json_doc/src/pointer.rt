@@ -83,7 +83,8 @@ impl Pointer {
 
 /// Appends a token to a pointer's text: a `/`, and then the token with `~` written as `~0` and `/` as `~1`.
 pub fn push_token(text: &mut String, token: &str) -> Result<(), AllocError>
-    ensures { OnOk result (string_bytes text.new ≡ string_bytes text.old ++ slash ∷ flat_map escaped_byte token.now) }
+    ensures { OnOk result (string_bytes text.new
+        ≡ string_bytes text.old ++ slash ∷ flat_map escaped_byte token.now) }
 {
     text.push('/')?;
     push_escaped(text, token)?;
@@ -92,7 +93,8 @@ pub fn push_token(text: &mut String, token: &str) -> Result<(), AllocError>
 
 // Appends the token with its escapes.
 fn push_escaped(text: &mut String, token: &str) -> Result<(), AllocError>
-    ensures { OnOk result (string_bytes text.new ≡ string_bytes text.old ++ flat_map escaped_byte token.now) }
+    ensures { OnOk result (string_bytes text.new
+        ≡ string_bytes text.old ++ flat_map escaped_byte token.now) }
 {
     let mut rest = token;
     while let Some(end) = first_escaped(rest) {

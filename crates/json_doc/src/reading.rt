@@ -77,7 +77,8 @@ fn read_by_value(alloc: Global, text: &str) -> Result<Doc, Fault>
 #[cycle(read)]
 fn doc_of(alloc: Global, read: Value) -> Result<Doc, Fault>
     ensures ok { IfOk result (λ d. value_of (view read) ≡ Some (value d)) }
-    ensures err { IfErr result (λ f. f ≢ Fault.NoRoom → (f ≡ Fault.BadNumber) × (value_of (view read) ≡ None)) }
+    ensures err { IfErr result
+        (λ f. f ≢ Fault.NoRoom → (f ≡ Fault.BadNumber) × (value_of (view read) ≡ None)) }
 {
     match read {
         Value::Null => Ok(Doc::Null),
@@ -94,8 +95,11 @@ fn doc_of(alloc: Global, read: Value) -> Result<Doc, Fault>
 
 #[cycle(read)]
 fn docs_of(alloc: Global, items: Vec<Value>) -> Result<Vec<Doc>, Fault>
-    ensures ok { IfOk result (λ v. elements_of (items_view items.items) ≡ Some (to_elements (map value v.items))) }
-    ensures err { IfErr result (λ f. f ≢ Fault.NoRoom → (f ≡ Fault.BadNumber) × (elements_of (items_view items.items) ≡ None)) }
+    ensures ok { IfOk result
+        (λ v. elements_of (items_view items.items) ≡ Some (to_elements (map value v.items))) }
+    ensures err { IfErr result
+        (λ f. f ≢ Fault.NoRoom → (f ≡ Fault.BadNumber)
+        × (elements_of (items_view items.items) ≡ None)) }
 {
     let mut docs = Vec::with_capacity(alloc, items.len())?;
     for item in items {
@@ -106,8 +110,11 @@ fn docs_of(alloc: Global, items: Vec<Value>) -> Result<Vec<Doc>, Fault>
 
 #[cycle(read)]
 fn dict_of(alloc: Global, members: Map<String, Value>) -> Result<Members, Fault>
-    ensures ok { IfOk result (λ m. members_of (entries_view members.entries) ≡ Some (members_view m)) }
-    ensures err { IfErr result (λ f. f ≢ Fault.NoRoom → (f ≡ Fault.BadNumber) × (members_of (entries_view members.entries) ≡ None)) }
+    ensures ok { IfOk result
+        (λ m. members_of (entries_view members.entries) ≡ Some (members_view m)) }
+    ensures err { IfErr result
+        (λ f. f ≢ Fault.NoRoom → (f ≡ Fault.BadNumber)
+        × (members_of (entries_view members.entries) ≡ None)) }
 {
     let mut dict = Members::new(alloc);
     for (name, member) in members {

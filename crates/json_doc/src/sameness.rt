@@ -47,7 +47,8 @@ fn are_same(first: &Doc, second: &Doc) -> bool
 
 #[cycle(same)]
 fn are_items_same(items: &[Doc], others: &[Doc]) -> bool
-    ensures { result ≡ same_elements (to_elements (map value items.now)) (to_elements (map value others.now)) }
+    ensures { result ≡ same_elements (to_elements (map value items.now))
+        (to_elements (map value others.now)) }
 {
     if items.len() != others.len() {
         return false;

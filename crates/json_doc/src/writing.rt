@@ -17,7 +17,8 @@ use std::alloc::{AllocError, Global};
 /// read back from its text. The only error is want of memory, [`Fault::NoRoom`].
 pub fn write(alloc: Global, doc: &Doc) -> Result<String, Fault>
     ensures text { IfOk result (λ s. string_bytes s ≡ text (value doc.now)) }
-    ensures reads_back { IfOk result (λ s. nesting (value doc.now) ≤ 127 → reading (string_bytes s) ≡ Ok (value doc.now)) }
+    ensures reads_back { IfOk result
+        (λ s. nesting (value doc.now) ≤ 127 → reading (string_bytes s) ≡ Ok (value doc.now)) }
     ensures room { IfErr result (λ f. f ≡ Fault.NoRoom) }
 {
     let mut out = Writer::new(Vec::with_capacity(alloc, 128)?);
@@ -52,7 +53,8 @@ pub fn write_doc(doc: &Doc, out: &mut Writer) -> Result<(), AllocError>
 
 #[cycle(write)]
 fn write_items(items: &[Doc], out: &mut Writer) -> Result<(), AllocError>
-    ensures ok { OnOk result (out.new.tokens ≡ out.old.tokens ++ elements_tokens (to_elements (map value items.now))) }
+    ensures ok { OnOk result
+        (out.new.tokens ≡ out.old.tokens ++ elements_tokens (to_elements (map value items.now))) }
     ensures before { out.new.before ≡ out.old.before }
     ensures well_formed { OnOk result (are_well_formed (to_elements (map value items.now)) ≡ true) }
 {
@@ -64,7 +66,8 @@ fn write_items(items: &[Doc], out: &mut Writer) -> Result<(), AllocError>
 
 #[cycle(write)]
 fn write_members(members: &Members, out: &mut Writer) -> Result<(), AllocError>
-    ensures ok { OnOk result (out.new.tokens ≡ out.old.tokens ++ members_tokens (members_view members.now)) }
+    ensures ok { OnOk result
+        (out.new.tokens ≡ out.old.tokens ++ members_tokens (members_view members.now)) }
     ensures before { out.new.before ≡ out.old.before }
     ensures well_formed { OnOk result (are_well_formed_members (members_view members.now) ≡ true) }
 {

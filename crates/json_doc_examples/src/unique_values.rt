@@ -1,8 +1,8 @@
 //! The order of values, and lists that hold a value twice.
 
-use distinct_values::{compare, is_unique};
 use json_doc::read;
 use std::test::Fail;
+use value_order::{compare, is_unique};
 
 // Each comes before the next, and the members of an object may stand in any order.
 const ASCENDING: &[(&str, &str)] = &[

@@ -39,12 +39,16 @@ pub fn annotate<'s, 'a>(
     applied: u64,
     evaluated: Evaluated<'s, 'a>,
 ) -> Result<Annotation<'s, 'a>, Fault>
-    ensures ok { (a : Application) (rules : Rules) (run : Application → Outcome) (names : List Text) (indexes : List ℕ) (v : Value)
+    ensures ok { (a : Application) (rules : Rules) (run : Application → Outcome) (names : List Text)
+        (indexes : List ℕ) (v : Value)
         → a.instance ≡ subject_value subject.entry
-        → let os = outcomes_of rules run names indexes a (row_of keyword).name (row_of keyword).meaning v in
-        applied ≡ length os → map (λ n. n.now) evaluated.entry.names.now ≡ evaluated_names (row_of keyword).meaning os
+        → let os = outcomes_of rules run names indexes a (row_of keyword).name
+        (row_of keyword).meaning v in
+        applied ≡ length os → map (λ n. n.now) evaluated.entry.names.now
+        ≡ evaluated_names (row_of keyword).meaning os
         → evaluated.entry.indexes.now ≡ evaluated_indexes (row_of keyword).meaning os
-        → IfOk result (λ annotation. annotation_value annotation ≡ annotation_of a (row_of keyword).meaning os) }
+        → IfOk result (λ annotation. annotation_value annotation
+        ≡ annotation_of a (row_of keyword).meaning os) }
     ensures err { IfErr result (λ f. f ≡ Fault.NoRoom) }
 {
     match keyword {
@@ -76,7 +80,9 @@ pub fn annotate<'s, 'a>(
 
 // The names, on an object (10.3.2).
 fn annotate_names<'s, 'a>(subject: Subject<'a>, names: &'s [&'a str]) -> Annotation<'s, 'a>
-    ensures { annotation_value result ≡ (if is_object (subject_value subject.entry) then Some (array (to_elements (map string (map (λ n. n.now) names.now)))) else None) }
+    ensures { annotation_value result
+        ≡ (if is_object (subject_value subject.entry) then Some
+        (array (to_elements (map string (map (λ n. n.now) names.now)))) else None) }
 {
     if subject.is_object() {
         Annotation::Says(Says::Names(names))
@@ -91,7 +97,9 @@ fn annotate_distinct<'s, 'a>(
     subject: Subject<'a>,
     names: &'s [&'a str],
 ) -> Result<Annotation<'s, 'a>, AllocError>
-    ensures { IfOk result (λ annotation. annotation_value annotation ≡ (if is_object (subject_value subject.entry) then Some (array (to_elements (map string (once (map (λ n. n.now) names.now))))) else None)) }
+    ensures { IfOk result (λ annotation. annotation_value annotation
+        ≡ (if is_object (subject_value subject.entry) then Some
+        (array (to_elements (map string (once (map (λ n. n.now) names.now))))) else None)) }
 {
     if subject.is_object() {
         Ok(Annotation::Names(each_once(alloc, names)?))
@@ -101,7 +109,8 @@ fn annotate_distinct<'s, 'a>(
 }
 
 fn each_once<'a>(alloc: Global, names: &[&'a str]) -> Result<Vec<&'a str>, AllocError>
-    ensures { IfOk result (λ kept. map (λ n. n.now) kept.items ≡ once (map (λ n. n.now) names.now)) }
+    ensures { IfOk result (λ kept. map (λ n. n.now) kept.items
+        ≡ once (map (λ n. n.now) names.now)) }
 {
     let mut seen = BTreeSet::new(alloc);
     let mut kept = Vec::new(alloc);
@@ -119,7 +128,10 @@ fn annotate_prefix<'s, 'a>(
     applied: u64,
     indexes: &[usize],
 ) -> Annotation<'s, 'a>
-    ensures { annotation_value result ≡ (if applied == 0 then None else Some (if applied == length (elements (subject_value subject.entry)) then boolean true else integer (pos (last_index indexes.now)))) }
+    ensures { annotation_value result
+        ≡ (if applied == 0 then None else Some
+        (if applied == length (elements (subject_value subject.entry)) then boolean
+        true else integer (pos (last_index indexes.now)))) }
 {
     if applied == 0 {
         Annotation::None
@@ -150,7 +162,9 @@ fn annotate_true<'s, 'a>(applied: u64) -> Annotation<'s, 'a>
 
 // The indexes, on an array (10.3.1.3).
 fn annotate_indexes<'s, 'a>(subject: Subject<'a>, indexes: &'s [usize]) -> Annotation<'s, 'a>
-    ensures { annotation_value result ≡ (if is_array (subject_value subject.entry) then Some (array (to_elements (map (λ i. integer (pos i)) indexes.now))) else None) }
+    ensures { annotation_value result
+        ≡ (if is_array (subject_value subject.entry) then Some
+        (array (to_elements (map (λ i. integer (pos i)) indexes.now))) else None) }
 {
     if subject.is_array() {
         Annotation::Says(Says::Indexes(indexes))

@@ -44,9 +44,11 @@ pub fn plan<'a>(
 ) -> Result<Vec<Planned<'a>>, Fault>
     ensures ok { (a : Application) (run : Application → Outcome) → Shows site.entry a
         → get (row_of keyword).name a.schema.value ≡ Some (value keyword_value.now)
-        → (is_consequence (row_of keyword).meaning ≡ true → option_map (λ o. o.valid) (condition_outcome run a) ≡ condition)
+        → (is_consequence (row_of keyword).meaning ≡ true
+        → option_map (λ o. o.valid) (condition_outcome run a) ≡ condition)
         → IfOk result (λ ps. map (planned_view (row_of keyword).name a) ps.items
-        ≡ applied (linked_rules site.entry.linked.now) run (map (λ n. n.now) evaluated.entry.names.now) evaluated.entry.indexes.now a
+        ≡ applied (linked_rules site.entry.linked.now) run
+        (map (λ n. n.now) evaluated.entry.names.now) evaluated.entry.indexes.now a
         (row_of keyword).name (row_of keyword).meaning (value keyword_value.now)) }
     ensures err { IfErr result (λ f. f ≡ Fault.NoRoom) }
 {

@@ -18,7 +18,8 @@ pub(crate) fn is_match(
     pattern: &str,
     text: &str,
 ) -> Result<bool, Fault>
-    ensures ok { (s : Schema) → Contains (linked_schemas linked.now) s → Contains (patterns_of s) pattern.now
+    ensures ok { (s : Schema) → Contains (linked_schemas linked.now) s
+        → Contains (patterns_of s) pattern.now
         → IfOk result (λ found. found ≡ has_match pattern.now text.now) }
     ensures sound { IfOk result (λ found. found ≡ true → has_match pattern.now text.now ≡ true) }
     ensures err { IfErr result (λ f. f ≡ Fault.NoRoom) }

@@ -32,7 +32,8 @@ impl<'a> Subject<'a> {
 
     /// The members, where it is an object.
     pub fn members(self) -> Option<&'a Members>
-        ensures { unwrap_or (option_map (λ m. members_value m.now) result) [] ≡ members (subject_value self.entry) }
+        ensures { unwrap_or (option_map (λ m. members_value m.now) result) []
+            ≡ members (subject_value self.entry) }
     {
         match self {
             Subject::Value(doc) => members_of(doc),
@@ -87,7 +88,8 @@ pub(crate) fn elements_of(doc: &Doc) -> &[Doc]
 
 // The members of an object.
 pub(crate) fn members_of(doc: &Doc) -> Option<&Members>
-    ensures { unwrap_or (option_map (λ m. members_value m.now) result) [] ≡ members (value doc.now) }
+    ensures { unwrap_or (option_map (λ m. members_value m.now) result) []
+        ≡ members (value doc.now) }
 {
     match doc {
         Doc::Dict(members) => Some(members),

@@ -19,10 +19,10 @@ use crate::searching::is_match;
 use crate::site::Site;
 use crate::subject::Subject;
 use assertions::{Assertion, holds};
-use distinct_values::is_unique;
 use faults::Fault;
 use json_doc::{Doc, Whole};
 use std::alloc::{AllocError, Global};
+use value_order::is_unique;
 
 /// How many schemas a keyword applied, and how many of them passed.
 #[derive(Clone, Copy, Debug, PartialEq, Eq)]
@@ -45,12 +45,16 @@ pub fn passes<'a>(
     tally: Tally,
     containing: Option<u64>,
 ) -> Result<bool, Fault>
-    ensures ok { (a : Application) (run : Application → Outcome) (names : List Text) (indexes : List ℕ) → Shows site.entry a
+    ensures ok { (a : Application) (run : Application → Outcome) (names : List Text)
+        (indexes : List ℕ) → Shows site.entry a
         → get (row_of keyword).name a.schema.value ≡ Some (value keyword_value.now)
-        → (counts_contained (row_of keyword).meaning ≡ true → option_map (count_by (λ o. o.valid)) (contains_outcomes run a) ≡ containing)
-        → let os = outcomes_of (linked_rules site.entry.linked.now) run names indexes a (row_of keyword).name (row_of keyword).meaning (value keyword_value.now) in
+        → (counts_contained (row_of keyword).meaning ≡ true
+        → option_map (count_by (λ o. o.valid)) (contains_outcomes run a) ≡ containing)
+        → let os = outcomes_of (linked_rules site.entry.linked.now) run names indexes a
+        (row_of keyword).name (row_of keyword).meaning (value keyword_value.now) in
         tally.applied ≡ length os → tally.passing ≡ passing os
-        → IfOk result (λ b. b ≡ keyword_passes (linked_rules site.entry.linked.now) run a (row_of keyword).name (row_of keyword).meaning (value keyword_value.now) os) }
+        → IfOk result (λ b. b ≡ keyword_passes (linked_rules site.entry.linked.now) run a
+        (row_of keyword).name (row_of keyword).meaning (value keyword_value.now) os) }
     ensures err { IfErr result (λ f. f ≡ Fault.NoRoom) }
 {
     match keyword {
@@ -86,7 +90,9 @@ fn holds_of(
     keyword_value: &Doc,
     subject: Subject<'_>,
 ) -> Result<bool, AllocError>
-    ensures { IfOk result (λ b. b ≡ holds (assertion_view assertion) (value keyword_value.now) (subject_value subject.entry)) }
+    ensures { IfOk result (λ b. b
+        ≡ holds (assertion_view assertion) (value keyword_value.now)
+        (subject_value subject.entry)) }
 {
     match subject {
         Subject::Value(doc) => holds_of_value(alloc, assertion, keyword_value, doc),
@@ -103,7 +109,8 @@ fn holds_of_value(
     keyword_value: &Doc,
     instance: &Doc,
 ) -> Result<bool, AllocError>
-    ensures { IfOk result (λ b. b ≡ holds (assertion_view assertion) (value keyword_value.now) (value instance.now)) }
+    ensures { IfOk result (λ b. b
+        ≡ holds (assertion_view assertion) (value keyword_value.now) (value instance.now)) }
 {
     match assertion {
         Assertion::UniqueItems => is_unique_if(alloc, keyword_value, instance),
@@ -123,7 +130,8 @@ fn is_unique_if(alloc: Global, asked: &Doc, instance: &Doc) -> Result<bool, Allo
 
 // Whether the pattern matches the subject, where it is a string (Validation, 6.3.3).
 fn is_pattern_met(alloc: Global, site: Site<'_, '_>, pattern: &Doc) -> Result<bool, Fault>
-    ensures ok { (a : Application) → Shows site.entry a → get (codes "pattern") a.schema.value ≡ Some (value pattern.now)
+    ensures ok { (a : Application) → Shows site.entry a
+        → get (codes "pattern") a.schema.value ≡ Some (value pattern.now)
         → IfOk result (λ b. b ≡ pattern_holds has_match (value pattern.now) a.instance) }
     ensures err { IfErr result (λ f. f ≡ Fault.NoRoom) }
 {
@@ -140,13 +148,15 @@ fn is_pattern_met(alloc: Global, site: Site<'_, '_>, pattern: &Doc) -> Result<bo
 // is 0.
 fn contains_enough(passing: u64, site: Site<'_, '_>) -> bool
     ensures { (a : Application) → Shows site.entry a
-        → result ≡ (not (is_array a.instance) || (nat_lt 0 passing || needs_none (beside a (codes "minContains")))) }
+        → result ≡ (not (is_array a.instance)
+        || (nat_lt 0 passing || needs_none (beside a (codes "minContains")))) }
 {
     !site.subject.is_array() || passing > 0 || needs_none(site.schema)
 }
 
 fn needs_none(schema: &Doc) -> bool
-    ensures { (a : Application) → a.schema.value ≡ value schema.now → result ≡ needs_none (beside a (codes "minContains")) }
+    ensures { (a : Application) → a.schema.value ≡ value schema.now
+        → result ≡ needs_none (beside a (codes "minContains")) }
 {
     match schema.get("minContains") {
         Some(least) => is_zero(least),
@@ -175,7 +185,8 @@ fn is_zero_number(number: Whole) -> bool
 // Whether `contains` beside found at least so many elements of the array (Validation, 6.4.5).
 fn contains_at_least(subject: Subject<'_>, least: &Doc, containing: Option<u64>) -> bool
     ensures { (os : Option (List Outcome)) → option_map (count_by (λ o. o.valid)) os ≡ containing
-        → result ≡ contains_holds (is_at_least (value least.now)) (is_array (subject_value subject.entry)) os }
+        → result ≡ contains_holds (is_at_least (value least.now))
+        (is_array (subject_value subject.entry)) os }
 {
     match containing {
         Some(count) => !subject.is_array() || is_at_least(count, least),
@@ -195,7 +206,8 @@ fn is_at_least(count: u64, least: &Doc) -> bool
 // Whether `contains` beside found at most so many elements of the array (Validation, 6.4.4).
 fn contains_at_most(subject: Subject<'_>, most: &Doc, containing: Option<u64>) -> bool
     ensures { (os : Option (List Outcome)) → option_map (count_by (λ o. o.valid)) os ≡ containing
-        → result ≡ contains_holds (is_at_most (value most.now)) (is_array (subject_value subject.entry)) os }
+        → result ≡ contains_holds (is_at_most (value most.now))
+        (is_array (subject_value subject.entry)) os }
 {
     match containing {
         Some(count) => !subject.is_array() || is_at_most(count, most),

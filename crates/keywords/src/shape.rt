@@ -139,7 +139,8 @@ fn are_type_names(doc: &Doc) -> bool
 
 // At least one value, and names of types alone.
 fn is_list_of_type_names(docs: &[Doc]) -> bool
-    ensures { result ≡ (nat_lt 0 (length docs.now) && list_all (λ d. is_type_name (value d)) docs.now) }
+    ensures { result ≡ (nat_lt 0 (length docs.now)
+        && list_all (λ d. is_type_name (value d)) docs.now) }
 {
     !docs.is_empty() && all_type_names(docs)
 }
@@ -213,7 +214,8 @@ fn is_schema_list(doc: &Doc) -> bool
 
 // At least one value, and schemas alone.
 fn is_list_of_schemas(docs: &[Doc]) -> bool
-    ensures { result ≡ (nat_lt 0 (length docs.now) && list_all (λ d. is_schema (value d)) docs.now) }
+    ensures { result ≡ (nat_lt 0 (length docs.now)
+        && list_all (λ d. is_schema (value d)) docs.now) }
 {
     !docs.is_empty() && all_schemas(docs)
 }

@@ -20,8 +20,10 @@ use std::rc::Rc;
 /// The canonical URIs of the linked documents (JSON Schema 2020-12 Core, section 8.2.1), in byte order, each once. The only
 /// error is want of memory.
 pub fn reached(alloc: Global, linked: &Linked) -> Result<Vec<String>, Fault>
-    ensures ok { IfOk result (λ uris. map string_bytes uris.items ≡ canonicals (linked_documents linked.now)) }
-    ensures ascending { IfOk result (λ uris. IsStrictlySortedBy (slice_cmp nat_cmp) (map string_bytes uris.items)) }
+    ensures ok { IfOk result
+        (λ uris. map string_bytes uris.items ≡ canonicals (linked_documents linked.now)) }
+    ensures ascending { IfOk result
+        (λ uris. IsStrictlySortedBy (slice_cmp nat_cmp) (map string_bytes uris.items)) }
     ensures err { IfErr result (λ f. f ≡ Fault.NoRoom) }
 {
     canonical_uris(alloc, &linked.documents)
@@ -45,7 +47,8 @@ pub fn asked(linked: &Linked) -> &str
 
 /// The value of the linked document that has this canonical URI, where one has.
 pub fn value_of<'a>(linked: &'a Linked, canonical: &str) -> Option<&'a Doc>
-    ensures { option_map (λ d. value d.now) result ≡ option_map (λ d. d.value) (document_of (linked_documents linked.now) canonical.now) }
+    ensures { option_map (λ d. value d.now) result
+        ≡ option_map (λ d. d.value) (document_of (linked_documents linked.now) canonical.now) }
 {
     match position(&linked.documents, canonical) {
         Ok(at) => Some(linked.documents[at].document()),
@@ -54,7 +57,8 @@ pub fn value_of<'a>(linked: &'a Linked, canonical: &str) -> Option<&'a Doc>
 }
 
 fn canonical_uris(alloc: Global, documents: &[Rc<Compiled>]) -> Result<Vec<String>, Fault>
-    ensures ok { IfOk result (λ uris. map string_bytes uris.items ≡ canonicals (shared_documents documents.now)) }
+    ensures ok { IfOk result
+        (λ uris. map string_bytes uris.items ≡ canonicals (shared_documents documents.now)) }
     ensures err { IfErr result (λ f. f ≡ Fault.NoRoom) }
 {
     let mut uris = Vec::with_capacity(alloc, documents.len())?;

@@ -20,8 +20,10 @@ use std::rc::Rc;
 // The document with a resource of this URI: most often it is the document's canonical URI, so that is looked for first.
 pub(crate) fn holder<'a>(documents: &'a [Rc<Compiled>], uri: &str) -> Option<&'a Rc<Compiled>>
     requires ascend { Ascend (shared_documents documents.now) }
-    requires distinct { has_repeat same_text (resource_uris (table_of (shared_documents documents.now))) ≡ false }
-    ensures { option_map (λ d. compiled_document d.now.value) result ≡ find (holds_resource uri.now) (shared_documents documents.now) }
+    requires distinct { has_repeat same_text
+        (resource_uris (table_of (shared_documents documents.now))) ≡ false }
+    ensures { option_map (λ d. compiled_document d.now.value) result
+        ≡ find (holds_resource uri.now) (shared_documents documents.now) }
 {
     match position(documents, uri) {
         Ok(at) => Some(&documents[at]),
@@ -31,7 +33,8 @@ pub(crate) fn holder<'a>(documents: &'a [Rc<Compiled>], uri: &str) -> Option<&'a
 
 // The first document of several resources that has this one.
 fn embedding<'a>(documents: &'a [Rc<Compiled>], uri: &str) -> Option<&'a Rc<Compiled>>
-    ensures { option_map (λ d. compiled_document d.now.value) result ≡ find (embeds uri.now) (shared_documents documents.now) }
+    ensures { option_map (λ d. compiled_document d.now.value) result
+        ≡ find (embeds uri.now) (shared_documents documents.now) }
 {
     documents.iter().find(|document| embeds(document, uri))
 }
@@ -45,8 +48,10 @@ fn embeds(document: &Rc<Compiled>, uri: &str) -> bool
 // Whether some resource of the document is held by one of these.
 pub(crate) fn shares_resource(documents: &[Rc<Compiled>], document: &Compiled) -> bool
     requires ascend { Ascend (shared_documents documents.now) }
-    requires distinct { has_repeat same_text (resource_uris (table_of (shared_documents documents.now))) ≡ false }
-    ensures { result ≡ shares_resource (shared_documents documents.now) (compiled_document document.now) }
+    requires distinct { has_repeat same_text
+        (resource_uris (table_of (shared_documents documents.now))) ≡ false }
+    ensures { result ≡ shares_resource (shared_documents documents.now)
+        (compiled_document document.now) }
 {
     document
         .resource_uris()
@@ -56,7 +61,8 @@ pub(crate) fn shares_resource(documents: &[Rc<Compiled>], document: &Compiled) -
 
 fn is_held(documents: &[Rc<Compiled>], uri: &str) -> bool
     requires ascend { Ascend (shared_documents documents.now) }
-    requires distinct { has_repeat same_text (resource_uris (table_of (shared_documents documents.now))) ≡ false }
+    requires distinct { has_repeat same_text
+        (resource_uris (table_of (shared_documents documents.now))) ≡ false }
     ensures { result ≡ list_any (holds_resource uri.now) (shared_documents documents.now) }
 {
     holder(documents, uri).is_some()

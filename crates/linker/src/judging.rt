@@ -24,8 +24,11 @@ use uri_ref::{fragment_kind, split, without_fragment};
 // Whether the absolute reference names a schema of these documents. A fragment that can't be read names nothing.
 fn names_schema(alloc: Global, documents: &[Rc<Compiled>], reference: &str) -> Result<bool, Fault>
     requires ascend { Ascend (shared_documents documents.now) }
-    requires distinct { has_repeat same_text (resource_uris (table_of (shared_documents documents.now))) ≡ false }
-    ensures ok { IfOk result (λ named. named ≡ is_some (target (table_of (shared_documents documents.now)) reference.now)) }
+    requires distinct { has_repeat same_text
+        (resource_uris (table_of (shared_documents documents.now))) ≡ false }
+    ensures ok { IfOk result
+        (λ named. named ≡ is_some
+        (target (table_of (shared_documents documents.now)) reference.now)) }
     ensures err { IfErr result (λ f. f ≡ Fault.NoRoom) }
 {
     let uri = without_fragment(reference);
@@ -42,7 +45,10 @@ fn names_in(
     uri: &str,
     fragment: Option<&str>,
 ) -> Result<bool, Fault>
-    ensures ok { IfOk result (λ named. named ≡ is_some (target_in (compiled_schemas document.now) uri.now (fragment_kind (option_map (λ t. t.now) fragment.entry)))) }
+    ensures ok { IfOk result
+        (λ named. named ≡ is_some
+        (target_in (compiled_schemas document.now) uri.now
+        (fragment_kind (option_map (λ t. t.now) fragment.entry)))) }
     ensures err { IfErr result (λ f. f ≡ Fault.NoRoom) }
 {
     match fragment_kind(alloc, fragment) {
@@ -58,8 +64,10 @@ pub(crate) fn least_missing<'a>(
     documents: &'a [Rc<Compiled>],
 ) -> Result<Option<&'a str>, Fault>
     requires ascend { Ascend (shared_documents documents.now) }
-    requires distinct { has_repeat same_text (resource_uris (table_of (shared_documents documents.now))) ≡ false }
-    ensures ok { IfOk result (λ t. option_map (λ t. t.now) t ≡ least (missing (shared_documents documents.now))) }
+    requires distinct { has_repeat same_text
+        (resource_uris (table_of (shared_documents documents.now))) ≡ false }
+    ensures ok { IfOk result
+        (λ t. option_map (λ t. t.now) t ≡ least (missing (shared_documents documents.now))) }
     ensures err { IfErr result (λ f. f ≡ Fault.NoRoom) }
 {
     let mut found = None;
@@ -77,9 +85,12 @@ fn least_missing_of<'a>(
     found: Option<&'a str>,
 ) -> Result<Option<&'a str>, Fault>
     requires ascend { Ascend (shared_documents documents.now) }
-    requires distinct { has_repeat same_text (resource_uris (table_of (shared_documents documents.now))) ≡ false }
+    requires distinct { has_repeat same_text
+        (resource_uris (table_of (shared_documents documents.now))) ≡ false }
     ensures ok { (before : List Text) → option_map (λ t. t.now) found.entry ≡ least before
-        → IfOk result (λ t. option_map (λ t. t.now) t ≡ least (before ++ missing_in (shared_documents documents.now) (compiled_document document.now))) }
+        → IfOk result (λ t. option_map (λ t. t.now) t
+        ≡ least (before ++ missing_in (shared_documents documents.now)
+        (compiled_document document.now))) }
     ensures err { IfErr result (λ f. f ≡ Fault.NoRoom) }
 {
     let mut least = found;
@@ -97,8 +108,13 @@ fn least_with<'a>(
     found: Option<&'a str>,
 ) -> Result<Option<&'a str>, Fault>
     requires ascend { Ascend (shared_documents documents.now) }
-    requires distinct { has_repeat same_text (resource_uris (table_of (shared_documents documents.now))) ≡ false }
-    ensures ok { IfOk result (λ t. option_map (λ t. t.now) t ≡ (if is_some (target (table_of (shared_documents documents.now)) reference.now) then option_map (λ t. t.now) found.entry else Some (lesser reference.now (option_map (λ t. t.now) found.entry)))) }
+    requires distinct { has_repeat same_text
+        (resource_uris (table_of (shared_documents documents.now))) ≡ false }
+    ensures ok { IfOk result
+        (λ t. option_map (λ t. t.now) t
+        ≡ (if is_some (target (table_of (shared_documents documents.now))
+        reference.now) then option_map (λ t. t.now) found.entry else Some
+        (lesser reference.now (option_map (λ t. t.now) found.entry)))) }
     ensures err { IfErr result (λ f. f ≡ Fault.NoRoom) }
 {
     if names_schema(alloc, documents, reference)? {

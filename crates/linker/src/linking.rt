@@ -29,9 +29,12 @@ use std::rc::Rc;
 /// is want of memory. Whatever is answered, the source keeps the documents that it had.
 pub fn link<S: Source>(alloc: Global, source: &mut S, resource: &str) -> Result<Linked, Fault>
     ensures uri { IfOk result (λ l. linked_uri l ≡ resource.now) }
-    ensures documents { IfOk result (λ l. linked_documents l ≡ reach (S.documents source.old) resource.now) }
+    ensures documents { IfOk result
+        (λ l. linked_documents l ≡ reach (S.documents source.old) resource.now) }
     ensures ok { OnOk result (link_fault (reach (S.documents source.old) resource.now) ≡ None) }
-    ensures err { IfErr result (λ f. f ≢ Fault.NoRoom → link_fault (reach (S.documents source.old) resource.now) ≡ Some (fault f)) }
+    ensures err { IfErr result
+        (λ f. f ≢ Fault.NoRoom → link_fault (reach (S.documents source.old) resource.now)
+        ≡ Some (fault f)) }
     ensures same { S.documents source.new ≡ S.documents source.old }
 {
     let documents = reached_documents(alloc, source, resource)?;
@@ -43,9 +46,11 @@ pub fn link<S: Source>(alloc: Global, source: &mut S, resource: &str) -> Result<
 // Fails where there are no documents, or where a reference of theirs names no schema.
 fn judge(alloc: Global, documents: &[Rc<Compiled>]) -> Result<(), Fault>
     requires ascend { Ascend (shared_documents documents.now) }
-    requires distinct { has_repeat same_text (resource_uris (table_of (shared_documents documents.now))) ≡ false }
+    requires distinct { has_repeat same_text
+        (resource_uris (table_of (shared_documents documents.now))) ≡ false }
     ensures ok { OnOk result (link_fault (shared_documents documents.now) ≡ None) }
-    ensures err { IfErr result (λ f. f ≢ Fault.NoRoom → link_fault (shared_documents documents.now) ≡ Some (fault f)) }
+    ensures err { IfErr result
+        (λ f. f ≢ Fault.NoRoom → link_fault (shared_documents documents.now) ≡ Some (fault f)) }
 {
     if documents.is_empty() {
         return Err(Fault::NotFound);

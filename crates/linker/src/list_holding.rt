@@ -36,7 +36,9 @@ impl Source for &ListSource {
 
 // The document of the list that has a resource of this URI.
 fn holding(list: &ListSource, resource: &str) -> Result<Option<Rc<Compiled>>, Fault>
-    ensures held { IfOk result (λ d. option_map (λ it. compiled_document it.value) d ≡ find (holds_resource resource.now) (listed_documents list.now)) }
+    ensures held { IfOk result
+        (λ d. option_map (λ it. compiled_document it.value) d
+        ≡ find (holds_resource resource.now) (listed_documents list.now)) }
     ensures err { IfErr result (λ f. f ≡ Fault.NoRoom) }
 {
     match holder(&list.documents, resource) {

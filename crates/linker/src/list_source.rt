@@ -46,8 +46,13 @@ impl ListSource {
     /// Adds a document, and answers whether it was added: it isn't where one of its resources has the URI of a resource of
     /// a document that is there. The only error is want of memory. Where it isn't added nothing changes.
     pub fn add(&mut self, document: Rc<Compiled>) -> Result<bool, Fault>
-        ensures ok { IfOk result (λ added. added ≡ not (shares_resource (listed_documents self.old) (compiled_document document.value))) }
-        ensures added { IfOk result (λ added. listed_documents self.new ≡ (if added then placed (compiled_document document.value) (listed_documents self.old) else listed_documents self.old)) }
+        ensures ok { IfOk result
+            (λ added. added ≡ not (shares_resource (listed_documents self.old)
+            (compiled_document document.value))) }
+        ensures added { IfOk result
+            (λ added. listed_documents self.new
+            ≡ (if added then placed (compiled_document document.value)
+            (listed_documents self.old) else listed_documents self.old)) }
         ensures kept { OnErr result (listed_documents self.new ≡ listed_documents self.old) }
         ensures err { IfErr result (λ f. f ≡ Fault.NoRoom) }
     {
@@ -61,7 +66,8 @@ impl ListSource {
 // The same document, of which the scan found no fault.
 fn checked(document: &Compiled) -> &Compiled
     ensures same { result.now ≡ document.now }
-    ensures faultless { scan_fault (compiled_base document.now) (compiled_value document.now) ≡ None }
+    ensures faultless { scan_fault (compiled_base document.now) (compiled_value document.now)
+        ≡ None }
 {
     let _ = document.document();
     document

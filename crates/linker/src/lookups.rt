@@ -28,7 +28,8 @@ use uri_ref::FragmentKind;
 impl Linked {
     /// The root of the resource that was linked.
     pub fn root(&self, alloc: Global) -> Located<'_>
-        ensures { resource_root (linked_schemas self.now) (linked_uri self.now) ≡ Some (located_schema result) }
+        ensures { resource_root (linked_schemas self.now) (linked_uri self.now)
+            ≡ Some (located_schema result) }
     {
         match self.resource_root(alloc, self.uri.as_str()) {
             Some(root) => root,
@@ -44,7 +45,9 @@ impl Linked {
         resource: &str,
         reference: &str,
     ) -> Result<Option<Located<'_>>, Fault>
-        ensures ok { IfOk result (λ t. option_map located_schema t ≡ target (linked_schemas self.now) (resolved resource.now reference.now)) }
+        ensures ok { IfOk result
+            (λ t. option_map located_schema t
+            ≡ target (linked_schemas self.now) (resolved resource.now reference.now)) }
         ensures err { IfErr result (λ f. f ≡ Fault.NoRoom) }
     {
         match resolve_reference(alloc, resource, reference)? {
@@ -62,7 +65,10 @@ impl Linked {
         resource: &str,
         reference: &str,
     ) -> Result<Option<Located<'_>>, Fault>
-        ensures ok { IfOk result (λ t. option_map located_schema t ≡ dynamic_target (linked_schemas self.now) (map (λ uri. uri.now) scope.now) (resolved resource.now reference.now)) }
+        ensures ok { IfOk result
+            (λ t. option_map located_schema t
+            ≡ dynamic_target (linked_schemas self.now) (map (λ uri. uri.now) scope.now)
+            (resolved resource.now reference.now)) }
         ensures err { IfErr result (λ f. f ≡ Fault.NoRoom) }
     {
         match resolve_reference(alloc, resource, reference)? {
@@ -74,7 +80,8 @@ impl Linked {
     /// The URI of the resource that a schema opens by this `$id`, where the resource around it has this URI (section 8.2.1).
     /// The only error is want of memory. Of texts that open no resource of these documents it answers some text.
     pub fn resource_opened(&self, alloc: Global, around: &str, id: &str) -> Result<&str, Fault>
-        ensures ok { (s : Schema) → Contains (linked_schemas self.now) s → s.pointer ≡ [] → s.resource ≡ without_fragment (resolved around.now id.now)
+        ensures ok { (s : Schema) → Contains (linked_schemas self.now) s → s.pointer ≡ []
+            → s.resource ≡ without_fragment (resolved around.now id.now)
             → IfOk result (λ uri. uri.now ≡ s.resource) }
         ensures err { IfErr result (λ f. f ≡ Fault.NoRoom) }
     {
@@ -85,14 +92,16 @@ impl Linked {
     /// The pattern with this text, where a schema of these documents has it.
     pub fn pattern(&self, text: &str) -> Option<&Pattern>
         ensures same { IfSome result (λ p. p.now ≡ text.now) }
-        ensures there { (s : Schema) → Contains (linked_schemas self.now) s → Contains (patterns_of s) text.now → IsTrue (is_some result) }
+        ensures there { (s : Schema) → Contains (linked_schemas self.now) s
+            → Contains (patterns_of s) text.now → IsTrue (is_some result) }
     {
         first_pattern(self.documents.as_slice(), text)
     }
 
     // The document that has a resource with this URI.
     fn holder(&self, uri: &str) -> Option<&Compiled>
-        ensures { option_map (λ d. compiled_document d.now) result ≡ find (holds_resource uri.now) (linked_documents self.now) }
+        ensures { option_map (λ d. compiled_document d.now) result
+            ≡ find (holds_resource uri.now) (linked_documents self.now) }
     {
         match holder(self.documents.as_slice(), uri) {
             Some(document) => Some(document),
@@ -102,7 +111,8 @@ impl Linked {
 
     // The root of the resource with this URI.
     fn resource_root(&self, alloc: Global, uri: &str) -> Option<Located<'_>>
-        ensures { option_map located_schema result ≡ resource_root (linked_schemas self.now) uri.now }
+        ensures { option_map located_schema result
+            ≡ resource_root (linked_schemas self.now) uri.now }
     {
         match self.holder(uri) {
             Some(document) => document.resource_root(alloc, uri),
@@ -117,7 +127,9 @@ impl Linked {
         uri: &str,
         fragment: &FragmentKind,
     ) -> Result<Option<Located<'_>>, Fault>
-        ensures ok { IfOk result (λ t. option_map located_schema t ≡ target_by (linked_schemas self.now) uri.now (fragment_shown fragment.now)) }
+        ensures ok { IfOk result
+            (λ t. option_map located_schema t
+            ≡ target_by (linked_schemas self.now) uri.now (fragment_shown fragment.now)) }
         ensures err { IfErr result (λ f. f ≡ Fault.NoRoom) }
     {
         match self.holder(uri) {
@@ -133,7 +145,9 @@ impl Linked {
         uri: &str,
         name: &str,
     ) -> Result<Option<Located<'_>>, Fault>
-        ensures ok { IfOk result (λ t. option_map located_schema t ≡ dynamically_anchored (linked_schemas self.now) uri.now name.now) }
+        ensures ok { IfOk result
+            (λ t. option_map located_schema t
+            ≡ dynamically_anchored (linked_schemas self.now) uri.now name.now) }
         ensures err { IfErr result (λ f. f ≡ Fault.NoRoom) }
     {
         match self.holder(uri) {
@@ -144,7 +158,8 @@ impl Linked {
 
     // The URI, as a text of the documents, where one of their resources has it, and else an empty text.
     fn resource_uri(&self, uri: &str) -> &str
-        ensures { IsTrue (is_some (resource_root (linked_schemas self.now) uri.now)) → result.now ≡ uri.now }
+        ensures { IsTrue (is_some (resource_root (linked_schemas self.now) uri.now))
+            → result.now ≡ uri.now }
     {
         match self.holder(uri) {
             Some(document) => match document.resource_uri(uri) {
@@ -162,7 +177,10 @@ impl Linked {
         scope: &[&str],
         named: &AbsoluteReference,
     ) -> Result<Option<Located<'_>>, Fault>
-        ensures ok { IfOk result (λ t. option_map located_schema t ≡ dynamic_target_of (linked_schemas self.now) (map (λ uri. uri.now) scope.now) named.now) }
+        ensures ok { IfOk result
+            (λ t. option_map located_schema t
+            ≡ dynamic_target_of (linked_schemas self.now)
+            (map (λ uri. uri.now) scope.now) named.now) }
         ensures err { IfErr result (λ f. f ≡ Fault.NoRoom) }
     {
         match self.target_by(alloc, named.uri.as_str(), &named.fragment) {
@@ -183,7 +201,10 @@ impl Linked {
         first: Located<'a>,
         fragment: &FragmentKind,
     ) -> Result<Located<'a>, Fault>
-        ensures ok { IfOk result (λ t. located_schema t ≡ dynamic_by (linked_schemas self.now) (map (λ uri. uri.now) scope.now) (located_schema first.entry) (Ok (fragment_shown fragment.now))) }
+        ensures ok { IfOk result
+            (λ t. located_schema t ≡ dynamic_by (linked_schemas self.now)
+            (map (λ uri. uri.now) scope.now) (located_schema first.entry)
+            (Ok (fragment_shown fragment.now))) }
         ensures err { IfErr result (λ f. f ≡ Fault.NoRoom) }
     {
         match fragment {
@@ -209,7 +230,9 @@ impl Linked {
         scope: &[&str],
         name: &str,
     ) -> Result<Option<Located<'_>>, Fault>
-        ensures ok { IfOk result (λ t. (first : Schema) → unwrap_or (option_map located_schema t) first ≡ outermost (linked_schemas self.now) (map (λ uri. uri.now) scope.now) name.now first) }
+        ensures ok { IfOk result
+            (λ t. (first : Schema) → unwrap_or (option_map located_schema t) first
+            ≡ outermost (linked_schemas self.now) (map (λ uri. uri.now) scope.now) name.now first) }
         ensures err { IfErr result (λ f. f ≡ Fault.NoRoom) }
     {
         let mut before: Option<&str> = None;
@@ -240,7 +263,8 @@ fn has_dynamic_anchor(schema: &Located<'_>, name: &str) -> bool
 // The first document's pattern with this text, of those that have one.
 fn first_pattern<'a>(documents: &'a [Rc<Compiled>], text: &str) -> Option<&'a Pattern>
     ensures same { IfSome result (λ p. p.now ≡ text.now) }
-    ensures there { (d : Document) → Contains (shared_documents documents.now) d → HasPattern d text.now → IsTrue (is_some result) }
+    ensures there { (d : Document) → Contains (shared_documents documents.now) d
+        → HasPattern d text.now → IsTrue (is_some result) }
 {
     for document in documents {
         if let Some(pattern) = document.pattern(text) {

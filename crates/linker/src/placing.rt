@@ -28,9 +28,15 @@ pub(crate) fn place(
     document: Rc<Compiled>,
 ) -> Result<bool, AllocError>
     requires { Ascend (shared_documents documents.old.items) }
-    ensures absent { IfOk result (λ put. put ≡ is_none (document_of (shared_documents documents.old.items) (compiled_document document.value).canonical)) }
-    ensures put { IfOk result (λ put. shared_documents documents.new.items ≡ (if put then placed (compiled_document document.value) (shared_documents documents.old.items) else shared_documents documents.old.items)) }
-    ensures kept { OnErr result (shared_documents documents.new.items ≡ shared_documents documents.old.items) }
+    ensures absent { IfOk result
+        (λ put. put ≡ is_none (document_of (shared_documents documents.old.items)
+        (compiled_document document.value).canonical)) }
+    ensures put { IfOk result
+        (λ put. shared_documents documents.new.items
+        ≡ (if put then placed (compiled_document document.value)
+        (shared_documents documents.old.items) else shared_documents documents.old.items)) }
+    ensures kept { OnErr result
+        (shared_documents documents.new.items ≡ shared_documents documents.old.items) }
 {
     match position(documents, canonical(&document)) {
         Ok(_) => Ok(false),

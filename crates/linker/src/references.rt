@@ -41,7 +41,8 @@ fn resolve_fragment<'a>(
     resource: &'a str,
     fragment: &str,
 ) -> Result<Option<AbsoluteReference<'a>>, Fault>
-    ensures ok { IfOk result (λ r. IsReadAs (resolved resource.now (number_sign ∷ fragment.now)) r) }
+    ensures ok { IfOk result
+        (λ r. IsReadAs (resolved resource.now (number_sign ∷ fragment.now)) r) }
     ensures err { IfErr result (λ f. f ≡ Fault.NoRoom) }
 {
     match readable_fragment(alloc, Some(fragment)) {
@@ -76,7 +77,8 @@ fn resolve_whole<'a>(
 
 // What the fragment names, or none where it can't be read.
 fn readable_fragment(alloc: Global, fragment: Option<&str>) -> Result<Option<FragmentKind>, Fault>
-    ensures ok { IfOk result (λ kind. IsShownBy (fragment_kind (option_map (λ t. t.now) fragment.entry)) kind) }
+    ensures ok { IfOk result
+        (λ kind. IsShownBy (fragment_kind (option_map (λ t. t.now) fragment.entry)) kind) }
     ensures err { IfErr result (λ f. f ≡ Fault.NoRoom) }
 {
     match fragment_kind(alloc, fragment) {
@@ -88,7 +90,8 @@ fn readable_fragment(alloc: Global, fragment: Option<&str>) -> Result<Option<Fra
 
 // The URI of the resource that this `$id` opens, where the resource around it has this one.
 pub(crate) fn opened_resource(alloc: Global, around: &str, id: &str) -> Result<String, Fault>
-    ensures ok { IfOk result (λ uri. string_bytes uri ≡ without_fragment (resolved around.now id.now)) }
+    ensures ok { IfOk result
+        (λ uri. string_bytes uri ≡ without_fragment (resolved around.now id.now)) }
     ensures err { IfErr result (λ f. f ≡ Fault.NoRoom) }
 {
     let opened = resolve(alloc, &split(around), &split(id))?;

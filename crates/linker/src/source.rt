@@ -22,7 +22,9 @@ pub trait Source {
     /// The document that has a resource of this URI, where one has. The only error is want of memory. Asking leaves the
     /// source with the documents that it had.
     fn holding(&mut self, alloc: Global, resource: &str) -> Result<Option<Rc<Compiled>>, Fault>
-        ensures held { IfOk result (λ d. option_map (λ it. compiled_document it.value) d ≡ find (holds_resource resource.now) (documents self.old)) }
+        ensures held { IfOk result
+            (λ d. option_map (λ it. compiled_document it.value) d
+            ≡ find (holds_resource resource.now) (documents self.old)) }
         ensures err { IfErr result (λ f. f ≡ Fault.NoRoom) }
         ensures same { documents self.new ≡ documents self.old };
 

@@ -22,7 +22,8 @@ pub(crate) fn reached_documents<S: Source>(
     source: &mut S,
     resource: &str,
 ) -> Result<Vec<Rc<Compiled>>, Fault>
-    ensures ok { IfOk result (λ ds. shared_documents ds.items ≡ reach (S.documents source.old) resource.now) }
+    ensures ok { IfOk result
+        (λ ds. shared_documents ds.items ≡ reach (S.documents source.old) resource.now) }
     ensures err { IfErr result (λ f. f ≡ Fault.NoRoom) }
     ensures same { S.documents source.new ≡ S.documents source.old }
 {
@@ -60,9 +61,14 @@ fn follow<S: Source>(
     waiting: &mut Vec<Rc<Compiled>>,
 ) -> Result<(), Fault>
     requires part { IsPart (shared_documents reached.old.items) (S.documents source.old) }
-    requires known { AreCompound (shared_documents reached.old.items) (shared_documents compound.old.items) }
-    ensures ok { OnOk result (Adds (S.documents source.old) (refers_to (compiled_document document.now)) (shared_documents reached.old.items) (shared_documents waiting.old.items) (shared_documents reached.new.items) (shared_documents waiting.new.items)) }
-    ensures known { OnOk result (AreCompound (shared_documents reached.new.items) (shared_documents compound.new.items)) }
+    requires known { AreCompound (shared_documents reached.old.items)
+        (shared_documents compound.old.items) }
+    ensures ok { OnOk result
+        (Adds (S.documents source.old) (refers_to (compiled_document document.now))
+        (shared_documents reached.old.items) (shared_documents waiting.old.items)
+        (shared_documents reached.new.items) (shared_documents waiting.new.items)) }
+    ensures known { OnOk result
+        (AreCompound (shared_documents reached.new.items) (shared_documents compound.new.items)) }
     ensures err { IfErr result (λ f. f ≡ Fault.NoRoom) }
     ensures same { S.documents source.new ≡ S.documents source.old }
 {
@@ -89,9 +95,14 @@ fn visit<S: Source>(
     waiting: &mut Vec<Rc<Compiled>>,
 ) -> Result<(), Fault>
     requires part { IsPart (shared_documents reached.old.items) (S.documents source.old) }
-    requires known { AreCompound (shared_documents reached.old.items) (shared_documents compound.old.items) }
-    ensures ok { OnOk result (Adds (S.documents source.old) (holds_resource uri.now) (shared_documents reached.old.items) (shared_documents waiting.old.items) (shared_documents reached.new.items) (shared_documents waiting.new.items)) }
-    ensures known { OnOk result (AreCompound (shared_documents reached.new.items) (shared_documents compound.new.items)) }
+    requires known { AreCompound (shared_documents reached.old.items)
+        (shared_documents compound.old.items) }
+    ensures ok { OnOk result
+        (Adds (S.documents source.old) (holds_resource uri.now) (shared_documents reached.old.items)
+        (shared_documents waiting.old.items) (shared_documents reached.new.items)
+        (shared_documents waiting.new.items)) }
+    ensures known { OnOk result
+        (AreCompound (shared_documents reached.new.items) (shared_documents compound.new.items)) }
     ensures err { IfErr result (λ f. f ≡ Fault.NoRoom) }
     ensures same { S.documents source.new ≡ S.documents source.old }
 {
@@ -112,9 +123,14 @@ fn keep(
     waiting: &mut Vec<Rc<Compiled>>,
 ) -> Result<(), AllocError>
     requires ascend { Ascend (shared_documents reached.old.items) }
-    requires known { AreCompound (shared_documents reached.old.items) (shared_documents compound.old.items) }
-    ensures kept { OnOk result (Keeps (compiled_document document.value) (shared_documents reached.old.items) (shared_documents waiting.old.items) (shared_documents reached.new.items) (shared_documents waiting.new.items)) }
-    ensures known { OnOk result (AreCompound (shared_documents reached.new.items) (shared_documents compound.new.items)) }
+    requires known { AreCompound (shared_documents reached.old.items)
+        (shared_documents compound.old.items) }
+    ensures kept { OnOk result
+        (Keeps (compiled_document document.value) (shared_documents reached.old.items)
+        (shared_documents waiting.old.items) (shared_documents reached.new.items)
+        (shared_documents waiting.new.items)) }
+    ensures known { OnOk result
+        (AreCompound (shared_documents reached.new.items) (shared_documents compound.new.items)) }
 {
     let again = document.clone()?;
     if place(reached, document)? {
@@ -126,7 +142,9 @@ fn keep(
 
 // Adds a document to those of several resources, if it has several.
 fn note(document: &Rc<Compiled>, compound: &mut Vec<Rc<Compiled>>) -> Result<(), AllocError>
-    ensures { OnOk result (shared_documents compound.new.items ≡ with_compound (compiled_document document.now.value) (shared_documents compound.old.items)) }
+    ensures { OnOk result (shared_documents compound.new.items
+        ≡ with_compound (compiled_document document.now.value)
+        (shared_documents compound.old.items)) }
 {
     if document.resource_uris().len() > 1 {
         compound.push(document.clone()?)?;

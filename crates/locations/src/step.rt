@@ -22,7 +22,8 @@ pub enum Step<'a> {
 
 /// Appends the text of the pointer with these steps (RFC 6901, section 3).
 pub fn push_pointer(text: &mut String, steps: &[Step<'_>]) -> Result<(), AllocError>
-    ensures { OnOk result (string_bytes text.new ≡ string_bytes text.old ++ pointer_text (tokens steps.now)) }
+    ensures { OnOk result (string_bytes text.new
+        ≡ string_bytes text.old ++ pointer_text (tokens steps.now)) }
 {
     for step in steps {
         push_step(text, *step)?;
@@ -32,7 +33,8 @@ pub fn push_pointer(text: &mut String, steps: &[Step<'_>]) -> Result<(), AllocEr
 
 /// Appends the same in bytes that can stand in a URI fragment (RFC 6901, section 6).
 pub fn push_fragment(text: &mut String, steps: &[Step<'_>]) -> Result<(), AllocError>
-    ensures { OnOk result (string_bytes text.new ≡ string_bytes text.old ++ fragment_text (tokens steps.now)) }
+    ensures { OnOk result (string_bytes text.new
+        ≡ string_bytes text.old ++ fragment_text (tokens steps.now)) }
 {
     for step in steps {
         push_fragment_step(text, *step)?;
@@ -41,7 +43,8 @@ pub fn push_fragment(text: &mut String, steps: &[Step<'_>]) -> Result<(), AllocE
 }
 
 fn push_step(text: &mut String, step: Step<'_>) -> Result<(), AllocError>
-    ensures { OnOk result (string_bytes text.new ≡ string_bytes text.old ++ slash ∷ flat_map escaped_byte (token step.entry)) }
+    ensures { OnOk result (string_bytes text.new
+        ≡ string_bytes text.old ++ slash ∷ flat_map escaped_byte (token step.entry)) }
 {
     match step {
         Step::Name(name) => push_token(text, name),
@@ -53,7 +56,9 @@ fn push_step(text: &mut String, step: Step<'_>) -> Result<(), AllocError>
 }
 
 fn push_fragment_step(text: &mut String, step: Step<'_>) -> Result<(), AllocError>
-    ensures { OnOk result (string_bytes text.new ≡ string_bytes text.old ++ slash ∷ percent_encoded (flat_map escaped_byte (token step.entry))) }
+    ensures { OnOk result (string_bytes text.new
+        ≡ string_bytes text.old ++ slash
+        ∷ percent_encoded (flat_map escaped_byte (token step.entry))) }
 {
     match step {
         Step::Name(name) => push_fragment_token(text, name),

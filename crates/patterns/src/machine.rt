@@ -142,7 +142,8 @@ impl Machine {
 
 // Whether the NFA has a match in text. It looks at each thread, and keeps nothing.
 fn is_match_by_threads(alloc: Global, nfa: &Nfa, hay: &[u8]) -> Result<bool, Fault>
-    ensures ok { (re : Re) → Implements nfa.now re → IfOk result (λ found. found ≡ is_some (find_str re hay.now 0)) }
+    ensures ok { (re : Re) → Implements nfa.now re
+        → IfOk result (λ found. found ≡ is_some (find_str re hay.now 0)) }
     ensures err { IfErr result (λ f. f ≡ Fault.NoRoom) }
 {
     let mut threads = PikeVm::new(alloc, nfa)?;

@@ -30,7 +30,8 @@ fn finished(out: Writer) -> String
 }
 
 fn write_text(out: &mut Writer, name: &str, value: &str) -> Result<(), AllocError>
-    ensures ok { OnOk result (out.new.tokens ≡ out.old.tokens ++ json.key name.now ∷ json.string value.now ∷ []) }
+    ensures ok { OnOk result
+        (out.new.tokens ≡ out.old.tokens ++ json.key name.now ∷ json.string value.now ∷ []) }
     ensures before { out.new.before ≡ out.old.before }
 {
     out.key(name)?;
@@ -38,7 +39,8 @@ fn write_text(out: &mut Writer, name: &str, value: &str) -> Result<(), AllocErro
 }
 
 fn write_number(out: &mut Writer, name: &str, value: u64) -> Result<(), AllocError>
-    ensures ok { OnOk result (out.new.tokens ≡ out.old.tokens ++ json.key name.now ∷ json.number (decimal value) ∷ []) }
+    ensures ok { OnOk result
+        (out.new.tokens ≡ out.old.tokens ++ json.key name.now ∷ json.number (decimal value) ∷ []) }
     ensures before { out.new.before ≡ out.old.before }
 {
     out.key(name)?;
@@ -46,7 +48,8 @@ fn write_number(out: &mut Writer, name: &str, value: u64) -> Result<(), AllocErr
 }
 
 fn write_flag(out: &mut Writer, name: &str, value: bool) -> Result<(), AllocError>
-    ensures ok { OnOk result (out.new.tokens ≡ out.old.tokens ++ json.key name.now ∷ json.boolean value ∷ []) }
+    ensures ok { OnOk result
+        (out.new.tokens ≡ out.old.tokens ++ json.key name.now ∷ json.boolean value ∷ []) }
     ensures before { out.new.before ≡ out.old.before }
 {
     out.key(name)?;
@@ -55,7 +58,9 @@ fn write_flag(out: &mut Writer, name: &str, value: bool) -> Result<(), AllocErro
 
 // A stored document, with its URI under the name.
 fn write_stored(out: &mut Writer, name: &str, uri: &str, replaced: bool) -> Result<(), AllocError>
-    ensures ok { OnOk result (out.new.tokens ≡ out.old.tokens ++ value_tokens (stored_value name.now (uri.now, replaced))) }
+    ensures ok { OnOk result
+        (out.new.tokens ≡ out.old.tokens
+        ++ value_tokens (stored_value name.now (uri.now, replaced))) }
     ensures before { out.new.before ≡ out.old.before }
 {
     out.begin_object()?;
@@ -66,7 +71,8 @@ fn write_stored(out: &mut Writer, name: &str, uri: &str, replaced: bool) -> Resu
 
 /// The body for a document that was stored.
 pub fn stored_body(alloc: Global, uri: &str, replaced: bool) -> Result<String, AllocError>
-    ensures { IfOk result (λ t. string_bytes t ≡ text (stored_value (codes "stored") (uri.now, replaced))) }
+    ensures { IfOk result (λ t. string_bytes t
+        ≡ text (stored_value (codes "stored") (uri.now, replaced))) }
 {
     let mut out = new_writer(alloc);
     write_stored(&mut out, "stored", uri, replaced)?;
@@ -74,7 +80,8 @@ pub fn stored_body(alloc: Global, uri: &str, replaced: bool) -> Result<String, A
 }
 
 fn write_deleted(out: &mut Writer, uri: &str) -> Result<(), AllocError>
-    ensures ok { OnOk result (out.new.tokens ≡ out.old.tokens ++ value_tokens (deleted_value uri.now)) }
+    ensures ok { OnOk result
+        (out.new.tokens ≡ out.old.tokens ++ value_tokens (deleted_value uri.now)) }
     ensures before { out.new.before ≡ out.old.before }
 {
     out.begin_object()?;
@@ -93,7 +100,8 @@ pub fn deleted_body(alloc: Global, uri: &str) -> Result<String, AllocError>
 
 // The documents of a batch and the closing bracket.
 fn write_entries(out: &mut Writer, entries: &[StoredEntry]) -> Result<(), AllocError>
-    ensures ok { OnOk result (out.new.tokens ≡ out.old.tokens ++ elements_tokens (map stored_entry_view entries.now)) }
+    ensures ok { OnOk result
+        (out.new.tokens ≡ out.old.tokens ++ elements_tokens (map stored_entry_view entries.now)) }
     ensures before { out.new.before ≡ out.old.before }
 {
     for entry in entries {
@@ -103,7 +111,9 @@ fn write_entries(out: &mut Writer, entries: &[StoredEntry]) -> Result<(), AllocE
 }
 
 fn write_stored_all(out: &mut Writer, entries: &[StoredEntry]) -> Result<(), AllocError>
-    ensures ok { OnOk result (out.new.tokens ≡ out.old.tokens ++ value_tokens (stored_all_value (map stored_entry_view entries.now))) }
+    ensures ok { OnOk result
+        (out.new.tokens ≡ out.old.tokens
+        ++ value_tokens (stored_all_value (map stored_entry_view entries.now))) }
     ensures before { out.new.before ≡ out.old.before }
 {
     out.begin_object()?;
@@ -115,7 +125,8 @@ fn write_stored_all(out: &mut Writer, entries: &[StoredEntry]) -> Result<(), All
 
 /// The body for a batch whose documents were stored.
 pub fn stored_all_body(alloc: Global, entries: &[StoredEntry]) -> Result<String, AllocError>
-    ensures { IfOk result (λ t. string_bytes t ≡ text (stored_all_value (map stored_entry_view entries.now))) }
+    ensures { IfOk result (λ t. string_bytes t
+        ≡ text (stored_all_value (map stored_entry_view entries.now))) }
 {
     let mut out = new_writer(alloc);
     write_stored_all(&mut out, entries)?;
@@ -123,7 +134,8 @@ pub fn stored_all_body(alloc: Global, entries: &[StoredEntry]) -> Result<String,
 }
 
 fn write_at(out: &mut Writer, at: Option<&str>) -> Result<(), AllocError>
-    ensures ok { OnOk result (out.new.tokens ≡ out.old.tokens ++ at_tokens (option_map (λ t. t.now) at.entry)) }
+    ensures ok { OnOk result
+        (out.new.tokens ≡ out.old.tokens ++ at_tokens (option_map (λ t. t.now) at.entry)) }
     ensures before { out.new.before ≡ out.old.before }
 {
     match at {
@@ -143,7 +155,8 @@ fn write_entry(out: &mut Writer, entry: Option<usize>) -> Result<(), AllocError>
 }
 
 fn write_fault(out: &mut Writer, entry: Option<usize>, refusal: &Fault) -> Result<(), AllocError>
-    ensures ok { OnOk result (out.new.tokens ≡ out.old.tokens ++ value_tokens (fault_value entry (fault refusal.now))) }
+    ensures ok { OnOk result
+        (out.new.tokens ≡ out.old.tokens ++ value_tokens (fault_value entry (fault refusal.now))) }
     ensures before { out.new.before ≡ out.old.before }
 {
     out.begin_object()?;

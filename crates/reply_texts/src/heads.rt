@@ -52,7 +52,8 @@ fn write_status_line(out: &mut String, status: u16) -> Result<(), AllocError>
 
 /// Appends a whole reply, of which the body is JSON. One after which the connection is closed says so.
 pub fn write_http(out: &mut String, closes: bool, status: u16, body: &str) -> Result<(), AllocError>
-    ensures { OnOk result (string_bytes out.new ≡ string_bytes out.old ++ http_text closes status body.now) }
+    ensures { OnOk result (string_bytes out.new
+        ≡ string_bytes out.old ++ http_text closes status body.now) }
 {
     write_status_line(out, status)?;
     out.push_str("content-type: application/json\r\ncontent-length: ")?;

@@ -39,7 +39,8 @@ fn write_refusal(
     entry: Option<usize>,
     refusal: &Fault,
 ) -> Result<(), AllocError>
-    ensures { OnOk result (string_bytes out.new ≡ string_bytes out.old ++ refusal_text closes entry (fault refusal.now)) }
+    ensures { OnOk result (string_bytes out.new
+        ≡ string_bytes out.old ++ refusal_text closes entry (fault refusal.now)) }
 {
     let body = fault_body(alloc, entry, refusal)?;
     write_http(out, closes, refused_status(refusal), body.as_str())
@@ -53,7 +54,8 @@ pub fn write_reply(
     closes: bool,
     reply: &Reply,
 ) -> Result<(), Fault>
-    ensures ok { OnOk result (string_bytes out.new ≡ string_bytes out.old ++ reply_text closes (reply_view reply.now)) }
+    ensures ok { OnOk result
+        (string_bytes out.new ≡ string_bytes out.old ++ reply_text closes (reply_view reply.now)) }
     ensures err { IfErr result (λ f. f ≡ Fault.NoRoom) }
 {
     match reply {

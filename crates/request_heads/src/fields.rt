@@ -37,7 +37,8 @@ pub fn next_named(window: &[u8], headers: &[HeaderSpan], from: usize, name: &[u8
 /// The first value of the fields with this name.
 pub fn first_named(window: &[u8], headers: &[HeaderSpan], name: &[u8]) -> Option<Span>
     requires { All (IsHeaderWithin (length window.now)) headers.now }
-    ensures value { option_map (span_bytes window.now) result ≡ first_of_values (values_at name.now window.now headers.now) }
+    ensures value { option_map (span_bytes window.now) result
+        ≡ first_of_values (values_at name.now window.now headers.now) }
     ensures within { IfSome result (IsWithin (length window.now)) }
 {
     match next_named(window, headers, 0, name) {
@@ -56,7 +57,8 @@ fn untold_length(must_tell: bool) -> Option<usize>
 // How long the body is by the fields `content-length`, of which there may be one at most.
 fn length_by(window: &[u8], headers: &[HeaderSpan], must_tell: bool) -> Option<usize>
     requires { All (IsHeaderWithin (length window.now)) headers.now }
-    ensures { result ≡ length_by (values_at (codes "content-length") window.now headers.now) must_tell }
+    ensures { result ≡ length_by
+        (values_at (codes "content-length") window.now headers.now) must_tell }
 {
     match next_named(window, headers, 0, b"content-length") {
         None => untold_length(must_tell),
@@ -82,7 +84,8 @@ pub fn body_length(window: &[u8], headers: &[HeaderSpan], must_tell: bool) -> Op
 // Whether a field `connection` asks to close the connection behind the reply.
 fn asks_to_close_by(window: &[u8], headers: &[HeaderSpan]) -> bool
     requires { All (IsHeaderWithin (length window.now)) headers.now }
-    ensures { result ≡ list_any asks_to_close (values_at (codes "connection") window.now headers.now) }
+    ensures { result ≡ list_any asks_to_close
+        (values_at (codes "connection") window.now headers.now) }
 {
     let mut at = 0;
     while let Some(named) = next_named(window, headers, at, b"connection") {
@@ -97,7 +100,8 @@ fn asks_to_close_by(window: &[u8], headers: &[HeaderSpan]) -> bool
 /// Whether the connection is closed behind the reply (RFC 9112, section 9.3): by the minor version, or by a field.
 pub fn is_last(window: &[u8], headers: &[HeaderSpan], minor: u8) -> bool
     requires { All (IsHeaderWithin (length window.now)) headers.now }
-    ensures { result ≡ ((minor == 0) || list_any asks_to_close (values_at (codes "connection") window.now headers.now)) }
+    ensures { result ≡ ((minor == 0)
+        || list_any asks_to_close (values_at (codes "connection") window.now headers.now)) }
 {
     minor == 0 || asks_to_close_by(window, headers)
 }

@@ -65,7 +65,8 @@ fn head_at(bytes: &[u8], at: usize) -> Option<Front>
 fn advance(bytes: &[u8], search: &mut Search) -> Option<Front>
     requires searched { IsSearched bytes.now search.old }
     requires more { search.old.len < length bytes.now }
-    ensures none { result ≡ None → IsSearched bytes.now search.new × (search.new.len ≡ search.old.len + 1) }
+    ensures none { result ≡ None
+        → IsSearched bytes.now search.new × (search.new.len ≡ search.old.len + 1) }
     ensures some { IfSome result (IsFrontOf bytes.now) }
 {
     let at = search.len;
@@ -89,7 +90,8 @@ fn advance(bytes: &[u8], search: &mut Search) -> Option<Front>
 /// room for one: then all bytes were looked at.
 pub fn look(bytes: &[u8], search: &mut Search) -> Option<Front>
     requires searched { IsSearched bytes.now search.old }
-    ensures none { result ≡ None → IsSearched bytes.now search.new × (search.new.len ≡ length bytes.now) }
+    ensures none { result ≡ None
+        → IsSearched bytes.now search.new × (search.new.len ≡ length bytes.now) }
     ensures some { IfSome result (IsFrontOf bytes.now) }
 {
     for _ in search.len..bytes.len() {

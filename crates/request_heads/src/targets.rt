@@ -34,7 +34,9 @@ fn unescaped(alloc: Global, text: &[u8]) -> Result<Option<String>, Fault>
 
 // The URI behind this beginning of the target.
 fn uri_behind(alloc: Global, path: &[u8], target: &[u8]) -> Result<Option<String>, Fault>
-    ensures ok { IfOk result (λ uri. option_map string_bytes uri ≡ option_and_then unescaped (behind path.now target.now)) }
+    ensures ok { IfOk result
+        (λ uri. option_map string_bytes uri
+        ≡ option_and_then unescaped (behind path.now target.now)) }
     ensures err { IfErr result (λ f. f ≡ Fault.NoRoom) }
 {
     match behind(path, target) {
@@ -44,7 +46,8 @@ fn uri_behind(alloc: Global, path: &[u8], target: &[u8]) -> Result<Option<String
 }
 
 fn put(alloc: Global, target: &[u8], body: &[u8]) -> Result<Option<Request>, Fault>
-    ensures ok { IfOk result (λ r. option_map request_view r ≡ request_by routes (codes "PUT") target.now body.now) }
+    ensures ok { IfOk result
+        (λ r. option_map request_view r ≡ request_by routes (codes "PUT") target.now body.now) }
     ensures err { IfErr result (λ f. f ≡ Fault.NoRoom) }
 {
     let found = uri_behind(alloc, b"/schemas?uri=", target)?;
@@ -55,7 +58,8 @@ fn put(alloc: Global, target: &[u8], body: &[u8]) -> Result<Option<Request>, Fau
 }
 
 fn delete(alloc: Global, target: &[u8], body: &[u8]) -> Result<Option<Request>, Fault>
-    ensures ok { IfOk result (λ r. option_map request_view r ≡ request_by routes (codes "DELETE") target.now body.now) }
+    ensures ok { IfOk result
+        (λ r. option_map request_view r ≡ request_by routes (codes "DELETE") target.now body.now) }
     ensures err { IfErr result (λ f. f ≡ Fault.NoRoom) }
 {
     let found = uri_behind(alloc, b"/schemas?uri=", target)?;
@@ -72,7 +76,8 @@ fn is_batch(target: &[u8]) -> bool
 }
 
 fn post(alloc: Global, target: &[u8], body: &[u8]) -> Result<Option<Request>, Fault>
-    ensures ok { IfOk result (λ r. option_map request_view r ≡ request_by routes (codes "POST") target.now body.now) }
+    ensures ok { IfOk result
+        (λ r. option_map request_view r ≡ request_by routes (codes "POST") target.now body.now) }
     ensures err { IfErr result (λ f. f ≡ Fault.NoRoom) }
 {
     if is_batch(target) {
@@ -86,7 +91,8 @@ fn post(alloc: Global, target: &[u8], body: &[u8]) -> Result<Option<Request>, Fa
 }
 
 fn get(alloc: Global, target: &[u8], body: &[u8]) -> Result<Option<Request>, Fault>
-    ensures ok { IfOk result (λ r. option_map request_view r ≡ request_by routes (codes "GET") target.now body.now) }
+    ensures ok { IfOk result
+        (λ r. option_map request_view r ≡ request_by routes (codes "GET") target.now body.now) }
     ensures err { IfErr result (λ f. f ≡ Fault.NoRoom) }
 {
     let found = uri_behind(alloc, b"/bundle?uri=", target)?;
@@ -104,7 +110,9 @@ pub fn request_of(
     target: &[u8],
     body: &[u8],
 ) -> Result<Option<Request>, Fault>
-    ensures ok { IfOk result (λ r. option_map request_view r ≡ request_by routes (method_text method) target.now body.now) }
+    ensures ok { IfOk result
+        (λ r. option_map request_view r
+        ≡ request_by routes (method_text method) target.now body.now) }
     ensures err { IfErr result (λ f. f ≡ Fault.NoRoom) }
 {
     match method {

@@ -18,7 +18,9 @@ pub(crate) fn anchor_numbers_of(
     anchors: &[Anchor],
     any: bool,
 ) -> Result<BTreeMap<String, BTreeMap<String, usize>>, AllocError>
-    ensures { IfOk result (λ numbers. (u n : Text) → pair_number numbers u n ≡ position_from (is_marked any u n) 0 (map anchor_mark anchors.now)) }
+    ensures { IfOk result (λ numbers. (u n : Text)
+        → pair_number numbers u n
+        ≡ position_from (is_marked any u n) 0 (map anchor_mark anchors.now)) }
 {
     let mut numbers = BTreeMap::new(alloc);
     let mut number = anchors.len();
@@ -36,7 +38,10 @@ fn add_anchor(
     any: bool,
     number: usize,
 ) -> Result<(), AllocError>
-    ensures { OnOk result ((u n : Text) → pair_number numbers.new u n ≡ (if is_marked any u n (anchor_mark anchor.now) then Some number else pair_number numbers.old u n)) }
+    ensures { OnOk result ((u n : Text)
+        → pair_number numbers.new u n
+        ≡ (if is_marked any u n (anchor_mark anchor.now) then Some number else pair_number
+        numbers.old u n)) }
 {
     if any || anchor.dynamic {
         add_pair(
@@ -58,7 +63,10 @@ fn add_pair(
     name: &str,
     number: usize,
 ) -> Result<(), AllocError>
-    ensures { OnOk result ((u n : Text) → pair_number numbers.new u n ≡ (if same_text u uri.now && same_text n name.now then Some number else pair_number numbers.old u n)) }
+    ensures { OnOk result ((u n : Text)
+        → pair_number numbers.new u n
+        ≡ (if same_text u uri.now
+        && same_text n name.now then Some number else pair_number numbers.old u n)) }
 {
     let mut names = take_names(alloc, numbers, uri);
     names.insert(String::from_str(alloc, name)?, number)?;
@@ -73,7 +81,8 @@ fn take_names(
     uri: &str,
 ) -> BTreeMap<String, usize>
     ensures names { (n : Text) → get_by_text result n ≡ pair_number numbers.old uri.now n }
-    ensures others { (u : Text) → same_text u uri.now ≡ false → get_by_text numbers.new u ≡ get_by_text numbers.old u }
+    ensures others { (u : Text) → same_text u uri.now ≡ false
+        → get_by_text numbers.new u ≡ get_by_text numbers.old u }
 {
     match numbers.remove(uri) {
         Some(names) => names,
@@ -102,7 +111,9 @@ pub(crate) fn find_anchor<'a>(
     uri: &str,
     name: &str,
 ) -> Option<&'a Anchor>
-    ensures { option_map (λ a. anchor_mark a.now) result ≡ option_and_then (slice_get (map anchor_mark anchors.now)) (pair_number numbers.now uri.now name.now) }
+    ensures { option_map (λ a. anchor_mark a.now) result
+        ≡ option_and_then (slice_get (map anchor_mark anchors.now))
+        (pair_number numbers.now uri.now name.now) }
 {
     match anchor_number(numbers, uri, name) {
         Some(number) => anchors.get(number),

@@ -32,7 +32,8 @@ pub(crate) fn schema_of_anchor<'a>(
     anchor: &'a Anchor,
     document: &'a Doc,
 ) -> Result<Option<Located<'a>>, AllocError>
-    ensures { IfOk result (λ t. option_map located_schema t ≡ marked (value document.now) (anchor_mark anchor.now)) }
+    ensures { IfOk result (λ t. option_map located_schema t
+        ≡ marked (value document.now) (anchor_mark anchor.now)) }
 {
     match follow(&anchor.way, document) {
         Some(schema) => Ok(Some(Located {

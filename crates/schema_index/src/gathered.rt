@@ -56,7 +56,8 @@ impl Gathered {
         way: &[Step<'_>],
         schema: &Doc,
     ) -> Result<(), AllocError>
-        ensures { OnOk result (Gathers self.old self.new (spot_in (step_hops way.now) start uri.now (value schema.now) ∷ [])) }
+        ensures { OnOk result (Gathers self.old self.new
+            (spot_in (step_hops way.now) start uri.now (value schema.now) ∷ [])) }
     {
         if way.len() <= start {
             push_root(alloc, &mut self.uris, &mut self.ways, uri, way)?;
@@ -75,8 +76,11 @@ fn push_root(
     uri: &str,
     way: &[Step<'_>],
 ) -> Result<(), AllocError>
-    ensures uris { OnOk result (map string_bytes uris.new.items ≡ map string_bytes uris.old.items ++ uri.now ∷ []) }
-    ensures ways { OnOk result (map (λ w. owned_hops w.items) ways.new.items ≡ map (λ w. owned_hops w.items) ways.old.items ++ step_hops way.now ∷ []) }
+    ensures uris { OnOk result
+        (map string_bytes uris.new.items ≡ map string_bytes uris.old.items ++ uri.now ∷ []) }
+    ensures ways { OnOk result
+        (map (λ w. owned_hops w.items) ways.new.items
+        ≡ map (λ w. owned_hops w.items) ways.old.items ++ step_hops way.now ∷ []) }
 {
     uris.push(String::from_str(alloc, uri)?)?;
     ways.push(own(alloc, way)?)?;
@@ -91,7 +95,8 @@ fn push_references(
     base: &str,
     schema: &Doc,
 ) -> Result<(), AllocError>
-    ensures { OnOk result (map string_bytes references.new.items ≡ map string_bytes references.old.items ++ references_at base.now (value schema.now)) }
+    ensures { OnOk result (map string_bytes references.new.items
+        ≡ map string_bytes references.old.items ++ references_at base.now (value schema.now)) }
 {
     push_reference(alloc, references, "$ref", base, schema)?;
     push_reference(alloc, references, "$dynamicRef", base, schema)
@@ -104,7 +109,9 @@ fn push_reference(
     base: &str,
     schema: &Doc,
 ) -> Result<(), AllocError>
-    ensures { OnOk result (map string_bytes references.new.items ≡ map string_bytes references.old.items ++ reference_under keyword.now base.now (value schema.now)) }
+    ensures { OnOk result (map string_bytes references.new.items
+        ≡ map string_bytes references.old.items
+        ++ reference_under keyword.now base.now (value schema.now)) }
 {
     if let Some(reference) = text_at(schema, keyword) {
         references.push(resolved(alloc, base, reference)?)?;
@@ -122,7 +129,9 @@ fn push_anchors(
     way: &[Step<'_>],
     schema: &Doc,
 ) -> Result<(), AllocError>
-    ensures { OnOk result (map anchor_mark anchors.new.items ≡ map anchor_mark anchors.old.items ++ marks (spot_in (step_hops way.now) start uri.now (value schema.now))) }
+    ensures { OnOk result (map anchor_mark anchors.new.items
+        ≡ map anchor_mark anchors.old.items
+        ++ marks (spot_in (step_hops way.now) start uri.now (value schema.now))) }
 {
     if let Some(name) = text_at(schema, "$anchor") {
         anchors.push(anchor(alloc, name, false, uri, start, way)?)?;
@@ -141,7 +150,15 @@ fn anchor(
     start: usize,
     way: &[Step<'_>],
 ) -> Result<Anchor, AllocError>
-    ensures { IfOk result (λ a. anchor_mark a ≡ record { name = name.now; dynamic = dynamic; resource = uri.now; start = start; way = step_hops way.now }) }
+    ensures { IfOk result (λ a. anchor_mark a
+        ≡ record {
+          name = name.now;
+          dynamic = dynamic;
+          resource = uri.now;
+          start = start;
+          way =
+              step_hops way.now;
+        }) }
 {
     Ok(Anchor {
         name: String::from_str(alloc, name)?,

@@ -12,7 +12,8 @@ use std::alloc::{AllocError, Global};
 
 /// What is gathered of the schemas of a document that stands under this base.
 pub(crate) fn gather(alloc: Global, base: &str, document: &Doc) -> Result<Gathered, AllocError>
-    ensures { IfOk result (λ gathered. IsGathered gathered (spots [] 0 base.now (value document.now))) }
+    ensures { IfOk result (λ gathered.
+        IsGathered gathered (spots [] 0 base.now (value document.now))) }
 {
     let mut gathered = Gathered::new(alloc);
     let mut way = Vec::new(alloc);

@@ -57,7 +57,8 @@ impl Indexed {
     /// Makes the index of a document that stands under this base. The only error is want of memory.
     pub fn of(alloc: Global, base: String, document: Doc) -> Result<Indexed, Fault>
         requires { scan_fault (string_bytes base) (value document) ≡ None }
-        ensures ok { IfOk result (λ d. (indexed_base d ≡ string_bytes base) × (indexed_value d ≡ value document)) }
+        ensures ok { IfOk result
+            (λ d. (indexed_base d ≡ string_bytes base) × (indexed_value d ≡ value document)) }
         ensures err { IfErr result (λ f. f ≡ Fault.NoRoom) }
     {
         // The walk through the whole value tells that it is well formed.
@@ -130,7 +131,8 @@ impl Indexed {
 
     /// The root of the resource with this URI.
     pub fn resource_root(&self, alloc: Global, uri: &str) -> Option<Located<'_>>
-        ensures { option_map located_schema result ≡ resource_root (indexed_schemas self.now) uri.now }
+        ensures { option_map located_schema result
+            ≡ resource_root (indexed_schemas self.now) uri.now }
     {
         match self.number(uri) {
             Some(number) => self.root(alloc, number),
@@ -147,7 +149,9 @@ impl Indexed {
 
     // The root of the resource of this number.
     fn root(&self, alloc: Global, number: usize) -> Option<Located<'_>>
-        ensures { option_map located_schema result ≡ root_numbered (gathered_uris self.now.gathered) (gathered_ways self.now.gathered) (value self.now.document) number }
+        ensures { option_map located_schema result
+            ≡ root_numbered (gathered_uris self.now.gathered) (gathered_ways self.now.gathered)
+            (value self.now.document) number }
     {
         match numbered(&self.gathered.uris, number) {
             Some(resource) => match way_of(&self.gathered.ways, number) {
@@ -166,7 +170,9 @@ impl Indexed {
         uri: &str,
         fragment: &FragmentKind,
     ) -> Result<Option<Located<'_>>, Fault>
-        ensures ok { IfOk result (λ t. option_map located_schema t ≡ target_by (indexed_schemas self.now) uri.now (fragment_shown fragment.now)) }
+        ensures ok { IfOk result
+            (λ t. option_map located_schema t
+            ≡ target_by (indexed_schemas self.now) uri.now (fragment_shown fragment.now)) }
         ensures err { IfErr result (λ f. f ≡ Fault.NoRoom) }
     {
         match fragment {
@@ -183,7 +189,9 @@ impl Indexed {
         uri: &str,
         name: &str,
     ) -> Result<Option<Located<'_>>, Fault>
-        ensures ok { IfOk result (λ t. option_map located_schema t ≡ dynamically_anchored (indexed_schemas self.now) uri.now name.now) }
+        ensures ok { IfOk result
+            (λ t. option_map located_schema t
+            ≡ dynamically_anchored (indexed_schemas self.now) uri.now name.now) }
         ensures err { IfErr result (λ f. f ≡ Fault.NoRoom) }
     {
         match find_anchor(&self.gathered.anchors, &self.dynamic_numbers, uri, name) {
@@ -199,7 +207,10 @@ impl Indexed {
         uri: &str,
         pointer: &Pointer,
     ) -> Result<Option<Located<'_>>, Fault>
-        ensures ok { IfOk result (λ t. option_map located_schema t ≡ option_and_then (pointed pointer.now) (resource_root (indexed_schemas self.now) uri.now)) }
+        ensures ok { IfOk result
+            (λ t. option_map located_schema t
+            ≡ option_and_then (pointed pointer.now)
+            (resource_root (indexed_schemas self.now) uri.now)) }
         ensures err { IfErr result (λ f. f ≡ Fault.NoRoom) }
     {
         match self.resource_root(alloc, uri) {
@@ -210,7 +221,9 @@ impl Indexed {
 
     // The schema with this anchor in the resource with this URI.
     fn anchored(&self, alloc: Global, uri: &str, name: &str) -> Result<Option<Located<'_>>, Fault>
-        ensures ok { IfOk result (λ t. option_map located_schema t ≡ anchored (indexed_schemas self.now) uri.now name.now) }
+        ensures ok { IfOk result
+            (λ t. option_map located_schema t
+            ≡ anchored (indexed_schemas self.now) uri.now name.now) }
         ensures err { IfErr result (λ f. f ≡ Fault.NoRoom) }
     {
         match find_anchor(&self.gathered.anchors, &self.anchor_numbers, uri, name) {
@@ -228,7 +241,8 @@ fn root_along<'a>(
     way: &[OwnedStep],
     document: &'a Doc,
 ) -> Option<Located<'a>>
-    ensures { option_map located_schema result ≡ root_at resource.now (owned_hops way.now) (value document.now) }
+    ensures { option_map located_schema result
+        ≡ root_at resource.now (owned_hops way.now) (value document.now) }
 {
     match follow(way, document) {
         Some(schema) => Some(Located {

@@ -13,7 +13,8 @@ pub(crate) fn numbers_of(
     alloc: Global,
     texts: &[String],
 ) -> Result<BTreeMap<String, usize>, AllocError>
-    ensures { IfOk result (λ numbers. (t : Text) → get_by_text numbers t ≡ position_from (same_text t) 0 (map string_bytes texts.now)) }
+    ensures { IfOk result (λ numbers. (t : Text)
+        → get_by_text numbers t ≡ position_from (same_text t) 0 (map string_bytes texts.now)) }
 {
     let mut numbers = BTreeMap::new(alloc);
     let mut number = texts.len();

@@ -41,7 +41,8 @@ impl Indexed {
         pointer: &Pointer,
     ) -> Result<Option<Located<'a>>, Fault>
         requires { Contains (indexed_schemas self.now) (located_schema root) }
-        ensures ok { IfOk result (λ t. option_map located_schema t ≡ pointed pointer.now (located_schema root.entry)) }
+        ensures ok { IfOk result
+            (λ t. option_map located_schema t ≡ pointed pointer.now (located_schema root.entry)) }
         ensures err { IfErr result (λ f. f ≡ Fault.NoRoom) }
     {
         self.led(alloc, root, pointer.tokens())
@@ -55,7 +56,9 @@ impl Indexed {
         tokens: &[String],
     ) -> Result<Option<Located<'a>>, Fault>
         requires { Contains (indexed_schemas self.now) (located_schema from) }
-        ensures ok { IfOk result (λ t. option_map located_schema t ≡ led (map string_bytes tokens.now) (located_schema from.entry)) }
+        ensures ok { IfOk result
+            (λ t. option_map located_schema t
+            ≡ led (map string_bytes tokens.now) (located_schema from.entry)) }
         ensures err { IfErr result (λ f. f ≡ Fault.NoRoom) }
     {
         let mut here = from;
@@ -77,8 +80,11 @@ impl Indexed {
         around: Located<'a>,
         descent: Descent<'a, '_>,
     ) -> Result<Located<'a>, Fault>
-        requires { Contains (indexed_schemas self.now) (below (located_schema around) (tokens_taken descent) (value descent.schema.now)) }
-        ensures ok { IfOk result (λ l. located_schema l ≡ below (located_schema around.entry) (tokens_taken descent.entry) (value descent.entry.schema.now)) }
+        requires { Contains (indexed_schemas self.now)
+            (below (located_schema around) (tokens_taken descent) (value descent.schema.now)) }
+        ensures ok { IfOk result
+            (λ l. located_schema l ≡ below (located_schema around.entry)
+            (tokens_taken descent.entry) (value descent.entry.schema.now)) }
         ensures err { IfErr result (λ f. f ≡ Fault.NoRoom) }
     {
         match id_of(descent.schema) {
@@ -115,7 +121,8 @@ fn with_steps<'a>(
     keyword: &'a str,
     place: Option<Step<'a>>,
 ) -> Result<Vec<Step<'a>>, AllocError>
-    ensures { IfOk result (λ s. tokens s.items ≡ tokens steps.entry.items ++ keyword.now ∷ tokens (option_list place.entry)) }
+    ensures { IfOk result (λ s. tokens s.items
+        ≡ tokens steps.entry.items ++ keyword.now ∷ tokens (option_list place.entry)) }
 {
     let mut steps = steps;
     steps.push(Step::Name(keyword))?;
@@ -127,7 +134,8 @@ fn with_steps<'a>(
 
 // The URI of the resource that a schema with this `$id` opens inside this base.
 fn opened_uri(alloc: Global, base: &str, id: &str) -> Result<String, Fault>
-    ensures ok { IfOk result (λ uri. string_bytes uri ≡ without_fragment (resolved base.now id.now)) }
+    ensures ok { IfOk result
+        (λ uri. string_bytes uri ≡ without_fragment (resolved base.now id.now)) }
     ensures err { IfErr result (λ f. f ≡ Fault.NoRoom) }
 {
     let resolved = resolve(alloc, &split(base), &split(id))?;

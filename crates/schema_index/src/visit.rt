@@ -27,7 +27,9 @@ pub(crate) fn visit_schema<'a>(
     base: &str,
     schema: &'a Doc,
 ) -> Result<(), AllocError>
-    ensures gathers { OnOk result (Gathers gathered.old gathered.new (spots (step_hops way.old.items) start base.now (value schema.now))) }
+    ensures gathers { OnOk result
+        (Gathers gathered.old gathered.new
+        (spots (step_hops way.old.items) start base.now (value schema.now))) }
     ensures way { OnOk result (step_hops way.new.items ≡ step_hops way.old.items) }
 {
     match text_at(schema, "$id") {
@@ -52,7 +54,9 @@ fn visit_in_resource<'a>(
     uri: &str,
     schema: &'a Doc,
 ) -> Result<(), AllocError>
-    ensures gathers { OnOk result (Gathers gathered.old gathered.new (spots_from (step_hops way.old.items) start uri.now (value schema.now))) }
+    ensures gathers { OnOk result
+        (Gathers gathered.old gathered.new
+        (spots_from (step_hops way.old.items) start uri.now (value schema.now))) }
     ensures way { OnOk result (step_hops way.new.items ≡ step_hops way.old.items) }
 {
     match gathered.add(alloc, uri, start, way, schema) {
@@ -74,7 +78,9 @@ fn visit_below<'a>(
     uri: &str,
     members: &'a Members,
 ) -> Result<(), AllocError>
-    ensures gathers { OnOk result (Gathers gathered.old gathered.new (spots_below (step_hops way.old.items) start uri.now (members_view members.now))) }
+    ensures gathers { OnOk result
+        (Gathers gathered.old gathered.new
+        (spots_below (step_hops way.old.items) start uri.now (members_view members.now))) }
     ensures way { OnOk result (step_hops way.new.items ≡ step_hops way.old.items) }
 {
     for (name, member) in members.iter() {
@@ -97,7 +103,10 @@ fn visit_keyword<'a>(
     name: &'a str,
     member: &'a Doc,
 ) -> Result<(), AllocError>
-    ensures gathers { OnOk result (Gathers gathered.old gathered.new (spots_at (shape_named name.now) (step_hops way.old.items ++ to_member name.now ∷ []) start uri.now (value member.now))) }
+    ensures gathers { OnOk result
+        (Gathers gathered.old gathered.new
+        (spots_at (shape_named name.now)
+        (step_hops way.old.items ++ to_member name.now ∷ []) start uri.now (value member.now))) }
     ensures way { OnOk result (step_hops way.new.items ≡ step_hops way.old.items) }
 {
     match push_step(way, Step::Name(name)) {
@@ -123,7 +132,9 @@ fn visit_place<'a>(
     shape: Shape,
     member: &'a Doc,
 ) -> Result<(), AllocError>
-    ensures gathers { OnOk result (Gathers gathered.old gathered.new (spots_at (shape_view shape) (step_hops way.old.items) start uri.now (value member.now))) }
+    ensures gathers { OnOk result
+        (Gathers gathered.old gathered.new
+        (spots_at (shape_view shape) (step_hops way.old.items) start uri.now (value member.now))) }
     ensures way { OnOk result (step_hops way.new.items ≡ step_hops way.old.items) }
 {
     match (shape, member) {
@@ -148,7 +159,10 @@ fn visit_list<'a>(
     uri: &str,
     schemas: &'a [Doc],
 ) -> Result<(), AllocError>
-    ensures gathers { OnOk result (Gathers gathered.old gathered.new (spots_in_list (step_hops way.old.items) start uri.now 0 (to_elements (map value schemas.now)))) }
+    ensures gathers { OnOk result
+        (Gathers gathered.old gathered.new
+        (spots_in_list (step_hops way.old.items) start uri.now 0
+        (to_elements (map value schemas.now)))) }
     ensures way { OnOk result (step_hops way.new.items ≡ step_hops way.old.items) }
 {
     for (index, schema) in schemas.iter().enumerate() {
@@ -170,7 +184,9 @@ fn visit_map<'a>(
     uri: &str,
     schemas: &'a Members,
 ) -> Result<(), AllocError>
-    ensures gathers { OnOk result (Gathers gathered.old gathered.new (spots_in_map (step_hops way.old.items) start uri.now (members_view schemas.now))) }
+    ensures gathers { OnOk result
+        (Gathers gathered.old gathered.new
+        (spots_in_map (step_hops way.old.items) start uri.now (members_view schemas.now))) }
     ensures way { OnOk result (step_hops way.new.items ≡ step_hops way.old.items) }
 {
     for (name, schema) in schemas.iter() {
@@ -193,7 +209,10 @@ fn visit_step<'a>(
     step: Step<'a>,
     schema: &'a Doc,
 ) -> Result<(), AllocError>
-    ensures gathers { OnOk result (Gathers gathered.old gathered.new (spots (step_hops way.old.items ++ step_hop step.entry ∷ []) start uri.now (value schema.now))) }
+    ensures gathers { OnOk result
+        (Gathers gathered.old gathered.new
+        (spots (step_hops way.old.items ++ step_hop step.entry ∷ []) start uri.now
+        (value schema.now))) }
     ensures way { OnOk result (step_hops way.new.items ≡ step_hops way.old.items) }
 {
     match push_step(way, step) {
@@ -209,14 +228,16 @@ fn visit_step<'a>(
 }
 
 fn push_step<'a>(way: &mut Vec<Step<'a>>, step: Step<'a>) -> Result<(), AllocError>
-    ensures { OnOk result (step_hops way.new.items ≡ step_hops way.old.items ++ step_hop step.entry ∷ []) }
+    ensures { OnOk result (step_hops way.new.items
+        ≡ step_hops way.old.items ++ step_hop step.entry ∷ []) }
 {
     way.push(step)?;
     Ok(())
 }
 
 fn pop_step(way: &mut Vec<Step<'_>>)
-    ensures { (hops : List Hop) (hop : Hop) → step_hops way.old.items ≡ hops ++ hop ∷ [] → step_hops way.new.items ≡ hops }
+    ensures { (hops : List Hop) (hop : Hop) → step_hops way.old.items ≡ hops ++ hop ∷ []
+        → step_hops way.new.items ≡ hops }
 {
     way.pop();
 }

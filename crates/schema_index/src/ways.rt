@@ -50,7 +50,8 @@ pub(crate) fn follow<'a>(way: &[OwnedStep], doc: &'a Doc) -> Option<&'a Doc>
 }
 
 fn child<'a>(step: &OwnedStep, doc: &'a Doc) -> Option<&'a Doc>
-    ensures { option_map (λ d. value d.now) result ≡ hop_value (owned_hop step.now) (value doc.now) }
+    ensures { option_map (λ d. value d.now) result
+        ≡ hop_value (owned_hop step.now) (value doc.now) }
 {
     match step {
         OwnedStep::Name(name) => doc.get(name.as_str()),
@@ -93,7 +94,8 @@ fn borrow_step(step: &OwnedStep) -> Step<'_>
 
 /// The way of this number.
 pub(crate) fn way_of(ways: &[Vec<OwnedStep>], number: usize) -> Option<&[OwnedStep]>
-    ensures { option_map (λ w. owned_hops w.now) result ≡ slice_get (map (λ w. owned_hops w.items) ways.now) number }
+    ensures { option_map (λ w. owned_hops w.now) result
+        ≡ slice_get (map (λ w. owned_hops w.items) ways.now) number }
 {
     Some(ways.get(number)?.as_slice())
 }

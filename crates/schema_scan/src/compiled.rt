@@ -76,7 +76,8 @@ impl Compiled {
 
     /// The root of the resource with this URI.
     pub fn resource_root(&self, alloc: Global, uri: &str) -> Option<Located<'_>>
-        ensures { option_map located_schema result ≡ resource_root (compiled_schemas self.now) uri.now }
+        ensures { option_map located_schema result
+            ≡ resource_root (compiled_schemas self.now) uri.now }
     {
         self.indexed.resource_root(alloc, uri)
     }
@@ -89,7 +90,9 @@ impl Compiled {
         uri: &str,
         fragment: &FragmentKind,
     ) -> Result<Option<Located<'_>>, Fault>
-        ensures ok { IfOk result (λ t. option_map located_schema t ≡ target_by (compiled_schemas self.now) uri.now (fragment_shown fragment.now)) }
+        ensures ok { IfOk result
+            (λ t. option_map located_schema t
+            ≡ target_by (compiled_schemas self.now) uri.now (fragment_shown fragment.now)) }
         ensures err { IfErr result (λ f. f ≡ Fault.NoRoom) }
     {
         self.indexed.target(alloc, uri, fragment)
@@ -102,7 +105,9 @@ impl Compiled {
         uri: &str,
         name: &str,
     ) -> Result<Option<Located<'_>>, Fault>
-        ensures ok { IfOk result (λ t. option_map located_schema t ≡ dynamically_anchored (compiled_schemas self.now) uri.now name.now) }
+        ensures ok { IfOk result
+            (λ t. option_map located_schema t
+            ≡ dynamically_anchored (compiled_schemas self.now) uri.now name.now) }
         ensures err { IfErr result (λ f. f ≡ Fault.NoRoom) }
     {
         self.indexed.dynamically_anchored(alloc, uri, name)
@@ -111,7 +116,8 @@ impl Compiled {
     /// The pattern with this text, where one of the document's schemas has it.
     pub fn pattern(&self, text: &str) -> Option<&Pattern>
         ensures same { IfSome result (λ p. p.now ≡ text.now) }
-        ensures there { Contains (patterns (compiled_value self.now)) text.now → IsTrue (is_some result) }
+        ensures there { Contains (patterns (compiled_value self.now)) text.now
+            → IsTrue (is_some result) }
     {
         self.pattern_table.get(text)
     }

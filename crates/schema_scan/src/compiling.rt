@@ -20,9 +20,13 @@ use std::alloc::Global;
 /// [`Fault::BadPattern`] is for a pattern that the grammar of `regex` doesn't read, or that is too big or nests too deep
 /// once it is built; a document without patterns never meets it. The only other error is want of memory.
 pub fn compile(alloc: Global, scanned: Scanned<'_>) -> Result<Compiled, Fault>
-    ensures ok { IfOk result (λ c. (compiled_base c ≡ scanned_base scanned.entry) × (compiled_value c ≡ scanned_value scanned.entry)) }
+    ensures ok { IfOk result
+        (λ c. (compiled_base c ≡ scanned_base scanned.entry)
+        × (compiled_value c ≡ scanned_value scanned.entry)) }
     ensures regular { OnOk result (is_regular regular_search (scanned_value scanned.entry) ≡ true) }
-    ensures err { IfErr result (λ f. f ≢ Fault.NoRoom → (f ≡ Fault.BadPattern) × (0 < length (patterns (scanned_value scanned.entry)))) }
+    ensures err { IfErr result
+        (λ f. f ≢ Fault.NoRoom → (f ≡ Fault.BadPattern)
+        × (0 < length (patterns (scanned_value scanned.entry)))) }
 {
     let pattern_table = PatternTable::build(alloc, &scanned.patterns(alloc)?)?;
     let document = copy(alloc, scanned.document())?;

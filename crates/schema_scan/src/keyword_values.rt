@@ -30,8 +30,11 @@ pub(crate) fn check_value<'a>(
     name: &'a str,
     member: &Doc,
 ) -> Result<(), Refusal<'a>>
-    ensures passed { OnOk result (shape_missteps (shape_view shape) base.now at_root name.now (value member.now) ≡ []) }
-    ensures refused { IfErr result (λ r. Refuses r (shape_missteps (shape_view shape) base.now at_root name.now (value member.now))) }
+    ensures passed { OnOk result
+        (shape_missteps (shape_view shape) base.now at_root name.now (value member.now) ≡ []) }
+    ensures refused { IfErr result
+        (λ r. Refuses r (shape_missteps (shape_view shape) base.now at_root name.now
+        (value member.now))) }
 {
     if is_as_asked(alloc, shape, base, at_root, member)? {
         return Ok(());
@@ -46,7 +49,8 @@ fn is_as_asked(
     at_root: bool,
     member: &Doc,
 ) -> Result<bool, AllocError>
-    ensures { IfOk result (λ b. b ≡ is_as_asked (shape_view shape) base.now at_root (value member.now)) }
+    ensures { IfOk result (λ b. b
+        ≡ is_as_asked (shape_view shape) base.now at_root (value member.now)) }
 {
     match shape {
         Shape::Reference => is_reference(alloc, member),

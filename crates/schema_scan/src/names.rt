@@ -36,7 +36,8 @@ pub(crate) fn push_anchors<'t>(
     uri: &'t str,
     schema: &'t Doc,
 ) -> Result<(), AllocError>
-    ensures { OnOk result (map anchor_view anchors.new.items ≡ map anchor_view anchors.old.items ++ anchors_at uri.now (value schema.now)) }
+    ensures { OnOk result (map anchor_view anchors.new.items
+        ≡ map anchor_view anchors.old.items ++ anchors_at uri.now (value schema.now)) }
 {
     let plain = text_at(schema, "$anchor");
     let dynamic = text_at(schema, "$dynamicAnchor");

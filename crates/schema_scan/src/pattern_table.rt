@@ -30,9 +30,11 @@ impl PatternTable {
     /// Builds the pattern of each text, once where a text stands more than once. The first pattern that can't be built
     /// is [`Fault::BadPattern`], and so is the first that takes more than what those before it have left of 32 MiB.
     pub(crate) fn build(alloc: Global, texts: &[&str]) -> Result<PatternTable, Fault>
-        ensures held { IfOk result (λ t. list_all (holds_pattern t) (map (λ t. t.now) texts.now) ≡ true) }
+        ensures held { IfOk result
+            (λ t. list_all (holds_pattern t) (map (λ t. t.now) texts.now) ≡ true) }
         ensures read { OnOk result (list_all is_read (map (λ t. t.now) texts.now) ≡ true) }
-        ensures err { IfErr result (λ f. f ≢ Fault.NoRoom → (f ≡ Fault.BadPattern) × (0 < length texts.now)) }
+        ensures err { IfErr result
+            (λ f. f ≢ Fault.NoRoom → (f ≡ Fault.BadPattern) × (0 < length texts.now)) }
     {
         let mut table = PatternTable {
             patterns: BTreeMap::new(alloc),
@@ -46,7 +48,9 @@ impl PatternTable {
 
     // Holds the pattern of this text too, and builds it in what is left of the room where it wasn't held.
     fn add(&mut self, alloc: Global, text: &str, room: &mut usize) -> Result<(), Fault>
-        ensures held { OnOk result ((q : Text) → holds_pattern self.new q ≡ (same_text text.now q || holds_pattern self.old q)) }
+        ensures held { OnOk result
+            ((q : Text) → holds_pattern self.new q
+            ≡ (same_text text.now q || holds_pattern self.old q)) }
         ensures read { OnOk result (is_read text.now ≡ true) }
         ensures err { IfErr result (λ f. f ≢ Fault.NoRoom → f ≡ Fault.BadPattern) }
     {

@@ -13,7 +13,8 @@ use std::alloc::AllocError;
 
 /// Appends the patterns of a schema, but not those of its subschemas.
 pub(crate) fn push_patterns<'t>(texts: &mut Vec<&'t str>, schema: &'t Doc) -> Result<(), AllocError>
-    ensures { OnOk result (map (λ t. t.now) texts.new.items ≡ map (λ t. t.now) texts.old.items ++ patterns_at (value schema.now)) }
+    ensures { OnOk result (map (λ t. t.now) texts.new.items
+        ≡ map (λ t. t.now) texts.old.items ++ patterns_at (value schema.now)) }
 {
     if let Some(text) = text_at(schema, "pattern") {
         texts.push(text)?;
@@ -27,7 +28,8 @@ fn push_names_at<'t>(
     schema: &'t Doc,
     keyword: &str,
 ) -> Result<(), AllocError>
-    ensures { OnOk result (map (λ t. t.now) texts.new.items ≡ map (λ t. t.now) texts.old.items ++ names_at keyword.now (value schema.now)) }
+    ensures { OnOk result (map (λ t. t.now) texts.new.items
+        ≡ map (λ t. t.now) texts.old.items ++ names_at keyword.now (value schema.now)) }
 {
     match members_at(schema, keyword) {
         Some(members) => push_names(texts, members),
@@ -36,13 +38,15 @@ fn push_names_at<'t>(
 }
 
 fn members_at<'t>(schema: &'t Doc, keyword: &str) -> Option<&'t Members>
-    ensures { option_map (λ m. members_value m.now) result ≡ option_and_then as_members (get keyword.now (value schema.now)) }
+    ensures { option_map (λ m. members_value m.now) result
+        ≡ option_and_then as_members (get keyword.now (value schema.now)) }
 {
     schema.get(keyword)?.as_dict()
 }
 
 fn push_names<'t>(texts: &mut Vec<&'t str>, members: &'t Members) -> Result<(), AllocError>
-    ensures { OnOk result (map (λ t. t.now) texts.new.items ≡ map (λ t. t.now) texts.old.items ++ map (λ m. m.0) (members_value members.now)) }
+    ensures { OnOk result (map (λ t. t.now) texts.new.items
+        ≡ map (λ t. t.now) texts.old.items ++ map (λ m. m.0) (members_value members.now)) }
 {
     for (name, _) in members.iter() {
         texts.push(name)?;

@@ -57,7 +57,8 @@ impl<'a> Refusal<'a> {
 
     /// The same from the object around, whose member of this name the walk was in.
     pub(crate) fn under_name(self, name: &'a str) -> Refusal<'a>
-        ensures { (ms : List Misstep) → Refuses self.entry ms → Refuses result (below_name name.now ms) }
+        ensures { (ms : List Misstep) → Refuses self.entry ms
+            → Refuses result (below_name name.now ms) }
     {
         match self {
             Refusal::Shape(mut steps) => match steps.push(Step::Name(name)) {
@@ -70,7 +71,8 @@ impl<'a> Refusal<'a> {
 
     /// The same from the list around, whose element of this index the walk was in.
     pub(crate) fn under_index(self, index: usize) -> Refusal<'a>
-        ensures { (ms : List Misstep) → Refuses self.entry ms → Refuses result (below_name (decimal index) ms) }
+        ensures { (ms : List Misstep) → Refuses self.entry ms
+            → Refuses result (below_name (decimal index) ms) }
     {
         match self {
             Refusal::Shape(mut steps) => match steps.push(Step::Index(index)) {

@@ -52,7 +52,8 @@ impl<'a> Scanned<'a> {
 
     /// The texts of the document's patterns, in the order of a walk; some may stand more than once.
     pub(crate) fn patterns(&self, alloc: Global) -> Result<Vec<&str>, AllocError>
-        ensures { IfOk result (λ texts. map (λ t. t.now) texts.items ≡ patterns (scanned_value self.now)) }
+        ensures { IfOk result (λ texts. map (λ t. t.now) texts.items
+            ≡ patterns (scanned_value self.now)) }
     {
         self.table.patterns(alloc)
     }

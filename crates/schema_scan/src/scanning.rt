@@ -40,9 +40,12 @@ const MOST_NESTED: usize = 120;
 ///
 /// Names that are no keywords are no fault, nor is `$schema` below the root of a resource.
 pub fn scan<'a>(alloc: Global, base: &Parts, document: &'a Doc) -> Result<Scanned<'a>, Fault>
-    ensures ok { IfOk result (λ s. (scanned_base s ≡ recompose base.now) × (scanned_value s ≡ value document.now)) }
+    ensures ok { IfOk result
+        (λ s. (scanned_base s ≡ recompose base.now) × (scanned_value s ≡ value document.now)) }
     ensures sound { OnOk result (scan_fault (recompose base.now) (value document.now) ≡ None) }
-    ensures err { IfErr result (λ f. f ≢ Fault.NoRoom → scan_fault (recompose base.now) (value document.now) ≡ Some (fault f)) }
+    ensures err { IfErr result
+        (λ f. f ≢ Fault.NoRoom → scan_fault (recompose base.now) (value document.now)
+        ≡ Some (fault f)) }
 {
     let table = match read_schemas(alloc, base, document) {
         Ok(table) => table,
@@ -54,9 +57,12 @@ pub fn scan<'a>(alloc: Global, base: &Parts, document: &'a Doc) -> Result<Scanne
 // The schemas of the document, where the scan by all keywords finds no fault.
 fn read_schemas<'a>(alloc: Global, base: &Parts, document: &'a Doc) -> Result<Table<'a>, Fault>
     ensures base { IfOk result (λ t. uri_at (uris_of t) 0 ≡ recompose base.now) }
-    ensures places { IfOk result (λ t. places_of t ≡ places (recompose base.now) true (value document.now)) }
+    ensures places { IfOk result
+        (λ t. places_of t ≡ places (recompose base.now) true (value document.now)) }
     ensures sound { OnOk result (scan_fault (recompose base.now) (value document.now) ≡ None) }
-    ensures err { IfErr result (λ f. f ≢ Fault.NoRoom → scan_fault (recompose base.now) (value document.now) ≡ Some (fault f)) }
+    ensures err { IfErr result
+        (λ f. f ≢ Fault.NoRoom → scan_fault (recompose base.now) (value document.now)
+        ≡ Some (fault f)) }
 {
     if !is_object(document) {
         return Err(Fault::NotObject);

@@ -78,9 +78,15 @@ impl<'a> Table<'a> {
     ) -> Result<Standing, AllocError>
         requires { around < length (uris_of self.old) }
         ensures extends { OnOk result (Extends (uris_of self.old) (uris_of self.new)) }
-        ensures places { OnOk result (places_of self.new ≡ places_of self.old ++ place_of (uri_at (uris_of self.old) around) at_root (value schema.now) ∷ []) }
-        ensures resource { IfOk result (λ s. (s.resource < length (uris_of self.new)) × (uri_at (uris_of self.new) s.resource ≡ resource_of (uri_at (uris_of self.old) around) (value schema.now))) }
-        ensures at_root { IfOk result (λ s. s.at_root ≡ (at_root || opens_resource (value schema.now))) }
+        ensures places { OnOk result
+            (places_of self.new ≡ places_of self.old
+            ++ place_of (uri_at (uris_of self.old) around) at_root (value schema.now) ∷ []) }
+        ensures resource { IfOk result
+            (λ s. (s.resource < length (uris_of self.new))
+            × (uri_at (uris_of self.new) s.resource
+            ≡ resource_of (uri_at (uris_of self.old) around) (value schema.now))) }
+        ensures at_root { IfOk result
+            (λ s. s.at_root ≡ (at_root || opens_resource (value schema.now))) }
     {
         let standing = self.open(alloc, around, at_root, schema)?;
         self.positions.push(Position {
@@ -102,8 +108,12 @@ impl<'a> Table<'a> {
         requires { around < length (uris_of self.old) }
         ensures extends { OnOk result (Extends (uris_of self.old) (uris_of self.new)) }
         ensures places { OnOk result (places_of self.new ≡ places_of self.old) }
-        ensures resource { IfOk result (λ s. (s.resource < length (uris_of self.new)) × (uri_at (uris_of self.new) s.resource ≡ resource_of (uri_at (uris_of self.old) around) (value schema.now))) }
-        ensures at_root { IfOk result (λ s. s.at_root ≡ (at_root || opens_resource (value schema.now))) }
+        ensures resource { IfOk result
+            (λ s. (s.resource < length (uris_of self.new))
+            × (uri_at (uris_of self.new) s.resource
+            ≡ resource_of (uri_at (uris_of self.old) around) (value schema.now))) }
+        ensures at_root { IfOk result
+            (λ s. s.at_root ≡ (at_root || opens_resource (value schema.now))) }
     {
         match id_of(schema) {
             Some(id) => {
@@ -124,7 +134,9 @@ impl<'a> Table<'a> {
     // The new URI's index.
     fn push_uri(&mut self, uri: String) -> Result<usize, AllocError>
         ensures extends { OnOk result (Extends (uris_of self.old) (uris_of self.new)) }
-        ensures uri { IfOk result (λ index. (index < length (uris_of self.new)) × (uri_at (uris_of self.new) index ≡ string_bytes uri)) }
+        ensures uri { IfOk result
+            (λ index. (index < length (uris_of self.new))
+            × (uri_at (uris_of self.new) index ≡ string_bytes uri)) }
         ensures places { OnOk result (places_of self.new ≡ places_of self.old) }
     {
         let index = self.uris.len();
@@ -134,7 +146,8 @@ impl<'a> Table<'a> {
 
     /// The URIs of the resources that the schemas open.
     pub(crate) fn opened_uris(&self, alloc: Global) -> Result<Vec<&str>, AllocError>
-        ensures { IfOk result (λ uris. map (λ u. u.now) uris.items ≡ uris_opened (places_of self.now)) }
+        ensures { IfOk result (λ uris. map (λ u. u.now) uris.items
+            ≡ uris_opened (places_of self.now)) }
     {
         let mut uris = Vec::new(alloc);
         for position in &self.positions {
@@ -147,7 +160,8 @@ impl<'a> Table<'a> {
 
     /// The anchors of the schemas, each with the URI of its resource.
     pub(crate) fn anchors(&self, alloc: Global) -> Result<Vec<(&str, &str)>, AllocError>
-        ensures { IfOk result (λ anchors. map anchor_view anchors.items ≡ anchors_in (places_of self.now)) }
+        ensures { IfOk result (λ anchors. map anchor_view anchors.items
+            ≡ anchors_in (places_of self.now)) }
     {
         let mut anchors = Vec::new(alloc);
         for position in &self.positions {
@@ -157,7 +171,8 @@ impl<'a> Table<'a> {
     }
     /// The texts of the schemas' patterns.
     pub(crate) fn patterns(&self, alloc: Global) -> Result<Vec<&str>, AllocError>
-        ensures { IfOk result (λ texts. map (λ t. t.now) texts.items ≡ patterns_in (places_of self.now)) }
+        ensures { IfOk result (λ texts. map (λ t. t.now) texts.items
+            ≡ patterns_in (places_of self.now)) }
     {
         let mut texts = Vec::new(alloc);
         for position in &self.positions {

@@ -29,9 +29,13 @@ pub(crate) fn visit_schema<'a>(
 ) -> Result<(), Refusal<'a>>
     requires { around < length (uris_of table.old) }
     ensures extends { OnOk result (Extends (uris_of table.old) (uris_of table.new)) }
-    ensures places { OnOk result (places_of table.new ≡ places_of table.old ++ places (uri_at (uris_of table.old) around) at_root (value schema.now)) }
-    ensures passed { OnOk result (missteps (uri_at (uris_of table.old) around) at_root (value schema.now) ≡ []) }
-    ensures refused { IfErr result (λ r. Refuses r (missteps (uri_at (uris_of table.old) around) at_root (value schema.now))) }
+    ensures places { OnOk result
+        (places_of table.new ≡ places_of table.old
+        ++ places (uri_at (uris_of table.old) around) at_root (value schema.now)) }
+    ensures passed { OnOk result
+        (missteps (uri_at (uris_of table.old) around) at_root (value schema.now) ≡ []) }
+    ensures refused { IfErr result
+        (λ r. Refuses r (missteps (uri_at (uris_of table.old) around) at_root (value schema.now))) }
 {
     let standing = match table.add(alloc, around, at_root, schema) {
         Ok(standing) => standing,
@@ -63,9 +67,16 @@ fn visit_object<'a>(
     requires around { around < length (uris_of table.old) }
     requires resource { resource < length (uris_of table.old) }
     ensures extends { OnOk result (Extends (uris_of table.old) (uris_of table.new)) }
-    ensures places { OnOk result (places_of table.new ≡ places_of table.old ++ places_below (uri_at (uris_of table.old) resource) (members_view members.now)) }
-    ensures passed { OnOk result ((own_missteps (uri_at (uris_of table.old) around) at_root (members_view members.now) ++ missteps_below (uri_at (uris_of table.old) resource) (members_view members.now)) ≡ []) }
-    ensures refused { IfErr result (λ r. Refuses r (own_missteps (uri_at (uris_of table.old) around) at_root (members_view members.now) ++ missteps_below (uri_at (uris_of table.old) resource) (members_view members.now))) }
+    ensures places { OnOk result
+        (places_of table.new ≡ places_of table.old
+        ++ places_below (uri_at (uris_of table.old) resource) (members_view members.now)) }
+    ensures passed { OnOk result
+        ((own_missteps (uri_at (uris_of table.old) around) at_root (members_view members.now)
+        ++ missteps_below (uri_at (uris_of table.old) resource) (members_view members.now)) ≡ []) }
+    ensures refused { IfErr result
+        (λ r. Refuses r (own_missteps (uri_at (uris_of table.old) around) at_root
+        (members_view members.now)
+        ++ missteps_below (uri_at (uris_of table.old) resource) (members_view members.now))) }
 {
     match check_keywords(alloc, table.uri(around), at_root, members) {
         Ok(()) => visit_below(alloc, table, resource, members),
@@ -83,9 +94,14 @@ fn visit_below<'a>(
 ) -> Result<(), Refusal<'a>>
     requires { resource < length (uris_of table.old) }
     ensures extends { OnOk result (Extends (uris_of table.old) (uris_of table.new)) }
-    ensures places { OnOk result (places_of table.new ≡ places_of table.old ++ places_below (uri_at (uris_of table.old) resource) (members_view members.now)) }
-    ensures passed { OnOk result (missteps_below (uri_at (uris_of table.old) resource) (members_view members.now) ≡ []) }
-    ensures refused { IfErr result (λ r. Refuses r (missteps_below (uri_at (uris_of table.old) resource) (members_view members.now))) }
+    ensures places { OnOk result
+        (places_of table.new ≡ places_of table.old
+        ++ places_below (uri_at (uris_of table.old) resource) (members_view members.now)) }
+    ensures passed { OnOk result
+        (missteps_below (uri_at (uris_of table.old) resource) (members_view members.now) ≡ []) }
+    ensures refused { IfErr result
+        (λ r. Refuses r (missteps_below (uri_at (uris_of table.old) resource)
+        (members_view members.now))) }
 {
     for (name, member) in members.iter() {
         match visit_place(alloc, table, resource, shape_named(name), member) {
@@ -107,9 +123,15 @@ fn visit_place<'a>(
 ) -> Result<(), Refusal<'a>>
     requires { resource < length (uris_of table.old) }
     ensures extends { OnOk result (Extends (uris_of table.old) (uris_of table.new)) }
-    ensures places { OnOk result (places_of table.new ≡ places_of table.old ++ places_at (shape_view shape) (uri_at (uris_of table.old) resource) (value member.now)) }
-    ensures passed { OnOk result (missteps_at (shape_view shape) (uri_at (uris_of table.old) resource) (value member.now) ≡ []) }
-    ensures refused { IfErr result (λ r. Refuses r (missteps_at (shape_view shape) (uri_at (uris_of table.old) resource) (value member.now))) }
+    ensures places { OnOk result
+        (places_of table.new ≡ places_of table.old
+        ++ places_at (shape_view shape) (uri_at (uris_of table.old) resource) (value member.now)) }
+    ensures passed { OnOk result
+        (missteps_at (shape_view shape) (uri_at (uris_of table.old) resource) (value member.now)
+        ≡ []) }
+    ensures refused { IfErr result
+        (λ r. Refuses r (missteps_at (shape_view shape) (uri_at (uris_of table.old) resource)
+        (value member.now))) }
 {
     match (shape, member) {
         (Shape::OneSchema, schema) => { visit_schema(alloc, table, resource, false, schema) }
@@ -129,9 +151,16 @@ fn visit_list<'a>(
 ) -> Result<(), Refusal<'a>>
     requires { resource < length (uris_of table.old) }
     ensures extends { OnOk result (Extends (uris_of table.old) (uris_of table.new)) }
-    ensures places { OnOk result (places_of table.new ≡ places_of table.old ++ places_in_list (uri_at (uris_of table.old) resource) (to_elements (map value schemas.now))) }
-    ensures passed { OnOk result (missteps_in_list (uri_at (uris_of table.old) resource) 0 (to_elements (map value schemas.now)) ≡ []) }
-    ensures refused { IfErr result (λ r. Refuses r (missteps_in_list (uri_at (uris_of table.old) resource) 0 (to_elements (map value schemas.now)))) }
+    ensures places { OnOk result
+        (places_of table.new ≡ places_of table.old
+        ++ places_in_list (uri_at (uris_of table.old) resource)
+        (to_elements (map value schemas.now))) }
+    ensures passed { OnOk result
+        (missteps_in_list (uri_at (uris_of table.old) resource) 0
+        (to_elements (map value schemas.now)) ≡ []) }
+    ensures refused { IfErr result
+        (λ r. Refuses r (missteps_in_list (uri_at (uris_of table.old) resource) 0
+        (to_elements (map value schemas.now)))) }
 {
     for (index, schema) in schemas.iter().enumerate() {
         match visit_schema(alloc, table, resource, false, schema) {
@@ -152,9 +181,14 @@ fn visit_map<'a>(
 ) -> Result<(), Refusal<'a>>
     requires { resource < length (uris_of table.old) }
     ensures extends { OnOk result (Extends (uris_of table.old) (uris_of table.new)) }
-    ensures places { OnOk result (places_of table.new ≡ places_of table.old ++ places_in_map (uri_at (uris_of table.old) resource) (members_view schemas.now)) }
-    ensures passed { OnOk result (missteps_in_map (uri_at (uris_of table.old) resource) (members_view schemas.now) ≡ []) }
-    ensures refused { IfErr result (λ r. Refuses r (missteps_in_map (uri_at (uris_of table.old) resource) (members_view schemas.now))) }
+    ensures places { OnOk result
+        (places_of table.new ≡ places_of table.old
+        ++ places_in_map (uri_at (uris_of table.old) resource) (members_view schemas.now)) }
+    ensures passed { OnOk result
+        (missteps_in_map (uri_at (uris_of table.old) resource) (members_view schemas.now) ≡ []) }
+    ensures refused { IfErr result
+        (λ r. Refuses r (missteps_in_map (uri_at (uris_of table.old) resource)
+        (members_view schemas.now))) }
 {
     for (name, schema) in schemas.iter() {
         match visit_schema(alloc, table, resource, false, schema) {
@@ -173,7 +207,8 @@ fn check_keywords<'a>(
     members: &'a Members,
 ) -> Result<(), Refusal<'a>>
     ensures passed { OnOk result (own_missteps base.now at_root (members_view members.now) ≡ []) }
-    ensures refused { IfErr result (λ r. Refuses r (own_missteps base.now at_root (members_view members.now))) }
+    ensures refused { IfErr result
+        (λ r. Refuses r (own_missteps base.now at_root (members_view members.now))) }
 {
     for (name, member) in members.iter() {
         check_value(alloc, shape_named(name), base, at_root, name, member)?;

@@ -96,8 +96,10 @@ impl Cache {
         ensures value { IfOk result (λ c. compiled_value c.value ≡ value document.now) }
         ensures sound { OnOk result (scan_fault (recompose base.now) (value document.now) ≡ None) }
         ensures regular { OnOk result (is_regular regular_search (value document.now) ≡ true) }
-        ensures err { IfErr result (λ f. f ≢ Fault.NoRoom → Refuses (recompose base.now) (value document.now) (fault f)) }
-        ensures kept { OnOk result (IsUsed self.old (recompose base.now, text (value document.now)) self.new) }
+        ensures err { IfErr result
+            (λ f. f ≢ Fault.NoRoom → Refuses (recompose base.now) (value document.now) (fault f)) }
+        ensures kept { OnOk result
+            (IsUsed self.old (recompose base.now, text (value document.now)) self.new) }
         ensures refused { OnErr result (self.new ≡ self.old) }
     {
         let (_, compiled) = self.compiled_with_key(alloc, base, document)?;
@@ -111,14 +113,17 @@ impl Cache {
         base: &Parts,
         document: &Doc,
     ) -> Result<(Rc<Key>, Rc<Compiled>), Fault>
-        ensures key { IfOk result (λ r. r.0.value ≡ (recompose base.now, text (value document.now))) }
+        ensures key { IfOk result
+            (λ r. r.0.value ≡ (recompose base.now, text (value document.now))) }
         ensures reads_back { IfOk result (λ r. is_read_as r.0.value.1 (value document.now) ≡ true) }
         ensures base { IfOk result (λ r. compiled_base r.1.value ≡ recompose base.now) }
         ensures value { IfOk result (λ r. compiled_value r.1.value ≡ value document.now) }
         ensures sound { OnOk result (scan_fault (recompose base.now) (value document.now) ≡ None) }
         ensures regular { OnOk result (is_regular regular_search (value document.now) ≡ true) }
-        ensures err { IfErr result (λ f. f ≢ Fault.NoRoom → Refuses (recompose base.now) (value document.now) (fault f)) }
-        ensures kept { OnOk result (IsUsed self.old (recompose base.now, text (value document.now)) self.new) }
+        ensures err { IfErr result
+            (λ f. f ≢ Fault.NoRoom → Refuses (recompose base.now) (value document.now) (fault f)) }
+        ensures kept { OnOk result
+            (IsUsed self.old (recompose base.now, text (value document.now)) self.new) }
         ensures refused { OnErr result (self.new ≡ self.old) }
     {
         if nesting(document) > MOST_NESTED {
@@ -141,7 +146,8 @@ impl Cache {
         ensures value { IfOk result (λ c. compiled_value c.value ≡ value document.now) }
         ensures sound { OnOk result (scan_fault key.now.value.0 (value document.now) ≡ None) }
         ensures regular { OnOk result (is_regular regular_search (value document.now) ≡ true) }
-        ensures err { IfErr result (λ f. f ≢ Fault.NoRoom → Refuses key.now.value.0 (value document.now) (fault f)) }
+        ensures err { IfErr result
+            (λ f. f ≢ Fault.NoRoom → Refuses key.now.value.0 (value document.now) (fault f)) }
         ensures kept { OnOk result (IsUsed self.old key.now.value self.new) }
         ensures refused { OnErr result (self.new ≡ self.old) }
     {

@@ -28,7 +28,8 @@ pub(crate) fn compiled_anew(
     ensures value { IfOk result (λ c. compiled_value c.value ≡ value document.now) }
     ensures sound { OnOk result (scan_fault (recompose base.now) (value document.now) ≡ None) }
     ensures regular { OnOk result (is_regular regular_search (value document.now) ≡ true) }
-    ensures err { IfErr result (λ f. f ≢ Fault.NoRoom → Refuses (recompose base.now) (value document.now) (fault f)) }
+    ensures err { IfErr result
+        (λ f. f ≢ Fault.NoRoom → Refuses (recompose base.now) (value document.now) (fault f)) }
 {
     let scanned = scan(alloc, base, document)?;
     let compiled = compile(alloc, scanned)?;
@@ -38,7 +39,8 @@ pub(crate) fn compiled_anew(
 // The fault of a document that nests too deep, or want of memory.
 pub(crate) fn refusal(alloc: Global, base: &Parts, document: &Doc) -> Fault
     requires { 120 < nesting (value document.now) }
-    ensures { result ≢ Fault.NoRoom → scan_fault (recompose base.now) (value document.now) ≡ Some (fault result) }
+    ensures { result ≢ Fault.NoRoom
+        → scan_fault (recompose base.now) (value document.now) ≡ Some (fault result) }
 {
     match scan(alloc, base, document) {
         Ok(_) => unreachable!(),

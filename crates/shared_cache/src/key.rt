@@ -47,7 +47,8 @@ impl Key {
     /// The text of a document that nests no deeper than 127 is read as its value again.
     pub fn of(alloc: Global, base: &Parts, document: &Doc) -> Result<Key, Fault>
         ensures ok { IfOk result (λ k. k ≡ (recompose base.now, text (value document.now))) }
-        ensures reads_back { IfOk result (λ k. nesting (value document.now) ≤ 127 → is_read_as k.1 (value document.now) ≡ true) }
+        ensures reads_back { IfOk result
+            (λ k. nesting (value document.now) ≤ 127 → is_read_as k.1 (value document.now) ≡ true) }
         ensures err { IfErr result (λ f. f ≡ Fault.NoRoom) }
     {
         let base = recompose(alloc, base)?;

@@ -16,7 +16,8 @@ pub(crate) fn claims_to_make(
     alloc: Global,
     documents: &[Rc<Stored>],
 ) -> Result<Vec<(String, Rc<Stored>)>, AllocError>
-    ensures { IfOk result (λ made. claims_in made.items ≡ claims_of (stored_documents documents.now)) }
+    ensures { IfOk result (λ made. claims_in made.items
+        ≡ claims_of (stored_documents documents.now)) }
 {
     let mut made = Vec::new(alloc);
     for document in documents {
@@ -31,7 +32,8 @@ pub(crate) fn push_claims(
     made: &mut Vec<(String, Rc<Stored>)>,
     document: &Rc<Stored>,
 ) -> Result<(), AllocError>
-    ensures { OnOk result (claims_in made.new.items ≡ claims_in made.old.items ++ own_claims (stored_document document.now.value)) }
+    ensures { OnOk result (claims_in made.new.items
+        ≡ claims_in made.old.items ++ own_claims (stored_document document.now.value)) }
 {
     for uri in document.resource_uris() {
         push_claim(alloc, made, uri.as_str(), document)?;
@@ -45,7 +47,9 @@ fn push_claim(
     uri: &str,
     document: &Rc<Stored>,
 ) -> Result<(), AllocError>
-    ensures { OnOk result (claims_in made.new.items ≡ claims_in made.old.items ++ (uri.now, (stored_document document.now.value).canonical) ∷ []) }
+    ensures { OnOk result (claims_in made.new.items
+        ≡ claims_in made.old.items
+        ++ (uri.now, (stored_document document.now.value).canonical) ∷ []) }
 {
     let own_uri = uri.to_owned(alloc)?;
     let own_document = document.clone()?;
@@ -59,8 +63,11 @@ pub(crate) fn claim_unclaimed(
     claims: &mut BTreeMap<String, Rc<Stored>>,
     made: &[(String, Rc<Stored>)],
 ) -> Result<(), AllocError>
-    ensures kept { (uri claim : Text) → claim_of claims.old uri ≡ Some claim → claim_of claims.new uri ≡ Some claim }
-    ensures claimed { OnOk result ((uri claim : Text) → Contains (claims_in made.now) (uri, claim) → is_some (claim_of claims.new uri) ≡ true) }
+    ensures kept { (uri claim : Text) → claim_of claims.old uri ≡ Some claim
+        → claim_of claims.new uri ≡ Some claim }
+    ensures claimed { OnOk result
+        ((uri claim : Text) → Contains (claims_in made.now) (uri, claim)
+        → is_some (claim_of claims.new uri) ≡ true) }
 {
     for claim in made {
         claim_where_none(alloc, claims, claim.0.as_str(), &claim.1)?;
@@ -74,7 +81,8 @@ fn claim_where_none(
     uri: &str,
     document: &Rc<Stored>,
 ) -> Result<(), AllocError>
-    ensures kept { (u claim : Text) → claim_of claims.old u ≡ Some claim → claim_of claims.new u ≡ Some claim }
+    ensures kept { (u claim : Text) → claim_of claims.old u ≡ Some claim
+        → claim_of claims.new u ≡ Some claim }
     ensures claimed { OnOk result (is_some (claim_of claims.new uri.now) ≡ true) }
 {
     if !claims.contains_key(uri) {
@@ -90,7 +98,8 @@ pub(crate) fn make_claims(
     claims: &mut BTreeMap<String, Rc<Stored>>,
     made: Vec<(String, Rc<Stored>)>,
 )
-    ensures { (uri : Text) → claim_of claims.new uri ≡ option_map (last_claim uri (claims_in made.items)) (claim_of claims.old uri) }
+    ensures { (uri : Text) → claim_of claims.new uri
+        ≡ option_map (last_claim uri (claims_in made.items)) (claim_of claims.old uri) }
 {
     for claim in made {
         make_claim(claims, claim.0, claim.1);
@@ -98,7 +107,10 @@ pub(crate) fn make_claims(
 }
 
 fn make_claim(claims: &mut BTreeMap<String, Rc<Stored>>, uri: String, document: Rc<Stored>)
-    ensures { (u : Text) → claim_of claims.new u ≡ option_map (λ claim. if same_text (string_bytes uri) u then (stored_document document.value).canonical else claim) (claim_of claims.old u) }
+    ensures { (u : Text) → claim_of claims.new u
+        ≡ option_map (λ claim. if same_text
+        (string_bytes uri) u then (stored_document document.value).canonical else claim)
+        (claim_of claims.old u) }
 {
     if claims.contains_key(uri.as_str()) {
         match claims.insert(uri, document) {

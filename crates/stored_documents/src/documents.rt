@@ -69,14 +69,16 @@ impl Documents {
     /// The document with this canonical URI.
     #[tactic(auto, unfolding(crate::specs::DocumentLists::documents_in))]
     pub fn find(&self, canonical: &str) -> Option<&Rc<Stored>>
-        ensures { option_map (λ s. stored_document s.now.value) result ≡ document_of (documents_in self.now) canonical.now }
+        ensures { option_map (λ s. stored_document s.now.value) result
+            ≡ document_of (documents_in self.now) canonical.now }
     {
         self.ordered.find(canonical)
     }
 
     /// The document that has a resource of this URI.
     pub fn holder(&self, uri: &str) -> Option<&Rc<Stored>>
-        ensures { option_map (λ s. stored_document s.now.value) result ≡ find (holds_resource uri.now) (documents_in self.now) }
+        ensures { option_map (λ s. stored_document s.now.value) result
+            ≡ find (holds_resource uri.now) (documents_in self.now) }
     {
         match self.claims.get(uri) {
             Some(claim) => self.find_with(claim.canonical(), uri),
@@ -86,7 +88,9 @@ impl Documents {
 
     // The document with this canonical URI, where it has a resource of the other URI.
     fn find_with(&self, canonical: &str, uri: &str) -> Option<&Rc<Stored>>
-        ensures { option_map (λ s. stored_document s.now.value) result ≡ option_and_then (λ d. if holds_resource uri.now d then Some d else None) (document_of (documents_in self.now) canonical.now) }
+        ensures { option_map (λ s. stored_document s.now.value) result
+            ≡ option_and_then (λ d. if holds_resource uri.now d then Some d else None)
+            (document_of (documents_in self.now) canonical.now) }
     {
         match self.find(canonical) {
             Some(document) => {
@@ -104,9 +108,14 @@ impl Documents {
     /// error is want of memory, and then nothing changes.
     pub fn insert(&mut self, alloc: Global, document: Rc<Stored>) -> Result<bool, Fault>
         requires free { taken_uri (documents_in self.old) (stored_document document.value) ≡ None }
-        requires fits { bytes_of (placed (stored_document document.value) (documents_in self.old)) < 2 ^ 64 }
-        ensures placed { OnOk result (documents_in self.new ≡ placed (stored_document document.value) (documents_in self.old)) }
-        ensures replaced { IfOk result (λ r. r ≡ is_some (document_of (documents_in self.old) (stored_document document.value).canonical)) }
+        requires fits { bytes_of (placed (stored_document document.value) (documents_in self.old))
+            < 2 ^ 64 }
+        ensures placed { OnOk result
+            (documents_in self.new ≡ placed (stored_document document.value)
+            (documents_in self.old)) }
+        ensures replaced { IfOk result
+            (λ r. r ≡ is_some (document_of (documents_in self.old)
+            (stored_document document.value).canonical)) }
         ensures kept { OnErr result (documents_in self.new ≡ documents_in self.old) }
         ensures err { IfErr result (λ f. f ≡ Fault.NoRoom) }
     {
@@ -135,9 +144,14 @@ impl Documents {
     /// then nothing changes.
     pub fn insert_all(&mut self, alloc: Global, documents: Vec<Rc<Stored>>) -> Result<(), Fault>
         requires once { repeated_uri (stored_documents documents.items) ≡ None }
-        requires free { taken_by (placed_all (stored_documents documents.items) (documents_in self.old)) (stored_documents documents.items) ≡ None }
-        requires fits { bytes_of (placed_all (stored_documents documents.items) (documents_in self.old)) < 2 ^ 64 }
-        ensures placed { OnOk result (documents_in self.new ≡ placed_all (stored_documents documents.items) (documents_in self.old)) }
+        requires free { taken_by
+            (placed_all (stored_documents documents.items) (documents_in self.old))
+            (stored_documents documents.items) ≡ None }
+        requires fits { bytes_of
+            (placed_all (stored_documents documents.items) (documents_in self.old)) < 2 ^ 64 }
+        ensures placed { OnOk result
+            (documents_in self.new ≡ placed_all (stored_documents documents.items)
+            (documents_in self.old)) }
         ensures kept { OnErr result (documents_in self.new ≡ documents_in self.old) }
         ensures err { IfErr result (λ f. f ≡ Fault.NoRoom) }
     {

@@ -67,7 +67,8 @@ impl OrderedDocuments {
 
     /// The document with this canonical URI.
     pub fn find(&self, canonical: &str) -> Option<&Rc<Stored>>
-        ensures { option_map (λ s. stored_document s.now.value) result ≡ document_of (ordered_documents self.now) canonical.now }
+        ensures { option_map (λ s. stored_document s.now.value) result
+            ≡ document_of (ordered_documents self.now) canonical.now }
     {
         match position(&self.stored, canonical) {
             Ok(at) => Some(&self.stored[at]),
@@ -78,10 +79,16 @@ impl OrderedDocuments {
     /// Puts a document at its place, instead of the one with its canonical URI, which is answered. The only error is want of
     /// memory, and then nothing changes.
     pub fn insert(&mut self, document: Rc<Stored>) -> Result<Option<Rc<Stored>>, Fault>
-        requires free { taken_uri (ordered_documents self.old) (stored_document document.value) ≡ None }
-        requires fits { bytes_of (placed (stored_document document.value) (ordered_documents self.old)) < 2 ^ 64 }
-        ensures placed { OnOk result (ordered_documents self.new ≡ placed (stored_document document.value) (ordered_documents self.old)) }
-        ensures replaced { IfOk result (λ r. is_some r ≡ is_some (document_of (ordered_documents self.old) (stored_document document.value).canonical)) }
+        requires free { taken_uri (ordered_documents self.old) (stored_document document.value)
+            ≡ None }
+        requires fits { bytes_of
+            (placed (stored_document document.value) (ordered_documents self.old)) < 2 ^ 64 }
+        ensures placed { OnOk result
+            (ordered_documents self.new
+            ≡ placed (stored_document document.value) (ordered_documents self.old)) }
+        ensures replaced { IfOk result
+            (λ r. is_some r ≡ is_some
+            (document_of (ordered_documents self.old) (stored_document document.value).canonical)) }
         ensures kept { OnErr result (ordered_documents self.new ≡ ordered_documents self.old) }
         ensures err { IfErr result (λ f. f ≡ Fault.NoRoom) }
     {
@@ -102,9 +109,14 @@ impl OrderedDocuments {
     /// then nothing changes.
     pub fn insert_all(&mut self, documents: Vec<Rc<Stored>>) -> Result<(), Fault>
         requires once { repeated_uri (stored_documents documents.items) ≡ None }
-        requires free { taken_by (placed_all (stored_documents documents.items) (ordered_documents self.old)) (stored_documents documents.items) ≡ None }
-        requires fits { bytes_of (placed_all (stored_documents documents.items) (ordered_documents self.old)) < 2 ^ 64 }
-        ensures placed { OnOk result (ordered_documents self.new ≡ placed_all (stored_documents documents.items) (ordered_documents self.old)) }
+        requires free { taken_by
+            (placed_all (stored_documents documents.items) (ordered_documents self.old))
+            (stored_documents documents.items) ≡ None }
+        requires fits { bytes_of
+            (placed_all (stored_documents documents.items) (ordered_documents self.old)) < 2 ^ 64 }
+        ensures placed { OnOk result
+            (ordered_documents self.new
+            ≡ placed_all (stored_documents documents.items) (ordered_documents self.old)) }
         ensures kept { OnErr result (ordered_documents self.new ≡ ordered_documents self.old) }
         ensures err { IfErr result (λ f. f ≡ Fault.NoRoom) }
     {
@@ -118,8 +130,10 @@ impl OrderedDocuments {
 
     /// Takes out the document with this canonical URI.
     pub fn remove(&mut self, canonical: &str) -> Option<Rc<Stored>>
-        ensures others { ordered_documents self.new ≡ others_of canonical.now (ordered_documents self.old) }
-        ensures removed { is_some result ≡ is_some (document_of (ordered_documents self.old) canonical.now) }
+        ensures others { ordered_documents self.new
+            ≡ others_of canonical.now (ordered_documents self.old) }
+        ensures removed { is_some result
+            ≡ is_some (document_of (ordered_documents self.old) canonical.now) }
     {
         match take_out(&mut self.stored, canonical) {
             Some(removed) => {

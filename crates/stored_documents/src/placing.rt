@@ -36,9 +36,15 @@ pub(crate) fn place(
     document: Rc<Stored>,
 ) -> Result<Option<Rc<Stored>>, AllocError>
     requires { Ascend (stored_documents documents.old.items) }
-    ensures placed { OnOk result (stored_documents documents.new.items ≡ placed (stored_document document.value) (stored_documents documents.old.items)) }
-    ensures replaced { IfOk result (λ o. option_map (λ s. stored_document s.value) o ≡ document_of (stored_documents documents.old.items) (stored_document document.value).canonical) }
-    ensures kept { OnErr result (stored_documents documents.new.items ≡ stored_documents documents.old.items) }
+    ensures placed { OnOk result
+        (stored_documents documents.new.items
+        ≡ placed (stored_document document.value) (stored_documents documents.old.items)) }
+    ensures replaced { IfOk result
+        (λ o. option_map (λ s. stored_document s.value) o
+        ≡ document_of (stored_documents documents.old.items)
+        (stored_document document.value).canonical) }
+    ensures kept { OnErr result
+        (stored_documents documents.new.items ≡ stored_documents documents.old.items) }
     ensures succeeds { vec_len documents.old < vec_capacity documents.old → IsOk result }
     ensures capacity { vec_capacity documents.old ≤ vec_capacity documents.new }
     ensures len { vec_len documents.new ≤ vec_len documents.old + 1 }
@@ -55,8 +61,10 @@ pub(crate) fn place(
 // Takes out the document with this canonical URI.
 pub(crate) fn take_out(documents: &mut Vec<Rc<Stored>>, uri: &str) -> Option<Rc<Stored>>
     requires { Ascend (stored_documents documents.old.items) }
-    ensures others { stored_documents documents.new.items ≡ others_of uri.now (stored_documents documents.old.items) }
-    ensures taken { option_map (λ s. stored_document s.value) result ≡ document_of (stored_documents documents.old.items) uri.now }
+    ensures others { stored_documents documents.new.items
+        ≡ others_of uri.now (stored_documents documents.old.items) }
+    ensures taken { option_map (λ s. stored_document s.value) result
+        ≡ document_of (stored_documents documents.old.items) uri.now }
 {
     match position(documents, uri) {
         Ok(at) => Some(documents.remove(at)),

@@ -19,7 +19,9 @@ impl Documents {
         made: &[(String, Rc<Stored>)],
     ) -> Result<(), AllocError>
         ensures same { documents_in self.new ≡ documents_in self.old }
-        ensures claimed { OnOk result ((uri claim : Text) → Contains (claims_in made.now) (uri, claim) → is_some (claim_of self.new.claims uri) ≡ true) }
+        ensures claimed { OnOk result
+            ((uri claim : Text) → Contains (claims_in made.now) (uri, claim)
+            → is_some (claim_of self.new.claims uri) ≡ true) }
     {
         match claim_unclaimed(alloc, &mut self.claims, made) {
             Ok(()) => Ok(()),

@@ -54,9 +54,12 @@ impl Stored {
         base: &Parts,
         document: Doc,
     ) -> Result<Stored, Fault>
-        ensures ok { IfOk result (λ s. stored_document s ≡ document_from (recompose base.now) (value document)) }
-        ensures err { IfErr result (λ f. f ≢ Fault.NoRoom → Refuses (recompose base.now) (value document) (fault f)) }
-        ensures used { OnOk result (IsUsed cache.old (recompose base.now, text (value document)) cache.new) }
+        ensures ok { IfOk result
+            (λ s. stored_document s ≡ document_from (recompose base.now) (value document)) }
+        ensures err { IfErr result
+            (λ f. f ≢ Fault.NoRoom → Refuses (recompose base.now) (value document) (fault f)) }
+        ensures used { OnOk result
+            (IsUsed cache.old (recompose base.now, text (value document)) cache.new) }
     {
         let (key, compiled) = cache.compiled_with_key(alloc, base, &document)?;
         let canonical = canonical(&compiled).to_owned(alloc)?;
@@ -81,7 +84,8 @@ impl Stored {
     /// The document.
     pub fn document(&self) -> &Doc
         ensures value { value result.now ≡ (stored_document self.now).value }
-        ensures faultless { scan_fault (stored_document self.now).base (stored_document self.now).value ≡ None }
+        ensures faultless { scan_fault (stored_document self.now).base
+            (stored_document self.now).value ≡ None }
         ensures regular { is_regular regular_search (stored_document self.now).value ≡ true }
     {
         &self.document

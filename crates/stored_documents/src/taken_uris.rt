@@ -11,7 +11,8 @@ use crate::documents::Documents;
 impl Documents {
     /// Whether a document with another canonical URI has a resource of this URI.
     pub fn is_held_by_another(&self, canonical: &str, uri: &str) -> bool
-        ensures { result ≡ list_any (holds_resource uri.now) (others_of canonical.now (documents_in self.now)) }
+        ensures { result ≡ list_any (holds_resource uri.now)
+            (others_of canonical.now (documents_in self.now)) }
     {
         match self.holder(uri) {
             Some(document) => canonical != document.canonical(),

@@ -29,8 +29,11 @@ pub(crate) fn place_all(stored: &mut Vec<Rc<Stored>>, documents: Vec<Rc<Stored>>
     requires room { vec_len stored.old + length documents.items ≤ vec_capacity stored.old }
     requires fits { bytes_of (stored_documents stored.old.items) < 2 ^ 64 }
     requires once { has_repeat same_text (canonicals (stored_documents documents.items)) ≡ false }
-    ensures placed { stored_documents stored.new.items ≡ placed_all (stored_documents documents.items) (stored_documents stored.old.items) }
-    ensures bytes { bytes_of (stored_documents stored.new.items) + result ≡ bytes_of (stored_documents stored.old.items) + bytes_of (stored_documents documents.items) }
+    ensures placed { stored_documents stored.new.items
+        ≡ placed_all (stored_documents documents.items) (stored_documents stored.old.items) }
+    ensures bytes { bytes_of (stored_documents stored.new.items) + result
+        ≡ bytes_of (stored_documents stored.old.items)
+        + bytes_of (stored_documents documents.items) }
     ensures within { result ≤ bytes_of (stored_documents stored.old.items) }
 {
     let mut replaced = 0;
@@ -44,8 +47,11 @@ pub(crate) fn place_all(stored: &mut Vec<Rc<Stored>>, documents: Vec<Rc<Stored>>
 fn place_in_room(stored: &mut Vec<Rc<Stored>>, document: Rc<Stored>) -> u64
     requires ascend { Ascend (stored_documents stored.old.items) }
     requires room { vec_len stored.old < vec_capacity stored.old }
-    ensures placed { stored_documents stored.new.items ≡ placed (stored_document document.value) (stored_documents stored.old.items) }
-    ensures bytes { result ≡ bytes_of (option_list (document_of (stored_documents stored.old.items) (stored_document document.value).canonical)) }
+    ensures placed { stored_documents stored.new.items
+        ≡ placed (stored_document document.value) (stored_documents stored.old.items) }
+    ensures bytes { result ≡ bytes_of
+        (option_list (document_of (stored_documents stored.old.items)
+        (stored_document document.value).canonical)) }
     ensures capacity { vec_capacity stored.old ≤ vec_capacity stored.new }
     ensures len { vec_len stored.new ≤ vec_len stored.old + 1 }
 {

@@ -48,7 +48,8 @@ impl Registry {
     ) -> Result<Vec<&'a str>, Fault>
         ensures ok { IfOk result (λ uris. map (λ t. t.now) uris.items
             ≡ resource_uris_of (stored_documents documents.now)
-            ++ filter (is_held_beside (registry_view self.now) (canonicals (stored_documents documents.now)))
+            ++ filter (is_held_beside (registry_view self.now)
+            (canonicals (stored_documents documents.now)))
             (resource_uris_of (stored_documents documents.now))) }
         ensures err { IfErr result (λ f. f ≡ Fault.NoRoom) }
     {

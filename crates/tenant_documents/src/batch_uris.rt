@@ -69,7 +69,8 @@ pub(crate) fn text_set<'a>(
 }
 
 pub(crate) fn has_text<'a>(set: &BTreeSet<&'a str>, text: &'a str) -> bool
-    ensures { (texts : List Text) → IsSetOf set.now texts → result ≡ list_any (same_text text.now) texts }
+    ensures { (texts : List Text) → IsSetOf set.now texts
+        → result ≡ list_any (same_text text.now) texts }
 {
     set.contains(&text)
 }

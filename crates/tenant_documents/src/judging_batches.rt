@@ -19,11 +19,14 @@ use stored_documents::Stored;
 impl Registry {
     // Refuses documents of which the scan found no fault and whose patterns were built.
     pub(crate) fn judge_all(&self, alloc: Global, documents: &[Rc<Stored>]) -> Result<(), Fault>
-        ensures ok { OnOk result (batch_refusal (registry_view self.now) (stored_documents documents.now)
-            (placed_all (stored_documents documents.now) (registry_view self.now).documents) ≡ None) }
+        ensures ok { OnOk result
+            (batch_refusal (registry_view self.now) (stored_documents documents.now)
+            (placed_all (stored_documents documents.now) (registry_view self.now).documents)
+            ≡ None) }
         ensures err { IfErr result (λ f. f ≢ Fault.NoRoom
             → batch_refusal (registry_view self.now) (stored_documents documents.now)
-            (placed_all (stored_documents documents.now) (registry_view self.now).documents) ≡ Some (fault f)) }
+            (placed_all (stored_documents documents.now) (registry_view self.now).documents)
+            ≡ Some (fault f)) }
     {
         if let Some(uri) = repeated_uri(alloc, documents)? {
             return Err(Fault::SameDocument(uri.to_owned(alloc)?));

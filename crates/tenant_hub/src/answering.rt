@@ -27,7 +27,8 @@ impl KeyedRegistry {
     // The registry of a tenant before its first request.
     pub(crate) fn new(alloc: Global, tenant: Tenant, library: Rc<ListSource>) -> KeyedRegistry
         requires { list_all is_registered (listed_documents library.value) ≡ true }
-        ensures { keyed_view result ≡ new_registry (listed_documents library.value) (tenant_view tenant) }
+        ensures { keyed_view result
+            ≡ new_registry (listed_documents library.value) (tenant_view tenant) }
     {
         KeyedRegistry {
             key: tenant.key,

@@ -184,7 +184,8 @@ fn new_registries(
 ) -> Result<Vec<KeyedRegistry>, Fault>
     requires { list_all is_registered (listed_documents library.now.value) ≡ true }
     ensures ok { IfOk result (λ rs. map keyed_view rs.items
-        ≡ map (λ t. new_registry (listed_documents library.now.value) (tenant_view t)) tenants.items) }
+        ≡ map (λ t. new_registry (listed_documents library.now.value) (tenant_view t))
+        tenants.items) }
     ensures err { IfErr result (λ f. f ≡ Fault.NoRoom) }
 {
     let mut registries = Vec::with_capacity(alloc, tenants.len())?;

@@ -29,7 +29,8 @@ pub struct BatchEntry<'a> {
 ///
 /// `BadBatch` where the value has another shape, no entry, or more than 64; `NoRoom` may take its place.
 pub fn read_batch(alloc: Global, batch: &Doc) -> Result<Vec<BatchEntry<'_>>, Fault>
-    ensures ok { IfOk result (λ es. entries_of (Ok (value batch.now)) ≡ Ok (map entry_view es.items)) }
+    ensures ok { IfOk result
+        (λ es. entries_of (Ok (value batch.now)) ≡ Ok (map entry_view es.items)) }
     ensures err { IfErr result (λ f. f ≢ Fault.NoRoom
         → entries_of (Ok (value batch.now)) ≡ Err (fault f)) }
 {
@@ -58,7 +59,8 @@ fn is_entry_count(count: usize) -> bool
 }
 
 fn each_entry(alloc: Global, items: &[Doc]) -> Result<Vec<BatchEntry<'_>>, Fault>
-    ensures ok { IfOk result (λ es. each entry_in (map value items.now) ≡ Some (map entry_view es.items)) }
+    ensures ok { IfOk result
+        (λ es. each entry_in (map value items.now) ≡ Some (map entry_view es.items)) }
     ensures err { IfErr result (λ f. f ≢ Fault.NoRoom
         → (f ≡ Fault.BadBatch) × (each entry_in (map value items.now) ≡ None)) }
 {

@@ -38,7 +38,8 @@ pub fn read_tenants(alloc: Global, bytes: &[u8]) -> Result<Vec<Tenant>, Fault>
 }
 
 fn tenants_of(alloc: Global, file: &Doc) -> Result<Vec<Tenant>, Fault>
-    ensures ok { IfOk result (λ ts. tenants_of (Ok (value file.now)) ≡ Ok (map tenant_view ts.items)) }
+    ensures ok { IfOk result
+        (λ ts. tenants_of (Ok (value file.now)) ≡ Ok (map tenant_view ts.items)) }
     ensures err { IfErr result (λ f. f ≢ Fault.NoRoom
         → tenants_of (Ok (value file.now)) ≡ Err (fault f)) }
 {
@@ -49,7 +50,8 @@ fn tenants_of(alloc: Global, file: &Doc) -> Result<Vec<Tenant>, Fault>
 }
 
 fn each_tenant(alloc: Global, items: &[Doc]) -> Result<Vec<Tenant>, Fault>
-    ensures ok { IfOk result (λ ts. each tenant_in (map value items.now) ≡ Some (map tenant_view ts.items)) }
+    ensures ok { IfOk result
+        (λ ts. each tenant_in (map value items.now) ≡ Some (map tenant_view ts.items)) }
     ensures err { IfErr result (λ f. f ≢ Fault.NoRoom
         → (f ≡ Fault.BadTenants) × (each tenant_in (map value items.now) ≡ None)) }
 {

@@ -23,7 +23,9 @@ pub(crate) fn remove_dot_segments(alloc: Global, path: &str) -> Result<String, A
 
 // One rewriting, by the first of the rules A to E that fits: the rest of the path that is left.
 fn rewrite<'a>(rest: &'a str, output: &mut String) -> Result<&'a str, AllocError>
-    ensures step { IfOk result (λ left. (left.now, string_bytes output.new) ≡ rewritten (rest.now, string_bytes output.old)) }
+    ensures step { IfOk result
+        (λ left. (left.now, string_bytes output.new)
+        ≡ rewritten (rest.now, string_bytes output.old)) }
     ensures text { IfOk result (λ left. IsUtf8 left.now) }
 {
     if begins(rest, "../") {

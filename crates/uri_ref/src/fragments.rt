@@ -33,7 +33,8 @@ pub enum FragmentKind {
 /// that begins with `/` and is no pointer is [`Fault::BadPointer`]. The only other error is want of memory.
 pub fn fragment_kind(alloc: Global, fragment: Option<&str>) -> Result<FragmentKind, Fault>
     ensures ok { IfOk result
-        (λ kind. fragment_kind (option_map (λ t. t.now) fragment.entry) ≡ Ok (fragment_shown kind)) }
+        (λ kind. fragment_kind (option_map (λ t. t.now) fragment.entry)
+        ≡ Ok (fragment_shown kind)) }
     ensures err { IfErr result
         (λ f. f ≢ Fault.NoRoom
         → fragment_kind (option_map (λ t. t.now) fragment.entry) ≡ Err (fault f)) }
@@ -46,7 +47,8 @@ pub fn fragment_kind(alloc: Global, fragment: Option<&str>) -> Result<FragmentKi
 
 // What the text names, by its first character.
 fn kind_of_text(alloc: Global, text: CowStr<'_, Global>) -> Result<FragmentKind, Fault>
-    ensures ok { IfOk result (λ kind. kind_of_text (cow_str_bytes text.entry) ≡ Ok (fragment_shown kind)) }
+    ensures ok { IfOk result
+        (λ kind. kind_of_text (cow_str_bytes text.entry) ≡ Ok (fragment_shown kind)) }
     ensures err { IfErr result
         (λ f. f ≢ Fault.NoRoom → kind_of_text (cow_str_bytes text.entry) ≡ Err (fault f)) }
 {
@@ -65,7 +67,8 @@ fn decoded(alloc: Global, text: &str) -> Result<CowStr<'_, Global>, Fault>
     ensures utf8 { IfOk result (λ t. is_utf8 (cow_str_bytes t) ≡ true) }
     ensures err { IfErr result
         (λ f. f ≢ Fault.NoRoom
-        → (f ≡ Fault.BadFragment) × (kind_of_decoded (percent_decoded text.now) ≡ Err bad_fragment)) }
+        → (f ≡ Fault.BadFragment)
+        × (kind_of_decoded (percent_decoded text.now) ≡ Err bad_fragment)) }
 {
     if !has_whole_escapes(text) {
         return Err(Fault::BadFragment);

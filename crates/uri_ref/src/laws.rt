@@ -9,7 +9,8 @@ use crate::parts::Parts;
 
 /// An identifier resolves to itself, whatever the base.
 pub fn identifiers_stay()
-    ensures { (base identifier : UriParts) → IsTrue (is_identifier identifier) → resolve base identifier ≡ identifier }
+    ensures { (base identifier : UriParts) → IsTrue (is_identifier identifier)
+        → resolve base identifier ≡ identifier }
 {}
 
 /// The parts of a text recompose to it, and are the only ones that do (RFC 3986, section 5.3 and appendix B).
@@ -21,7 +22,8 @@ pub fn texts_split_once()
 pub fn identifiers_split()
     ensures { (base reference : Text)
         → IsTrue (is_identifier (resolve (split base) (split reference)))
-        → split (recompose (resolve (split base) (split reference))) ≡ resolve (split base) (split reference) }
+        → split (recompose (resolve (split base) (split reference)))
+        ≡ resolve (split base) (split reference) }
 {}
 
 /// The text of an identifier splits into its parts.

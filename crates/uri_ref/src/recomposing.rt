@@ -23,7 +23,8 @@ pub fn recompose(alloc: Global, parts: &Parts) -> Result<String, Fault>
 
 // Appends the part, where there is one, and the sign after it.
 fn push_ended(text: &mut String, part: Option<&str>, sign: &str) -> Result<(), AllocError>
-    ensures { OnOk result (string_bytes text.new ≡ string_bytes text.old ++ ended_by (option_map (λ t. t.now) part.entry) sign.now) }
+    ensures { OnOk result (string_bytes text.new
+        ≡ string_bytes text.old ++ ended_by (option_map (λ t. t.now) part.entry) sign.now) }
 {
     if let Some(part) = part {
         text.push_str(part)?;
@@ -34,7 +35,8 @@ fn push_ended(text: &mut String, part: Option<&str>, sign: &str) -> Result<(), A
 
 // Appends the sign, and the part after it, where there is one.
 fn push_led(text: &mut String, sign: &str, part: Option<&str>) -> Result<(), AllocError>
-    ensures { OnOk result (string_bytes text.new ≡ string_bytes text.old ++ led_by sign.now (option_map (λ t. t.now) part.entry)) }
+    ensures { OnOk result (string_bytes text.new
+        ≡ string_bytes text.old ++ led_by sign.now (option_map (λ t. t.now) part.entry)) }
 {
     if let Some(part) = part {
         text.push_str(sign)?;

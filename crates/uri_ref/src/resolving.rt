@@ -60,7 +60,13 @@ fn of_base<'a>(
     base: &Parts<'a>,
     reference: &Parts<'a>,
 ) -> Result<ResolvedParts<'a>, AllocError>
-    ensures { IfOk result (λ p. p ≡ record base.now { query = (if is_some reference.now.query then reference.now.query else base.now.query); fragment = reference.now.fragment }) }
+    ensures { IfOk result (λ p. p
+        ≡ record base.now {
+          query =
+              (if is_some reference.now.query then reference.now.query else base.now.query);
+          fragment =
+              reference.now.fragment;
+        }) }
 {
     let path = String::from_str(alloc, base.path)?;
     Ok(ResolvedParts {
@@ -74,7 +80,9 @@ fn of_base<'a>(
 
 // The path without its dot segments, where it begins with a `/`, and otherwise the path that it makes with the base's.
 fn rooted_path(alloc: Global, base: &Parts, path: &str) -> Result<String, AllocError>
-    ensures { IfOk result (λ s. string_bytes s ≡ (if begins path.now (codes "/") then remove_dot_segments path.now else remove_dot_segments (merge base.now path.now))) }
+    ensures { IfOk result (λ s. string_bytes s
+        ≡ (if begins path.now (codes "/") then remove_dot_segments path.now else remove_dot_segments
+        (merge base.now path.now))) }
 {
     if begins(path, "/") {
         return remove_dot_segments(alloc, path);

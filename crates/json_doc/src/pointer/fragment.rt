@@ -79,7 +79,8 @@ fn push_fragment_escaped(text: &mut String, token: &str) -> Result<(), AllocErro
 
 // Appends what stands for the text in a fragment.
 fn push_percent_encoded(text: &mut String, run: &str) -> Result<(), AllocError>
-    ensures { OnOk result (string_bytes text.new ≡ string_bytes text.old ++ percent_encoded run.now) }
+    ensures { OnOk result (string_bytes text.new
+        ≡ string_bytes text.old ++ percent_encoded run.now) }
 {
     utf8_percent_encode(run, ESCAPED).append_to(text)?;
     Ok(())

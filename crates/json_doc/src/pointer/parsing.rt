@@ -40,7 +40,8 @@ fn tokens_of(alloc: Global, text: &str) -> Result<Vec<String>, Fault>
         ≡ Some (map string_bytes tokens.items)) }
     ensures err { IfErr result
         (λ f. f ≢ Fault.NoRoom
-        → (f ≡ Fault.BadPointer) × (each unescaped (slice_split (λ d. d == slash) text.now) ≡ None)) }
+        → (f ≡ Fault.BadPointer)
+        × (each unescaped (slice_split (λ d. d == slash) text.now) ≡ None)) }
 {
     let mut tokens = Vec::new(alloc);
     for part in text.split('/') {

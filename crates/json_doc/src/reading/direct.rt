@@ -110,7 +110,8 @@ fn list_from(alloc: Global, reader: &mut Reader<'_>, depth: usize) -> Result<Vec
 #[cycle(tokens)]
 #[inline(never)]
 fn dict_from(alloc: Global, reader: &mut Reader<'_>, depth: usize) -> Result<Members, Unread>
-    ensures ok { IfOk result (λ m. members_at depth reader.old ≡ Some (members_view m, reader.new)) }
+    ensures ok { IfOk result
+        (λ m. members_at depth reader.old ≡ Some (members_view m, reader.new)) }
     ensures shorter { OnOk result (length reader.new < length reader.old) }
 {
     let mut gathered = Gathered::new(alloc);

@@ -21,7 +21,8 @@ pub(crate) fn plan_own<'a>(
     subject: Subject<'a>,
 ) -> Result<Vec<Planned<'a>>, AllocError>
     ensures { (a : Application) (k : Text) → a.instance ≡ subject_value subject.entry
-        → IfOk result (λ ps. map (planned_view k a) ps.items ≡ in_place a (k ∷ []) (value schema.now) ∷ []) }
+        → IfOk result (λ ps. map (planned_view k a) ps.items
+        ≡ in_place a (k ∷ []) (value schema.now) ∷ []) }
 {
     let mut planned = Vec::new(alloc);
     planned.push(Planned {
@@ -39,7 +40,8 @@ pub(crate) fn plan_listed<'a>(
     subject: Subject<'a>,
 ) -> Result<Vec<Planned<'a>>, AllocError>
     ensures { (a : Application) (k : Text) → a.instance ≡ subject_value subject.entry
-        → IfOk result (λ ps. map (planned_view k a) ps.items ≡ each_listed a k (value schemas.now)) }
+        → IfOk result (λ ps. map (planned_view k a) ps.items
+        ≡ each_listed a k (value schemas.now)) }
 {
     match schemas {
         Doc::List(schemas) => plan_elements(alloc, schemas, subject),
@@ -53,7 +55,8 @@ fn plan_elements<'a>(
     subject: Subject<'a>,
 ) -> Result<Vec<Planned<'a>>, AllocError>
     ensures { (a : Application) (k : Text) → a.instance ≡ subject_value subject.entry
-        → IfOk result (λ ps. map (planned_view k a) ps.items ≡ planned_listed k a 0 (map value schemas.now)) }
+        → IfOk result (λ ps. map (planned_view k a) ps.items
+        ≡ planned_listed k a 0 (map value schemas.now)) }
 {
     let mut planned = Vec::new(alloc);
     for (index, schema) in schemas.iter().enumerate() {
@@ -74,9 +77,11 @@ pub(crate) fn plan_consequence<'a>(
     condition: Option<bool>,
     wanted: bool,
 ) -> Result<Vec<Planned<'a>>, AllocError>
-    ensures { (a : Application) (k : Text) (o : Option Outcome) → a.instance ≡ subject_value subject.entry
+    ensures { (a : Application) (k : Text) (o : Option Outcome)
+        → a.instance ≡ subject_value subject.entry
         → option_map (λ o. o.valid) o ≡ condition
-        → IfOk result (λ ps. map (planned_view k a) ps.items ≡ consequence_of a k wanted (value schema.now) o) }
+        → IfOk result (λ ps. map (planned_view k a) ps.items
+        ≡ consequence_of a k wanted (value schema.now) o) }
 {
     match condition {
         Some(passed) => plan_if(alloc, schema, subject, passed == wanted),
@@ -91,7 +96,8 @@ fn plan_if<'a>(
     applies: bool,
 ) -> Result<Vec<Planned<'a>>, AllocError>
     ensures { (a : Application) (k : Text) → a.instance ≡ subject_value subject.entry
-        → IfOk result (λ ps. map (planned_view k a) ps.items ≡ (if applies then in_place a (k ∷ []) (value schema.now) ∷ [] else [])) }
+        → IfOk result (λ ps. map (planned_view k a) ps.items
+        ≡ (if applies then in_place a (k ∷ []) (value schema.now) ∷ [] else [])) }
 {
     if applies {
         plan_own(alloc, schema, subject)
@@ -107,7 +113,8 @@ pub(crate) fn plan_dependents<'a>(
     subject: Subject<'a>,
 ) -> Result<Vec<Planned<'a>>, AllocError>
     ensures { (a : Application) (k : Text) → a.instance ≡ subject_value subject.entry
-        → IfOk result (λ ps. map (planned_view k a) ps.items ≡ planned_dependents k a (members (value schemas.now))) }
+        → IfOk result (λ ps. map (planned_view k a) ps.items
+        ≡ planned_dependents k a (members (value schemas.now))) }
 {
     match schemas {
         Doc::Dict(schemas) => plan_dependent_members(alloc, schemas, subject),
@@ -121,7 +128,8 @@ fn plan_dependent_members<'a>(
     subject: Subject<'a>,
 ) -> Result<Vec<Planned<'a>>, AllocError>
     ensures { (a : Application) (k : Text) → a.instance ≡ subject_value subject.entry
-        → IfOk result (λ ps. map (planned_view k a) ps.items ≡ planned_dependents k a (members_value schemas.now)) }
+        → IfOk result (λ ps. map (planned_view k a) ps.items
+        ≡ planned_dependents k a (members_value schemas.now)) }
 {
     let mut planned = Vec::new(alloc);
     for (name, schema) in schemas.iter() {

@@ -21,7 +21,8 @@ pub(crate) fn plan_prefix<'a>(
     subject: Subject<'a>,
 ) -> Result<Vec<Planned<'a>>, AllocError>
     ensures { (a : Application) (k : Text) → a.instance ≡ subject_value subject.entry
-        → IfOk result (λ ps. map (planned_view k a) ps.items ≡ planned_pairs k a 0 (elements (value schemas.now)) (elements a.instance)) }
+        → IfOk result (λ ps. map (planned_view k a) ps.items
+        ≡ planned_pairs k a 0 (elements (value schemas.now)) (elements a.instance)) }
 {
     plan_pairs(alloc, elements_of(schemas), subject.elements())
 }
@@ -32,7 +33,8 @@ fn plan_pairs<'a>(
     items: &'a [Doc],
 ) -> Result<Vec<Planned<'a>>, AllocError>
     ensures { (a : Application) (k : Text)
-        → IfOk result (λ ps. map (planned_view k a) ps.items ≡ planned_pairs k a 0 (map value schemas.now) (map value items.now)) }
+        → IfOk result (λ ps. map (planned_view k a) ps.items
+        ≡ planned_pairs k a 0 (map value schemas.now) (map value items.now)) }
 {
     let mut planned = Vec::new(alloc);
     for (index, schema) in schemas.iter().enumerate() {
@@ -56,7 +58,8 @@ pub(crate) fn plan_items<'a>(
     subject: Subject<'a>,
 ) -> Result<Vec<Planned<'a>>, AllocError>
     ensures { (a : Application) (k : Text) → a.instance ≡ subject_value subject.entry
-        → IfOk result (λ ps. map (planned_view k a) ps.items ≡ at_items a k (value schema.now) start (drop start (elements a.instance))) }
+        → IfOk result (λ ps. map (planned_view k a) ps.items
+        ≡ at_items a k (value schema.now) start (drop start (elements a.instance))) }
 {
     plan_from(alloc, schema, start, subject.elements())
 }
@@ -68,7 +71,8 @@ fn plan_from<'a>(
     items: &'a [Doc],
 ) -> Result<Vec<Planned<'a>>, AllocError>
     ensures { (a : Application) (k : Text)
-        → IfOk result (λ ps. map (planned_view k a) ps.items ≡ at_items a k (value schema.now) start (map value (drop start items.now))) }
+        → IfOk result (λ ps. map (planned_view k a) ps.items
+        ≡ at_items a k (value schema.now) start (map value (drop start items.now))) }
 {
     let mut planned = Vec::new(alloc);
     for index in start..items.len() {
@@ -83,7 +87,8 @@ fn plan_from<'a>(
 
 /// How many elements `prefixItems` beside speaks of.
 pub(crate) fn prefix_length(schema: &Doc) -> usize
-    ensures { (a : Application) → a.schema.value ≡ value schema.now → result ≡ length (elements (beside a (codes "prefixItems"))) }
+    ensures { (a : Application) → a.schema.value ≡ value schema.now
+        → result ≡ length (elements (beside a (codes "prefixItems"))) }
 {
     match schema.get("prefixItems") {
         Some(prefix) => elements_of(prefix).len(),

@@ -27,8 +27,10 @@ pub(crate) fn plan_patterns<'a>(
     site: Site<'_, 'a>,
     schemas: &'a Doc,
 ) -> Result<Vec<Planned<'a>>, Fault>
-    ensures ok { (a : Application) (k : Text) → Shows site.entry a → get (codes "patternProperties") a.schema.value ≡ Some (value schemas.now)
-        → IfOk result (λ ps. map (planned_view k a) ps.items ≡ planned_matched k a (members (value schemas.now)) (members a.instance)) }
+    ensures ok { (a : Application) (k : Text) → Shows site.entry a
+        → get (codes "patternProperties") a.schema.value ≡ Some (value schemas.now)
+        → IfOk result (λ ps. map (planned_view k a) ps.items
+        ≡ planned_matched k a (members (value schemas.now)) (members a.instance)) }
     ensures err { IfErr result (λ f. f ≡ Fault.NoRoom) }
 {
     match members_of(schemas) {
@@ -46,8 +48,10 @@ fn plan_matched<'a>(
     patterns: &'a Members,
     members: &'a Members,
 ) -> Result<Vec<Planned<'a>>, Fault>
-    ensures ok { (a : Application) (k : Text) (s : Schema) → ArePatternsOf linked.now s (members_value patterns.now)
-        → IfOk result (λ ps. map (planned_view k a) ps.items ≡ planned_matched k a (members_value patterns.now) (members_value members.now)) }
+    ensures ok { (a : Application) (k : Text) (s : Schema)
+        → ArePatternsOf linked.now s (members_value patterns.now)
+        → IfOk result (λ ps. map (planned_view k a) ps.items
+        ≡ planned_matched k a (members_value patterns.now) (members_value members.now)) }
     ensures err { IfErr result (λ f. f ≡ Fault.NoRoom) }
 {
     let mut planned = Vec::new(alloc);
@@ -65,8 +69,11 @@ fn push_matches<'a>(
     member: &'a Doc,
     planned: &mut Vec<Planned<'a>>,
 ) -> Result<(), Fault>
-    ensures ok { (a : Application) (k : Text) (s : Schema) → ArePatternsOf linked.now s (members_value patterns.now)
-        → OnOk result (map (planned_view k a) planned.new.items ≡ map (planned_view k a) planned.old.items ++ planned_matches k a name.now (value member.now) (members_value patterns.now)) }
+    ensures ok { (a : Application) (k : Text) (s : Schema)
+        → ArePatternsOf linked.now s (members_value patterns.now)
+        → OnOk result (map (planned_view k a) planned.new.items
+        ≡ map (planned_view k a) planned.old.items
+        ++ planned_matches k a name.now (value member.now) (members_value patterns.now)) }
     ensures err { IfErr result (λ f. f ≡ Fault.NoRoom) }
 {
     for (pattern, schema) in patterns.iter() {
@@ -89,7 +96,8 @@ pub(crate) fn is_matched(
     name: &str,
 ) -> Result<bool, Fault>
     ensures ok { (s : Schema) → ArePatternsOf linked.now s (members_value patterns.now)
-        → IfOk result (λ b. b ≡ list_any (λ p. has_match p.0 name.now) (members_value patterns.now)) }
+        → IfOk result (λ b. b ≡ list_any (λ p. has_match p.0 name.now)
+        (members_value patterns.now)) }
     ensures err { IfErr result (λ f. f ≡ Fault.NoRoom) }
 {
     for (pattern, _) in patterns.iter() {

@@ -21,7 +21,8 @@ pub(crate) fn plan_properties<'a>(
     subject: Subject<'a>,
 ) -> Result<Vec<Planned<'a>>, AllocError>
     ensures { (a : Application) (k : Text) → a.instance ≡ subject_value subject.entry
-        → IfOk result (λ ps. map (planned_view k a) ps.items ≡ planned_members k a (members (value schemas.now))) }
+        → IfOk result (λ ps. map (planned_view k a) ps.items
+        ≡ planned_members k a (members (value schemas.now))) }
 {
     match schemas {
         Doc::Dict(schemas) => plan_members(alloc, schemas, subject),
@@ -35,7 +36,8 @@ fn plan_members<'a>(
     subject: Subject<'a>,
 ) -> Result<Vec<Planned<'a>>, AllocError>
     ensures { (a : Application) (k : Text) → a.instance ≡ subject_value subject.entry
-        → IfOk result (λ ps. map (planned_view k a) ps.items ≡ planned_members k a (members_value schemas.now)) }
+        → IfOk result (λ ps. map (planned_view k a) ps.items
+        ≡ planned_members k a (members_value schemas.now)) }
 {
     let mut planned = Vec::new(alloc);
     for (name, schema) in schemas.iter() {
@@ -57,7 +59,8 @@ pub(crate) fn plan_names<'a>(
     subject: Subject<'a>,
 ) -> Result<Vec<Planned<'a>>, AllocError>
     ensures { (a : Application) (k : Text) → a.instance ≡ subject_value subject.entry
-        → IfOk result (λ ps. map (planned_view k a) ps.items ≡ planned_names k a (value schema.now) (members a.instance)) }
+        → IfOk result (λ ps. map (planned_view k a) ps.items
+        ≡ planned_names k a (value schema.now) (members a.instance)) }
 {
     match subject.members() {
         Some(members) => plan_each_name(alloc, schema, members),
@@ -70,7 +73,9 @@ fn plan_each_name<'a>(
     schema: &'a Doc,
     members: &'a Members,
 ) -> Result<Vec<Planned<'a>>, AllocError>
-    ensures { (a : Application) (k : Text) → IfOk result (λ ps. map (planned_view k a) ps.items ≡ planned_names k a (value schema.now) (members_value members.now)) }
+    ensures { (a : Application) (k : Text)
+        → IfOk result (λ ps. map (planned_view k a) ps.items
+        ≡ planned_names k a (value schema.now) (members_value members.now)) }
 {
     let mut planned = Vec::new(alloc);
     for (name, _) in members.iter() {

@@ -37,7 +37,8 @@ pub(crate) fn plan_others<'a>(
     schema: &'a Doc,
 ) -> Result<Vec<Planned<'a>>, Fault>
     ensures ok { (a : Application) (k : Text) → Shows site.entry a
-        → IfOk result (λ ps. map (planned_view k a) ps.items ≡ planned_others site.entry.linked.now k a (value schema.now) (members a.instance)) }
+        → IfOk result (λ ps. map (planned_view k a) ps.items
+        ≡ planned_others site.entry.linked.now k a (value schema.now) (members a.instance)) }
     ensures err { IfErr result (λ f. f ≡ Fault.NoRoom) }
 {
     match site.subject.members() {
@@ -58,7 +59,9 @@ fn keywords_beside<'a>(site: Site<'_, 'a>) -> Beside<'a>
 }
 
 fn members_beside<'a>(schema: &'a Doc, keyword: &str) -> Option<&'a Members>
-    ensures { (a : Application) → a.schema.value ≡ value schema.now → unwrap_or (option_map (λ m. members_value m.now) result) [] ≡ members (beside a keyword.now) }
+    ensures { (a : Application) → a.schema.value ≡ value schema.now
+        → unwrap_or (option_map (λ m. members_value m.now) result) []
+        ≡ members (beside a keyword.now) }
 {
     match schema.get(keyword) {
         Some(doc) => members_of(doc),
@@ -73,7 +76,9 @@ fn plan_untaken<'a>(
     members: &'a Members,
 ) -> Result<Vec<Planned<'a>>, Fault>
     ensures ok { (a : Application) (k : Text) → StandsBeside beside.entry a
-        → IfOk result (λ ps. map (planned_view k a) ps.items ≡ planned_others beside.entry.linked.now k a (value schema.now) (members_value members.now)) }
+        → IfOk result (λ ps. map (planned_view k a) ps.items
+        ≡ planned_others beside.entry.linked.now k a (value schema.now)
+        (members_value members.now)) }
     ensures err { IfErr result (λ f. f ≡ Fault.NoRoom) }
 {
     let mut planned = Vec::new(alloc);
@@ -91,7 +96,8 @@ fn plan_untaken<'a>(
 
 // Whether a keyword beside takes the member of this name.
 fn is_taken(alloc: Global, beside: Beside<'_>, name: &str) -> Result<bool, Fault>
-    ensures ok { (a : Application) → StandsBeside beside.entry a → IfOk result (λ b. b ≡ is_taken (linked_rules beside.entry.linked.now) a name.now) }
+    ensures ok { (a : Application) → StandsBeside beside.entry a
+        → IfOk result (λ b. b ≡ is_taken (linked_rules beside.entry.linked.now) a name.now) }
     ensures err { IfErr result (λ f. f ≡ Fault.NoRoom) }
 {
     if is_named(beside.properties, name) {
@@ -104,7 +110,8 @@ fn is_taken(alloc: Global, beside: Beside<'_>, name: &str) -> Result<bool, Fault
 }
 
 fn is_named(schemas: Option<&Members>, name: &str) -> bool
-    ensures { result ≡ is_some (entry name.now (unwrap_or (option_map (λ m. members_value m.now) schemas.entry) [])) }
+    ensures { result ≡ is_some
+        (entry name.now (unwrap_or (option_map (λ m. members_value m.now) schemas.entry) [])) }
 {
     match schemas {
         Some(schemas) => schemas.get(name).is_some(),

@@ -26,8 +26,11 @@ pub(crate) fn plan_reference<'a>(
     site: Site<'_, 'a>,
     reference: &'a Doc,
 ) -> Result<Vec<Planned<'a>>, Fault>
-    ensures ok { (a : Application) (k : Text) → Shows site.entry a → get k a.schema.value ≡ Some (value reference.now)
-        → IfOk result (λ ps. map (planned_view k a) ps.items ≡ to_target a k (option_and_then (target (linked_schemas site.entry.linked.now)) (reference_at k a.schema))) }
+    ensures ok { (a : Application) (k : Text) → Shows site.entry a
+        → get k a.schema.value ≡ Some (value reference.now)
+        → IfOk result (λ ps. map (planned_view k a) ps.items
+        ≡ to_target a k (option_and_then (target (linked_schemas site.entry.linked.now))
+        (reference_at k a.schema))) }
     ensures err { IfErr result (λ f. f ≡ Fault.NoRoom) }
 {
     match reference {
@@ -45,8 +48,12 @@ pub(crate) fn plan_dynamic_reference<'a>(
     site: Site<'_, 'a>,
     reference: &'a Doc,
 ) -> Result<Vec<Planned<'a>>, Fault>
-    ensures ok { (a : Application) (k : Text) → Shows site.entry a → get k a.schema.value ≡ Some (value reference.now)
-        → IfOk result (λ ps. map (planned_view k a) ps.items ≡ to_target a k (option_and_then (dynamic_target (linked_schemas site.entry.linked.now) a.scope) (reference_at k a.schema))) }
+    ensures ok { (a : Application) (k : Text) → Shows site.entry a
+        → get k a.schema.value ≡ Some (value reference.now)
+        → IfOk result (λ ps. map (planned_view k a) ps.items
+        ≡ to_target a k (option_and_then
+        (dynamic_target (linked_schemas site.entry.linked.now) a.scope)
+        (reference_at k a.schema))) }
     ensures err { IfErr result (λ f. f ≡ Fault.NoRoom) }
 {
     match reference {
@@ -66,7 +73,8 @@ fn plan_target<'a>(
     subject: Subject<'a>,
 ) -> Result<Vec<Planned<'a>>, AllocError>
     ensures { (a : Application) (k : Text) → a.instance ≡ subject_value subject.entry
-        → IfOk result (λ ps. map (planned_view k a) ps.items ≡ to_target a k (option_map located_schema target.entry)) }
+        → IfOk result (λ ps. map (planned_view k a) ps.items
+        ≡ to_target a k (option_map located_schema target.entry)) }
 {
     let mut planned = Vec::new(alloc);
     if let Some(located) = target {

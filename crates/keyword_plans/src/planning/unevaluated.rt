@@ -25,7 +25,8 @@ pub(crate) fn plan_unevaluated_items<'a>(
     indexes: &[usize],
 ) -> Result<Vec<Planned<'a>>, AllocError>
     ensures { (a : Application) (k : Text) → a.instance ≡ subject_value subject.entry
-        → IfOk result (λ ps. map (planned_view k a) ps.items ≡ planned_unevaluated k a (value schema.now) indexes.now 0 (elements a.instance)) }
+        → IfOk result (λ ps. map (planned_view k a) ps.items
+        ≡ planned_unevaluated k a (value schema.now) indexes.now 0 (elements a.instance)) }
 {
     plan_unevaluated_elements(alloc, schema, subject.elements(), indexes)
 }
@@ -36,7 +37,9 @@ fn plan_unevaluated_elements<'a>(
     items: &'a [Doc],
     indexes: &[usize],
 ) -> Result<Vec<Planned<'a>>, AllocError>
-    ensures { (a : Application) (k : Text) → IfOk result (λ ps. map (planned_view k a) ps.items ≡ planned_unevaluated k a (value schema.now) indexes.now 0 (map value items.now)) }
+    ensures { (a : Application) (k : Text)
+        → IfOk result (λ ps. map (planned_view k a) ps.items
+        ≡ planned_unevaluated k a (value schema.now) indexes.now 0 (map value items.now)) }
 {
     let evaluated = set_of(alloc, indexes)?;
     let mut planned = Vec::new(alloc);
@@ -60,7 +63,9 @@ pub(crate) fn plan_unevaluated_properties<'a>(
     names: &[&'a str],
 ) -> Result<Vec<Planned<'a>>, AllocError>
     ensures { (a : Application) (k : Text) → a.instance ≡ subject_value subject.entry
-        → IfOk result (λ ps. map (planned_view k a) ps.items ≡ planned_unnamed k a (value schema.now) (map (λ n. n.now) names.now) (members a.instance)) }
+        → IfOk result (λ ps. map (planned_view k a) ps.items
+        ≡ planned_unnamed k a (value schema.now) (map (λ n. n.now) names.now)
+        (members a.instance)) }
 {
     match subject.members() {
         Some(members) => plan_unevaluated_members(alloc, schema, members, names),
@@ -74,7 +79,10 @@ fn plan_unevaluated_members<'a>(
     members: &'a Members,
     names: &[&'a str],
 ) -> Result<Vec<Planned<'a>>, AllocError>
-    ensures { (a : Application) (k : Text) → IfOk result (λ ps. map (planned_view k a) ps.items ≡ planned_unnamed k a (value schema.now) (map (λ n. n.now) names.now) (members_value members.now)) }
+    ensures { (a : Application) (k : Text)
+        → IfOk result (λ ps. map (planned_view k a) ps.items
+        ≡ planned_unnamed k a (value schema.now) (map (λ n. n.now) names.now)
+        (members_value members.now)) }
 {
     let evaluated = set_of(alloc, names)?;
     let mut planned = Vec::new(alloc);
@@ -92,7 +100,8 @@ fn plan_unevaluated_members<'a>(
 
 // The keys in order, to look up.
 fn set_of<K: Ord + Copy + Drop>(alloc: Global, keys: &[K]) -> Result<BTreeSet<K>, AllocError>
-    ensures { IfOk result (λ s. (q : K) → contains K.cmp s q ≡ list_any (λ k. eq_by_cmp K.cmp k q) keys.now) }
+    ensures { IfOk result (λ s. (q : K)
+        → contains K.cmp s q ≡ list_any (λ k. eq_by_cmp K.cmp k q) keys.now) }
 {
     let mut seen = BTreeSet::new(alloc);
     for key in keys {

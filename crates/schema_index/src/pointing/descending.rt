@@ -51,7 +51,8 @@ fn descend_into_list<'a, 't>(
     list: &'a Doc,
     rest: &'t [String],
 ) -> Option<Descent<'a, 't>>
-    ensures { (v : Value) → IsHeld v keyword.now (value list.now) → shape_in keywords keyword.now ≡ schema_list
+    ensures { (v : Value) → IsHeld v keyword.now (value list.now)
+        → shape_in keywords keyword.now ≡ schema_list
         → GoesOn (keyword.now ∷ map string_bytes rest.now) v result }
 {
     let (token, rest) = rest.split_first()?;
@@ -71,7 +72,8 @@ fn descend_into_map<'a, 't>(
     object: &'a Doc,
     rest: &'t [String],
 ) -> Option<Descent<'a, 't>>
-    ensures { (v : Value) → IsHeld v keyword.now (value object.now) → shape_in keywords keyword.now ≡ schema_map
+    ensures { (v : Value) → IsHeld v keyword.now (value object.now)
+        → shape_in keywords keyword.now ≡ schema_map
         → GoesOn (keyword.now ∷ map string_bytes rest.now) v result }
 {
     let (token, rest) = rest.split_first()?;
@@ -86,7 +88,8 @@ fn descend_into_map<'a, 't>(
 
 // The member of this name, with its name in the object. The time grows with the logarithm of the number of members.
 fn named<'a>(members: &'a Members, name: &str) -> Option<(&'a str, &'a Doc)>
-    ensures found { option_map member_shown result ≡ row name_of name.now (members_value members.now) }
+    ensures found { option_map member_shown result
+        ≡ row name_of name.now (members_value members.now) }
     ensures ordered { HasNamesInOrder (members_value members.now) }
 {
     members.get_key_value(name)

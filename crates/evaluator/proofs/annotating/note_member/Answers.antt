@@ -2,7 +2,7 @@ use Rattle.std.proofs.Common.{[], ◌∷◌, ◌∙◌, ap}
 use Rattle.definitions.specs.Applied.{OutputUnit}
 use Rattle.json_doc.specs.Docs.{value}
 use Rattle.basic_output.specs.declared.says.Says.TheVariants.{Value}
-use Rattle.applications.specs.Standings.{Standing, at_keyword, unit_there}
+use Rattle.evaluation_context.specs.Standings.{Standing, at_keyword, unit_there}
 use Rattle.evaluator.specs.Logs.{notes}
 use Rattle.evaluator.specs.Notes.{added, nothing}
 use Rattle.evaluator.proofs.annotating.note_member.Goals as goal

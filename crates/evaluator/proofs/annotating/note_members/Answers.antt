@@ -2,7 +2,7 @@ use Rattle.std.proofs.Common.{[], ◌∷◌, ◌∙◌, sym, ap}
 use Rattle.definitions.specs.Outcomes.{unit}
 use Rattle.json_doc.specs.Docs.{value}
 use Rattle.json_doc.specs.Members.{members_left}
-use Rattle.applications.specs.Frames.{standing}
+use Rattle.evaluation_context.specs.Frames.{standing}
 use Rattle.evaluator.specs.Annotations.{annotations_among}
 use Rattle.evaluator.specs.Logs.{notes}
 use Rattle.evaluator.specs.Notes.{added}

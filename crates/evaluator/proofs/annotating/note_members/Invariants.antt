@@ -3,8 +3,8 @@ use Rattle.definitions.specs.Applied.{Application}
 use Rattle.json_doc.specs.Docs.{value, members_value}
 use Rattle.json_doc.specs.Members.{members_left}
 use Rattle.keyword_plans.specs.Subjects.{subject_value}
-use Rattle.applications.specs.Frames.{frame, standing}
-use Rattle.applications.specs.Standings.{standing_of}
+use Rattle.evaluation_context.specs.Frames.{frame, standing}
+use Rattle.evaluation_context.specs.Standings.{standing_of}
 use Rattle.evaluator.specs.Annotations.{annotations_among}
 use Rattle.evaluator.specs.Logs.{notes}
 use Rattle.evaluator.specs.Notes.{added, nothing}

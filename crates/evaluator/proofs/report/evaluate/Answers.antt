@@ -3,7 +3,7 @@ use Rattle.definitions.specs.Answers.{first_application}
 use Rattle.faults.specs.View.{fault}
 use Rattle.json_doc.specs.Docs.{value}
 use Rattle.schema_index.specs.Locateds.{located_schema}
-use Rattle.applications.specs.Frames.{frame}
+use Rattle.evaluation_context.specs.Frames.{frame}
 use Rattle.evaluator.specs.Logs.{notes}
 use Rattle.evaluator.specs.Rounds.{said}
 use Rattle.evaluator.proofs.ReportLaws.{answer_ok, answer_costly, answer_loop, answer_deep, first_outcome, first_is_at, noted_first, made_ok, made_gives, unreached_changes_nothing}

@@ -5,7 +5,7 @@ use Rattle.definitions.specs.Applied.{Application}
 use Rattle.definitions.specs.Outcomes.{Use, other_annotations}
 use Rattle.json_doc.specs.Docs.{value}
 use Rattle.keyword_plans.specs.Subjects.{subject_value}
-use Rattle.applications.specs.Frames.{frame, standing}
+use Rattle.evaluation_context.specs.Frames.{frame, standing}
 use Rattle.evaluator.specs.Notes.{Notes, added, uses_notes}
 use Rattle.evaluator.proofs.CombinedLaws.{passing_object, stands_there}
 use Rattle.evaluator.proofs.LogLaws.{added_twice, annotated}

@@ -2,8 +2,8 @@ use Rattle.std.proofs.Common.{◌≡◌, ◌<◌, ◌∙◌, sym, ap, subst, ◌
 use Rattle.definitions.specs.Applied.{Outcome, entered, Application, Part}
 use Rattle.json_doc.specs.Docs.{value}
 use Rattle.keyword_plans.specs.Subjects.{subject_value}
-use Rattle.applications.specs.Frames.{Frame, frame, standing}
-use Rattle.applications.specs.Standings.{application_at, at_keyword}
+use Rattle.evaluation_context.specs.Frames.{Frame, frame, standing}
+use Rattle.evaluation_context.specs.Standings.{application_at, at_keyword}
 use Rattle.evaluator.specs.Findings.{Finds, FindsUses, use_count, FindsObject, FindsUse, FindsAll, count_of}
 use Rattle.evaluator.specs.Logs.{notes}
 use Rattle.evaluator.specs.Notes.{added, outcome_notes, uses_notes, Notes, parts_notes, part_notes}
@@ -31,7 +31,7 @@ use Rattle.definitions.specs.Evaluated.{passing}
 use Rattle.keyword_plans.specs.declared.planned.Planned.{Planned}
 use Rattle.evaluator.proofs.SettlingLaws.{at_keyword_of, planned_known, planned_outcomes, use_over}
 use Rattle.evaluator.proofs.PlannedLaws.{none_found, none_within, within_more, child_more, child_noted, child_over, planned_at}
-use Rattle.applications.specs.Returns.{CameFrom}
+use Rattle.evaluation_context.specs.Returns.{CameFrom}
 use Rattle.keyword_plans.specs.Plans.{planned_view}
 use Rattle.std.proofs.lemmas.Result.{IfOk-weaker}
 use Rattle.keyword_plans.specs.Sites.{linked_rules}

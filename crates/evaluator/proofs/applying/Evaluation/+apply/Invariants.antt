@@ -2,7 +2,7 @@ use Rattle.std.proofs.Common.{◌≡◌, take, Contains, ◌+◌, ◌*◌}
 use Rattle.definitions.specs.Applied.{Application}
 use Rattle.json_doc.specs.Docs.{value}
 use Rattle.keyword_plans.specs.Subjects.{subject_value}
-use Rattle.applications.specs.Frames.{frame}
+use Rattle.evaluation_context.specs.Frames.{frame}
 use Rattle.evaluator.specs.Findings.{IsWithin, FindsObject, AreWithin, FindsAll}
 use Rattle.evaluator.specs.Logs.{notes}
 use Rattle.evaluator.specs.Notes.{added, uses_notes, parts_notes}

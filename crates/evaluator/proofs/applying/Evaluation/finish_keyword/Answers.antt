@@ -2,8 +2,8 @@ use Rattle.std.proofs.Common.{◌∙◌, ap, refl}
 use Rattle.basic_output.specs.Sayings.{says_value}
 use Rattle.json_doc.specs.Docs.{value}
 use Rattle.keyword_plans.specs.Rows.{row_of}
-use Rattle.applications.specs.Frames.{frame, standing}
-use Rattle.applications.specs.Standings.{Standing, unit_there}
+use Rattle.evaluation_context.specs.Frames.{frame, standing}
+use Rattle.evaluation_context.specs.Standings.{Standing, unit_there}
 use Rattle.evaluator.specs.Logs.{notes}
 use Rattle.evaluator.specs.Rounds.{use_there}
 use Rattle.evaluator.proofs.SettlingLaws.{use_found}

@@ -1,5 +1,5 @@
 use Rattle.std.proofs.Common.{◌∙◌, ap, sym}
-use Rattle.applications.specs.Standings.{Standing}
+use Rattle.evaluation_context.specs.Standings.{Standing}
 use Rattle.evaluator.specs.Rounds.{said}
 use Rattle.evaluator.proofs.applying.Evaluation.passes.Goals as goal
 

@@ -1,9 +1,0 @@
--- The schema objects that are being applied, as the definitions have them.
-use Rattle.std.specs.Prelude.{List, map}
-use Rattle.definitions.specs.Schemas.{Identity}
-use Rattle.definitions.specs.Applied.{Place}
-use Rattle.applications.specs.Runnings.{running_view}
-use Rattle.applications.specs.declared.running_objects.RunningObjects.{RunningObjects}
-
-unfoldable pub running_objects : RunningObjects → List (Identity × Place)
-running_objects o = map (running_view o.steps.items) o.entries.items

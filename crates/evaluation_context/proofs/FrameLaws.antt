@@ -1,0 +1,152 @@
+-- Frames, field by field.
+use Rattle.std.proofs.Common.{◌≡◌, ◌≤◌, ◌<◌, ◌++◌, ◌∷◌, ◌&&◌, [], ℕ, true, List, Option, Some, None, length, map, take, drop, refl, sym, ap, ap₂, ◌∙◌, subst, arith, inl, inr}
+use Rattle.std.proofs.lemmas.Bool.{cases_lt, false≢true}
+use Rattle.std.proofs.lemmas.List.{map_push, same_from_push, append-nil, append_assoc, length-take, take-take, take_at, drop_at, take_all}
+use Rattle.std.specs.Option.{option_to_list, IsSome}
+use Rattle.definitions.specs.Values.{Text, Value, is_object}
+use Rattle.definitions.specs.Pointers.{Pointer}
+use Rattle.definitions.specs.Schemas.{Schema, Identity, schema_at, opened}
+use Rattle.definitions.specs.Outcomes.{is_running}
+use Rattle.std.specs.List.{list_any}
+use Rattle.evaluation_context.specs.Runnings.{is_running_as}
+use Rattle.definitions.specs.Applied.{Place, OutputUnit}
+use Rattle.evaluation_context.specs.Frames.{Frame, standing}
+use Rattle.evaluation_context.specs.Standings.{Standing, application_at}
+use Rattle.evaluation_context.specs.Moves.{Onward, LeadsTo, stepped, placed, at_schema, identified}
+use Rattle.evaluation_context.specs.Returns.{CameFrom}
+use Rattle.evaluation_context.specs.declared.context.Return.{Return}
+use Rattle.evaluation_context.proofs.RunningLaws.{none_popped}
+
+pub same_places : {p q : Place} → p.pointer ≡ q.pointer → p.name ≡ q.name → p ≡ q
+same_places {p} {q} pointer name = ap₂ (λ t n. record { pointer = t; name = n }) pointer name
+
+pub same_frames : {f g : Frame} → f.path ≡ g.path → f.outer ≡ g.outer → f.resource ≡ g.resource → f.pointer ≡ g.pointer → f.place ≡ g.place → f.scope ≡ g.scope → f.running ≡ g.running → f ≡ g
+same_frames {f} {g} path outer resource pointer place scope running =
+    ap₂ (λ x y. record f { path = x; outer = y }) path outer
+    ∙ ap₂ (λ x y. record f { path = g.path; outer = g.outer; resource = x; pointer = y }) resource pointer
+    ∙ ap₂ (λ x y. record f { path = g.path; outer = g.outer; resource = g.resource; pointer = g.pointer; place = x; scope = y }) place scope
+    ∙ ap (λ x. record g { running = x }) running
+
+-- what a `pop` leaves
+pub popped : {A B : Type 0} (g : A → B) (xs ys : List A) (o : Option A) (n : ℕ) → xs ≡ ys ++ option_to_list o → (0 < n → IsSome o) → n ≡ length xs
+    → (older : List B) (v : B) → map g xs ≡ older ++ v ∷ [] → map g ys ≡ older
+popped g xs ys None n e there size older v seen =
+    elim (cases_lt 0 n) [
+      | inl less ↦ absurd (false≢true (there less))
+      | inr none ↦ absurd (none_popped g xs (omega arith) older v seen)
+    ]
+popped g xs ys (Some x) n e there size older v seen = (same_from_push (map g ys) older (g x) v (sym (map_push g ys x) ∙ ap (map g) (sym e) ∙ seen)).0
+
+-- ---- moves
+pub stepped_nowhere : (f : Frame) → f ≡ stepped [] f
+unfolding stepped
+stepped_nowhere f = same_frames (sym (append-nil f.path)) refl refl (sym (append-nil f.pointer)) refl refl refl
+
+front : {A : Type 0} (xs more : List A) → take (length xs) (xs ++ more) ≡ xs
+front xs more = take_at xs more (length xs) refl
+
+pub onward_itself : (f : Frame) → Onward f f
+onward_itself f =
+    record {
+      path = take_all (length f.path) f.path (omega arith);
+      steps = take_all (length (f.outer ++ f.pointer)) (f.outer ++ f.pointer) (omega arith);
+      place = take_all (length f.place.pointer) f.place.pointer (omega arith);
+      scope = refl;
+      running = refl;
+    }
+
+pub onward_stepped : (way : Pointer) (f : Frame) → Onward f (stepped way f)
+unfolding stepped
+onward_stepped way f =
+    record {
+      path = front f.path way;
+      steps = ap (take (length (f.outer ++ f.pointer))) (sym (append_assoc f.outer f.pointer way)) ∙ front (f.outer ++ f.pointer) way;
+      place = take_all (length f.place.pointer) f.place.pointer (omega arith);
+      scope = refl;
+      running = refl;
+    }
+
+pub onward_schema : (s : Schema) (f : Frame) → Onward f (at_schema s f)
+unfolding at_schema
+onward_schema s f =
+    record {
+      path = take_all (length f.path) f.path (omega arith);
+      steps = front (f.outer ++ f.pointer) s.pointer;
+      place = take_all (length f.place.pointer) f.place.pointer (omega arith);
+      scope = refl;
+      running = refl;
+    }
+
+pub onward_placed : (p : Place) (f : Frame) → take (length f.place.pointer) p.pointer ≡ f.place.pointer → Onward f (placed p f)
+unfolding placed
+onward_placed p f place =
+    record {
+      path = take_all (length f.path) f.path (omega arith);
+      steps = take_all (length (f.outer ++ f.pointer)) (f.outer ++ f.pointer) (omega arith);
+      place = place;
+      scope = refl;
+      running = refl;
+    }
+
+front_of_front : {A : Type 0} (xs ys zs : List A) → take (length xs) ys ≡ xs → take (length ys) zs ≡ ys → take (length xs) zs ≡ xs
+front_of_front xs ys zs first second =
+    let long : length xs ≤ length ys = omega (arith, ap length first, length-take (length xs) ys) in
+    sym (take-take (length xs) (length ys) zs long) ∙ ap (take (length xs)) second ∙ first
+
+pub onward_onward : {f g h : Frame} → Onward f g → Onward g h → Onward f h
+onward_onward {f} {g} {h} first second =
+    record {
+      path = front_of_front f.path g.path h.path first.path second.path;
+      steps = front_of_front (f.outer ++ f.pointer) (g.outer ++ g.pointer) (h.outer ++ h.pointer) first.steps second.steps;
+      place = front_of_front f.place.pointer g.place.pointer h.place.pointer first.place second.place;
+      scope = second.scope ∙ first.scope;
+      running = second.running ∙ first.running;
+    }
+
+-- ---- the way back
+pub came_from : (back : Return) (older newer : Frame) → LeadsTo back older → Onward older newer → CameFrom back older newer
+came_from back older newer leads onward =
+    let all : take back.steps (newer.outer ++ newer.pointer) ≡ older.outer ++ older.pointer =
+    ap (λ n. take n (newer.outer ++ newer.pointer)) leads.steps ∙ onward.steps in
+    same_frames
+    (sym (ap (λ n. take n newer.path) leads.path ∙ onward.path))
+    (sym (ap₂ take leads.start all ∙ take_at older.outer older.pointer (length older.outer) refl))
+    (sym leads.resource)
+    (sym (ap₂ drop leads.start all ∙ drop_at older.outer older.pointer (length older.outer) refl))
+    (same_places (sym (ap (λ n. take n newer.place.pointer) leads.place ∙ onward.place)) (sym leads.name))
+    (sym onward.scope)
+    (sym onward.running)
+
+-- ---- a schema
+pub schema_stays : (f : Frame) (v : Value) → opened f.resource f.pointer v None ≡ schema_at f.resource f.pointer v → standing f ≡ identified [] (schema_at f.resource f.pointer v) (standing f)
+unfolding standing identified
+schema_stays f v e =
+    ap₂ (λ p (s : Schema). record (standing f) { path = p; resource = s.resource; pointer = s.pointer }) (sym (append-nil f.path)) e
+
+pub schema_opened : (f : Frame) (uri : Text) (s : Schema) → uri ≡ s.resource → s.pointer ≡ [] → standing (record f { outer = f.outer ++ f.pointer; resource = uri; pointer = [] }) ≡ identified [] s (standing f)
+unfolding standing identified
+schema_opened f uri s same root =
+    ap₂ (λ p (q : Text × Pointer). record (standing f) { path = p; resource = q.0; pointer = q.1 }) (sym (append-nil f.path)) (ap₂ (λ r t. (r, t)) same (sym root))
+
+-- ---- standings, units and objects, field by field
+pub same_standings : {s t : Standing} → s.path ≡ t.path → s.resource ≡ t.resource → s.pointer ≡ t.pointer → s.place ≡ t.place → s.scope ≡ t.scope → s.running ≡ t.running → s ≡ t
+same_standings {s} {t} path resource pointer place scope running =
+    ap₂ (λ x y. record s { path = x; resource = y }) path resource
+    ∙ ap₂ (λ x y. record s { path = t.path; resource = t.resource; pointer = x; place = y }) pointer place
+    ∙ ap₂ (λ x y. record t { scope = x; running = y }) scope running
+
+pub same_units : {u v : OutputUnit} → u.path ≡ v.path → u.resource ≡ v.resource → u.pointer ≡ v.pointer → u.place ≡ v.place → u.says ≡ v.says → u ≡ v
+same_units {u} {v} path resource pointer place says =
+    ap₂ (λ x y. record u { path = x; resource = y }) path resource
+    ∙ ap₂ (λ x y. record u { path = v.path; resource = v.resource; pointer = x; place = y }) pointer place
+    ∙ ap (λ x. record v { says = x }) says
+
+pub same_objects : {i j : Identity} {p q : Place} → i.0 ≡ j.0 → i.1 ≡ j.1 → p.pointer ≡ q.pointer → p.name ≡ q.name → (os : List (Identity × Place)) → os ++ (i, p) ∷ [] ≡ os ++ (j, q) ∷ []
+same_objects {i} {j} {p} {q} resource pointer place name os =
+    ap₂ (λ k r. os ++ (k, r) ∷ []) (ap₂ (λ r t. (r, t)) resource pointer) (same_places place name)
+
+pub running_is : (s x : Value) (st : Standing) → is_object s ≡ true → list_any (is_running_as (st.resource, st.pointer) st.place) st.running ≡ is_running (application_at st s x)
+running_is s x st object = sym (ap (λ b. b && list_any (is_running_as (st.resource, st.pointer) st.place) st.running) object)
+
+pub onward_at : {f g h : Frame} → g ≡ h → Onward f h → Onward f g
+onward_at {f} {g} {h} e onward = subst (Onward f) (sym e) onward

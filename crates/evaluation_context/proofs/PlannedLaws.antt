@@ -1,0 +1,90 @@
+-- From a keyword to what it applies.
+use Rattle.std.proofs.Common.{◌≡◌, ◌++◌, ◌∷◌, [], List, Option, Result, OnOk, length, take, refl, sym, ap, ap₂, ◌∙◌, subst, arith}
+use Rattle.std.proofs.lemmas.List.{append-nil, append_assoc, take_at, take_all}
+use Rattle.std.proofs.lemmas.Result.{on_ok_weaker}
+use Rattle.std.specs.Prelude.{Contains}
+use Rattle.std.specs.Borrow.{Bor}
+use Rattle.definitions.specs.Values.{Text, Value}
+use Rattle.definitions.specs.Pointers.{Pointer}
+use Rattle.definitions.specs.Schemas.{Schema, schema_at}
+use Rattle.definitions.specs.Applied as definition
+use Rattle.definitions.specs.Applied.{Application, Place, whole, named, indexed, name_of, part_place}
+use Rattle.json_doc.specs.Docs.{value}
+use Rattle.json_doc.specs.declared.doc.Doc.{Doc}
+use Rattle.locations.specs.declared.step.Step.{Step}
+use Rattle.keyword_plans.specs.Plans.{step_view, chosen_application}
+use Rattle.keyword_plans.specs.declared.planned.Chosen.{Chosen}
+use Rattle.keyword_plans.specs.declared.planned.Chosen.TheVariants.{Below, Target}
+use Rattle.schema_index.specs.Locateds.{located_schema}
+use Rattle.schema_index.specs.declared.located.Located.{Located}
+use Rattle.evaluation_context.specs.Frames.{Frame, standing}
+use Rattle.evaluation_context.specs.Standings.{Standing, at_keyword, standing_of}
+use Rattle.evaluation_context.specs.Moves.{stepped, placed, at_schema, identified, chosen_way, chosen_schema}
+use Rattle.evaluation_context.proofs.FrameLaws.{same_standings}
+
+-- ---- below the keyword
+schema_below : (f g : Frame) (way : Pointer) (v : Value) → g ≡ stepped way f → schema_at g.resource g.pointer v ≡ schema_at f.resource (f.pointer ++ way) v
+unfolding stepped
+schema_below f g way v e = ap (λ (x : Frame). schema_at x.resource x.pointer v) e
+
+identified_below : (s : Schema) (f g : Frame) (way : Pointer) → g ≡ stepped way f → identified [] s (standing g) ≡ identified way s (standing f)
+unfolding stepped standing identified
+identified_below s f g way e =
+    ap (λ (x : Frame). identified [] s (standing x)) e ∙ same_standings (append-nil (f.path ++ way)) refl refl refl refl refl
+
+pub below_there : {T E : Type 0} (r : Result T E) (xs : List Schema) (f g h : Frame) (chosen : Chosen) (step : Option Step) (schema : Bor Doc) → chosen ≡ Below step schema → g ≡ stepped (step_view step) f
+    → (Contains xs (schema_at g.resource g.pointer (value schema.now)) → OnOk r (standing h ≡ identified [] (schema_at g.resource g.pointer (value schema.now)) (standing g)))
+    → Contains xs (chosen_schema f.resource f.pointer chosen)
+    → OnOk r (standing h ≡ identified (chosen_way chosen) (chosen_schema f.resource f.pointer chosen) (standing f))
+below_there r xs f g h chosen step schema is e there contains =
+    let s = schema_at g.resource g.pointer (value schema.now) in
+    let t = chosen_schema f.resource f.pointer chosen in
+    let same : s ≡ t = schema_below f g (step_view step) (value schema.now) e ∙ ap (chosen_schema f.resource f.pointer) (sym is) in
+    let arrived : identified [] s (standing g) ≡ identified (chosen_way chosen) t (standing f) =
+    identified_below s f g (step_view step) e ∙ ap₂ (λ w x. identified w x (standing f)) (ap chosen_way (sym is)) same in
+    on_ok_weaker r (λ o. o ∙ arrived) (there (subst (Contains xs) (sym same) contains))
+
+-- ---- at what a reference names
+pub target_there : (f h : Frame) (chosen : Chosen) (located : Located) → chosen ≡ Target located → h ≡ at_schema (located_schema located) f
+    → standing h ≡ identified (chosen_way chosen) (chosen_schema f.resource f.pointer chosen) (standing f)
+unfolding standing at_schema identified
+target_there f h chosen located is e =
+    let start : standing (at_schema (located_schema located) f) ≡ identified [] (located_schema located) (standing f) = same_standings (sym (append-nil f.path)) refl refl refl refl refl in
+    ap standing e ∙ start ∙ ap (λ c. identified (chosen_way c) (chosen_schema f.resource f.pointer c) (standing f)) (sym is)
+
+-- ---- to the part of the instance
+pub front_of_part : (p : Place) (part : definition.Part) → take (length p.pointer) (part_place p part).pointer ≡ p.pointer
+front_of_part p whole = take_all (length p.pointer) p.pointer (omega arith)
+front_of_part p (named n) = take_at p.pointer _ (length p.pointer) refl
+front_of_part p (indexed i) = take_at p.pointer _ (length p.pointer) refl
+front_of_part p (name_of n) = take_all (length p.pointer) p.pointer (omega arith)
+
+-- ---- the whole way
+arrived : (f g h : Frame) (a : Application) (k : Text) (way rest : Pointer) (s t : Schema) (part : definition.Part) → standing f ≡ at_keyword k (standing_of a)
+    → h ≡ placed (part_place g.place part) g → standing g ≡ identified way s (standing f) → k ∷ way ≡ rest → s ≡ t
+    → standing h ≡ record { path = a.path ++ rest; resource = t.resource; pointer = t.pointer; place = part_place a.place part; scope = a.scope; running = a.running }
+unfolding standing placed identified
+arrived f g h a k way rest s t part here last there longer same =
+    same_standings
+    (ap (λ (x : Frame). x.path) last ∙ ap (λ (st : Standing). st.path) there ∙ ap (λ (st : Standing). st.path ++ way) here ∙ append_assoc a.path (k ∷ []) way ∙ ap (λ w. a.path ++ w) longer)
+    (ap (λ (x : Frame). x.resource) last ∙ ap (λ (st : Standing). st.resource) there ∙ ap (λ (x : Schema). x.resource) same)
+    (ap (λ (x : Frame). x.pointer) last ∙ ap (λ (st : Standing). st.pointer) there ∙ ap (λ (x : Schema). x.pointer) same)
+    (ap (λ (x : Frame). x.place) last ∙ ap (λ (st : Standing). part_place st.place part) (there) ∙ ap (λ (st : Standing). part_place st.place part) here)
+    (ap (λ (x : Frame). x.scope) last ∙ ap (λ (st : Standing). st.scope) there ∙ ap (λ (st : Standing). st.scope) here)
+    (ap (λ (x : Frame). x.running) last ∙ ap (λ (st : Standing). st.running) there ∙ ap (λ (st : Standing). st.running) here)
+
+schema_here : (f : Frame) (a : Application) (k : Text) (way : Pointer) (v : Value) → standing f ≡ at_keyword k (standing_of a)
+    → schema_at f.resource (f.pointer ++ way) v ≡ schema_at a.schema.resource (a.schema.pointer ++ k ∷ way) v
+unfolding standing
+schema_here f a k way v here =
+    ap (λ (st : Standing). schema_at st.resource (st.pointer ++ way) v) here ∙ ap (λ p. schema_at a.schema.resource p v) (append_assoc a.schema.pointer (k ∷ []) way)
+
+pub planned_there : (xs : List Schema) (f g h : Frame) (a : Application) (k : Text) (chosen : Chosen) (part : definition.Part) (x : Value) → standing f ≡ at_keyword k (standing_of a)
+    → h ≡ placed (part_place g.place part) g
+    → (Contains xs (chosen_schema f.resource f.pointer chosen) → standing g ≡ identified (chosen_way chosen) (chosen_schema f.resource f.pointer chosen) (standing f))
+    → Contains xs (chosen_application k a chosen part x).schema → standing h ≡ standing_of (chosen_application k a chosen part x)
+planned_there xs f g h a k (Below step schema) part x here last there contains =
+    let same = schema_here f a k (step_view step) (value schema.now) here in
+    arrived f g h a k (step_view step) (k ∷ step_view step) _ _ part here last (there (subst (Contains xs) (sym same) contains)) refl same
+planned_there xs f g h a k (Target located) part x here last there contains =
+    arrived f g h a k [] (k ∷ []) _ _ part here last (there contains) refl refl

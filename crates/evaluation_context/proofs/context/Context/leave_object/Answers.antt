@@ -1,0 +1,17 @@
+use Rattle.std.proofs.Common.{ap}
+use Rattle.evaluation_context.specs.Frames.{Frame, frame, object_entered}
+use Rattle.evaluation_context.proofs.FrameLaws.{same_frames, popped}
+use Rattle.evaluation_context.proofs.context.Context.leave_object.Goals as goal
+
+pub returns : goal.returns
+unfolding frame object_entered
+returns c = λ older h.
+    let old = c.args.self.now in
+    same_frames
+    (ap (λ (f : Frame). f.path) h)
+    (ap (λ (f : Frame). f.outer) h)
+    (ap (λ (f : Frame). f.resource) h)
+    (ap (λ (f : Frame). f.pointer) h)
+    (ap (λ (f : Frame). f.place) h)
+    (popped (λ uri. uri.now) old.scope.items c.pop.new.self.items c.pop.result _ c.pop.ensures.items c.pop.ensures.variant.1 old.scope.ok.0 older.scope older.resource (ap (λ (f : Frame). f.scope) h))
+    (c.pop-2.ensures.running older.running _ (ap (λ (f : Frame). f.running) h))

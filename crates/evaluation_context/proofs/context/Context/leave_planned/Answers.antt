@@ -1,0 +1,20 @@
+use Rattle.std.proofs.Common.{refl, sym, ap, ◌∙◌}
+use Rattle.std.proofs.lemmas.List.{take-map}
+use Rattle.locations.specs.Steps.{token, tokens}
+use Rattle.evaluation_context.specs.Frames.{frame}
+use Rattle.evaluation_context.proofs.FrameLaws.{same_frames, same_places}
+use Rattle.evaluation_context.proofs.context.Context.leave_planned.Goals as goal
+
+pub returns : goal.returns
+unfolding frame
+returns c = λ older h.
+    let old = c.args.self.now in
+    same_frames
+    (ap tokens c.truncate.ensures.items ∙ sym (take-map token c.args.back.path old.path.items))
+    c.cut.ensures.outer
+    refl
+    c.cut.ensures.last
+    (same_places (ap tokens c.truncate-2.ensures.items ∙ sym (take-map token c.args.back.place old.place.items)) refl)
+    refl
+    refl
+    ∙ sym h

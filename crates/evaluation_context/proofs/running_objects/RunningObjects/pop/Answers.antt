@@ -1,0 +1,32 @@
+use Rattle.std.proofs.Common.{arith, take, sym, ap, ◌∙◌}
+use Rattle.std.proofs.lemmas.List.{nil_from_length, same_from_push}
+use Rattle.evaluation_context.specs.RunningViews.{running_objects}
+use Rattle.evaluation_context.specs.Runnings.{running_view}
+use Rattle.evaluation_context.specs.declared.running.Running.{Running}
+use Rattle.evaluation_context.proofs.PointerLaws.{no_push}
+use Rattle.evaluation_context.proofs.RunningLaws.{popped_laid, popped_views, none_popped}
+use Rattle.evaluation_context.proofs.running_objects.RunningObjects.pop.Goals as goal
+
+pub invariant_of-self : goal.invariant_of-self
+invariant_of-self c =
+    let old = c.args.self.now in
+    record { laid = popped_laid old.entries.items c.pop.new.self.items old.steps.items c.truncate.new.self.items c.in-Some.entry c.in-Some.ensures.items c.truncate.ensures.items old.laid }
+
+pub returns-in-Some-clause-running : goal.returns-in-Some-clause-running
+unfolding running_objects
+returns-in-Some-clause-running c =
+    let old = c.args.self.now in
+    popped_views old.entries.items c.pop.new.self.items old.steps.items c.truncate.new.self.items c.in-Some.entry c.in-Some.ensures.items c.truncate.ensures.items old.laid
+
+pub returns-in-None-clause-running : goal.returns-in-None-clause-running
+unfolding running_objects
+returns-in-None-clause-running c = λ older v seen. absurd (none_popped (running_view c.args.self.now.steps.items) c.args.self.now.entries.items (omega (arith, c.in-None.ensures.cases.0, c.args.self.now.entries.ok.0)) older v seen)
+
+pub returns-in-Some-clause-steps : goal.returns-in-Some-clause-steps
+returns-in-Some-clause-steps c = λ older e seen.
+    let old = c.args.self.now in
+    c.truncate.ensures.items ∙ ap (λ (r : Running). take r.pointer old.steps.items) (same_from_push c.pop.new.self.items older c.in-Some.entry e (sym c.in-Some.ensures.items ∙ seen)).1
+
+pub returns-in-None-clause-steps : goal.returns-in-None-clause-steps
+returns-in-None-clause-steps c = λ older e seen.
+    absurd (no_push older e (sym (nil_from_length c.args.self.now.entries.items (omega (arith, c.in-None.ensures.cases.0, c.args.self.now.entries.ok.0))) ∙ seen))

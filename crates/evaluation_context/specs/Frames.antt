@@ -1,0 +1,50 @@
+-- All that a context keeps, as lists of tokens; and where it stands.
+use Rattle.std.specs.Prelude.{List, ◌++◌, ◌∷◌, [], map, option_map}
+use Rattle.definitions.specs.Values.{Text}
+use Rattle.definitions.specs.Pointers.{Pointer}
+use Rattle.definitions.specs.Schemas.{Identity}
+use Rattle.definitions.specs.Applied.{Place}
+use Rattle.locations.specs.Steps.{tokens}
+use Rattle.evaluation_context.specs.Standings.{Standing}
+use Rattle.evaluation_context.specs.PointerViews.{last_pointer, outer_pointers}
+use Rattle.evaluation_context.specs.RunningViews.{running_objects}
+use Rattle.evaluation_context.specs.declared.context.Context.{Context}
+
+pub record Frame : Type 0 where
+  pub path : Pointer
+  -- the pointers of the resources on the way, one after the other, but for the last
+  pub outer : Pointer
+  pub resource : Text
+  pub pointer : Pointer
+  pub place : Place
+  pub scope : List Text
+  pub running : List (Identity × Place)
+
+unfoldable pub frame : Context → Frame
+frame c = record {
+  path = tokens c.path.items;
+  outer = outer_pointers c.pointers;
+  resource = c.resource.now;
+  pointer = last_pointer c.pointers;
+  place = record { pointer = tokens c.place.items; name = option_map (λ n. n.now) c.name };
+  scope = map (λ uri. uri.now) c.scope.items;
+  running = running_objects c.running;
+}
+
+unfoldable pub standing : Frame → Standing
+standing f = record {
+  path = f.path;
+  resource = f.resource;
+  pointer = f.pointer;
+  place = f.place;
+  scope = f.scope;
+  running = f.running;
+}
+
+-- a schema object is being applied
+unfoldable pub object_entered : Frame → Frame
+object_entered f = record f { scope = f.scope ++ f.resource ∷ []; running = f.running ++ ((f.resource, f.pointer), f.place) ∷ [] }
+
+-- at a keyword of the schema
+unfoldable pub keyword_entered : Text → Frame → Frame
+keyword_entered k f = record f { path = f.path ++ k ∷ []; pointer = f.pointer ++ k ∷ [] }

@@ -1,0 +1,12 @@
+-- The pointers of the resources on the way, as lists of tokens.
+use Rattle.std.specs.Prelude.{take, drop}
+use Rattle.definitions.specs.Pointers.{Pointer}
+use Rattle.locations.specs.Steps.{tokens}
+use Rattle.evaluation_context.specs.declared.pointers.Pointers.{Pointers}
+
+unfoldable pub last_pointer : Pointers → Pointer
+last_pointer p = tokens (drop p.start p.steps.items)
+
+-- those before it, one after the other
+unfoldable pub outer_pointers : Pointers → Pointer
+outer_pointers p = tokens (take p.start p.steps.items)

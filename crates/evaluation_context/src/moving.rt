@@ -1,0 +1,162 @@
+//! From a keyword to what it applies, and back.
+
+ghost use Rattle.std.specs.Prelude.{◌≡◌, ◌++◌, [], true, false, IfOk, IfErr, OnOk, Contains, codes, option_map};
+ghost use Rattle.definitions.specs.Values.{Text, text_at};
+ghost use Rattle.definitions.specs.Schemas.{schema_at};
+ghost use Rattle.definitions.specs.Applied.{Application, part_place};
+ghost use Rattle.json_doc.specs.Docs.{value};
+ghost use Rattle.keyword_plans.specs.Plans.{part_view, planned_view, step_view};
+ghost use Rattle.linker.specs.LinkedDocuments.{linked_schemas};
+ghost use Rattle.schema_index.specs.Locateds.{located_schema};
+ghost use Rattle.evaluation_context.specs.Standings.{at_keyword, standing_of};
+ghost use Rattle.evaluation_context.specs.Frames.{Frame, frame, standing};
+ghost use Rattle.evaluation_context.specs.Moves.{LeadsTo, Onward, at_schema, chosen_schema, chosen_way, identified, placed, stepped};
+ghost use Rattle.evaluation_context.specs.Returns.{CameFrom};
+
+use crate::context::{Context, Return};
+use faults::Fault;
+use json_doc::Doc;
+use keyword_plans::{Chosen, Part, Planned};
+use linker::Linked;
+use locations::Step;
+use schema_index::Located;
+use std::alloc::{AllocError, Global};
+
+impl<'a> Context<'a> {
+    /// From a keyword to what it applies. The only error is want of memory.
+    pub fn enter_planned(
+        &mut self,
+        alloc: Global,
+        linked: &'a Linked,
+        planned: &Planned<'a>,
+    ) -> Result<Return<'a>, Fault>
+        ensures there { (a : Application) (k : Text)
+            → standing (frame self.old) ≡ at_keyword k (standing_of a)
+            → Contains (linked_schemas linked.now) (planned_view k a planned.now).1.schema
+            → OnOk result (standing (frame self.new)
+            ≡ standing_of (planned_view k a planned.now).1) }
+        ensures entered { IfOk result (λ back. CameFrom back (frame self.old) (frame self.new)) }
+        ensures err { IfErr result (λ f. f ≡ Fault.NoRoom) }
+    {
+        let back = self.way_back();
+        self.enter_chosen(alloc, linked, &planned.chosen)?;
+        self.enter_part(planned.part)?;
+        Ok(back)
+    }
+
+    /// Back to the keyword.
+    pub fn leave_planned(&mut self, back: Return<'a>)
+        ensures { (older : Frame) → CameFrom back.entry older (frame self.old)
+            → frame self.new ≡ older }
+    {
+        self.path.truncate(back.path);
+        self.pointers.cut(back.steps, back.start);
+        self.resource = back.resource;
+        self.place.truncate(back.place);
+        self.name = back.name;
+    }
+
+    fn way_back(&self) -> Return<'a>
+        ensures { LeadsTo result (frame self.now) }
+    {
+        Return {
+            path: self.path.len(),
+            steps: self.pointers.len(),
+            start: self.pointers.start(),
+            resource: self.resource,
+            place: self.place.len(),
+            name: self.name,
+        }
+    }
+
+    fn enter_chosen(
+        &mut self,
+        alloc: Global,
+        linked: &'a Linked,
+        chosen: &Chosen<'a>,
+    ) -> Result<(), Fault>
+        ensures there { let s = chosen_schema (frame self.old).resource
+            (frame self.old).pointer chosen.now in Contains (linked_schemas linked.now) s
+            → OnOk result (standing (frame self.new)
+            ≡ identified (chosen_way chosen.now) s (standing (frame self.old))) }
+        ensures onward { OnOk result (Onward (frame self.old) (frame self.new)) }
+        ensures err { IfErr result (λ f. f ≡ Fault.NoRoom) }
+    {
+        match chosen {
+            Chosen::Below(step, schema) => {
+                self.enter_step(*step)?;
+                self.enter_schema(alloc, linked, schema)
+            }
+            Chosen::Target(located) => {
+                self.enter_target(located)?;
+                Ok(())
+            }
+        }
+    }
+
+    fn enter_step(&mut self, step: Option<Step<'a>>) -> Result<(), AllocError>
+        ensures { OnOk result (frame self.new ≡ stepped (step_view step.entry) (frame self.old)) }
+    {
+        match step {
+            Some(step) => {
+                self.path.push(step)?;
+                self.pointers.push(step)?;
+                Ok(())
+            }
+            None => Ok(()),
+        }
+    }
+
+    // A schema with an `$id` opens a resource, whose pointers begin anew (JSON Schema 2020-12 Core, section 8.2.1).
+    fn enter_schema(
+        &mut self,
+        alloc: Global,
+        linked: &'a Linked,
+        schema: &'a Doc,
+    ) -> Result<(), Fault>
+        ensures there { let s = schema_at (frame self.old).resource (frame self.old).pointer
+            (value schema.now) in Contains (linked_schemas linked.now) s
+            → OnOk result (standing (frame self.new)
+            ≡ identified [] s (standing (frame self.old))) }
+        ensures onward { OnOk result (Onward (frame self.old) (frame self.new)) }
+        ensures err { IfErr result (λ f. f ≡ Fault.NoRoom) }
+    {
+        match text_at(schema, "$id") {
+            Some(id) => {
+                self.resource = linked.resource_opened(alloc, self.resource, id)?;
+                self.pointers.begin();
+                Ok(())
+            }
+            None => Ok(()),
+        }
+    }
+
+    fn enter_target(&mut self, located: &Located<'a>) -> Result<(), AllocError>
+        ensures { OnOk result (frame self.new
+            ≡ at_schema (located_schema located.now) (frame self.old)) }
+    {
+        self.pointers.begin();
+        self.pointers.append(&located.steps)?;
+        self.resource = located.resource;
+        Ok(())
+    }
+
+    fn enter_part(&mut self, part: Part<'a>) -> Result<(), AllocError>
+        ensures { OnOk result (frame self.new
+            ≡ placed (part_place (frame self.old).place (part_view part.entry)) (frame self.old)) }
+    {
+        match part {
+            Part::Whole => {}
+            Part::Member(name) => self.place.push(Step::Name(name))?,
+            Part::Element(index) => self.place.push(Step::Index(index))?,
+            Part::NameOf(name) => self.name = Some(name),
+        }
+        Ok(())
+    }
+}
+
+fn text_at<'t>(schema: &'t Doc, keyword: &str) -> Option<&'t str>
+    ensures { option_map (λ t. t.now) result ≡ text_at keyword.now (value schema.now) }
+{
+    schema.get(keyword)?.as_str()
+}

@@ -1,0 +1,74 @@
+//! Arrays whose elements are unique.
+
+ghost use Rattle.std.specs.Prelude.{◌≡◌, ◌∷◌, IfOk, map, not};
+ghost use Rattle.definitions.specs.Values.{same};
+ghost use Rattle.definitions.specs.Lists.{has_repeat};
+ghost use Rattle.definitions.specs.Assertions.{is_unique};
+ghost use Rattle.definition_laws.specs.Uniqueness.{has_same_neighbours};
+ghost use Rattle.json_doc.specs.Docs.{value};
+ghost use Rattle.value_order.specs.Sorts.{values_behind, IsSortedFrom};
+
+use crate::ordering::compare;
+use json_doc::{Doc, same};
+use std::alloc::{AllocError, Global};
+
+/// Whether no two elements of the list are equal (JSON Schema 2020-12 Validation, section 6.4.3): true of what is not a
+/// list. The elements are sorted and neighbours compared, in a time that grows with their number times its logarithm,
+/// and in memory for a reference to each. The only error is want of that memory.
+pub fn is_unique(alloc: Global, doc: &Doc) -> Result<bool, AllocError>
+    ensures { IfOk result (λ b. b ≡ is_unique (value doc.now)) }
+{
+    match doc {
+        Doc::List(items) => are_distinct(alloc, items.as_slice()),
+        _ => Ok(true),
+    }
+}
+
+fn are_distinct(alloc: Global, items: &[Doc]) -> Result<bool, AllocError>
+    ensures { IfOk result (λ b. b ≡ not (has_repeat same (map value items.now))) }
+{
+    let docs = sorted(alloc, items)?;
+    Ok(!has_same_neighbours(docs.as_slice()))
+}
+
+// The items in the order of their values.
+fn sorted(alloc: Global, items: &[Doc]) -> Result<Vec<&Doc>, AllocError>
+    ensures { IfOk result (λ docs. IsSortedFrom (map value items.now) (values_behind docs.items)) }
+{
+    let mut docs = references(alloc, items)?;
+    docs.sort_unstable_by(|first, second| compare(first, second));
+    Ok(docs)
+}
+
+fn references(alloc: Global, items: &[Doc]) -> Result<Vec<&Doc>, AllocError>
+    ensures { IfOk result (λ docs. values_behind docs.items ≡ map value items.now) }
+{
+    let mut docs = Vec::with_capacity(alloc, items.len())?;
+    for item in items {
+        docs.push(item)?;
+    }
+    Ok(docs)
+}
+
+fn has_same_neighbours(docs: &[&Doc]) -> bool
+    ensures { result ≡ has_same_neighbours (values_behind docs.now) }
+{
+    match docs.split_first() {
+        Some((first, rest)) => is_some_like_the_last(first, rest),
+        None => false,
+    }
+}
+
+// Whether some document is the same as the one before it, the first being before the rest.
+fn is_some_like_the_last(first: &Doc, rest: &[&Doc]) -> bool
+    ensures { result ≡ has_same_neighbours (value first.now ∷ values_behind rest.now) }
+{
+    let mut last = first;
+    for doc in rest {
+        if same(last, doc) {
+            return true;
+        }
+        last = doc;
+    }
+    false
+}

@@ -1,5 +1,7 @@
 -- An assertion as the definitions have it.
+use Rattle.std.specs.Prelude.{Option, Some, None}
 use Rattle.definitions.specs.Assertions as meaning
+use Rattle.definitions.specs.Keywords.{Meaning, asserts}
 use Rattle.assertions.specs.declared.assertion.Assertion.{Assertion}
 use Rattle.assertions.specs.declared.assertion.Assertion.TheVariants.{TypeIs, EnumOf, ConstIs, MultipleOf, Maximum, ExclusiveMaximum, Minimum, ExclusiveMinimum, MaxLength, MinLength, MaxProperties, MinProperties, Required, DependentRequired, MaxItems, MinItems, UniqueItems}
 
@@ -21,3 +23,8 @@ assertion_view DependentRequired = meaning.dependent_required
 assertion_view MaxItems = meaning.max_items
 assertion_view MinItems = meaning.min_items
 assertion_view UniqueItems = meaning.unique_items
+
+-- what a keyword of this meaning asserts, if it looks at its own value and the instance alone
+abbrev pub assertion_in : Meaning → Option meaning.Assertion
+assertion_in (asserts assertion) = Some assertion
+assertion_in _ = None

@@ -1,3 +1,2 @@
 pub mod AssertionView
-pub mod Rows
 pub mod Limits

@@ -1,13 +1,13 @@
 //! The keywords, and what each asks of the instance.
 
-ghost use Rattle.std.specs.Prelude.{◌≡◌};
+ghost use Rattle.std.specs.Prelude.{◌≡◌, option_map};
 ghost use Rattle.definitions.specs.Assertions.{shape_of, asserted, holds};
+ghost use Rattle.definitions.specs.Keywords.{asserting};
 ghost use Rattle.definitions.specs.Shapes.{has_shape};
 ghost use Rattle.json_doc.specs.Docs.{value};
 ghost use Rattle.keywords.specs.Shapes.{shape_view};
-ghost use Rattle.assertions.specs.AssertionView.{assertion_view};
-ghost use Rattle.assertions.specs.Rows.{name_of, row_of};
-ghost use Rattle.keywords.specs.Rows as table;
+ghost use Rattle.keywords.specs.Rows.{row_of};
+ghost use Rattle.assertions.specs.AssertionView.{assertion_in, assertion_view};
 
 use crate::equality::{is_one_of, is_unique_if};
 use crate::lengths::{
@@ -60,9 +60,35 @@ pub enum Assertion {
 }
 
 impl Assertion {
-    /// The keyword in the table of all keywords.
+    /// The assertion that the keyword makes, if it is one that looks at its own value and the instance.
+    pub fn of(keyword: Keyword) -> Option<Assertion>
+        ensures { option_map assertion_view result ≡ assertion_in (row_of keyword).meaning }
+    {
+        match keyword {
+            Keyword::Type => Some(Assertion::TypeIs),
+            Keyword::Enum => Some(Assertion::EnumOf),
+            Keyword::Const => Some(Assertion::ConstIs),
+            Keyword::MultipleOf => Some(Assertion::MultipleOf),
+            Keyword::Maximum => Some(Assertion::Maximum),
+            Keyword::ExclusiveMaximum => Some(Assertion::ExclusiveMaximum),
+            Keyword::Minimum => Some(Assertion::Minimum),
+            Keyword::ExclusiveMinimum => Some(Assertion::ExclusiveMinimum),
+            Keyword::MaxLength => Some(Assertion::MaxLength),
+            Keyword::MinLength => Some(Assertion::MinLength),
+            Keyword::MaxProperties => Some(Assertion::MaxProperties),
+            Keyword::MinProperties => Some(Assertion::MinProperties),
+            Keyword::Required => Some(Assertion::Required),
+            Keyword::DependentRequired => Some(Assertion::DependentRequired),
+            Keyword::MaxItems => Some(Assertion::MaxItems),
+            Keyword::MinItems => Some(Assertion::MinItems),
+            Keyword::UniqueItems => Some(Assertion::UniqueItems),
+            _ => None,
+        }
+    }
+
+    /// The keyword that makes it.
     pub fn keyword(self) -> Keyword
-        ensures { table.row_of result ≡ row_of self }
+        ensures { row_of result ≡ asserting (row_of result).name (assertion_view self) }
     {
         match self {
             Assertion::TypeIs => Keyword::Type,
@@ -83,13 +109,6 @@ impl Assertion {
             Assertion::MinItems => Keyword::MinItems,
             Assertion::UniqueItems => Keyword::UniqueItems,
         }
-    }
-
-    /// The name under which it stands in a schema.
-    pub fn name(self) -> &'static str
-        ensures { result.now ≡ name_of self }
-    {
-        self.keyword().name()
     }
 }
 

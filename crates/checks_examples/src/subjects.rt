@@ -2,7 +2,8 @@
 
 use basic_output::Says;
 use json_doc::read;
-use keyword_plans::{Annotation, Evaluated, Keyword, Subject, annotate};
+use keyword_plans::{Annotation, Evaluated, Subject, annotate};
+use keywords::Keyword;
 use std::test::Fail;
 
 #[test]

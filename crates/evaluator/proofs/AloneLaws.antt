@@ -6,9 +6,9 @@ use Rattle.definitions.specs.Keywords.{Meaning, looks_at_evaluated, asserts, mat
 use Rattle.definitions.specs.Applied.{Application, Outcome, Rules, applied}
 use Rattle.definitions.specs.Outcomes.{used, use_of}
 use Rattle.linker.specs.declared.linked.Linked.{Linked}
-use Rattle.keyword_plans.specs.Rows.{row_of}
+use Rattle.keywords.specs.Rows.{row_of}
 use Rattle.keyword_plans.specs.Sites.{linked_rules}
-use Rattle.keyword_plans.specs.declared.keyword.Keyword.{Keyword}
+use Rattle.keywords.specs.declared.keyword.Keyword.{Keyword}
 use Rattle.keyword_plans.specs.Plans.{is_consequence, counts_contained}
 use Rattle.evaluator.specs.Groups.{stands_alone}
 use Rattle.evaluator.specs.Notes.{Notes}

@@ -5,10 +5,10 @@ use Rattle.definitions.specs.Keywords.{Meaning, consequence, looks_at_evaluated}
 use Rattle.definitions.specs.Applied.{Application, Outcome, Part, Rules, at_items, in_place}
 use Rattle.definitions.specs.Outcomes.{Use, used, uses_of}
 use Rattle.linker.specs.declared.linked.Linked.{Linked}
-use Rattle.keyword_plans.specs.Rows.{row_of}
+use Rattle.keywords.specs.Rows.{row_of}
 use Rattle.keyword_plans.specs.Sites.{linked_rules}
-use Rattle.keyword_plans.specs.declared.keyword.Keyword.{Keyword}
-use Rattle.keyword_plans.specs.declared.keyword.Keyword.TheVariants.{If, Then, Else, Contains, MinContains, MaxContains}
+use Rattle.keywords.specs.declared.keyword.Keyword.{Keyword}
+use Rattle.keywords.specs.declared.keyword.Keyword.TheVariants.{If, Then, Else, Contains, MinContains, MaxContains}
 use Rattle.evaluator.specs.Findings.{FindsUse, passing_first}
 use Rattle.keyword_plans.specs.Plans.{is_consequence, counts_contained}
 use Rattle.evaluator.specs.Notes.{Notes, added, uses_notes}

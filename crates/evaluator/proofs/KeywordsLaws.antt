@@ -3,7 +3,7 @@ use Rattle.std.proofs.Common.{◌≡◌, ◌<◌, ◌-◌, ◌+◌, ◌&&◌, �
 use Rattle.std.proofs.lemmas.List.Sums.{sum_by-append}
 use Rattle.definitions.specs.Applied.{Application}
 use Rattle.linker.specs.declared.linked.Linked.{Linked}
-use Rattle.keyword_plans.specs.declared.keyword.Keyword.TheVariants.{UnevaluatedItems, UnevaluatedProperties}
+use Rattle.keywords.specs.declared.keyword.Keyword.TheVariants.{UnevaluatedItems, UnevaluatedProperties}
 use Rattle.evaluator.specs.Findings.{FindsObject, FindsUses, use_count}
 use Rattle.evaluator.specs.Groups.{in_order}
 use Rattle.evaluator.specs.Notes.{Notes, added, uses_notes}

@@ -13,9 +13,9 @@ use Rattle.definitions.specs.Shapes.{Shape, schema_map, one_schema, identifier, 
 use Rattle.definitions.specs.Applied.{Application, Outcome, Rules, entered}
 use Rattle.definitions.specs.Outcomes.{Use, combined, object_outcome, use_annotations, use_errors, used, uses_of}
 use Rattle.linker.specs.declared.linked.Linked.{Linked}
-use Rattle.keyword_plans.specs.Rows.{row_of}
+use Rattle.keywords.specs.Rows.{row_of}
 use Rattle.keyword_plans.specs.Sites.{linked_rules}
-use Rattle.keyword_plans.specs.declared.keyword.Keyword.TheVariants.{UnevaluatedItems, UnevaluatedProperties}
+use Rattle.keywords.specs.declared.keyword.Keyword.TheVariants.{UnevaluatedItems, UnevaluatedProperties}
 use Rattle.evaluator.specs.Findings.{use_count}
 use Rattle.evaluator.specs.Groups.{in_order, rows_of}
 use Rattle.evaluator.specs.Rounds.{groups_uses, object_uses, said, unevaluated_uses}

@@ -11,9 +11,9 @@ use Rattle.definitions.specs.Applied.{Application, Outcome, Rules}
 use Rattle.definitions.specs.Outcomes.{Use, uses_of}
 use Rattle.lemmas.proofs.Texts.{same_text_differs}
 use Rattle.linker.specs.declared.linked.Linked.{Linked}
-use Rattle.keyword_plans.specs.Rows.{row_of}
+use Rattle.keywords.specs.Rows.{row_of}
 use Rattle.keyword_plans.specs.Sites.{linked_rules}
-use Rattle.keyword_plans.specs.declared.keyword.Keyword.TheVariants.{Ref, If, Then, Else, Contains, MinContains, MaxContains, UnevaluatedItems, UnevaluatedProperties}
+use Rattle.keywords.specs.declared.keyword.Keyword.TheVariants.{Ref, If, Then, Else, Contains, MinContains, MaxContains, UnevaluatedItems, UnevaluatedProperties}
 use Rattle.evaluation_context.specs.Frames.{Frame}
 use Rattle.evaluator.specs.Groups.{are_marked, has_name, in_order, place_in, places, rows_of}
 use Rattle.evaluator.specs.Rounds.{IsAt, group_uses, groups_uses, object_uses, said, unevaluated_uses}

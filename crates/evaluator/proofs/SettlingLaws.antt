@@ -14,13 +14,12 @@ use Rattle.definition_laws.proofs.Reports.{failing_annotates_nothing, passing_re
 use Rattle.linker.specs.LinkedDocuments.{linked_documents, linked_schemas}
 use Rattle.linker.specs.declared.linked.Linked.{Linked}
 use Rattle.keyword_plans.specs.Plans.{planned_view}
-use Rattle.keyword_plans.specs.Rows.{row_of}
+use Rattle.keywords.specs.Rows.{row_of}
 use Rattle.keyword_plans.specs.Sites.{linked_rules}
-use Rattle.keyword_plans.specs.declared.keyword.Keyword.{Keyword}
-use Rattle.keyword_plans.specs.declared.keyword.Keyword.TheVariants as keyword
-use Rattle.keyword_plans.specs.declared.keyword.Keyword.TheVariants.{Ref, DynamicRef, Asserts, Pattern, AllOf, AnyOf, OneOf, Not, If, Then, Else, DependentSchemas, PrefixItems, Items, MinContains, MaxContains, Properties, PatternProperties, AdditionalProperties, PropertyNames, UnevaluatedItems, UnevaluatedProperties}
+use Rattle.keywords.specs.declared.keyword.Keyword.{Keyword}
+use Rattle.keywords.specs.declared.keyword.Keyword.TheVariants as keyword
+use Rattle.keywords.specs.declared.keyword.Keyword.TheVariants.{Ref, DynamicRef, «Type», Enum, Const, MultipleOf, Maximum, ExclusiveMaximum, Minimum, ExclusiveMinimum, MaxLength, MinLength, MaxProperties, MinProperties, Required, DependentRequired, MaxItems, MinItems, UniqueItems, Pattern, AllOf, AnyOf, OneOf, Not, If, Then, Else, DependentSchemas, PrefixItems, Items, MinContains, MaxContains, Properties, PatternProperties, AdditionalProperties, PropertyNames, UnevaluatedItems, UnevaluatedProperties, Defs, Definitions, ContentSchema, Id, Anchor, DynamicAnchor, Schema}
 use Rattle.keyword_plans.specs.declared.planned.Planned.{Planned}
-use Rattle.assertions.specs.declared.assertion.Assertion.TheVariants.{TypeIs, EnumOf, ConstIs, MultipleOf, Maximum, ExclusiveMaximum, Minimum, ExclusiveMinimum, MaxLength, MinLength, MaxProperties, MinProperties, Required, DependentRequired, MaxItems, MinItems, UniqueItems}
 use Rattle.evaluation_context.specs.Frames.{Frame, standing}
 use Rattle.evaluation_context.specs.Standings.{at_keyword, standing_of}
 use Rattle.evaluator.specs.Findings.{FindsAll, FindsUse, count_of, use_count}
@@ -83,24 +82,24 @@ planned_outcomes l left k a (p ∷ ps) = ap (λ os. (let e = planned_view k a p 
 row_in : (k : Keyword) → Contains keywords (row_of k)
 row_in Ref = (0, omega arith, refl)
 row_in DynamicRef = (1, omega arith, refl)
-row_in (Asserts TypeIs) = (2, omega arith, refl)
-row_in (Asserts EnumOf) = (3, omega arith, refl)
-row_in (Asserts ConstIs) = (4, omega arith, refl)
-row_in (Asserts MultipleOf) = (5, omega arith, refl)
-row_in (Asserts Maximum) = (6, omega arith, refl)
-row_in (Asserts ExclusiveMaximum) = (7, omega arith, refl)
-row_in (Asserts Minimum) = (8, omega arith, refl)
-row_in (Asserts ExclusiveMinimum) = (9, omega arith, refl)
-row_in (Asserts MaxLength) = (10, omega arith, refl)
-row_in (Asserts MinLength) = (11, omega arith, refl)
+row_in «Type» = (2, omega arith, refl)
+row_in Enum = (3, omega arith, refl)
+row_in Const = (4, omega arith, refl)
+row_in MultipleOf = (5, omega arith, refl)
+row_in Maximum = (6, omega arith, refl)
+row_in ExclusiveMaximum = (7, omega arith, refl)
+row_in Minimum = (8, omega arith, refl)
+row_in ExclusiveMinimum = (9, omega arith, refl)
+row_in MaxLength = (10, omega arith, refl)
+row_in MinLength = (11, omega arith, refl)
 row_in Pattern = (12, omega arith, refl)
-row_in (Asserts MaxProperties) = (13, omega arith, refl)
-row_in (Asserts MinProperties) = (14, omega arith, refl)
-row_in (Asserts Required) = (15, omega arith, refl)
-row_in (Asserts DependentRequired) = (16, omega arith, refl)
-row_in (Asserts MaxItems) = (17, omega arith, refl)
-row_in (Asserts MinItems) = (18, omega arith, refl)
-row_in (Asserts UniqueItems) = (19, omega arith, refl)
+row_in MaxProperties = (13, omega arith, refl)
+row_in MinProperties = (14, omega arith, refl)
+row_in Required = (15, omega arith, refl)
+row_in DependentRequired = (16, omega arith, refl)
+row_in MaxItems = (17, omega arith, refl)
+row_in MinItems = (18, omega arith, refl)
+row_in UniqueItems = (19, omega arith, refl)
 row_in AllOf = (20, omega arith, refl)
 row_in AnyOf = (21, omega arith, refl)
 row_in OneOf = (22, omega arith, refl)
@@ -120,6 +119,13 @@ row_in AdditionalProperties = (35, omega arith, refl)
 row_in PropertyNames = (36, omega arith, refl)
 row_in UnevaluatedItems = (37, omega arith, refl)
 row_in UnevaluatedProperties = (38, omega arith, refl)
+row_in Defs = (39, omega arith, refl)
+row_in Definitions = (40, omega arith, refl)
+row_in ContentSchema = (41, omega arith, refl)
+row_in Id = (42, omega arith, refl)
+row_in Anchor = (43, omega arith, refl)
+row_in DynamicAnchor = (44, omega arith, refl)
+row_in Schema = (45, omega arith, refl)
 
 pub planned_known : (l : Linked) (left : ℕ) (keyword : Keyword) (a : Application) (ps : List Planned) (names : List Text) (indexes : List ℕ) (v : Value)
     → Contains (linked_schemas l) a.schema → get (row_of keyword).name a.schema.value ≡ Some v

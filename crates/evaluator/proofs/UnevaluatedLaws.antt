@@ -8,8 +8,8 @@ use Rattle.definitions.specs.Applied.{Application, Outcome, Part, at_part, index
 use Rattle.definitions.specs.Evaluated.{evaluated_names, is_in_place, part_names, passed}
 use Rattle.definitions.specs.Outcomes.{Use}
 use Rattle.linker.specs.declared.linked.Linked.{Linked}
-use Rattle.keyword_plans.specs.Rows.{row_of}
-use Rattle.keyword_plans.specs.declared.keyword.Keyword.TheVariants.{UnevaluatedItems, UnevaluatedProperties}
+use Rattle.keywords.specs.Rows.{row_of}
+use Rattle.keywords.specs.declared.keyword.Keyword.TheVariants.{UnevaluatedItems, UnevaluatedProperties}
 use Rattle.evaluator.specs.Findings.{Outcomes}
 use Rattle.evaluator.specs.Notes.{Notes, added, uses_notes}
 use Rattle.evaluator.specs.Rounds.{Knows, evaluated_in, indexes_since, keyword_uses, names_since, said, two_uses, unevaluated_uses, uses_since, uses_with}

@@ -3,10 +3,9 @@ use Rattle.std.specs.Prelude.{ℕ, suc, List, [], ◌∷◌, ◌++◌, Bool, tru
 use Rattle.std.specs.List.{list_all, list_any}
 use Rattle.definitions.specs.Values.{Text, Value, same_text}
 use Rattle.definitions.specs.Keywords as table
-use Rattle.assertions.specs.declared.assertion.Assertion.TheVariants.{TypeIs, EnumOf, ConstIs, MultipleOf, Maximum, ExclusiveMaximum, Minimum, ExclusiveMinimum, MaxLength, MinLength, MaxProperties, MinProperties, Required, DependentRequired, MaxItems, MinItems, UniqueItems}
 use Rattle.keyword_plans.specs.Plans.{counts_contained, is_consequence}
-use Rattle.keyword_plans.specs.Rows.{row_of}
-use Rattle.keyword_plans.specs.declared.keyword.Keyword.TheVariants.{Ref, DynamicRef, Asserts, Pattern, AllOf, AnyOf, OneOf, Not, If, Then, Else, DependentSchemas, PrefixItems, Items, Contains, MinContains, MaxContains, Properties, PatternProperties, AdditionalProperties, PropertyNames, UnevaluatedItems, UnevaluatedProperties}
+use Rattle.keywords.specs.Rows.{row_of}
+use Rattle.keywords.specs.declared.keyword.Keyword.TheVariants.{Ref, DynamicRef, «Type», Enum, Const, MultipleOf, Maximum, ExclusiveMaximum, Minimum, ExclusiveMinimum, MaxLength, MinLength, MaxProperties, MinProperties, Required, DependentRequired, MaxItems, MinItems, UniqueItems, Pattern, AllOf, AnyOf, OneOf, Not, If, Then, Else, DependentSchemas, PrefixItems, Items, Contains, MinContains, MaxContains, Properties, PatternProperties, AdditionalProperties, PropertyNames, UnevaluatedItems, UnevaluatedProperties}
 use Rattle.evaluator.specs.declared.groups.Group.{Group}
 use Rattle.evaluator.specs.declared.groups.Group.TheVariants.{One, Conditional, Counted}
 
@@ -18,11 +17,11 @@ rows_of Counted = row_of Contains ∷ row_of MinContains ∷ row_of MaxContains 
 -- all that don't look at what others evaluated, in the order of evaluation
 unfoldable pub in_order : List Group
 in_order =
-    One Ref ∷ One DynamicRef ∷ One (Asserts TypeIs) ∷ One (Asserts EnumOf) ∷ One (Asserts ConstIs) ∷ One (Asserts MultipleOf)
-    ∷ One (Asserts Maximum) ∷ One (Asserts ExclusiveMaximum) ∷ One (Asserts Minimum) ∷ One (Asserts ExclusiveMinimum)
-    ∷ One (Asserts MaxLength) ∷ One (Asserts MinLength) ∷ One Pattern ∷ One (Asserts MaxProperties) ∷ One (Asserts MinProperties)
-    ∷ One (Asserts Required) ∷ One (Asserts DependentRequired) ∷ One (Asserts MaxItems) ∷ One (Asserts MinItems)
-    ∷ One (Asserts UniqueItems) ∷ One AllOf ∷ One AnyOf ∷ One OneOf ∷ One Not ∷ Conditional ∷ One DependentSchemas
+    One Ref ∷ One DynamicRef ∷ One «Type» ∷ One Enum ∷ One Const ∷ One MultipleOf
+    ∷ One Maximum ∷ One ExclusiveMaximum ∷ One Minimum ∷ One ExclusiveMinimum
+    ∷ One MaxLength ∷ One MinLength ∷ One Pattern ∷ One MaxProperties ∷ One MinProperties
+    ∷ One Required ∷ One DependentRequired ∷ One MaxItems ∷ One MinItems
+    ∷ One UniqueItems ∷ One AllOf ∷ One AnyOf ∷ One OneOf ∷ One Not ∷ Conditional ∷ One DependentSchemas
     ∷ One PrefixItems ∷ One Items ∷ Counted ∷ One Properties ∷ One PatternProperties ∷ One AdditionalProperties
     ∷ One PropertyNames ∷ []
 

@@ -9,10 +9,10 @@ use Rattle.json_doc.specs.Docs.{value}
 use Rattle.linker.specs.LinkedDocuments.{linked_schemas}
 use Rattle.linker.specs.declared.linked.Linked.{Linked}
 use Rattle.keyword_plans.specs.Plans.{counts_contained, is_consequence, outcomes_of, planned_view}
-use Rattle.keyword_plans.specs.Rows.{row_of}
+use Rattle.keywords.specs.Rows.{row_of}
 use Rattle.keyword_plans.specs.Sites.{linked_rules}
-use Rattle.keyword_plans.specs.declared.keyword.Keyword.{Keyword}
-use Rattle.keyword_plans.specs.declared.keyword.Keyword.TheVariants.{UnevaluatedItems, UnevaluatedProperties}
+use Rattle.keywords.specs.declared.keyword.Keyword.{Keyword}
+use Rattle.keywords.specs.declared.keyword.Keyword.TheVariants.{UnevaluatedItems, UnevaluatedProperties}
 use Rattle.keyword_plans.specs.declared.planned.Planned.{Planned}
 use Rattle.keyword_plans.specs.declared.planned.Chosen.{Chosen}
 use Rattle.keyword_plans.specs.declared.planned.Chosen.TheVariants.{Below, Target}

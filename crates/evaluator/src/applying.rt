@@ -16,7 +16,8 @@ use basic_output::Says;
 use evaluation_context::Context;
 use faults::Fault;
 use json_doc::Doc;
-use keyword_plans::{Chosen, Keyword, Planned, Site, Subject, Tally, passes, plan};
+use keyword_plans::{Chosen, Planned, Site, Subject, Tally, passes, plan};
+use keywords::Keyword;
 use linker::Linked;
 use std::alloc::Global;
 
@@ -38,7 +39,7 @@ impl<'a> Evaluation<'a> {
     ghost use Rattle.definitions.specs.Outcomes.{is_running, object_outcome, boolean_outcome};
     ghost use Rattle.json_doc.specs.Kinds.{as_boolean};
     ghost use Rattle.keyword_plans.specs.Plans.{outcomes_of, planned_view};
-    ghost use Rattle.keyword_plans.specs.Rows.{row_of};
+    ghost use Rattle.keywords.specs.Rows.{row_of};
     ghost use Rattle.keyword_plans.specs.Sites.{linked_rules};
     ghost use Rattle.keyword_plans.specs.Subjects.{subject_value};
     ghost use Rattle.evaluation_context.specs.Frames.{Frame, frame, keyword_entered, standing};

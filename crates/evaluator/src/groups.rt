@@ -3,8 +3,7 @@
 ghost use Rattle.std.specs.Prelude.{◌≡◌};
 ghost use Rattle.evaluator.specs.Groups.{in_order};
 
-use assertions::Assertion;
-use keyword_plans::Keyword;
+use keywords::Keyword;
 
 /// Keywords that stand one after the other in the order of evaluation, and know of each other.
 #[derive(Clone, Copy, Debug, PartialEq, Eq)]
@@ -20,24 +19,24 @@ pub(crate) enum Group {
 const GROUPS: [Group; 33] = [
     Group::One(Keyword::Ref),
     Group::One(Keyword::DynamicRef),
-    Group::One(Keyword::Asserts(Assertion::TypeIs)),
-    Group::One(Keyword::Asserts(Assertion::EnumOf)),
-    Group::One(Keyword::Asserts(Assertion::ConstIs)),
-    Group::One(Keyword::Asserts(Assertion::MultipleOf)),
-    Group::One(Keyword::Asserts(Assertion::Maximum)),
-    Group::One(Keyword::Asserts(Assertion::ExclusiveMaximum)),
-    Group::One(Keyword::Asserts(Assertion::Minimum)),
-    Group::One(Keyword::Asserts(Assertion::ExclusiveMinimum)),
-    Group::One(Keyword::Asserts(Assertion::MaxLength)),
-    Group::One(Keyword::Asserts(Assertion::MinLength)),
+    Group::One(Keyword::Type),
+    Group::One(Keyword::Enum),
+    Group::One(Keyword::Const),
+    Group::One(Keyword::MultipleOf),
+    Group::One(Keyword::Maximum),
+    Group::One(Keyword::ExclusiveMaximum),
+    Group::One(Keyword::Minimum),
+    Group::One(Keyword::ExclusiveMinimum),
+    Group::One(Keyword::MaxLength),
+    Group::One(Keyword::MinLength),
     Group::One(Keyword::Pattern),
-    Group::One(Keyword::Asserts(Assertion::MaxProperties)),
-    Group::One(Keyword::Asserts(Assertion::MinProperties)),
-    Group::One(Keyword::Asserts(Assertion::Required)),
-    Group::One(Keyword::Asserts(Assertion::DependentRequired)),
-    Group::One(Keyword::Asserts(Assertion::MaxItems)),
-    Group::One(Keyword::Asserts(Assertion::MinItems)),
-    Group::One(Keyword::Asserts(Assertion::UniqueItems)),
+    Group::One(Keyword::MaxProperties),
+    Group::One(Keyword::MinProperties),
+    Group::One(Keyword::Required),
+    Group::One(Keyword::DependentRequired),
+    Group::One(Keyword::MaxItems),
+    Group::One(Keyword::MinItems),
+    Group::One(Keyword::UniqueItems),
     Group::One(Keyword::AllOf),
     Group::One(Keyword::AnyOf),
     Group::One(Keyword::OneOf),

@@ -1,11 +1,12 @@
 //! The units of an evaluation so far, and what it evaluated of the instance.
 
 ghost use Rattle.std.specs.Prelude.{◌≡◌, ◌&&◌, not};
-ghost use Rattle.keyword_plans.specs.Rows.{row_of};
+ghost use Rattle.keywords.specs.Rows.{row_of};
 ghost use Rattle.evaluator.specs.Notes.{needs_to_pass};
 
 use basic_output::{Location, Mark, Says, Units};
-use keyword_plans::{Keyword, Part};
+use keyword_plans::Part;
+use keywords::Keyword;
 use std::alloc::{AllocError, Global};
 
 /// The errors, should what is being applied fail; the annotations, should it pass; and the names and the indexes of the

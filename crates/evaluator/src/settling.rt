@@ -9,7 +9,7 @@ ghost use Rattle.definitions.specs.Outcomes.{Use, own_annotation, unit};
 ghost use Rattle.basic_output.specs.declared.says.Says as output;
 ghost use Rattle.basic_output.specs.Sayings.{says_value, unit_at};
 ghost use Rattle.keyword_plans.specs.Plans.{outcomes_of};
-ghost use Rattle.keyword_plans.specs.Rows.{row_of};
+ghost use Rattle.keywords.specs.Rows.{row_of};
 ghost use Rattle.keyword_plans.specs.Subjects.{subject_value};
 ghost use Rattle.linker.specs.declared.linked.Linked.{Linked};
 ghost use Rattle.evaluator.specs.Logs.{marked, notes};
@@ -19,7 +19,8 @@ ghost use Rattle.evaluator.specs.Rounds.{said, use_there};
 use crate::log::{Before, Log, LogMark};
 use basic_output::{Location, Says};
 use faults::Fault;
-use keyword_plans::{Annotation, Evaluated, Keyword, Subject, annotate};
+use keyword_plans::{Annotation, Evaluated, Subject, annotate};
+use keywords::Keyword;
 use std::alloc::Global;
 
 /// Puts what the keyword itself says in the place of what it applied said: `applied` is the number of schemas that it

@@ -1,4 +1,3 @@
-pub mod Rows
 pub mod Subjects
 pub mod Sites
 pub mod Plans

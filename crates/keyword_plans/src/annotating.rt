@@ -4,16 +4,16 @@ ghost use Rattle.std.specs.Prelude.{◌≡◌, ◌==◌, ℕ, pos, true, List, S
 ghost use Rattle.definitions.specs.Values.{Text, Value, boolean, integer, string, array, elements, to_elements, is_array, is_object};
 ghost use Rattle.definitions.specs.Applied.{Application, Outcome, Rules};
 ghost use Rattle.definitions.specs.Evaluated.{annotation_of, evaluated_indexes, evaluated_names, last_index, once};
+ghost use Rattle.keywords.specs.Rows.{row_of};
 ghost use Rattle.keyword_plans.specs.Annotations.{annotation_value};
 ghost use Rattle.keyword_plans.specs.Plans.{outcomes_of};
-ghost use Rattle.keyword_plans.specs.Rows.{row_of};
 ghost use Rattle.keyword_plans.specs.Subjects.{subject_value};
 
-use crate::keyword::Keyword;
 use crate::site::Evaluated;
 use crate::subject::Subject;
 use basic_output::Says;
 use faults::Fault;
+use keywords::Keyword;
 use std::alloc::{AllocError, Global};
 use std::collections::BTreeSet;
 
@@ -60,21 +60,7 @@ pub fn annotate<'s, 'a>(
         Keyword::Items => Ok(annotate_true(applied)),
         Keyword::UnevaluatedItems => Ok(annotate_true(applied)),
         Keyword::Contains => Ok(annotate_indexes(subject, evaluated.indexes)),
-        Keyword::Ref => Ok(Annotation::None),
-        Keyword::DynamicRef => Ok(Annotation::None),
-        Keyword::Asserts(_) => Ok(Annotation::None),
-        Keyword::Pattern => Ok(Annotation::None),
-        Keyword::AllOf => Ok(Annotation::None),
-        Keyword::AnyOf => Ok(Annotation::None),
-        Keyword::OneOf => Ok(Annotation::None),
-        Keyword::Not => Ok(Annotation::None),
-        Keyword::If => Ok(Annotation::None),
-        Keyword::Then => Ok(Annotation::None),
-        Keyword::Else => Ok(Annotation::None),
-        Keyword::DependentSchemas => Ok(Annotation::None),
-        Keyword::MinContains => Ok(Annotation::None),
-        Keyword::MaxContains => Ok(Annotation::None),
-        Keyword::PropertyNames => Ok(Annotation::None),
+        _ => Ok(Annotation::None),
     }
 }
 

@@ -2,7 +2,6 @@
 #![tactic(auto)]
 
 mod annotating;
-mod keyword;
 mod planned;
 mod planning;
 mod searching;
@@ -12,7 +11,6 @@ mod verdict;
 
 pub use annotating::{Annotation, annotate};
 pub use faults::Fault;
-pub use keyword::Keyword;
 pub use planned::{Chosen, Part, Planned};
 pub use planning::plan;
 pub use site::{Evaluated, Site};

@@ -4,8 +4,8 @@ ghost use Rattle.std.specs.Prelude.{◌≡◌, ℕ, List, Some, true, IfOk, IfEr
 ghost use Rattle.definitions.specs.Values.{get};
 ghost use Rattle.definitions.specs.Applied.{Application, Outcome, applied, condition_outcome};
 ghost use Rattle.json_doc.specs.Docs.{value};
+ghost use Rattle.keywords.specs.Rows.{row_of};
 ghost use Rattle.keyword_plans.specs.Plans.{is_consequence, planned_view};
-ghost use Rattle.keyword_plans.specs.Rows.{row_of};
 ghost use Rattle.keyword_plans.specs.Sites.{Shows, linked_rules};
 
 mod in_place;
@@ -16,7 +16,6 @@ mod others;
 mod references;
 mod unevaluated;
 
-use crate::keyword::Keyword;
 use crate::planned::Planned;
 use crate::planning::in_place::{plan_consequence, plan_dependents, plan_listed, plan_own};
 use crate::planning::items::{plan_items, plan_prefix, prefix_length};
@@ -28,6 +27,7 @@ use crate::planning::unevaluated::{plan_unevaluated_items, plan_unevaluated_prop
 use crate::site::{Evaluated, Site};
 use faults::Fault;
 use json_doc::Doc;
+use keywords::Keyword;
 use std::alloc::Global;
 
 /// What the keyword of the schema, with this value, applies, in order (JSON Schema 2020-12 Core, 7.1, 10 and 11).
@@ -56,8 +56,6 @@ pub fn plan<'a>(
     match keyword {
         Keyword::Ref => plan_reference(alloc, site, keyword_value),
         Keyword::DynamicRef => plan_dynamic_reference(alloc, site, keyword_value),
-        Keyword::Asserts(_) => Ok(Vec::new(alloc)),
-        Keyword::Pattern => Ok(Vec::new(alloc)),
         Keyword::AllOf => Ok(plan_listed(alloc, keyword_value, subject)?),
         Keyword::AnyOf => Ok(plan_listed(alloc, keyword_value, subject)?),
         Keyword::OneOf => Ok(plan_listed(alloc, keyword_value, subject)?),
@@ -72,8 +70,6 @@ pub fn plan<'a>(
             Ok(plan_items(alloc, keyword_value, start, subject)?)
         }
         Keyword::Contains => Ok(plan_items(alloc, keyword_value, 0, subject)?),
-        Keyword::MinContains => Ok(Vec::new(alloc)),
-        Keyword::MaxContains => Ok(Vec::new(alloc)),
         Keyword::Properties => Ok(plan_properties(alloc, keyword_value, subject)?),
         Keyword::PatternProperties => plan_patterns(alloc, site, keyword_value),
         Keyword::AdditionalProperties => plan_others(alloc, site, keyword_value),
@@ -90,5 +86,6 @@ pub fn plan<'a>(
             subject,
             evaluated.names,
         )?),
+        _ => Ok(Vec::new(alloc)),
     }
 }

@@ -9,18 +9,18 @@ ghost use Rattle.definitions.specs.Patterns.{has_match};
 ghost use Rattle.definitions.specs.Applied.{Application, Outcome, beside, contains_outcomes};
 ghost use Rattle.definitions.specs.Evaluated.{contains_holds, keyword_passes, needs_none, passing, pattern_holds};
 ghost use Rattle.json_doc.specs.Docs.{value};
+ghost use Rattle.keywords.specs.Rows.{row_of};
 ghost use Rattle.keyword_plans.specs.Plans.{counts_contained, outcomes_of};
-ghost use Rattle.keyword_plans.specs.Rows.{row_of};
 ghost use Rattle.keyword_plans.specs.Sites.{Shows, linked_rules};
 ghost use Rattle.keyword_plans.specs.Subjects.{subject_value};
 
-use crate::keyword::Keyword;
 use crate::searching::is_match;
 use crate::site::Site;
 use crate::subject::Subject;
 use assertions::{Assertion, holds};
 use faults::Fault;
 use json_doc::{Doc, Whole};
+use keywords::Keyword;
 use std::alloc::{AllocError, Global};
 use value_order::is_unique;
 
@@ -57,30 +57,21 @@ pub fn passes<'a>(
         (row_of keyword).name (row_of keyword).meaning (value keyword_value.now) os) }
     ensures err { IfErr result (λ f. f ≡ Fault.NoRoom) }
 {
+    if let Some(assertion) = Assertion::of(keyword) {
+        return Ok(holds_of(alloc, assertion, keyword_value, site.subject)?);
+    }
     match keyword {
-        Keyword::Asserts(assertion) => Ok(holds_of(alloc, assertion, keyword_value, site.subject)?),
         Keyword::Pattern => is_pattern_met(alloc, site, keyword_value),
         Keyword::Ref => Ok(tally.passing == 1),
         Keyword::DynamicRef => Ok(tally.passing == 1),
-        Keyword::AllOf => Ok(tally.passing == tally.applied),
         Keyword::AnyOf => Ok(tally.passing > 0),
         Keyword::OneOf => Ok(tally.passing == 1),
         Keyword::Not => Ok(tally.passing == 0),
         Keyword::If => Ok(true),
-        Keyword::Then => Ok(tally.passing == tally.applied),
-        Keyword::Else => Ok(tally.passing == tally.applied),
-        Keyword::DependentSchemas => Ok(tally.passing == tally.applied),
-        Keyword::PrefixItems => Ok(tally.passing == tally.applied),
-        Keyword::Items => Ok(tally.passing == tally.applied),
         Keyword::Contains => Ok(contains_enough(tally.passing, site)),
         Keyword::MinContains => Ok(contains_at_least(site.subject, keyword_value, containing)),
         Keyword::MaxContains => Ok(contains_at_most(site.subject, keyword_value, containing)),
-        Keyword::Properties => Ok(tally.passing == tally.applied),
-        Keyword::PatternProperties => Ok(tally.passing == tally.applied),
-        Keyword::AdditionalProperties => Ok(tally.passing == tally.applied),
-        Keyword::PropertyNames => Ok(tally.passing == tally.applied),
-        Keyword::UnevaluatedItems => Ok(tally.passing == tally.applied),
-        Keyword::UnevaluatedProperties => Ok(tally.passing == tally.applied),
+        _ => Ok(tally.passing == tally.applied),
     }
 }
 

@@ -4,7 +4,7 @@ use Rattle.definitions.specs.Values.{string}
 use Rattle.definitions.specs.Applied.{OutputUnit}
 use Rattle.definitions.specs.Outcomes.{unit}
 use Rattle.basic_output.specs.declared.says.Says.TheVariants.{NotMet}
-use Rattle.keyword_plans.specs.Rows.{row_of}
+use Rattle.keywords.specs.Rows.{row_of}
 use Rattle.evaluator.specs.Logs.{notes}
 use Rattle.evaluator.specs.Notes.{Notes, added, parts_notes, shown}
 use Rattle.evaluator.specs.Rounds.{use_there}

@@ -1,35 +1,18 @@
-use Rattle.std.proofs.Common.{refl}
+use Rattle.json_doc.specs.Docs.{value}
+use Rattle.keywords.specs.Rows.{row_of}
+use Rattle.keyword_plans.specs.Plans.{outcomes_of}
 use Rattle.keyword_plans.specs.Sites.{linked_rules}
-use Rattle.keyword_plans.proofs.Verdicts.{by_count}
-use Rattle.keyword_plans.specs.declared.keyword.Keyword.TheVariants.{AllOf, DependentSchemas, PrefixItems, Items, Properties, PatternProperties, AdditionalProperties, PropertyNames, UnevaluatedItems, UnevaluatedProperties}
+use Rattle.keyword_plans.proofs.Verdicts.{by_count, with_all}
 use Rattle.keyword_plans.proofs.verdict.passes.Goals as goal
 
-pub returns-in-AllOf-clause-ok : goal.returns-in-AllOf-clause-ok
-returns-in-AllOf-clause-ok c a run names indexes shows beside containing applied passing = by_count AllOf _ c.in-AllOf.is (λ rules run a k v os. refl) (linked_rules c.args.site.linked.now) run a _ _ _ _ applied passing
-
-pub returns-in-DependentSchemas-clause-ok : goal.returns-in-DependentSchemas-clause-ok
-returns-in-DependentSchemas-clause-ok c a run names indexes shows beside containing applied passing = by_count DependentSchemas _ c.in-DependentSchemas.is (λ rules run a k v os. refl) (linked_rules c.args.site.linked.now) run a _ _ _ _ applied passing
-
-pub returns-in-PrefixItems-clause-ok : goal.returns-in-PrefixItems-clause-ok
-returns-in-PrefixItems-clause-ok c a run names indexes shows beside containing applied passing = by_count PrefixItems _ c.in-PrefixItems.is (λ rules run a k v os. refl) (linked_rules c.args.site.linked.now) run a _ _ _ _ applied passing
-
-pub returns-in-Items-clause-ok : goal.returns-in-Items-clause-ok
-returns-in-Items-clause-ok c a run names indexes shows beside containing applied passing = by_count Items _ c.in-Items.is (λ rules run a k v os. refl) (linked_rules c.args.site.linked.now) run a _ _ _ _ applied passing
-
-pub returns-in-Properties-clause-ok : goal.returns-in-Properties-clause-ok
-returns-in-Properties-clause-ok c a run names indexes shows beside containing applied passing = by_count Properties _ c.in-Properties.is (λ rules run a k v os. refl) (linked_rules c.args.site.linked.now) run a _ _ _ _ applied passing
-
-pub returns-in-PatternProperties-clause-ok : goal.returns-in-PatternProperties-clause-ok
-returns-in-PatternProperties-clause-ok c a run names indexes shows beside containing applied passing = by_count PatternProperties _ c.in-PatternProperties.is (λ rules run a k v os. refl) (linked_rules c.args.site.linked.now) run a _ _ _ _ applied passing
-
-pub returns-in-AdditionalProperties-clause-ok : goal.returns-in-AdditionalProperties-clause-ok
-returns-in-AdditionalProperties-clause-ok c a run names indexes shows beside containing applied passing = by_count AdditionalProperties _ c.in-AdditionalProperties.is (λ rules run a k v os. refl) (linked_rules c.args.site.linked.now) run a _ _ _ _ applied passing
-
-pub returns-in-PropertyNames-clause-ok : goal.returns-in-PropertyNames-clause-ok
-returns-in-PropertyNames-clause-ok c a run names indexes shows beside containing applied passing = by_count PropertyNames _ c.in-PropertyNames.is (λ rules run a k v os. refl) (linked_rules c.args.site.linked.now) run a _ _ _ _ applied passing
-
-pub returns-in-UnevaluatedItems-clause-ok : goal.returns-in-UnevaluatedItems-clause-ok
-returns-in-UnevaluatedItems-clause-ok c a run names indexes shows beside containing applied passing = by_count UnevaluatedItems _ c.in-UnevaluatedItems.is (λ rules run a k v os. refl) (linked_rules c.args.site.linked.now) run a _ _ _ _ applied passing
-
-pub returns-in-UnevaluatedProperties-clause-ok : goal.returns-in-UnevaluatedProperties-clause-ok
-returns-in-UnevaluatedProperties-clause-ok c a run names indexes shows beside containing applied passing = by_count UnevaluatedProperties _ c.in-UnevaluatedProperties.is (λ rules run a k v os. refl) (linked_rules c.args.site.linked.now) run a _ _ _ _ applied passing
+pub returns-in_default-keyword-clause-ok : goal.returns-in_default-keyword-clause-ok
+returns-in_default-keyword-clause-ok c a run names indexes shows beside containing applied passing =
+    let rules = linked_rules c.args.site.linked.now in
+    let row = row_of c.args.keyword in
+    let v = value c.args.keyword_value.now in
+    let os = outcomes_of rules run names indexes a row.name row.meaning v in
+    let left = c.in_default-keyword in
+    by_count rules run a row.name row.meaning v os c.args.tally.passing c.args.tally.applied
+    (with_all c.args.keyword left.not-Ref left.not-DynamicRef left.not-Pattern left.not-AnyOf left.not-OneOf left.not-Not left.not-If left.not-Contains left.not-MinContains left.not-MaxContains
+    c.in_default.ensures rules run a row.name v os)
+    applied passing

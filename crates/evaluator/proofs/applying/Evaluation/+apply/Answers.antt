@@ -11,7 +11,7 @@ use Rattle.evaluator.specs.Rounds.{IsAt, object_uses, two_uses, group_uses, grou
 use Rattle.evaluator.proofs.CombinedLaws.{entered_at, entered_notes, object_found}
 use Rattle.evaluator.proofs.ObjectLaws.{object_by_groups}
 use Rattle.linker.specs.declared.linked.Linked.{Linked}
-use Rattle.keyword_plans.specs.declared.keyword.Keyword.TheVariants.{UnevaluatedItems, UnevaluatedProperties, Ref, If, Then, Else, Contains, MinContains, MaxContains}
+use Rattle.keywords.specs.declared.keyword.Keyword.TheVariants.{UnevaluatedItems, UnevaluatedProperties, Ref, If, Then, Else, Contains, MinContains, MaxContains}
 use Rattle.evaluator.proofs.KeywordsLaws.{groups_over, keywords_found, keywords_noted, last_over}
 use Rattle.evaluator.proofs.UnevaluatedLaws.{items_know, properties_know}
 use Rattle.std.specs.List.{list_all}
@@ -25,7 +25,7 @@ use Rattle.definitions.specs.Keywords.{condition, some_item, at_least_items, at_
 use Rattle.evaluator.proofs.BesideLaws.{conditional_uses, knows_nothing, knows_condition, counted_uses, knows_containing}
 use Rattle.definitions.specs.Outcomes.{is_running, leaf}
 use Rattle.evaluator.proofs.AloneLaws.{alone_knows, alone_uses}
-use Rattle.keyword_plans.specs.Rows.{row_of}
+use Rattle.keywords.specs.Rows.{row_of}
 use Rattle.definitions.specs.Values.{get}
 use Rattle.definitions.specs.Evaluated.{passing}
 use Rattle.keyword_plans.specs.declared.planned.Planned.{Planned}

@@ -7,7 +7,7 @@ use Rattle.evaluator.specs.Findings.{IsWithin, FindsObject, AreWithin, FindsAll}
 use Rattle.evaluator.specs.Logs.{notes}
 use Rattle.evaluator.specs.Notes.{added, uses_notes, parts_notes}
 use Rattle.evaluator.specs.Rounds.{IsAt, groups_uses, IsKnown, IsUnder, part_outcomes}
-use Rattle.keyword_plans.specs.Rows.{row_of}
+use Rattle.keywords.specs.Rows.{row_of}
 use Rattle.keyword_plans.specs.declared.planned.Planned.{Planned}
 use Rattle.evaluator.proofs.applying.Evaluation.+apply.Given as goal
 

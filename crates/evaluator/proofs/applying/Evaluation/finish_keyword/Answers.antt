@@ -1,7 +1,7 @@
 use Rattle.std.proofs.Common.{◌∙◌, ap, refl}
 use Rattle.basic_output.specs.Sayings.{says_value}
 use Rattle.json_doc.specs.Docs.{value}
-use Rattle.keyword_plans.specs.Rows.{row_of}
+use Rattle.keywords.specs.Rows.{row_of}
 use Rattle.evaluation_context.specs.Frames.{frame, standing}
 use Rattle.evaluation_context.specs.Standings.{Standing, unit_there}
 use Rattle.evaluator.specs.Logs.{notes}

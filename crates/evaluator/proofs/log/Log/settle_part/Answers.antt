@@ -1,6 +1,6 @@
 use Rattle.std.proofs.Common.{◌≡◌, [], ◌∷◌, ◌∙◌, ◌&&◌, not, false, ap, sym}
 use Rattle.std.proofs.lemmas.Result.{on_ok_weaker}
-use Rattle.keyword_plans.specs.Rows.{row_of}
+use Rattle.keywords.specs.Rows.{row_of}
 use Rattle.evaluator.specs.Notes.{added, needs_to_pass, nothing, outcome_notes}
 use Rattle.evaluator.proofs.LogLaws.{name_after, index_after}
 use Rattle.evaluator.proofs.log.Log.settle_part.Goals as goal

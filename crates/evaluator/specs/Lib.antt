@@ -5,3 +5,4 @@ pub mod Groups
 pub mod Rounds
 pub mod Reports
 pub mod Annotations
+pub mod Applying

@@ -7,10 +7,14 @@ mod applying;
 mod beside;
 mod found;
 mod groups;
+mod here;
 mod log;
+mod object_keywords;
+mod one_keyword;
 mod places;
 mod present;
 mod report;
+mod room;
 mod settling;
 mod settling_object;
 

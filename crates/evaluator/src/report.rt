@@ -16,6 +16,7 @@ ghost use Rattle.evaluator.specs.Reports.{Gives, is_valid, report_text, reported
 
 use crate::applying::Evaluation;
 use crate::log::Log;
+use crate::room::Room;
 use basic_output::output_text;
 use evaluation_context::Context;
 use faults::Fault;
@@ -93,8 +94,10 @@ pub fn evaluate<'a>(alloc: Global, linked: &'a Linked, instance: &'a Doc) -> Res
     match evaluation.apply(
         schema,
         Subject::Value(instance),
-        MOST_NESTED,
-        MOST_APPLICATIONS,
+        Room {
+            nesting: MOST_NESTED,
+            applications: MOST_APPLICATIONS,
+        },
     ) {
         Ok(found) => {
             if found.looped {

@@ -46,8 +46,8 @@ apply_object-returns-in_ok-settle_object-in-Ok-clause-found t c a at =
     let x = subject_value c.args.subject in
     let inner : IsAt l (frame c.enter_object.new.self) s x (entered a) =
     entered_at l (frame c.args.self.now.context) (frame c.enter_object.new.self) s x a at c.in_ok-enter_object.ensures.there in
-    subst (Finds c.in-Ok.found c.args.budget) (sym (object_by_groups l c.args.left a))
-    (object_found c.in-Ok.found c.args.budget a (object_uses l c.args.left (entered a)) (c.in-Ok.ensures.found (entered a) inner))
+    subst (Finds c.in-Ok.found c.args.room.applications) (sym (object_by_groups l c.args.room.nesting a))
+    (object_found c.in-Ok.found c.args.room.applications a (object_uses l c.args.room.nesting (entered a)) (c.in-Ok.ensures.found (entered a) inner))
 
 pub apply_object-returns-in_ok-settle_object-in-Ok-clause-noted : goal.apply_object-returns-in_ok-settle_object-in-Ok-clause-noted
 apply_object-returns-in_ok-settle_object-in-Ok-clause-noted t c a at =
@@ -57,12 +57,12 @@ apply_object-returns-in_ok-settle_object-in-Ok-clause-noted t c a at =
     let inner : IsAt l (frame c.enter_object.new.self) s x (entered a) =
     entered_at l (frame c.args.self.now.context) (frame c.enter_object.new.self) s x a at c.in_ok-enter_object.ensures.there in
     let n = notes c.args.self.now.log in
-    let us = object_uses l c.args.left (entered a) in
+    let us = object_uses l c.args.room.nesting (entered a) in
     let back : frame c.leave_object.new.self ≡ frame c.args.self.now.context =
     c.leave_object.ensures (frame c.args.self.now.context) (c.in-Ok.ensures.back ∙ c.in_ok-enter_object.ensures.entered) in
     c.in_ok-settle_object-in-Ok.ensures.noted a n us (at.there ∙ ap (λ (f : Frame). application_at (standing f) s x) (sym back)) c.mark-mark.ensures
     (c.in-Ok.ensures.noted (entered a) inner ∙ ap (added n) (entered_notes a us)) (c.in-Ok.ensures.found (entered a) inner).valid
-    ∙ ap (λ (o : Outcome). added n (outcome_notes o)) (sym (object_by_groups l c.args.left a))
+    ∙ ap (λ (o : Outcome). added n (outcome_notes o)) (sym (object_by_groups l c.args.room.nesting a))
 
 pub apply_object-returns-in-Err-clause-err : goal.apply_object-returns-in-Err-clause-err
 apply_object-returns-in-Err-clause-err t c a at other =
@@ -72,70 +72,70 @@ apply_object-returns-in-Err-clause-err t c a at other =
     let inner : IsAt l (frame c.enter_object.new.self) s x (entered a) =
     entered_at l (frame c.args.self.now.context) (frame c.enter_object.new.self) s x a at c.in_ok-enter_object.ensures.there in
     let fault = c.in-Err.ensures.err (entered a) inner other in
-    (fault.0, subst (λ (o : Outcome). c.args.budget < o.count) (sym (object_by_groups l c.args.left a)) fault.1)
+    (fault.0, subst (λ (o : Outcome). c.args.room.applications < o.count) (sym (object_by_groups l c.args.room.nesting a)) fault.1)
 
 pub use_keywords-returns-in-Ok-use_two-clause-found : goal.use_keywords-returns-in-Ok-use_two-clause-found
 use_keywords-returns-in-Ok-use_two-clause-found t c a at =
     let l = c.args.self.now.linked in
-    let s = value c.args.schema.now in
-    let x = subject_value c.args.subject in
+    let s = value c.args.here.schema.now in
+    let x = subject_value c.args.here.subject in
     let n = notes c.args.self.now.log in
     let mid = notes c.use_groups.new.self.log in
     let m = c.use_groups.new.self.linked.now in
     let here : IsAt l.now (frame c.use_groups.new.self.context) s x a = subst (λ (f : Frame). IsAt l.now f s x a) (sym c.in-Ok.ensures.back) at in
     let there : IsAt m (frame c.use_groups.new.self.context) s x a = subst (λ (k : Bor Linked). IsAt k.now (frame c.use_groups.new.self.context) s x a) (sym c.in-Ok.ensures.linked) here in
-    keywords_found l.now c.args.left a c.args.before n mid c.in-Ok.found c.in-Ok-use_two.last c.and.result c.args.budget c.requires.before
+    keywords_found l.now c.args.room.nesting a c.args.here.before n mid c.in-Ok.found c.in-Ok-use_two.last c.and.result c.args.room.applications c.requires.before
     (c.in-Ok.ensures.noted a at) (c.in-Ok.ensures.found a at)
-    (subst (λ (k : Bor Linked). FindsUses c.in-Ok-use_two.last (c.args.budget - c.in-Ok.found.count) (two_uses k.now c.args.left a UnevaluatedItems UnevaluatedProperties c.args.before mid)) c.in-Ok.ensures.linked
-    (c.in-Ok-use_two.ensures.found a there (items_know m c.args.left a _) (properties_know m c.args.left a _))) c.and.ensures
+    (subst (λ (k : Bor Linked). FindsUses c.in-Ok-use_two.last (c.args.room.applications - c.in-Ok.found.count) (two_uses k.now c.args.room.nesting a UnevaluatedItems UnevaluatedProperties c.args.here.before mid)) c.in-Ok.ensures.linked
+    (c.in-Ok-use_two.ensures.found a there (items_know m c.args.room.nesting a _) (properties_know m c.args.room.nesting a _))) c.and.ensures
 
 pub use_keywords-returns-in-Ok-use_two-clause-noted : goal.use_keywords-returns-in-Ok-use_two-clause-noted
 use_keywords-returns-in-Ok-use_two-clause-noted t c a at =
     let l = c.args.self.now.linked in
-    let s = value c.args.schema.now in
-    let x = subject_value c.args.subject in
+    let s = value c.args.here.schema.now in
+    let x = subject_value c.args.here.subject in
     let n = notes c.args.self.now.log in
     let mid = notes c.use_groups.new.self.log in
     let m = c.use_groups.new.self.linked.now in
     let here : IsAt l.now (frame c.use_groups.new.self.context) s x a = subst (λ (f : Frame). IsAt l.now f s x a) (sym c.in-Ok.ensures.back) at in
     let there : IsAt m (frame c.use_groups.new.self.context) s x a = subst (λ (k : Bor Linked). IsAt k.now (frame c.use_groups.new.self.context) s x a) (sym c.in-Ok.ensures.linked) here in
-    keywords_noted l.now c.args.left a c.args.before n mid (notes c.use_two.new.self.log) c.requires.before (c.in-Ok.ensures.noted a at)
-    (subst (λ (k : Bor Linked). notes c.use_two.new.self.log ≡ added mid (uses_notes a (two_uses k.now c.args.left a UnevaluatedItems UnevaluatedProperties c.args.before mid))) c.in-Ok.ensures.linked
-    (c.in-Ok-use_two.ensures.noted a there (items_know m c.args.left a _) (properties_know m c.args.left a _)))
+    keywords_noted l.now c.args.room.nesting a c.args.here.before n mid (notes c.use_two.new.self.log) c.requires.before (c.in-Ok.ensures.noted a at)
+    (subst (λ (k : Bor Linked). notes c.use_two.new.self.log ≡ added mid (uses_notes a (two_uses k.now c.args.room.nesting a UnevaluatedItems UnevaluatedProperties c.args.here.before mid))) c.in-Ok.ensures.linked
+    (c.in-Ok-use_two.ensures.noted a there (items_know m c.args.room.nesting a _) (properties_know m c.args.room.nesting a _)))
 
 pub use_keywords-returns-in-Err-use_two-clause-err : goal.use_keywords-returns-in-Err-use_two-clause-err
 use_keywords-returns-in-Err-use_two-clause-err t c a at other =
     let l = c.args.self.now.linked in
-    let s = value c.args.schema.now in
-    let x = subject_value c.args.subject in
+    let s = value c.args.here.schema.now in
+    let x = subject_value c.args.here.subject in
     let n = notes c.args.self.now.log in
     let mid = notes c.use_groups.new.self.log in
     let m = c.use_groups.new.self.linked.now in
     let here : IsAt l.now (frame c.use_groups.new.self.context) s x a = subst (λ (f : Frame). IsAt l.now f s x a) (sym c.in-Ok.ensures.back) at in
     let there : IsAt m (frame c.use_groups.new.self.context) s x a = subst (λ (k : Bor Linked). IsAt k.now (frame c.use_groups.new.self.context) s x a) (sym c.in-Ok.ensures.linked) here in
-    let fault = c.in-Err-use_two.ensures.err a there (items_know m c.args.left a _) (properties_know m c.args.left a _) other in (
+    let fault = c.in-Err-use_two.ensures.err a there (items_know m c.args.room.nesting a _) (properties_know m c.args.room.nesting a _) other in (
       fault.0,
-      last_over l.now c.args.left a c.args.before n mid c.in-Ok.found c.args.budget c.requires.before (c.in-Ok.ensures.noted a at) (c.in-Ok.ensures.found a at)
-          (subst (λ (k : Bor Linked). c.args.budget - c.in-Ok.found.count < use_count (two_uses k.now c.args.left a UnevaluatedItems UnevaluatedProperties c.args.before mid)) c.in-Ok.ensures.linked fault.1),
+      last_over l.now c.args.room.nesting a c.args.here.before n mid c.in-Ok.found c.args.room.applications c.requires.before (c.in-Ok.ensures.noted a at) (c.in-Ok.ensures.found a at)
+          (subst (λ (k : Bor Linked). c.args.room.applications - c.in-Ok.found.count < use_count (two_uses k.now c.args.room.nesting a UnevaluatedItems UnevaluatedProperties c.args.here.before mid)) c.in-Ok.ensures.linked fault.1),
     )
 
 pub use_keywords-returns-in-Err-clause-err : goal.use_keywords-returns-in-Err-clause-err
 use_keywords-returns-in-Err-clause-err t c a at other =
-    let fault = c.in-Err.ensures.err a at other in (fault.0, groups_over c.args.self.now.linked.now c.args.left a c.args.budget fault.1)
+    let fault = c.in-Err.ensures.err a at other in (fault.0, groups_over c.args.self.now.linked.now c.args.room.nesting a c.args.room.applications fault.1)
 
 pub use_keywords-returns-then-not-looks_at_evaluated-clause-found : goal.use_keywords-returns-then-not-looks_at_evaluated-clause-found
 use_keywords-returns-then-not-looks_at_evaluated-clause-found t c a at =
-    subst (FindsObject c.in-Ok.found c.args.budget)
-    (groups_alone c.args.self.now.linked.now c.args.left a c.of-present.result.marks (sym c.looks_at_evaluated.ensures ∙ c.if-not-looks_at_evaluated.true)
-    (marked_there c.args.self.now.linked.now (frame c.args.self.now.context) (value c.args.schema.now) (subject_value c.args.subject) a c.of-present.result.marks at c.of-present.ensures))
+    subst (FindsObject c.in-Ok.found c.args.room.applications)
+    (groups_alone c.args.self.now.linked.now c.args.room.nesting a c.of-present.result.marks (sym c.looks_at_evaluated.ensures ∙ c.if-not-looks_at_evaluated.true)
+    (marked_there c.args.self.now.linked.now (frame c.args.self.now.context) (value c.args.here.schema.now) (subject_value c.args.here.subject) a c.of-present.result.marks at c.of-present.ensures))
     (c.in-Ok.ensures.found a at)
 
 pub use_keywords-returns-then-not-looks_at_evaluated-clause-noted : goal.use_keywords-returns-then-not-looks_at_evaluated-clause-noted
 use_keywords-returns-then-not-looks_at_evaluated-clause-noted t c a at =
     c.in-Ok.ensures.noted a at
     ∙ ap (λ us. added (notes c.args.self.now.log) (uses_notes a us))
-    (groups_alone c.args.self.now.linked.now c.args.left a c.of-present.result.marks (sym c.looks_at_evaluated.ensures ∙ c.if-not-looks_at_evaluated.true)
-    (marked_there c.args.self.now.linked.now (frame c.args.self.now.context) (value c.args.schema.now) (subject_value c.args.subject) a c.of-present.result.marks at c.of-present.ensures))
+    (groups_alone c.args.self.now.linked.now c.args.room.nesting a c.of-present.result.marks (sym c.looks_at_evaluated.ensures ∙ c.if-not-looks_at_evaluated.true)
+    (marked_there c.args.self.now.linked.now (frame c.args.self.now.context) (value c.args.here.schema.now) (subject_value c.args.here.subject) a c.of-present.result.marks at c.of-present.ensures))
 
 pub use_groups-loop-place-init : goal.use_groups-loop-place-init
 use_groups-loop-place-init t c = record {
@@ -158,33 +158,33 @@ use_groups-returns-in-Err-clause-err t c a at other =
     let same = c.loop-place.invariant.linked in
     let items = c.groups-group-items.result.now in
     let i = c.loop-place.place in
-    let here : IsAt c.args.self.now.linked.now (frame c.loop-place.self.context) (value c.args.schema.now) (subject_value c.args.subject) a =
-    subst (λ (f : Frame). IsAt c.args.self.now.linked.now f (value c.args.schema.now) (subject_value c.args.subject) a) (sym c.loop-place.invariant.back) at in
-    let there : IsAt c.loop-place.self.linked.now (frame c.loop-place.self.context) (value c.args.schema.now) (subject_value c.args.subject) a =
-    subst (λ (l : Bor Linked). IsAt l.now (frame c.loop-place.self.context) (value c.args.schema.now) (subject_value c.args.subject) a) (sym same) here in
+    let here : IsAt c.args.self.now.linked.now (frame c.loop-place.self.context) (value c.args.here.schema.now) (subject_value c.args.here.subject) a =
+    subst (λ (f : Frame). IsAt c.args.self.now.linked.now f (value c.args.here.schema.now) (subject_value c.args.here.subject) a) (sym c.loop-place.invariant.back) at in
+    let there : IsAt c.loop-place.self.linked.now (frame c.loop-place.self.context) (value c.args.here.schema.now) (subject_value c.args.here.subject) a =
+    subst (λ (l : Bor Linked). IsAt l.now (frame c.loop-place.self.context) (value c.args.here.schema.now) (subject_value c.args.here.subject) a) (sym same) here in
     let fault = c.in-Err.ensures.err a there other in (
       fault.0,
       rw (← c.groups-group-items.ensures)
-          (group_over c.loop-place.found c.args.budget (group_uses c.args.self.now.linked.now c.args.left a) items i (One Ref) c.loop-place-test.true (c.loop-place.invariant.found a at)
-          (subst (λ (l : Bor Linked). c.args.budget - c.loop-place.found.count < use_count (group_uses l.now c.args.left a (get_or items i (One Ref)))) same fault.1)),
+          (group_over c.loop-place.found c.args.room.applications (group_uses c.args.self.now.linked.now c.args.room.nesting a) items i (One Ref) c.loop-place-test.true (c.loop-place.invariant.found a at)
+          (subst (λ (l : Bor Linked). c.args.room.applications - c.loop-place.found.count < use_count (group_uses l.now c.args.room.nesting a (get_or items i (One Ref)))) same fault.1)),
     )
 
 pub use_groups-loop-place-preserved-then-not-has : goal.use_groups-loop-place-preserved-then-not-has
 use_groups-loop-place-preserved-then-not-has t c =
     let l = c.args.self.now.linked.now in
-    let uses = group_uses l c.args.left in
+    let uses = group_uses l c.args.room.nesting in
     let items = c.groups-group-items.result.now in
     let i = c.loop-place.place in
-    let same = λ (a : Application) (at : IsAt l (frame c.args.self.now.context) (value c.args.schema.now) (subject_value c.args.subject) a).
+    let same = λ (a : Application) (at : IsAt l (frame c.args.self.now.context) (value c.args.here.schema.now) (subject_value c.args.here.subject) a).
     flat_same (uses a) items i (One Ref) c.loop-place-test.true
-    (unused_at l c.args.left a c.args.present.now.marks items i (sym c.has.ensures ∙ c.if-not-has.true)
-    (marked_there l (frame c.args.self.now.context) (value c.args.schema.now) (subject_value c.args.subject) a c.args.present.now.marks at c.requires.present)
+    (unused_at l c.args.room.nesting a c.args.present.now.marks items i (sym c.has.ensures ∙ c.if-not-has.true)
+    (marked_there l (frame c.args.self.now.context) (value c.args.here.schema.now) (subject_value c.args.here.subject) a c.args.present.now.marks at c.requires.present)
     c.groups-group-items.ensures c.loop-place-test.true) in
     record {
       linked = c.loop-place.invariant.linked;
       back = c.loop-place.invariant.back;
       within = c.loop-place.invariant.within;
-      found = λ a at. subst (FindsObject c.loop-place.found c.args.budget) (same a at) (c.loop-place.invariant.found a at);
+      found = λ a at. subst (FindsObject c.loop-place.found c.args.room.applications) (same a at) (c.loop-place.invariant.found a at);
       noted = λ a at. c.loop-place.invariant.noted a at ∙ ap (λ us. added (notes c.args.self.now.log) (uses_notes a us)) (same a at);
     }
 
@@ -196,38 +196,38 @@ use_groups-loop-place-preserved t c =
     record {
       linked = c.in-Ok.ensures.linked ∙ same;
       back = c.in-Ok.ensures.back ∙ c.loop-place.invariant.back;
-      within = rw c.and-found.ensures (found_within c.loop-place.found c.in-Ok.used c.args.budget c.loop-place.invariant.within c.in-Ok.ensures.within);
+      within = rw c.and-found.ensures (found_within c.loop-place.found c.in-Ok.used c.args.room.applications c.loop-place.invariant.within c.in-Ok.ensures.within);
       found =
           λ a at.
-          let here : IsAt c.args.self.now.linked.now (frame c.loop-place.self.context) (value c.args.schema.now) (subject_value c.args.subject) a =
-          subst (λ (f : Frame). IsAt c.args.self.now.linked.now f (value c.args.schema.now) (subject_value c.args.subject) a) (sym c.loop-place.invariant.back) at in
-          let there : IsAt c.loop-place.self.linked.now (frame c.loop-place.self.context) (value c.args.schema.now) (subject_value c.args.subject) a =
-          subst (λ (l : Bor Linked). IsAt l.now (frame c.loop-place.self.context) (value c.args.schema.now) (subject_value c.args.subject) a) (sym same) here in
-          group_more c.loop-place.found c.in-Ok.used c.and-found.result c.args.budget (group_uses c.args.self.now.linked.now c.args.left a) items i (One Ref) c.loop-place-test.true
+          let here : IsAt c.args.self.now.linked.now (frame c.loop-place.self.context) (value c.args.here.schema.now) (subject_value c.args.here.subject) a =
+          subst (λ (f : Frame). IsAt c.args.self.now.linked.now f (value c.args.here.schema.now) (subject_value c.args.here.subject) a) (sym c.loop-place.invariant.back) at in
+          let there : IsAt c.loop-place.self.linked.now (frame c.loop-place.self.context) (value c.args.here.schema.now) (subject_value c.args.here.subject) a =
+          subst (λ (l : Bor Linked). IsAt l.now (frame c.loop-place.self.context) (value c.args.here.schema.now) (subject_value c.args.here.subject) a) (sym same) here in
+          group_more c.loop-place.found c.in-Ok.used c.and-found.result c.args.room.applications (group_uses c.args.self.now.linked.now c.args.room.nesting a) items i (One Ref) c.loop-place-test.true
           (c.loop-place.invariant.found a at)
-          (subst (λ (l : Bor Linked). FindsUses c.in-Ok.used (c.args.budget - c.loop-place.found.count) (group_uses l.now c.args.left a (get_or items i (One Ref)))) same (c.in-Ok.ensures.found a there))
+          (subst (λ (l : Bor Linked). FindsUses c.in-Ok.used (c.args.room.applications - c.loop-place.found.count) (group_uses l.now c.args.room.nesting a (get_or items i (One Ref)))) same (c.in-Ok.ensures.found a there))
           c.and-found.ensures;
       noted =
           λ a at.
-          let here : IsAt c.args.self.now.linked.now (frame c.loop-place.self.context) (value c.args.schema.now) (subject_value c.args.subject) a =
-          subst (λ (f : Frame). IsAt c.args.self.now.linked.now f (value c.args.schema.now) (subject_value c.args.subject) a) (sym c.loop-place.invariant.back) at in
-          let there : IsAt c.loop-place.self.linked.now (frame c.loop-place.self.context) (value c.args.schema.now) (subject_value c.args.subject) a =
-          subst (λ (l : Bor Linked). IsAt l.now (frame c.loop-place.self.context) (value c.args.schema.now) (subject_value c.args.subject) a) (sym same) here in
-          group_noted a (notes c.args.self.now.log) (notes c.loop-place.self.log) (notes c.use_group.new.self.log) (group_uses c.args.self.now.linked.now c.args.left a) items i (One Ref)
+          let here : IsAt c.args.self.now.linked.now (frame c.loop-place.self.context) (value c.args.here.schema.now) (subject_value c.args.here.subject) a =
+          subst (λ (f : Frame). IsAt c.args.self.now.linked.now f (value c.args.here.schema.now) (subject_value c.args.here.subject) a) (sym c.loop-place.invariant.back) at in
+          let there : IsAt c.loop-place.self.linked.now (frame c.loop-place.self.context) (value c.args.here.schema.now) (subject_value c.args.here.subject) a =
+          subst (λ (l : Bor Linked). IsAt l.now (frame c.loop-place.self.context) (value c.args.here.schema.now) (subject_value c.args.here.subject) a) (sym same) here in
+          group_noted a (notes c.args.self.now.log) (notes c.loop-place.self.log) (notes c.use_group.new.self.log) (group_uses c.args.self.now.linked.now c.args.room.nesting a) items i (One Ref)
           c.loop-place-test.true (c.loop-place.invariant.noted a at)
-          (subst (λ (l : Bor Linked). notes c.use_group.new.self.log ≡ added (notes c.loop-place.self.log) (uses_notes a (group_uses l.now c.args.left a (get_or items i (One Ref))))) same
+          (subst (λ (l : Bor Linked). notes c.use_group.new.self.log ≡ added (notes c.loop-place.self.log) (uses_notes a (group_uses l.now c.args.room.nesting a (get_or items i (One Ref))))) same
           (c.in-Ok.ensures.noted a there));
     }
 
 pub use_groups-returns-clause-found : goal.use_groups-returns-clause-found
 use_groups-returns-clause-found t c a at =
     let whole = take_all c.loop-place.place c.groups-group-items.result.now c.loop-place-test.false ∙ c.groups-group-items.ensures in
-    subst (λ gs. FindsObject c.loop-place.found c.args.budget (groups_uses c.args.self.now.linked.now c.args.left a gs)) whole (c.loop-place.invariant.found a at)
+    subst (λ gs. FindsObject c.loop-place.found c.args.room.applications (groups_uses c.args.self.now.linked.now c.args.room.nesting a gs)) whole (c.loop-place.invariant.found a at)
 
 pub use_groups-returns-clause-noted : goal.use_groups-returns-clause-noted
 use_groups-returns-clause-noted t c a at =
     let whole = take_all c.loop-place.place c.groups-group-items.result.now c.loop-place-test.false ∙ c.groups-group-items.ensures in
-    subst (λ gs. notes c.loop-place.self.log ≡ added (notes c.args.self.now.log) (uses_notes a (groups_uses c.args.self.now.linked.now c.args.left a gs))) whole (c.loop-place.invariant.noted a at)
+    subst (λ gs. notes c.loop-place.self.log ≡ added (notes c.args.self.now.log) (uses_notes a (groups_uses c.args.self.now.linked.now c.args.room.nesting a gs))) whole (c.loop-place.invariant.noted a at)
 
 pub use_group-returns-in-One-clause-err : goal.use_group-returns-in-One-clause-err
 use_group-returns-in-One-clause-err t c a at = rw c.in-One.is (c.use_one.ensures.err a at)
@@ -244,241 +244,241 @@ use_group-returns-in-Counted-clause-err t c a at = rw c.in-Counted.is (c.use_cou
 pub use_conditional-returns-in-Ok-use_two-clause-found : goal.use_conditional-returns-in-Ok-use_two-clause-found
 use_conditional-returns-in-Ok-use_two-clause-found t c a at =
     let l = c.args.self.now.linked in
-    let s = value c.args.schema.now in
-    let x = subject_value c.args.subject in
+    let s = value c.args.here.schema.now in
+    let x = subject_value c.args.here.subject in
     let n = notes c.args.self.now.log in
     let mid = notes c.use_named.new.self.log in
-    let us = uses_since l.now c.args.left a If c.args.before n in
-    let vs = two_uses l.now c.args.left a Then Else c.args.before mid in
+    let us = uses_since l.now c.args.room.nesting a If c.args.here.before n in
+    let vs = two_uses l.now c.args.room.nesting a Then Else c.args.here.before mid in
     let here : IsAt l.now (frame c.use_named.new.self.context) s x a = subst (λ (f : Frame). IsAt l.now f s x a) (sym c.in-Ok.ensures.back) at in
     let there : IsAt c.use_named.new.self.linked.now (frame c.use_named.new.self.context) s x a = subst (λ (m : Bor Linked). IsAt m.now (frame c.use_named.new.self.context) s x a) (sym c.in-Ok.ensures.linked) here in
-    let told = c.in-Ok.ensures.found a at (knows_nothing l.now c.args.left a condition _ refl refl) in
-    let found = subst (λ (m : Bor Linked). FindsUse c.in-Ok.used c.args.budget (uses_since m.now c.args.left a If c.args.before n)) (sym c.in-Ok.ensures.linked) told in
-    subst (FindsUses c.and.result c.args.budget) (conditional_uses l.now c.args.left a c.args.before n mid)
-    (two_found c.in-Ok.used.found c.in-Ok-use_two.found c.and.result c.args.budget us vs told.found
-    (subst (λ (m : Bor Linked). FindsUses c.in-Ok-use_two.found (c.args.budget - c.in-Ok.used.found.count) (two_uses m.now c.args.left a Then Else c.args.before mid)) c.in-Ok.ensures.linked
-    (c.in-Ok-use_two.ensures.found a there (knows_condition c.use_named.new.self.linked.now c.args.left c.args.budget a c.in-Ok.used true c.args.before n _ found c.some_passed.ensures) (knows_condition c.use_named.new.self.linked.now c.args.left c.args.budget a c.in-Ok.used false c.args.before n _ found c.some_passed.ensures))) c.and.ensures)
+    let told = c.in-Ok.ensures.found a at (knows_nothing l.now c.args.room.nesting a condition _ refl refl) in
+    let found = subst (λ (m : Bor Linked). FindsUse c.in-Ok.used c.args.room.applications (uses_since m.now c.args.room.nesting a If c.args.here.before n)) (sym c.in-Ok.ensures.linked) told in
+    subst (FindsUses c.and.result c.args.room.applications) (conditional_uses l.now c.args.room.nesting a c.args.here.before n mid)
+    (two_found c.in-Ok.used.found c.in-Ok-use_two.found c.and.result c.args.room.applications us vs told.found
+    (subst (λ (m : Bor Linked). FindsUses c.in-Ok-use_two.found (c.args.room.applications - c.in-Ok.used.found.count) (two_uses m.now c.args.room.nesting a Then Else c.args.here.before mid)) c.in-Ok.ensures.linked
+    (c.in-Ok-use_two.ensures.found a there (knows_condition c.use_named.new.self.linked.now c.args.room.nesting c.args.room.applications a c.in-Ok.used true c.args.here.before n _ found c.some_passed.ensures) (knows_condition c.use_named.new.self.linked.now c.args.room.nesting c.args.room.applications a c.in-Ok.used false c.args.here.before n _ found c.some_passed.ensures))) c.and.ensures)
 
 pub use_conditional-returns-in-Ok-use_two-clause-noted : goal.use_conditional-returns-in-Ok-use_two-clause-noted
 use_conditional-returns-in-Ok-use_two-clause-noted t c a at =
     let l = c.args.self.now.linked in
-    let s = value c.args.schema.now in
-    let x = subject_value c.args.subject in
+    let s = value c.args.here.schema.now in
+    let x = subject_value c.args.here.subject in
     let n = notes c.args.self.now.log in
     let mid = notes c.use_named.new.self.log in
-    let us = uses_since l.now c.args.left a If c.args.before n in
-    let vs = two_uses l.now c.args.left a Then Else c.args.before mid in
+    let us = uses_since l.now c.args.room.nesting a If c.args.here.before n in
+    let vs = two_uses l.now c.args.room.nesting a Then Else c.args.here.before mid in
     let here : IsAt l.now (frame c.use_named.new.self.context) s x a = subst (λ (f : Frame). IsAt l.now f s x a) (sym c.in-Ok.ensures.back) at in
     let there : IsAt c.use_named.new.self.linked.now (frame c.use_named.new.self.context) s x a = subst (λ (m : Bor Linked). IsAt m.now (frame c.use_named.new.self.context) s x a) (sym c.in-Ok.ensures.linked) here in
-    let told = c.in-Ok.ensures.found a at (knows_nothing l.now c.args.left a condition _ refl refl) in
-    let found = subst (λ (m : Bor Linked). FindsUse c.in-Ok.used c.args.budget (uses_since m.now c.args.left a If c.args.before n)) (sym c.in-Ok.ensures.linked) told in
+    let told = c.in-Ok.ensures.found a at (knows_nothing l.now c.args.room.nesting a condition _ refl refl) in
+    let found = subst (λ (m : Bor Linked). FindsUse c.in-Ok.used c.args.room.applications (uses_since m.now c.args.room.nesting a If c.args.here.before n)) (sym c.in-Ok.ensures.linked) told in
     let new = notes c.use_two.new.self.log in
-    subst (λ ws. new ≡ added n (uses_notes a ws)) (conditional_uses l.now c.args.left a c.args.before n mid)
-    (two_noted a n mid new us (λ m. vs) (c.in-Ok.ensures.noted a at (knows_nothing l.now c.args.left a condition _ refl refl))
-    (subst (λ (m : Bor Linked). new ≡ added mid (uses_notes a (two_uses m.now c.args.left a Then Else c.args.before mid))) c.in-Ok.ensures.linked
-    (c.in-Ok-use_two.ensures.noted a there (knows_condition c.use_named.new.self.linked.now c.args.left c.args.budget a c.in-Ok.used true c.args.before n _ found c.some_passed.ensures) (knows_condition c.use_named.new.self.linked.now c.args.left c.args.budget a c.in-Ok.used false c.args.before n _ found c.some_passed.ensures))))
+    subst (λ ws. new ≡ added n (uses_notes a ws)) (conditional_uses l.now c.args.room.nesting a c.args.here.before n mid)
+    (two_noted a n mid new us (λ m. vs) (c.in-Ok.ensures.noted a at (knows_nothing l.now c.args.room.nesting a condition _ refl refl))
+    (subst (λ (m : Bor Linked). new ≡ added mid (uses_notes a (two_uses m.now c.args.room.nesting a Then Else c.args.here.before mid))) c.in-Ok.ensures.linked
+    (c.in-Ok-use_two.ensures.noted a there (knows_condition c.use_named.new.self.linked.now c.args.room.nesting c.args.room.applications a c.in-Ok.used true c.args.here.before n _ found c.some_passed.ensures) (knows_condition c.use_named.new.self.linked.now c.args.room.nesting c.args.room.applications a c.in-Ok.used false c.args.here.before n _ found c.some_passed.ensures))))
 
 pub use_conditional-returns-in-Err-use_two-clause-err : goal.use_conditional-returns-in-Err-use_two-clause-err
 use_conditional-returns-in-Err-use_two-clause-err t c a at other =
     let l = c.args.self.now.linked in
-    let s = value c.args.schema.now in
-    let x = subject_value c.args.subject in
+    let s = value c.args.here.schema.now in
+    let x = subject_value c.args.here.subject in
     let n = notes c.args.self.now.log in
     let mid = notes c.use_named.new.self.log in
-    let us = uses_since l.now c.args.left a If c.args.before n in
-    let vs = two_uses l.now c.args.left a Then Else c.args.before mid in
+    let us = uses_since l.now c.args.room.nesting a If c.args.here.before n in
+    let vs = two_uses l.now c.args.room.nesting a Then Else c.args.here.before mid in
     let here : IsAt l.now (frame c.use_named.new.self.context) s x a = subst (λ (f : Frame). IsAt l.now f s x a) (sym c.in-Ok.ensures.back) at in
     let there : IsAt c.use_named.new.self.linked.now (frame c.use_named.new.self.context) s x a = subst (λ (m : Bor Linked). IsAt m.now (frame c.use_named.new.self.context) s x a) (sym c.in-Ok.ensures.linked) here in
-    let told = c.in-Ok.ensures.found a at (knows_nothing l.now c.args.left a condition _ refl refl) in
-    let found = subst (λ (m : Bor Linked). FindsUse c.in-Ok.used c.args.budget (uses_since m.now c.args.left a If c.args.before n)) (sym c.in-Ok.ensures.linked) told in
-    let fault = c.in-Err-use_two.ensures.err a there (knows_condition c.use_named.new.self.linked.now c.args.left c.args.budget a c.in-Ok.used true c.args.before n _ found c.some_passed.ensures) (knows_condition c.use_named.new.self.linked.now c.args.left c.args.budget a c.in-Ok.used false c.args.before n _ found c.some_passed.ensures) other in (
+    let told = c.in-Ok.ensures.found a at (knows_nothing l.now c.args.room.nesting a condition _ refl refl) in
+    let found = subst (λ (m : Bor Linked). FindsUse c.in-Ok.used c.args.room.applications (uses_since m.now c.args.room.nesting a If c.args.here.before n)) (sym c.in-Ok.ensures.linked) told in
+    let fault = c.in-Err-use_two.ensures.err a there (knows_condition c.use_named.new.self.linked.now c.args.room.nesting c.args.room.applications a c.in-Ok.used true c.args.here.before n _ found c.some_passed.ensures) (knows_condition c.use_named.new.self.linked.now c.args.room.nesting c.args.room.applications a c.in-Ok.used false c.args.here.before n _ found c.some_passed.ensures) other in (
       fault.0,
-      subst (λ ws. c.args.budget < use_count ws) (conditional_uses l.now c.args.left a c.args.before n mid)
-          (second_over c.in-Ok.used.found c.args.budget us vs told.found
-          (subst (λ (m : Bor Linked). c.args.budget - c.in-Ok.used.found.count < use_count (two_uses m.now c.args.left a Then Else c.args.before mid)) c.in-Ok.ensures.linked fault.1)),
+      subst (λ ws. c.args.room.applications < use_count ws) (conditional_uses l.now c.args.room.nesting a c.args.here.before n mid)
+          (second_over c.in-Ok.used.found c.args.room.applications us vs told.found
+          (subst (λ (m : Bor Linked). c.args.room.applications - c.in-Ok.used.found.count < use_count (two_uses m.now c.args.room.nesting a Then Else c.args.here.before mid)) c.in-Ok.ensures.linked fault.1)),
     )
 
 pub use_conditional-returns-in-Err-clause-err : goal.use_conditional-returns-in-Err-clause-err
 use_conditional-returns-in-Err-clause-err t c a at other =
     let l = c.args.self.now.linked.now in
     let n = notes c.args.self.now.log in
-    let us = uses_since l c.args.left a If c.args.before n in
-    let vs = two_uses l c.args.left a Then Else c.args.before n in
-    let fault = c.in-Err.ensures.err a at (knows_nothing l c.args.left a condition _ refl refl) other in (
+    let us = uses_since l c.args.room.nesting a If c.args.here.before n in
+    let vs = two_uses l c.args.room.nesting a Then Else c.args.here.before n in
+    let fault = c.in-Err.ensures.err a at (knows_nothing l c.args.room.nesting a condition _ refl refl) other in (
       fault.0,
-      subst (λ ws. c.args.budget < use_count ws) (conditional_uses l c.args.left a c.args.before n n) (first_over c.args.budget us vs fault.1),
+      subst (λ ws. c.args.room.applications < use_count ws) (conditional_uses l c.args.room.nesting a c.args.here.before n n) (first_over c.args.room.applications us vs fault.1),
     )
 
 pub use_counted-returns-in-Ok-use_two-clause-found : goal.use_counted-returns-in-Ok-use_two-clause-found
 use_counted-returns-in-Ok-use_two-clause-found t c a at =
     let l = c.args.self.now.linked in
-    let s = value c.args.schema.now in
-    let x = subject_value c.args.subject in
+    let s = value c.args.here.schema.now in
+    let x = subject_value c.args.here.subject in
     let n = notes c.args.self.now.log in
     let mid = notes c.use_named.new.self.log in
-    let us = uses_since l.now c.args.left a Contains c.args.before n in
-    let vs = two_uses l.now c.args.left a MinContains MaxContains c.args.before mid in
+    let us = uses_since l.now c.args.room.nesting a Contains c.args.here.before n in
+    let vs = two_uses l.now c.args.room.nesting a MinContains MaxContains c.args.here.before mid in
     let here : IsAt l.now (frame c.use_named.new.self.context) s x a = subst (λ (f : Frame). IsAt l.now f s x a) (sym c.in-Ok.ensures.back) at in
     let there : IsAt c.use_named.new.self.linked.now (frame c.use_named.new.self.context) s x a = subst (λ (m : Bor Linked). IsAt m.now (frame c.use_named.new.self.context) s x a) (sym c.in-Ok.ensures.linked) here in
-    let told = c.in-Ok.ensures.found a at (knows_nothing l.now c.args.left a some_item _ refl refl) in
-    let found = subst (λ (m : Bor Linked). FindsUse c.in-Ok.used c.args.budget (uses_since m.now c.args.left a Contains c.args.before n)) (sym c.in-Ok.ensures.linked) told in
-    subst (FindsUses c.and.result c.args.budget) (counted_uses l.now c.args.left a c.args.before n mid)
-    (two_found c.in-Ok.used.found c.in-Ok-use_two.found c.and.result c.args.budget us vs told.found
-    (subst (λ (m : Bor Linked). FindsUses c.in-Ok-use_two.found (c.args.budget - c.in-Ok.used.found.count) (two_uses m.now c.args.left a MinContains MaxContains c.args.before mid)) c.in-Ok.ensures.linked
-    (c.in-Ok-use_two.ensures.found a there (knows_containing c.use_named.new.self.linked.now c.args.left c.args.budget a c.in-Ok.used at_least_items c.args.before n _ found refl refl) (knows_containing c.use_named.new.self.linked.now c.args.left c.args.budget a c.in-Ok.used at_most_items c.args.before n _ found refl refl))) c.and.ensures)
+    let told = c.in-Ok.ensures.found a at (knows_nothing l.now c.args.room.nesting a some_item _ refl refl) in
+    let found = subst (λ (m : Bor Linked). FindsUse c.in-Ok.used c.args.room.applications (uses_since m.now c.args.room.nesting a Contains c.args.here.before n)) (sym c.in-Ok.ensures.linked) told in
+    subst (FindsUses c.and.result c.args.room.applications) (counted_uses l.now c.args.room.nesting a c.args.here.before n mid)
+    (two_found c.in-Ok.used.found c.in-Ok-use_two.found c.and.result c.args.room.applications us vs told.found
+    (subst (λ (m : Bor Linked). FindsUses c.in-Ok-use_two.found (c.args.room.applications - c.in-Ok.used.found.count) (two_uses m.now c.args.room.nesting a MinContains MaxContains c.args.here.before mid)) c.in-Ok.ensures.linked
+    (c.in-Ok-use_two.ensures.found a there (knows_containing c.use_named.new.self.linked.now c.args.room.nesting c.args.room.applications a c.in-Ok.used at_least_items c.args.here.before n _ found refl refl) (knows_containing c.use_named.new.self.linked.now c.args.room.nesting c.args.room.applications a c.in-Ok.used at_most_items c.args.here.before n _ found refl refl))) c.and.ensures)
 
 pub use_counted-returns-in-Ok-use_two-clause-noted : goal.use_counted-returns-in-Ok-use_two-clause-noted
 use_counted-returns-in-Ok-use_two-clause-noted t c a at =
     let l = c.args.self.now.linked in
-    let s = value c.args.schema.now in
-    let x = subject_value c.args.subject in
+    let s = value c.args.here.schema.now in
+    let x = subject_value c.args.here.subject in
     let n = notes c.args.self.now.log in
     let mid = notes c.use_named.new.self.log in
-    let us = uses_since l.now c.args.left a Contains c.args.before n in
-    let vs = two_uses l.now c.args.left a MinContains MaxContains c.args.before mid in
+    let us = uses_since l.now c.args.room.nesting a Contains c.args.here.before n in
+    let vs = two_uses l.now c.args.room.nesting a MinContains MaxContains c.args.here.before mid in
     let here : IsAt l.now (frame c.use_named.new.self.context) s x a = subst (λ (f : Frame). IsAt l.now f s x a) (sym c.in-Ok.ensures.back) at in
     let there : IsAt c.use_named.new.self.linked.now (frame c.use_named.new.self.context) s x a = subst (λ (m : Bor Linked). IsAt m.now (frame c.use_named.new.self.context) s x a) (sym c.in-Ok.ensures.linked) here in
-    let told = c.in-Ok.ensures.found a at (knows_nothing l.now c.args.left a some_item _ refl refl) in
-    let found = subst (λ (m : Bor Linked). FindsUse c.in-Ok.used c.args.budget (uses_since m.now c.args.left a Contains c.args.before n)) (sym c.in-Ok.ensures.linked) told in
+    let told = c.in-Ok.ensures.found a at (knows_nothing l.now c.args.room.nesting a some_item _ refl refl) in
+    let found = subst (λ (m : Bor Linked). FindsUse c.in-Ok.used c.args.room.applications (uses_since m.now c.args.room.nesting a Contains c.args.here.before n)) (sym c.in-Ok.ensures.linked) told in
     let new = notes c.use_two.new.self.log in
-    subst (λ ws. new ≡ added n (uses_notes a ws)) (counted_uses l.now c.args.left a c.args.before n mid)
-    (two_noted a n mid new us (λ m. vs) (c.in-Ok.ensures.noted a at (knows_nothing l.now c.args.left a some_item _ refl refl))
-    (subst (λ (m : Bor Linked). new ≡ added mid (uses_notes a (two_uses m.now c.args.left a MinContains MaxContains c.args.before mid))) c.in-Ok.ensures.linked
-    (c.in-Ok-use_two.ensures.noted a there (knows_containing c.use_named.new.self.linked.now c.args.left c.args.budget a c.in-Ok.used at_least_items c.args.before n _ found refl refl) (knows_containing c.use_named.new.self.linked.now c.args.left c.args.budget a c.in-Ok.used at_most_items c.args.before n _ found refl refl))))
+    subst (λ ws. new ≡ added n (uses_notes a ws)) (counted_uses l.now c.args.room.nesting a c.args.here.before n mid)
+    (two_noted a n mid new us (λ m. vs) (c.in-Ok.ensures.noted a at (knows_nothing l.now c.args.room.nesting a some_item _ refl refl))
+    (subst (λ (m : Bor Linked). new ≡ added mid (uses_notes a (two_uses m.now c.args.room.nesting a MinContains MaxContains c.args.here.before mid))) c.in-Ok.ensures.linked
+    (c.in-Ok-use_two.ensures.noted a there (knows_containing c.use_named.new.self.linked.now c.args.room.nesting c.args.room.applications a c.in-Ok.used at_least_items c.args.here.before n _ found refl refl) (knows_containing c.use_named.new.self.linked.now c.args.room.nesting c.args.room.applications a c.in-Ok.used at_most_items c.args.here.before n _ found refl refl))))
 
 pub use_counted-returns-in-Err-use_two-clause-err : goal.use_counted-returns-in-Err-use_two-clause-err
 use_counted-returns-in-Err-use_two-clause-err t c a at other =
     let l = c.args.self.now.linked in
-    let s = value c.args.schema.now in
-    let x = subject_value c.args.subject in
+    let s = value c.args.here.schema.now in
+    let x = subject_value c.args.here.subject in
     let n = notes c.args.self.now.log in
     let mid = notes c.use_named.new.self.log in
-    let us = uses_since l.now c.args.left a Contains c.args.before n in
-    let vs = two_uses l.now c.args.left a MinContains MaxContains c.args.before mid in
+    let us = uses_since l.now c.args.room.nesting a Contains c.args.here.before n in
+    let vs = two_uses l.now c.args.room.nesting a MinContains MaxContains c.args.here.before mid in
     let here : IsAt l.now (frame c.use_named.new.self.context) s x a = subst (λ (f : Frame). IsAt l.now f s x a) (sym c.in-Ok.ensures.back) at in
     let there : IsAt c.use_named.new.self.linked.now (frame c.use_named.new.self.context) s x a = subst (λ (m : Bor Linked). IsAt m.now (frame c.use_named.new.self.context) s x a) (sym c.in-Ok.ensures.linked) here in
-    let told = c.in-Ok.ensures.found a at (knows_nothing l.now c.args.left a some_item _ refl refl) in
-    let found = subst (λ (m : Bor Linked). FindsUse c.in-Ok.used c.args.budget (uses_since m.now c.args.left a Contains c.args.before n)) (sym c.in-Ok.ensures.linked) told in
-    let fault = c.in-Err-use_two.ensures.err a there (knows_containing c.use_named.new.self.linked.now c.args.left c.args.budget a c.in-Ok.used at_least_items c.args.before n _ found refl refl) (knows_containing c.use_named.new.self.linked.now c.args.left c.args.budget a c.in-Ok.used at_most_items c.args.before n _ found refl refl) other in (
+    let told = c.in-Ok.ensures.found a at (knows_nothing l.now c.args.room.nesting a some_item _ refl refl) in
+    let found = subst (λ (m : Bor Linked). FindsUse c.in-Ok.used c.args.room.applications (uses_since m.now c.args.room.nesting a Contains c.args.here.before n)) (sym c.in-Ok.ensures.linked) told in
+    let fault = c.in-Err-use_two.ensures.err a there (knows_containing c.use_named.new.self.linked.now c.args.room.nesting c.args.room.applications a c.in-Ok.used at_least_items c.args.here.before n _ found refl refl) (knows_containing c.use_named.new.self.linked.now c.args.room.nesting c.args.room.applications a c.in-Ok.used at_most_items c.args.here.before n _ found refl refl) other in (
       fault.0,
-      subst (λ ws. c.args.budget < use_count ws) (counted_uses l.now c.args.left a c.args.before n mid)
-          (second_over c.in-Ok.used.found c.args.budget us vs told.found
-          (subst (λ (m : Bor Linked). c.args.budget - c.in-Ok.used.found.count < use_count (two_uses m.now c.args.left a MinContains MaxContains c.args.before mid)) c.in-Ok.ensures.linked fault.1)),
+      subst (λ ws. c.args.room.applications < use_count ws) (counted_uses l.now c.args.room.nesting a c.args.here.before n mid)
+          (second_over c.in-Ok.used.found c.args.room.applications us vs told.found
+          (subst (λ (m : Bor Linked). c.args.room.applications - c.in-Ok.used.found.count < use_count (two_uses m.now c.args.room.nesting a MinContains MaxContains c.args.here.before mid)) c.in-Ok.ensures.linked fault.1)),
     )
 
 pub use_counted-returns-in-Err-clause-err : goal.use_counted-returns-in-Err-clause-err
 use_counted-returns-in-Err-clause-err t c a at other =
     let l = c.args.self.now.linked.now in
     let n = notes c.args.self.now.log in
-    let us = uses_since l c.args.left a Contains c.args.before n in
-    let vs = two_uses l c.args.left a MinContains MaxContains c.args.before n in
-    let fault = c.in-Err.ensures.err a at (knows_nothing l c.args.left a some_item _ refl refl) other in (
+    let us = uses_since l c.args.room.nesting a Contains c.args.here.before n in
+    let vs = two_uses l c.args.room.nesting a MinContains MaxContains c.args.here.before n in
+    let fault = c.in-Err.ensures.err a at (knows_nothing l c.args.room.nesting a some_item _ refl refl) other in (
       fault.0,
-      subst (λ ws. c.args.budget < use_count ws) (counted_uses l c.args.left a c.args.before n n) (first_over c.args.budget us vs fault.1),
+      subst (λ ws. c.args.room.applications < use_count ws) (counted_uses l c.args.room.nesting a c.args.here.before n n) (first_over c.args.room.applications us vs fault.1),
     )
 
 pub use_one-returns-in-Ok-clause-found : goal.use_one-returns-in-Ok-clause-found
 use_one-returns-in-Ok-clause-found t c a at =
     let l = c.args.self.now.linked.now in
-    subst (FindsUses c.in-Ok.used.found c.args.budget) (alone_uses l c.args.left a c.args.keyword c.args.before (notes c.args.self.now.log) c.requires.alone)
-    (c.in-Ok.ensures.found a at (alone_knows l c.args.left a c.args.keyword _ c.requires.alone)).found
+    subst (FindsUses c.in-Ok.used.found c.args.room.applications) (alone_uses l c.args.room.nesting a c.args.keyword c.args.here.before (notes c.args.self.now.log) c.requires.alone)
+    (c.in-Ok.ensures.found a at (alone_knows l c.args.room.nesting a c.args.keyword _ c.requires.alone)).found
 
 pub use_one-returns-in-Ok-clause-noted : goal.use_one-returns-in-Ok-clause-noted
 use_one-returns-in-Ok-clause-noted t c a at =
     let l = c.args.self.now.linked.now in
     subst (λ us. notes c.use_named.new.self.log ≡ added (notes c.args.self.now.log) (uses_notes a us))
-    (alone_uses l c.args.left a c.args.keyword c.args.before (notes c.args.self.now.log) c.requires.alone)
-    (c.in-Ok.ensures.noted a at (alone_knows l c.args.left a c.args.keyword _ c.requires.alone))
+    (alone_uses l c.args.room.nesting a c.args.keyword c.args.here.before (notes c.args.self.now.log) c.requires.alone)
+    (c.in-Ok.ensures.noted a at (alone_knows l c.args.room.nesting a c.args.keyword _ c.requires.alone))
 
 pub use_one-returns-in-Err-clause-err : goal.use_one-returns-in-Err-clause-err
 use_one-returns-in-Err-clause-err t c a at other =
     let l = c.args.self.now.linked.now in
-    let fault = c.in-Err.ensures.err a at (alone_knows l c.args.left a c.args.keyword _ c.requires.alone) other in (
+    let fault = c.in-Err.ensures.err a at (alone_knows l c.args.room.nesting a c.args.keyword _ c.requires.alone) other in (
       fault.0,
-      subst (λ us. c.args.budget < use_count us) (alone_uses l c.args.left a c.args.keyword c.args.before (notes c.args.self.now.log) c.requires.alone) fault.1,
+      subst (λ us. c.args.room.applications < use_count us) (alone_uses l c.args.room.nesting a c.args.keyword c.args.here.before (notes c.args.self.now.log) c.requires.alone) fault.1,
     )
 
 pub use_two-returns-in-Ok-use_named-clause-noted : goal.use_two-returns-in-Ok-use_named-clause-noted
 use_two-returns-in-Ok-use_named-clause-noted t c a at knows knows_second =
     let l = c.args.self.now.linked in
-    let s = value c.args.schema.now in
-    let x = subject_value c.args.subject in
+    let s = value c.args.here.schema.now in
+    let x = subject_value c.args.here.subject in
     let k = (row_of c.args.second).meaning in
     let n = notes c.args.self.now.log in
     let mid = notes c.use_named.new.self.log in
-    let us = uses_since l.now c.args.left a c.args.first c.args.before n in
+    let us = uses_since l.now c.args.room.nesting a c.args.first c.args.here.before n in
     let here : IsAt l.now (frame c.use_named.new.self.context) s x a = subst (λ (f : Frame). IsAt l.now f s x a) (sym c.in-Ok.ensures.back) at in
     let there : IsAt c.use_named.new.self.linked.now (frame c.use_named.new.self.context) s x a = subst (λ (m : Bor Linked). IsAt m.now (frame c.use_named.new.self.context) s x a) (sym c.in-Ok.ensures.linked) here in
-    let known : Knows c.use_named.new.self.linked.now c.args.left a k c.args.beside = subst (λ (m : Bor Linked). Knows m.now c.args.left a k c.args.beside) (sym c.in-Ok.ensures.linked) knows_second in
-    two_noted a n mid (notes c.use_named-in-Ok.new.self.log) us (λ m. uses_since l.now c.args.left a c.args.second c.args.before m) (c.in-Ok.ensures.noted a at knows)
-    (subst (λ (m : Bor Linked). notes c.use_named-in-Ok.new.self.log ≡ added mid (uses_notes a (uses_since m.now c.args.left a c.args.second c.args.before mid))) c.in-Ok.ensures.linked
+    let known : Knows c.use_named.new.self.linked.now c.args.room.nesting a k c.args.beside = subst (λ (m : Bor Linked). Knows m.now c.args.room.nesting a k c.args.beside) (sym c.in-Ok.ensures.linked) knows_second in
+    two_noted a n mid (notes c.use_named-in-Ok.new.self.log) us (λ m. uses_since l.now c.args.room.nesting a c.args.second c.args.here.before m) (c.in-Ok.ensures.noted a at knows)
+    (subst (λ (m : Bor Linked). notes c.use_named-in-Ok.new.self.log ≡ added mid (uses_notes a (uses_since m.now c.args.room.nesting a c.args.second c.args.here.before mid))) c.in-Ok.ensures.linked
     (c.in-Ok-use_named.ensures.noted a there known))
 
 pub use_two-returns-in-Ok-use_named-clause-found : goal.use_two-returns-in-Ok-use_named-clause-found
 use_two-returns-in-Ok-use_named-clause-found t c a at knows knows_second =
     let l = c.args.self.now.linked in
-    let s = value c.args.schema.now in
-    let x = subject_value c.args.subject in
+    let s = value c.args.here.schema.now in
+    let x = subject_value c.args.here.subject in
     let k = (row_of c.args.second).meaning in
     let n = notes c.args.self.now.log in
     let mid = notes c.use_named.new.self.log in
-    let us = uses_since l.now c.args.left a c.args.first c.args.before n in
+    let us = uses_since l.now c.args.room.nesting a c.args.first c.args.here.before n in
     let here : IsAt l.now (frame c.use_named.new.self.context) s x a = subst (λ (f : Frame). IsAt l.now f s x a) (sym c.in-Ok.ensures.back) at in
     let there : IsAt c.use_named.new.self.linked.now (frame c.use_named.new.self.context) s x a = subst (λ (m : Bor Linked). IsAt m.now (frame c.use_named.new.self.context) s x a) (sym c.in-Ok.ensures.linked) here in
-    let known : Knows c.use_named.new.self.linked.now c.args.left a k c.args.beside = subst (λ (m : Bor Linked). Knows m.now c.args.left a k c.args.beside) (sym c.in-Ok.ensures.linked) knows_second in
-    two_found c.in-Ok.used.found c.in-Ok-use_named.last.found c.and.result c.args.budget us (uses_since l.now c.args.left a c.args.second c.args.before (added n (uses_notes a us)))
+    let known : Knows c.use_named.new.self.linked.now c.args.room.nesting a k c.args.beside = subst (λ (m : Bor Linked). Knows m.now c.args.room.nesting a k c.args.beside) (sym c.in-Ok.ensures.linked) knows_second in
+    two_found c.in-Ok.used.found c.in-Ok-use_named.last.found c.and.result c.args.room.applications us (uses_since l.now c.args.room.nesting a c.args.second c.args.here.before (added n (uses_notes a us)))
     (c.in-Ok.ensures.found a at knows).found
-    (subst (λ (m : Notes). FindsUses c.in-Ok-use_named.last.found (c.args.budget - c.in-Ok.used.found.count) (uses_since l.now c.args.left a c.args.second c.args.before m)) (c.in-Ok.ensures.noted a at knows)
-    (subst (λ (m : Bor Linked). FindsUses c.in-Ok-use_named.last.found (c.args.budget - c.in-Ok.used.found.count) (uses_since m.now c.args.left a c.args.second c.args.before mid)) c.in-Ok.ensures.linked
+    (subst (λ (m : Notes). FindsUses c.in-Ok-use_named.last.found (c.args.room.applications - c.in-Ok.used.found.count) (uses_since l.now c.args.room.nesting a c.args.second c.args.here.before m)) (c.in-Ok.ensures.noted a at knows)
+    (subst (λ (m : Bor Linked). FindsUses c.in-Ok-use_named.last.found (c.args.room.applications - c.in-Ok.used.found.count) (uses_since m.now c.args.room.nesting a c.args.second c.args.here.before mid)) c.in-Ok.ensures.linked
     (c.in-Ok-use_named.ensures.found a there known).found)) c.and.ensures
 
 pub use_two-returns-in-Err-use_named-clause-err : goal.use_two-returns-in-Err-use_named-clause-err
 use_two-returns-in-Err-use_named-clause-err t c a at knows knows_second other =
     let l = c.args.self.now.linked in
-    let s = value c.args.schema.now in
-    let x = subject_value c.args.subject in
+    let s = value c.args.here.schema.now in
+    let x = subject_value c.args.here.subject in
     let k = (row_of c.args.second).meaning in
     let n = notes c.args.self.now.log in
     let mid = notes c.use_named.new.self.log in
-    let us = uses_since l.now c.args.left a c.args.first c.args.before n in
+    let us = uses_since l.now c.args.room.nesting a c.args.first c.args.here.before n in
     let here : IsAt l.now (frame c.use_named.new.self.context) s x a = subst (λ (f : Frame). IsAt l.now f s x a) (sym c.in-Ok.ensures.back) at in
     let there : IsAt c.use_named.new.self.linked.now (frame c.use_named.new.self.context) s x a = subst (λ (m : Bor Linked). IsAt m.now (frame c.use_named.new.self.context) s x a) (sym c.in-Ok.ensures.linked) here in
-    let known : Knows c.use_named.new.self.linked.now c.args.left a k c.args.beside = subst (λ (m : Bor Linked). Knows m.now c.args.left a k c.args.beside) (sym c.in-Ok.ensures.linked) knows_second in
+    let known : Knows c.use_named.new.self.linked.now c.args.room.nesting a k c.args.beside = subst (λ (m : Bor Linked). Knows m.now c.args.room.nesting a k c.args.beside) (sym c.in-Ok.ensures.linked) knows_second in
     let fault = c.in-Err-use_named.ensures.err a there known other in (
       fault.0,
-      second_over c.in-Ok.used.found c.args.budget us (uses_since l.now c.args.left a c.args.second c.args.before (added n (uses_notes a us))) (c.in-Ok.ensures.found a at knows).found
-          (subst (λ (m : Notes). c.args.budget - c.in-Ok.used.found.count < use_count (uses_since l.now c.args.left a c.args.second c.args.before m)) (c.in-Ok.ensures.noted a at knows)
-          (subst (λ (m : Bor Linked). c.args.budget - c.in-Ok.used.found.count < use_count (uses_since m.now c.args.left a c.args.second c.args.before mid)) c.in-Ok.ensures.linked fault.1)),
+      second_over c.in-Ok.used.found c.args.room.applications us (uses_since l.now c.args.room.nesting a c.args.second c.args.here.before (added n (uses_notes a us))) (c.in-Ok.ensures.found a at knows).found
+          (subst (λ (m : Notes). c.args.room.applications - c.in-Ok.used.found.count < use_count (uses_since l.now c.args.room.nesting a c.args.second c.args.here.before m)) (c.in-Ok.ensures.noted a at knows)
+          (subst (λ (m : Bor Linked). c.args.room.applications - c.in-Ok.used.found.count < use_count (uses_since m.now c.args.room.nesting a c.args.second c.args.here.before mid)) c.in-Ok.ensures.linked fault.1)),
     )
 
 pub use_two-returns-in-Err-clause-err : goal.use_two-returns-in-Err-clause-err
 use_two-returns-in-Err-clause-err t c a at knows knows_second other =
     let l = c.args.self.now.linked in
     let n = notes c.args.self.now.log in
-    let us = uses_since l.now c.args.left a c.args.first c.args.before n in
+    let us = uses_since l.now c.args.room.nesting a c.args.first c.args.here.before n in
     let fault = c.in-Err.ensures.err a at knows other in (
       fault.0,
-      first_over c.args.budget us (uses_since l.now c.args.left a c.args.second c.args.before (added n (uses_notes a us))) fault.1,
+      first_over c.args.room.applications us (uses_since l.now c.args.room.nesting a c.args.second c.args.here.before (added n (uses_notes a us))) fault.1,
     )
 
 pub use_named-returns-in-None-clause-noted : goal.use_named-returns-in-None-clause-noted
 use_named-returns-in-None-clause-noted t c a at knows =
     let log = notes c.args.self.now.log in
-    let none : get (row_of c.args.keyword).name a.schema.value ≡ None = ap (λ (b : Application). get (row_of c.args.keyword).name b.schema.value) at.there ∙ ap (λ n. get n (value c.args.schema.now)) (sym c.name.ensures) ∙ sym c.in-None.ensures in
+    let none : get (row_of c.args.keyword).name a.schema.value ≡ None = ap (λ (b : Application). get (row_of c.args.keyword).name b.schema.value) at.there ∙ ap (λ n. get n (value c.args.here.schema.now)) (sym c.name.ensures) ∙ sym c.in-None.ensures in
     rw none (sym (added_nothing log))
 
 pub use_keyword-returns-in-Ok-clause-found : goal.use_keyword-returns-in-Ok-clause-found
 use_keyword-returns-in-Ok-clause-found t c a at knows got =
     let old = c.args.self.now in
     let l = old.linked.now in
-    let left = c.args.left in
+    let left = c.args.room.nesting in
     let keyword = c.args.keyword in
     let k = (row_of keyword).name in
-    let s = value c.args.schema.now in
-    let x = subject_value c.args.subject in
+    let s = value c.args.here.schema.now in
+    let x = subject_value c.args.here.subject in
     let v = value c.args.keyword_value.now in
-    let names = names_since c.args.before (notes old.log) in
-    let indexes = indexes_since c.args.before (notes old.log) in
+    let names = names_since c.args.here.before (notes old.log) in
+    let indexes = indexes_since c.args.here.before (notes old.log) in
     let ps = c.in_ok-planned.planned.items in
     let same = c.in_ok-planned.ensures.planned a left at knows got in
     let outcomes = planned_outcomes l left k a ps ∙ ap (map (λ (e : Part × Application). (e.0, said l left e.1))) same in
@@ -488,28 +488,28 @@ use_keyword-returns-in-Ok-clause-found t c a at knows got =
     let known : (p : Planned) → Contains-use_keyword ps p → IsKnown c.plan_keyword.new.self.linked.now k a p =
     λ p inside. subst (λ (b : Bor Linked). IsKnown b.now k a p) (sym c.in_ok-planned.ensures.linked) (planned_known l left keyword a ps names indexes v at.inside got same p inside) in
     let linked = c.in-Ok.ensures.linked ∙ c.in_ok-planned.ensures.linked in
-    let finds : FindsAll c.in-Ok.applied c.args.budget (use_there l left a keyword names indexes v).outcomes =
-    subst (FindsAll c.in-Ok.applied c.args.budget) outcomes
-    (subst (λ (b : Bor Linked). FindsAll c.in-Ok.applied c.args.budget (part_outcomes b.now left k a ps)) c.in_ok-planned.ensures.linked (c.in-Ok.ensures.found a here.under known)) in
+    let finds : FindsAll c.in-Ok.applied c.args.room.applications (use_there l left a keyword names indexes v).outcomes =
+    subst (FindsAll c.in-Ok.applied c.args.room.applications) outcomes
+    (subst (λ (b : Bor Linked). FindsAll c.in-Ok.applied c.args.room.applications (part_outcomes b.now left k a ps)) c.in_ok-planned.ensures.linked (c.in-Ok.ensures.found a here.under known)) in
     let finishing = subst (λ f. IsAtKeyword l left f s x keyword v c.args.beside a) (sym c.in-Ok.ensures.back) here in
     let finished = subst (λ (b : Bor Linked). IsAtKeyword b.now left (frame c.apply_all.new.self.context) s x keyword v c.args.beside a
-    → FindsAll c.in-Ok.applied c.args.budget (use_there b.now left a keyword names indexes v).outcomes
-    → IfOk c.finish_keyword.result (λ u. FindsUse u c.args.budget (use_there b.now left a keyword names indexes v ∷ []))) linked
-    (c.finish_keyword.ensures.found a left c.args.budget names indexes) in
+    → FindsAll c.in-Ok.applied c.args.room.applications (use_there b.now left a keyword names indexes v).outcomes
+    → IfOk c.finish_keyword.result (λ u. FindsUse u c.args.room.applications (use_there b.now left a keyword names indexes v ∷ []))) linked
+    (c.finish_keyword.ensures.found a left c.args.room.applications names indexes) in
     finished finishing finds
 
 pub use_keyword-returns-in-Ok-clause-noted : goal.use_keyword-returns-in-Ok-clause-noted
 use_keyword-returns-in-Ok-clause-noted t c a at knows got =
     let old = c.args.self.now in
     let l = old.linked.now in
-    let left = c.args.left in
+    let left = c.args.room.nesting in
     let keyword = c.args.keyword in
     let k = (row_of keyword).name in
-    let s = value c.args.schema.now in
-    let x = subject_value c.args.subject in
+    let s = value c.args.here.schema.now in
+    let x = subject_value c.args.here.subject in
     let v = value c.args.keyword_value.now in
-    let names = names_since c.args.before (notes old.log) in
-    let indexes = indexes_since c.args.before (notes old.log) in
+    let names = names_since c.args.here.before (notes old.log) in
+    let indexes = indexes_since c.args.here.before (notes old.log) in
     let ps = c.in_ok-planned.planned.items in
     let same = c.in_ok-planned.ensures.planned a left at knows got in
     let outcomes = planned_outcomes l left k a ps ∙ ap (map (λ (e : Part × Application). (e.0, said l left e.1))) same in
@@ -519,9 +519,9 @@ use_keyword-returns-in-Ok-clause-noted t c a at knows got =
     let known : (p : Planned) → Contains-use_keyword ps p → IsKnown c.plan_keyword.new.self.linked.now k a p =
     λ p inside. subst (λ (b : Bor Linked). IsKnown b.now k a p) (sym c.in_ok-planned.ensures.linked) (planned_known l left keyword a ps names indexes v at.inside got same p inside) in
     let linked = c.in-Ok.ensures.linked ∙ c.in_ok-planned.ensures.linked in
-    let finds : FindsAll c.in-Ok.applied c.args.budget (use_there l left a keyword names indexes v).outcomes =
-    subst (FindsAll c.in-Ok.applied c.args.budget) outcomes
-    (subst (λ (b : Bor Linked). FindsAll c.in-Ok.applied c.args.budget (part_outcomes b.now left k a ps)) c.in_ok-planned.ensures.linked (c.in-Ok.ensures.found a here.under known)) in
+    let finds : FindsAll c.in-Ok.applied c.args.room.applications (use_there l left a keyword names indexes v).outcomes =
+    subst (FindsAll c.in-Ok.applied c.args.room.applications) outcomes
+    (subst (λ (b : Bor Linked). FindsAll c.in-Ok.applied c.args.room.applications (part_outcomes b.now left k a ps)) c.in_ok-planned.ensures.linked (c.in-Ok.ensures.found a here.under known)) in
     let finishing = subst (λ f. IsAtKeyword l left f s x keyword v c.args.beside a) (sym c.in-Ok.ensures.back) here in
     let older = notes old.log in
     let meaning = (row_of keyword).meaning in
@@ -541,14 +541,14 @@ pub use_keyword-returns-clause-err : goal.use_keyword-returns-clause-err
 use_keyword-returns-clause-err t c a at knows got other =
     let old = c.args.self.now in
     let l = old.linked.now in
-    let left = c.args.left in
+    let left = c.args.room.nesting in
     let keyword = c.args.keyword in
     let k = (row_of keyword).name in
-    let s = value c.args.schema.now in
-    let x = subject_value c.args.subject in
+    let s = value c.args.here.schema.now in
+    let x = subject_value c.args.here.subject in
     let v = value c.args.keyword_value.now in
-    let names = names_since c.args.before (notes old.log) in
-    let indexes = indexes_since c.args.before (notes old.log) in
+    let names = names_since c.args.here.before (notes old.log) in
+    let indexes = indexes_since c.args.here.before (notes old.log) in
     let ps = c.in_ok-planned.planned.items in
     let same = c.in_ok-planned.ensures.planned a left at knows got in
     let outcomes = planned_outcomes l left k a ps ∙ ap (map (λ (e : Part × Application). (e.0, said l left e.1))) same in
@@ -559,17 +559,17 @@ use_keyword-returns-clause-err t c a at knows got other =
     λ p inside. subst (λ (b : Bor Linked). IsKnown b.now k a p) (sym c.in_ok-planned.ensures.linked) (planned_known l left keyword a ps names indexes v at.inside got same p inside) in
     let fault = c.in-Err.ensures.err a here.under known other in (
       fault.0,
-      use_over c.args.budget (use_there l left a keyword names indexes v)
-          (subst (λ os. c.args.budget < count_of os) outcomes
-          (subst (λ (b : Bor Linked). c.args.budget < count_of (part_outcomes b.now left k a ps)) c.in_ok-planned.ensures.linked fault.1)),
+      use_over c.args.room.applications (use_there l left a keyword names indexes v)
+          (subst (λ os. c.args.room.applications < count_of os) outcomes
+          (subst (λ (b : Bor Linked). c.args.room.applications < count_of (part_outcomes b.now left k a ps)) c.in_ok-planned.ensures.linked fault.1)),
     )
 
 pub apply_all-loop-one-init : goal.apply_all-loop-one-init
 apply_all-loop-one-init t c = record {
   linked = refl;
   back = refl;
-  within = none_within c.none-applied.result c.args.budget c.none-applied.ensures;
-  found = λ a under known. none_found c.none-applied.result c.args.budget c.none-applied.ensures;
+  within = none_within c.none-applied.result c.args.room.applications c.none-applied.ensures;
+  found = λ a under known. none_found c.none-applied.result c.args.room.applications c.none-applied.ensures;
   noted = λ a under known. sym (added_nothing (notes c.args.self.now.log));
 }
 
@@ -585,23 +585,23 @@ apply_all-loop-one-preserved t c =
     record {
       linked = c.in-Ok.ensures.linked ∙ same;
       back = c.in-Ok.ensures.back ∙ c.loop-one.invariant.back;
-      within = rw c.and-applied.ensures (within_more c.loop-one.applied c.in-Ok.found c.args.budget c.loop-one.invariant.within c.in-Ok.ensures.within);
+      within = rw c.and-applied.ensures (within_more c.loop-one.applied c.in-Ok.found c.args.room.applications c.loop-one.invariant.within c.in-Ok.ensures.within);
       found =
           λ a under known.
           let inside : Contains-apply_all c.args.planned.now.items p = subst (λ ps. Contains-apply_all ps p) c.deref-one-items.ensures.value (i, omega arith, sym c.one-item.is) in
           let here : IsKnown c.loop-one.self.linked.now k a p = subst (λ (l : Bor Linked). IsKnown l.now k a p) (sym same) (known p inside) in
           let there : IsUnder (frame c.loop-one.self.context) k a = ap standing c.loop-one.invariant.back ∙ under in
-          child_more c.loop-one.applied c.and-applied.result c.in-Ok.found c.args.budget (part_outcome old.linked.now c.args.left k a) items i p (omega arith) c.one-item.is
+          child_more c.loop-one.applied c.and-applied.result c.in-Ok.found c.args.room.applications (part_outcome old.linked.now c.args.room.nesting k a) items i p (omega arith) c.one-item.is
           (c.loop-one.invariant.found a under known)
-          (subst (λ (l : Bor Linked). Finds c.in-Ok.found (c.args.budget - c.loop-one.applied.count) (part_outcome l.now c.args.left k a p).1) same (c.in-Ok.ensures.found a there here)) c.and-applied.ensures;
+          (subst (λ (l : Bor Linked). Finds c.in-Ok.found (c.args.room.applications - c.loop-one.applied.count) (part_outcome l.now c.args.room.nesting k a p).1) same (c.in-Ok.ensures.found a there here)) c.and-applied.ensures;
       noted =
           λ a under known.
           let inside : Contains-apply_all c.args.planned.now.items p = subst (λ ps. Contains-apply_all ps p) c.deref-one-items.ensures.value (i, omega arith, sym c.one-item.is) in
           let here : IsKnown c.loop-one.self.linked.now k a p = subst (λ (l : Bor Linked). IsKnown l.now k a p) (sym same) (known p inside) in
           let there : IsUnder (frame c.loop-one.self.context) k a = ap standing c.loop-one.invariant.back ∙ under in
-          child_noted m (notes old.log) (notes c.loop-one.self.log) (notes c.apply_planned.new.self.log) (part_outcome old.linked.now c.args.left k a) items i p (omega arith) c.one-item.is
+          child_noted m (notes old.log) (notes c.loop-one.self.log) (notes c.apply_planned.new.self.log) (part_outcome old.linked.now c.args.room.nesting k a) items i p (omega arith) c.one-item.is
           (c.loop-one.invariant.noted a under known)
-          (subst (λ (l : Bor Linked). notes c.apply_planned.new.self.log ≡ added (notes c.loop-one.self.log) (part_notes m (part_outcome l.now c.args.left k a p))) same (c.in-Ok.ensures.noted a there here));
+          (subst (λ (l : Bor Linked). notes c.apply_planned.new.self.log ≡ added (notes c.loop-one.self.log) (part_notes m (part_outcome l.now c.args.room.nesting k a p))) same (c.in-Ok.ensures.noted a there here));
     }
 
 pub apply_all-returns-in-Err-clause-err : goal.apply_all-returns-in-Err-clause-err
@@ -618,21 +618,21 @@ apply_all-returns-in-Err-clause-err t c a under known other =
     let fault = c.in-Err.ensures.err a there here other in (
       fault.0,
       rw (← c.deref-one-items.ensures.value)
-          (child_over c.loop-one.applied c.args.budget (part_outcome old.linked.now c.args.left k a) items i p (omega arith) c.one-item.is (c.loop-one.invariant.found a under known)
-          (subst (λ (l : Bor Linked). c.args.budget - c.loop-one.applied.count < (part_outcome l.now c.args.left k a p).1.count) same fault.1)),
+          (child_over c.loop-one.applied c.args.room.applications (part_outcome old.linked.now c.args.room.nesting k a) items i p (omega arith) c.one-item.is (c.loop-one.invariant.found a under known)
+          (subst (λ (l : Bor Linked). c.args.room.applications - c.loop-one.applied.count < (part_outcome l.now c.args.room.nesting k a p).1.count) same fault.1)),
     )
 
 pub apply_all-returns-clause-found : goal.apply_all-returns-clause-found
 apply_all-returns-clause-found t c a under known =
     let whole = take_all c.loop-one.one-index c.deref-one-items.result.now c.loop-one-test.false ∙ c.deref-one-items.ensures.value in
-    subst (λ ps. FindsAll c.loop-one.applied c.args.budget (part_outcomes c.args.self.now.linked.now c.args.left (row_of c.args.keyword).name a ps)) whole
+    subst (λ ps. FindsAll c.loop-one.applied c.args.room.applications (part_outcomes c.args.self.now.linked.now c.args.room.nesting (row_of c.args.keyword).name a ps)) whole
     (c.loop-one.invariant.found a under known)
 
 pub apply_all-returns-clause-noted : goal.apply_all-returns-clause-noted
 apply_all-returns-clause-noted t c a under known =
     let whole = take_all c.loop-one.one-index c.deref-one-items.result.now c.loop-one-test.false ∙ c.deref-one-items.ensures.value in
     subst (λ ps. notes c.loop-one.self.log ≡ added (notes c.args.self.now.log) (parts_notes (row_of c.args.keyword).meaning
-    (part_outcomes c.args.self.now.linked.now c.args.left (row_of c.args.keyword).name a ps))) whole
+    (part_outcomes c.args.self.now.linked.now c.args.room.nesting (row_of c.args.keyword).name a ps))) whole
     (c.loop-one.invariant.noted a under known)
 
 pub apply_planned-returns-in-Err-clause-err : goal.apply_planned-returns-in-Err-clause-err
@@ -663,63 +663,63 @@ apply_planned-returns-in_ok-settle_part-in-Ok-clause-noted t c a under known =
     let child = (planned_view k a p).1 in
     let at : IsAt c.args.self.now.linked.now (frame c.enter_planned.new.self) (value c.chosen_schema.result.now) (subject_value p.subject) (planned_view k a p).1 =
     planned_at c.args.self.now.linked.now (frame c.enter_planned.new.self) k a p (value c.chosen_schema.result.now) (c.in_ok-back.ensures.there a k under known) c.chosen_schema.ensures known in
-    c.in_ok-settle_part-in-Ok.ensures (notes c.args.self.now.log) (said c.args.self.now.linked.now c.args.left child) c.mark-mark.ensures (c.in-Ok.ensures.noted child at)
+    c.in_ok-settle_part-in-Ok.ensures (notes c.args.self.now.log) (said c.args.self.now.linked.now c.args.room.nesting child) c.mark-mark.ensures (c.in-Ok.ensures.noted child at)
     (c.in-Ok.ensures.found child at).valid
 
-pub apply-returns-then-budget-eq0-clause-err : goal.apply-returns-then-budget-eq0-clause-err
-apply-returns-then-budget-eq0-clause-err t c a at other =
-    (refl, let p = count_pos (linked_rules c.args.self.now.linked.now) c.args.left a in omega (arith, p, c.if-budget-eq0.true))
+pub apply-returns-then-room-eq0-clause-err : goal.apply-returns-then-room-eq0-clause-err
+apply-returns-then-room-eq0-clause-err t c a at other =
+    (refl, let p = count_pos (linked_rules c.args.self.now.linked.now) c.args.room.nesting a in omega (arith, p, c.if-room-eq0.true))
 
 pub apply-returns-in-Some-clause-found : goal.apply-returns-in-Some-clause-found
 apply-returns-in-Some-clause-found t c a at =
     let is : Some c.in-Some.allowed ≡ as_boolean a.schema.value = c.in-Some.ensures ∙ ap (λ (b : Application). as_boolean b.schema.value) (sym at.there) in
     IfOk-weaker c.apply_boolean.result _ _
-    (λ f e. boolean_finds (linked_rules c.args.self.now.linked.now) f c.args.budget c.args.left a c.in-Some.allowed is (omega (arith, c.if-budget-eq0.false)) e)
+    (λ f e. boolean_finds (linked_rules c.args.self.now.linked.now) f c.args.room.applications c.args.room.nesting a c.in-Some.allowed is (omega (arith, c.if-room-eq0.false)) e)
     c.apply_boolean.ensures.found
 
 pub apply-returns-in-Some-clause-noted : goal.apply-returns-in-Some-clause-noted
 apply-returns-in-Some-clause-noted t c a at =
     let is : Some c.in-Some.allowed ≡ as_boolean a.schema.value = c.in-Some.ensures ∙ ap (λ (b : Application). as_boolean b.schema.value) (sym at.there) in
     subst (λ (n : Notes). OnOk c.apply_boolean.result (notes c.apply_boolean.new.self.log ≡ added (notes c.args.self.now.log) n))
-    (boolean_noted (linked_rules c.args.self.now.linked.now) c.args.left a c.in-Some.allowed is)
+    (boolean_noted (linked_rules c.args.self.now.linked.now) c.args.room.nesting a c.in-Some.allowed is)
     (c.apply_boolean.ensures.noted a (value c.args.schema.now) (subject_value c.args.subject) at.there)
 
 pub apply_other-returns-then-is_looping-clause-found : goal.apply_other-returns-then-is_looping-clause-found
 apply_other-returns-then-is_looping-clause-found t c a at =
     let running : is_running a ≡ true = ap is_running at.there ∙ sym (c.is_looping.ensures (subject_value c.args.subject)) ∙ c.if-is_looping.true in
-    rw (outcome-running (linked_rules c.args.self.now.linked.now) c.args.left a running)
-    (finds_same c.leaf.result c.args.budget (leaf true false) c.leaf.ensures c.requires.some)
+    rw (outcome-running (linked_rules c.args.self.now.linked.now) c.args.room.nesting a running)
+    (finds_same c.leaf.result c.args.room.applications (leaf true false) c.leaf.ensures c.requires.some)
 
 pub apply_other-returns-then-is_looping-clause-noted : goal.apply_other-returns-then-is_looping-clause-noted
 apply_other-returns-then-is_looping-clause-noted t c a at =
     let running : is_running a ≡ true = ap is_running at.there ∙ sym (c.is_looping.ensures (subject_value c.args.subject)) ∙ c.if-is_looping.true in
-    rw (outcome-running (linked_rules c.args.self.now.linked.now) c.args.left a running) (sym (added_nothing (notes c.args.self.now.log)))
+    rw (outcome-running (linked_rules c.args.self.now.linked.now) c.args.room.nesting a running) (sym (added_nothing (notes c.args.self.now.log)))
 
-pub apply_other-returns-then-left-eq0-clause-found : goal.apply_other-returns-then-left-eq0-clause-found
-apply_other-returns-then-left-eq0-clause-found t c a at =
+pub apply_other-returns-then-room-eq0-clause-found : goal.apply_other-returns-then-room-eq0-clause-found
+apply_other-returns-then-room-eq0-clause-found t c a at =
     let running : is_running a ≡ false = ap is_running at.there ∙ sym (c.is_looping.ensures (subject_value c.args.subject)) ∙ c.if-is_looping.false in
-    rw (outcome-zero (linked_rules c.args.self.now.linked.now) c.args.left a running c.if-left-eq0.true)
-    (finds_same c.leaf-then-left-eq0.result c.args.budget (leaf false true) c.leaf-then-left-eq0.ensures c.requires.some)
+    rw (outcome-zero (linked_rules c.args.self.now.linked.now) c.args.room.nesting a running c.if-room-eq0.true)
+    (finds_same c.leaf-then-room-eq0.result c.args.room.applications (leaf false true) c.leaf-then-room-eq0.ensures c.requires.some)
 
-pub apply_other-returns-then-left-eq0-clause-noted : goal.apply_other-returns-then-left-eq0-clause-noted
-apply_other-returns-then-left-eq0-clause-noted t c a at =
+pub apply_other-returns-then-room-eq0-clause-noted : goal.apply_other-returns-then-room-eq0-clause-noted
+apply_other-returns-then-room-eq0-clause-noted t c a at =
     let running : is_running a ≡ false = ap is_running at.there ∙ sym (c.is_looping.ensures (subject_value c.args.subject)) ∙ c.if-is_looping.false in
-    rw (outcome-zero (linked_rules c.args.self.now.linked.now) c.args.left a running c.if-left-eq0.true) (sym (added_nothing (notes c.args.self.now.log)))
+    rw (outcome-zero (linked_rules c.args.self.now.linked.now) c.args.room.nesting a running c.if-room-eq0.true) (sym (added_nothing (notes c.args.self.now.log)))
 
 pub apply_other-returns-clause-found : goal.apply_other-returns-clause-found
 apply_other-returns-clause-found t c a at =
     let running : is_running a ≡ false = ap is_running at.there ∙ sym (c.is_looping.ensures (subject_value c.args.subject)) ∙ c.if-is_looping.false in
     let other : None ≡ as_boolean a.schema.value = sym c.requires.other ∙ ap (λ (b : Application). as_boolean b.schema.value) (sym at.there) in
-    rw (outcome-object (linked_rules c.args.self.now.linked.now) c.args.left a running other (omega (arith, c.if-left-eq0.false))) (c.apply_object.ensures.found a at)
+    rw (outcome-object (linked_rules c.args.self.now.linked.now) c.args.room.nesting a running other (omega (arith, c.if-room-eq0.false))) (c.apply_object.ensures.found a at)
 
 pub apply_other-returns-clause-noted : goal.apply_other-returns-clause-noted
 apply_other-returns-clause-noted t c a at =
     let running : is_running a ≡ false = ap is_running at.there ∙ sym (c.is_looping.ensures (subject_value c.args.subject)) ∙ c.if-is_looping.false in
     let other : None ≡ as_boolean a.schema.value = sym c.requires.other ∙ ap (λ (b : Application). as_boolean b.schema.value) (sym at.there) in
-    rw (outcome-object (linked_rules c.args.self.now.linked.now) c.args.left a running other (omega (arith, c.if-left-eq0.false))) (c.apply_object.ensures.noted a at)
+    rw (outcome-object (linked_rules c.args.self.now.linked.now) c.args.room.nesting a running other (omega (arith, c.if-room-eq0.false))) (c.apply_object.ensures.noted a at)
 
 pub apply_other-returns-clause-err : goal.apply_other-returns-clause-err
 apply_other-returns-clause-err t c a at =
     let running : is_running a ≡ false = ap is_running at.there ∙ sym (c.is_looping.ensures (subject_value c.args.subject)) ∙ c.if-is_looping.false in
     let other : None ≡ as_boolean a.schema.value = sym c.requires.other ∙ ap (λ (b : Application). as_boolean b.schema.value) (sym at.there) in
-    rw (outcome-object (linked_rules c.args.self.now.linked.now) c.args.left a running other (omega (arith, c.if-left-eq0.false))) (c.apply_object.ensures.err a at)
+    rw (outcome-object (linked_rules c.args.self.now.linked.now) c.args.room.nesting a running other (omega (arith, c.if-room-eq0.false))) (c.apply_object.ensures.err a at)

@@ -12,46 +12,46 @@ use Rattle.keyword_plans.specs.declared.planned.Planned.{Planned}
 use Rattle.evaluator.proofs.applying.Evaluation.+apply.Given as goal
 
 abbrev pub decreases-apply_object : goal.decreases-apply_object
-decreases-apply_object l = 14 * l.left + 13
+decreases-apply_object l = 14 * l.room.nesting + 13
 
 abbrev pub decreases-use_keywords : goal.decreases-use_keywords
-decreases-use_keywords l = 14 * l.left + 12
+decreases-use_keywords l = 14 * l.room.nesting + 12
 
 abbrev pub decreases-use_groups : goal.decreases-use_groups
-decreases-use_groups l = 14 * l.left + 11
+decreases-use_groups l = 14 * l.room.nesting + 11
 
 abbrev pub decreases-use_group : goal.decreases-use_group
-decreases-use_group l = 14 * l.left + 10
+decreases-use_group l = 14 * l.room.nesting + 10
 
 abbrev pub decreases-use_conditional : goal.decreases-use_conditional
-decreases-use_conditional l = 14 * l.left + 9
+decreases-use_conditional l = 14 * l.room.nesting + 9
 
 abbrev pub decreases-use_counted : goal.decreases-use_counted
-decreases-use_counted l = 14 * l.left + 8
+decreases-use_counted l = 14 * l.room.nesting + 8
 
 abbrev pub decreases-use_one : goal.decreases-use_one
-decreases-use_one l = 14 * l.left + 7
+decreases-use_one l = 14 * l.room.nesting + 7
 
 abbrev pub decreases-use_two : goal.decreases-use_two
-decreases-use_two l = 14 * l.left + 6
+decreases-use_two l = 14 * l.room.nesting + 6
 
 abbrev pub decreases-use_named : goal.decreases-use_named
-decreases-use_named l = 14 * l.left + 5
+decreases-use_named l = 14 * l.room.nesting + 5
 
 abbrev pub decreases-use_keyword : goal.decreases-use_keyword
-decreases-use_keyword l = 14 * l.left + 4
+decreases-use_keyword l = 14 * l.room.nesting + 4
 
 abbrev pub decreases-apply_all : goal.decreases-apply_all
-decreases-apply_all l = 14 * l.left + 3
+decreases-apply_all l = 14 * l.room.nesting + 3
 
 abbrev pub decreases-apply_planned : goal.decreases-apply_planned
-decreases-apply_planned l = 14 * l.left + 2
+decreases-apply_planned l = 14 * l.room.nesting + 2
 
 abbrev pub decreases-apply : goal.decreases-apply
-decreases-apply l = 14 * l.left + 1
+decreases-apply l = 14 * l.room.nesting + 1
 
 abbrev pub decreases-apply_other : goal.decreases-apply_other
-decreases-apply_other l = 14 * l.left
+decreases-apply_other l = 14 * l.room.nesting
 
 -- what the groups so far found and noted
 abbrev pub invariant-use_groups-loop-place : goal.invariant-use_groups-loop-place
@@ -59,11 +59,11 @@ invariant-use_groups-loop-place l =
     record {
       linked : l.self.linked ≡ l.fn.self.linked;
       back : frame l.self.context ≡ frame l.fn.self.context;
-      within : IsWithin l.found l.budget;
-      found : (a : Application) → IsAt l.fn.self.linked.now (frame l.fn.self.context) (value l.schema) (subject_value l.subject) a
-          → FindsObject l.found l.budget (groups_uses l.fn.self.linked.now l.left a (take l.place l.group-items));
-      noted : (a : Application) → IsAt l.fn.self.linked.now (frame l.fn.self.context) (value l.schema) (subject_value l.subject) a
-          → notes l.self.log ≡ added (notes l.fn.self.log) (uses_notes a (groups_uses l.fn.self.linked.now l.left a (take l.place l.group-items)));
+      within : IsWithin l.found l.room.applications;
+      found : (a : Application) → IsAt l.fn.self.linked.now (frame l.fn.self.context) (value l.here.schema.now) (subject_value l.here.subject) a
+          → FindsObject l.found l.room.applications (groups_uses l.fn.self.linked.now l.room.nesting a (take l.place l.group-items));
+      noted : (a : Application) → IsAt l.fn.self.linked.now (frame l.fn.self.context) (value l.here.schema.now) (subject_value l.here.subject) a
+          → notes l.self.log ≡ added (notes l.fn.self.log) (uses_notes a (groups_uses l.fn.self.linked.now l.room.nesting a (take l.place l.group-items)));
     }
 
 -- what the schemas applied so far found and noted
@@ -72,12 +72,12 @@ invariant-apply_all-loop-one l =
     record {
       linked : l.self.linked ≡ l.fn.self.linked;
       back : frame l.self.context ≡ frame l.fn.self.context;
-      within : AreWithin l.applied l.budget;
+      within : AreWithin l.applied l.room.applications;
       found : (a : Application) → IsUnder (frame l.fn.self.context) (row_of l.keyword).name a
           → ((p : Planned) → Contains l.planned.items p → IsKnown l.fn.self.linked.now (row_of l.keyword).name a p)
-          → FindsAll l.applied l.budget (part_outcomes l.fn.self.linked.now l.left (row_of l.keyword).name a (take l.one-index l.one-items));
+          → FindsAll l.applied l.room.applications (part_outcomes l.fn.self.linked.now l.room.nesting (row_of l.keyword).name a (take l.one-index l.one-items));
       noted : (a : Application) → IsUnder (frame l.fn.self.context) (row_of l.keyword).name a
           → ((p : Planned) → Contains l.planned.items p → IsKnown l.fn.self.linked.now (row_of l.keyword).name a p)
           → notes l.self.log
-          ≡ added (notes l.fn.self.log) (parts_notes (row_of l.keyword).meaning (part_outcomes l.fn.self.linked.now l.left (row_of l.keyword).name a (take l.one-index l.one-items)));
+          ≡ added (notes l.fn.self.log) (parts_notes (row_of l.keyword).meaning (part_outcomes l.fn.self.linked.now l.room.nesting (row_of l.keyword).name a (take l.one-index l.one-items)));
     }

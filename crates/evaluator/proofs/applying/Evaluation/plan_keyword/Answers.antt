@@ -7,8 +7,8 @@ use Rattle.evaluator.proofs.applying.Evaluation.plan_keyword.Goals as goal
 pub returns-clause-planned : goal.returns-clause-planned
 unfolding notes
 returns-clause-planned c a left at knows got =
-    let names = c.evaluated_since-evaluated.ensures.names ∙ ap (λ ns. drop c.args.before.names (map (λ n. n.now) ns)) c.deref.ensures.value in
-    let indexes = c.evaluated_since-evaluated.ensures.indexes ∙ ap (λ is. drop c.args.before.indexes is) c.deref-2.ensures.value in
+    let names = c.evaluated_since-evaluated.ensures.names ∙ ap (λ ns. drop c.args.here.before.names (map (λ n. n.now) ns)) c.deref.ensures.value in
+    let indexes = c.evaluated_since-evaluated.ensures.indexes ∙ ap (λ is. drop c.args.here.before.indexes is) c.deref-2.ensures.value in
     rw (← names, ← indexes)
     (c.plan.ensures.ok a (said c.args.self.now.linked.now left)
     (record {

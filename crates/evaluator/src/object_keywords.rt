@@ -1,0 +1,338 @@
+//! The keywords of a schema object, in the order of their evaluation (JSON Schema 2020-12 Core, 10 and 11).
+
+ghost use Rattle.std.specs.Prelude.{◌≡◌};
+ghost use Rattle.json_doc.specs.Docs.{value};
+
+use crate::applying::Evaluation;
+use crate::beside::Beside;
+use crate::found::{Applied, Found, Used};
+use crate::groups::{Group, groups};
+use crate::here::Here;
+use crate::present::Present;
+use crate::room::Room;
+use faults::Fault;
+use keywords::Keyword;
+
+impl<'a> Evaluation<'a> {
+    ghost use Rattle.std.specs.Prelude.{◌<◌, ◌≤◌, suc, true, IfOk, IfErr, OnOk};
+    ghost use Rattle.definitions.specs.Values.{members};
+    ghost use Rattle.definitions.specs.Applied.{Application};
+    ghost use Rattle.keywords.specs.Rows.{row_of};
+    ghost use Rattle.evaluation_context.specs.Frames.{frame};
+    ghost use Rattle.evaluator.specs.Applying.{Adds, IsCostly, IsHere};
+    ghost use Rattle.evaluator.specs.Findings.{FindsObject, FindsUse, FindsUses, IsWithin, use_count};
+    ghost use Rattle.evaluator.specs.Groups.{are_marked, in_order, stands_alone};
+    ghost use Rattle.evaluator.specs.declared.groups.Group.TheVariants.{One, Conditional, Counted};
+    ghost use Rattle.evaluator.specs.Logs.{notes};
+    ghost use Rattle.evaluator.specs.Notes.{uses_notes};
+    ghost use Rattle.evaluator.specs.Rounds.{Knows, evaluated_in, group_uses, groups_uses, object_uses, two_uses, uses_since};
+
+    /// All keywords of a schema object, and last those that look at what the others evaluated; the object counts itself.
+    #[cycle(apply)]
+    pub(crate) fn use_keywords(&mut self, here: Here<'a>, room: Room) -> Result<Found, Fault>
+        requires some { 0 < room.applications }
+        requires before { here.before ≡ evaluated_in (notes self.old.log) }
+        ensures linked { self.new.linked ≡ self.old.linked }
+        ensures back { OnOk result (frame self.new.context ≡ frame self.old.context) }
+        ensures within { IfOk result (λ f. IsWithin f room.applications) }
+        ensures found { (a : Application) → IsHere self.old here.entry a
+            → IfOk result (λ f. FindsObject f room.applications
+            (object_uses self.old.linked.now room.nesting a)) }
+        ensures noted { (a : Application) → IsHere self.old here.entry a
+            → OnOk result (Adds self.old self.new
+            (uses_notes a (object_uses self.old.linked.now room.nesting a))) }
+        ensures err { (a : Application) → IsHere self.old here.entry a
+            → IfErr result (λ f. IsCostly f room.applications (suc
+            (use_count (object_uses self.old.linked.now room.nesting a)))) }
+    {
+        let present = Present::of(here.schema);
+        match self.use_groups(here, &present, room) {
+            Ok(found) => {
+                if !present.looks_at_evaluated() {
+                    return Ok(found);
+                }
+                let beside = Beside {
+                    condition: None,
+                    containing: None,
+                };
+                match self.use_two(
+                    Keyword::UnevaluatedItems,
+                    Keyword::UnevaluatedProperties,
+                    here,
+                    beside,
+                    Room {
+                        nesting: room.nesting,
+                        applications: room.applications - found.count,
+                    },
+                ) {
+                    Ok(last) => Ok(found.and(last)),
+                    Err(fault) => Err(fault),
+                }
+            }
+            Err(fault) => Err(fault),
+        }
+    }
+
+    /// The groups of keywords that the schema has, in order; the object counts itself.
+    #[cycle(apply)]
+    fn use_groups(&mut self, here: Here<'a>, present: &Present, room: Room) -> Result<Found, Fault>
+        requires some { 0 < room.applications }
+        requires present { are_marked present.now.marks (members (value here.schema.now))
+            ≡ true }
+        ensures linked { self.new.linked ≡ self.old.linked }
+        ensures back { OnOk result (frame self.new.context ≡ frame self.old.context) }
+        ensures within { IfOk result (λ f. IsWithin f room.applications) }
+        ensures found { (a : Application) → IsHere self.old here.entry a
+            → IfOk result (λ f. FindsObject f room.applications
+            (groups_uses self.old.linked.now room.nesting a in_order)) }
+        ensures noted { (a : Application) → IsHere self.old here.entry a
+            → OnOk result (Adds self.old self.new
+            (uses_notes a (groups_uses self.old.linked.now room.nesting a in_order))) }
+        ensures err { (a : Application) → IsHere self.old here.entry a
+            → IfErr result (λ f. IsCostly f room.applications (suc
+            (use_count (groups_uses self.old.linked.now room.nesting a in_order)))) }
+    {
+        let mut found = Found::boolean(true);
+        for (place, group) in groups().iter().enumerate() {
+            if !present.has(place) {
+                continue;
+            }
+            match self.use_group(
+                *group,
+                here,
+                Room {
+                    nesting: room.nesting,
+                    applications: room.applications - found.count,
+                },
+            ) {
+                Ok(used) => found = found.and(used),
+                Err(fault) => return Err(fault),
+            }
+        }
+        Ok(found)
+    }
+
+    #[cycle(apply)]
+    fn use_group(&mut self, group: Group, here: Here<'a>, room: Room) -> Result<Found, Fault>
+        requires alone { stands_alone group ≡ true }
+        ensures linked { self.new.linked ≡ self.old.linked }
+        ensures back { OnOk result (frame self.new.context ≡ frame self.old.context) }
+        ensures within { IfOk result (λ f. f.count ≤ room.applications) }
+        ensures found { (a : Application) → IsHere self.old here.entry a
+            → IfOk result (λ f. FindsUses f room.applications
+            (group_uses self.old.linked.now room.nesting a group)) }
+        ensures noted { (a : Application) → IsHere self.old here.entry a
+            → OnOk result (Adds self.old self.new
+            (uses_notes a (group_uses self.old.linked.now room.nesting a group))) }
+        ensures err { (a : Application) → IsHere self.old here.entry a
+            → IfErr result (λ f. IsCostly f room.applications
+            (use_count (group_uses self.old.linked.now room.nesting a group))) }
+    {
+        match group {
+            Group::One(keyword) => self.use_one(keyword, here, room),
+            Group::Conditional => self.use_conditional(here, room),
+            Group::Counted => self.use_counted(here, room),
+        }
+    }
+
+    /// A keyword that asks for nothing that keywords beside say.
+    #[cycle(apply)]
+    fn use_one(&mut self, keyword: Keyword, here: Here<'a>, room: Room) -> Result<Found, Fault>
+        requires alone { stands_alone (One keyword) ≡ true }
+        ensures linked { self.new.linked ≡ self.old.linked }
+        ensures back { OnOk result (frame self.new.context ≡ frame self.old.context) }
+        ensures within { IfOk result (λ f. f.count ≤ room.applications) }
+        ensures found { (a : Application) → IsHere self.old here.entry a
+            → IfOk result (λ f. FindsUses f room.applications
+            (group_uses self.old.linked.now room.nesting a (One keyword))) }
+        ensures noted { (a : Application) → IsHere self.old here.entry a
+            → OnOk result (Adds self.old self.new
+            (uses_notes a (group_uses self.old.linked.now room.nesting a (One keyword)))) }
+        ensures err { (a : Application) → IsHere self.old here.entry a
+            → IfErr result (λ f. IsCostly f room.applications
+            (use_count (group_uses self.old.linked.now room.nesting a (One keyword)))) }
+    {
+        let beside = Beside {
+            condition: None,
+            containing: None,
+        };
+        match self.use_named(keyword, here, beside, room) {
+            Ok(used) => Ok(used.found),
+            Err(fault) => Err(fault),
+        }
+    }
+
+    /// `if`, and then `then` and `else` (Core, 10.2.2).
+    #[cycle(apply)]
+    fn use_conditional(&mut self, here: Here<'a>, room: Room) -> Result<Found, Fault>
+        ensures linked { self.new.linked ≡ self.old.linked }
+        ensures back { OnOk result (frame self.new.context ≡ frame self.old.context) }
+        ensures within { IfOk result (λ f. f.count ≤ room.applications) }
+        ensures found { (a : Application) → IsHere self.old here.entry a
+            → IfOk result (λ f. FindsUses f room.applications
+            (group_uses self.old.linked.now room.nesting a Conditional)) }
+        ensures noted { (a : Application) → IsHere self.old here.entry a
+            → OnOk result (Adds self.old self.new
+            (uses_notes a (group_uses self.old.linked.now room.nesting a Conditional))) }
+        ensures err { (a : Application) → IsHere self.old here.entry a
+            → IfErr result (λ f. IsCostly f room.applications
+            (use_count (group_uses self.old.linked.now room.nesting a Conditional))) }
+    {
+        let nothing = Beside {
+            condition: None,
+            containing: None,
+        };
+        match self.use_named(Keyword::If, here, nothing, room) {
+            Ok(used) => {
+                let beside = Beside {
+                    condition: used.some_passed(),
+                    containing: None,
+                };
+                match self.use_two(
+                    Keyword::Then,
+                    Keyword::Else,
+                    here,
+                    beside,
+                    Room {
+                        nesting: room.nesting,
+                        applications: room.applications - used.found.count,
+                    },
+                ) {
+                    Ok(found) => Ok(used.found.and(found)),
+                    Err(fault) => Err(fault),
+                }
+            }
+            Err(fault) => Err(fault),
+        }
+    }
+
+    /// `contains`, and then `minContains` and `maxContains` (Core, 10.3.1.3; Validation, 6.4.4 and 6.4.5).
+    #[cycle(apply)]
+    fn use_counted(&mut self, here: Here<'a>, room: Room) -> Result<Found, Fault>
+        ensures linked { self.new.linked ≡ self.old.linked }
+        ensures back { OnOk result (frame self.new.context ≡ frame self.old.context) }
+        ensures within { IfOk result (λ f. f.count ≤ room.applications) }
+        ensures found { (a : Application) → IsHere self.old here.entry a
+            → IfOk result (λ f. FindsUses f room.applications
+            (group_uses self.old.linked.now room.nesting a Counted)) }
+        ensures noted { (a : Application) → IsHere self.old here.entry a
+            → OnOk result (Adds self.old self.new
+            (uses_notes a (group_uses self.old.linked.now room.nesting a Counted))) }
+        ensures err { (a : Application) → IsHere self.old here.entry a
+            → IfErr result (λ f. IsCostly f room.applications
+            (use_count (group_uses self.old.linked.now room.nesting a Counted))) }
+    {
+        let nothing = Beside {
+            condition: None,
+            containing: None,
+        };
+        match self.use_named(Keyword::Contains, here, nothing, room) {
+            Ok(used) => {
+                let beside = Beside {
+                    condition: None,
+                    containing: used.passing,
+                };
+                match self.use_two(
+                    Keyword::MinContains,
+                    Keyword::MaxContains,
+                    here,
+                    beside,
+                    Room {
+                        nesting: room.nesting,
+                        applications: room.applications - used.found.count,
+                    },
+                ) {
+                    Ok(found) => Ok(used.found.and(found)),
+                    Err(fault) => Err(fault),
+                }
+            }
+            Err(fault) => Err(fault),
+        }
+    }
+
+    /// Two keywords, one after the other.
+    #[cycle(apply)]
+    fn use_two(
+        &mut self,
+        first: Keyword,
+        second: Keyword,
+        here: Here<'a>,
+        beside: Beside,
+        room: Room,
+    ) -> Result<Found, Fault>
+        ensures linked { self.new.linked ≡ self.old.linked }
+        ensures back { OnOk result (frame self.new.context ≡ frame self.old.context) }
+        ensures within { IfOk result (λ f. f.count ≤ room.applications) }
+        ensures found { (a : Application) → IsHere self.old here.entry a
+            → Knows self.old.linked.now room.nesting a (row_of first).meaning beside
+            → Knows self.old.linked.now room.nesting a (row_of second).meaning beside
+            → IfOk result (λ f. FindsUses f room.applications
+            (two_uses self.old.linked.now room.nesting a first second here.entry.before
+            (notes self.old.log))) }
+        ensures noted { (a : Application) → IsHere self.old here.entry a
+            → Knows self.old.linked.now room.nesting a (row_of first).meaning beside
+            → Knows self.old.linked.now room.nesting a (row_of second).meaning beside
+            → OnOk result (Adds self.old self.new (uses_notes a
+            (two_uses self.old.linked.now room.nesting a first second here.entry.before
+            (notes self.old.log)))) }
+        ensures err { (a : Application) → IsHere self.old here.entry a
+            → Knows self.old.linked.now room.nesting a (row_of first).meaning beside
+            → Knows self.old.linked.now room.nesting a (row_of second).meaning beside
+            → IfErr result (λ f. IsCostly f room.applications (use_count
+            (two_uses self.old.linked.now room.nesting a first second here.entry.before
+            (notes self.old.log)))) }
+    {
+        match self.use_named(first, here, beside, room) {
+            Ok(used) => match self.use_named(
+                second,
+                here,
+                beside,
+                Room {
+                    nesting: room.nesting,
+                    applications: room.applications - used.found.count,
+                },
+            ) {
+                Ok(last) => Ok(used.found.and(last.found)),
+                Err(fault) => Err(fault),
+            },
+            Err(fault) => Err(fault),
+        }
+    }
+
+    /// A keyword of the schema, where it is there.
+    #[cycle(apply)]
+    fn use_named(
+        &mut self,
+        keyword: Keyword,
+        here: Here<'a>,
+        beside: Beside,
+        room: Room,
+    ) -> Result<Used, Fault>
+        ensures linked { self.new.linked ≡ self.old.linked }
+        ensures back { OnOk result (frame self.new.context ≡ frame self.old.context) }
+        ensures within { IfOk result (λ u. u.found.count ≤ room.applications) }
+        ensures found { (a : Application) → IsHere self.old here.entry a
+            → Knows self.old.linked.now room.nesting a (row_of keyword).meaning beside
+            → IfOk result (λ u. FindsUse u room.applications
+            (uses_since self.old.linked.now room.nesting a keyword here.entry.before
+            (notes self.old.log))) }
+        ensures noted { (a : Application) → IsHere self.old here.entry a
+            → Knows self.old.linked.now room.nesting a (row_of keyword).meaning beside
+            → OnOk result (Adds self.old self.new (uses_notes a
+            (uses_since self.old.linked.now room.nesting a keyword here.entry.before
+            (notes self.old.log)))) }
+        ensures err { (a : Application) → IsHere self.old here.entry a
+            → Knows self.old.linked.now room.nesting a (row_of keyword).meaning beside
+            → IfErr result (λ f. IsCostly f room.applications (use_count
+            (uses_since self.old.linked.now room.nesting a keyword here.entry.before
+            (notes self.old.log)))) }
+    {
+        match here.schema.get(keyword.name()) {
+            Some(keyword_value) => self.use_keyword(keyword, keyword_value, here, beside, room),
+            None => Ok(Used {
+                found: Applied::none().under(true),
+                passing: None,
+            }),
+        }
+    }
+}

@@ -1,0 +1,319 @@
+//! One keyword: what it applies, and whether it passes (JSON Schema 2020-12 Core, 7.7 and 10).
+
+ghost use Rattle.std.specs.Prelude.{◌≡◌};
+ghost use Rattle.json_doc.specs.Docs.{value};
+ghost use Rattle.evaluator.specs.Rounds.{chosen_value};
+
+use crate::applying::Evaluation;
+use crate::beside::Beside;
+use crate::found::{Applied, Found, Used};
+use crate::here::Here;
+use crate::log::LogMark;
+use crate::room::Room;
+use crate::settling::{evaluated_since, settle};
+use faults::Fault;
+use json_doc::Doc;
+use keyword_plans::{Chosen, Planned, Site, Tally, passes, plan};
+use keywords::Keyword;
+
+impl<'a> Evaluation<'a> {
+    ghost use Rattle.std.specs.Prelude.{◌≤◌, ◌∷◌, [], ℕ, List, Some, IfOk, IfErr, OnOk, length, map};
+    ghost use Rattle.definitions.specs.Values.{Text, get};
+    ghost use Rattle.definitions.specs.Applied.{Application};
+    ghost use Rattle.definitions.specs.Applied as definition;
+    ghost use Rattle.definitions.specs.Evaluated.{passing};
+    ghost use Rattle.keyword_plans.specs.Plans.{planned_view};
+    ghost use Rattle.keywords.specs.Rows.{row_of};
+    ghost use Rattle.keyword_plans.specs.Sites.{linked_rules};
+    ghost use Rattle.keyword_plans.specs.Subjects.{subject_value};
+    ghost use Rattle.evaluation_context.specs.Frames.{Frame, frame, keyword_entered};
+    ghost use Rattle.evaluator.specs.Applying.{Adds, AreKnown, IsCostly, IsHere};
+    ghost use Rattle.evaluator.specs.Findings.{AreWithin, Finds, FindsAll, FindsUse, IsWithin, count_of, use_count};
+    ghost use Rattle.evaluator.specs.Logs.{marked, notes};
+    ghost use Rattle.evaluator.specs.Notes.{Notes, added, lengths, part_notes, parts_notes, uses_notes};
+    ghost use Rattle.evaluator.specs.Rounds.{IsAtKeyword, IsKnown, IsUnder, Knows, indexes_since, names_since, part_outcome, part_outcomes, said, use_there, uses_with};
+
+    /// A keyword with this value: what it applies, and whether it passes.
+    #[cycle(apply)]
+    pub(crate) fn use_keyword(
+        &mut self,
+        keyword: Keyword,
+        keyword_value: &'a Doc,
+        here: Here<'a>,
+        beside: Beside,
+        room: Room,
+    ) -> Result<Used, Fault>
+        ensures linked { self.new.linked ≡ self.old.linked }
+        ensures back { OnOk result (frame self.new.context ≡ frame self.old.context) }
+        ensures within { IfOk result (λ u. u.found.count ≤ room.applications) }
+        ensures found { (a : Application) → IsHere self.old here.entry a
+            → Knows self.old.linked.now room.nesting a (row_of keyword).meaning beside
+            → get (row_of keyword).name a.schema.value ≡ Some (value keyword_value.now)
+            → IfOk result (λ u. FindsUse u room.applications
+            (uses_with self.old.linked.now room.nesting a keyword (names_since here.entry.before
+            (notes self.old.log)) (indexes_since here.entry.before (notes self.old.log)) (Some
+            (value keyword_value.now)))) }
+        ensures noted { (a : Application) → IsHere self.old here.entry a
+            → Knows self.old.linked.now room.nesting a (row_of keyword).meaning beside
+            → get (row_of keyword).name a.schema.value ≡ Some (value keyword_value.now)
+            → OnOk result (Adds self.old self.new (uses_notes a
+            (uses_with self.old.linked.now room.nesting a keyword
+            (names_since here.entry.before (notes self.old.log))
+            (indexes_since here.entry.before (notes self.old.log))
+            (Some (value keyword_value.now))))) }
+        ensures err { (a : Application) → IsHere self.old here.entry a
+            → Knows self.old.linked.now room.nesting a (row_of keyword).meaning beside
+            → get (row_of keyword).name a.schema.value ≡ Some (value keyword_value.now)
+            → IfErr result (λ f. IsCostly f room.applications (use_count
+            (uses_with self.old.linked.now room.nesting a keyword
+            (names_since here.entry.before (notes self.old.log))
+            (indexes_since here.entry.before (notes self.old.log))
+            (Some (value keyword_value.now))))) }
+    {
+        let mark = self.log.mark();
+        let planned = self.plan_keyword(keyword, keyword_value, here, beside)?;
+        self.context.enter_keyword(keyword.name())?;
+        match self.apply_all(keyword, &planned, room) {
+            Ok(applied) => self.finish_keyword(
+                keyword,
+                keyword_value,
+                here,
+                beside,
+                &mark,
+                applied,
+            ),
+            Err(fault) => Err(fault),
+        }
+    }
+
+    /// What the keyword applies. The only error is want of memory.
+    fn plan_keyword(
+        &mut self,
+        keyword: Keyword,
+        keyword_value: &'a Doc,
+        here: Here<'a>,
+        beside: Beside,
+    ) -> Result<Vec<Planned<'a>>, Fault>
+        ensures linked { self.new.linked ≡ self.old.linked }
+        ensures back { self.new.context ≡ self.old.context }
+        ensures noted { self.new.log ≡ self.old.log }
+        ensures planned { (a : Application) (left : ℕ) → IsHere self.old here.entry a
+            → Knows self.old.linked.now left a (row_of keyword).meaning beside
+            → get (row_of keyword).name a.schema.value ≡ Some (value keyword_value.now)
+            → IfOk result (λ ps. map (planned_view (row_of keyword).name a) ps.items
+            ≡ definition.applied (linked_rules self.old.linked.now) (said self.old.linked.now left)
+            (names_since here.entry.before (notes self.old.log))
+            (indexes_since here.entry.before (notes self.old.log))
+            a (row_of keyword).name (row_of keyword).meaning (value keyword_value.now)) }
+        ensures err { IfErr result (λ f. f ≡ Fault.NoRoom) }
+    {
+        let log = &self.log;
+        let evaluated = evaluated_since(&log.names, &log.indexes, here.before);
+        let site = Site {
+            linked: self.linked,
+            resource: self.context.resource(),
+            schema: here.schema,
+            subject: here.subject,
+            scope: self.context.scope(),
+        };
+        plan(
+            self.alloc,
+            site,
+            keyword,
+            keyword_value,
+            beside.condition,
+            evaluated,
+        )
+    }
+
+    /// What the keyword itself says, once what it applies was applied, after the mark; and back from the keyword. The only
+    /// error is want of memory.
+    fn finish_keyword(
+        &mut self,
+        keyword: Keyword,
+        keyword_value: &'a Doc,
+        here: Here<'a>,
+        beside: Beside,
+        mark: &LogMark,
+        applied: Applied,
+    ) -> Result<Used, Fault>
+        ensures linked { self.new.linked ≡ self.old.linked }
+        ensures back { (older : Frame)
+            → frame self.old.context ≡ keyword_entered (row_of keyword).name older
+            → OnOk result (frame self.new.context ≡ older) }
+        ensures count { IfOk result (λ r. r.found.count ≡ applied.count) }
+        ensures found { (a : Application) (left budget : ℕ) (names : List Text) (indexes : List ℕ)
+            → IsAtKeyword self.old.linked.now left (frame self.old.context)
+            (value here.entry.schema.now) (subject_value here.entry.subject) keyword
+            (value keyword_value.now) beside a
+            → let u = use_there self.old.linked.now left a keyword names indexes
+            (value keyword_value.now) in
+            FindsAll applied budget u.outcomes → IfOk result (λ r. FindsUse r budget (u ∷ [])) }
+        ensures noted { (a : Application) (left : ℕ) (names : List Text) (indexes : List ℕ)
+            (older : Notes)
+            → IsAtKeyword self.old.linked.now left (frame self.old.context)
+            (value here.entry.schema.now) (subject_value here.entry.subject) keyword
+            (value keyword_value.now) beside a
+            → let u = use_there self.old.linked.now left a keyword names indexes
+            (value keyword_value.now) in
+            applied.number ≡ length u.outcomes → applied.passing ≡ passing u.outcomes
+            → marked mark.now ≡ lengths older
+            → notes self.old.log ≡ added older (parts_notes (row_of keyword).meaning u.outcomes)
+            → OnOk result (notes self.new.log ≡ added older (uses_notes a (u ∷ []))) }
+        ensures err { IfErr result (λ f. f ≡ Fault.NoRoom) }
+    {
+        let passes = self.passes(keyword, keyword_value, here, beside, applied)?;
+        settle(
+            self.alloc,
+            &mut self.log,
+            self.context.location(),
+            keyword,
+            here.subject,
+            mark,
+            applied.number,
+            passes,
+        )?;
+        self.context.leave_keyword();
+        Ok(Used {
+            found: applied.under(passes),
+            passing: Some(applied.passing),
+        })
+    }
+
+    /// Whether the keyword passes, under which the evaluation stands. The only error is want of memory.
+    fn passes(
+        &mut self,
+        keyword: Keyword,
+        keyword_value: &'a Doc,
+        here: Here<'a>,
+        beside: Beside,
+        applied: Applied,
+    ) -> Result<bool, Fault>
+        ensures linked { self.new.linked ≡ self.old.linked }
+        ensures back { self.new.context ≡ self.old.context }
+        ensures noted { self.new.log ≡ self.old.log }
+        ensures passes { (a : Application) (left : ℕ) (names : List Text) (indexes : List ℕ)
+            → IsAtKeyword self.old.linked.now left (frame self.old.context)
+            (value here.entry.schema.now) (subject_value here.entry.subject) keyword
+            (value keyword_value.now) beside a
+            → let u = use_there self.old.linked.now left a keyword names indexes
+            (value keyword_value.now) in
+            applied.number ≡ length u.outcomes → applied.passing ≡ passing u.outcomes
+            → IfOk result (λ b. b ≡ u.passes) }
+        ensures err { IfErr result (λ f. f ≡ Fault.NoRoom) }
+    {
+        let site = Site {
+            linked: self.linked,
+            resource: self.context.resource(),
+            schema: here.schema,
+            subject: here.subject,
+            scope: self.context.scope(),
+        };
+        let tally = Tally {
+            applied: applied.number,
+            passing: applied.passing,
+        };
+        passes(
+            self.alloc,
+            site,
+            keyword,
+            keyword_value,
+            tally,
+            beside.containing,
+        )
+    }
+
+    /// Applies each in turn.
+    #[cycle(apply)]
+    fn apply_all(
+        &mut self,
+        keyword: Keyword,
+        planned: &Vec<Planned<'a>>,
+        room: Room,
+    ) -> Result<Applied, Fault>
+        ensures linked { self.new.linked ≡ self.old.linked }
+        ensures back { OnOk result (frame self.new.context ≡ frame self.old.context) }
+        ensures within { IfOk result (λ f. AreWithin f room.applications) }
+        ensures found { (a : Application) → IsUnder (frame self.old.context) (row_of keyword).name a
+            → AreKnown self.old.linked.now (row_of keyword).name a planned.now.items
+            → IfOk result (λ f. FindsAll f room.applications
+            (part_outcomes self.old.linked.now room.nesting
+            (row_of keyword).name a planned.now.items)) }
+        ensures noted { (a : Application) → IsUnder (frame self.old.context) (row_of keyword).name a
+            → AreKnown self.old.linked.now (row_of keyword).name a planned.now.items
+            → OnOk result (Adds self.old self.new (parts_notes (row_of keyword).meaning
+            (part_outcomes self.old.linked.now room.nesting
+            (row_of keyword).name a planned.now.items))) }
+        ensures err { (a : Application) → IsUnder (frame self.old.context) (row_of keyword).name a
+            → AreKnown self.old.linked.now (row_of keyword).name a planned.now.items
+            → IfErr result (λ f. IsCostly f room.applications (count_of
+            (part_outcomes self.old.linked.now room.nesting
+            (row_of keyword).name a planned.now.items))) }
+    {
+        let mut applied = Applied::none();
+        for one in planned {
+            match self.apply_planned(
+                keyword,
+                one,
+                Room {
+                    nesting: room.nesting,
+                    applications: room.applications - applied.count,
+                },
+            ) {
+                Ok(found) => applied = applied.and(found),
+                Err(fault) => return Err(fault),
+            }
+        }
+        Ok(applied)
+    }
+
+    /// Applies one schema to a part of the instance.
+    #[cycle(apply)]
+    fn apply_planned(
+        &mut self,
+        keyword: Keyword,
+        planned: &Planned<'a>,
+        room: Room,
+    ) -> Result<Found, Fault>
+        ensures linked { self.new.linked ≡ self.old.linked }
+        ensures back { OnOk result (frame self.new.context ≡ frame self.old.context) }
+        ensures within { IfOk result (λ f. IsWithin f room.applications) }
+        ensures found { (a : Application) → IsUnder (frame self.old.context) (row_of keyword).name a
+            → IsKnown self.old.linked.now (row_of keyword).name a planned.now
+            → IfOk result (λ f. Finds f room.applications
+            (part_outcome self.old.linked.now room.nesting (row_of keyword).name a planned.now).1) }
+        ensures noted { (a : Application) → IsUnder (frame self.old.context) (row_of keyword).name a
+            → IsKnown self.old.linked.now (row_of keyword).name a planned.now
+            → OnOk result (Adds self.old self.new (part_notes (row_of keyword).meaning
+            (part_outcome self.old.linked.now room.nesting (row_of keyword).name a planned.now))) }
+        ensures err { (a : Application) → IsUnder (frame self.old.context) (row_of keyword).name a
+            → IsKnown self.old.linked.now (row_of keyword).name a planned.now
+            → IfErr result (λ f. IsCostly f room.applications
+            (part_outcome self.old.linked.now room.nesting
+            (row_of keyword).name a planned.now).1.count) }
+    {
+        let mark = self.log.mark();
+        let back = self
+            .context
+            .enter_planned(self.alloc, self.linked, planned)?;
+        match self.apply(chosen_schema(&planned.chosen), planned.subject, room) {
+            Ok(found) => {
+                self.context.leave_planned(back);
+                self.log
+                    .settle_part(keyword, planned.part, &mark, found.valid)?;
+                Ok(found)
+            }
+            Err(fault) => Err(fault),
+        }
+    }
+}
+
+// The schema itself.
+fn chosen_schema<'a>(chosen: &Chosen<'a>) -> &'a Doc
+    ensures { value result.now ≡ chosen_value chosen.now }
+{
+    match chosen {
+        Chosen::Below(_, schema) => *schema,
+        Chosen::Target(located) => located.schema,
+    }
+}

@@ -281,7 +281,7 @@ CASES = [
     Case("40 documents of 25 bytes with a large pattern, then another tenant's, in 500 MB", lambda: [
         *[("k", "put", f"{SITE}{n}", {"pattern": rf"\w{{1000}}{n}"}) for n in range(40)],
         ("l", "put", f"{SITE}s", {}), ("l", "put", f"{SITE}p", {"pattern": r"\w{900}"}), ("l", "validate", f"{SITE}s", 1)],
-        "503 NoRoom, 200 valid", over="cache", memory=500),
+        "201, 200 valid", over="cache", memory=500),
     # -- streams
     Case("1 MB of line ends", lambda: b"\r\n" * (BODY // 2), ""),
     Case("a head without an end", lambda: b"GET /bundle HTTP/1.1\r\nx: " + b"a" * BODY, "400 BadRequest"),

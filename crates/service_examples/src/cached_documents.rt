@@ -37,6 +37,21 @@ fn documents_outlive_their_place_in_the_cache(rt: HostRuntime) -> Result<(), Fai
 }
 
 #[test]
+fn a_cleared_cache_compiles_anew(rt: HostRuntime) -> Result<(), Fail> {
+    let alloc = rt.alloc();
+    let mut cache = Cache::new(alloc, 2)?;
+    let first = compiled(alloc, &mut cache, A, "{}")?;
+    compiled(alloc, &mut cache, B, "{}")?;
+    cache.clear();
+    assert_eq!(rt; cache.len(), 0);
+    assert_eq!(rt; canonical(&first), A);
+    let again = compiled(alloc, &mut cache, A, "{}")?;
+    assert!(rt; !Rc::ptr_eq(&again, &first));
+    assert_eq!(rt; cache.len(), 1);
+    Ok(())
+}
+
+#[test]
 fn refused_documents_are_not_kept(rt: HostRuntime) -> Result<(), Fail> {
     let alloc = rt.alloc();
     let mut cache = Cache::new(alloc, 1)?;

@@ -12,6 +12,9 @@ use connections::{Handler, Sessions};
 use faults::Fault;
 use std::alloc::Global;
 
+/// How many bytes a read is given room for.
+const MOST_PIECE: usize = 4096;
+
 /// How many reads a connection may take.
 const MOST_READS: usize = 65_536;
 
@@ -30,9 +33,10 @@ pub fn exchange<H: Handler, R: ByteReader, W: ByteWriter>(
         (wire (handler_of sessions.new) (R.reads reader.new) (W.writes writer.new)) }
     ensures others { OthersStay id sessions.old sessions.new }
 {
+    let mut buffer = [0u8; MOST_PIECE];
     let mut reads = 0;
     while reads < MOST_READS {
-        match serve_piece(alloc, sessions, id, reader, writer) {
+        match serve_piece(alloc, sessions, id, &mut buffer, reader, writer) {
             Ok(Progress::Goes) => reads += 1,
             Ok(Progress::Ends) => return Ok(()),
             Err(fault) => return Err(fault),

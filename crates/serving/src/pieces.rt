@@ -10,9 +10,6 @@ use connections::{Handler, Sessions};
 use faults::Fault;
 use std::alloc::Global;
 
-/// How many bytes a read is given room for.
-const MOST_PIECE: usize = 4096;
-
 /// Whether a connection goes on behind a piece.
 #[derive(Clone, Copy, Drop)]
 pub enum Progress {
@@ -41,11 +38,12 @@ fn answer_piece<H: Handler, W: ByteWriter>(
     }
 }
 
-/// Reads a piece and answers it.
+/// Reads a piece into the buffer and answers it.
 pub fn serve_piece<H: Handler, R: ByteReader, W: ByteWriter>(
     alloc: Global,
     sessions: &mut Sessions<H>,
     id: u64,
+    buffer: &mut [u8],
     reader: &mut R,
     writer: &mut W,
 ) -> Result<Progress, Fault>
@@ -55,8 +53,7 @@ pub fn serve_piece<H: Handler, R: ByteReader, W: ByteWriter>(
         (wire (handler_of sessions.new) (R.reads reader.new) (W.writes writer.new)) }
     ensures others { OthersStay id sessions.old sessions.new }
 {
-    let mut buffer = [0u8; MOST_PIECE];
-    match reader.read(&mut buffer) {
+    match reader.read(buffer) {
         Err(_) => Err(Fault::ReadFailed),
         Ok(0) => Ok(Progress::Ends),
         Ok(count) => match answer_piece(alloc, sessions, id, &buffer[..count], writer) {

@@ -80,6 +80,13 @@ impl Cache {
         self.entries.len()
     }
 
+    /// Forgets every document. This takes no memory, and gives back that of each document which nothing else holds.
+    pub fn clear(&mut self)
+        ensures { self.new ≡ record { keys = []; capacity = self.old.capacity } }
+    {
+        self.entries.clear();
+    }
+
     /// The document under this base, compiled: the one that is kept, or else a new one, which is kept from now on.
     ///
     /// It answers what a scan and a compilation of these arguments answer, whatever is kept: first the faults of a scan, in

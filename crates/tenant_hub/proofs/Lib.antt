@@ -6,6 +6,7 @@ mod KeptRegistries
 mod SentTexts
 mod ServedBundles
 mod Refusals
+mod SecondAnswers
 mod LinkedReplies
 mod NamedDocuments
 mod ValidationReplies

@@ -1,6 +1,6 @@
 //! What a tenant is answered by its own registry.
 
-ghost use Rattle.std.specs.Prelude.{◌≡◌, true, string_bytes};
+ghost use Rattle.std.specs.Prelude.{◌≡◌, ◌↔◌, true, IsTrue, string_bytes};
 ghost use Rattle.std.specs.List.{list_all};
 ghost use Rattle.definitions.specs.Patterns.{regular_search};
 ghost use Rattle.definitions.specs.Runs.{IsAnswer};
@@ -17,7 +17,7 @@ use crate::keyed_registry::KeyedRegistry;
 use crate::validating::validation_reply;
 use crate::workspace::Workspace;
 use linker::ListSource;
-use requests::{Reply, Request};
+use requests::{Fault, Reply, Request};
 use std::alloc::Global;
 use std::rc::Rc;
 use tenant_documents::Registry;
@@ -57,7 +57,33 @@ impl KeyedRegistry {
     }
 }
 
+// Where memory runs out, what is kept for speed alone is given back and the request is answered once more.
 fn answer_of(
+    registry: &mut Registry,
+    alloc: Global,
+    workspace: &mut Workspace,
+    request: &Request,
+) -> Reply
+    ensures { IsAnswer regular_search (registry_view registry.old)
+        (request_view request.now) (reply_view result) (registry_view registry.new) }
+{
+    let reply = answer_once(registry, alloc, workspace, request);
+    if lacks_room(&reply) {
+        workspace.clear(alloc);
+        answer_once(registry, alloc, workspace, request)
+    } else {
+        reply
+    }
+}
+
+// Whether memory ran out.
+fn lacks_room(reply: &Reply) -> bool
+    ensures { IsTrue result ↔ reply.now ≡ Reply.Refused Fault.NoRoom }
+{
+    matches!(reply, Reply::Refused(Fault::NoRoom))
+}
+
+fn answer_once(
     registry: &mut Registry,
     alloc: Global,
     workspace: &mut Workspace,

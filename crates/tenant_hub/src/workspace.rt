@@ -1,6 +1,6 @@
 //! What is kept from one request to the next beside the registries. No reply depends on it.
 
-ghost use Rattle.std.specs.Prelude.{◌≡◌, ◌≢◌, false, IfErr};
+ghost use Rattle.std.specs.Prelude.{◌≡◌, ◌≢◌, [], false, IfErr};
 ghost use Rattle.definitions.specs.Caches.{is_capacity};
 
 use json_doc::Scratch;
@@ -24,5 +24,13 @@ impl Workspace {
             cache: Cache::new(alloc, capacity)?,
             scratch: Scratch::new(alloc),
         })
+    }
+
+    // Gives the memory back: no document is kept, and the next instance finds no memory to be read in.
+    pub(crate) fn clear(&mut self, alloc: Global)
+        ensures { self.new.cache ≡ record { keys = []; capacity = self.old.cache.capacity } }
+    {
+        self.cache.clear();
+        self.scratch = Scratch::new(alloc);
     }
 }

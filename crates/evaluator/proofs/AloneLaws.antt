@@ -14,7 +14,7 @@ use Rattle.evaluator.specs.Groups.{stands_alone}
 use Rattle.evaluator.specs.Notes.{Notes}
 use Rattle.evaluator.specs.Rounds.{Knows, group_uses, said, uses_since, names_since, indexes_since}
 use Rattle.evaluator.specs.declared.beside.Beside.{Beside}
-use Rattle.evaluator.specs.declared.groups.Group.TheVariants.{One}
+use Rattle.keywords.specs.declared.group.Group.TheVariants.{One}
 use Rattle.evaluator.specs.declared.log.Before.{Before}
 
 same_applied : (rules : Rules) (run : Application → Outcome) (names : List Text) (indexes : List ℕ) (a : Application) (k : Text) (m : Meaning) (v : Value)

@@ -9,9 +9,7 @@ use Rattle.definitions.specs.Evaluated.{is_annotation}
 use Rattle.definitions.specs.Outcomes.{other_annotations, unit}
 use Rattle.json_doc.specs.Kinds.{as_members}
 use Rattle.linker.proofs.Adding.{is_some-find}
-use Rattle.evaluator.specs.Annotations.{annotations_among, declaring}
-use Rattle.evaluator.specs.Groups.{has_name, in_order, places, rows_of}
-use Rattle.evaluator.specs.declared.groups.Group.{Group}
+use Rattle.evaluator.specs.Annotations.{annotations_among}
 
 pub annotates_there : (a : Application) (s x : Value) (name : Text) (b : Bool) → a.schema.value ≡ s → a.instance ≡ x → b ≡ is_annotation s x name
     → is_annotation a.schema.value a.instance name ≡ b
@@ -48,23 +46,3 @@ no_others a s e h = ap (annotations_among a) (sym (no_members_in s h)) ∙ other
 
 pub others_are : (a : Application) (s : Value) (ms : List (Text × Value)) → a.schema.value ≡ s → Some ms ≡ as_members s → annotations_among a ms ≡ other_annotations a
 others_are a s ms e h = ap (annotations_among a) (sym (members_are s ms h)) ∙ others_among a s e
-
--- ---- the keywords by their places, and those that are not evaluated
-named_any : (name : Text) (gs : List Group) → list_any (λ k. same_text name k.name) (flat_map rows_of gs) ≡ list_any (has_name name) gs
-named_any name [] = refl
-named_any name (g ∷ gs) =
-    list_any-append (λ (k : Keyword). same_text name k.name) (rows_of g) (flat_map rows_of gs)
-    ∙ ap (λ b. has_name name g || b) (named_any name gs)
-
-all_keywords : flat_map rows_of places ++ declaring ≡ keywords
-unfolding places in_order declaring
-all_keywords = refl
-
-pub keywords_are : (name : Text) → (list_any (has_name name) places || is_keyword_of declaring name) ≡ is_keyword_of keywords name
-keywords_are name =
-    let p : Keyword → Bool = λ k. same_text name k.name in
-    ap (λ b. list_any (has_name name) places || b) (is_some-find p declaring)
-    ∙ ap (λ b. b || list_any p declaring) (sym (named_any name places))
-    ∙ sym (list_any-append p (flat_map rows_of places) declaring)
-    ∙ ap (list_any p) all_keywords
-    ∙ sym (is_some-find p keywords)

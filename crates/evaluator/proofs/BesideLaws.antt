@@ -15,7 +15,7 @@ use Rattle.evaluator.specs.Notes.{Notes, added, uses_notes}
 use Rattle.evaluator.specs.Rounds.{Knows, group_uses, indexes_since, keyword_uses, names_since, said, two_uses, uses_since}
 use Rattle.evaluator.specs.declared.beside.Beside.{Beside}
 use Rattle.evaluator.specs.declared.found.Used.{Used}
-use Rattle.evaluator.specs.declared.groups.Group.TheVariants.{Conditional, Counted}
+use Rattle.keywords.specs.declared.group.Group.TheVariants.{Conditional, Counted}
 use Rattle.evaluator.specs.declared.log.Before.{Before}
 use Rattle.evaluator.proofs.AloneLaws.{same_used}
 

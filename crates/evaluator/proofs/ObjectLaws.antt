@@ -17,7 +17,8 @@ use Rattle.keywords.specs.Rows.{row_of}
 use Rattle.keyword_plans.specs.Sites.{linked_rules}
 use Rattle.keywords.specs.declared.keyword.Keyword.TheVariants.{UnevaluatedItems, UnevaluatedProperties}
 use Rattle.evaluator.specs.Findings.{use_count}
-use Rattle.evaluator.specs.Groups.{in_order, rows_of}
+use Rattle.evaluator.specs.Groups.{first_groups, rows_of}
+use Rattle.keywords.specs.Groups.{in_order}
 use Rattle.evaluator.specs.Rounds.{groups_uses, object_uses, said, unevaluated_uses}
 
 -- ---- uses that say nothing
@@ -109,8 +110,8 @@ declaring_idle rules run names indexes a b (e ∷ es) =
     (declaring_idle rules run names indexes a b es)
 
 -- ---- keywords in groups
-grouped_rows : filter (λ k. not (looks_at_evaluated k.meaning)) keywords ≡ flat_map rows_of in_order ++ declared_rows
-unfolding in_order
+grouped_rows : filter (λ k. not (looks_at_evaluated k.meaning)) keywords ≡ flat_map rows_of first_groups ++ declared_rows
+unfolding first_groups in_order
 grouped_rows = refl
 
 unevaluated_rows : filter (λ k. looks_at_evaluated k.meaning) keywords ≡ row_of UnevaluatedItems ∷ row_of UnevaluatedProperties ∷ []
@@ -122,18 +123,18 @@ flat_map_twice f g (x ∷ xs) = flat_map-append f (g x) (flat_map g xs) ∙ ap (
 
 grouped_uses : (l : Linked) (left : ℕ) (b : Application)
     → uses_of (linked_rules l) (said l left) (filter (λ k. not (looks_at_evaluated k.meaning)) keywords) [] [] b
-    ≡ groups_uses l left b in_order ++ uses_of (linked_rules l) (said l left) declared_rows [] [] b
+    ≡ groups_uses l left b first_groups ++ uses_of (linked_rules l) (said l left) declared_rows [] [] b
 grouped_uses l left b =
     let uses = λ (k : table.Keyword). used (linked_rules l) (said l left) [] [] b k (get k.name b.schema.value) in
-    ap (flat_map uses) grouped_rows ∙ flat_map-append uses (flat_map rows_of in_order) declared_rows
-    ∙ ap (λ us. us ++ flat_map uses declared_rows) (flat_map_twice uses rows_of in_order)
+    ap (flat_map uses) grouped_rows ∙ flat_map-append uses (flat_map rows_of first_groups) declared_rows
+    ∙ ap (λ us. us ++ flat_map uses declared_rows) (flat_map_twice uses rows_of first_groups)
 
 -- a schema object: its groups, and then what looks at what they evaluated
 pub object_by_groups : (l : Linked) (left : ℕ) (a : Application) → object_outcome (linked_rules l) (said l left) a ≡ combined a (object_uses l left (entered a))
 unfolding object_outcome object_uses
 object_by_groups l left a =
     let here = entered a in
-    let gs = groups_uses l left here in_order in
+    let gs = groups_uses l left here first_groups in
     let ds = uses_of (linked_rules l) (said l left) declared_rows [] [] here in
     let idle = declaring_idle (linked_rules l) (said l left) [] [] a here declared_names in
     ap (λ rows. combined a (uses_of (linked_rules l) (said l left) (filter (λ k. not (looks_at_evaluated k.meaning)) keywords) [] [] here

@@ -1,90 +1,104 @@
--- Laws of the groups that a schema object has keywords of.
-use Rattle.std.proofs.Common.{◌≡◌, ◌+◌, ◌<◌, ◌≤◌, ◌==◌, ◌&&◌, ◌||◌, ℕ, zero, suc, List, [], ◌∷◌, ◌++◌, Bool, true, false, None, append-nil, length, get_or, set, cond, nat_lt, refl, sym, ap, subst, ◌∙◌, arith}
+-- Laws of the keywords that a schema object has.
+use Rattle.std.proofs.Common.{◌≡◌, ◌<◌, ◌≤◌, ◌&&◌, ◌||◌, not, ℕ, zero, suc, List, [], ◌∷◌, ◌++◌, Bool, true, false, Option, Some, None, option_map, append-nil, length, get_or, slice_get, set, cond, refl, sym, ap, subst, ◌∙◌, arith}
 use Rattle.std.specs.List.{list_all, list_any}
-use Rattle.std.proofs.Math.ListN.{get_or-append}
 use Rattle.std.proofs.lemmas.List.{length-set, get_or-set_same}
-use Rattle.std.proofs.lemmas.Bool.{ltb-true, lt-ltb, ltb_from_iff, and_parts, or_parts}
-use Rattle.std.proofs.lemmas.Bool.Decides.{Decides-eqb}
+use Rattle.std.proofs.lemmas.Bool.{and_parts, or_parts}
 use Rattle.definitions.specs.Values.{Text, Value, entry, get, members, same_text}
-use Rattle.definitions.specs.Keywords as table
+use Rattle.definitions.specs.Keywords.{Keyword, keyword_named, keywords}
 use Rattle.definitions.specs.Applied.{Application, Outcome, Rules}
 use Rattle.definitions.specs.Outcomes.{Use, uses_of}
-use Rattle.lemmas.proofs.Texts.{same_text_differs}
+use Rattle.definition_laws.proofs.Occurrences.{found_passes}
+use Rattle.lemmas.proofs.Texts.{same_text_differs, same_text_is, same_text_itself}
 use Rattle.linker.specs.declared.linked.Linked.{Linked}
-use Rattle.keywords.specs.Rows.{row_of}
+use Rattle.keywords.specs.Rows.{row_named, row_of}
+use Rattle.keywords.specs.declared.keyword.Keyword as listed
 use Rattle.keyword_plans.specs.Sites.{linked_rules}
-use Rattle.keywords.specs.declared.keyword.Keyword.TheVariants.{Ref, If, Then, Else, Contains, MinContains, MaxContains, UnevaluatedItems, UnevaluatedProperties}
+use Rattle.keywords.specs.declared.keyword.Keyword.TheVariants.{UnevaluatedItems, UnevaluatedProperties}
 use Rattle.evaluation_context.specs.Frames.{Frame}
-use Rattle.evaluator.specs.Groups.{are_marked, has_name, in_order, place_in, places, rows_of}
+use Rattle.evaluator.specs.Groups.{are_marked, has_mark, first_groups, is_marked, place_in, place_of, rows_of}
 use Rattle.evaluator.specs.Rounds.{IsAt, group_uses, groups_uses, object_uses, said, unevaluated_uses}
-use Rattle.evaluator.specs.declared.groups.Group.{Group}
-use Rattle.evaluator.specs.declared.groups.Group.TheVariants.{One, Conditional, Counted}
+use Rattle.keywords.specs.declared.group.Group.{Group}
 
--- ---- a name of no group
--- what is asked of a name that has the length of this one, and of another
-abbrev Needs : Bool → Text → Text → Type 0
-Needs true s t = s ≡ t → ⊥
-Needs false s t = Unit {0}
-
-abbrev pub AvoidsAt : ℕ → Text → List Group → Type 0
-AvoidsAt n name [] = Unit {0}
-AvoidsAt n name (One k ∷ gs) = Needs (length (row_of k).name == n) name (row_of k).name × AvoidsAt n name gs
-AvoidsAt n name (Conditional ∷ gs) =
-    Needs (2 == n) name (row_of If).name × Needs (4 == n) name (row_of Then).name × Needs (4 == n) name (row_of Else).name × AvoidsAt n name gs
-AvoidsAt n name (Counted ∷ gs) =
-    Needs (8 == n) name (row_of Contains).name × Needs (11 == n) name (row_of MinContains).name × Needs (11 == n) name (row_of MaxContains).name × AvoidsAt n name gs
-
-differs_by : (b : Bool) (n : ℕ) (s t : Text) → (length t == n) ≡ b → length s ≡ n → Needs b s t → same_text s t ≡ false
-differs_by true n s t k e h = same_text_differs s t h
-differs_by false n s t k e h = same_text_differs s t (λ same. let long : (length t == n) ≡ true = (Decides-eqb (length t) n).1 (ap length (sym same) ∙ e) in absurd (cc))
-
-differs_at : (n : ℕ) (s t : Text) → length s ≡ n → Needs (length t == n) s t → same_text s t ≡ false
-differs_at n s t = differs_by (length t == n) n s t refl
-
-no_place : (n : ℕ) (name : Text) (gs : List Group) → length name ≡ n → AvoidsAt n name gs → place_in name gs ≡ length gs
-unfolding place_in
-no_place n name [] e h = refl
-no_place n name (One k ∷ gs) e h = rw (differs_at n name (row_of k).name e h.0, no_place n name gs e h.1) refl
-no_place n name (Conditional ∷ gs) e h =
-    rw (differs_at n name (row_of If).name e h.0, differs_at n name (row_of Then).name e h.1, differs_at n name (row_of Else).name e h.2, no_place n name gs e h.3) refl
-no_place n name (Counted ∷ gs) e h =
-    rw (differs_at n name (row_of Contains).name e h.0, differs_at n name (row_of MinContains).name e h.1, differs_at n name (row_of MaxContains).name e h.2, no_place n name gs e h.3) refl
-
-how_many : length places ≡ 35
-unfolding places in_order
+-- ---- the places of the table
+how_many : length keywords ≡ 46
 how_many = refl
-
-pub no_place_at : (n : ℕ) (name : Text) → length name ≡ n → AvoidsAt n name places → 35 ≡ place_in name places
-no_place_at n name e h = sym (no_place n name places e h ∙ how_many)
 
 next_place : (b : Bool) (n m : ℕ) → n ≤ m → cond b 0 (suc n) ≤ suc m
 next_place true n m h = omega arith
 next_place false n m h = omega (arith, h)
 
-place_within : (name : Text) (gs : List Group) → place_in name gs ≤ length gs
+within : (name : Text) (ks : List Keyword) → place_in name ks ≤ length ks
 unfolding place_in
-place_within name [] = omega arith
-place_within name (g ∷ gs) = next_place (has_name name g) (place_in name gs) (length gs) (place_within name gs)
+within name [] = omega arith
+within name (k ∷ ks) = next_place (same_text name k.name) (place_in name ks) (length ks) (within name ks)
 
-one_less : (p n : ℕ) → nat_lt p n ≡ nat_lt (suc p) (suc n)
-one_less p n = ltb_from_iff ((λ e. let l : p < n = ltb-true p n e in omega (arith, l)), (λ l. let m : p < n = omega (arith, l) in lt-ltb p n m))
+pub place_within : (name : Text) → place_of name ≤ 46
+unfolding place_of
+place_within name = subst (λ n. place_in name keywords ≤ n) how_many (within name keywords)
 
-nearer : (b r : Bool) (p n : ℕ) → nat_lt p n ≡ r → nat_lt (cond b 0 (suc p)) (suc n) ≡ (b || r)
-nearer true r p n h = lt-ltb 0 (suc n) (omega arith)
-nearer false r p n h = sym (one_less p n) ∙ h
+not_true : (b : Bool) → not b ≡ true → b ≡ false
+not_true true h = absurd (cc)
+not_true false h = refl
 
-has_place : (name : Text) (gs : List Group) → nat_lt (place_in name gs) (length gs) ≡ list_any (has_name name) gs
+-- none of these has this one's name
+abbrev is_apart : Keyword → List Keyword → Bool
+is_apart k ks = list_all (λ j. not (same_text j.name k.name)) ks
+
+abbrev are_apart : List Keyword → Bool
+are_apart [] = true
+are_apart (k ∷ ks) = is_apart k ks && are_apart ks
+
+all_apart : are_apart keywords ≡ true
+all_apart = refl
+
+apart_at : (k : Keyword) (ks : List Keyword) (i : ℕ) (r : Keyword) → is_apart k ks ≡ true → slice_get ks i ≡ Some r → same_text r.name k.name ≡ false
+apart_at k [] i r all e = absurd (cc)
+apart_at k (j ∷ ks) zero r all e =
+    let same : j ≡ r = cc in
+    rw (← same) (not_true (same_text j.name k.name) (and_parts (not (same_text j.name k.name)) (is_apart k ks) all).0)
+apart_at k (j ∷ ks) (suc i) r all e = apart_at k ks i r (and_parts (not (same_text j.name k.name)) (is_apart k ks) all).1 e
+
+placed_at : (ks : List Keyword) (i : ℕ) (r : Keyword) → are_apart ks ≡ true → slice_get ks i ≡ Some r → place_in r.name ks ≡ i
 unfolding place_in
-has_place name [] = refl
-has_place name (g ∷ gs) = nearer (has_name name g) (list_any (has_name name) gs) (place_in name gs) (length gs) (has_place name gs)
+placed_at [] i r all e = absurd (cc)
+placed_at (k ∷ ks) zero r all e =
+    let same : k ≡ r = cc in
+    rw (← same, same_text_itself k.name) refl
+placed_at (k ∷ ks) (suc i) r all e =
+    let parts = and_parts (is_apart k ks) (are_apart ks) all in
+    rw (apart_at k ks i r parts.0 e) (ap suc (placed_at ks i r parts.1 e))
 
-pub place_tells : (name : Text) → nat_lt (place_in name places) 35 ≡ list_any (has_name name) places
-place_tells name = ap (nat_lt (place_in name places)) (sym how_many) ∙ has_place name places
+pub placed : (k : listed.Keyword) (i : ℕ) → slice_get keywords i ≡ Some (row_of k) → i ≡ place_of (row_of k).name
+unfolding place_of
+placed k i e = sym (placed_at keywords i (row_of k) all_apart e)
+
+-- the keyword of this name stands at the name's place
+pub at_place : (name : Text) (k : listed.Keyword) (o : Option listed.Keyword) (i : ℕ) → o ≡ Some k → option_map row_of o ≡ row_named name
+    → slice_get keywords i ≡ Some (row_of k) → i ≡ place_of name
+unfolding row_named
+at_place name k o i e named at =
+    let found : keyword_named name keywords ≡ Some (row_of k) = sym named ∙ ap (option_map row_of) e in
+    let same : name ≡ (row_of k).name = same_text_is name (row_of k).name (found_passes (λ (r : Keyword). same_text name r.name) keywords (row_of k) found) in
+    placed k i at ∙ ap place_of (sym same)
+
+no_more : (b : Bool) (k : Keyword) (o : Option Keyword) (p n : ℕ) → cond b (Some k) o ≡ None → (o ≡ None → p ≡ n) → cond b 0 (suc p) ≡ suc n
+no_more true k o p n e h = absurd (cc)
+no_more false k o p n e h = ap suc (h e)
+
+after_all : (name : Text) (ks : List Keyword) → keyword_named name ks ≡ None → place_in name ks ≡ length ks
+unfolding place_in
+after_all name [] e = refl
+after_all name (k ∷ ks) e = no_more (same_text name k.name) k (keyword_named name ks) (place_in name ks) (length ks) e (after_all name ks)
+
+-- other names stand after all keywords
+pub no_keyword : (name : Text) (o : Option listed.Keyword) → o ≡ None → option_map row_of o ≡ row_named name → 46 ≡ place_of name
+unfolding place_of row_named
+no_keyword name o e named = sym (after_all name keywords (sym named ∙ ap (option_map row_of) e) ∙ how_many)
 
 -- ---- the marks of all members
 abbrev pub marked : List Bool → List (Text × Value) → List Bool
 marked marks [] = marks
-marked marks (m ∷ ms) = marked (set marks (place_in m.0 places) true) ms
+marked marks (m ∷ ms) = marked (set marks (place_of m.0) true) ms
 
 stays : (marks : List Bool) (i p : ℕ) → get_or marks p false ≡ true → get_or (set marks i true) p false ≡ true
 stays [] i p h = h
@@ -95,71 +109,35 @@ stays (b ∷ marks) (suc i) (suc p) h = stays marks i p h
 
 all_stay : (ms : List (Text × Value)) (marks : List Bool) (p : ℕ) → get_or marks p false ≡ true → get_or (marked marks ms) p false ≡ true
 all_stay [] marks p h = h
-all_stay (m ∷ ms) marks p h = all_stay ms (set marks (place_in m.0 places) true) p (stays marks (place_in m.0 places) p h)
+all_stay (m ∷ ms) marks p h = all_stay ms (set marks (place_of m.0) true) p (stays marks (place_of m.0) p h)
 
-pub all_marked : (ms : List (Text × Value)) (marks : List Bool) → length marks ≡ 36 → are_marked (marked marks ms) ms ≡ true
+pub all_marked : (ms : List (Text × Value)) (marks : List Bool) → length marks ≡ 47 → are_marked (marked marks ms) ms ≡ true
 all_marked [] marks e = refl
 all_marked (m ∷ ms) marks e =
-    let p = place_in m.0 places in
-    let inside : p < length marks = omega (arith, e, how_many, place_within m.0 places) in
+    let p = place_of m.0 in
+    let inside : p < length marks = omega (arith, e, place_within m.0) in
     rw (all_stay ms (set marks p true) p (get_or-set_same marks p true false inside)) (all_marked ms (set marks p true) (length-set marks p true ∙ e))
 
 -- ---- a group that isn't marked
-pub absent : (k : Text) (marks : List Bool) (ms : List (Text × Value)) → get_or marks (place_in k places) false ≡ false → are_marked marks ms ≡ true → entry k ms ≡ None
+pub absent : (k : Text) (marks : List Bool) (ms : List (Text × Value)) → get_or marks (place_of k) false ≡ false → are_marked marks ms ≡ true → entry k ms ≡ None
 absent k marks [] gone all = refl
 absent k marks (m ∷ ms) gone all =
-    let here : get_or marks (place_in m.0 places) false ≡ true = (and_parts (get_or marks (place_in m.0 places) false) (are_marked marks ms) all).0 in
-    let other : same_text k m.0 ≡ false = same_text_differs k m.0 (λ e. let both : true ≡ false = sym here ∙ ap (λ t. get_or marks (place_in t places) false) (sym e) ∙ gone in absurd (cc)) in
-    rw other (absent k marks ms gone (and_parts (get_or marks (place_in m.0 places) false) (are_marked marks ms) all).1)
+    let here : get_or marks (place_of m.0) false ≡ true = (and_parts (get_or marks (place_of m.0) false) (are_marked marks ms) all).0 in
+    let other : same_text k m.0 ≡ false = same_text_differs k m.0 (λ e. let both : true ≡ false = sym here ∙ ap (λ t. get_or marks (place_of t) false) (sym e) ∙ gone in absurd (cc)) in
+    rw other (absent k marks ms gone (and_parts (get_or marks (place_of m.0) false) (are_marked marks ms) all).1)
 
-abbrev stand_at : ℕ → List table.Keyword → Bool
-stand_at i ks = list_all (λ k. place_in k.name places == i) ks
-
-abbrev are_placed : ℕ → List Group → Bool
-are_placed i [] = true
-are_placed i (g ∷ gs) = stand_at i (rows_of g) && are_placed (suc i) gs
-
-all_placed : are_placed 0 places ≡ true
-unfolding in_order places place_in
-all_placed = refl
-
-placed_at : (gs : List Group) (j i : ℕ) (d : Group) → are_placed j gs ≡ true → i < length gs → stand_at (j + i) (rows_of (get_or gs i d)) ≡ true
-placed_at [] j i d all h = absurd (omega (arith, h))
-placed_at (g ∷ gs) j zero d all h =
-    let same : j ≡ j + 0 = omega arith in
-    subst (λ n. stand_at n (rows_of g) ≡ true) same (and_parts (stand_at j (rows_of g)) (are_placed (suc j) gs) all).0
-placed_at (g ∷ gs) j (suc i) d all h =
-    let same : suc j + i ≡ j + suc i = omega arith in
-    subst (λ n. stand_at n (rows_of (get_or gs i d)) ≡ true) same (placed_at gs (suc j) i d (and_parts (stand_at j (rows_of g)) (are_placed (suc j) gs) all).1 (omega (arith, h)))
-
-no_uses : (rules : Rules) (run : Application → Outcome) (marks : List Bool) (i : ℕ) (names : List Text) (indexes : List ℕ) (a : Application) (ks : List table.Keyword)
-    → get_or marks i false ≡ false → are_marked marks (members a.schema.value) ≡ true → stand_at i ks ≡ true → uses_of rules run ks names indexes a ≡ []
-no_uses rules run marks i names indexes a [] gone all here = refl
-no_uses rules run marks i names indexes a (k ∷ ks) gone all here =
-    let at : place_in k.name places ≡ i = (Decides-eqb (place_in k.name places) i).0 (and_parts (place_in k.name places == i) (stand_at i ks) here).0 in
-    let none : get k.name a.schema.value ≡ None = absent k.name marks (members a.schema.value) (ap (λ n. get_or marks n false) at ∙ gone) all in
-    rw none (no_uses rules run marks i names indexes a ks gone all (and_parts (place_in k.name places == i) (stand_at i ks) here).1)
-
-in_places : (i : ℕ) → i < length in_order → get_or places i (One Ref) ≡ get_or in_order i (One Ref)
-unfolding places
-in_places i h = get_or-append in_order (One UnevaluatedItems ∷ One UnevaluatedProperties ∷ []) (One Ref) i h
-
-before_last : (i : ℕ) → i < length in_order → i < length places
-unfolding places in_order
-before_last i h = omega (arith, h)
-
-unused : (l : Linked) (left : ℕ) (a : Application) (marks : List Bool) (i : ℕ) → get_or marks i false ≡ false → are_marked marks (members a.schema.value) ≡ true → i < length in_order
-    → group_uses l left a (get_or in_order i (One Ref)) ≡ []
-unused l left a marks i gone all h =
-    let same : 0 + i ≡ i = omega arith in
-    let here : stand_at i (rows_of (get_or in_order i (One Ref))) ≡ true =
-    subst (λ n. stand_at n (rows_of (get_or in_order i (One Ref))) ≡ true) same (rw (← in_places i h) (placed_at places 0 i (One Ref) all_placed (before_last i h))) in
-    no_uses (linked_rules l) (said l left) marks i [] [] a (rows_of (get_or in_order i (One Ref))) gone all here
+no_uses : (rules : Rules) (run : Application → Outcome) (marks : List Bool) (names : List Text) (indexes : List ℕ) (a : Application) (ks : List Keyword)
+    → list_any (is_marked marks) ks ≡ false → are_marked marks (members a.schema.value) ≡ true → uses_of rules run ks names indexes a ≡ []
+no_uses rules run marks names indexes a [] gone all = refl
+no_uses rules run marks names indexes a (k ∷ ks) gone all =
+    let apart = or_parts (is_marked marks k) (list_any (is_marked marks) ks) gone in
+    let none : get k.name a.schema.value ≡ None = absent k.name marks (members a.schema.value) apart.0 all in
+    rw none (no_uses rules run marks names indexes a ks apart.1 all)
 
 -- a group that isn't marked does nothing
-pub unused_at : (l : Linked) (left : ℕ) (a : Application) (marks : List Bool) (gs : List Group) (i : ℕ) → get_or marks i false ≡ false
-    → are_marked marks (members a.schema.value) ≡ true → gs ≡ in_order → i < length gs → group_uses l left a (get_or gs i (One Ref)) ≡ []
-unused_at l left a marks gs i gone all e h = rw e (unused l left a marks i gone all (subst (λ hs. i < length hs) e h))
+pub unused_at : (l : Linked) (left : ℕ) (a : Application) (marks : List Bool) (g : Group) → has_mark marks g ≡ false
+    → are_marked marks (members a.schema.value) ≡ true → group_uses l left a g ≡ []
+unused_at l left a marks g gone all = no_uses (linked_rules l) (said l left) marks [] [] a (rows_of g) gone all
 
 pub marked_there : (l : Linked) (f : Frame) (s x : Value) (a : Application) (marks : List Bool) → IsAt l f s x a → are_marked marks (members s) ≡ true
     → are_marked marks (members a.schema.value) ≡ true
@@ -168,19 +146,22 @@ marked_there l f s x a marks at all =
     subst (λ v. are_marked marks (members v) ≡ true) (sym same) all
 
 -- ---- the keywords that look at what others evaluated
-unused_last : (l : Linked) (left : ℕ) (a : Application) (marks : List Bool) (us : List Use) → (get_or marks 33 false || get_or marks 34 false) ≡ false
+abbrev NoneLast : List Bool → Type 0
+NoneLast marks = (is_marked marks (row_of UnevaluatedItems) || is_marked marks (row_of UnevaluatedProperties)) ≡ false
+
+unused_last : (l : Linked) (left : ℕ) (a : Application) (marks : List Bool) (us : List Use) → NoneLast marks
     → are_marked marks (members a.schema.value) ≡ true → unevaluated_uses l left a us ≡ []
-unfolding places in_order place_in
 unused_last l left a marks us gone all =
+    let apart = or_parts (is_marked marks (row_of UnevaluatedItems)) (is_marked marks (row_of UnevaluatedProperties)) gone in
     let items : get (row_of UnevaluatedItems).name a.schema.value ≡ None =
-    absent (row_of UnevaluatedItems).name marks (members a.schema.value) (or_parts (get_or marks 33 false) (get_or marks 34 false) gone).0 all in
+    absent (row_of UnevaluatedItems).name marks (members a.schema.value) apart.0 all in
     let properties : get (row_of UnevaluatedProperties).name a.schema.value ≡ None =
-    absent (row_of UnevaluatedProperties).name marks (members a.schema.value) (or_parts (get_or marks 33 false) (get_or marks 34 false) gone).1 all in
+    absent (row_of UnevaluatedProperties).name marks (members a.schema.value) apart.1 all in
     rw (items, properties) refl
 
-pub groups_alone : (l : Linked) (left : ℕ) (a : Application) (marks : List Bool) → (get_or marks 33 false || get_or marks 34 false) ≡ false → are_marked marks (members a.schema.value) ≡ true
-    → groups_uses l left a in_order ≡ object_uses l left a
+pub groups_alone : (l : Linked) (left : ℕ) (a : Application) (marks : List Bool) → NoneLast marks → are_marked marks (members a.schema.value) ≡ true
+    → groups_uses l left a first_groups ≡ object_uses l left a
 unfolding object_uses
 groups_alone l left a marks gone all =
-    let us = groups_uses l left a in_order in
+    let us = groups_uses l left a first_groups in
     sym (ap (λ vs. us ++ vs) (unused_last l left a marks us gone all) ∙ append-nil us)

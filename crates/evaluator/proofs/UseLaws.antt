@@ -9,7 +9,8 @@ use Rattle.std.proofs.lemmas.Bool.{and_parts}
 use Rattle.definitions.specs.Applied.{Application}
 use Rattle.definitions.specs.Outcomes.{Use, use_errors}
 use Rattle.evaluator.specs.Findings.{FindsObject, FindsUses, IsWithin, use_count}
-use Rattle.evaluator.specs.Groups.{in_order, stands_alone}
+use Rattle.evaluator.specs.Groups.{first_groups, stands_alone}
+use Rattle.keywords.specs.Groups.{in_order}
 use Rattle.evaluator.specs.Notes.{Notes, added, kept_annotations, uses_notes}
 use Rattle.evaluator.specs.declared.found.Found.{Found}
 use Rattle.evaluator.proofs.LogLaws.{added_twice, same_notes}
@@ -20,8 +21,8 @@ all_at p [] i d all h = absurd (omega arith)
 all_at p (x ∷ xs) zero d all h = (and_parts (p x) (list_all p xs) all).0
 all_at p (x ∷ xs) (suc i) d all h = all_at p xs i d (and_parts (p x) (list_all p xs) all).1 (omega arith)
 
-pub all_alone : list_all stands_alone in_order ≡ true
-unfolding in_order
+pub all_alone : list_all stands_alone first_groups ≡ true
+unfolding first_groups in_order
 all_alone = refl
 
 pub uses_more_notes : (a : Application) (us vs : List Use) → added (uses_notes a us) (uses_notes a vs) ≡ uses_notes a (us ++ vs)

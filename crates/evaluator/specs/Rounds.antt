@@ -19,11 +19,11 @@ use Rattle.keyword_plans.specs.declared.planned.Chosen.TheVariants.{Below, Targe
 use Rattle.evaluation_context.specs.Frames.{Frame, standing}
 use Rattle.evaluation_context.specs.Standings.{application_at, at_keyword, standing_of}
 use Rattle.evaluator.specs.Findings.{Outcomes}
-use Rattle.evaluator.specs.Groups.{in_order, rows_of}
+use Rattle.evaluator.specs.Groups.{first_groups, rows_of}
 use Rattle.evaluator.specs.Notes.{Notes, added, nothing, outcome_notes, uses_notes}
 use Rattle.evaluator.specs.declared.beside.Beside.{Beside}
 use Rattle.evaluator.specs.declared.found.Found.{Found}
-use Rattle.evaluator.specs.declared.groups.Group.{Group}
+use Rattle.keywords.specs.declared.group.Group.{Group}
 use Rattle.evaluator.specs.declared.log.Before.{Before}
 
 -- by the linked documents, where so many applications may nest
@@ -104,7 +104,7 @@ unevaluated_uses l left a us =
 
 -- all keywords of a schema object
 unfoldable pub object_uses : Linked → ℕ → Application → List Use
-object_uses l left a = let us = groups_uses l left a in_order in us ++ unevaluated_uses l left a us
+object_uses l left a = let us = groups_uses l left a first_groups in us ++ unevaluated_uses l left a us
 
 -- how many names and indexes were evaluated
 abbrev pub evaluated_in : Notes → Before

@@ -8,17 +8,17 @@ ghost use Rattle.definitions.specs.Outcomes.{other_annotations, unit};
 ghost use Rattle.json_doc.specs.Docs.{value, members_value};
 ghost use Rattle.evaluation_context.specs.Frames.{frame, standing};
 ghost use Rattle.evaluation_context.specs.Standings.{standing_of};
-ghost use Rattle.evaluator.specs.Annotations.{annotations_among, declaring};
+ghost use Rattle.evaluator.specs.Annotations.{annotations_among};
 ghost use Rattle.evaluator.specs.Logs.{notes};
 ghost use Rattle.evaluator.specs.Notes.{added, nothing};
 ghost use Rattle.keyword_plans.specs.Subjects.{subject_value};
 
 use crate::log::Log;
-use crate::places::is_evaluated;
 use basic_output::Says;
 use evaluation_context::Context;
 use json_doc::{Doc, Members};
 use keyword_plans::Subject;
+use keywords::Keyword;
 use std::alloc::AllocError;
 
 /// The annotations of the names of a schema object that annotate with their own value, in byte order. The only error is
@@ -98,25 +98,8 @@ fn annotates(name: &str, schema: &Doc, subject: Subject<'_>) -> bool
     }
 }
 
-// The keywords that are evaluated, and those that only declare.
 fn is_keyword(name: &str) -> bool
     ensures { result ≡ is_keyword_of keywords name.now }
 {
-    is_evaluated(name) || only_declares(name)
-}
-
-#[tactic(auto, unfolding(crate::specs::Annotations::declaring))]
-fn only_declares(name: &str) -> bool
-    ensures { result ≡ is_keyword_of declaring name.now }
-{
-    match name {
-        "$defs" => true,
-        "definitions" => true,
-        "contentSchema" => true,
-        "$id" => true,
-        "$anchor" => true,
-        "$dynamicAnchor" => true,
-        "$schema" => true,
-        _ => false,
-    }
+    Keyword::named(name).is_some()
 }

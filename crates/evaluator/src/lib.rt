@@ -11,7 +11,6 @@ mod here;
 mod log;
 mod object_keywords;
 mod one_keyword;
-mod places;
 mod present;
 mod report;
 mod room;

@@ -6,12 +6,12 @@ ghost use Rattle.json_doc.specs.Docs.{value};
 use crate::applying::Evaluation;
 use crate::beside::Beside;
 use crate::found::{Applied, Found, Used};
-use crate::groups::{Group, groups};
+use crate::groups::first_groups;
 use crate::here::Here;
 use crate::present::Present;
 use crate::room::Room;
 use faults::Fault;
-use keywords::Keyword;
+use keywords::{Group, Keyword};
 
 impl<'a> Evaluation<'a> {
     ghost use Rattle.std.specs.Prelude.{◌<◌, ◌≤◌, suc, true, IfOk, IfErr, OnOk};
@@ -21,8 +21,8 @@ impl<'a> Evaluation<'a> {
     ghost use Rattle.evaluation_context.specs.Frames.{frame};
     ghost use Rattle.evaluator.specs.Applying.{Adds, IsCostly, IsHere};
     ghost use Rattle.evaluator.specs.Findings.{FindsObject, FindsUse, FindsUses, IsWithin, use_count};
-    ghost use Rattle.evaluator.specs.Groups.{are_marked, in_order, stands_alone};
-    ghost use Rattle.evaluator.specs.declared.groups.Group.TheVariants.{One, Conditional, Counted};
+    ghost use Rattle.evaluator.specs.Groups.{are_marked, first_groups, stands_alone};
+    ghost use Rattle.keywords.specs.declared.group.Group.TheVariants.{One, Conditional, Counted};
     ghost use Rattle.evaluator.specs.Logs.{notes};
     ghost use Rattle.evaluator.specs.Notes.{uses_notes};
     ghost use Rattle.evaluator.specs.Rounds.{Knows, evaluated_in, group_uses, groups_uses, object_uses, two_uses, uses_since};
@@ -84,17 +84,17 @@ impl<'a> Evaluation<'a> {
         ensures within { IfOk result (λ f. IsWithin f room.applications) }
         ensures found { (a : Application) → IsHere self.old here.entry a
             → IfOk result (λ f. FindsObject f room.applications
-            (groups_uses self.old.linked.now room.nesting a in_order)) }
+            (groups_uses self.old.linked.now room.nesting a first_groups)) }
         ensures noted { (a : Application) → IsHere self.old here.entry a
             → OnOk result (Adds self.old self.new
-            (uses_notes a (groups_uses self.old.linked.now room.nesting a in_order))) }
+            (uses_notes a (groups_uses self.old.linked.now room.nesting a first_groups))) }
         ensures err { (a : Application) → IsHere self.old here.entry a
             → IfErr result (λ f. IsCostly f room.applications (suc
-            (use_count (groups_uses self.old.linked.now room.nesting a in_order)))) }
+            (use_count (groups_uses self.old.linked.now room.nesting a first_groups)))) }
     {
         let mut found = Found::boolean(true);
-        for (place, group) in groups().iter().enumerate() {
-            if !present.has(place) {
+        for group in first_groups() {
+            if !present.has(*group) {
                 continue;
             }
             match self.use_group(

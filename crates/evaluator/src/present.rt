@@ -1,15 +1,22 @@
 //! Which keywords a schema object has, found in one walk over its members.
 
-ghost use Rattle.std.specs.Prelude.{◌≡◌, ◌||◌, true, false, get_or};
+ghost use Rattle.std.specs.Prelude.{◌≡◌, ◌≤◌, ◌||◌, true, false, get_or};
 ghost use Rattle.definitions.specs.Values.{members};
 ghost use Rattle.json_doc.specs.Docs.{value, members_value};
-ghost use Rattle.evaluator.specs.Groups.{are_marked};
+ghost use Rattle.keywords.specs.Rows.{row_of};
+ghost use Rattle.keywords.specs.declared.keyword.Keyword.TheVariants.{UnevaluatedItems, UnevaluatedProperties};
+ghost use Rattle.evaluator.specs.Groups.{are_marked, has_mark, is_marked, place_of};
 
-use crate::places::{PLACES, UNEVALUATED_ITEMS, UNEVALUATED_PROPERTIES, place_of};
 use json_doc::{Doc, Members};
+use keywords::{Group, Keyword};
 
-/// The groups of which a schema object has a keyword: each group has a place, and after them stands one for the names that
-/// belong to none.
+/// The place of the names that are no keywords', after those of the table.
+const NO_KEYWORD: usize = 46;
+/// How many places there are.
+const PLACES: usize = 47;
+
+/// The keywords that a schema object has: each is marked at its place in the table of keywords, and all other names at
+/// one place after them.
 #[derive(Drop)]
 pub(crate) struct Present {
     marks: [bool; PLACES],
@@ -30,21 +37,49 @@ impl Present {
         }
     }
 
-    /// Whether it has a keyword of the group at this place.
-    pub(crate) fn has(&self, place: usize) -> bool
+    /// Whether it has a keyword of the group.
+    pub(crate) fn has(&self, group: Group) -> bool
+        ensures { result ≡ has_mark self.now.marks group }
+    {
+        match group {
+            Group::One(keyword) => self.has_keyword(keyword),
+            Group::Conditional => {
+                self.has_keyword(Keyword::If)
+                    || self.has_keyword(Keyword::Then)
+                    || self.has_keyword(Keyword::Else)
+            }
+            Group::Counted => {
+                self.has_keyword(Keyword::Contains)
+                    || self.has_keyword(Keyword::MinContains)
+                    || self.has_keyword(Keyword::MaxContains)
+            }
+        }
+    }
+
+    /// Whether it has a keyword that looks at what others evaluated.
+    pub(crate) fn looks_at_evaluated(&self) -> bool
+        ensures { result ≡ (is_marked self.now.marks (row_of UnevaluatedItems)
+            || is_marked self.now.marks (row_of UnevaluatedProperties)) }
+    {
+        self.has_keyword(Keyword::UnevaluatedItems)
+            || self.has_keyword(Keyword::UnevaluatedProperties)
+    }
+
+    // Whether it has this keyword.
+    fn has_keyword(&self, keyword: Keyword) -> bool
+        ensures { result ≡ is_marked self.now.marks (row_of keyword) }
+    {
+        self.is_marked(keyword.position())
+    }
+
+    // Whether this place is marked.
+    fn is_marked(&self, place: usize) -> bool
         ensures { result ≡ get_or self.now.marks place false }
     {
         match self.marks.get(place) {
             Some(mark) => *mark,
             None => false,
         }
-    }
-
-    /// Whether it has a keyword that looks at what others evaluated.
-    pub(crate) fn looks_at_evaluated(&self) -> bool
-        ensures { result ≡ (get_or self.now.marks 33 false || get_or self.now.marks 34 false) }
-    {
-        self.has(UNEVALUATED_ITEMS) || self.has(UNEVALUATED_PROPERTIES)
     }
 }
 
@@ -56,4 +91,15 @@ fn marks_of(members: &Members) -> [bool; PLACES]
         marks[place_of(name)] = true;
     }
     marks
+}
+
+// The place of the keyword of this name in the table, or that of other names.
+fn place_of(name: &str) -> usize
+    ensures place { result ≡ place_of name.now }
+    ensures within { result ≤ 46 }
+{
+    match Keyword::named(name) {
+        Some(keyword) => keyword.position(),
+        None => NO_KEYWORD,
+    }
 }

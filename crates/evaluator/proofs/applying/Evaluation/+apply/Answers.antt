@@ -17,7 +17,7 @@ use Rattle.evaluator.proofs.UnevaluatedLaws.{items_know, properties_know}
 use Rattle.std.specs.List.{list_all}
 use Rattle.std.proofs.lemmas.List.{take_all}
 use Rattle.evaluator.specs.Groups.{stands_alone}
-use Rattle.evaluator.specs.declared.groups.Group.TheVariants.{One}
+use Rattle.keywords.specs.declared.group.Group.TheVariants.{One}
 use Rattle.evaluator.proofs.LogLaws.{added_nothing}
 use Rattle.evaluator.proofs.PresentLaws.{groups_alone, marked_there, unused_at}
 use Rattle.evaluator.proofs.UseLaws.{all_at, all_alone, flat_same, found_within, group_more, group_noted, group_over, two_found, first_over, second_over, two_noted}
@@ -137,8 +137,8 @@ use_keywords-returns-then-not-looks_at_evaluated-clause-noted t c a at =
     (groups_alone c.args.self.now.linked.now c.args.room.nesting a c.of-present.result.marks (sym c.looks_at_evaluated.ensures ∙ c.if-not-looks_at_evaluated.true)
     (marked_there c.args.self.now.linked.now (frame c.args.self.now.context) (value c.args.here.schema.now) (subject_value c.args.here.subject) a c.of-present.result.marks at c.of-present.ensures))
 
-pub use_groups-loop-place-init : goal.use_groups-loop-place-init
-use_groups-loop-place-init t c = record {
+pub use_groups-loop-group-init : goal.use_groups-loop-group-init
+use_groups-loop-group-init t c = record {
   linked = refl;
   back = refl;
   within = rw c.boolean-found.ensures (record { some = omega arith; within = omega (arith, c.requires.some) });
@@ -149,85 +149,85 @@ use_groups-loop-place-init t c = record {
 pub use_groups-use_group-requires : goal.use_groups-use_group-requires
 use_groups-use_group-requires t c = (
   search rules,
-  all_at stands_alone c.groups-group-items.result.now c.loop-place.place (One Ref) (ap (list_all stands_alone) c.groups-group-items.ensures ∙ all_alone)
-      c.loop-place-test.true,
+  all_at stands_alone c.first_groups-group-items.result.now c.loop-group.group-index (One Ref) (ap (list_all stands_alone) c.first_groups-group-items.ensures ∙ all_alone)
+      c.loop-group-test.true,
 )
 
 pub use_groups-returns-in-Err-clause-err : goal.use_groups-returns-in-Err-clause-err
 use_groups-returns-in-Err-clause-err t c a at other =
-    let same = c.loop-place.invariant.linked in
-    let items = c.groups-group-items.result.now in
-    let i = c.loop-place.place in
-    let here : IsAt c.args.self.now.linked.now (frame c.loop-place.self.context) (value c.args.here.schema.now) (subject_value c.args.here.subject) a =
-    subst (λ (f : Frame). IsAt c.args.self.now.linked.now f (value c.args.here.schema.now) (subject_value c.args.here.subject) a) (sym c.loop-place.invariant.back) at in
-    let there : IsAt c.loop-place.self.linked.now (frame c.loop-place.self.context) (value c.args.here.schema.now) (subject_value c.args.here.subject) a =
-    subst (λ (l : Bor Linked). IsAt l.now (frame c.loop-place.self.context) (value c.args.here.schema.now) (subject_value c.args.here.subject) a) (sym same) here in
+    let same = c.loop-group.invariant.linked in
+    let items = c.first_groups-group-items.result.now in
+    let i = c.loop-group.group-index in
+    let here : IsAt c.args.self.now.linked.now (frame c.loop-group.self.context) (value c.args.here.schema.now) (subject_value c.args.here.subject) a =
+    subst (λ (f : Frame). IsAt c.args.self.now.linked.now f (value c.args.here.schema.now) (subject_value c.args.here.subject) a) (sym c.loop-group.invariant.back) at in
+    let there : IsAt c.loop-group.self.linked.now (frame c.loop-group.self.context) (value c.args.here.schema.now) (subject_value c.args.here.subject) a =
+    subst (λ (l : Bor Linked). IsAt l.now (frame c.loop-group.self.context) (value c.args.here.schema.now) (subject_value c.args.here.subject) a) (sym same) here in
     let fault = c.in-Err.ensures.err a there other in (
       fault.0,
-      rw (← c.groups-group-items.ensures)
-          (group_over c.loop-place.found c.args.room.applications (group_uses c.args.self.now.linked.now c.args.room.nesting a) items i (One Ref) c.loop-place-test.true (c.loop-place.invariant.found a at)
-          (subst (λ (l : Bor Linked). c.args.room.applications - c.loop-place.found.count < use_count (group_uses l.now c.args.room.nesting a (get_or items i (One Ref)))) same fault.1)),
+      rw (← c.first_groups-group-items.ensures)
+          (group_over c.loop-group.found c.args.room.applications (group_uses c.args.self.now.linked.now c.args.room.nesting a) items i (One Ref) c.loop-group-test.true (c.loop-group.invariant.found a at)
+          (subst (λ (l : Bor Linked). c.args.room.applications - c.loop-group.found.count < use_count (group_uses l.now c.args.room.nesting a (get_or items i (One Ref)))) same fault.1)),
     )
 
-pub use_groups-loop-place-preserved-then-not-has : goal.use_groups-loop-place-preserved-then-not-has
-use_groups-loop-place-preserved-then-not-has t c =
+pub use_groups-loop-group-preserved-then-not-has : goal.use_groups-loop-group-preserved-then-not-has
+use_groups-loop-group-preserved-then-not-has t c =
     let l = c.args.self.now.linked.now in
     let uses = group_uses l c.args.room.nesting in
-    let items = c.groups-group-items.result.now in
-    let i = c.loop-place.place in
+    let items = c.first_groups-group-items.result.now in
+    let i = c.loop-group.group-index in
     let same = λ (a : Application) (at : IsAt l (frame c.args.self.now.context) (value c.args.here.schema.now) (subject_value c.args.here.subject) a).
-    flat_same (uses a) items i (One Ref) c.loop-place-test.true
-    (unused_at l c.args.room.nesting a c.args.present.now.marks items i (sym c.has.ensures ∙ c.if-not-has.true)
-    (marked_there l (frame c.args.self.now.context) (value c.args.here.schema.now) (subject_value c.args.here.subject) a c.args.present.now.marks at c.requires.present)
-    c.groups-group-items.ensures c.loop-place-test.true) in
+    flat_same (uses a) items i (One Ref) c.loop-group-test.true
+    (unused_at l c.args.room.nesting a c.args.present.now.marks (get_or items i (One Ref)) (sym c.has.ensures ∙ c.if-not-has.true)
+    (marked_there l (frame c.args.self.now.context) (value c.args.here.schema.now) (subject_value c.args.here.subject) a c.args.present.now.marks at c.requires.present))
+    in
     record {
-      linked = c.loop-place.invariant.linked;
-      back = c.loop-place.invariant.back;
-      within = c.loop-place.invariant.within;
-      found = λ a at. subst (FindsObject c.loop-place.found c.args.room.applications) (same a at) (c.loop-place.invariant.found a at);
-      noted = λ a at. c.loop-place.invariant.noted a at ∙ ap (λ us. added (notes c.args.self.now.log) (uses_notes a us)) (same a at);
+      linked = c.loop-group.invariant.linked;
+      back = c.loop-group.invariant.back;
+      within = c.loop-group.invariant.within;
+      found = λ a at. subst (FindsObject c.loop-group.found c.args.room.applications) (same a at) (c.loop-group.invariant.found a at);
+      noted = λ a at. c.loop-group.invariant.noted a at ∙ ap (λ us. added (notes c.args.self.now.log) (uses_notes a us)) (same a at);
     }
 
-pub use_groups-loop-place-preserved : goal.use_groups-loop-place-preserved
-use_groups-loop-place-preserved t c =
-    let same = c.loop-place.invariant.linked in
-    let items = c.groups-group-items.result.now in
-    let i = c.loop-place.place in
+pub use_groups-loop-group-preserved : goal.use_groups-loop-group-preserved
+use_groups-loop-group-preserved t c =
+    let same = c.loop-group.invariant.linked in
+    let items = c.first_groups-group-items.result.now in
+    let i = c.loop-group.group-index in
     record {
       linked = c.in-Ok.ensures.linked ∙ same;
-      back = c.in-Ok.ensures.back ∙ c.loop-place.invariant.back;
-      within = rw c.and-found.ensures (found_within c.loop-place.found c.in-Ok.used c.args.room.applications c.loop-place.invariant.within c.in-Ok.ensures.within);
+      back = c.in-Ok.ensures.back ∙ c.loop-group.invariant.back;
+      within = rw c.and-found.ensures (found_within c.loop-group.found c.in-Ok.used c.args.room.applications c.loop-group.invariant.within c.in-Ok.ensures.within);
       found =
           λ a at.
-          let here : IsAt c.args.self.now.linked.now (frame c.loop-place.self.context) (value c.args.here.schema.now) (subject_value c.args.here.subject) a =
-          subst (λ (f : Frame). IsAt c.args.self.now.linked.now f (value c.args.here.schema.now) (subject_value c.args.here.subject) a) (sym c.loop-place.invariant.back) at in
-          let there : IsAt c.loop-place.self.linked.now (frame c.loop-place.self.context) (value c.args.here.schema.now) (subject_value c.args.here.subject) a =
-          subst (λ (l : Bor Linked). IsAt l.now (frame c.loop-place.self.context) (value c.args.here.schema.now) (subject_value c.args.here.subject) a) (sym same) here in
-          group_more c.loop-place.found c.in-Ok.used c.and-found.result c.args.room.applications (group_uses c.args.self.now.linked.now c.args.room.nesting a) items i (One Ref) c.loop-place-test.true
-          (c.loop-place.invariant.found a at)
-          (subst (λ (l : Bor Linked). FindsUses c.in-Ok.used (c.args.room.applications - c.loop-place.found.count) (group_uses l.now c.args.room.nesting a (get_or items i (One Ref)))) same (c.in-Ok.ensures.found a there))
+          let here : IsAt c.args.self.now.linked.now (frame c.loop-group.self.context) (value c.args.here.schema.now) (subject_value c.args.here.subject) a =
+          subst (λ (f : Frame). IsAt c.args.self.now.linked.now f (value c.args.here.schema.now) (subject_value c.args.here.subject) a) (sym c.loop-group.invariant.back) at in
+          let there : IsAt c.loop-group.self.linked.now (frame c.loop-group.self.context) (value c.args.here.schema.now) (subject_value c.args.here.subject) a =
+          subst (λ (l : Bor Linked). IsAt l.now (frame c.loop-group.self.context) (value c.args.here.schema.now) (subject_value c.args.here.subject) a) (sym same) here in
+          group_more c.loop-group.found c.in-Ok.used c.and-found.result c.args.room.applications (group_uses c.args.self.now.linked.now c.args.room.nesting a) items i (One Ref) c.loop-group-test.true
+          (c.loop-group.invariant.found a at)
+          (subst (λ (l : Bor Linked). FindsUses c.in-Ok.used (c.args.room.applications - c.loop-group.found.count) (group_uses l.now c.args.room.nesting a (get_or items i (One Ref)))) same (c.in-Ok.ensures.found a there))
           c.and-found.ensures;
       noted =
           λ a at.
-          let here : IsAt c.args.self.now.linked.now (frame c.loop-place.self.context) (value c.args.here.schema.now) (subject_value c.args.here.subject) a =
-          subst (λ (f : Frame). IsAt c.args.self.now.linked.now f (value c.args.here.schema.now) (subject_value c.args.here.subject) a) (sym c.loop-place.invariant.back) at in
-          let there : IsAt c.loop-place.self.linked.now (frame c.loop-place.self.context) (value c.args.here.schema.now) (subject_value c.args.here.subject) a =
-          subst (λ (l : Bor Linked). IsAt l.now (frame c.loop-place.self.context) (value c.args.here.schema.now) (subject_value c.args.here.subject) a) (sym same) here in
-          group_noted a (notes c.args.self.now.log) (notes c.loop-place.self.log) (notes c.use_group.new.self.log) (group_uses c.args.self.now.linked.now c.args.room.nesting a) items i (One Ref)
-          c.loop-place-test.true (c.loop-place.invariant.noted a at)
-          (subst (λ (l : Bor Linked). notes c.use_group.new.self.log ≡ added (notes c.loop-place.self.log) (uses_notes a (group_uses l.now c.args.room.nesting a (get_or items i (One Ref))))) same
+          let here : IsAt c.args.self.now.linked.now (frame c.loop-group.self.context) (value c.args.here.schema.now) (subject_value c.args.here.subject) a =
+          subst (λ (f : Frame). IsAt c.args.self.now.linked.now f (value c.args.here.schema.now) (subject_value c.args.here.subject) a) (sym c.loop-group.invariant.back) at in
+          let there : IsAt c.loop-group.self.linked.now (frame c.loop-group.self.context) (value c.args.here.schema.now) (subject_value c.args.here.subject) a =
+          subst (λ (l : Bor Linked). IsAt l.now (frame c.loop-group.self.context) (value c.args.here.schema.now) (subject_value c.args.here.subject) a) (sym same) here in
+          group_noted a (notes c.args.self.now.log) (notes c.loop-group.self.log) (notes c.use_group.new.self.log) (group_uses c.args.self.now.linked.now c.args.room.nesting a) items i (One Ref)
+          c.loop-group-test.true (c.loop-group.invariant.noted a at)
+          (subst (λ (l : Bor Linked). notes c.use_group.new.self.log ≡ added (notes c.loop-group.self.log) (uses_notes a (group_uses l.now c.args.room.nesting a (get_or items i (One Ref))))) same
           (c.in-Ok.ensures.noted a there));
     }
 
 pub use_groups-returns-clause-found : goal.use_groups-returns-clause-found
 use_groups-returns-clause-found t c a at =
-    let whole = take_all c.loop-place.place c.groups-group-items.result.now c.loop-place-test.false ∙ c.groups-group-items.ensures in
-    subst (λ gs. FindsObject c.loop-place.found c.args.room.applications (groups_uses c.args.self.now.linked.now c.args.room.nesting a gs)) whole (c.loop-place.invariant.found a at)
+    let whole = take_all c.loop-group.group-index c.first_groups-group-items.result.now c.loop-group-test.false ∙ c.first_groups-group-items.ensures in
+    subst (λ gs. FindsObject c.loop-group.found c.args.room.applications (groups_uses c.args.self.now.linked.now c.args.room.nesting a gs)) whole (c.loop-group.invariant.found a at)
 
 pub use_groups-returns-clause-noted : goal.use_groups-returns-clause-noted
 use_groups-returns-clause-noted t c a at =
-    let whole = take_all c.loop-place.place c.groups-group-items.result.now c.loop-place-test.false ∙ c.groups-group-items.ensures in
-    subst (λ gs. notes c.loop-place.self.log ≡ added (notes c.args.self.now.log) (uses_notes a (groups_uses c.args.self.now.linked.now c.args.room.nesting a gs))) whole (c.loop-place.invariant.noted a at)
+    let whole = take_all c.loop-group.group-index c.first_groups-group-items.result.now c.loop-group-test.false ∙ c.first_groups-group-items.ensures in
+    subst (λ gs. notes c.loop-group.self.log ≡ added (notes c.args.self.now.log) (uses_notes a (groups_uses c.args.self.now.linked.now c.args.room.nesting a gs))) whole (c.loop-group.invariant.noted a at)
 
 pub use_group-returns-in-One-clause-err : goal.use_group-returns-in-One-clause-err
 use_group-returns-in-One-clause-err t c a at = rw c.in-One.is (c.use_one.ensures.err a at)

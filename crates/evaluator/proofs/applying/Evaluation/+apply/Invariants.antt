@@ -54,16 +54,16 @@ abbrev pub decreases-apply_other : goal.decreases-apply_other
 decreases-apply_other l = 14 * l.room.nesting
 
 -- what the groups so far found and noted
-abbrev pub invariant-use_groups-loop-place : goal.invariant-use_groups-loop-place
-invariant-use_groups-loop-place l =
+abbrev pub invariant-use_groups-loop-group : goal.invariant-use_groups-loop-group
+invariant-use_groups-loop-group l =
     record {
       linked : l.self.linked ≡ l.fn.self.linked;
       back : frame l.self.context ≡ frame l.fn.self.context;
       within : IsWithin l.found l.room.applications;
       found : (a : Application) → IsAt l.fn.self.linked.now (frame l.fn.self.context) (value l.here.schema.now) (subject_value l.here.subject) a
-          → FindsObject l.found l.room.applications (groups_uses l.fn.self.linked.now l.room.nesting a (take l.place l.group-items));
+          → FindsObject l.found l.room.applications (groups_uses l.fn.self.linked.now l.room.nesting a (take l.group-index l.group-items));
       noted : (a : Application) → IsAt l.fn.self.linked.now (frame l.fn.self.context) (value l.here.schema.now) (subject_value l.here.subject) a
-          → notes l.self.log ≡ added (notes l.fn.self.log) (uses_notes a (groups_uses l.fn.self.linked.now l.room.nesting a (take l.place l.group-items)));
+          → notes l.self.log ≡ added (notes l.fn.self.log) (uses_notes a (groups_uses l.fn.self.linked.now l.room.nesting a (take l.group-index l.group-items)));
     }
 
 -- what the schemas applied so far found and noted

@@ -1,5 +1,5 @@
 -- The names in a bundle stand once, and its patterns are those of its documents.
-use Rattle.std.proofs.Common.{◌≡◌, ◌<◌, ◌+◌, ◌++◌, ◌&&◌, ℕ, zero, suc, List, [], ◌∷◌, Bool, true, false, not, Some, Contains, refl, sym, ap, ap₂, subst, ◌∙◌, arith, inl, inr, true≢false}
+use Rattle.std.proofs.Common.{◌≡◌, ◌<◌, ◌+◌, ◌++◌, ◌&&◌, ℕ, zero, suc, List, [], ◌∷◌, true, false, not, Some, Contains, refl, sym, ap, ap₂, subst, ◌∙◌, arith, inl, inr, true≢false}
 use Rattle.std.proofs.lemmas.Bool.{and_parts, false_from_ne_true}
 use Rattle.std.proofs.lemmas.List.Sorted.{IsPermutation-trans, IsPermutation-append_comm, Contains-permutation}
 use Rattle.std.specs.Cmp.{IsEquivalence}
@@ -18,6 +18,7 @@ use Rattle.definition_laws.proofs.Occurrences.{IsIn, in_from_contains, contains_
 use Rattle.definition_laws.proofs.Places.{places, stepped, at_place_is, value-opened, value-below}
 use Rattle.definition_laws.proofs.Repeats.{joined, cut, filtered}
 use Rattle.definition_laws.proofs.NeighbourRepeats.{repeat_permuted}
+use Rattle.lemmas.proofs.Booleans.{same_truth}
 use Rattle.lemmas.proofs.Texts.{same_text_itself, same_text_is}
 use Rattle.definition_laws.proofs.ReachedTables.{one_has, own_uri}
 use Rattle.definition_laws.proofs.BundledDocuments.{root_schema, bundle_unbundled}
@@ -32,16 +33,10 @@ use Rattle.bundle_laws.proofs.Collected.{flat_mapped, flat_flat, collected, of_s
 use Rattle.bundle_laws.proofs.BundledLists.{IsCommon, root_uri, root_uri_common, anchors_common, patterns_common, uris_listed, AreUnlike, IsFit, bundle_moved}
 
 -- ---- sameness of names
-either_way : (a b : Bool) → (a ≡ true → b ≡ true) → (b ≡ true → a ≡ true) → a ≡ b
-either_way true true h k = refl
-either_way true false h k = sym (h refl)
-either_way false true h k = k refl
-either_way false false h k = refl
-
 text_laws : IsEquivalence same_text
 text_laws = record {
   refl = same_text_itself;
-  symm = λ t u. either_way (same_text t u) (same_text u t) (same_text-back t u) (same_text-back u t);
+  symm = λ t u. same_truth (same_text t u) (same_text u t) (same_text-back t u) (same_text-back u t);
   congr = λ t u w h. ap (λ x. same_text x w) (same_text_is t u h);
 }
 

@@ -1,5 +1,6 @@
 -- The documents beside the root.
 use Rattle.std.proofs.Common.{◌≡◌, ◌++◌, List, [], ◌∷◌, Bool, true, false, cond, not, Option, Some, None, Less, nat_cmp, codes, option_map, map, find, filter, refl, sym, ap, ap₂, subst, ◌∙◌, inl, inr, append-nil}
+use Rattle.std.proofs.lemmas.Bool.{not-false, not-true}
 use Rattle.std.proofs.lemmas.List.Elements.{filter-append}
 use Rattle.std.proofs.lemmas.List.{map-append}
 use Rattle.std.specs.Cmp.Lexicographic.{slice_cmp}
@@ -37,22 +38,14 @@ pub others_left : (uri : Text) (ds : List Document) (d : Document) → same_text
 others_left uri ds d e = ap (map bare) (others_more uri ds d true e ∙ append-nil (others_of uri ds))
 
 -- ---- whether a text is the URI that was asked for
-differs_if : (b : Bool) → true ≡ not b → b ≡ false
-differs_if true e = cc
-differs_if false e = refl
-
-same_if : (b : Bool) → false ≡ not b → b ≡ true
-same_if true e = refl
-same_if false e = cc
-
 turned : (a b t u : Text) → a ≡ t → b ≡ u → same_text u t ≡ same_text a b
 turned a b t u e f = same_text_turned u t ∙ ap₂ same_text (sym e) (sym f)
 
 pub is_another : (a b t u : Text) → true ≡ not (same_text a b) → a ≡ t → b ≡ u → same_text u t ≡ false
-is_another a b t u h e f = turned a b t u e f ∙ differs_if (same_text a b) h
+is_another a b t u h e f = turned a b t u e f ∙ not-true (same_text a b) (sym h)
 
 pub is_asked : (a b t u : Text) → false ≡ not (same_text a b) → a ≡ t → b ≡ u → same_text u t ≡ true
-is_asked a b t u h e f = turned a b t u e f ∙ same_if (same_text a b) h
+is_asked a b t u h e f = turned a b t u e f ∙ not-false (same_text a b) (sym h)
 
 -- ---- a bundle is made of canonical URIs and values alone
 pub bare_canonicals : (ds : List Document) → canonicals (map bare ds) ≡ canonicals ds

@@ -1,7 +1,7 @@
 //! From a keyword to what it applies, and back.
 
 ghost use Rattle.std.specs.Prelude.{◌≡◌, ◌++◌, [], true, false, IfOk, IfErr, OnOk, Contains, codes, option_map};
-ghost use Rattle.definitions.specs.Values.{Text, text_at};
+ghost use Rattle.definitions.specs.Values.{Text};
 ghost use Rattle.definitions.specs.Schemas.{schema_at};
 ghost use Rattle.definitions.specs.Applied.{Application, part_place};
 ghost use Rattle.json_doc.specs.Docs.{value};
@@ -121,7 +121,7 @@ impl<'a> Context<'a> {
         ensures onward { OnOk result (Onward (frame self.old) (frame self.new)) }
         ensures err { IfErr result (λ f. f ≡ Fault.NoRoom) }
     {
-        match text_at(schema, "$id") {
+        match schema.text_at("$id") {
             Some(id) => {
                 self.resource = linked.resource_opened(alloc, self.resource, id)?;
                 self.pointers.begin();
@@ -153,10 +153,4 @@ impl<'a> Context<'a> {
         }
         Ok(())
     }
-}
-
-fn text_at<'t>(schema: &'t Doc, keyword: &str) -> Option<&'t str>
-    ensures { option_map (λ t. t.now) result ≡ text_at keyword.now (value schema.now) }
-{
-    schema.get(keyword)?.as_str()
 }

@@ -1,7 +1,7 @@
 //! JSON values.
 
 ghost use Rattle.std.specs.Prelude.{◌≡◌, option_map, map, string_bytes};
-ghost use Rattle.definitions.specs.Values.{get, as_string};
+ghost use Rattle.definitions.specs.Values.{get, as_string, text_at};
 ghost use Rattle.json_doc.specs.Docs.{value, members_value};
 ghost use Rattle.json_doc.specs.Kinds.{as_boolean, as_integer, as_elements, as_members};
 
@@ -90,5 +90,12 @@ impl Doc {
             Doc::Dict(members) => members.get(name),
             _ => None,
         }
+    }
+
+    /// The text of the member of this name, if the value is an object whose member of that name is a string.
+    pub fn text_at(&self, name: &str) -> Option<&str>
+        ensures { option_map (λ t. t.now) result ≡ text_at name.now (value self.now) }
+    {
+        self.get(name)?.as_str()
     }
 }

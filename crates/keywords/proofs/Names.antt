@@ -1,25 +1,15 @@
 -- What the definitions' table has under a name.
 use Rattle.std.proofs.Common.{◌≡◌, ◌==◌, ℕ, List, [], ◌∷◌, Bool, true, false, None, Option, option_map, unwrap_or, length, refl, sym, ap, ◌∙◌}
-use Rattle.std.proofs.lemmas.Bool.Decides.{Decides-eqb}
 use Rattle.definitions.specs.Values.{Text, same_text}
 use Rattle.definitions.specs.Shapes.{any_value}
 use Rattle.definitions.specs.Keywords.{Keyword, keyword_named, keywords, shape_in}
-use Rattle.lemmas.proofs.Texts.{same_text_differs}
+use Rattle.lemmas.proofs.Texts.{DifferIf, differs_by}
 use Rattle.keywords.specs.Rows.{row_named, shape_named}
-
--- what is asked of a name that has the length of this one, and of another
-abbrev Needs : Bool → Text → Text → Type 0
-Needs true s t = s ≡ t → ⊥
-Needs false s t = Unit {0}
 
 -- a name of n bytes is none of those of n bytes
 abbrev pub Avoids : ℕ → Text → List Keyword → Type 0
 Avoids n name [] = Unit {0}
-Avoids n name (k ∷ ks) = Needs (length k.name == n) name k.name × Avoids n name ks
-
-differs_by : (b : Bool) (n : ℕ) (s t : Text) → (length t == n) ≡ b → length s ≡ n → Needs b s t → same_text s t ≡ false
-differs_by true n s t k e h = same_text_differs s t h
-differs_by false n s t k e h = same_text_differs s t (λ same. let long : (length t == n) ≡ true = (Decides-eqb (length t) n).1 (ap length (sym same) ∙ e) in absurd (cc))
+Avoids n name (k ∷ ks) = DifferIf (length k.name == n) name k.name × Avoids n name ks
 
 no_row : (n : ℕ) (name : Text) (ks : List Keyword) → length name ≡ n → Avoids n name ks → keyword_named name ks ≡ None
 no_row n name [] e h = refl

@@ -1,5 +1,7 @@
+pub mod Booleans
 pub mod Lists
 pub mod Options
+pub mod Results
 pub mod SomeValues
 pub mod Appended
 pub mod Orders

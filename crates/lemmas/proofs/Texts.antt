@@ -1,7 +1,7 @@
 -- What `same_text` tells, and the order of borrowed texts.
-use Rattle.std.proofs.Common.{◌≡◌, Bor, Ordering, nat_cmp, true, false, refl, sym}
+use Rattle.std.proofs.Common.{◌≡◌, ◌==◌, ℕ, Bool, Bor, Ordering, nat_cmp, length, true, false, refl, sym, ap, ◌∙◌}
 use Rattle.std.proofs.lemmas.Bool.{false_from_ne_true}
-use Rattle.std.proofs.lemmas.Bool.Decides.{same_from_decides, Decides-like}
+use Rattle.std.proofs.lemmas.Bool.Decides.{same_from_decides, Decides-eqb, Decides-like}
 use Rattle.std.proofs.lemmas.Map.Text.{is_eq-slice_cmp}
 use Rattle.std.proofs.lemmas.Slice.Eq.{bytes_eq-Decides}
 use Rattle.std.specs.Cmp.Lexicographic.{slice_cmp}
@@ -19,6 +19,16 @@ same_text_turned t u = same_from_decides (same_text t u) (same_text u t) (bytes_
 
 pub same_text_differs : (t u : Text) → (t ≡ u → ⊥) → same_text t u ≡ false
 same_text_differs t u apart = false_from_ne_true (same_text t u) (λ e. apart (same_text_is t u e))
+
+-- ---- by their lengths
+-- what is asked of two texts of one length, and of others
+abbrev pub DifferIf : Bool → Text → Text → Type 0
+DifferIf true s t = s ≡ t → ⊥
+DifferIf false s t = Unit {0}
+
+pub differs_by : (b : Bool) (n : ℕ) (s t : Text) → (length t == n) ≡ b → length s ≡ n → DifferIf b s t → same_text s t ≡ false
+differs_by true n s t k e h = same_text_differs s t h
+differs_by false n s t k e h = same_text_differs s t (λ same. let long : (length t == n) ≡ true = (Decides-eqb (length t) n).1 (ap length (sym same) ∙ e) in absurd (cc))
 
 -- ---- by the order of their bytes
 abbrev pub text_order : Bor Text → Bor Text → Ordering

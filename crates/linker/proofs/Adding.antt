@@ -1,5 +1,5 @@
 -- A document that is put among others with which it shares no resource.
-use Rattle.std.proofs.Common.{◌≡◌, Bool, true, false, ◌||◌, cond, not, List, [], ◌∷◌, find, is_some, is_none, Option, Some, None, option_map, Result, Ok, Err, IfOk, OnErr, ◌⊎◌, Contains, Ordering, Less, Equal, Greater, sym, refl, ap, ◌∙◌, subst, inl, inr, true≢false}
+use Rattle.std.proofs.Common.{◌≡◌, Bool, true, false, ◌||◌, cond, not, List, [], ◌∷◌, find, is_some, is_none, Option, Some, None, Result, Ok, Err, IfOk, OnErr, ◌⊎◌, Contains, Ordering, Less, Equal, Greater, sym, refl, ap, ◌∙◌, subst, inl, inr, true≢false}
 use Rattle.std.proofs.lemmas.Bool.{and_from, and_parts}
 use Rattle.std.proofs.lemmas.Cmp.{nat_list_cmp_total}
 use Rattle.std.specs.Cmp.Lexicographic.{slice_cmp, bytes_decides}
@@ -28,10 +28,6 @@ found_at p x xs false e = e
 pub is_some-find : {X : Type 0} (p : X → Bool) (xs : List X) → is_some (find p xs) ≡ list_any p xs
 is_some-find p [] = refl
 is_some-find p (x ∷ xs) = found_at p x xs (p x) (is_some-find p xs)
-
-pub is_some-map : {X Y : Type 0} (f : X → Y) (o : Option X) → is_some (option_map f o) ≡ is_some o
-is_some-map f None = refl
-is_some-map f (Some x) = refl
 
 -- ---- an element that is put in
 all_placed_at : (p : Document → Bool) (d e : Document) (es : List Document) (o : Ordering) → p d ≡ true → p e ≡ true → list_all p es ≡ true → list_all p (placed d es) ≡ true

@@ -10,7 +10,7 @@ use Rattle.definitions.specs.Values.{Text, same_text}
 use Rattle.lemmas.proofs.Texts.{same_text_itself}
 use Rattle.definition_laws.proofs.JoinedDocuments.{first_apart, is_unequal}
 use Rattle.definition_laws.proofs.Membership.{nothing_in, is_first, is_later, first_or_later, found_none, found_there}
-use Rattle.definition_laws.proofs.PlacedDocuments.{in_placed, key_of}
+use Rattle.definition_laws.proofs.PlacedDocuments.{in_placed, key_of, placed_itself}
 use Rattle.definition_laws.proofs.Repeats.{any_none, none_of}
 use Rattle.definition_laws.proofs.Resources.{one_document, opened_is_root, root_opens}
 use Rattle.linker.specs.Sources.{shares_resource}
@@ -18,7 +18,6 @@ use Rattle.linker.specs.Together.{HoldsNoneOf, from_joined, shares_none, togethe
 use Rattle.linker.proofs.CanonicalHolders.{first_holder, own_resource}
 use Rattle.linker.proofs.Positions.{ascend_distinct}
 use Rattle.linker.proofs.Tables.{no_holder}
-use Rattle.linker.proofs.Visits.{placed_itself}
 
 -- ---- where no canonical URI is in both
 abbrev pub NameOthers : List Document → List Document → Type 0

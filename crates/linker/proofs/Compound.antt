@@ -9,8 +9,9 @@ use Rattle.definitions.specs.Values.{Text}
 use Rattle.definitions.specs.Schemas.{Document, document_from}
 use Rattle.definitions.specs.Reach.{holds_resource}
 use Rattle.definitions.specs.Documents.{placed, resources_of}
+use Rattle.lemmas.proofs.Booleans.{same_truth}
 use Rattle.definition_laws.proofs.Membership.{nothing_in, is_first, first_or_later, any_at, any_where}
-use Rattle.definition_laws.proofs.PlacedDocuments.{from_placed, in_placed}
+use Rattle.definition_laws.proofs.PlacedDocuments.{from_placed, in_placed, placed_itself}
 use Rattle.schema_scan.specs.declared.compiled.Compiled.{Compiled}
 use Rattle.linker.specs.Positions.{StandsAt, IsGap}
 use Rattle.linker.specs.SharedDocuments.{shared_documents}
@@ -18,7 +19,6 @@ use Rattle.linker.specs.SoundLists.{shared_made}
 use Rattle.linker.specs.Sources.{embeds}
 use Rattle.linker.specs.Visits.{AreCompound, with_compound}
 use Rattle.linker.proofs.CanonicalHolders.{embedded_at, own_resource}
-use Rattle.linker.proofs.Visits.{placed_itself}
 
 -- ---- they are known from none on
 pub none_compound : AreCompound [] []
@@ -52,11 +52,6 @@ compound_placed ds cs d known other = by (nat_lt 1 (length (resources_of d))) re
     }
 
 -- ---- what they hold
-both_ways : (a b : Bool) → (a ≡ true → b ≡ true) → (b ≡ true → a ≡ true) → a ≡ b
-both_ways true b there back = sym (there refl)
-both_ways false true there back = absurd (true≢false (sym (back refl)))
-both_ways false false there back = refl
-
 held_in : (ds : List Document) (uri : Text) (at : ℕ) → ((d : Document) → Contains ds d → d ≡ document_from d.base d.value) → StandsAt ds uri at → list_any (holds_resource uri) ds ≡ true
 held_in [] uri at made stands = absurd (omega (arith, stands.inside))
 held_in (e ∷ es) uri at made stands =
@@ -74,7 +69,7 @@ pub compound_held : (items : List (Rc Compiled Global)) (cs : List Document) (ur
 unfolding embeds
 compound_held items cs uri at gap known =
     let ds = shared_documents items in
-    both_ways (list_any (embeds uri) cs) (list_any (holds_resource uri) ds)
+    same_truth (list_any (embeds uri) cs) (list_any (holds_resource uri) ds)
     (λ some. let by = any_where (embeds uri) cs some in
     any_at (holds_resource uri) by.0 ds (known.inside by.0 by.1.0) (and_parts (nat_lt 1 (length (resources_of by.0))) (holds_resource uri by.0) by.1.1).1)
     (λ some. let by = any_where (holds_resource uri) ds some in

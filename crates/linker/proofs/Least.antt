@@ -7,28 +7,19 @@ use Rattle.std.specs.Ordering.{nat_cmp, match_ordering, ordering_reverse}
 use Rattle.definitions.specs.Values.{Text}
 use Rattle.definitions.specs.Reach.{least, lesser}
 use Rattle.definition_laws.specs.Linking.{IsLeast}
-use Rattle.definition_laws.proofs.LeastTexts.{least_is_least, no_least}
+use Rattle.lemmas.proofs.Orders.{less_is_lt}
+use Rattle.definition_laws.proofs.LeastTexts.{least_is_least, neither_before, no_least}
 use Rattle.definition_laws.proofs.Membership.{nothing_in, is_first, first_or_later}
 use Rattle.definition_laws.proofs.PlacedDocuments.{tied}
 
 abbrev cmp : Text → Text → Ordering
 cmp = slice_cmp nat_cmp
 
-less_is_lt : (o : Ordering) → o ≡ Less → is_lt o ≡ false → ⊥
-less_is_lt Less e h = cc
-less_is_lt Equal e h = cc
-less_is_lt Greater e h = cc
-
-same_by : (s t : Text) (o : Ordering) → cmp s t ≡ o → is_lt (cmp s t) ≡ false → is_lt (cmp t s) ≡ false → s ≡ t
-same_by s t Less e h k = absurd (less_is_lt (cmp s t) e h)
-same_by s t Equal e h k = tied s t e
-same_by s t Greater e h k = absurd (less_is_lt (cmp t s) (nat_list_cmp_total.antisymm t s ∙ ap ordering_reverse e) k)
-
 unique_at : (ts : List Text) (t : Text) (o : Option Text) → least ts ≡ o → IsLeast ts t → least ts ≡ Some t
 unique_at ts t None e low = absurd (nothing_in t (subst (λ us. Contains us t) (no_least ts e) low.inside))
 unique_at ts t (Some s) e low =
     let other = least_is_least ts s e in
-    e ∙ ap Some (same_by s t (cmp s t) refl (low.none_less s other.inside) (other.none_less t low.inside))
+    e ∙ ap Some (neither_before s t (low.none_less s other.inside) (other.none_less t low.inside))
 
 is_the_least : (ts : List Text) (t : Text) → IsLeast ts t → least ts ≡ Some t
 is_the_least ts t low = unique_at ts t (least ts) refl low

@@ -1,7 +1,6 @@
 pub mod Tables
 pub mod Searches
 pub mod FirstHolders
-pub mod CutTexts
 pub mod Patterns
 pub mod NamedSchemas
 pub mod Shared

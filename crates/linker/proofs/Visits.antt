@@ -15,7 +15,7 @@ use Rattle.definitions.specs.Scanning.{resource_uris}
 use Rattle.definitions.specs.Reach.{IsReached, holds, referred, holds_resource, refers_to, reach}
 use Rattle.lemmas.proofs.Options.{some_from_is_some}
 use Rattle.definition_laws.proofs.Membership.{nothing_in, is_first, is_later, first_or_later, any_where, in_filter, from_filter, filter_short, one_of, found_there, found_some}
-use Rattle.definition_laws.proofs.PlacedDocuments.{key_of, as_inserted, from_placed, in_placed, tied}
+use Rattle.definition_laws.proofs.PlacedDocuments.{key_of, as_inserted, from_placed, in_placed, placed_itself, tied}
 use Rattle.definition_laws.proofs.Placing.{ascending, kept_ascending, same_ascending}
 use Rattle.definition_laws.proofs.ReachedSets.{reach_is_least, reach_as_filter, same_text-back}
 use Rattle.definition_laws.proofs.Repeats.{filtered}
@@ -80,15 +80,6 @@ adds_then all p q r a v b w c x one two both = record {
 }
 
 -- ---- one document is added
-placed_itself_at : (d e : Document) (es : List Document) (o : Ordering) → Contains (placed d es) d → Contains (match_ordering o (d ∷ e ∷ es) (d ∷ es) (e ∷ placed d es)) d
-placed_itself_at d e es Less more = is_first d (e ∷ es)
-placed_itself_at d e es Equal more = is_first d es
-placed_itself_at d e es Greater more = is_later e d (placed d es) more
-
-pub placed_itself : (d : Document) (ds : List Document) → Contains (placed d ds) d
-placed_itself d [] = is_first d []
-placed_itself d (e ∷ es) = placed_itself_at d e es (slice_cmp nat_cmp d.canonical e.canonical) (placed_itself d es)
-
 longer_at : (d e : Document) (es : List Document) (o : Ordering) → slice_cmp nat_cmp d.canonical e.canonical ≡ o → e.canonical ≢ d.canonical → length (placed d es) ≡ length es + 1
     → length (match_ordering o (d ∷ e ∷ es) (d ∷ es) (e ∷ placed d es)) ≡ length (e ∷ es) + 1
 longer_at d e es Less is other more = omega arith

@@ -17,13 +17,13 @@ ghost use Rattle.uri_ref.specs.FragmentViews.{fragment_shown};
 
 use crate::holders::holder;
 use crate::linked::Linked;
-use crate::references::{AbsoluteReference, opened_resource, resolve_reference};
+use crate::references::{AbsoluteReference, resolve_reference};
 use faults::Fault;
 use patterns::Pattern;
 use schema_scan::{Compiled, Located};
 use std::alloc::Global;
 use std::rc::Rc;
-use uri_ref::FragmentKind;
+use uri_ref::{FragmentKind, opened_uri};
 
 impl Linked {
     /// The root of the resource that was linked.
@@ -85,7 +85,7 @@ impl Linked {
             → IfOk result (λ uri. uri.now ≡ s.resource) }
         ensures err { IfErr result (λ f. f ≡ Fault.NoRoom) }
     {
-        let uri = opened_resource(alloc, around, id)?;
+        let uri = opened_uri(alloc, around, id)?;
         Ok(self.resource_uri(uri.as_str()))
     }
 

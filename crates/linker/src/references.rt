@@ -87,13 +87,3 @@ fn readable_fragment(alloc: Global, fragment: Option<&str>) -> Result<Option<Fra
         Err(_) => Ok(None),
     }
 }
-
-// The URI of the resource that this `$id` opens, where the resource around it has this one.
-pub(crate) fn opened_resource(alloc: Global, around: &str, id: &str) -> Result<String, Fault>
-    ensures ok { IfOk result
-        (λ uri. string_bytes uri ≡ without_fragment (resolved around.now id.now)) }
-    ensures err { IfErr result (λ f. f ≡ Fault.NoRoom) }
-{
-    let opened = resolve(alloc, &split(around), &split(id))?;
-    recompose(alloc, &opened.parts().without_fragment())
-}

@@ -5,7 +5,7 @@ use Rattle.std.proofs.lemmas.Grind.{flat_map-append}
 use Rattle.std.proofs.lemmas.List.Elements.{filter-append}
 use Rattle.schema_index.specs.Spots.{Spot, at_root}
 use Rattle.schema_index.specs.Gathering.{Gathers, root_uris, root_ways, spot_references, marks}
-use Rattle.schema_index.specs.declared.gathered.Gathered.{Gathered}
+use Rattle.schema_index.specs.declared.gathered.GatheredSchemas.{GatheredSchemas}
 
 map-first : {A B : Type 0} (f : A → B) (b : Bool) (x : A) → map f (cond b (x ∷ []) []) ≡ cond b (f x ∷ []) []
 map-first f true x = refl
@@ -23,10 +23,10 @@ two x y z a b c e f g = f ∙ ap (λ w. w ++ b) e ∙ append_assoc x a b ∙ ap 
 none : {A : Type 0} (x : List A) → x ≡ x ++ []
 none x = sym (append-nil x)
 
-pub gathers-none : (g : Gathered) → Gathers g g []
+pub gathers-none : (g : GatheredSchemas) → Gathers g g []
 gathers-none g = record { uris = none _; ways = none _; references = none _; marks = none _ }
 
-pub gathers-append : (g h k : Gathered) (ss ts : List Spot) → Gathers g h ss → Gathers h k ts → Gathers g k (ss ++ ts)
+pub gathers-append : (g h k : GatheredSchemas) (ss ts : List Spot) → Gathers g h ss → Gathers h k ts → Gathers g k (ss ++ ts)
 gathers-append g h k ss ts a b =
     record {
       uris = two _ _ _ _ _ _ a.uris b.uris (ap (map (λ (s : Spot). s.resource)) (filter-append at_root ss ts) ∙ map-append (λ (s : Spot). s.resource) (filter at_root ss) (filter at_root ts));

@@ -7,7 +7,7 @@ use Rattle.schema_index.specs.Hops.{Hop}
 use Rattle.schema_index.specs.Spots.{Spot, at_root}
 use Rattle.schema_index.specs.Ways.{owned_hops}
 use Rattle.schema_index.specs.declared.anchors.Anchor.{Anchor}
-use Rattle.schema_index.specs.declared.gathered.Gathered.{Gathered}
+use Rattle.schema_index.specs.declared.gathered.GatheredSchemas.{GatheredSchemas}
 
 -- ---- roots
 abbrev pub root_uris : List Spot → List Text
@@ -47,27 +47,27 @@ abbrev pub anchor_mark : Anchor → Mark
 anchor_mark a = record { name = string_bytes a.name; dynamic = a.dynamic; resource = string_bytes a.resource; start = a.start; way = owned_hops a.way.items }
 
 -- ---- all of it
-unfoldable pub gathered_uris : Gathered → List Text
+unfoldable pub gathered_uris : GatheredSchemas → List Text
 gathered_uris g = map string_bytes g.uris.items
 
-unfoldable pub gathered_ways : Gathered → List (List Hop)
+unfoldable pub gathered_ways : GatheredSchemas → List (List Hop)
 gathered_ways g = map (λ w. owned_hops w.items) g.ways.items
 
-unfoldable pub gathered_references : Gathered → List Text
+unfoldable pub gathered_references : GatheredSchemas → List Text
 gathered_references g = map string_bytes g.references.items
 
-unfoldable pub gathered_marks : Gathered → List Mark
+unfoldable pub gathered_marks : GatheredSchemas → List Mark
 gathered_marks g = map anchor_mark g.anchors.items
 
 -- the later has what the earlier has, and what is gathered of these schemas
-pub record Gathers (earlier later : Gathered) (ss : List Spot) : Type 0 where
+pub record Gathers (earlier later : GatheredSchemas) (ss : List Spot) : Type 0 where
   pub uris : gathered_uris later ≡ gathered_uris earlier ++ root_uris ss
   pub ways : gathered_ways later ≡ gathered_ways earlier ++ root_ways ss
   pub references : gathered_references later ≡ gathered_references earlier ++ flat_map spot_references ss
   pub marks : gathered_marks later ≡ gathered_marks earlier ++ flat_map marks ss
 
 -- all that is gathered is of these schemas
-pub record IsGathered (g : Gathered) (ss : List Spot) : Type 0 where
+pub record IsGathered (g : GatheredSchemas) (ss : List Spot) : Type 0 where
   pub uris : gathered_uris g ≡ root_uris ss
   pub ways : gathered_ways g ≡ root_ways ss
   pub references : gathered_references g ≡ flat_map spot_references ss

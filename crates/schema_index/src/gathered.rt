@@ -8,15 +8,15 @@ ghost use Rattle.schema_index.specs.Ways.{owned_hops};
 ghost use Rattle.schema_index.specs.Gathering.{anchor_mark, marks, reference_under, references_at};
 
 use crate::anchors::Anchor;
-use crate::resources::{resolved, text_at};
 use crate::ways::{OwnedStep, own};
 use json_doc::Doc;
 use locations::Step;
 use std::alloc::{AllocError, Global};
+use uri_ref::resolved_uri;
 
 /// What was gathered of a document's schemas, each list in the order of a walk.
 #[derive(Debug, Drop)]
-pub(crate) struct Gathered {
+pub(crate) struct GatheredSchemas {
     /// The URIs of the resources.
     pub(crate) uris: Vec<String>,
     /// The ways to their roots.
@@ -27,18 +27,18 @@ pub(crate) struct Gathered {
     pub(crate) anchors: Vec<Anchor>,
 }
 
-impl Gathered {
+impl GatheredSchemas {
     ghost use Rattle.schema_index.specs.Gathering.{Gathers, gathered_uris, gathered_ways, gathered_references, gathered_marks};
 
     /// Nothing yet. This takes no memory.
     #[tactic(auto, unfolding(crate::specs::Gathering::gathered_uris, crate::specs::Gathering::gathered_ways, crate::specs::Gathering::gathered_references, crate::specs::Gathering::gathered_marks))]
-    pub(crate) fn new(alloc: Global) -> Gathered
+    pub(crate) fn new(alloc: Global) -> GatheredSchemas
         ensures uris { gathered_uris result ≡ [] }
         ensures ways { gathered_ways result ≡ [] }
         ensures references { gathered_references result ≡ [] }
         ensures marks { gathered_marks result ≡ [] }
     {
-        Gathered {
+        GatheredSchemas {
             uris: Vec::new(alloc),
             ways: Vec::new(alloc),
             references: Vec::new(alloc),
@@ -113,8 +113,8 @@ fn push_reference(
         ≡ map string_bytes references.old.items
         ++ reference_under keyword.now base.now (value schema.now)) }
 {
-    if let Some(reference) = text_at(schema, keyword) {
-        references.push(resolved(alloc, base, reference)?)?;
+    if let Some(reference) = schema.text_at(keyword) {
+        references.push(resolved_uri(alloc, base, reference)?)?;
     }
     Ok(())
 }
@@ -133,10 +133,10 @@ fn push_anchors(
         ≡ map anchor_mark anchors.old.items
         ++ marks (spot_in (step_hops way.now) start uri.now (value schema.now))) }
 {
-    if let Some(name) = text_at(schema, "$anchor") {
+    if let Some(name) = schema.text_at("$anchor") {
         anchors.push(anchor(alloc, name, false, uri, start, way)?)?;
     }
-    if let Some(name) = text_at(schema, "$dynamicAnchor") {
+    if let Some(name) = schema.text_at("$dynamicAnchor") {
         anchors.push(anchor(alloc, name, true, uri, start, way)?)?;
     }
     Ok(())

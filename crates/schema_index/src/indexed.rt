@@ -18,7 +18,7 @@ ghost use Rattle.uri_ref.specs.FragmentViews.{fragment_shown};
 
 use crate::anchor_numbers::{anchor_numbers_of, find_anchor};
 use crate::anchors::schema_of_anchor;
-use crate::gathered::Gathered;
+use crate::gathered::GatheredSchemas;
 use crate::gathering::gather;
 use crate::located::Located;
 use crate::numbers::{numbered, numbers_of};
@@ -36,7 +36,7 @@ use uri_ref::FragmentKind;
 pub struct Indexed {
     base: String,
     document: Doc,
-    gathered: Gathered,
+    gathered: GatheredSchemas,
     /// The number of each resource's URI among those that were gathered.
     numbers: BTreeMap<String, usize>,
     /// The number of each anchor among those that were gathered, by the URI of its resource and by its name.

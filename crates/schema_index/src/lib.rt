@@ -10,7 +10,6 @@ mod indexed;
 mod located;
 mod numbers;
 mod pointing;
-mod resources;
 mod visit;
 mod ways;
 

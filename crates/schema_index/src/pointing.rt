@@ -1,12 +1,9 @@
 //! The schemas that pointers lead to (JSON Schema 2020-12 Core, section 8.2.3).
 
 ghost use Rattle.std.specs.Prelude.{◌≡◌, ◌∷◌, ◌++◌, codes, IfOk, IfErr, Contains, map, option_map, string_bytes};
-ghost use Rattle.definitions.specs.Resolution.{resolved};
 ghost use Rattle.definitions.specs.Schemas.{below};
 ghost use Rattle.definitions.specs.Lists.{option_list};
 ghost use Rattle.definitions.specs.Targets.{pointed};
-ghost use Rattle.definitions.specs.Uris.{without_fragment};
-ghost use Rattle.definitions.specs.Values.{text_at};
 ghost use Rattle.json_doc.specs.Docs.{value};
 ghost use Rattle.locations.specs.Steps.{tokens};
 ghost use Rattle.schema_index.specs.DescentViews.{tokens_taken};
@@ -19,7 +16,7 @@ use faults::Fault;
 use json_doc::{Doc, Pointer};
 use locations::Step;
 use std::alloc::{AllocError, Global};
-use uri_ref::{recompose, resolve, split, without_fragment};
+use uri_ref::opened_uri;
 
 mod descending;
 
@@ -87,7 +84,7 @@ impl Indexed {
             (tokens_taken descent.entry) (value descent.entry.schema.now)) }
         ensures err { IfErr result (λ f. f ≡ Fault.NoRoom) }
     {
-        match id_of(descent.schema) {
+        match descent.schema.text_at("$id") {
             Some(id) => {
                 let uri = opened_uri(alloc, around.resource, id)?;
                 match self.resource_uri(uri.as_str()) {
@@ -108,13 +105,6 @@ impl Indexed {
     }
 }
 
-// The text of the schema's `$id`, if it opens a resource.
-fn id_of(schema: &Doc) -> Option<&str>
-    ensures { option_map (λ t. t.now) result ≡ text_at (codes "$id") (value schema.now) }
-{
-    schema.get("$id")?.as_str()
-}
-
 // These steps, then the one to the keyword, and then the one to a place in its value, if there is one.
 fn with_steps<'a>(
     steps: Vec<Step<'a>>,
@@ -130,15 +120,4 @@ fn with_steps<'a>(
         steps.push(step)?;
     }
     Ok(steps)
-}
-
-// The URI of the resource that a schema with this `$id` opens inside this base.
-fn opened_uri(alloc: Global, base: &str, id: &str) -> Result<String, Fault>
-    ensures ok { IfOk result
-        (λ uri. string_bytes uri ≡ without_fragment (resolved base.now id.now)) }
-    ensures err { IfErr result (λ f. f ≡ Fault.NoRoom) }
-{
-    let resolved = resolve(alloc, &split(base), &split(id))?;
-    let text = recompose(alloc, &resolved.parts())?;
-    Ok(String::from_str(alloc, without_fragment(text.as_str()))?)
 }

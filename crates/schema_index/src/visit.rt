@@ -9,19 +9,19 @@ ghost use Rattle.keywords.specs.Rows.{shape_named};
 ghost use Rattle.keywords.specs.Shapes.{shape_view};
 ghost use Rattle.schema_index.specs.Spots.{spots, spots_at, spots_below, spots_from, spots_in_list, spots_in_map};
 
-use crate::gathered::Gathered;
-use crate::resources::{opened_uri, text_at};
+use crate::gathered::GatheredSchemas;
 use json_doc::{Doc, Members};
 use keywords::{Shape, shape_named};
 use locations::Step;
 use std::alloc::{AllocError, Global};
+use uri_ref::opened_uri;
 
 /// Gathers of the schema at the end of this way, inside this base, and of those below it. The root of the resource around
 /// is `start` steps along the way. On the walk's return the way is as it was.
 #[cycle(visit)]
 pub(crate) fn visit_schema<'a>(
     alloc: Global,
-    gathered: &mut Gathered,
+    gathered: &mut GatheredSchemas,
     way: &mut Vec<Step<'a>>,
     start: usize,
     base: &str,
@@ -32,7 +32,7 @@ pub(crate) fn visit_schema<'a>(
         (spots (step_hops way.old.items) start base.now (value schema.now))) }
     ensures way { OnOk result (step_hops way.new.items ≡ step_hops way.old.items) }
 {
-    match text_at(schema, "$id") {
+    match schema.text_at("$id") {
         Some(id) => match opened_uri(alloc, base, id) {
             Ok(uri) => {
                 let here = way.len();
@@ -48,7 +48,7 @@ pub(crate) fn visit_schema<'a>(
 #[cycle(visit)]
 fn visit_in_resource<'a>(
     alloc: Global,
-    gathered: &mut Gathered,
+    gathered: &mut GatheredSchemas,
     way: &mut Vec<Step<'a>>,
     start: usize,
     uri: &str,
@@ -72,7 +72,7 @@ fn visit_in_resource<'a>(
 #[cycle(visit)]
 fn visit_below<'a>(
     alloc: Global,
-    gathered: &mut Gathered,
+    gathered: &mut GatheredSchemas,
     way: &mut Vec<Step<'a>>,
     start: usize,
     uri: &str,
@@ -96,7 +96,7 @@ fn visit_below<'a>(
 #[cycle(visit)]
 fn visit_keyword<'a>(
     alloc: Global,
-    gathered: &mut Gathered,
+    gathered: &mut GatheredSchemas,
     way: &mut Vec<Step<'a>>,
     start: usize,
     uri: &str,
@@ -125,7 +125,7 @@ fn visit_keyword<'a>(
 #[cycle(visit)]
 fn visit_place<'a>(
     alloc: Global,
-    gathered: &mut Gathered,
+    gathered: &mut GatheredSchemas,
     way: &mut Vec<Step<'a>>,
     start: usize,
     uri: &str,
@@ -153,7 +153,7 @@ fn visit_place<'a>(
 #[cycle(visit)]
 fn visit_list<'a>(
     alloc: Global,
-    gathered: &mut Gathered,
+    gathered: &mut GatheredSchemas,
     way: &mut Vec<Step<'a>>,
     start: usize,
     uri: &str,
@@ -178,7 +178,7 @@ fn visit_list<'a>(
 #[cycle(visit)]
 fn visit_map<'a>(
     alloc: Global,
-    gathered: &mut Gathered,
+    gathered: &mut GatheredSchemas,
     way: &mut Vec<Step<'a>>,
     start: usize,
     uri: &str,
@@ -202,7 +202,7 @@ fn visit_map<'a>(
 #[cycle(visit)]
 fn visit_step<'a>(
     alloc: Global,
-    gathered: &mut Gathered,
+    gathered: &mut GatheredSchemas,
     way: &mut Vec<Step<'a>>,
     start: usize,
     uri: &str,

@@ -1,21 +1,16 @@
 -- Why a walk stops.
-use Rattle.std.specs.Prelude.{◌≡◌, List, Some, map, reverse, decimal}
-use Rattle.definitions.specs.Values.{Text}
+use Rattle.std.specs.Prelude.{◌≡◌, List, Some, reverse}
 use Rattle.definitions.specs.Pointers.{Pointer}
 use Rattle.definitions.specs.Lists.{first}
+use Rattle.locations.specs.Steps.{tokens}
+use Rattle.locations.specs.declared.step.Step.{Step}
 use Rattle.schema_scan.specs.Missteps.{Misstep, wrong_shape, wrong_id, wrong_anchor, wrong_dialect}
-use Rattle.schema_scan.specs.declared.refusal.Step.{Step}
-use Rattle.schema_scan.specs.declared.refusal.Step.TheVariants.{Name, Index}
 use Rattle.schema_scan.specs.declared.refusal.Refusal.{Refusal}
 use Rattle.schema_scan.specs.declared.refusal.Refusal.TheVariants.{NoRoom, Shape, Id, Anchor, Dialect}
 
-abbrev pub token_of : Step → Text
-token_of (Name name) = name.now
-token_of (Index index) = decimal index
-
 -- the pointer of these steps, the last one first
 abbrev pub way_up : List Step → Pointer
-way_up steps = reverse (map token_of steps)
+way_up steps = reverse (tokens steps)
 
 -- the walk stops at the first of these missteps, unless memory ran out
 abbrev pub Refuses : Refusal → List Misstep → Type 0

@@ -1,7 +1,7 @@
 //! Names that stand twice: URIs of resources, and anchors (JSON Schema 2020-12 Core, sections 8.2.1 and 8.2.2).
 
-ghost use Rattle.std.specs.Prelude.{◌≡◌, ◌++◌, IfOk, OnOk, option_map, map};
-ghost use Rattle.definitions.specs.Values.{same_text, text_at};
+ghost use Rattle.std.specs.Prelude.{◌≡◌, ◌++◌, IfOk, OnOk, map};
+ghost use Rattle.definitions.specs.Values.{same_text};
 ghost use Rattle.definitions.specs.Lists.{has_repeat};
 ghost use Rattle.definitions.specs.Scanning.{same_anchor};
 ghost use Rattle.json_doc.specs.Docs.{value};
@@ -39,8 +39,8 @@ pub(crate) fn push_anchors<'t>(
     ensures { OnOk result (map anchor_view anchors.new.items
         ≡ map anchor_view anchors.old.items ++ anchors_at uri.now (value schema.now)) }
 {
-    let plain = text_at(schema, "$anchor");
-    let dynamic = text_at(schema, "$dynamicAnchor");
+    let plain = schema.text_at("$anchor");
+    let dynamic = schema.text_at("$dynamicAnchor");
     match (plain, dynamic) {
         (Some(name), Some(other)) => {
             anchors.push((uri, name))?;
@@ -53,11 +53,4 @@ pub(crate) fn push_anchors<'t>(
         (None, None) => {}
     }
     Ok(())
-}
-
-/// The text under this keyword, if the schema has one there.
-pub(crate) fn text_at<'t>(schema: &'t Doc, keyword: &str) -> Option<&'t str>
-    ensures { option_map (λ t. t.now) result ≡ text_at keyword.now (value schema.now) }
-{
-    schema.get(keyword)?.as_str()
 }

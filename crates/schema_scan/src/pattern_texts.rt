@@ -7,7 +7,6 @@ ghost use Rattle.json_doc.specs.Docs.{value, members_value};
 ghost use Rattle.json_doc.specs.Kinds.{as_members};
 ghost use Rattle.schema_scan.specs.PatternTexts.{patterns_at, names_at};
 
-use crate::names::text_at;
 use json_doc::{Doc, Members};
 use std::alloc::AllocError;
 
@@ -16,7 +15,7 @@ pub(crate) fn push_patterns<'t>(texts: &mut Vec<&'t str>, schema: &'t Doc) -> Re
     ensures { OnOk result (map (λ t. t.now) texts.new.items
         ≡ map (λ t. t.now) texts.old.items ++ patterns_at (value schema.now)) }
 {
-    if let Some(text) = text_at(schema, "pattern") {
+    if let Some(text) = schema.text_at("pattern") {
         texts.push(text)?;
     }
     push_names_at(texts, schema, "patternProperties")

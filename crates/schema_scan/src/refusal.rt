@@ -9,14 +9,8 @@ ghost use Rattle.schema_scan.specs.Refusals.{Refuses, way_up};
 
 use faults::Fault;
 use json_doc::Pointer;
+use locations::Step;
 use std::alloc::{AllocError, Global};
-
-/// A step of the way from a document's root to a keyword.
-#[derive(Clone, Copy, Debug)]
-pub(crate) enum Step<'a> {
-    Name(&'a str),
-    Index(usize),
-}
 
 /// Why a walk stops before its end.
 #[derive(Drop)]

@@ -3,7 +3,7 @@
 ghost use Rattle.std.specs.Prelude.{◌≡◌, true, nat_lt, ◌<◌, [], ◌∷◌, ◌++◌, ◌||◌, length, OnOk, IfOk, map, string_bytes};
 ghost use Rattle.std.specs.List.{list_all};
 ghost use Rattle.json_doc.specs.Docs.{value};
-ghost use Rattle.schema_scan.specs.Places.{resource_of, opens_resource, place_of, opened_uri, id_of};
+ghost use Rattle.schema_scan.specs.Places.{resource_of, opens_resource, place_of, opened_uri};
 ghost use Rattle.schema_scan.specs.AnchorViews.{anchor_view};
 ghost use Rattle.schema_scan.specs.Names.{uris_opened, anchors_in};
 ghost use Rattle.schema_scan.specs.PatternTexts.{patterns_in};
@@ -11,9 +11,9 @@ ghost use Rattle.schema_scan.specs.Uris.{uri_at, Extends};
 
 use crate::names::push_anchors;
 use crate::pattern_texts::push_patterns;
-use crate::resources::{id_of, opened_uri};
 use json_doc::Doc;
 use std::alloc::{AllocError, Global};
+use uri_ref::opened_uri;
 
 /// Where a schema stands.
 #[derive(Clone, Copy, Debug)]
@@ -115,7 +115,7 @@ impl<'a> Table<'a> {
         ensures at_root { IfOk result
             (λ s. s.at_root ≡ (at_root || opens_resource (value schema.now))) }
     {
-        match id_of(schema) {
+        match schema.text_at("$id") {
             Some(id) => {
                 let uri = opened_uri(alloc, self.uri(around), id)?;
                 let resource = self.push_uri(uri)?;

@@ -1,11 +1,10 @@
 -- Claims of the URIs of resources, among documents that are kept.
-use Rattle.std.proofs.Common.{◌≡◌, Bool, true, false, not, cond, List, [], ◌∷◌, ◌++◌, map, Contains, Option, Ordering, Some, None, find, is_some, unwrap_or, option_map, option_and_then, ◌⊎◌, Less, Equal, Greater, sym, refl, ap, ◌∙◌, subst, inl, inr, true≢false}
+use Rattle.std.proofs.Common.{◌≡◌, Bool, true, false, not, cond, List, [], ◌∷◌, ◌++◌, map, Contains, Option, Some, None, find, is_some, unwrap_or, option_map, option_and_then, ◌⊎◌, sym, refl, ap, ◌∙◌, subst, inl, inr, true≢false}
 use Rattle.std.proofs.lemmas.Bool.{false_from_ne_true, or_parts}
 use Rattle.std.specs.BTreeMap.{BTreeMap, get_by_text}
-use Rattle.std.specs.Cmp.Lexicographic.{slice_cmp, bytes_decides}
+use Rattle.std.specs.Cmp.Lexicographic.{bytes_decides}
 use Rattle.std.specs.Global.{Global}
 use Rattle.std.specs.List.{list_any}
-use Rattle.std.specs.Ordering.{match_ordering, nat_cmp}
 use Rattle.std.specs.declared.rc.Rc.{Rc}
 use Rattle.std.specs.declared.string.String.{String}
 use Rattle.definitions.specs.Documents.{canonicals, document_of, others_of, placed, placed_all, resources_of, resource_uris_of}
@@ -17,6 +16,7 @@ use Rattle.definitions.specs.Schemas.{Document, schemas_of}
 use Rattle.definitions.specs.Values.{Text, same_text}
 use Rattle.definition_laws.proofs.JoinedDocuments.{first_apart, from_all, in_all}
 use Rattle.definition_laws.proofs.Membership.{nothing_in, is_first, is_later, first_or_later, from_filter, in_map, found_none, found_some}
+use Rattle.definition_laws.proofs.PlacedDocuments.{placed_itself}
 use Rattle.definition_laws.proofs.Repeats.{in_flat_map, from_flat_map}
 use Rattle.definition_laws.proofs.Resources.{one_document, opened_is_root, root_opens, same_text-unlike}
 use Rattle.definition_laws.proofs.StoredDocuments.{found_by_uri, one_holder}
@@ -126,15 +126,6 @@ claims_put claims now es ds after claimed there made from within distinct x k u 
     some_claim (Some before) e f = ap Some (f before)
 
 -- ---- what is put is there
-itself_placed : (d : Document) (ds : List Document) → Contains (placed d ds) d
-itself_placed d [] = is_first d []
-itself_placed d (e ∷ es) = at (slice_cmp nat_cmp d.canonical e.canonical) (itself_placed d es)
-  where
-    at : (o : Ordering) → Contains (placed d es) d → Contains (match_ordering o (d ∷ e ∷ es) (d ∷ es) (e ∷ placed d es)) d
-    at Less later = is_first d (e ∷ es)
-    at Equal later = is_first d es
-    at Greater later = is_later e d (placed d es) later
-
 each_placed : (es ds : List Document) → has_repeat same_text (canonicals es) ≡ false → (e : Document) → Contains es e → Contains (placed_all es ds) e
 each_placed [] ds once e k = absurd (nothing_in e k)
 each_placed (f ∷ es) ds once e k =
@@ -142,7 +133,7 @@ each_placed (f ∷ es) ds once e k =
     elim (first_or_later f e es k) [
       | inl same ↦
           subst (Contains (placed_all es (placed f ds))) same
-          (in_all es (placed f ds) f (itself_placed f ds) (λ g c. same_text-unlike f.canonical g.canonical (first_apart f es apart.0 g c)))
+          (in_all es (placed f ds) f (placed_itself f ds) (λ g c. same_text-unlike f.canonical g.canonical (first_apart f es apart.0 g c)))
       | inr later ↦ each_placed es (placed f ds) apart.1 e later
     ]
 

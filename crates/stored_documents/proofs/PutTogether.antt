@@ -1,25 +1,25 @@
 -- Several documents that are put together.
-use Rattle.std.proofs.Common.{◌≡◌, ℕ, ◌+◌, ◌-◌, ◌^◌, ◌<◌, ◌≤◌, ◌++◌, Fits, w64, get_or, Bool, true, false, not, cond, List, [], ◌∷◌, map, flat_map, length, take, Contains, None, sym, refl, ap, ◌∙◌, subst, inl, inr, arith}
-use Rattle.std.proofs.lemmas.Bool.{or_from, or_parts}
+use Rattle.std.proofs.Common.{◌≡◌, ℕ, ◌+◌, ◌-◌, ◌^◌, ◌<◌, ◌≤◌, ◌++◌, Fits, w64, get_or, false, List, [], ◌∷◌, map, flat_map, length, take, None, sym, refl, ap, ◌∙◌, subst, arith}
+use Rattle.std.proofs.lemmas.Bool.{or_parts}
 use Rattle.std.proofs.lemmas.List.{map-append, take-map}
 use Rattle.std.proofs.lemmas.List.Sums.{sum_by-append, sum_by-cons, sum_by-take-le}
 use Rattle.std.specs.Global.{Global}
 use Rattle.std.specs.List.{list_any}
 use Rattle.std.specs.declared.rc.Rc.{Rc}
-use Rattle.definitions.specs.Batches.{repeats, repeated_uri, taken_by}
-use Rattle.definitions.specs.Documents.{bytes_of, canonicals, document_of, others_of, placed, placed_all, taken_uris, Ascend}
+use Rattle.definitions.specs.Batches.{repeated_uri, taken_by}
+use Rattle.definitions.specs.Documents.{bytes_of, canonicals, document_of, placed, placed_all, taken_uris, Ascend}
 use Rattle.definitions.specs.Keeping.{AreKept}
 use Rattle.definitions.specs.Lists.{has_repeat, option_list}
 use Rattle.definitions.specs.Patterns.{regular_search}
 use Rattle.definitions.specs.Reach.{least}
 use Rattle.definitions.specs.Schemas.{Document}
 use Rattle.definitions.specs.Texts.{text}
-use Rattle.definitions.specs.Values.{Text, same_text}
-use Rattle.definition_laws.proofs.AcceptedDocuments.{neither, free_of_others}
-use Rattle.definition_laws.proofs.JoinedDocuments.{ascend_all, ascend_part, ascend_placed, outside, outside_rest}
+use Rattle.definitions.specs.Values.{same_text}
+use Rattle.definition_laws.proofs.AcceptedBatches.{flat_none, unrepeated}
+use Rattle.definition_laws.proofs.AcceptedDocuments.{free_of_others}
+use Rattle.definition_laws.proofs.JoinedDocuments.{ascend_all, ascend_outside, ascend_placed, none_outside, outside, outside_rest}
 use Rattle.definition_laws.proofs.KeptDocuments.{IsFine, batch_kept}
 use Rattle.definition_laws.proofs.LeastTexts.{no_least}
-use Rattle.definition_laws.proofs.Membership.{nothing_in, first_or_later, from_filter, found_none}
 use Rattle.definition_laws.proofs.QuotaSums.{added}
 use Rattle.definition_laws.proofs.Repeats.{cut}
 use Rattle.lemmas.proofs.Lists.{map-take_more}
@@ -31,28 +31,6 @@ use Rattle.stored_documents.proofs.KeptStored.{fine}
 use Rattle.stored_documents.proofs.MeasuredDocuments.{bytes_more, is_instead}
 
 -- ---- no repeats, and nothing taken
-repeats_none_at : (b : Bool) (t : Text) (ts : List Text) → cond b (t ∷ repeats ts) (repeats ts) ≡ [] → (b ≡ false) × (repeats ts ≡ [])
-repeats_none_at true t ts h = cc
-repeats_none_at false t ts h = (refl, h)
-
-repeats_none : (ts : List Text) → repeats ts ≡ [] → has_repeat same_text ts ≡ false
-repeats_none [] h = refl
-repeats_none (t ∷ ts) h =
-    let parts = repeats_none_at (list_any (same_text t) ts) t ts h in
-    or_from (list_any (same_text t) ts) (has_repeat same_text ts) parts.0 (repeats_none ts parts.1)
-
-pub unrepeated : (ds : List Document) → repeated_uri ds ≡ None → has_repeat same_text (canonicals ds) ≡ false
-unrepeated ds once = repeats_none (canonicals ds) (no_least (repeats (canonicals ds)) once)
-
-flat_none : {X Y : Type 0} (f : X → List Y) (x : X) (xs : List X) → flat_map f xs ≡ [] → Contains xs x → f x ≡ []
-flat_none f x [] h c = absurd (nothing_in x c)
-flat_none f x (y ∷ ys) h c =
-    let parts = neither (f y) (flat_map f ys) h in
-    elim (first_or_later y x ys c) [
-      | inl same ↦ ap f (sym same) ∙ parts.0
-      | inr later ↦ flat_none f x ys parts.1 later
-    ]
-
 pub kept_with_all : (ss : List (Rc Stored Global)) (ds : List Document) → AreKept regular_search ds → repeated_uri (stored_documents ss) ≡ None
     → taken_by (placed_all (stored_documents ss) ds) (stored_documents ss) ≡ None → AreKept regular_search (placed_all (stored_documents ss) ds)
 kept_with_all ss ds kept once free =
@@ -63,18 +41,6 @@ kept_with_all ss ds kept once free =
     (unrepeated es once)
 
 -- ---- their bytes
-ascend_outside : (es ds : List Document) → Ascend ds → Ascend (outside es ds)
-ascend_outside [] ds ascend = ascend
-ascend_outside (e ∷ es) ds ascend = ascend_part (λ x. not (same_text e.canonical x.canonical)) (outside es ds) (ascend_outside es ds ascend)
-
-none_outside : (uri : Text) (ds : List Document) → document_of (others_of uri ds) uri ≡ None
-none_outside uri ds =
-    found_none (λ (d : Document). same_text uri d.canonical) (others_of uri ds) (λ d c. unlike (same_text uri d.canonical) (from_filter (λ (x : Document). not (same_text uri x.canonical)) d ds c).1)
-  where
-    unlike : (b : Bool) → not b ≡ true → b ≡ false
-    unlike true h = sym h
-    unlike false h = refl
-
 add_up : (all es rest own e part : ℕ) → all ≡ es + part → part ≡ rest + own → e ≡ own + es → all ≡ e + rest
 add_up all es rest own e part f g h = omega (arith, f, g, h)
 

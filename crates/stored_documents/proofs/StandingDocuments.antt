@@ -1,20 +1,15 @@
 -- The document that stands at a place.
-use Rattle.std.proofs.Common.{◌≡◌, ℕ, zero, suc, List, [], ◌∷◌, map, length, get_or, Some, sym, refl, ap, ◌∙◌}
+use Rattle.std.proofs.Common.{◌≡◌, ℕ, List, length, get_or, Some, sym, ap, ◌∙◌}
 use Rattle.std.proofs.lemmas.List.{length-map}
 use Rattle.std.specs.Global.{Global}
 use Rattle.std.specs.declared.rc.Rc.{Rc}
 use Rattle.definitions.specs.Documents.{document_of, Ascend}
 use Rattle.definitions.specs.Values.{Text}
-use Rattle.linker.proofs.Positions.{standing_found}
+use Rattle.linker.proofs.Positions.{get_or-map, standing_found}
 use Rattle.linker.specs.Positions.{StandsAt}
 use Rattle.stored_documents.specs.SharedStored.{stored_documents}
 use Rattle.stored_documents.specs.StoredDocuments.{stored_document}
 use Rattle.stored_documents.specs.declared.stored.Stored.{Stored}
-
-get_or-map : {X Y : Type 0} (f : X → Y) (xs : List X) (k : ℕ) (d : X) → get_or (map f xs) k (f d) ≡ f (get_or xs k d)
-get_or-map f [] k d = refl
-get_or-map f (x ∷ xs) zero d = refl
-get_or-map f (x ∷ xs) (suc k) d = get_or-map f xs k d
 
 pub stored_as_long : (items : List (Rc Stored Global)) → length (stored_documents items) ≡ length items
 unfolding stored_documents

@@ -8,7 +8,7 @@ ghost use Rattle.faults.specs.View.{fault};
 ghost use Rattle.json_doc.specs.Docs.{value};
 ghost use Rattle.tenants_file.specs.Entries.{entry_view};
 
-use crate::member_values::{array_at, text_at};
+use crate::member_values::array_at;
 use json_doc::{Doc, Fault};
 use std::alloc::Global;
 
@@ -77,7 +77,7 @@ fn each_entry(alloc: Global, items: &[Doc]) -> Result<Vec<BatchEntry<'_>>, Fault
 fn entry_of(item: &Doc) -> Option<BatchEntry<'_>>
     ensures { option_map entry_view result ≡ entry_in (value item.now) }
 {
-    let uri = text_at(item, "uri")?;
+    let uri = item.text_at("uri")?;
     let schema = item.get("schema")?;
     Some(BatchEntry { uri, schema })
 }

@@ -1,18 +1,12 @@
-//! Members of an object that are texts, numbers or arrays.
+//! Members of an object that are numbers or arrays.
 
 ghost use Rattle.std.specs.Prelude.{◌≡◌, ◌^◌, map, option_and_then, option_map};
 ghost use Rattle.definitions.specs.Tenants.{number_below};
-ghost use Rattle.definitions.specs.Values.{get, text_at};
+ghost use Rattle.definitions.specs.Values.{get};
 ghost use Rattle.json_doc.specs.Docs.{value};
 ghost use Rattle.json_doc.specs.Kinds.{as_elements};
 
 use json_doc::Doc;
-
-pub(crate) fn text_at<'a>(object: &'a Doc, name: &str) -> Option<&'a str>
-    ensures { option_map (λ t. t.now) result ≡ text_at name.now (value object.now) }
-{
-    object.get(name)?.as_str()
-}
 
 pub(crate) fn array_at<'a>(object: &'a Doc, name: &str) -> Option<&'a [Doc]>
     ensures { option_map (λ items. map value items.now) result

@@ -7,7 +7,7 @@ ghost use Rattle.faults.specs.View.{fault};
 ghost use Rattle.json_doc.specs.Docs.{value};
 ghost use Rattle.tenants_file.specs.Tenants.{tenant_view, listed_tenant};
 
-use crate::member_values::{array_at, natural_at, small_natural_at, text_at};
+use crate::member_values::{array_at, natural_at, small_natural_at};
 use json_doc::{Doc, Fault, read};
 use std::alloc::Global;
 
@@ -81,7 +81,7 @@ fn tenant_of(alloc: Global, item: &Doc) -> Result<Tenant, Fault>
 fn parts_of(item: &Doc) -> Option<(&str, u32, u64)>
     ensures { option_map listed_tenant result ≡ tenant_in (value item.now) }
 {
-    let key = text_at(item, "key")?;
+    let key = item.text_at("key")?;
     let documents = small_natural_at(item, "documents")?;
     let bytes = natural_at(item, "bytes")?;
     Some((key, documents, bytes))

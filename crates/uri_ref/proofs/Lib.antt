@@ -10,3 +10,4 @@ pub mod Missing
 pub mod Sound
 pub mod Unique
 pub mod Based
+pub mod CutTexts

@@ -1,3 +1,4 @@
 pub mod Ordered
 pub mod Sorting
 pub mod Ended
+pub mod Repeats

@@ -5,4 +5,4 @@ mod ordering;
 mod uniqueness;
 
 pub use ordering::compare;
-pub use uniqueness::is_unique;
+pub use uniqueness::{has_same, is_unique};

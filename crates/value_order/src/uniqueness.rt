@@ -1,6 +1,7 @@
 //! Arrays whose elements are unique.
 
 ghost use Rattle.std.specs.Prelude.{◌≡◌, ◌∷◌, IfOk, map, not};
+ghost use Rattle.std.specs.List.{list_any};
 ghost use Rattle.definitions.specs.Values.{same};
 ghost use Rattle.definitions.specs.Lists.{has_repeat};
 ghost use Rattle.definitions.specs.Assertions.{is_unique};
@@ -12,9 +13,13 @@ use crate::ordering::compare;
 use json_doc::{Doc, same};
 use std::alloc::{AllocError, Global};
 
+// So many elements are compared in pairs.
+const MAX_PAIRED: usize = 16;
+
 /// Whether no two elements of the list are equal (JSON Schema 2020-12 Validation, section 6.4.3): true of what is not a
-/// list. The elements are sorted and neighbours compared, in a time that grows with their number times its logarithm,
-/// and in memory for a reference to each. The only error is want of that memory.
+/// list. Up to 16 elements are compared in pairs, and this takes no memory. More are sorted and neighbours compared, in a
+/// time that grows with their number times its logarithm, and in memory for a reference to each. The only error is want of
+/// that memory.
 pub fn is_unique(alloc: Global, doc: &Doc) -> Result<bool, AllocError>
     ensures { IfOk result (λ b. b ≡ is_unique (value doc.now)) }
 {
@@ -27,8 +32,29 @@ pub fn is_unique(alloc: Global, doc: &Doc) -> Result<bool, AllocError>
 fn are_distinct(alloc: Global, items: &[Doc]) -> Result<bool, AllocError>
     ensures { IfOk result (λ b. b ≡ not (has_repeat same (map value items.now))) }
 {
+    if items.len() <= MAX_PAIRED {
+        return Ok(!has_repeat(items));
+    }
     let docs = sorted(alloc, items)?;
     Ok(!has_same_neighbours(docs.as_slice()))
+}
+
+fn has_repeat(items: &[Doc]) -> bool
+    ensures { result ≡ has_repeat same (map value items.now) }
+{
+    for (index, item) in items.iter().enumerate() {
+        if has_same(item, &items[index + 1..]) {
+            return true;
+        }
+    }
+    false
+}
+
+/// Whether one of the values is equal to this one. This takes no memory.
+pub fn has_same(doc: &Doc, others: &[Doc]) -> bool
+    ensures { result ≡ list_any (λ d. same (value doc.now) (value d)) others.now }
+{
+    others.iter().any(|other| same(doc, other))
 }
 
 // The items in the order of their values.

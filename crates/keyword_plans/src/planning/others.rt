@@ -23,7 +23,7 @@ use std::alloc::Global;
 
 // The keywords beside `additionalProperties` that take members.
 #[derive(Clone, Copy)]
-struct Beside<'a> {
+struct PropertyKeywords<'a> {
     linked: &'a Linked,
     // The members of `properties`, and of `patternProperties`.
     properties: Option<&'a Members>,
@@ -47,11 +47,11 @@ pub(crate) fn plan_others<'a>(
     }
 }
 
-fn keywords_beside<'a>(site: Site<'_, 'a>) -> Beside<'a>
+fn keywords_beside<'a>(site: Site<'_, 'a>) -> PropertyKeywords<'a>
     ensures linked { result.linked.now ≡ site.entry.linked.now }
     ensures beside { (a : Application) → Shows site.entry a → StandsBeside result a }
 {
-    Beside {
+    PropertyKeywords {
         linked: site.linked,
         properties: members_beside(site.schema, "properties"),
         patterns: members_beside(site.schema, "patternProperties"),
@@ -71,7 +71,7 @@ fn members_beside<'a>(schema: &'a Doc, keyword: &str) -> Option<&'a Members>
 
 fn plan_untaken<'a>(
     alloc: Global,
-    beside: Beside<'a>,
+    beside: PropertyKeywords<'a>,
     schema: &'a Doc,
     members: &'a Members,
 ) -> Result<Vec<Planned<'a>>, Fault>
@@ -95,7 +95,7 @@ fn plan_untaken<'a>(
 }
 
 // Whether a keyword beside takes the member of this name.
-fn is_taken(alloc: Global, beside: Beside<'_>, name: &str) -> Result<bool, Fault>
+fn is_taken(alloc: Global, beside: PropertyKeywords<'_>, name: &str) -> Result<bool, Fault>
     ensures ok { (a : Application) → StandsBeside beside.entry a
         → IfOk result (λ b. b ≡ is_taken (linked_rules beside.entry.linked.now) a name.now) }
     ensures err { IfErr result (λ f. f ≡ Fault.NoRoom) }

@@ -5,7 +5,8 @@ use Rattle.definitions.specs.Reach.{holds_resource}
 use Rattle.schema_scan.specs.CompiledDocuments.{compiled_document}
 use Rattle.schema_scan.specs.declared.compiled.Compiled.{Compiled}
 use Rattle.linker.specs.SharedDocuments.{shared_documents}
-use Rattle.linker.proofs.Adding.{is_some-find, is_some-map}
+use Rattle.lemmas.proofs.Options.{is_some-map}
+use Rattle.linker.proofs.Adding.{is_some-find}
 use Rattle.linker.proofs.holders.is_held.Goals as goal
 
 pub returns : goal.returns

@@ -1,5 +1,5 @@
 use Rattle.std.proofs.Common.{IsTrue, is_err, subst, sym, ◌∙◌}
-use Rattle.linker.proofs.CutTexts.{base_before, own_fragment}
+use Rattle.uri_ref.proofs.CutTexts.{base_before, own_fragment}
 use Rattle.linker.proofs.references.resolve_fragment.Goals as goal
 
 pub returns-in-Ok-Some-clause-ok : goal.returns-in-Ok-Some-clause-ok

@@ -1,7 +1,7 @@
 use Rattle.std.proofs.Common.{◌≡◌, IsTrue, is_err, subst, sym, ap₂, ◌∙◌}
 use Rattle.definitions.specs.Resolution.{resolve}
 use Rattle.definitions.specs.Uris.{split}
-use Rattle.linker.proofs.CutTexts.{fragment_read, text_before}
+use Rattle.uri_ref.proofs.CutTexts.{fragment_read, text_before}
 use Rattle.linker.proofs.references.resolve_whole.Goals as goal
 
 pub returns-in-Some-clause-ok : goal.returns-in-Some-clause-ok

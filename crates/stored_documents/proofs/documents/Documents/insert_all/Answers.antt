@@ -1,13 +1,13 @@
 use Rattle.std.proofs.Common.{◌^◌, ◌<◌, Contains, ap, sym, subst, ◌∙◌}
 use Rattle.definitions.specs.Batches.{taken_by}
 use Rattle.definitions.specs.Documents.{bytes_of, placed_all}
+use Rattle.definition_laws.proofs.AcceptedBatches.{unrepeated}
 use Rattle.stored_documents.specs.Claims.{claims_in, claims_of}
 use Rattle.stored_documents.specs.DocumentLists.{documents_in}
 use Rattle.stored_documents.specs.KeptDocuments.{kept_ordered}
 use Rattle.stored_documents.specs.OrderedDocuments.{ordered_documents}
 use Rattle.stored_documents.specs.SharedStored.{stored_documents}
 use Rattle.stored_documents.proofs.ClaimedDocuments.{claimed_after}
-use Rattle.stored_documents.proofs.PutTogether.{unrepeated}
 use Rattle.stored_documents.proofs.documents.Documents.insert_all.Goals as goal
 
 pub insert_all-requires-clause-free : goal.insert_all-requires-clause-free

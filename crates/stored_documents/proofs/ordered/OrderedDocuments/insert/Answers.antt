@@ -1,8 +1,9 @@
-use Rattle.std.proofs.Common.{Result, Ok, Err, OnErr, is_some, length, option_map, ap, sym, subst, ◌∙◌}
+use Rattle.std.proofs.Common.{is_some, length, option_map, ap, sym, subst, ◌∙◌}
 use Rattle.definitions.specs.Documents.{bytes_of, placed}
 use Rattle.definitions.specs.Keeping.{AreKept}
 use Rattle.definitions.specs.Patterns.{regular_search}
 use Rattle.definitions.specs.Texts.{text}
+use Rattle.lemmas.proofs.Results.{on_err}
 use Rattle.stored_documents.specs.OrderedDocuments.{ordered_documents}
 use Rattle.stored_documents.specs.SharedStored.{stored_documents}
 use Rattle.stored_documents.specs.StoredDocuments.{stored_document}
@@ -10,10 +11,6 @@ use Rattle.stored_documents.specs.KeptDocuments.{kept_stored}
 use Rattle.stored_documents.proofs.KeptStored.{kept_with}
 use Rattle.stored_documents.proofs.MeasuredDocuments.{fits_as, sum_instead, sum_more}
 use Rattle.stored_documents.proofs.ordered.OrderedDocuments.insert.Goals as goal
-
-on_err : {A E P : Type 0} (r : Result A E) → P → OnErr r P
-on_err (Ok x) p = tt
-on_err (Err e) p = p
 
 pub returns-in_err-replaced-clause-kept : goal.returns-in_err-replaced-clause-kept
 unfolding ordered_documents

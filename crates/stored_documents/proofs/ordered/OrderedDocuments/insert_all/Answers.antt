@@ -1,17 +1,15 @@
-use Rattle.std.proofs.Common.{◌^◌, ◌<◌, ◌≤◌, Result, Ok, Err, OnErr, ap, sym, subst, ◌∙◌, arith}
+use Rattle.std.proofs.Common.{◌^◌, ◌<◌, ◌≤◌, ap, sym, subst, ◌∙◌, arith}
 use Rattle.definitions.specs.Documents.{bytes_of, placed_all}
 use Rattle.definitions.specs.Keeping.{AreKept}
 use Rattle.definitions.specs.Patterns.{regular_search}
+use Rattle.definition_laws.proofs.AcceptedBatches.{unrepeated}
+use Rattle.lemmas.proofs.Results.{on_err}
 use Rattle.stored_documents.specs.OrderedDocuments.{ordered_documents}
 use Rattle.stored_documents.specs.KeptDocuments.{kept_stored}
 use Rattle.stored_documents.specs.SharedStored.{stored_documents}
 use Rattle.stored_documents.proofs.MeasuredDocuments.{fits_as}
-use Rattle.stored_documents.proofs.PutTogether.{below_fits, kept_with_all, own_bytes, sum_together, unrepeated}
+use Rattle.stored_documents.proofs.PutTogether.{below_fits, kept_with_all, own_bytes, sum_together}
 use Rattle.stored_documents.proofs.ordered.OrderedDocuments.insert_all.Goals as goal
-
-on_err : {A E P : Type 0} (r : Result A E) → P → OnErr r P
-on_err (Ok x) p = tt
-on_err (Err e) p = p
 
 pub returns-in_err-reserve-clause-kept : goal.returns-in_err-reserve-clause-kept
 unfolding ordered_documents

@@ -8,8 +8,8 @@ use Rattle.schema_index.specs.Spots.{Spot, at_root, spot_in}
 use Rattle.schema_index.specs.Ways.{owned_hops}
 use Rattle.schema_index.specs.Gathering.{anchor_mark, gathered_uris, gathered_ways, gathered_references, gathered_marks, references_at, marks}
 use Rattle.schema_index.proofs.Gatherings.{root_uri-one, root_way-one}
-use Rattle.schema_index.proofs.gathered.Gathered.add.Goals as goal
-use Rattle.schema_index.proofs.gathered.Gathered.add.Goals.{then-way-start+in_ok-push_root, else-way-start}
+use Rattle.schema_index.proofs.gathered.GatheredSchemas.add.Goals as goal
+use Rattle.schema_index.proofs.gathered.GatheredSchemas.add.Goals.{then-way-start+in_ok-push_root, else-way-start}
 
 is-root : (steps : List Step) (start : ℕ) → length steps ≤ start → nat_le (length (step_hops steps)) start ≡ true
 is-root steps start h = rw length-map (grind (arith, nat_tests))

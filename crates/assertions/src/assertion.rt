@@ -1,8 +1,8 @@
 //! The keywords, and what each asks of the instance.
 
 ghost use Rattle.std.specs.Prelude.{◌≡◌, option_map};
-ghost use Rattle.definitions.specs.Assertions.{shape_of, asserted, holds};
-ghost use Rattle.definitions.specs.Keywords.{asserting};
+ghost use Rattle.definitions.specs.Assertions.{shape_of, assertion_holds, holds};
+ghost use Rattle.definitions.specs.Keywords.{assertion_row};
 ghost use Rattle.definitions.specs.Shapes.{has_shape};
 ghost use Rattle.json_doc.specs.Docs.{value};
 ghost use Rattle.keywords.specs.Shapes.{shape_view};
@@ -88,7 +88,7 @@ impl Assertion {
 
     /// The keyword that makes it.
     pub fn keyword(self) -> Keyword
-        ensures { row_of result ≡ asserting (row_of result).name (assertion_view self) }
+        ensures { row_of result ≡ assertion_row (row_of result).name (assertion_view self) }
     {
         match self {
             Assertion::TypeIs => Keyword::Type,
@@ -137,7 +137,7 @@ fn shape_of(assertion: Assertion) -> Shape
 
 // What the keyword asks, where its value has its shape.
 fn is_asserted(assertion: Assertion, keyword_value: &Doc, instance: &Doc) -> bool
-    ensures { result ≡ asserted (assertion_view assertion) (value keyword_value.now)
+    ensures { result ≡ assertion_holds (assertion_view assertion) (value keyword_value.now)
         (value instance.now) }
 {
     match assertion {

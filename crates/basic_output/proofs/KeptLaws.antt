@@ -7,7 +7,7 @@ use Rattle.std.specs.List.{list_all, insert}
 use Rattle.definitions.specs.Applied.{OutputUnit}
 use Rattle.lemmas.proofs.Lists.{map-insert}
 use Rattle.basic_output.specs.Entries.{Grows, entry_view, fits}
-use Rattle.basic_output.specs.Kept.{AreReached, raised, reach_before}
+use Rattle.basic_output.specs.Kept.{AreReached, raised_reach, reach_before}
 use Rattle.locations.specs.declared.step.Step.{Step}
 use Rattle.basic_output.specs.declared.entry.Entry.{Entry}
 use Rattle.basic_output.proofs.EntryLaws.{view_same, fits_more}
@@ -80,42 +80,42 @@ take_insert xs i x le =
     let n : length (take i xs) ≡ i = length-take-le i xs le in
     take-append-le i (take i xs) (x ∷ drop i xs) (omega (arith, n)) ∙ take-take i i xs (omega arith)
 
-pub raised_length : (reach : List ℕ) (i n : ℕ) → i ≤ length reach → length (raised reach i n) ≡ length reach + 1
+pub raised_length : (reach : List ℕ) (i n : ℕ) → i ≤ length reach → length (raised_reach reach i n) ≡ length reach + 1
 raised_length reach i n le =
     omega (arith, length-append (take i reach) (replicate (suc (length reach - i)) n), length-replicate (suc (length reach - i)) n, length-take-le i reach le)
 
-raised_before : (reach : List ℕ) (i n k : ℕ) → i ≤ length reach → k < i → get_or (raised reach i n) k 0 ≡ get_or reach k 0
+raised_before : (reach : List ℕ) (i n k : ℕ) → i ≤ length reach → k < i → get_or (raised_reach reach i n) k 0 ≡ get_or reach k 0
 raised_before reach i n k le less =
     let here : k < length (take i reach) = omega (arith, length-take-le i reach le) in
     get_or_append_left (take i reach) (replicate (suc (length reach - i)) n) 0 k here ∙ get_or-take i reach k 0 less
 
-raised_after : (reach : List ℕ) (i n k : ℕ) → i ≤ length reach → i ≤ k → k ≤ length reach → get_or (raised reach i n) k 0 ≡ n
+raised_after : (reach : List ℕ) (i n k : ℕ) → i ≤ length reach → i ≤ k → k ≤ length reach → get_or (raised_reach reach i n) k 0 ≡ n
 raised_after reach i n k le after within =
     let less : k - i < suc (length reach - i) = omega arith in
     get_or-append_right (take i reach) (replicate (suc (length reach - i)) n) i k 0 (length-take-le i reach le) after ∙ get_or-replicate (suc (length reach - i)) (k - i) n 0 less
 
 -- the numbers that are one more and then filled
-pub filled : (reach : List ℕ) (i n : ℕ) → i ≤ length reach → take i (reach ++ n ∷ []) ++ replicate (length (reach ++ n ∷ []) - i) n ≡ raised reach i n
+pub filled : (reach : List ℕ) (i n : ℕ) → i ≤ length reach → take i (reach ++ n ∷ []) ++ replicate (length (reach ++ n ∷ []) - i) n ≡ raised_reach reach i n
 filled reach i n le =
     let more : length (reach ++ n ∷ []) - i ≡ suc (length reach - i) = omega (arith, length-append reach (n ∷ [])) in
     ap₂ (λ a k. a ++ replicate k n) (take-append-le i reach (n ∷ []) le) more
 
 reached_below : (es fs : List Entry) (reach : List ℕ) (i n k : ℕ) → i ≤ length es → length es ≤ length reach → AreReached es reach → take i fs ≡ take i es → k < i
-    → list_all (fits (get_or (raised reach i n) k 0)) (take (suc k) fs) ≡ true
+    → list_all (fits (get_or (raised_reach reach i n) k 0)) (take (suc k) fs) ≡ true
 reached_below es fs reach i n k le covered h same less =
     let first : suc k ≤ i = omega arith in
     let start : take (suc k) fs ≡ take (suc k) es = sym (take-take (suc k) i fs first) ∙ ap (take (suc k)) same ∙ take-take (suc k) i es first in
-    let number : get_or (raised reach i n) k 0 ≡ get_or reach k 0 = raised_before reach i n k (omega arith) less in
+    let number : get_or (raised_reach reach i n) k 0 ≡ get_or reach k 0 = raised_before reach i n k (omega arith) less in
     ap₂ (λ m xs. list_all (fits m) xs) number start ∙ h k (omega arith)
 
 reached_from : (fs : List Entry) (reach : List ℕ) (i n k : ℕ) → i ≤ length reach → i ≤ k → k ≤ length reach → list_all (fits n) fs ≡ true
-    → list_all (fits (get_or (raised reach i n) k 0)) (take (suc k) fs) ≡ true
+    → list_all (fits (get_or (raised_reach reach i n) k 0)) (take (suc k) fs) ≡ true
 reached_from fs reach i n k le after within h =
     ap (λ m. list_all (fits m) (take (suc k) fs)) (raised_after reach i n k le after within) ∙ all_take (fits n) (suc k) fs h
 
 -- the entries may have changed from the place i on
 pub reached_raised : (es fs : List Entry) (reach : List ℕ) (i n : ℕ) → i ≤ length es → length es ≤ length reach → AreReached es reach → take i fs ≡ take i es
-    → list_all (fits n) fs ≡ true → length fs ≤ length reach + 1 → AreReached fs (raised reach i n)
+    → list_all (fits n) fs ≡ true → length fs ≤ length reach + 1 → AreReached fs (raised_reach reach i n)
 reached_raised es fs reach i n le covered h same all short k less =
     elim (cases_lt k i) [
       | inl before ↦ reached_below es fs reach i n k le covered h same before
@@ -129,10 +129,10 @@ pub record AreKept (n : ℕ) (fs : List Entry) (reach : List ℕ) : Type 0 where
   pub reached : AreReached fs reach
 
 are_kept : (es fs : List Entry) (reach new : List ℕ) (i n : ℕ) → i ≤ length es → length es ≤ length reach → AreReached es reach → take i fs ≡ take i es
-    → list_all (fits n) fs ≡ true → length fs ≤ length es + 1 → new ≡ raised reach i n → AreKept n fs new
+    → list_all (fits n) fs ≡ true → length fs ≤ length es + 1 → new ≡ raised_reach reach i n → AreKept n fs new
 are_kept es fs reach new i n le covered h same all short is =
     let size : length new ≡ length reach + 1 = ap length is ∙ raised_length reach i n (omega (arith, le, covered)) in
-    let reached : AreReached fs (raised reach i n) = reached_raised es fs reach i n le covered h same all (omega (arith, short, covered)) in
+    let reached : AreReached fs (raised_reach reach i n) = reached_raised es fs reach i n le covered h same all (omega (arith, short, covered)) in
     record {
       within = all;
       covered = omega (arith, size, short, covered);
@@ -140,7 +140,7 @@ are_kept es fs reach new i n le covered h same all short is =
     }
 
 pub inserted : (b : Bool) (es fs : List Entry) (e : Entry) (reach new : List ℕ) (i n : ℕ) → i ≤ length es → length es ≤ length reach → AreReached es reach
-    → list_all (fits n) es ≡ true → fits n e ≡ true → fs ≡ (if b then insert es i e else es) → new ≡ raised reach i n → AreKept n fs new
+    → list_all (fits n) es ≡ true → fits n e ≡ true → fs ≡ (if b then insert es i e else es) → new ≡ raised_reach reach i n → AreKept n fs new
 inserted true es fs e reach new i n le covered h all fit is grown =
     are_kept es fs reach new i n le covered h (ap (take i) is ∙ take_insert es i e le) (ap (list_all (fits n)) is ∙ all_insert (fits n) es i e all fit)
     (omega (arith, ap length is, length_insert es i e)) grown

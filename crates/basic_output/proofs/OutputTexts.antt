@@ -6,7 +6,7 @@ use Rattle.definitions.specs.Applied.{Outcome, OutputUnit}
 use Rattle.definitions.specs.Answers.{output_value, units_value}
 use Rattle.definitions.specs.Values.{Text, Value, boolean, object, to_members}
 use Rattle.json_doc.specs.Tokens.{value_tokens}
-use Rattle.basic_output.specs.Outputs.{reported, reported_tokens, units_output}
+use Rattle.basic_output.specs.Outputs.{reported_tokens, reported_units, units_output}
 
 pub output_tokens : (valid : Bool) (us : List OutputUnit)
     → value_tokens (units_output valid us) ≡ json.begin_object ∷ (reported_tokens valid us ++ json.key (codes "valid") ∷ json.boolean valid ∷ json.end_object ∷ [])
@@ -22,5 +22,5 @@ output_of true annotations errors us e = ap (units_output true) (sym e)
 output_of false annotations errors us e = ap (units_output false) (sym e)
 
 -- the output with what an outcome reports is that of the outcome
-pub outcome_output : (o : Outcome) (valid : Bool) (us : List OutputUnit) → o.valid ≡ valid → reported o ≡ us → units_output valid us ≡ output_value o
+pub outcome_output : (o : Outcome) (valid : Bool) (us : List OutputUnit) → o.valid ≡ valid → reported_units o ≡ us → units_output valid us ≡ output_value o
 outcome_output o valid us judged same = ap (λ b. units_output b us) (sym judged) ∙ output_of o.valid o.annotations o.errors us same

@@ -15,5 +15,5 @@ reach_before reach zero = 0
 reach_before reach (suc i) = get_or reach i 0
 
 -- one number more, and all from the place i on are n
-abbrev pub raised : List ℕ → ℕ → ℕ → List ℕ
-raised reach i n = take i reach ++ replicate (suc (length reach - i)) n
+abbrev pub raised_reach : List ℕ → ℕ → ℕ → List ℕ
+raised_reach reach i n = take i reach ++ replicate (suc (length reach - i)) n

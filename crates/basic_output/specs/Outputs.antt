@@ -7,8 +7,8 @@ use Rattle.definitions.specs.Applied.{Outcome, OutputUnit}
 use Rattle.definitions.specs.Answers.{units_value}
 
 -- what an outcome reports: the annotations of a valid instance, or the errors of another
-abbrev pub reported : Outcome → List OutputUnit
-reported o = if o.valid then o.annotations else o.errors
+abbrev pub reported_units : Outcome → List OutputUnit
+reported_units o = if o.valid then o.annotations else o.errors
 
 -- the output with these units
 abbrev pub units_output : Bool → List OutputUnit → Value

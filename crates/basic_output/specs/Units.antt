@@ -13,10 +13,10 @@ units_view u = map (entry_view u.steps.items) u.entries.items
 abbrev pub Kept : Type 0
 Kept = List Step × List ℕ
 
-abbrev pub kept : Units → Kept
-kept u = (u.steps.items, u.reach.items)
+abbrev pub kept_view : Units → Kept
+kept_view u = (u.steps.items, u.reach.items)
 
 -- the part of it that the first n entries refer to: all of it where there are no others
 abbrev pub kept_for : ℕ → Units → Kept
 kept_for n u =
-    if nat_lt n (length u.entries.items) then (take (reach_before u.reach.items n) u.steps.items, take n u.reach.items) else kept u
+    if nat_lt n (length u.entries.items) then (take (reach_before u.reach.items n) u.steps.items, take n u.reach.items) else kept_view u

@@ -11,7 +11,7 @@ ghost use Rattle.std.specs.List.{list_all};
 ghost use Rattle.json.specs.Token as json;
 ghost use Rattle.json_doc.specs.Tokens.{value_tokens, elements_tokens};
 ghost use Rattle.basic_output.specs.Entries.{entry_view, fits, is_within, said_fits, said_value, steps_of};
-ghost use Rattle.basic_output.specs.Outputs.{reported, reported_tokens, units_output};
+ghost use Rattle.basic_output.specs.Outputs.{reported_tokens, reported_units, units_output};
 ghost use Rattle.locations.specs.Steps.{step_value, tokens};
 ghost use Rattle.basic_output.specs.Units.{units_view};
 
@@ -28,7 +28,7 @@ use std::alloc::{AllocError, Global};
 pub fn output_text<'a>(alloc: Global, valid: bool, units: &Units<'a>) -> Result<String, Fault>
     ensures text { IfOk result
         (λ s. string_bytes s ≡ text (units_output valid (units_view units.now))) }
-    ensures answer { (o : Outcome) → o.valid ≡ valid → reported o ≡ units_view units.now
+    ensures answer { (o : Outcome) → o.valid ≡ valid → reported_units o ≡ units_view units.now
         → IfOk result (λ s. string_bytes s ≡ output_text o) }
     ensures room { IfErr result (λ f. f ≡ Fault.NoRoom) }
 {

@@ -3,7 +3,7 @@
 ghost use Rattle.std.specs.Prelude.{◌≡◌, ◌≤◌, ◌-◌, ◌++◌, true, length, replicate, take, OnOk, OnErr};
 ghost use Rattle.std.specs.List.{list_all};
 ghost use Rattle.basic_output.specs.Entries.{fits};
-ghost use Rattle.basic_output.specs.Kept.{AreReached, raised, reach_before};
+ghost use Rattle.basic_output.specs.Kept.{AreReached, raised_reach, reach_before};
 
 use crate::entry::{Entry, keep};
 use crate::location::Location;
@@ -49,7 +49,7 @@ impl<'a> Units<'a> {
     ghost use Rattle.std.specs.Prelude.{[], ◌∷◌};
     ghost use Rattle.std.specs.List.{insert};
     ghost use Rattle.basic_output.specs.Sayings.{unit_at};
-    ghost use Rattle.basic_output.specs.Units.{kept, kept_for, units_view};
+    ghost use Rattle.basic_output.specs.Units.{kept_for, kept_view, units_view};
 
     /// No units. This takes no memory; the units that come later take it from `alloc`.
     pub fn new(alloc: Global) -> Units<'a>
@@ -104,7 +104,7 @@ impl<'a> Units<'a> {
     /// Cuts off the units that came after the mark, with all that was kept for them alone.
     pub fn cut_back(&mut self, mark: Mark)
         ensures units { units_view self.new ≡ take mark (units_view self.old) }
-        ensures kept { kept self.new ≡ kept_for mark self.old }
+        ensures kept { kept_view self.new ≡ kept_for mark self.old }
     {
         if mark.units < self.entries.len() {
             let steps = reach_before(self.reach.as_slice(), mark.units);
@@ -126,7 +126,7 @@ fn reach_before(reach: &[usize], entries: usize) -> usize
 // One number more, where all from there on are this one.
 fn raise(reach: &mut Vec<usize>, start: usize, number: usize) -> Result<(), AllocError>
     requires { start ≤ length reach.old.items }
-    ensures ok { OnOk result (reach.new.items ≡ raised reach.old.items start number) }
+    ensures ok { OnOk result (reach.new.items ≡ raised_reach reach.old.items start number) }
     ensures unchanged { OnErr result (reach.new.items ≡ reach.old.items) }
 {
     reach.push(number)?;

@@ -3,7 +3,7 @@
 ghost use Rattle.std.specs.Prelude.{◌≡◌, map, IfOk};
 ghost use Rattle.requests.specs.Views.{reply_view};
 ghost use Rattle.tenant_hub.specs.Calls.{call_view};
-ghost use Rattle.tenant_hub.specs.Hubs.{hub_registries};
+ghost use Rattle.tenant_hub.specs.Hubs.{hub_view};
 ghost use Rattle.benchmark.specs.Counts.{answered_count, is_refused, CountsAnswered};
 
 use crate::calls::calls_of;
@@ -32,8 +32,8 @@ pub fn count_answered(
     hub: &mut Hub,
     calls: &[(String, Request)],
 ) -> Result<u64, Fault>
-    ensures { IfOk result (λ count. CountsAnswered (hub_registries hub.old)
-        (map call_view calls.now) count (hub_registries hub.new)) }
+    ensures { IfOk result (λ count. CountsAnswered (hub_view hub.old)
+        (map call_view calls.now) count (hub_view hub.new)) }
 {
     let replies = hub.run(alloc, calls)?;
     Ok(answered(&replies) as u64)

@@ -4,7 +4,7 @@ ghost use Rattle.std.specs.Prelude.{◌≡◌, IfOk};
 ghost use Rattle.checks.specs.Judgements.{input_of, judgement_of};
 ghost use Rattle.definitions.specs.Answers.{answer};
 ghost use Rattle.definitions.specs.Patterns.{has_match};
-ghost use Rattle.evaluator.specs.Reports.{reported};
+ghost use Rattle.evaluator.specs.Reports.{report_or_fault};
 ghost use Rattle.json_doc.specs.Docs.{value};
 ghost use Rattle.linker.specs.LinkedDocuments.{linked_documents, linked_uri};
 ghost use Rattle.benchmark.specs.Counts.{valid_count};
@@ -57,7 +57,7 @@ pub fn repeat_evaluate(
     instance: &Doc,
     times: u32,
 ) -> Result<u32, Fault>
-    ensures { IfOk result (λ count. count ≡ valid_count (reported (answer has_match
+    ensures { IfOk result (λ count. count ≡ valid_count (report_or_fault (answer has_match
         (linked_documents linked.now) (linked_uri linked.now) (value instance.now))) times) }
 {
     let mut valid = 0;

@@ -4,7 +4,7 @@ use Rattle.std.specs.Str.{is_utf8}
 use Rattle.definitions.specs.Values.{Text, same_text}
 use Rattle.definitions.specs.Resolution.{base_form}
 use Rattle.definitions.specs.Schemas.{Document, document_from}
-use Rattle.definitions.specs.Documents.{document_of, placed, placed_all}
+use Rattle.definitions.specs.Documents.{document_of, documents_with, documents_with_all}
 use Rattle.definitions.specs.Reach.{reach}
 use Rattle.definitions.specs.Registries.{Registry, documents_seen, is_in_library, put, delete, validate, bundled_from, batch, put_refusal, body_value}
 use Rattle.definitions.specs.Searches.{Search}
@@ -45,8 +45,8 @@ Holds g = HaveBaseTexts (documents_seen g)
 pub steps_keep_base_texts : StepsKeepBaseTexts
 steps_keep_base_texts search g (put uri body) kept text held =
     for_base_keeps Holds g (base_form uri) _ (λ b is_base. for_value_keeps Holds g (body_value body) _ (λ v was_read.
-    decided_keeps Holds (put_refusal search g (document_from b v) (placed (document_from b v) g.documents)) _ _ g
-    (λ none d c. elim (from_placed (document_from b v) d (documents_seen g) (subst (λ ds. Contains ds d) (puts g (document_from b v) (accepted search g (document_from b v) (placed (document_from b v) g.documents) none).unowned) c)) [
+    decided_keeps Holds (put_refusal search g (document_from b v) (documents_with (document_from b v) g.documents)) _ _ g
+    (λ none d c. elim (from_placed (document_from b v) d (documents_seen g) (subst (λ ds. Contains ds d) (puts g (document_from b v) (accepted search g (document_from b v) (documents_with (document_from b v) g.documents) none).unowned) c)) [
       | inl itself ↦ subst (λ x. is_utf8 x.base ≡ true) itself (base_form_text uri b text is_base)
       | inr other ↦ held d other
     ]) held) held) held
@@ -59,7 +59,7 @@ steps_keep_base_texts search g (validate uri body) kept text held =
 steps_keep_base_texts search g (bundled_from uri) kept text held = for_base_keeps Holds g (base_form uri) _ (λ b is_base. held) held
 steps_keep_base_texts search g (batch bytes) kept text held =
     for_entries_keeps Holds search g (batch_entries bytes)
-    (λ es ds read made none d c. elim (from_all ds (documents_seen g) d (subst (λ xs. Contains xs d) (batches g ds (granted g ds (placed_all ds g.documents) none).unowned) c)) [
+    (λ es ds read made none d c. elim (from_all ds (documents_seen g) d (subst (λ xs. Contains xs d) (batches g ds (granted g ds (documents_with_all ds g.documents) none).unowned) c)) [
       | inl new ↦ entered_texts search bytes es ds read made d new
       | inr old ↦ held d old
     ]) held

@@ -9,7 +9,7 @@ use Rattle.definitions.specs.Schemas.{Schema, Document, schema_at, is_root}
 use Rattle.definitions.specs.Lists.{option_list}
 use Rattle.definitions.specs.Scanning.{resource_uris, anchor_names, anchors_of}
 use Rattle.definitions.specs.Searches.{patterns_of}
-use Rattle.definitions.specs.Bundles.{under_its_uri, embedded, defs_of, bundle_of}
+use Rattle.definitions.specs.Bundles.{under_its_uri, members_with_documents, defs_of, bundle_of}
 use Rattle.definition_laws.specs.Identities.{IsDefinite}
 use Rattle.definition_laws.specs.Bundling.{IsAbsolute}
 use Rattle.definition_laws.proofs.Occurrences.{IsIn}
@@ -80,30 +80,30 @@ module _ {B : Type 0} (f : Schema → List B) (common : IsCommon f) where
       ∙ under_collected n d fit.shaped
 
   embedded_moved : (h : Text × Value → List B) (es : List Document) (ms : List (Text × Value)) → AreUnlike es → ((d : Document) → IsIn d es → (x : Value) → IsIn (d.canonical, x) ms → ⊥)
-      → IsPermutation (flat_map h (embedded es ms)) (flat_map (λ d. h (d.canonical, under_its_uri d)) es ++ flat_map h ms)
+      → IsPermutation (flat_map h (members_with_documents es ms)) (flat_map (λ d. h (d.canonical, under_its_uri d)) es ++ flat_map h ms)
   embedded_moved h [] ms unlike apart = IsPermutation-refl (flat_map h ms)
   embedded_moved h (d ∷ es) ms unlike apart =
       let own : List B = h (d.canonical, under_its_uri d) in
       let others : List B = flat_map (λ e. h (e.canonical, under_its_uri e)) es in
-      IsPermutation-trans (flat_map h (embedded (d ∷ es) ms)) (own ++ flat_map h (embedded es ms)) ((own ++ others) ++ flat_map h ms)
-      (put_new h d.canonical (under_its_uri d) (embedded es ms) (λ m i e. elim (embedded_from es ms m i) [
+      IsPermutation-trans (flat_map h (members_with_documents (d ∷ es) ms)) (own ++ flat_map h (members_with_documents es ms)) ((own ++ others) ++ flat_map h ms)
+      (put_new h d.canonical (under_its_uri d) (members_with_documents es ms) (λ m i e. elim (embedded_from es ms m i) [
         | inl r ↦ unlike.0 r.0 r.1 (e ∙ sym (ap (λ y. y.0) r.2))
         | inr j ↦ apart d (inl refl) m.1 (subst (λ n. IsIn (n, m.1) ms) (sym e) j)
       ]))
-      (subst (IsPermutation (own ++ flat_map h (embedded es ms))) (sym (append_assoc own others (flat_map h ms)))
-      (IsPermutation-append_right own (flat_map h (embedded es ms)) (others ++ flat_map h ms) (embedded_moved h es ms unlike.1 (λ e i. apart e (inr i)))))
+      (subst (IsPermutation (own ++ flat_map h (members_with_documents es ms))) (sym (append_assoc own others (flat_map h ms)))
+      (IsPermutation-append_right own (flat_map h (members_with_documents es ms)) (others ++ flat_map h ms) (embedded_moved h es ms unlike.1 (λ e i. apart e (inr i)))))
 
   -- ---- the root and the others
   new_moved : (n : ℕ) (root : Document) (es : List Document) → AreUnlike es → IsApart root es → ((d : Document) → IsIn d es → IsFit d)
       → IsPermutation (held f n root.canonical (codes "$defs", new_defs root es)) (flat_map (λ d. collected f n (root_schema d.canonical d.value)) es ++ flat_map (of_def n root.canonical) (defs_of root.value))
   new_moved n root es unlike apart fit =
       let h : Text × Value → List B = of_def n root.canonical in
-      let is : held f n root.canonical (codes "$defs", new_defs root es) ≡ flat_map h (embedded es (defs_of root.value)) =
+      let is : held f n root.canonical (codes "$defs", new_defs root es) ≡ flat_map h (members_with_documents es (defs_of root.value)) =
       of_defs n root.canonical (new_defs root es) ∙ ap (flat_map h) (members-new root es) in
       let own : flat_map (λ d. h (d.canonical, under_its_uri d)) es ≡ flat_map (λ d. collected f n (root_schema d.canonical d.value)) es =
       same_flat_map (λ d. h (d.canonical, under_its_uri d)) (λ d. collected f n (root_schema d.canonical d.value)) es (λ d i. of_embedded n root.canonical d (fit d i)) in
       subst (λ l. IsPermutation l (flat_map (λ d. collected f n (root_schema d.canonical d.value)) es ++ flat_map h (defs_of root.value))) (sym is)
-      (subst (λ l. IsPermutation (flat_map h (embedded es (defs_of root.value))) (l ++ flat_map h (defs_of root.value))) own (embedded_moved h es (defs_of root.value) unlike apart))
+      (subst (λ l. IsPermutation (flat_map h (members_with_documents es (defs_of root.value))) (l ++ flat_map h (defs_of root.value))) own (embedded_moved h es (defs_of root.value) unlike apart))
 
   defs_by : (n : ℕ) (root : Document) (es : List Document) → AreUnlike es → IsApart root es → ((d : Document) → IsIn d es → IsFit d) → (o : Option Value) → get (codes "$defs") root.value ≡ o
       → IsPermutation (held f n root.canonical (codes "$defs", new_defs root es))

@@ -9,7 +9,7 @@ use Rattle.definitions.specs.Shapes.{is_schema, is_schema_map}
 use Rattle.definitions.specs.Keywords.{keywords, keyword_named}
 use Rattle.definitions.specs.Schemas.{Schema, Document, schema_at}
 use Rattle.definitions.specs.Scanning.{is_id, keyword_faults}
-use Rattle.definitions.specs.Bundles.{under_its_uri, embedded, defs_of, bundle_of}
+use Rattle.definitions.specs.Bundles.{under_its_uri, members_with_documents, defs_of, bundle_of}
 use Rattle.definitions.specs.Searches.{Search}
 use Rattle.definition_laws.specs.Identities.{IsDefinite}
 use Rattle.definition_laws.proofs.Occurrences.{IsIn, contains_from_in, all_pass_in}
@@ -90,7 +90,7 @@ module _ (search : Search) (ds : List Document) (r : AreIdentified search ds) wh
       all_pass_in (λ k. is_schema k.1) (members y) m (and_parts (is_object y) (list_all (λ k. is_schema k.1) (members y)) right).1 j
 
   new_schema : (root : Document) → IsIn root ds → (others : List Document) → ((d : Document) → IsIn d others → IsIn d ds)
-      → (m : Text × Value) → IsIn m (embedded others (defs_of root.value)) → is_schema m.1 ≡ true
+      → (m : Text × Value) → IsIn m (members_with_documents others (defs_of root.value)) → is_schema m.1 ≡ true
   new_schema root i others inside m j =
       elim (embedded_from others (defs_of root.value) m j) [
         | inl e ↦
@@ -102,7 +102,7 @@ module _ (search : Search) (ds : List Document) (r : AreIdentified search ds) wh
 
   defs_faultless : (root : Document) → IsIn root ds → (others : List Document) → ((d : Document) → IsIn d others → IsIn d ds) → is_schema_map (new_defs root others) ≡ true
   defs_faultless root i others inside =
-      ap (λ ms. list_all (λ m. is_schema m.1) ms) (members-new root others) ∙ all_from (λ m. is_schema m.1) (embedded others (defs_of root.value)) (new_schema root i others inside)
+      ap (λ ms. list_all (λ m. is_schema m.1) ms) (members-new root others) ∙ all_from (λ m. is_schema m.1) (members_with_documents others (defs_of root.value)) (new_schema root i others inside)
 
   -- ---- the bundle
   under_root : (root : Document) (others : List Document) → IsMade ds root others → IsDefinite (under_its_uri root)

@@ -6,8 +6,8 @@ use Rattle.definitions.specs.Values.{Text, string, text_at}
 use Rattle.definitions.specs.Faults.{Fault, bad_uri}
 use Rattle.definitions.specs.Uris.{Parts, split, recompose, is_identifier, is_dot_segment, begins, led_by, ended_by, without_fragment}
 use Rattle.definitions.specs.Lists.{cut_at}
-use Rattle.definitions.specs.Resolution.{resolve, resolved}
-use Rattle.definitions.specs.Schemas.{opened}
+use Rattle.definitions.specs.Resolution.{resolve, target_uri}
+use Rattle.definitions.specs.Schemas.{opened_schema}
 use Rattle.definitions.specs.Scanning.{is_empty_fragment, is_id}
 use Rattle.uri_ref.specs.Soundness.{AreSound}
 use Rattle.uri_ref.proofs.Identifiers.{stays}
@@ -43,7 +43,7 @@ uncut t e =
     let cut = cut_at (λ c. c == 35) t in
     sym (append-nil cut.0) ∙ ap (λ o. cut.0 ++ led_by (35 ∷ []) o) (sym e) ∙ cut_joined 35 t
 
-resolves_to_itself : (base uri : Text) → is_identifier (split uri) ≡ true → resolved base uri ≡ uri
+resolves_to_itself : (base uri : Text) → is_identifier (split uri) ≡ true → target_uri base uri ≡ uri
 resolves_to_itself base uri h = ap recompose (stays (split uri) h (split base)) ∙ recomposes uri
 
 pub identifiers_are_absolute : IdentifiersAreAbsolute
@@ -84,7 +84,7 @@ bare_text p sound h =
     let misses : Misses (λ c. c == 35) t = subst (Misses (λ c. c == 35)) whole (cut_misses 35 t) in
     ap without_fragment (joined_last (ended_by p.scheme (codes ":")) (led_by (codes "//") p.authority) p.path (led_by (codes "?") p.query) (led_by (codes "#") p.fragment)) ∙ ap (λ r. r.0) (cut_apart 35 t p.fragment misses)
 
-id_identifier : (base id : Text) → is_id base (string id) ≡ true → is_identifier (split (without_fragment (resolved base id))) ≡ true
+id_identifier : (base id : Text) → is_id base (string id) ≡ true → is_identifier (split (without_fragment (target_uri base id))) ≡ true
 id_identifier base id h =
     let p = resolve (split base) (split id) in
     let sound : AreSound p = resolve_sound (split base) (split id) (split_sound base) (split_sound id) in
@@ -95,6 +95,6 @@ id_identifier base id h =
 pub canonical_uris_are_identifiers : CanonicalUrisAreIdentifiers
 canonical_uris_are_identifiers base v form e = by (text_at (codes "$id") v) refl
   where
-    by : (o : Option Text) → text_at (codes "$id") v ≡ o → is_identifier (split (opened base [] v o).resource) ≡ true
+    by : (o : Option Text) → text_at (codes "$id") v ≡ o → is_identifier (split (opened_schema base [] v o).resource) ≡ true
     by None f = base_identifier base form
     by (Some id) f = id_identifier base id (id_faultless base v id e f)

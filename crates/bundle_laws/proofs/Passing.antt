@@ -4,8 +4,8 @@ use Rattle.definitions.specs.Values.{Text, Value, nesting, is_object}
 use Rattle.definitions.specs.Texts.{text}
 use Rattle.definitions.specs.Faults.{bundle_too_large}
 use Rattle.definitions.specs.Schemas.{Document, schema_at}
-use Rattle.definitions.specs.Scanning.{walked, scan_fault}
-use Rattle.definitions.specs.Bundles.{clash, bundle_of, under_its_uri, sized, bundle_unless, bundle_from}
+use Rattle.definitions.specs.Scanning.{subtree_faults, scan_fault}
+use Rattle.definitions.specs.Bundles.{clash, bundle_of, under_its_uri, value_or_too_large, bundle_unless, bundle_from}
 use Rattle.definitions.specs.Documents.{document_of, others_of}
 use Rattle.definitions.specs.Limits.{limits}
 use Rattle.definitions.specs.Searches.{Search, is_regular}
@@ -30,7 +30,7 @@ neither : (a b : Bool) → (a || b) ≡ false → (a ≡ false) × (b ≡ false)
 neither true b h = cc
 neither false b h = (refl, h)
 
-sized_within : (w v : Value) → sized w ≡ Ok v → IsSized w
+sized_within : (w v : Value) → value_or_too_large w ≡ Ok v → IsSized w
 sized_within w v e = by (nat_lt limits.bundle_bytes (length (text w)) || nat_lt limits.bundle_nesting (nesting w)) refl e
   where
     by : (b : Bool) → (nat_lt limits.bundle_bytes (length (text w)) || nat_lt limits.bundle_nesting (nesting w)) ≡ b → cond b (Err bundle_too_large) (Ok w) ≡ Ok v → IsSized w
@@ -80,8 +80,8 @@ bundles_pass_the_scan search ds uri base v b =
     let w : Value = bundle_of root others in
     let within : IsSized w = subst IsSized p.is p.within in
     let shaped : is_object root.value ≡ true = p.made.whole.objects root (contains_from_in ds root p.made.root_in) in
-    let walk : walked (suc (nesting w)) base [] (schema_at base [] w) ≡ [] =
-    ap (walked (suc (nesting w)) base []) (top_is ds root others p.made base)
+    let walk : subtree_faults (suc (nesting w)) base [] (schema_at base [] w) ≡ [] =
+    ap (subtree_faults (suc (nesting w)) base []) (top_is ds root others p.made base)
     ∙ walked_faultless (suc (nesting w)) base [] _ (bundle_faultless search ds b.documents root others p.made (suc (nesting w)) base) in
     subst (λ x. scan_fault base x ≡ None) (sym p.is)
     (passed base w (record {

@@ -15,7 +15,7 @@ use Rattle.serde_json.specs.Find.{of_integer}
 use Rattle.serde_json.specs.Written.{number_text, outline, items_outline, members_outline, comma_if, items_text, members_text}
 use Rattle.serde_json.proofs.Texts.{print-outline}
 use Rattle.definitions.specs.Values.{Value, null, boolean, integer, string, array, object, Elements, no_elements, element, Members, no_members, member, nesting, fits_64_bits, is_before, is_well_formed, are_well_formed, are_well_formed_members}
-use Rattle.definitions.specs.Texts.{data_of, items_of, json_members_of, text, reading}
+use Rattle.definitions.specs.Texts.{data_of, items_of, json_members_of, text, parsed_value}
 use Rattle.json_doc.specs.Tokens.{value_tokens}
 use Rattle.json_doc.proofs.Texts.{read_back, value_back}
 use Rattle.bundle_laws.proofs.Utf8Parts.{one_plain}
@@ -80,7 +80,7 @@ mutual
       let r = and_parts (is_well_formed v) (are_well_formed_members ms) q.1 in
       (value_numbers v r.0, members_numbers ms r.1)
 
-pub text_read_back : (v : Value) → is_well_formed v ≡ true → nesting v ≤ 127 → reading (text v) ≡ Ok v
+pub text_read_back : (v : Value) → is_well_formed v ≡ true → nesting v ≤ 127 → parsed_value (text v) ≡ Ok v
 text_read_back v h shallow =
     let same : tokens (text v) ≡ value_tokens v =
     ap tokens (sym (print-outline (data_of v))) ∙ tokens-print (value_tokens v) (ArePrintable-json_tokens (outline (data_of v)) (value_numbers v h)) in

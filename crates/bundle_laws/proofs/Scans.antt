@@ -5,7 +5,7 @@ use Rattle.definitions.specs.Values.{Text, Value, string, nesting, is_object, sa
 use Rattle.definitions.specs.Lists.{has_repeat, unless, when, first}
 use Rattle.definitions.specs.Faults.{Fault, not_object, too_nested, bad_id, duplicate_uri, duplicate_anchor}
 use Rattle.definitions.specs.Schemas.{Schema, schema_at, schemas_of, document_from}
-use Rattle.definitions.specs.Scanning.{is_id, walked, resource_uris, anchors_of, same_anchor, scan_faults, scan_fault}
+use Rattle.definitions.specs.Scanning.{is_id, subtree_faults, resource_uris, anchors_of, same_anchor, scan_faults, scan_fault}
 use Rattle.definitions.specs.Limits.{limits}
 use Rattle.definition_laws.proofs.AcceptedDocuments.{first_none, unless_none, IsScanned, scanned}
 use Rattle.definition_laws.proofs.Applying.{get_in}
@@ -20,7 +20,7 @@ no_test shaped nested uris anchors walk a b c d e = rw (a, b, c, d, e) refl
 pub passed : (base : Text) (v : Value) → IsScanned (document_from base v) → scan_fault base v ≡ None
 passed base v h =
     ap first (no_test (is_object v) (nat_lt limits.schema_nesting (nesting v)) (has_repeat same_text (resource_uris (schemas_of base v)))
-    (has_repeat same_anchor (flat_map anchors_of (schemas_of base v))) (walked (suc (nesting v)) base [] (schema_at base [] v)) h.object h.shallow h.walk h.uris h.anchors)
+    (has_repeat same_anchor (flat_map anchors_of (schemas_of base v))) (subtree_faults (suc (nesting v)) base [] (schema_at base [] v)) h.object h.shallow h.walk h.uris h.anchors)
 
 pub scanned_faultless : (base : Text) (v : Value) → scan_fault base v ≡ None → IsFaultless (suc (nesting v)) base (schema_at base [] v)
 scanned_faultless base v e =

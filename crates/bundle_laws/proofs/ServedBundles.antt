@@ -8,12 +8,12 @@ use Rattle.definitions.specs.Resolution.{base_form}
 use Rattle.definitions.specs.Schemas.{Schema, Document, document_from, schemas_of, table_of, references}
 use Rattle.definitions.specs.Lists.{option_list}
 use Rattle.definitions.specs.Targets.{target}
-use Rattle.definitions.specs.Reach.{holds_resource, references_in, grown, reach, missing, least}
+use Rattle.definitions.specs.Reach.{holds_resource, references_in, reach_by_one, reach, missing_references, least}
 use Rattle.definitions.specs.Bundles.{bundle}
 use Rattle.definitions.specs.Documents.{document_of}
 use Rattle.definitions.specs.Answers.{answer}
 use Rattle.definitions.specs.Alike.{AreAlike}
-use Rattle.definitions.specs.Registries.{Registry, documents_seen, Reply, put, validate, bundled, refused, for_base, for_value, body_value, unless_missing, linked, answered, made, validation, bundling}
+use Rattle.definitions.specs.Registries.{Registry, documents_seen, Reply, put, validate, bundled, refused, for_base, for_value, body_value, unless_missing, linked_reply, outcome_reply, reply_of_bundle, validation, bundling_reply}
 use Rattle.definitions.specs.Searches.{Search}
 use Rattle.definitions.specs.Steps.{step}
 use Rattle.definitions.specs.Tenants.{Tenant, empty_registry}
@@ -41,7 +41,7 @@ found_there None p found alike = absurd (let no : false ≡ true = found in cc)
 found_there (Some s) None found alike = absurd alike
 found_there (Some s) (Some t) found alike = refl
 
-bundle_linked : (ds : List Document) (uri base : Text) (v : Value) → AreWhole ds → bundle ds uri ≡ Ok v → missing (document_from base v ∷ []) ≡ []
+bundle_linked : (ds : List Document) (uri base : Text) (v : Value) → AreWhole ds → bundle ds uri ≡ Ok v → missing_references (document_from base v ∷ []) ≡ []
 bundle_linked ds uri base v whole e =
     let only : List Document = document_from base v ∷ [] in
     none_passes (λ r. is_none (target (table_of only) r)) (flat_map references_in only) (λ r i.
@@ -58,33 +58,33 @@ bundle_linked ds uri base v whole e =
 reach_alone : (d : Document) (uri : Text) → holds_resource uri d ≡ true → reach (d ∷ []) uri ≡ d ∷ []
 reach_alone d uri h =
     let first : filter (holds_resource uri) (d ∷ []) ≡ d ∷ [] = ap (λ b. cond b (d ∷ []) []) h in
-    let again : grown (d ∷ []) (d ∷ []) ≡ d ∷ [] = rw (same_text_itself d.canonical) refl in
-    ap (grown (d ∷ [])) first ∙ again
+    let again : reach_by_one (d ∷ []) (d ∷ []) ≡ d ∷ [] = rw (same_text_itself d.canonical) refl in
+    ap (reach_by_one (d ∷ [])) first ∙ again
 
-linked_is : (ds : List Document) (reply : Reply) → missing ds ≡ [] → (d : Document) → IsIn d ds → linked ds reply ≡ reply
+linked_is : (ds : List Document) (reply : Reply) → missing_references ds ≡ [] → (d : Document) → IsIn d ds → linked_reply ds reply ≡ reply
 linked_is [] reply e d i = absurd i
 linked_is (c ∷ ds) reply e d i = ap (λ rs. unless_missing (c ∷ ds) (least rs) reply) e
 
 -- ---- what a reply with a bundle says
 record IsReplied (ds : List Document) (uri bytes : Text) : Type 0 where
   value : Value
-  none_missing : missing ds ≡ []
+  none_missing : missing_references ds ≡ []
   is_made : bundle ds uri ≡ Ok value
   written : text value ≡ bytes
 
-of_made : (ds : List Document) (uri bytes : Text) → missing ds ≡ [] → (r : Result Value Fault) → bundle ds uri ≡ r → made r ≡ bundled bytes → IsReplied ds uri bytes
+of_made : (ds : List Document) (uri bytes : Text) → missing_references ds ≡ [] → (r : Result Value Fault) → bundle ds uri ≡ r → reply_of_bundle r ≡ bundled bytes → IsReplied ds uri bytes
 of_made ds uri bytes none (Ok v) e h = record { value = v; none_missing = none; is_made = e; written = cc }
 of_made ds uri bytes none (Err f) e h = absurd (cc)
 
-of_linked : (ds : List Document) (uri bytes : Text) → linked ds (made (bundle ds uri)) ≡ bundled bytes → IsReplied ds uri bytes
+of_linked : (ds : List Document) (uri bytes : Text) → linked_reply ds (reply_of_bundle (bundle ds uri)) ≡ bundled bytes → IsReplied ds uri bytes
 of_linked [] uri bytes h = absurd (cc)
-of_linked (d ∷ ds) uri bytes h = by (least (missing (d ∷ ds))) refl h
+of_linked (d ∷ ds) uri bytes h = by (least (missing_references (d ∷ ds))) refl h
   where
-    by : (o : Option Text) → least (missing (d ∷ ds)) ≡ o → unless_missing (d ∷ ds) o (made (bundle (d ∷ ds) uri)) ≡ bundled bytes → IsReplied (d ∷ ds) uri bytes
-    by None e k = of_made (d ∷ ds) uri bytes (no_least (missing (d ∷ ds)) e) (bundle (d ∷ ds) uri) refl k
+    by : (o : Option Text) → least (missing_references (d ∷ ds)) ≡ o → unless_missing (d ∷ ds) o (reply_of_bundle (bundle (d ∷ ds) uri)) ≡ bundled bytes → IsReplied (d ∷ ds) uri bytes
+    by None e k = of_made (d ∷ ds) uri bytes (no_least (missing_references (d ∷ ds)) e) (bundle (d ∷ ds) uri) refl k
     by (Some r) e k = absurd (cc)
 
-of_bundling : (b : Bool) (ds : List Document) (uri bytes : Text) → cond b (linked ds (made (bundle ds uri))) (refused not_found) ≡ bundled bytes → IsReplied ds uri bytes
+of_bundling : (b : Bool) (ds : List Document) (uri bytes : Text) → cond b (linked_reply ds (reply_of_bundle (bundle ds uri))) (refused not_found) ≡ bundled bytes → IsReplied ds uri bytes
 of_bundling true ds uri bytes h = of_linked ds uri bytes h
 of_bundling false ds uri bytes h = absurd (cc)
 
@@ -99,10 +99,10 @@ module _ (search : Search) (ds : List Document) (b : Text) (v : Value) (is : IsB
       let alone = bundles_stand_alone search ds b base v is in
       let from = bundle_from_documents search ds b v is in
       let holds : holds_resource b d ≡ true = subst (λ u. holds_resource u d ≡ true) alone.canonical (holds_itself base v) in
-      ap (λ es. linked es (answered (answer search.matches es b x))) (reach_alone d b holds)
-      ∙ linked_is (d ∷ []) (answered (answer search.matches (d ∷ []) b x)) (bundle_linked ds b base v whole is.made) d (inl refl)
-      ∙ ap answered (alone.answers search.matches x)
-      ∙ sym (linked_is ds (answered (answer search.matches ds b x)) is.linked from.root (found_in (λ c. same_text b c.canonical) ds from.root from.found))
+      ap (λ es. linked_reply es (outcome_reply (answer search.matches es b x))) (reach_alone d b holds)
+      ∙ linked_is (d ∷ []) (outcome_reply (answer search.matches (d ∷ []) b x)) (bundle_linked ds b base v whole is.made) d (inl refl)
+      ∙ ap outcome_reply (alone.answers search.matches x)
+      ∙ sym (linked_is ds (outcome_reply (answer search.matches ds b x)) is.linked from.root (found_in (λ c. same_text b c.canonical) ds from.root from.found))
 
   values_same : (h g : Registry) (o : Result Value Fault)
       → (for_value h o (λ x. (validation search b x (reach (document_from base v ∷ []) b), h))).0 ≡ (for_value g o (λ x. (validation search b x ds, g))).0
@@ -122,7 +122,7 @@ answered_same search g t uri b at base body v e is form few small =
 pub replied_bundles_answer_the_same : RepliedBundlesAnswerTheSame
 replied_bundles_answer_the_same search g t uri at base bytes body registered replied form few small = by (base_form uri) refl replied
   where
-    by : (o : Result Text Fault) → base_form uri ≡ o → (for_base g o (λ b. (bundling b (reach (documents_seen g) b), g))).0 ≡ bundled bytes
+    by : (o : Result Text Fault) → base_form uri ≡ o → (for_base g o (λ b. (bundling_reply b (reach (documents_seen g) b), g))).0 ≡ bundled bytes
         → (step search (step search (empty_registry [] t) (put at bytes)).1 (validate uri body)).0 ≡ (step search g (validate uri body)).0
     by (Err f) e h = absurd (cc)
     by (Ok b) e h =

@@ -3,13 +3,13 @@ use Rattle.std.proofs.Common.{◌≡◌, ◌<◌, ◌≤◌, ◌++◌, ℕ, List
 use Rattle.std.proofs.lemmas.Bool.{ltb-true, ltb-false}
 use Rattle.std.specs.List.{filter, list_any}
 use Rattle.definitions.specs.Values.{Text, Value, nesting}
-use Rattle.definitions.specs.Texts.{text, reading}
+use Rattle.definitions.specs.Texts.{text, parsed_value}
 use Rattle.definitions.specs.Faults.{Fault, bad_pattern, too_large, library_owned, taken, quota_documents, quota_bytes}
 use Rattle.definitions.specs.Schemas.{Document, document_from}
 use Rattle.definitions.specs.Lists.{option_list, first, when}
 use Rattle.definitions.specs.Scanning.{scan_faults}
 use Rattle.definitions.specs.Reach.{holds_resource, least}
-use Rattle.definitions.specs.Registries.{Registry, is_in_library, stored, for_base, for_value, decided, put_into, put_refusal, body_value}
+use Rattle.definitions.specs.Registries.{Registry, is_in_library, stored, for_base, for_value, decision, put_into, put_refusal, body_value}
 use Rattle.definitions.specs.Searches.{Search, is_regular}
 use Rattle.definitions.specs.Documents.{resources_of, taken_uri, bytes_of}
 use Rattle.definitions.specs.Tenants.{Tenant, empty_registry}
@@ -48,7 +48,7 @@ module _ (search : Search) (ds : List Document) (uri : Text) (v : Value) (b : Is
   body_read =
       let definite : IsDefinite v = bundles_are_definite ds uri v whole b.made in
       let shallow : nesting v ≤ 120 = ltb-false 120 (nesting v) sized.shallow in
-      ap (λ c. cond c (Err too_large) (reading (text v))) sized.short ∙ text_read_back v definite.well_formed (omega arith)
+      ap (λ c. cond c (Err too_large) (parsed_value (text v))) sized.short ∙ text_read_back v definite.well_formed (omega arith)
 
   accepted : (base : Text) (t : Tenant) → 0 < t.most_documents → length (text v) ≤ t.most_bytes → put_refusal search (empty_registry [] t) (document_from base v) (document_from base v ∷ []) ≡ None
   accepted base t few small =
@@ -65,5 +65,5 @@ bundles_are_stored search ds uri at base v t b form few small =
     let canonical : d.canonical ≡ uri = bundles_keep_their_uri ds uri base v (whole search ds uri v b) b.made in
     ap (λ r. for_base g r (λ c. for_value g (body_value (text v)) (λ x. put_into search g (document_from c x)))) form
     ∙ ap (λ r. for_value g r (λ x. put_into search g (document_from base x))) (body_read search ds uri v b)
-    ∙ ap (λ o. decided o (stored d.canonical false) (record g { documents = d ∷ [] }) g) (accepted search ds uri v b base t few small)
+    ∙ ap (λ o. decision o (stored d.canonical false) (record g { documents = d ∷ [] }) g) (accepted search ds uri v b base t few small)
     ∙ ap (λ u. (stored u false, record g { documents = d ∷ [] })) canonical

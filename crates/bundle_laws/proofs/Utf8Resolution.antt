@@ -7,7 +7,7 @@ use Rattle.std.specs.Str.{IsUtf8}
 use Rattle.definitions.specs.Values.{Text, same_text}
 use Rattle.definitions.specs.Uris.{Parts, begins}
 use Rattle.definitions.specs.Lists.{split_before}
-use Rattle.definitions.specs.Resolution.{resolve, merge, remove_dot_segments, rewritten, rewritten_times, first_segment, without_last_segment, up_to_last_slash, is_empty}
+use Rattle.definitions.specs.Resolution.{resolve, merge, remove_dot_segments, next_buffers, buffers_after, first_segment, without_last_segment, up_to_last_slash, is_empty}
 use Rattle.uri_ref.proofs.Missing.{rest_is_rooted}
 use Rattle.uri_ref.proofs.Recomposed.{before_joined}
 use Rattle.uri_ref.proofs.Rules.{front, whichever}
@@ -54,7 +54,7 @@ segment_texts (c ∷ cs) u =
     let r = split_before (λ d. d == 47) cs in
     halves (c ∷ r.0) r.1 (subst IsUtf8 (sym (ap (λ x. c ∷ x) (before_joined (λ d. d == 47) cs))) u) (rooted_plain r.1 (rest_is_rooted cs))
 
-step_texts : (i o : Text) → IsUtf8 i → IsUtf8 o → IsUtf8 (rewritten (i, o)).0 × IsUtf8 (rewritten (i, o)).1
+step_texts : (i o : Text) → IsUtf8 i → IsUtf8 o → IsUtf8 (next_buffers (i, o)).0 × IsUtf8 (next_buffers (i, o)).1
 step_texts i o ui uo =
     let P : Text × Text → Type 0 = λ s. IsUtf8 s.0 × IsUtf8 s.1 in
     let popped = popped_text o uo in
@@ -81,9 +81,9 @@ step_texts i o ui uo =
     (whichever P (same_text i (codes ".") || same_text i (codes "..")) _ _ (λ e. (IsUtf8-nil, uo))
     (segment.1, IsUtf8-append o (first_segment i).0 uo segment.0)))))))
 
-times_texts : (n : ℕ) (i o : Text) → IsUtf8 i → IsUtf8 o → IsUtf8 (rewritten_times n (i, o)).1
+times_texts : (n : ℕ) (i o : Text) → IsUtf8 i → IsUtf8 o → IsUtf8 (buffers_after n (i, o)).1
 times_texts zero i o ui uo = uo
-times_texts (suc n) i o ui uo = let step = step_texts i o ui uo in times_texts n (rewritten (i, o)).0 (rewritten (i, o)).1 step.0 step.1
+times_texts (suc n) i o ui uo = let step = step_texts i o ui uo in times_texts n (next_buffers (i, o)).0 (next_buffers (i, o)).1 step.0 step.1
 
 undotted_text : (path : Text) → IsUtf8 path → IsUtf8 (remove_dot_segments path)
 undotted_text path u = times_texts (length path) path [] u IsUtf8-nil

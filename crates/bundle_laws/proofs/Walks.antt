@@ -8,7 +8,7 @@ use Rattle.definitions.specs.Shapes.{Shape, has_shape, is_anchor_name, identifie
 use Rattle.definitions.specs.Shapes as shapes
 use Rattle.definitions.specs.Keywords.{Keyword, keywords, keyword_named}
 use Rattle.definitions.specs.Schemas.{Schema, subschemas_by, is_root}
-use Rattle.definitions.specs.Scanning.{is_id, is_dialect, shape_faults, keyword_faults, walked}
+use Rattle.definitions.specs.Scanning.{is_id, is_dialect, shape_faults, keyword_faults, subtree_faults}
 use Rattle.definitions.specs.Lists.{unless}
 use Rattle.definition_laws.proofs.AcceptedDocuments.{neither, unless_none}
 use Rattle.definition_laws.proofs.Occurrences.{IsIn, all_pass_in, found_in, found_passes}
@@ -87,24 +87,24 @@ abbrev pub IsFaultless : ℕ → Text → Schema → Type 0
 IsFaultless zero base s = Unit {0}
 IsFaultless (suc n) base s = HasNoFault base s × ((t : Schema) (way : Pointer) → IsStep keywords s t way → IsFaultless n s.resource t)
 
-pub faultless_from : (n : ℕ) (base : Text) (way : Pointer) (s : Schema) → walked n base way s ≡ [] → IsFaultless n base s
+pub faultless_from : (n : ℕ) (base : Text) (way : Pointer) (s : Schema) → subtree_faults n base way s ≡ [] → IsFaultless n base s
 faultless_from zero base way s h = tt
 faultless_from (suc n) base way s h =
     let p = neither (flat_map (λ m. keyword_faults (keyword_named m.0 keywords) base (way ++ m.0 ∷ []) s m.1) (members s.value))
-    (flat_map (λ t. walked n s.resource (way ++ t.0) t.1) (subschemas_by keywords s)) h in (
+    (flat_map (λ t. subtree_faults n s.resource (way ++ t.0) t.1) (subschemas_by keywords s)) h in (
       λ m x i far. under_base (keyword_named m keywords) base (way ++ m ∷ []) far s s x refl
           (none_at (λ e. keyword_faults (keyword_named e.0 keywords) base (way ++ e.0 ∷ []) s e.1) (members s.value) p.0 (m, x) i),
       λ t first step. faultless_from n s.resource (way ++ first) t
-          (none_at (λ u. walked n s.resource (way ++ u.0) u.1) (subschemas_by keywords s) p.1 (first, t) (step_to keywords s t first step)),
+          (none_at (λ u. subtree_faults n s.resource (way ++ u.0) u.1) (subschemas_by keywords s) p.1 (first, t) (step_to keywords s t first step)),
     )
 
-pub walked_faultless : (n : ℕ) (base : Text) (way : Pointer) (s : Schema) → IsFaultless n base s → walked n base way s ≡ []
+pub walked_faultless : (n : ℕ) (base : Text) (way : Pointer) (s : Schema) → IsFaultless n base s → subtree_faults n base way s ≡ []
 walked_faultless zero base way s h = refl
 walked_faultless (suc n) base way s h =
     let own : flat_map (λ m. keyword_faults (keyword_named m.0 keywords) base (way ++ m.0 ∷ []) s m.1) (members s.value) ≡ [] =
     none_in (λ m. keyword_faults (keyword_named m.0 keywords) base (way ++ m.0 ∷ []) s m.1) (members s.value) (λ m i. h.0 m.0 m.1 i (way ++ m.0 ∷ [])) in
-    let deeper : flat_map (λ t. walked n s.resource (way ++ t.0) t.1) (subschemas_by keywords s) ≡ [] =
-    none_in (λ t. walked n s.resource (way ++ t.0) t.1) (subschemas_by keywords s) (λ t i. walked_faultless n s.resource (way ++ t.0) t.1 (h.1 t.1 t.0 (step_from keywords s t.1 t.0 i))) in
+    let deeper : flat_map (λ t. subtree_faults n s.resource (way ++ t.0) t.1) (subschemas_by keywords s) ≡ [] =
+    none_in (λ t. subtree_faults n s.resource (way ++ t.0) t.1) (subschemas_by keywords s) (λ t i. walked_faultless n s.resource (way ++ t.0) t.1 (h.1 t.1 t.0 (step_from keywords s t.1 t.0 i))) in
     rw (own, deeper) refl
 
 -- what has no fault down to its last level has none so many levels down

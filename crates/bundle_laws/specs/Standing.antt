@@ -5,7 +5,7 @@ use Rattle.definitions.specs.Texts.{text}
 use Rattle.definitions.specs.Resolution.{base_form}
 use Rattle.definitions.specs.Schemas.{Document, document_from, table_of}
 use Rattle.definitions.specs.Scanning.{scan_fault, resource_uris}
-use Rattle.definitions.specs.Reach.{missing}
+use Rattle.definitions.specs.Reach.{missing_references}
 use Rattle.definitions.specs.Bundles.{bundle}
 use Rattle.definitions.specs.Answers.{answer}
 use Rattle.definitions.specs.Alike.{IsAlike}
@@ -19,12 +19,12 @@ use Rattle.bundle_laws.specs.Registered.{AreIdentified}
 -- a bundle of such documents, with no reference missing
 pub record IsBundle (search : Search) (ds : List Document) (uri : Text) (v : Value) : Type 0 where
   pub documents : AreIdentified search ds
-  pub linked : missing ds ≡ []
+  pub linked : missing_references ds ≡ []
   pub made : bundle ds uri ≡ Ok v
 
 -- so the documents are as a bundle wants them
 abbrev pub IdentifiedDocumentsAreWhole : Type 0
-IdentifiedDocumentsAreWhole = (search : Search) (ds : List Document) → AreIdentified search ds → missing ds ≡ [] → AreWhole ds
+IdentifiedDocumentsAreWhole = (search : Search) (ds : List Document) → AreIdentified search ds → missing_references ds ≡ [] → AreWhole ds
 
 -- no schema in it has a fault, whatever it is put under
 abbrev pub BundlesPassTheScan : Type 0

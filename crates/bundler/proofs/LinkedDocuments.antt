@@ -19,7 +19,7 @@ use Rattle.bundle_laws.proofs.CanonicalTexts.{canonical_uris_are_texts}
 use Rattle.bundle_laws.proofs.Passing.{bundles_stand_alone}
 use Rattle.json_doc.proofs.Entries.{string_is_utf8}
 use Rattle.schema_index.specs.IndexedDocuments.{indexed_base, indexed_value}
-use Rattle.schema_scan.specs.CompiledDocuments.{compiled_base, compiled_value, compiled_document}
+use Rattle.schema_scan.specs.CompiledDocuments.{compiled_base, compiled_value, compiled_view}
 use Rattle.schema_scan.specs.declared.compiled.Compiled.{Compiled}
 use Rattle.linker.specs.LinkedDocuments.{linked_uri, linked_documents}
 use Rattle.linker.specs.SharedDocuments.{shared_documents}
@@ -43,14 +43,14 @@ base_text : (c : Compiled) → is_utf8 (compiled_base c) ≡ true
 unfolding indexed_base
 base_text c = string_is_utf8 c.indexed.base
 
-canonical_text : (c : Compiled) → is_utf8 (compiled_document c).canonical ≡ true
+canonical_text : (c : Compiled) → is_utf8 (compiled_view c).canonical ≡ true
 canonical_text c = canonical_uris_are_texts (compiled_base c) (compiled_value c) (base_text c) (compiled_definite c)
 
 -- ---- those that are linked
-shared_each : (P : Document → Type 0) → ((c : Compiled) → P (compiled_document c)) → (ds : List (Rc Compiled Global)) (d : Document) → Contains (shared_documents ds) d → P d
+shared_each : (P : Document → Type 0) → ((c : Compiled) → P (compiled_view c)) → (ds : List (Rc Compiled Global)) (d : Document) → Contains (shared_documents ds) d → P d
 unfolding shared_documents
 shared_each P each [] d c = absurd (nothing_in d c)
-shared_each P each (x ∷ xs) d c = elim (first_or_later (compiled_document x.value) d (map (λ (y : Rc Compiled Global). compiled_document y.value) xs) c) [
+shared_each P each (x ∷ xs) d c = elim (first_or_later (compiled_view x.value) d (map (λ (y : Rc Compiled Global). compiled_view y.value) xs) c) [
   | inl same ↦ subst P same (each x.value)
   | inr later ↦ shared_each P each xs d later
 ]
@@ -62,7 +62,7 @@ linked_ascend l = l.ascend
 pub linked_identified : (l : Linked) → HaveIdentifiers (linked_documents l) → AreIdentified regular_search (linked_documents l)
 unfolding linked_documents
 linked_identified l identifiers =
-    let each : (P : Document → Type 0) → ((c : Compiled) → P (compiled_document c)) → (d : Document) → Contains (shared_documents l.documents.items) d → P d =
+    let each : (P : Document → Type 0) → ((c : Compiled) → P (compiled_view c)) → (d : Document) → Contains (shared_documents l.documents.items) d → P d =
     λ P all. shared_each P all l.documents.items in
     record {
       kept = record {

@@ -7,11 +7,11 @@ use Rattle.definitions.specs.Faults.{bundle_clash}
 use Rattle.definitions.specs.Schemas.{Document}
 use Rattle.definitions.specs.Documents.{Ascend, canonicals, document_of, others_of}
 use Rattle.definitions.specs.Reach.{least}
-use Rattle.definitions.specs.Bundles.{defs_of, bundle_of, clash, sized, bundle_unless, bundle_from, bundle}
+use Rattle.definitions.specs.Bundles.{defs_of, bundle_of, clash, value_or_too_large, bundle_unless, bundle_from, bundle}
 use Rattle.definition_laws.proofs.JoinedDocuments.{ascend_part}
 use Rattle.definition_laws.proofs.Occurrences.{found_passes}
 use Rattle.lemmas.proofs.Texts.{same_text_is}
-use Rattle.bundler.specs.Constituents.{named, bare}
+use Rattle.bundler.specs.Constituents.{named_document, bare_document}
 use Rattle.bundler.proofs.Others.{value_is, bare_canonicals, bare_bundle, first_is_least}
 
 -- ---- the root
@@ -34,7 +34,7 @@ root_of ds uri v e = by (document_of ds uri) refl e
     }
 
 -- ---- the others
-pub others_ascend : (ds : List Document) (uri : Text) (os : List Document) → Ascend ds → os ≡ map bare (others_of uri ds) → Ascend os
+pub others_ascend : (ds : List Document) (uri : Text) (os : List Document) → Ascend ds → os ≡ map bare_document (others_of uri ds) → Ascend os
 others_ascend ds uri os sorted is =
     subst Ascend (sym is) (subst (IsStrictlySortedBy (slice_cmp nat_cmp)) (sym (bare_canonicals (others_of uri ds)))
     (ascend_part (λ d. not (same_text uri d.canonical)) ds sorted))
@@ -43,29 +43,29 @@ others_ascend ds uri os sorted is =
 abbrev first_clash : Value → List Document → Option Document
 first_clash v os = find (λ d. is_some (entry d.canonical (defs_of v))) os
 
-clash_is : (ds : List Document) (uri : Text) (root : Document) (os : List Document) → Ascend ds → os ≡ map bare (others_of uri ds)
+clash_is : (ds : List Document) (uri : Text) (root : Document) (os : List Document) → Ascend ds → os ≡ map bare_document (others_of uri ds)
     → clash root (others_of uri ds) ≡ option_map (λ d. d.canonical) (first_clash root.value os)
 clash_is ds uri root os sorted is =
     let p = λ (n : Text). is_some (entry n (defs_of root.value)) in
     ap (λ us. least (filter p us)) (sym (bare_canonicals (others_of uri ds)) ∙ ap canonicals (sym is))
     ∙ first_is_least p os (others_ascend ds uri os sorted is)
 
-bundle_by : (ds : List Document) (uri : Text) (v : Value) (os : List Document) → Ascend ds → (r : IsRoot ds uri v) → os ≡ map bare (others_of uri ds)
+bundle_by : (ds : List Document) (uri : Text) (v : Value) (os : List Document) → Ascend ds → (r : IsRoot ds uri v) → os ≡ map bare_document (others_of uri ds)
     → bundle ds uri ≡ bundle_unless (option_map (λ d. d.canonical) (first_clash v os)) r.root (others_of uri ds)
 bundle_by ds uri v os sorted r is =
     ap (λ o. bundle_from o (others_of uri ds)) r.found
     ∙ ap (λ o. bundle_unless o r.root (others_of uri ds)) (clash_is ds uri r.root os sorted is ∙ ap (λ w. option_map (λ d. d.canonical) (first_clash w os)) r.value)
 
 pub bundle_clashes : (ds : List Document) (uri : Text) (v : Value) (os : List Document) (d : Document) → Ascend ds → Some v ≡ option_map (λ d. d.value) (document_of ds uri)
-    → os ≡ map bare (others_of uri ds) → Some d ≡ first_clash v os → bundle ds uri ≡ Err (bundle_clash d.canonical)
+    → os ≡ map bare_document (others_of uri ds) → Some d ≡ first_clash v os → bundle ds uri ≡ Err (bundle_clash d.canonical)
 bundle_clashes ds uri v os d sorted e is found =
     let r = root_of ds uri v e in
     bundle_by ds uri v os sorted r is ∙ ap (λ o. bundle_unless (option_map (λ d. d.canonical) o) r.root (others_of uri ds)) (sym found)
 
 pub bundle_sized : (ds : List Document) (uri : Text) (v : Value) (os : List Document) → Ascend ds → Some v ≡ option_map (λ d. d.value) (document_of ds uri)
-    → os ≡ map bare (others_of uri ds) → None ≡ first_clash v os → bundle ds uri ≡ sized (bundle_of (named uri v) os)
+    → os ≡ map bare_document (others_of uri ds) → None ≡ first_clash v os → bundle ds uri ≡ value_or_too_large (bundle_of (named_document uri v) os)
 bundle_sized ds uri v os sorted e is none =
     let r = root_of ds uri v e in
     bundle_by ds uri v os sorted r is
     ∙ ap (λ o. bundle_unless (option_map (λ d. d.canonical) o) r.root (others_of uri ds)) (sym none)
-    ∙ ap sized (sym (bare_bundle r.root (others_of uri ds)) ∙ ap₂ (λ u w. bundle_of (named u w) (map bare (others_of uri ds))) r.canonical r.value ∙ ap (bundle_of (named uri v)) (sym is))
+    ∙ ap value_or_too_large (sym (bare_bundle r.root (others_of uri ds)) ∙ ap₂ (λ u w. bundle_of (named_document u w) (map bare_document (others_of uri ds))) r.canonical r.value ∙ ap (bundle_of (named_document uri v)) (sym is))

@@ -10,10 +10,10 @@ use Rattle.definitions.specs.Values.{Text, Value, object, to_members, same_text}
 use Rattle.definitions.specs.Schemas.{Document}
 use Rattle.definitions.specs.Documents.{Ascend, canonicals, others_of}
 use Rattle.definitions.specs.Reach.{least, lesser}
-use Rattle.definitions.specs.Bundles.{with_member, under_its_uri, embedded, defs_of, bundle_of}
+use Rattle.definitions.specs.Bundles.{with_member, under_its_uri, members_with_documents, defs_of, bundle_of}
 use Rattle.definition_laws.proofs.Occurrences.{IsIn, found_in}
 use Rattle.lemmas.proofs.Texts.{same_text_turned}
-use Rattle.bundler.specs.Constituents.{bare}
+use Rattle.bundler.specs.Constituents.{bare_document}
 
 -- ---- documents behind the first
 above : (e d : Document) (ds : List Document) → AllByRecursion (λ n. slice_cmp nat_cmp e.canonical n ≡ Less) (canonicals ds) → IsIn d ds → slice_cmp nat_cmp e.canonical d.canonical ≡ Less
@@ -30,12 +30,12 @@ pub value_is : (o : Option Value) (v w : Value) → Some v ≡ o → o ≡ Some 
 value_is o v w e h = cc
 
 pub others_kept : (uri : Text) (ds : List Document) (d : Document) → same_text uri d.canonical ≡ false
-    → map bare (others_of uri (ds ++ d ∷ [])) ≡ map bare (others_of uri ds) ++ bare d ∷ []
-others_kept uri ds d e = ap (map bare) (others_more uri ds d false e) ∙ map-append bare (others_of uri ds) (d ∷ [])
+    → map bare_document (others_of uri (ds ++ d ∷ [])) ≡ map bare_document (others_of uri ds) ++ bare_document d ∷ []
+others_kept uri ds d e = ap (map bare_document) (others_more uri ds d false e) ∙ map-append bare_document (others_of uri ds) (d ∷ [])
 
 pub others_left : (uri : Text) (ds : List Document) (d : Document) → same_text uri d.canonical ≡ true
-    → map bare (others_of uri (ds ++ d ∷ [])) ≡ map bare (others_of uri ds)
-others_left uri ds d e = ap (map bare) (others_more uri ds d true e ∙ append-nil (others_of uri ds))
+    → map bare_document (others_of uri (ds ++ d ∷ [])) ≡ map bare_document (others_of uri ds)
+others_left uri ds d e = ap (map bare_document) (others_more uri ds d true e ∙ append-nil (others_of uri ds))
 
 -- ---- whether a text is the URI that was asked for
 turned : (a b t u : Text) → a ≡ t → b ≡ u → same_text u t ≡ same_text a b
@@ -48,15 +48,15 @@ pub is_asked : (a b t u : Text) → false ≡ not (same_text a b) → a ≡ t �
 is_asked a b t u h e f = turned a b t u e f ∙ not-false (same_text a b) (sym h)
 
 -- ---- a bundle is made of canonical URIs and values alone
-pub bare_canonicals : (ds : List Document) → canonicals (map bare ds) ≡ canonicals ds
+pub bare_canonicals : (ds : List Document) → canonicals (map bare_document ds) ≡ canonicals ds
 bare_canonicals [] = refl
 bare_canonicals (d ∷ ds) = ap (λ us. d.canonical ∷ us) (bare_canonicals ds)
 
-bare_embedded : (ds : List Document) (ms : List (Text × Value)) → embedded (map bare ds) ms ≡ embedded ds ms
+bare_embedded : (ds : List Document) (ms : List (Text × Value)) → members_with_documents (map bare_document ds) ms ≡ members_with_documents ds ms
 bare_embedded [] ms = refl
-bare_embedded (d ∷ ds) ms = ap (λ ns. embedded (d ∷ []) ns) (bare_embedded ds ms)
+bare_embedded (d ∷ ds) ms = ap (λ ns. members_with_documents (d ∷ []) ns) (bare_embedded ds ms)
 
-pub bare_bundle : (root : Document) (ds : List Document) → bundle_of (bare root) (map bare ds) ≡ bundle_of root ds
+pub bare_bundle : (root : Document) (ds : List Document) → bundle_of (bare_document root) (map bare_document ds) ≡ bundle_of root ds
 bare_bundle root [] = refl
 bare_bundle root (d ∷ ds) = ap (λ ms. with_member (codes "$defs") (object (to_members ms)) (under_its_uri root)) (bare_embedded (d ∷ ds) (defs_of root.value))
 

@@ -6,11 +6,11 @@ use Rattle.json_doc.specs.Docs.{value}
 use Rattle.bundler.specs.declared.constituent.Constituent.{Constituent}
 
 -- nothing but its canonical URI and its value goes into a bundle
-abbrev pub named : Text → Value → Document
-named uri v = record { canonical = uri; base = []; value = v }
+abbrev pub named_document : Text → Value → Document
+named_document uri v = record { canonical = uri; base = []; value = v }
 
-abbrev pub bare : Document → Document
-bare d = named d.canonical d.value
+abbrev pub bare_document : Document → Document
+bare_document d = named_document d.canonical d.value
 
-abbrev pub constituent : Constituent → Document
-constituent c = named c.uri.now (value c.value.now)
+abbrev pub constituent_view : Constituent → Document
+constituent_view c = named_document c.uri.now (value c.value.now)

@@ -4,11 +4,11 @@ ghost use Rattle.std.specs.Prelude.{◌≡◌, ◌≢◌, Ok, Err, IfOk, IfErr, 
 ghost use Rattle.definitions.specs.Bundles.{bundle, defs_of};
 ghost use Rattle.definitions.specs.Documents.{others_of};
 ghost use Rattle.definitions.specs.Values.{entry};
-ghost use Rattle.faults.specs.View.{fault};
+ghost use Rattle.faults.specs.View.{fault_view};
 ghost use Rattle.json_doc.specs.Docs.{value};
 ghost use Rattle.linker.specs.LinkedDocuments.{linked_uri, linked_documents};
 ghost use Rattle.bundler.specs.Alone.{AnswersAlone};
-ghost use Rattle.bundler.specs.Constituents.{bare, constituent};
+ghost use Rattle.bundler.specs.Constituents.{bare_document, constituent_view};
 
 use crate::constituent::Constituent;
 use crate::embedding::compound;
@@ -38,7 +38,7 @@ pub fn bundle(alloc: Global, linked: &Linked) -> Result<Doc, Fault>
         (λ d. bundle (linked_documents linked.now) (linked_uri linked.now) ≡ Ok (value d)) }
     ensures err { IfErr result
         (λ f. f ≢ Fault.NoRoom → bundle (linked_documents linked.now) (linked_uri linked.now)
-        ≡ Err (fault f)) }
+        ≡ Err (fault_view f)) }
     ensures alone { IfOk result (λ d. AnswersAlone linked.now (value d)) }
 {
     let uri = asked(linked);
@@ -56,8 +56,8 @@ pub fn bundle(alloc: Global, linked: &Linked) -> Result<Doc, Fault>
 // The linked documents but for the one that was asked for, by their canonical URIs.
 fn others_among<'a>(alloc: Global, linked: &'a Linked) -> Result<Vec<Constituent<'a>>, Fault>
     ensures ok { IfOk result
-        (λ v. map constituent v.items
-        ≡ map bare (others_of (linked_uri linked.now) (linked_documents linked.now))) }
+        (λ v. map constituent_view v.items
+        ≡ map bare_document (others_of (linked_uri linked.now) (linked_documents linked.now))) }
     ensures err { IfErr result (λ f. f ≡ Fault.NoRoom) }
 {
     let mut others = Vec::with_capacity(alloc, documents(linked).len())?;
@@ -73,9 +73,9 @@ fn others_among<'a>(alloc: Global, linked: &'a Linked) -> Result<Vec<Constituent
 
 // The first of these documents whose URI is the name of a member of the root's `$defs`.
 fn clash<'a>(root: &Doc, others: &'a [Constituent<'a>]) -> Option<&'a Constituent<'a>>
-    ensures { option_map (λ d. constituent d.now) result
+    ensures { option_map (λ d. constituent_view d.now) result
         ≡ find (λ d. is_some (entry d.canonical (defs_of (value root.now))))
-        (map constituent others.now) }
+        (map constituent_view others.now) }
 {
     others.iter().find(|other| has_def(root, other.uri))
 }

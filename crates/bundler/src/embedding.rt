@@ -1,11 +1,11 @@
 //! Documents embedded in another (JSON Schema 2020-12 Core, section 9.3).
 
 ghost use Rattle.std.specs.Prelude.{◌≡◌, [], IfOk, IfErr, map};
-ghost use Rattle.definitions.specs.Bundles.{bundle_of, defs_of, embedded, put_member, under_its_uri, with_member};
+ghost use Rattle.definitions.specs.Bundles.{bundle_of, defs_of, members_with_documents, put_member, under_its_uri, with_member};
 ghost use Rattle.definitions.specs.Documents.{Ascend};
 ghost use Rattle.definitions.specs.Values.{members};
 ghost use Rattle.json_doc.specs.Docs.{value, members_value};
-ghost use Rattle.bundler.specs.Constituents.{constituent};
+ghost use Rattle.bundler.specs.Constituents.{constituent_view};
 
 use crate::constituent::Constituent;
 use faults::Fault;
@@ -18,9 +18,9 @@ pub(crate) fn compound(
     root: &Constituent<'_>,
     others: &[Constituent<'_>],
 ) -> Result<Doc, Fault>
-    requires { Ascend (map constituent others.now) }
+    requires { Ascend (map constituent_view others.now) }
     ensures ok { IfOk result
-        (λ d. value d ≡ bundle_of (constituent root.now) (map constituent others.now)) }
+        (λ d. value d ≡ bundle_of (constituent_view root.now) (map constituent_view others.now)) }
     ensures err { IfErr result (λ f. f ≡ Fault.NoRoom) }
 {
     let whole = under_its_uri(alloc, root)?;
@@ -33,7 +33,7 @@ pub(crate) fn compound(
 
 // The document's value with its URI as `$id`.
 fn under_its_uri(alloc: Global, document: &Constituent<'_>) -> Result<Doc, Fault>
-    ensures ok { IfOk result (λ d. value d ≡ under_its_uri (constituent document.now)) }
+    ensures ok { IfOk result (λ d. value d ≡ under_its_uri (constituent_view document.now)) }
     ensures err { IfErr result (λ f. f ≡ Fault.NoRoom) }
 {
     let id = String::from_str(alloc, document.uri)?;
@@ -85,9 +85,10 @@ fn own_members(alloc: Global, doc: &Doc) -> Result<Members, Fault>
 
 // The members, and the documents under their URIs.
 fn with_others(alloc: Global, defs: Members, others: &[Constituent<'_>]) -> Result<Members, Fault>
-    requires { Ascend (map constituent others.now) }
+    requires { Ascend (map constituent_view others.now) }
     ensures ok { IfOk result
-        (λ m. members_value m ≡ embedded (map constituent others.now) (members_value defs)) }
+        (λ m. members_value m ≡ members_with_documents (map constituent_view others.now)
+        (members_value defs)) }
     ensures err { IfErr result (λ f. f ≡ Fault.NoRoom) }
 {
     let mut members = defs;

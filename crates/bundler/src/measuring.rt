@@ -1,8 +1,8 @@
 //! The limits of a bundle.
 
 ghost use Rattle.std.specs.Prelude.{◌≡◌, ◌≢◌, Ok, Err, IfOk, IfErr};
-ghost use Rattle.definitions.specs.Bundles.{sized};
-ghost use Rattle.faults.specs.View.{fault};
+ghost use Rattle.definitions.specs.Bundles.{value_or_too_large};
+ghost use Rattle.faults.specs.View.{fault_view};
 ghost use Rattle.json_doc.specs.Docs.{value};
 
 use faults::Fault;
@@ -16,8 +16,9 @@ const MOST_NESTED: usize = 120;
 
 // The bundle, where it is within the limits.
 pub(crate) fn within_limits(alloc: Global, whole: Doc) -> Result<Doc, Fault>
-    ensures ok { IfOk result (λ d. sized (value whole) ≡ Ok (value d)) }
-    ensures err { IfErr result (λ f. f ≢ Fault.NoRoom → sized (value whole) ≡ Err (fault f)) }
+    ensures ok { IfOk result (λ d. value_or_too_large (value whole) ≡ Ok (value d)) }
+    ensures err { IfErr result
+        (λ f. f ≢ Fault.NoRoom → value_or_too_large (value whole) ≡ Err (fault_view f)) }
 {
     if nesting(&whole) > MOST_NESTED {
         return Err(Fault::BundleTooLarge);

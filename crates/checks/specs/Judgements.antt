@@ -3,14 +3,14 @@ use Rattle.std.specs.Prelude.{[], ◌∷◌, Bool, false, if◌then◌else◌, O
 use Rattle.definitions.specs.Answers.{answer}
 use Rattle.definitions.specs.Faults.{Fault, bad_input, bad_pattern, unresolved}
 use Rattle.definitions.specs.Patterns.{has_match, regular_search}
-use Rattle.definitions.specs.Reach.{least, missing}
+use Rattle.definitions.specs.Reach.{least, missing_references}
 use Rattle.definitions.specs.Searches.{is_regular, builds}
 use Rattle.definitions.specs.Resolution.{base_form}
 use Rattle.definitions.specs.Scanning.{scan_fault}
 use Rattle.definitions.specs.Schemas.{Document, document_from}
-use Rattle.definitions.specs.Texts.{reading}
+use Rattle.definitions.specs.Texts.{parsed_value}
 use Rattle.definitions.specs.Values.{Text, Value, string, get}
-use Rattle.evaluator.specs.Reports.{reported}
+use Rattle.evaluator.specs.Reports.{report_or_fault}
 
 -- whether the instance is valid, and the text of the output
 abbrev pub Judgement : Type 0
@@ -25,18 +25,18 @@ unless_fault None r = r
 unless_fault (Some f) r = Err f
 
 -- the schema, where its scan finds no fault and the grammar reads its patterns
-unfoldable pub accepted : Text → Value → Result Value Fault
-accepted base v = unless_fault (scan_fault base v) (if is_regular regular_search v then Ok v else Err bad_pattern)
+unfoldable pub accepted_schema : Text → Value → Result Value Fault
+accepted_schema base v = unless_fault (scan_fault base v) (if is_regular regular_search v then Ok v else Err bad_pattern)
 
 -- what one document says, where all its references name schemas
 unfoldable pub said_by : Document → Value → Judgement
-said_by d x = unless_fault (option_map unresolved (least (missing (d ∷ [])))) (reported (answer has_match (d ∷ []) d.canonical x))
+said_by d x = unless_fault (option_map unresolved (least (missing_references (d ∷ [])))) (report_or_fault (answer has_match (d ∷ []) d.canonical x))
 
 -- the URI's fault comes before the schema's, these before the instance's, and these before those of references and of the
 -- evaluation. The schema stands under the base form of the URI
 unfoldable pub judgement : Text → Result Value Fault → Result Value Fault → Judgement
 judgement uri schema instance =
-    after (base_form uri) (λ base. after schema (λ v. after (accepted base v) (λ v. after instance (λ x. said_by (document_from base v) x))))
+    after (base_form uri) (λ base. after schema (λ v. after (accepted_schema base v) (λ v. after instance (λ x. said_by (document_from base v) x))))
 
 -- ---- a pattern that the grammar reads may be refused, where it is too big once it is built
 abbrev pub is_for_pattern : Fault → Bool → Bool
@@ -74,7 +74,7 @@ input_in v =
     (λ instance. Ok (record { uri = uri; schema = schema; instance = instance }))))
 
 abbrev pub input_of : Text → Result Input Fault
-input_of bytes = after (reading bytes) input_in
+input_of bytes = after (parsed_value bytes) input_in
 
 abbrev pub judgement_of : Result Input Fault → Judgement
 judgement_of input = after input (λ i. judgement i.uri (Ok i.schema) (Ok i.instance))

@@ -1,13 +1,13 @@
 //! A check of two texts.
 
 ghost use Rattle.std.specs.Prelude.{◌≡◌, ◌≢◌, false, [], ◌∷◌, Ok, Err, IfOk, IfErr};
-ghost use Rattle.definitions.specs.Texts.{reading};
+ghost use Rattle.definitions.specs.Texts.{parsed_value};
 ghost use Rattle.evaluator.specs.Reports.{is_valid, report_text};
-ghost use Rattle.faults.specs.View.{fault};
+ghost use Rattle.faults.specs.View.{fault_view};
 ghost use Rattle.json_doc.specs.Docs.{value};
 ghost use Rattle.linker.specs.ListedDocuments.{listed_documents};
-ghost use Rattle.schema_scan.specs.CompiledDocuments.{compiled_base, compiled_value, compiled_document};
-ghost use Rattle.checks.specs.Judgements.{judgement, accepted, said_by, is_for_pattern, builds_patterns, builds_under};
+ghost use Rattle.schema_scan.specs.CompiledDocuments.{compiled_base, compiled_value, compiled_view};
+ghost use Rattle.checks.specs.Judgements.{judgement, accepted_schema, said_by, is_for_pattern, builds_patterns, builds_under};
 
 use evaluator::{Report, evaluate};
 use json_doc::{Doc, Fault, read};
@@ -33,12 +33,13 @@ pub fn check_bytes(
     instance: &[u8],
 ) -> Result<Report, Fault>
     ensures ok { IfOk result
-        (λ r. judgement uri.now (reading schema.now) (reading instance.now)
+        (λ r. judgement uri.now (parsed_value schema.now) (parsed_value instance.now)
         ≡ Ok (is_valid r, report_text r)) }
     ensures err { IfErr result
-        (λ f. f ≢ Fault.NoRoom → is_for_pattern (fault f)
-        (builds_patterns uri.now (reading schema.now)) ≡ false
-        → judgement uri.now (reading schema.now) (reading instance.now) ≡ Err (fault f)) }
+        (λ f. f ≢ Fault.NoRoom → is_for_pattern (fault_view f)
+        (builds_patterns uri.now (parsed_value schema.now)) ≡ false
+        → judgement uri.now (parsed_value schema.now) (parsed_value instance.now)
+        ≡ Err (fault_view f)) }
 {
     let base = base_form(alloc, uri)?;
     let schema = read(alloc, schema)?;
@@ -59,9 +60,10 @@ pub(crate) fn check_docs(
         (λ r. judgement uri.now (Ok (value schema.now)) (Ok (value instance.now))
         ≡ Ok (is_valid r, report_text r)) }
     ensures err { IfErr result
-        (λ f. f ≢ Fault.NoRoom → is_for_pattern (fault f)
+        (λ f. f ≢ Fault.NoRoom → is_for_pattern (fault_view f)
         (builds_patterns uri.now (Ok (value schema.now))) ≡ false
-        → judgement uri.now (Ok (value schema.now)) (Ok (value instance.now)) ≡ Err (fault f)) }
+        → judgement uri.now (Ok (value schema.now)) (Ok (value instance.now))
+        ≡ Err (fault_view f)) }
 {
     let base = base_form(alloc, uri)?;
     let compiled = accept(alloc, base.as_str(), schema)?;
@@ -69,14 +71,15 @@ pub(crate) fn check_docs(
 }
 
 // The schema, ready to be evaluated, where nothing is wrong with it.
-#[tactic(auto, unfolding(crate::specs::Judgements::accepted))]
+#[tactic(auto, unfolding(crate::specs::Judgements::accepted_schema))]
 fn accept(alloc: Global, base: &str, schema: &Doc) -> Result<Compiled, Fault>
     ensures base { IfOk result (λ c. compiled_base c ≡ base.now) }
-    ensures ok { IfOk result (λ c. accepted base.now (value schema.now) ≡ Ok (compiled_value c)) }
+    ensures ok { IfOk result
+        (λ c. accepted_schema base.now (value schema.now) ≡ Ok (compiled_value c)) }
     ensures err { IfErr result
-        (λ f. f ≢ Fault.NoRoom → is_for_pattern (fault f)
+        (λ f. f ≢ Fault.NoRoom → is_for_pattern (fault_view f)
         (builds_under (Ok base.now) (Ok (value schema.now))) ≡ false
-        → accepted base.now (value schema.now) ≡ Err (fault f)) }
+        → accepted_schema base.now (value schema.now) ≡ Err (fault_view f)) }
 {
     let scanned = scan(alloc, &split(base), schema)?;
     compile(alloc, scanned)
@@ -85,11 +88,11 @@ fn accept(alloc: Global, base: &str, schema: &Doc) -> Result<Compiled, Fault>
 // What the document says of the instance.
 fn judge(alloc: Global, document: Compiled, instance: &Doc) -> Result<Report, Fault>
     ensures ok { IfOk result
-        (λ r. said_by (compiled_document document) (value instance.now)
+        (λ r. said_by (compiled_view document) (value instance.now)
         ≡ Ok (is_valid r, report_text r)) }
     ensures err { IfErr result
-        (λ f. f ≢ Fault.NoRoom → said_by (compiled_document document) (value instance.now)
-        ≡ Err (fault f)) }
+        (λ f. f ≢ Fault.NoRoom → said_by (compiled_view document) (value instance.now)
+        ≡ Err (fault_view f)) }
 {
     let uri = canonical(&document).to_owned(alloc)?;
     let mut source = alone(alloc, document)?;
@@ -101,7 +104,7 @@ fn judge(alloc: Global, document: Compiled, instance: &Doc) -> Result<Report, Fa
 
 // A source with this document alone.
 fn alone(alloc: Global, document: Compiled) -> Result<ListSource, Fault>
-    ensures ok { IfOk result (λ s. listed_documents s ≡ compiled_document document ∷ []) }
+    ensures ok { IfOk result (λ s. listed_documents s ≡ compiled_view document ∷ []) }
     ensures err { IfErr result (λ f. f ≡ Fault.NoRoom) }
 {
     let mut source = ListSource::new(alloc);

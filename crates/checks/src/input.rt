@@ -3,7 +3,7 @@
 ghost use Rattle.std.specs.Prelude.{◌≡◌, ◌≢◌, false, Ok, Err, IfOk, IfErr, option_map, codes};
 ghost use Rattle.definitions.specs.Values.{get};
 ghost use Rattle.evaluator.specs.Reports.{is_valid, report_text};
-ghost use Rattle.faults.specs.View.{fault};
+ghost use Rattle.faults.specs.View.{fault_view};
 ghost use Rattle.json_doc.specs.Docs.{value};
 ghost use Rattle.checks.specs.Judgements.{is_for_pattern, input_of, input_in, judgement_of, builds_patterns_of, uri_in, member_in};
 
@@ -25,8 +25,9 @@ pub fn check_input(alloc: Global, bytes: &[u8]) -> Result<Report, Fault>
     ensures ok { IfOk result
         (λ r. judgement_of (input_of bytes.now) ≡ Ok (is_valid r, report_text r)) }
     ensures err { IfErr result
-        (λ f. f ≢ Fault.NoRoom → is_for_pattern (fault f) (builds_patterns_of (input_of bytes.now))
-        ≡ false → judgement_of (input_of bytes.now) ≡ Err (fault f)) }
+        (λ f. f ≢ Fault.NoRoom → is_for_pattern (fault_view f)
+        (builds_patterns_of (input_of bytes.now))
+        ≡ false → judgement_of (input_of bytes.now) ≡ Err (fault_view f)) }
 {
     let input = read(alloc, bytes)?;
     check_object(alloc, &input)
@@ -36,9 +37,9 @@ fn check_object(alloc: Global, input: &Doc) -> Result<Report, Fault>
     ensures ok { IfOk result
         (λ r. judgement_of (input_in (value input.now)) ≡ Ok (is_valid r, report_text r)) }
     ensures err { IfErr result
-        (λ f. f ≢ Fault.NoRoom → is_for_pattern (fault f)
+        (λ f. f ≢ Fault.NoRoom → is_for_pattern (fault_view f)
         (builds_patterns_of (input_in (value input.now))) ≡ false
-        → judgement_of (input_in (value input.now)) ≡ Err (fault f)) }
+        → judgement_of (input_in (value input.now)) ≡ Err (fault_view f)) }
 {
     let uri = uri_in(input)?;
     let schema = member_in(input, "schema")?;
@@ -48,7 +49,8 @@ fn check_object(alloc: Global, input: &Doc) -> Result<Report, Fault>
 
 fn uri_in(input: &Doc) -> Result<&str, Fault>
     ensures ok { IfOk result (λ uri. uri_in (get (codes "uri") (value input.now)) ≡ Ok uri.now) }
-    ensures err { IfErr result (λ f. uri_in (get (codes "uri") (value input.now)) ≡ Err (fault f)) }
+    ensures err { IfErr result
+        (λ f. uri_in (get (codes "uri") (value input.now)) ≡ Err (fault_view f)) }
 {
     match input.get("uri") {
         None => Ok(DEFAULT_URI),
@@ -62,7 +64,8 @@ fn uri_in(input: &Doc) -> Result<&str, Fault>
 fn member_in<'a>(input: &'a Doc, name: &str) -> Result<&'a Doc, Fault>
     ensures ok { IfOk result
         (λ member. member_in (get name.now (value input.now)) ≡ Ok (value member.now)) }
-    ensures err { IfErr result (λ f. member_in (get name.now (value input.now)) ≡ Err (fault f)) }
+    ensures err { IfErr result
+        (λ f. member_in (get name.now (value input.now)) ≡ Err (fault_view f)) }
 {
     match input.get(name) {
         Some(member) => Ok(member),

@@ -11,7 +11,7 @@ use Rattle.clap.specs.declared.error.Error.{Error}
 use Rattle.clap.specs.declared.error.kind.ErrorKind.TheVariants.{OutOfMemory}
 use Rattle.clap.proofs.OnLiterals.{clap_on_literals}
 use Rattle.command_line.specs.Commands.{program, check_command}
-use Rattle.command_line.specs.Calls.{Asked, call_of, check_asked}
+use Rattle.command_line.specs.Calls.{Asked, asked_check, call_of}
 use Rattle.clap.specs.declared.error.kind.ErrorKind.{ErrorKind}
 use Rattle.command_line.specs.Forms.{Asks, help, version, Spells, no_words, two_files, with_uri, is_plain}
 
@@ -82,7 +82,7 @@ turns_fault = walk_fault shape [] (walk_from nothing_held)
 
 -- what is asked for where the walk ends
 abbrev asked_at : Walk → Asked
-asked_at end = check_asked (finished rules end.held)
+asked_at end = asked_check (finished rules end.held)
 
 -- the faults that are left where the walk ends, after those of its words
 abbrev end_fault : Kinds → Walk → Kinds

@@ -27,18 +27,18 @@ pub data Asked : Type 0 where
   -- the address, and how many connections are accepted there
   serve : Start → Text → ℕ → Asked
 
-abbrev pub start : Setup → Start
-start setup = record {
+abbrev pub setup_view : Setup → Start
+setup_view setup = record {
   tenants = setup.tenants.now;
   library = option_map (λ s. s.now) setup.library;
   cache = setup.cache;
 }
 
-abbrev pub asked : Call → Asked
-asked call.Input = input
-asked (call.Check uri schema instance) = check uri.now schema.now instance.now
-asked (call.Run setup) = run (start setup)
-asked (call.Serve setup listen accept) = serve (start setup) listen.now accept
+abbrev pub call_view : Call → Asked
+call_view call.Input = input
+call_view (call.Check uri schema instance) = check uri.now schema.now instance.now
+call_view (call.Run setup) = run (setup_view setup)
+call_view (call.Serve setup listen accept) = serve (setup_view setup) listen.now accept
 
 -- the first value that the words gave to an argument
 abbrev pub value_of : Text → List Row → Text
@@ -51,34 +51,34 @@ number_in text = if is_unsigned_in 0 4294967295 text then digits_value 10 (witho
 abbrev pub number_of : Text → List Row → ℕ
 number_of id rows = option_map_or number_in (one_of id rows) 0
 
-abbrev pub check_asked : List Row → Asked
-check_asked rows = check (value_of (codes "uri") rows) (value_of (codes "SCHEMA") rows) (value_of (codes "INSTANCE") rows)
+abbrev pub asked_check : List Row → Asked
+asked_check rows = check (value_of (codes "uri") rows) (value_of (codes "SCHEMA") rows) (value_of (codes "INSTANCE") rows)
 
-abbrev pub start_asked : List Row → Start
-start_asked rows = record {
+abbrev pub asked_start : List Row → Start
+asked_start rows = record {
   tenants = value_of (codes "tenants") rows;
   library = first_of (codes "library") rows;
   cache = number_of (codes "cache") rows;
 }
 
-abbrev pub serve_asked : List Row → Asked
-serve_asked rows = serve (start_asked rows) (value_of (codes "listen") rows) (number_of (codes "accept") rows)
+abbrev pub asked_service : List Row → Asked
+asked_service rows = serve (asked_start rows) (value_of (codes "listen") rows) (number_of (codes "accept") rows)
 
 -- what the words of the form with this name ask for
-abbrev pub form_asked : Text → List Row → Asked
-form_asked name rows =
-    if bytes_eq name (codes "run") then run (start_asked rows)
-    else if bytes_eq name (codes "serve") then serve_asked rows
-    else check_asked rows
+abbrev pub asked_form : Text → List Row → Asked
+asked_form name rows =
+    if bytes_eq name (codes "run") then run (asked_start rows)
+    else if bytes_eq name (codes "serve") then asked_service rows
+    else asked_check rows
 
 -- what the words ask for by the form that they name, if any
-abbrev pub asked_by : Option (Text × List Row) → Asked
-asked_by None = input
-asked_by (Some form) = form_asked form.0 form.1
+abbrev pub asked_call : Option (Text × List Row) → Asked
+asked_call None = input
+asked_call (Some form) = asked_form form.0 form.1
 
 -- the words of a command line, the program's name first
 abbrev pub call_of : List Text → Asked
-call_of words = asked_by (subcommand_of program words)
+call_of words = asked_call (subcommand_of program words)
 
 -- nothing is wrong with the words, and this is what they ask for
 abbrev pub Means : List Text → Asked → Type 0

@@ -46,12 +46,12 @@ run_command = with_rule (over_registries (codes "run")) cache_option
 abbrev pub serve_command : App
 serve_command = with_rule (with_rule (with_rule (over_registries (codes "serve")) (required_option (codes "listen"))) accept_option) cache_option
 
-abbrev pub named : App
-named = new_app (codes "schemareg")
+abbrev pub named_program : App
+named_program = new_app (codes "schemareg")
 
 -- the program, which has a version
-abbrev pub versioned : App
-versioned = record named { top = record named.top { has_version = true } }
+abbrev pub versioned_program : App
+versioned_program = record named_program { top = record named_program.top { has_version = true } }
 
 abbrev pub program : App
-program = with_subcommand (with_subcommand (with_subcommand versioned check_command.top) run_command.top) serve_command.top
+program = with_subcommand (with_subcommand (with_subcommand versioned_program check_command.top) run_command.top) serve_command.top

@@ -5,7 +5,7 @@ use Rattle.clap.specs.declared.error.Error.{Error}
 use Rattle.clap.specs.declared.error.kind.ErrorKind.{ErrorKind}
 use Rattle.clap.specs.declared.error.kind.ErrorKind.TheVariants.{DisplayHelp, DisplayVersion, OutOfMemory}
 use Rattle.command_line.specs.declared.call.Call.{Call}
-use Rattle.command_line.specs.Calls.{Asked, input, check, asked}
+use Rattle.command_line.specs.Calls.{Asked, input, check, call_view}
 
 -- a word that is no flag, since it doesn't begin with `-` (45)
 abbrev pub is_plain : Text → Bool
@@ -22,7 +22,7 @@ pub data Spells : List Text → Asked → Type 0 where
 
 -- the call that is asked for, unless memory runs out
 abbrev pub IsCall : Asked → Result Call Error → Type 0
-IsCall wanted r = MatchResult r (λ call. asked call ≡ wanted) (λ e. kind_of e ≡ OutOfMemory)
+IsCall wanted r = MatchResult r (λ call. call_view call ≡ wanted) (λ e. kind_of e ≡ OutOfMemory)
 
 -- the words that ask for help or for the version, and the kind of error that answers them
 pub data Asks : List Text → ErrorKind → Type 0 where

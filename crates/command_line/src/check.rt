@@ -3,7 +3,7 @@ ghost use Rattle.std.specs.Prelude.{◌≡◌, IfOk, false};
 ghost use Rattle.clap.specs.Words.{app_of, found_of, rows_of, rule_of};
 ghost use Rattle.clap.specs.declared.builder.command.Command.TheViews.{out-Command as fields_of};
 ghost use Rattle.command_line.specs.Commands.{check_command, uri_option};
-ghost use Rattle.command_line.specs.Calls.{asked, check_asked};
+ghost use Rattle.command_line.specs.Calls.{asked_check, call_view};
 
 use crate::Call;
 use crate::arguments::{named, required};
@@ -45,7 +45,7 @@ pub(crate) fn command<'a>(alloc: Global) -> Result<Command<'a>, AllocError>
 
 /// The call that the form's words spell.
 pub(crate) fn call<'a>(matches: &ArgMatches<'a>) -> Call<'a>
-    ensures { asked result ≡ check_asked (rows_of (found_of matches.now)) }
+    ensures { call_view result ≡ asked_check (rows_of (found_of matches.now)) }
 {
     Call::Check {
         uri: value(matches, "uri"),

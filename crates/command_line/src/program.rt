@@ -1,8 +1,8 @@
 //! The program's own words, and the call that a command line spells.
 ghost use Rattle.std.specs.Prelude.{◌≡◌, [], ◌∷◌, IfOk, false, map};
 ghost use Rattle.clap.specs.Words.{FailsBy, app_of, fault_of, found_of, rows_of, subcommand_of, subcommand_rows_of};
-ghost use Rattle.command_line.specs.Calls.{Asked, Means, asked, asked_by, call_of, form_asked};
-ghost use Rattle.command_line.specs.Commands.{program, versioned};
+ghost use Rattle.command_line.specs.Calls.{Asked, Means, asked_call, asked_form, call_of, call_view};
+ghost use Rattle.command_line.specs.Commands.{program, versioned_program};
 ghost use Rattle.clap.specs.declared.builder.command.Command.TheViews.{out-Command as fields_of};
 ghost use Rattle.command_line.specs.Forms.{Asks, IsCall, Spells};
 
@@ -14,7 +14,7 @@ use std::convert::AsStr;
 
 /// The program with its version and what it is in a line, without its forms.
 fn named<'a>(alloc: Global) -> Command<'a>
-    ensures shape { app_of result ≡ versioned }
+    ensures shape { app_of result ≡ versioned_program }
     ensures local { (fields_of result).has_globals ≡ false }
 {
     Command::new(alloc, "schemareg")
@@ -56,7 +56,7 @@ fn matches<'a, S: AsStr>(alloc: Global, words: &'a [S]) -> Result<ArgMatches<'a>
 
 /// The call that the words of the form with this name spell.
 fn call_of_form<'a>(name: &str, matches: &ArgMatches<'a>) -> Call<'a>
-    ensures { asked result ≡ form_asked name.now (rows_of (found_of matches.now)) }
+    ensures { call_view result ≡ asked_form name.now (rows_of (found_of matches.now)) }
 {
     match name {
         "run" => run::call(matches),
@@ -67,7 +67,7 @@ fn call_of_form<'a>(name: &str, matches: &ArgMatches<'a>) -> Call<'a>
 
 /// The call of the form that was found, if any.
 fn call<'a>(matches: &ArgMatches<'a>) -> Call<'a>
-    ensures { asked result ≡ asked_by (subcommand_rows_of matches.now) }
+    ensures { call_view result ≡ asked_call (subcommand_rows_of matches.now) }
 {
     match matches.subcommand() {
         None => Call::Input,
@@ -86,7 +86,7 @@ pub fn read<'a, S: AsStr>(alloc: Global, words: &'a [S]) -> Result<Call<'a>, Err
 
     // Of any words, by `clap`'s own definitions.
     ensures calls { (call : Asked) → Means (map S.text words.now) call → IsCall call result }
-    ensures ok { IfOk result (λ call. asked call ≡ call_of (map S.text words.now)) }
+    ensures ok { IfOk result (λ call. call_view call ≡ call_of (map S.text words.now)) }
     ensures err { FailsBy (fault_of program (map S.text words.now)) result }
 {
     let found = matches(alloc, words)?;

@@ -3,7 +3,7 @@ ghost use Rattle.std.specs.Prelude.{◌≡◌, IfOk, false};
 ghost use Rattle.clap.specs.Words.{app_of, found_of, rows_of};
 ghost use Rattle.clap.specs.declared.builder.command.Command.TheViews.{out-Command as fields_of};
 ghost use Rattle.command_line.specs.Commands.{run_command};
-ghost use Rattle.command_line.specs.Calls.{asked, run, start_asked};
+ghost use Rattle.command_line.specs.Calls.{asked_start, call_view, run};
 
 use crate::Call;
 use crate::arguments::{cache, over_registries};
@@ -32,7 +32,7 @@ pub(crate) fn command<'a>(alloc: Global) -> Result<Command<'a>, AllocError>
 
 /// The call that the form's words spell.
 pub(crate) fn call<'a>(matches: &ArgMatches<'a>) -> Call<'a>
-    ensures { asked result ≡ run (start_asked (rows_of (found_of matches.now))) }
+    ensures { call_view result ≡ run (asked_start (rows_of (found_of matches.now))) }
 {
     Call::Run {
         setup: setup(matches),

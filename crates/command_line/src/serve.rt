@@ -3,7 +3,7 @@ ghost use Rattle.std.specs.Prelude.{◌≡◌, IfOk, false, codes};
 ghost use Rattle.clap.specs.Words.{app_of, found_of, rows_of, rule_of};
 ghost use Rattle.clap.specs.declared.builder.command.Command.TheViews.{out-Command as fields_of};
 ghost use Rattle.command_line.specs.Commands.{accept_option, required_option, serve_command};
-ghost use Rattle.command_line.specs.Calls.{asked, serve_asked};
+ghost use Rattle.command_line.specs.Calls.{asked_service, call_view};
 
 use crate::Call;
 use crate::arguments::{cache, named, over_registries};
@@ -66,7 +66,7 @@ pub(crate) fn command<'a>(alloc: Global) -> Result<Command<'a>, AllocError>
 
 /// The call that the form's words spell.
 pub(crate) fn call<'a>(matches: &ArgMatches<'a>) -> Call<'a>
-    ensures { asked result ≡ serve_asked (rows_of (found_of matches.now)) }
+    ensures { call_view result ≡ asked_service (rows_of (found_of matches.now)) }
 {
     Call::Serve {
         setup: setup(matches),

@@ -1,7 +1,7 @@
 //! The values that the words gave to an argument.
 ghost use Rattle.std.specs.Prelude.{◌≡◌, option_map};
 ghost use Rattle.clap.specs.Words.{first_of, found_of, rows_of};
-ghost use Rattle.command_line.specs.Calls.{number_of, start, start_asked, value_of};
+ghost use Rattle.command_line.specs.Calls.{asked_start, number_of, setup_view, value_of};
 
 use crate::Setup;
 use clap::ArgMatches;
@@ -31,7 +31,7 @@ pub(crate) fn number(matches: &ArgMatches<'_>, id: &str) -> u32
 
 /// What the registries of `run` and of `serve` start from.
 pub(crate) fn setup<'a>(matches: &ArgMatches<'a>) -> Setup<'a>
-    ensures { start result ≡ start_asked (rows_of (found_of matches.now)) }
+    ensures { setup_view result ≡ asked_start (rows_of (found_of matches.now)) }
 {
     Setup {
         tenants: value(matches, "tenants"),

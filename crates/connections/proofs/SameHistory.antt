@@ -8,30 +8,30 @@ use Rattle.http_laws.specs.Answering.{AnswerOnce, IsSameSoFar}
 use Rattle.http_laws.specs.Spelling.{SpellsAll}
 use Rattle.http_laws.proofs.SpelledOnce.{spelled_once}
 use Rattle.http_laws.proofs.AnsweredOnce.{replied_once, ends_alike, ended_has_none}
-use Rattle.connections.specs.Feeding.{Fed, Answered, asked, messages_of, replies_of, stream_of, sent_to, IsSent, IsHistory}
+use Rattle.connections.specs.Feeding.{Fed, Answered, asked_messages, messages_of, replies_of, stream_of, sent_to, IsSent, IsHistory}
 
 abbrev made : ℕ × Message → Reply → Answered
 made q r = record { id = q.0; message = q.1; reply = r }
 
 -- requests with their replies, from both
-same_answered : (xs ys : List Answered) → asked xs ≡ asked ys → map (λ (a : Answered). a.reply) xs ≡ map (λ (a : Answered). a.reply) ys → xs ≡ ys
+same_answered : (xs ys : List Answered) → asked_messages xs ≡ asked_messages ys → map (λ (a : Answered). a.reply) xs ≡ map (λ (a : Answered). a.reply) ys → xs ≡ ys
 same_answered [] [] e f = refl
 same_answered [] (b ∷ ys) e f = absurd (cc e)
 same_answered (a ∷ xs) [] e f = absurd (cc e)
 same_answered (a ∷ xs) (b ∷ ys) e f =
     let first : ◌≡◌ {A = ℕ × Message} (a.id, a.message) (b.id, b.message) = cc e in
     let reply : a.reply ≡ b.reply = cc f in
-    let rest : asked xs ≡ asked ys = cc e in
+    let rest : asked_messages xs ≡ asked_messages ys = cc e in
     let replies : map (λ (x : Answered). x.reply) xs ≡ map (λ (x : Answered). x.reply) ys = cc f in
     ap₂ (λ x xs. x ∷ xs) (ap₂ made first reply) (same_answered xs ys rest replies)
 
-same_messages : (xs ys : List Answered) → asked xs ≡ asked ys → map (λ (a : Answered). a.message) xs ≡ map (λ (a : Answered). a.message) ys
+same_messages : (xs ys : List Answered) → asked_messages xs ≡ asked_messages ys → map (λ (a : Answered). a.message) xs ≡ map (λ (a : Answered). a.message) ys
 same_messages [] [] e = refl
 same_messages [] (b ∷ ys) e = absurd (cc e)
 same_messages (a ∷ xs) [] e = absurd (cc e)
 same_messages (a ∷ xs) (b ∷ ys) e =
     let first : ◌≡◌ {A = ℕ × Message} (a.id, a.message) (b.id, b.message) = cc e in
-    let rest : asked xs ≡ asked ys = cc e in
+    let rest : asked_messages xs ≡ asked_messages ys = cc e in
     ap₂ (λ x xs. x ∷ xs) (ap (λ (q : ℕ × Message). q.1) first) (same_messages xs ys rest)
 
 spells_all : (a : Text) (ms : List Message) (rs : List Reply) (out : Text) (now : Connection) (x : IsSent a ms rs out now) → SpellsAll a ms x.rest
@@ -50,7 +50,7 @@ sent_alike a b ms rs out told now other e x y =
 pub same_history : {S : Type 0} (answers : Answers S) → AnswerOnce answers
     → (fs gs : List Fed) (s t u : S) (now other : ℕ → Connection) (xs ys : List Answered)
     → IsHistory answers s fs now t xs → IsHistory answers s gs other u ys
-    → asked xs ≡ asked ys → ((k : ℕ) → stream_of k fs ≡ stream_of k gs)
+    → asked_messages xs ≡ asked_messages ys → ((k : ℕ) → stream_of k fs ≡ stream_of k gs)
     → (t ≡ u) × ((k : ℕ) → IsSameSoFar (sent_to k fs) (now k) (sent_to k gs) (other k))
 same_history answers once fs gs s t u now other xs ys x y e streams =
     let ms = map (λ (b : Answered). b.message) ys in

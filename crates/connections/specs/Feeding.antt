@@ -68,13 +68,13 @@ FedPiecesAreAnswered {S} answers =
     → FeedsAll answers (λ k. holding []) s fs now t → (xs : List Answered) × IsHistory answers s fs now t xs
 
 -- the requests of connections, without their replies
-abbrev pub asked : List Answered → List (ℕ × Message)
-asked = map (λ a. (a.id, a.message))
+abbrev pub asked_messages : List Answered → List (ℕ × Message)
+asked_messages = map (λ a. (a.id, a.message))
 
 abbrev pub CutsDecideNothing : {S : Type 0} → Answers S → Type 0
 CutsDecideNothing {S} answers =
     AnswerOnce answers
     → (fs gs : List Fed) (s t u : S) (now other : ℕ → Connection) (xs ys : List Answered)
     → IsHistory answers s fs now t xs → IsHistory answers s gs other u ys
-    → asked xs ≡ asked ys → ((k : ℕ) → stream_of k fs ≡ stream_of k gs)
+    → asked_messages xs ≡ asked_messages ys → ((k : ℕ) → stream_of k fs ≡ stream_of k gs)
     → (t ≡ u) × ((k : ℕ) → IsSameSoFar (sent_to k fs) (now k) (sent_to k gs) (other k))

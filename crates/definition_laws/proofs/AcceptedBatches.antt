@@ -11,7 +11,7 @@ use Rattle.definitions.specs.Scanning.{scan_faults}
 use Rattle.definitions.specs.Reach.{least}
 use Rattle.definitions.specs.Registries.{Registry, is_in_library}
 use Rattle.definitions.specs.Searches.{Search, is_regular}
-use Rattle.definitions.specs.Documents.{canonicals, joined, taken_uris, bytes_of, placed_all}
+use Rattle.definitions.specs.Documents.{canonicals, documents_of_both, taken_uris, bytes_of, documents_with_all}
 use Rattle.definitions.specs.Batches.{Entry, accepted_document, document_under, entry_document, with_later, Numbered, entry_documents, repeats, repeated_uri, taken_by, batch_refusal, unless_shared, library_with}
 use Rattle.definition_laws.proofs.Membership.{nothing_in, is_first, is_later, first_or_later}
 use Rattle.definition_laws.proofs.Repeats.{none_of}
@@ -110,7 +110,7 @@ are_free all ds once free = record {
 -- what `batch_refusal` has no fault in
 pub record IsGranted (g : Registry) (ds after : List Document) : Type 0 where
   pub unowned : (d : Document) → Contains ds d → is_in_library g d.canonical ≡ false
-  pub free : AreFree (joined g.library after) ds
+  pub free : AreFree (documents_of_both g.library after) ds
   pub few : nat_lt g.most_documents (length after) ≡ false
   pub small : nat_lt g.most_bytes (bytes_of after) ≡ false
 
@@ -126,10 +126,10 @@ granted_by repeated owned uri many large e =
 
 pub granted : (g : Registry) (ds after : List Document) → batch_refusal g ds after ≡ None → IsGranted g ds after
 granted g ds after e =
-    let parts = granted_by (repeated_uri ds) (list_any (λ d. is_in_library g d.canonical) ds) (taken_by (joined g.library after) ds) (nat_lt g.most_documents (length after)) (nat_lt g.most_bytes (bytes_of after)) e in
+    let parts = granted_by (repeated_uri ds) (list_any (λ d. is_in_library g d.canonical) ds) (taken_by (documents_of_both g.library after) ds) (nat_lt g.most_documents (length after)) (nat_lt g.most_bytes (bytes_of after)) e in
     record {
       unowned = λ d c. none_of (λ x. is_in_library g x.canonical) d ds parts.1.0 c;
-      free = are_free (joined g.library after) ds parts.0 parts.1.1.0;
+      free = are_free (documents_of_both g.library after) ds parts.0 parts.1.1.0;
       few = parts.1.1.1.0;
       small = parts.1.1.1.1;
     }
@@ -144,8 +144,8 @@ two_none repeated uri e =
     let parts = neither (option_list (option_map same_document repeated)) (option_list (option_map taken uri)) (first_none _ e) in
     (no_text same_document repeated parts.0, no_text taken uri parts.1)
 
-pub library_free : (ds all : List Document) → library_with ds ≡ Ok all → (placed_all ds [] ≡ all) × AreFree (placed_all ds []) ds
+pub library_free : (ds all : List Document) → library_with ds ≡ Ok all → (documents_with_all ds [] ≡ all) × AreFree (documents_with_all ds []) ds
 library_free ds all h =
-    let shared = shared_none (placed_all ds []) all _ h in
-    let none = two_none (repeated_uri ds) (taken_by (placed_all ds []) ds) shared.0 in
-    (shared.1, are_free (placed_all ds []) ds none.0 none.1)
+    let shared = shared_none (documents_with_all ds []) all _ h in
+    let none = two_none (repeated_uri ds) (taken_by (documents_with_all ds []) ds) shared.0 in
+    (shared.1, are_free (documents_with_all ds []) ds none.0 none.1)

@@ -9,7 +9,7 @@ use Rattle.definitions.specs.Values.{Text, same_text, is_object, nesting}
 use Rattle.definitions.specs.Lists.{has_repeat, option_list, first, when, unless}
 use Rattle.definitions.specs.Faults.{Fault, bad_pattern, library_owned, taken, quota_documents, quota_bytes, not_object, too_nested, duplicate_uri, duplicate_anchor}
 use Rattle.definitions.specs.Schemas.{Document, schemas_of, schema_at}
-use Rattle.definitions.specs.Scanning.{scan_faults, same_anchor, anchors_of, walked}
+use Rattle.definitions.specs.Scanning.{scan_faults, same_anchor, anchors_of, subtree_faults}
 use Rattle.definitions.specs.Limits.{limits}
 use Rattle.definitions.specs.Reach.{holds_resource}
 use Rattle.definitions.specs.Documents.{others_of, resources_of, taken_uri, bytes_of}
@@ -71,7 +71,7 @@ accepted search g d after e =
 pub record IsScanned (d : Document) : Type 0 where
   pub object : is_object d.value ≡ true
   pub shallow : nat_lt limits.schema_nesting (nesting d.value) ≡ false
-  pub walk : walked (suc (nesting d.value)) d.base [] (schema_at d.base [] d.value) ≡ []
+  pub walk : subtree_faults (suc (nesting d.value)) d.base [] (schema_at d.base [] d.value) ≡ []
   pub uris : has_repeat same_text (resources_of d) ≡ false
   pub anchors : has_repeat same_anchor (flat_map anchors_of (schemas_of d.base d.value)) ≡ false
 
@@ -92,7 +92,7 @@ scanned_by object nested uris anchors walk e =
 pub scanned : (d : Document) → scan_faults d.base d.value ≡ [] → IsScanned d
 scanned d e =
     let parts = scanned_by (is_object d.value) (nat_lt limits.schema_nesting (nesting d.value)) (has_repeat same_text (resources_of d))
-    (has_repeat same_anchor (flat_map anchors_of (schemas_of d.base d.value))) (walked (suc (nesting d.value)) d.base [] (schema_at d.base [] d.value)) e in
+    (has_repeat same_anchor (flat_map anchors_of (schemas_of d.base d.value))) (subtree_faults (suc (nesting d.value)) d.base [] (schema_at d.base [] d.value)) e in
     record { object = parts.0; shallow = parts.1.0; walk = parts.1.1.0; uris = parts.1.1.1.0; anchors = parts.1.1.1.1 }
 
 -- none of its URIs is held by a document with another canonical URI

@@ -7,8 +7,8 @@ use Rattle.definitions.specs.Keywords.{Keyword, keywords}
 use Rattle.definitions.specs.Schemas.{Schema, Document, same_identity, references, table_of}
 use Rattle.definitions.specs.Answers.{first_application, answer_of, answer_from, rules_of}
 use Rattle.definitions.specs.Limits.{limits}
-use Rattle.definitions.specs.Targets.{resource_root, target, dynamically_anchored}
-use Rattle.definitions.specs.Applied.{Application, Outcome, Rules, entered}
+use Rattle.definitions.specs.Targets.{resource_root, target, schema_with_dynamic_anchor}
+use Rattle.definitions.specs.Applied.{Application, Outcome, Rules, application_within}
 use Rattle.definitions.specs.Outcomes.{outcome, schema_outcome, object_outcome, boolean_outcome, false_unit, leaf, is_running, same_place}
 use Rattle.definition_laws.specs.Likeness.{AlikeTablesGiveTheSame, AlikeTablesAnswerTheSame}
 use Rattle.definition_laws.proofs.Occurrences.{IsIn, in_from_contains, contains_from_in, in_append, found_in}
@@ -22,13 +22,13 @@ use Rattle.definition_laws.proofs.Gathering.{object_same}
 record AreAlikeTables (table other : List Schema) : Type 0 where
   pub closed : IsClosed table
   pub targets : (s : Schema) (r : Text) → IsIn s table → IsIn r (references s) → AlikeIn table (target table r) (target other r)
-  pub anchors : (s : Schema) (name : Text) → IsIn s table → AlikeIn table (dynamically_anchored table s.resource name) (dynamically_anchored other s.resource name)
+  pub anchors : (s : Schema) (name : Text) → IsIn s table → AlikeIn table (schema_with_dynamic_anchor table s.resource name) (schema_with_dynamic_anchor other s.resource name)
 
 -- each URI of the scope is that of a schema
 abbrev IsScope : List Schema → List Text → Type 0
 IsScope table scope = (uri : Text) → IsIn uri scope → (s : Schema) × IsIn s table × (s.resource ≡ uri)
 
-entered_scope : (table : List Schema) (a : Application) → IsIn a.schema table → IsScope table a.scope → IsScope table (entered a).scope
+entered_scope : (table : List Schema) (a : Application) → IsIn a.schema table → IsScope table a.scope → IsScope table (application_within a).scope
 entered_scope table a i h uri j = by (in_append a.scope (a.schema.resource ∷ []) uri j)
   where
     by : IsIn uri a.scope ⊎ IsIn uri (a.schema.resource ∷ []) → (s : Schema) × IsIn s table × (s.resource ≡ uri)
@@ -39,7 +39,7 @@ entered_scope table a i h uri j = by (in_append a.scope (a.schema.resource ∷ [
 scope_anchors : (table other : List Schema) (scope : List Text) → AreAlikeTables table other → IsScope table scope → AnchorsAlike table other scope
 scope_anchors table other scope l h uri i name =
     let r = h uri i in
-    subst (λ u. AlikeIn table (dynamically_anchored table u name) (dynamically_anchored other u name)) r.2 (l.anchors r.0 name r.1)
+    subst (λ u. AlikeIn table (schema_with_dynamic_anchor table u name) (schema_with_dynamic_anchor other u name)) r.2 (l.anchors r.0 name r.1)
 
 -- ---- a schema of any kind
 chosen : Option Bool → Application → Outcome → Outcome
@@ -86,13 +86,13 @@ outcome_same rules table other l rows zero a t i h s = ap (λ b. cond b (leaf tr
 outcome_same rules table other l rows (suc n) a t i h s =
     let run = outcome (record rules { schemas = table }) n in
     let again = outcome (record rules { schemas = other }) n in
-    let scope : IsScope table (entered a).scope = entered_scope table a i s in
-    let setting : IsSetting table other run again (entered a) t = record {
+    let scope : IsScope table (application_within a).scope = entered_scope table a i s in
+    let setting : IsSetting table other run again (application_within a) t = record {
       alike = h;
       steps = λ u way step. step_closed table l.closed a.schema u way i step;
       runs = λ b u j k e. outcome_same rules table other l rows n b u j k (subst (IsScope table) (sym e) scope);
       targets = λ r j. l.targets a.schema r i j;
-      dynamic_targets = λ r j. dynamic_alike table other (entered a).scope r (scope_anchors table other (entered a).scope l scope) (l.targets a.schema r i j);
+      dynamic_targets = λ r j. dynamic_alike table other (application_within a).scope r (scope_anchors table other (application_within a).scope l scope) (l.targets a.schema r i j);
     } in
     ap₂ (λ b o. cond b (leaf true false) o) (running_same a t h)
     (schema_same (record rules { schemas = table }) (record rules { schemas = other }) run again a t h (object_same table other run again a t setting rules rows))
@@ -107,7 +107,7 @@ alike_tables ds es l =
       closed = closed;
       targets = λ s r i j. alike_in table (target table r) (target other r) (l.targets s r (contains_from_in table s i) (contains_from_in (references s) r j)).1 (target_held table closed r);
       anchors = λ s name i.
-          alike_in table (dynamically_anchored table s.resource name) (dynamically_anchored other s.resource name) (l.dynamic_anchors s name (contains_from_in table s i))
+          alike_in table (schema_with_dynamic_anchor table s.resource name) (schema_with_dynamic_anchor other s.resource name) (l.dynamic_anchors s name (contains_from_in table s i))
           (dynamically_anchored_in table s.resource name);
     }
 

@@ -9,9 +9,9 @@ use Rattle.definitions.specs.Lists.{option_list, first, when}
 use Rattle.definitions.specs.Scanning.{scan_fault, scan_faults}
 use Rattle.definitions.specs.Reach.{reach, IsReached}
 use Rattle.definitions.specs.Alike.{Agree}
-use Rattle.definitions.specs.Registries.{Registry, documents_seen, is_in_library, Request, put, delete, validate, bundled_from, batch, stored, stored_all, refused, refused_at, for_base, for_value, decided, put_into, bundling, body_value}
+use Rattle.definitions.specs.Registries.{Registry, documents_seen, is_in_library, Request, put, delete, validate, bundled_from, batch, stored, stored_all, refused, refused_at, for_base, for_value, decision, put_into, bundling_reply, body_value}
 use Rattle.definitions.specs.Searches.{Search, is_regular, has_patterns, builds}
-use Rattle.definitions.specs.Documents.{taken_uri, bytes_of, placed, document_of, placed_all}
+use Rattle.definitions.specs.Documents.{taken_uri, bytes_of, documents_with, document_of, documents_with_all}
 use Rattle.definitions.specs.Batches.{Entry, Numbered, batch_entries, entry_document, entry_documents, batch_refusal, each_stored, for_documents, for_entries, document_under, with_later}
 use Rattle.definitions.specs.Steps.{step}
 use Rattle.definitions.specs.Runs.{IsForRoom, BuildsPatterns, BuildsPatternsAt, builds_at, entries_build}
@@ -22,8 +22,8 @@ use Rattle.definition_laws.proofs.Registries.{agree_answer_alike}
 
 -- ---- the same reached documents
 bundled_by : (g h : Registry) (base : Result Text Fault) → ((b : Text) → base ≡ Ok b → Agree (documents_seen g) (documents_seen h) b)
-    → (for_base g base (λ b. (bundling b (reach (documents_seen g) b), g))).0 ≡ (for_base h base (λ b. (bundling b (reach (documents_seen h) b), h))).0
-bundled_by g h (Ok b) agree = ap (bundling b) (agree b refl)
+    → (for_base g base (λ b. (bundling_reply b (reach (documents_seen g) b), g))).0 ≡ (for_base h base (λ b. (bundling_reply b (reach (documents_seen h) b), h))).0
+bundled_by g h (Ok b) agree = ap (bundling_reply b) (agree b refl)
 bundled_by g h (Err e) agree = refl
 
 pub same_reached_alike : (search : Search) (g h : Registry) (uri body : Text) → IsKept search g → IsKept search h
@@ -56,7 +56,7 @@ does_build search (Ok b) (Err f) e = absurd (true≢false (sym e))
 does_build search (Err f) v e = absurd (true≢false (sym e))
 
 decided_at : (faults : List Fault) (regular owned : Bool) (uri : Option Text) (many large : Bool) (d : Text) (replaced : Bool) (after g : Registry) → faults ≡ [] → regular ≡ true
-    → (decided (first (faults ++ (when (not regular) bad_pattern ++ (when owned library_owned ++ (option_list (option_map taken uri) ++ (when many quota_documents ++ when large quota_bytes))))))
+    → (decision (first (faults ++ (when (not regular) bad_pattern ++ (when owned library_owned ++ (option_list (option_map taken uri) ++ (when many quota_documents ++ when large quota_bytes))))))
     (stored d replaced) after g).0 ≡ refused bad_pattern → ⊥
 decided_at (f ∷ fs) regular owned uri many large d replaced after g none reads e = cc
 decided_at [] false owned uri many large d replaced after g none reads e = cc
@@ -69,7 +69,7 @@ decided_at [] true false None false false d replaced after g none reads e = cc
 put_not : (search : Search) (g : Registry) (uri body : Text) → DoesBuild search (base_form uri) (body_value body) → (step search g (put uri body)).0 ≡ refused bad_pattern → ⊥
 put_not search g uri body made e =
     let d = document_from made.under made.value in
-    let after = placed d g.documents in
+    let after = documents_with d g.documents in
     decided_at (scan_faults d.base d.value) (is_regular search d.value) (is_in_library g d.canonical) (taken_uri (documents_seen g) d) (nat_lt g.most_documents (length after)) (nat_lt g.most_bytes (bytes_of after))
     d.canonical (is_some (document_of g.documents d.canonical)) (record g { documents = after }) g made.scanned made.regular
     (ap (λ x. x.0) (sym (stepped (base_form uri) (body_value body) made.is_base made.is_value)) ∙ e)
@@ -124,7 +124,7 @@ none_built_at search k (suc n) m (x ∷ es) f h is e =
     let parts = and_parts (is_ok (entry_document search x)) (builds_at search n es) h in
     none_built_at search (suc k) n m es f parts.1 (omega (arith, is)) (later_at k m (entry_document search x) (entry_documents search (suc k) es) f parts.0 e)
 
-not_stored : (o : Option Fault) (ds : List (Text × Bool)) (after g : Registry) (n : ℕ) (f : Fault) → (decided o (stored_all ds) after g).0 ≡ refused_at n f → ⊥
+not_stored : (o : Option Fault) (ds : List (Text × Bool)) (after g : Registry) (n : ℕ) (f : Fault) → (decision o (stored_all ds) after g).0 ≡ refused_at n f → ⊥
 not_stored None ds after g n f e = cc
 not_stored (Some h) ds after g n f e = cc
 
@@ -132,7 +132,7 @@ refused_in : (k n : ℕ) (f g : Fault) → refused_at k f ≡ refused_at n g →
 refused_in k n f g e = cc
 
 for_documents_at : (g : Registry) (r : Result (List Document) Numbered) (n : ℕ) (f : Fault) → (for_documents g r).0 ≡ refused_at n f → r ≡ Err (n, f)
-for_documents_at g (Ok ds) n f e = absurd (not_stored (batch_refusal g ds (placed_all ds g.documents)) (each_stored g ds) (record g { documents = placed_all ds g.documents }) g n f e)
+for_documents_at g (Ok ds) n f e = absurd (not_stored (batch_refusal g ds (documents_with_all ds g.documents)) (each_stored g ds) (record g { documents = documents_with_all ds g.documents }) g n f e)
 for_documents_at g (Err (k, h)) n f e = refused_in k n h f e
 
 batch_not : (search : Search) (g : Registry) (r : Result (List Entry) Fault) (n : ℕ) → entries_build search n r ≡ true → (for_entries search g r).0 ≡ refused_at n bad_pattern → ⊥

@@ -5,10 +5,10 @@ use Rattle.definitions.specs.Values.{Text, Value, string, get, elements, members
 use Rattle.definitions.specs.Faults.{Fault}
 use Rattle.definitions.specs.Fragments.{Fragment, no_fragment, tokens, plain_name}
 use Rattle.definitions.specs.Pointers.{Pointer}
-use Rattle.definitions.specs.Keywords.{keywords, shape_in, Meaning, refers, refers_dynamically, all_of, any_of, one_of, negated, condition, consequence, dependent_schemas, prefix_items, rest_items, some_item, properties, pattern_properties, other_properties, property_names, unevaluated_items, unevaluated_properties}
+use Rattle.definitions.specs.Keywords.{keywords, shape_in, Meaning, refers, refers_dynamically, all_of, any_of, one_of, negation, condition, consequence, dependent_schemas, prefix_items, items, contains, properties, pattern_properties, additional_properties, property_names, unevaluated_items, unevaluated_properties}
 use Rattle.definitions.specs.Schemas.{Schema, below, reference_at, table_of}
-use Rattle.definitions.specs.Targets.{target, dynamic_target, dynamic_by, dynamically_anchored, is_dynamic_anchor, outermost, fragment_of}
-use Rattle.definitions.specs.Applied.{Application, Outcome, Part, whole, named, indexed, name_of, Rules, applying, at_part, in_place, to_target, at_present, has, beside, consequence_of, condition_outcome, is_taken, applied}
+use Rattle.definitions.specs.Targets.{target, dynamic_target, dynamic_by, schema_with_dynamic_anchor, is_dynamic_anchor, outermost, fragment_of}
+use Rattle.definitions.specs.Applied.{Application, Outcome, Part, whole, named, indexed, name_of, Rules, part_application, at_part, in_place, to_target, at_present, has, beside, consequence_of, condition_outcome, is_taken, keyword_applications}
 use Rattle.definition_laws.proofs.Occurrences.{IsIn, in_map, in_flat_map, from_filter, zipped_first, all_pass_in, in_from_contains, contains_from_in}
 use Rattle.definition_laws.proofs.Places.{IsStep}
 use Rattle.definition_laws.proofs.Tables.{IsClosed, table_closed, step_closed, target_held, dynamically_anchored_in}
@@ -19,9 +19,9 @@ use Rattle.definition_laws.specs.Applications.{AppliedSchemasAreKnown}
 -- ---- a dynamic reference
 outermost_in : (table : List Schema) (scope : List Text) (name : Text) (s : Schema) → IsIn s table → IsIn (outermost table scope name s) table
 outermost_in table [] name s i = i
-outermost_in table (uri ∷ scope) name s i = by (dynamically_anchored table uri name) refl (outermost_in table scope name s i)
+outermost_in table (uri ∷ scope) name s i = by (schema_with_dynamic_anchor table uri name) refl (outermost_in table scope name s i)
   where
-    by : (o : Option Schema) → dynamically_anchored table uri name ≡ o → IsIn (outermost table scope name s) table → IsIn (unwrap_or o (outermost table scope name s)) table
+    by : (o : Option Schema) → schema_with_dynamic_anchor table uri name ≡ o → IsIn (outermost table scope name s) table → IsIn (unwrap_or o (outermost table scope name s)) table
     by None e later = later
     by (Some t) e later = dynamically_anchored_in table uri name t e
 
@@ -67,7 +67,7 @@ module _ (rules : Rules) (closed : IsClosed rules.schemas) (run : Application �
 
   target_known : (k : Text) (o : Option Schema) → ((s : Schema) → o ≡ Some s → IsIn s rules.schemas) → AreKnown (to_target a k o)
   target_known k None h = none_known
-  target_known k (Some s) h = alone_known (whole, applying a (k ∷ []) s whole a.instance) (h s refl)
+  target_known k (Some s) h = alone_known (whole, part_application a (k ∷ []) s whole a.instance) (h s refl)
 
   referred_known : (find : Text → Option Schema) (o : Option Text) → ((r : Text) (s : Schema) → find r ≡ Some s → IsIn s rules.schemas)
       → (s : Schema) → option_and_then find o ≡ Some s → IsIn s rules.schemas
@@ -101,7 +101,7 @@ module _ (rules : Rules) (closed : IsClosed rules.schemas) (run : Application �
         by true = none_known
         by false = alone_known (in_place a (k ∷ []) v) (one_known h whole a.instance)
 
-    applied_known : (names : List Text) (indexes : List ℕ) (m : Meaning) → fits m k (shape_in keywords k) ≡ true → AreKnown (applied rules run names indexes a k m v)
+    applied_known : (names : List Text) (indexes : List ℕ) (m : Meaning) → fits m k (shape_in keywords k) ≡ true → AreKnown (keyword_applications rules run names indexes a k m v)
     applied_known names indexes refers h =
         target_known k (option_and_then (target rules.schemas) (reference_at k a.schema))
         (referred_known (target rules.schemas) (reference_at k a.schema) (target_held rules.schemas closed))
@@ -114,7 +114,7 @@ module _ (rules : Rules) (closed : IsClosed rules.schemas) (run : Application �
         mapped_known (λ e. in_place a (k ∷ decimal e.0 ∷ []) e.1) (enumerate_from 0 (elements v)) (λ e j. listed_known h e j whole a.instance)
     applied_known names indexes one_of h =
         mapped_known (λ e. in_place a (k ∷ decimal e.0 ∷ []) e.1) (enumerate_from 0 (elements v)) (λ e j. listed_known h e j whole a.instance)
-    applied_known names indexes negated h = alone_known (in_place a (k ∷ []) v) (one_known h whole a.instance)
+    applied_known names indexes negation h = alone_known (in_place a (k ∷ []) v) (one_known h whole a.instance)
     applied_known names indexes condition h = alone_known (in_place a (k ∷ []) v) (one_known h whole a.instance)
     applied_known names indexes (consequence wanted) h = consequence_known h wanted (condition_outcome run a)
     applied_known names indexes dependent_schemas h =
@@ -123,10 +123,10 @@ module _ (rules : Rules) (closed : IsClosed rules.schemas) (run : Application �
     applied_known names indexes prefix_items h =
         mapped_known (λ e. at_part a (k ∷ decimal (e.0).0 ∷ []) (e.0).1 (indexed (e.0).0) e.1) (zip (enumerate_from 0 (elements v)) (elements a.instance))
         (λ e j. listed_known h e.0 (zipped_first (enumerate_from 0 (elements v)) (elements a.instance) e j) (indexed (e.0).0) e.1)
-    applied_known names indexes rest_items h =
+    applied_known names indexes items h =
         let start = length (elements (beside a (codes "prefixItems"))) in
         mapped_known (λ e. at_part a (k ∷ []) v (indexed e.0) e.1) (enumerate_from start (drop start (elements a.instance))) (λ e j. one_known h (indexed e.0) e.1)
-    applied_known names indexes some_item h =
+    applied_known names indexes contains h =
         mapped_known (λ e. at_part a (k ∷ []) v (indexed e.0) e.1) (enumerate_from 0 (elements a.instance)) (λ e j. one_known h (indexed e.0) e.1)
     applied_known names indexes properties h =
         flattened_known (λ m. at_present a k m (get m.0 a.instance)) (members v) (λ m j. present_known h m j (get m.0 a.instance))
@@ -134,7 +134,7 @@ module _ (rules : Rules) (closed : IsClosed rules.schemas) (run : Application �
         flattened_known (λ m. map (λ p. at_part a (k ∷ p.0 ∷ []) p.1 (named m.0) m.1) (filter (λ p. rules.matches p.0 m.0) (members v))) (members a.instance)
         (λ m j. mapped_known (λ p. at_part a (k ∷ p.0 ∷ []) p.1 (named m.0) m.1) (filter (λ p. rules.matches p.0 m.0) (members v))
         (λ p l. named_known h p (from_filter _ (members v) p l) (named m.0) m.1))
-    applied_known names indexes other_properties h =
+    applied_known names indexes additional_properties h =
         mapped_known (λ m. at_part a (k ∷ []) v (named m.0) m.1) (filter (λ m. not (is_taken rules a m.0)) (members a.instance)) (λ m j. one_known h (named m.0) m.1)
     applied_known names indexes property_names h =
         mapped_known (λ m. at_part a (k ∷ []) v (name_of m.0) (string m.0)) (members a.instance) (λ m j. one_known h (name_of m.0) (string m.0))
@@ -155,5 +155,5 @@ applied_schemas_are_known rules ds same run names indexes a k v e row inside fou
     let shape : fits k.meaning k.name (shape_in keywords k.name) ≡ true = all_pass_in (λ r. fits r.meaning r.name (shape_in keywords r.name)) keywords k rows_fit (in_from_contains keywords k row) in
     let known : IsIn e.1.schema rules.schemas =
     applied_known rules closed run a here k.name v (get_in k.name a.schema.value v found) names indexes k.meaning shape e
-    (in_from_contains (applied rules run names indexes a k.name k.meaning v) e applies) in
+    (in_from_contains (keyword_applications rules run names indexes a k.name k.meaning v) e applies) in
     contains_from_in (table_of ds) e.1.schema (subst (λ table. IsIn e.1.schema table) same known)

@@ -6,10 +6,10 @@ use Rattle.std.specs.List.{flat_map, filter, enumerate_from, list_any, zip}
 use Rattle.definitions.specs.Values.{Text, Value, null, string, same_text, get, entry, elements, members}
 use Rattle.definitions.specs.Alike.{IsAlikeSchema}
 use Rattle.definitions.specs.Pointers.{Pointer}
-use Rattle.definitions.specs.Keywords.{keywords, shape_in, Meaning, refers, refers_dynamically, all_of, any_of, one_of, negated, condition, consequence, dependent_schemas, prefix_items, rest_items, some_item, properties, pattern_properties, other_properties, property_names, unevaluated_items, unevaluated_properties}
+use Rattle.definitions.specs.Keywords.{keywords, shape_in, Meaning, refers, refers_dynamically, all_of, any_of, one_of, negation, condition, consequence, dependent_schemas, prefix_items, items, contains, properties, pattern_properties, additional_properties, property_names, unevaluated_items, unevaluated_properties}
 use Rattle.definitions.specs.Schemas.{Schema, below, reference_at, references}
 use Rattle.definitions.specs.Targets.{target, dynamic_target}
-use Rattle.definitions.specs.Applied.{Application, Outcome, Part, whole, named, indexed, name_of, Rules, applying, at_part, in_place, to_target, each_listed, at_items, at_members, at_present, has, beside, consequence_of, condition_outcome, contains_outcomes, is_taken, applied}
+use Rattle.definitions.specs.Applied.{Application, Outcome, Part, whole, named, indexed, name_of, Rules, part_application, at_part, in_place, to_target, list_applications, at_items, at_members, at_present, has, beside, consequence_of, condition_outcome, contains_outcomes, is_taken, keyword_applications}
 use Rattle.lemmas.proofs.Texts.{same_text_is}
 use Rattle.definition_laws.proofs.Occurrences.{IsIn, from_filter, zipped_first}
 use Rattle.definition_laws.proofs.Places.{IsStep}
@@ -75,10 +75,10 @@ module _ (table other : List Schema) (run again : Application → Outcome) (a : 
   to_target_same k None None h = refl
   to_target_same k None (Some u) h = absurd h
   to_target_same k (Some s) None h = absurd h
-  to_target_same k (Some s) (Some u) h = ap (λ o. (whole, o) ∷ []) (c.runs (applying a (k ∷ []) s whole a.instance) u h.0 h.1 refl)
+  to_target_same k (Some s) (Some u) h = ap (λ o. (whole, o) ∷ []) (c.runs (part_application a (k ∷ []) s whole a.instance) u h.0 h.1 refl)
 
   listed_same : (k : Text) (v : Value) → IsIn (k, v) (members a.schema.value) → is_list (shape_in keywords k) ≡ true
-      → outcomes again (each_listed (of_schema a t) k v) ≡ outcomes run (each_listed a k v)
+      → outcomes again (list_applications (of_schema a t) k v) ≡ outcomes run (list_applications a k v)
   listed_same k v i h =
       mapped_same run again (λ e. in_place a (k ∷ decimal e.0 ∷ []) e.1) (λ e. in_place (of_schema a t) (k ∷ decimal e.0 ∷ []) e.1) (enumerate_from 0 (elements v))
       (λ e j. part_same (k ∷ decimal e.0 ∷ []) e.1 whole a.instance (step_listed a.schema k v e i (list_is _ h) j))
@@ -173,14 +173,14 @@ module _ (table other : List Schema) (run again : Application → Outcome) (a : 
       (λ r f. c.dynamic_targets r (dynamic_reference a.schema r (ap (λ n. reference_at n a.schema) (sym name) ∙ f))))
 
   pub applied_same : (rules : Rules) (names : List Text) (indexes : List ℕ) (k : Text) (m : Meaning) (v : Value) → IsIn (k, v) (members a.schema.value) → fits m k (shape_in keywords k) ≡ true
-      → outcomes again (applied (record rules { schemas = other }) again names indexes (of_schema a t) k m v)
-      ≡ outcomes run (applied (record rules { schemas = table }) run names indexes a k m v)
+      → outcomes again (keyword_applications (record rules { schemas = other }) again names indexes (of_schema a t) k m v)
+      ≡ outcomes run (keyword_applications (record rules { schemas = table }) run names indexes a k m v)
   applied_same rules names indexes k refers v i h = refers_same k h
   applied_same rules names indexes k refers_dynamically v i h = refers_dynamically_same k h
   applied_same rules names indexes k all_of v i h = listed_same k v i h
   applied_same rules names indexes k any_of v i h = listed_same k v i h
   applied_same rules names indexes k one_of v i h = listed_same k v i h
-  applied_same rules names indexes k negated v i h = ap (λ y. y ∷ []) (one_same k v whole a.instance i h)
+  applied_same rules names indexes k negation v i h = ap (λ y. y ∷ []) (one_same k v whole a.instance i h)
   applied_same rules names indexes k condition v i h = ap (λ y. y ∷ []) (one_same k v whole a.instance i h)
   applied_same rules names indexes k (consequence wanted) v i h =
       ap (λ o. outcomes again (consequence_of (of_schema a t) k wanted v o)) condition_same ∙ consequence_same k wanted v (condition_outcome run a) i h
@@ -192,10 +192,10 @@ module _ (table other : List Schema) (run again : Application → Outcome) (a : 
       (zip (enumerate_from 0 (elements v)) (elements a.instance))
       (λ e j. part_same (k ∷ decimal (e.0).0 ∷ []) (e.0).1 (indexed (e.0).0) e.1
       (step_listed a.schema k v e.0 i (list_is _ h) (zipped_first (enumerate_from 0 (elements v)) (elements a.instance) e j)))
-  applied_same rules names indexes k rest_items v i h =
+  applied_same rules names indexes k items v i h =
       ap (λ b. outcomes again (at_items (of_schema a t) k v (length (elements b)) (drop (length (elements b)) (elements a.instance)))) (beside_same (codes "prefixItems") a t refl c.alike)
       ∙ items_same k v (length (elements (beside a (codes "prefixItems")))) (drop (length (elements (beside a (codes "prefixItems")))) (elements a.instance)) i h
-  applied_same rules names indexes k some_item v i h = items_same k v 0 (elements a.instance) i h
+  applied_same rules names indexes k contains v i h = items_same k v 0 (elements a.instance) i h
   applied_same rules names indexes k properties v i h =
       flattened_same run again (λ m. at_present a k m (get m.0 a.instance)) (λ m. at_present (of_schema a t) k m (get m.0 a.instance)) (members v)
       (λ m j. present_same k v m (get m.0 a.instance) i h j)
@@ -207,7 +207,7 @@ module _ (table other : List Schema) (run again : Application → Outcome) (a : 
       (λ m j. mapped_same run again (λ p. at_part a (k ∷ p.0 ∷ []) p.1 (named m.0) m.1) (λ p. at_part (of_schema a t) (k ∷ p.0 ∷ []) p.1 (named m.0) m.1)
       (filter (λ p. rules.matches p.0 m.0) (members v))
       (λ p l. part_same (k ∷ p.0 ∷ []) p.1 (named m.0) m.1 (step_named a.schema k v p i (map_is _ h) (from_filter _ (members v) p l))))
-  applied_same rules names indexes k other_properties v i h =
+  applied_same rules names indexes k additional_properties v i h =
       ap (λ ms. outcomes again (at_members (of_schema a t) k v ms))
       (filter_agree (λ m. not (is_taken (record rules { schemas = other }) (of_schema a t) m.0)) (λ m. not (is_taken (record rules { schemas = table }) a m.0))
       (λ m. ap not (taken_same rules m.0)) (members a.instance))

@@ -9,7 +9,7 @@ use Rattle.definitions.specs.Scanning.{resource_uris}
 use Rattle.definitions.specs.Alike.{IsAlikeSchema}
 use Rattle.definition_laws.proofs.Targets.{alike_resource, alike_pointer}
 use Rattle.definitions.specs.Documents.{resources_of, document_of, others_of}
-use Rattle.definitions.specs.Bundles.{defs_of, bundle_of, clash, sized, bundle_unless, bundle_from, bundle}
+use Rattle.definitions.specs.Bundles.{defs_of, bundle_of, clash, value_or_too_large, bundle_unless, bundle_from, bundle}
 use Rattle.definitions.specs.Limits.{limits}
 use Rattle.lemmas.proofs.Texts.{same_text_itself, same_text_is}
 use Rattle.definition_laws.specs.Identities.{IsDefinite}
@@ -24,7 +24,7 @@ use Rattle.definition_laws.proofs.LeastTexts.{no_least}
 use Rattle.definition_laws.proofs.MadeBundles.{own_root_in, IsMade, top_is, forth, back, prepared}
 
 -- ---- what a bundle that is made says of its root and the others
-sized_is : (w v : Value) → sized w ≡ Ok v → v ≡ w
+sized_is : (w v : Value) → value_or_too_large w ≡ Ok v → v ≡ w
 sized_is w v e = by (nat_lt limits.bundle_bytes (length (text w)) || nat_lt limits.bundle_nesting (nesting w)) e
   where
     by : (b : Bool) → cond b (Err bundle_too_large) (Ok w) ≡ Ok v → v ≡ w

@@ -1,11 +1,11 @@
 -- The table of a bundle corresponds to that of the documents that it is made of.
 use Rattle.std.proofs.Common.{◌≡◌, ◌⊎◌, List, [], ◌∷◌, Bool, true, false, cond, Option, Some, None, is_some, map, option_and_then, unwrap_or, codes, refl, sym, ap, subst, ◌∙◌, inl, inr}
 use Rattle.definitions.specs.Values.{Text, Value, string, object, no_members, members, to_members, entry, get, as_string, text_at, is_object, same_text}
-use Rattle.definitions.specs.Alike.{unbundled, IsAlikeSchema}
+use Rattle.definitions.specs.Alike.{unbundled_value, IsAlikeSchema}
 use Rattle.definitions.specs.Pointers.{Pointer}
 use Rattle.definitions.specs.Keywords.{keywords, shape_in}
-use Rattle.definitions.specs.Schemas.{Schema, Document, opened, schema_at}
-use Rattle.definitions.specs.Bundles.{put_member, under_its_uri, embedded, defs_of, bundle_of}
+use Rattle.definitions.specs.Schemas.{Schema, Document, opened_schema, schema_at}
+use Rattle.definitions.specs.Bundles.{put_member, under_its_uri, members_with_documents, defs_of, bundle_of}
 use Rattle.lemmas.proofs.Texts.{same_text_itself, same_text_is}
 use Rattle.definition_laws.specs.Identities.{IsDefinite}
 use Rattle.definition_laws.specs.Bundling.{IsAbsolute}
@@ -37,7 +37,7 @@ step_moved s t u way h step held = record {
 }
 
 pub opened_there : (base uri : Text) (way : Pointer) (v : Value) → IsAbsolute uri → text_at (codes "$id") v ≡ Some uri → schema_at base way v ≡ root_schema uri v
-opened_there base uri way v absolute e = ap (opened base way v) e ∙ ap (λ r. root_schema r v) (absolute base)
+opened_there base uri way v absolute e = ap (opened_schema base way v) e ∙ ap (λ r. root_schema r v) (absolute base)
 
 -- ---- a document under its own URI
 pub under_id : (d : Document) → is_object d.value ≡ true → text_at (codes "$id") (under_its_uri d) ≡ Some d.canonical
@@ -71,27 +71,27 @@ under_had d h n rest part (x, i, p) =
     ]
 
 -- ---- what is embedded
-embedded_keeps : (ds : List Document) (ms : List (Text × Value)) (m : Text × Value) → ((d : Document) → IsIn d ds → m.0 ≡ d.canonical → ⊥) → IsIn m ms → IsIn m (embedded ds ms)
+embedded_keeps : (ds : List Document) (ms : List (Text × Value)) (m : Text × Value) → ((d : Document) → IsIn d ds → m.0 ≡ d.canonical → ⊥) → IsIn m ms → IsIn m (members_with_documents ds ms)
 embedded_keeps [] ms m other i = i
 embedded_keeps (d ∷ ds) ms m other i =
-    put_beside d.canonical (under_its_uri d) (embedded ds ms) m (embedded_keeps ds ms m (λ e j. other e (inr j)) i) (other d (inl refl))
+    put_beside d.canonical (under_its_uri d) (members_with_documents ds ms) m (embedded_keeps ds ms m (λ e j. other e (inr j)) i) (other d (inl refl))
 
 embedded_has : (ds : List Document) (ms : List (Text × Value)) (d : Document) → ((e f : Document) → IsIn e ds → IsIn f ds → e.canonical ≡ f.canonical → e ≡ f) → IsIn d ds
-    → IsIn (d.canonical, under_its_uri d) (embedded ds ms)
+    → IsIn (d.canonical, under_its_uri d) (members_with_documents ds ms)
 embedded_has [] ms d once i = absurd i
 embedded_has (e ∷ ds) ms d once (inl f) =
-    subst (λ x. IsIn (x.canonical, under_its_uri x) (embedded (e ∷ ds) ms)) f (put_in e.canonical (under_its_uri e) (embedded ds ms))
+    subst (λ x. IsIn (x.canonical, under_its_uri x) (members_with_documents (e ∷ ds) ms)) f (put_in e.canonical (under_its_uri e) (members_with_documents ds ms))
 embedded_has (e ∷ ds) ms d once (inr i) = by (same_text d.canonical e.canonical) refl (embedded_has ds ms d (λ x y j k. once x y (inr j) (inr k)) i)
   where
-    by : (b : Bool) → same_text d.canonical e.canonical ≡ b → IsIn (d.canonical, under_its_uri d) (embedded ds ms) → IsIn (d.canonical, under_its_uri d) (embedded (e ∷ ds) ms)
+    by : (b : Bool) → same_text d.canonical e.canonical ≡ b → IsIn (d.canonical, under_its_uri d) (members_with_documents ds ms) → IsIn (d.canonical, under_its_uri d) (members_with_documents (e ∷ ds) ms)
     by true s later =
         let same : e ≡ d = once e d (inl refl) (inr i) (sym (same_text_is d.canonical e.canonical s)) in
-        subst (λ x. IsIn (x.canonical, under_its_uri x) (embedded (e ∷ ds) ms)) same (put_in e.canonical (under_its_uri e) (embedded ds ms))
-    by false s later = put_beside e.canonical (under_its_uri e) (embedded ds ms) (d.canonical, under_its_uri d) later (unlike d.canonical e.canonical s)
+        subst (λ x. IsIn (x.canonical, under_its_uri x) (members_with_documents (e ∷ ds) ms)) same (put_in e.canonical (under_its_uri e) (members_with_documents ds ms))
+    by false s later = put_beside e.canonical (under_its_uri e) (members_with_documents ds ms) (d.canonical, under_its_uri d) later (unlike d.canonical e.canonical s)
 
-pub embedded_from : (ds : List Document) (ms : List (Text × Value)) (m : Text × Value) → IsIn m (embedded ds ms) → ((d : Document) × IsIn d ds × ((d.canonical, under_its_uri d) ≡ m)) ⊎ IsIn m ms
+pub embedded_from : (ds : List Document) (ms : List (Text × Value)) (m : Text × Value) → IsIn m (members_with_documents ds ms) → ((d : Document) × IsIn d ds × ((d.canonical, under_its_uri d) ≡ m)) ⊎ IsIn m ms
 embedded_from [] ms m i = inr i
-embedded_from (d ∷ ds) ms m i = elim (put_from d.canonical (under_its_uri d) (embedded ds ms) m i) [
+embedded_from (d ∷ ds) ms m i = elim (put_from d.canonical (under_its_uri d) (members_with_documents ds ms) m i) [
   | inl e ↦ inl (d, inl refl, e)
   | inr j ↦ elim (embedded_from ds ms m j) [ inl r ↦ inl (r.0, inr r.1, r.2) | inr k ↦ inr k ]
 ]
@@ -121,10 +121,10 @@ abbrev pub HaveOwnUris : List Document → Type 0
 HaveOwnUris ds = (d e : Document) → IsIn d ds → IsIn e ds → d.canonical ≡ e.canonical → d ≡ e
 
 abbrev pub new_defs : Document → List Document → Value
-new_defs root ds = object (to_members (embedded ds (defs_of root.value)))
+new_defs root ds = object (to_members (members_with_documents ds (defs_of root.value)))
 
-pub members-new : (root : Document) (ds : List Document) → members (new_defs root ds) ≡ embedded ds (defs_of root.value)
-members-new root ds = members_back (embedded ds (defs_of root.value))
+pub members-new : (root : Document) (ds : List Document) → members (new_defs root ds) ≡ members_with_documents ds (defs_of root.value)
+members-new root ds = members_back (members_with_documents ds (defs_of root.value))
 
 pub members-bundle : (root d : Document) (ds : List Document) → is_object root.value ≡ true
     → members (bundle_of root (d ∷ ds)) ≡ put_member (codes "$defs") (new_defs root (d ∷ ds)) (members (under_its_uri root))
@@ -137,10 +137,10 @@ bundle_id root (d ∷ ds) h =
     ∙ ap (option_and_then as_string) (put_other_entry (codes "$id") (codes "$defs") (new_defs root (d ∷ ds)) (members (under_its_uri root)) refl)
     ∙ under_id root h
 
-pub under_unbundled : (d : Document) → is_object d.value ≡ true → unbundled (under_its_uri d) ≡ unbundled d.value
+pub under_unbundled : (d : Document) → is_object d.value ≡ true → unbundled_value (under_its_uri d) ≡ unbundled_value d.value
 under_unbundled d h = unbundled-with (codes "$id") (string d.canonical) d.value h refl
 
-pub bundle_unbundled : (root : Document) (others : List Document) → is_object root.value ≡ true → unbundled (bundle_of root others) ≡ unbundled root.value
+pub bundle_unbundled : (root : Document) (others : List Document) → is_object root.value ≡ true → unbundled_value (bundle_of root others) ≡ unbundled_value root.value
 bundle_unbundled root [] h = under_unbundled root h
 bundle_unbundled root (d ∷ ds) h =
     unbundled-with (codes "$defs") (new_defs root (d ∷ ds)) (under_its_uri root) (is_object-with (codes "$id") (string root.canonical) root.value h) refl
@@ -159,7 +159,7 @@ bundle_keeps root (d ∷ ds) h definite apart n rest part (x, i, p) = by (same_t
         let m = in_map named_place (members x) (rest, part) q in
         let old : defs_of root.value ≡ members x = ap (λ o. members (unwrap_or o (object no_members))) (get_is root.value (codes "$defs") x definite j) in
         let had : IsIn m.0 (defs_of root.value) = subst (IsIn m.0) (sym old) m.1 in
-        let has : IsIn m.0 (embedded (d ∷ ds) (defs_of root.value)) =
+        let has : IsIn m.0 (members_with_documents (d ∷ ds) (defs_of root.value)) =
         embedded_keeps (d ∷ ds) (defs_of root.value) m.0 (λ e k same. apart e k (m.0).1 (subst (λ name. IsIn (name, (m.0).1) (defs_of root.value)) same had)) had in
         subst (λ y. IsIn y (map named_place (members (new_defs root (d ∷ ds))))) m.2
         (into_map named_place (members (new_defs root (d ∷ ds))) m.0 (subst (IsIn m.0) (sym (members-new root (d ∷ ds))) has))

@@ -9,7 +9,7 @@ use Rattle.std.specs.Str.{is_utf8, chars}
 use lib.Utf8.{encode}
 use Rattle.definitions.specs.Values.{Text, Value, null, boolean, integer, string, array, object, no_members, members, members_list, to_members, get, is_well_formed, are_well_formed_members, is_before}
 use Rattle.definitions.specs.Schemas.{Document}
-use Rattle.definitions.specs.Bundles.{put_member, with_member, under_its_uri, embedded, defs_of, bundle_of}
+use Rattle.definitions.specs.Bundles.{put_member, with_member, under_its_uri, members_with_documents, defs_of, bundle_of}
 use Rattle.lemmas.proofs.Members.{to_members-members_list}
 use Rattle.definition_laws.specs.Identities.{has_short_arrays, members_have_short_arrays, IsDefinite}
 use Rattle.definition_laws.proofs.Occurrences.{IsIn}
@@ -104,10 +104,10 @@ pub under_definite : (d : Document) → is_utf8 d.canonical ≡ true → IsDefin
 under_definite d a h = definite-with (codes "$id") (string d.canonical) d.value id_text (record { well_formed = a; short_arrays = refl }) h
 
 embedded_definite : (ds : List Document) (ms : List (Text × Value)) → ((d : Document) → IsIn d ds → is_utf8 d.canonical ≡ true) → ((d : Document) → IsIn d ds → IsDefinite d.value)
-    → IsDefinite (of_list ms) → IsDefinite (of_list (embedded ds ms))
+    → IsDefinite (of_list ms) → IsDefinite (of_list (members_with_documents ds ms))
 embedded_definite [] ms a b h = h
 embedded_definite (d ∷ ds) ms a b h =
-    put_definite d.canonical (under_its_uri d) (embedded ds ms) (a d (inl refl)) (under_definite d (a d (inl refl)) (b d (inl refl)))
+    put_definite d.canonical (under_its_uri d) (members_with_documents ds ms) (a d (inl refl)) (under_definite d (a d (inl refl)) (b d (inl refl)))
     (embedded_definite ds ms (λ e i. a e (inr i)) (λ e i. b e (inr i)) h)
 
 defs_definite : (v : Value) → IsDefinite v → IsDefinite (of_list (defs_of v))
@@ -121,5 +121,5 @@ pub bundle_definite : (root : Document) (others : List Document) → is_utf8 roo
     → ((d : Document) → IsIn d others → IsDefinite d.value) → IsDefinite (bundle_of root others)
 bundle_definite root [] a h b c = under_definite root a h
 bundle_definite root (d ∷ ds) a h b c =
-    definite-with (codes "$defs") (of_list (embedded (d ∷ ds) (defs_of root.value))) (under_its_uri root) defs_text
+    definite-with (codes "$defs") (of_list (members_with_documents (d ∷ ds) (defs_of root.value))) (under_its_uri root) defs_text
     (embedded_definite (d ∷ ds) (defs_of root.value) b c (defs_definite root.value h)) (under_definite root a h)

@@ -13,8 +13,8 @@ use Rattle.definitions.specs.Uris.{without_fragment}
 use Rattle.definitions.specs.Schemas.{Schema, Document, references, schemas_from, schemas_of, table_of, is_root}
 use Rattle.definitions.specs.Scanning.{anchors_of, anchor_names, same_anchor}
 use Rattle.definitions.specs.Documents.{resources_of, resource_uris_of}
-use Rattle.definitions.specs.Reach.{missing}
-use Rattle.definitions.specs.Targets.{resource_root, has_text, is_anchor, is_dynamic_anchor, anchored, dynamically_anchored, pointed, target_in, fragment_of}
+use Rattle.definitions.specs.Reach.{missing_references}
+use Rattle.definitions.specs.Targets.{resource_root, has_text, is_anchor, is_dynamic_anchor, schema_with_anchor, schema_with_dynamic_anchor, schema_at_pointer, target_in, fragment_of}
 use Rattle.lemmas.proofs.Texts.{same_text_itself, same_text_is}
 use Rattle.definition_laws.specs.Identities.{IsDefinite}
 use Rattle.definition_laws.proofs.Occurrences.{IsIn, in_from_contains, contains_from_in, in_flat_map, into_map, found_somewhere, found_in, found_passes}
@@ -161,7 +161,7 @@ dynamic_is_anchor : (name : Text) (s : Schema) → is_dynamic_anchor name s ≡ 
 dynamic_is_anchor name s h = or_right (has_text (codes "$anchor") name s) _ h
 
 -- ---- what a pointer leads to
-pointed_below : (way : Pointer) (r s : Schema) → pointed way r ≡ Some s → IsBelow keywords r s way
+pointed_below : (way : Pointer) (r s : Schema) → schema_at_pointer way r ≡ Some s → IsBelow keywords r s way
 pointed_below way r s e = by (find (λ t. same_pointer way t.0) (schemas_from r)) refl e
   where
     by : (o : Option (Pointer × Schema)) → find (λ t. same_pointer way t.0) (schemas_from r) ≡ o → option_map (λ t. t.1) o ≡ Some s → IsBelow keywords r s way
@@ -172,10 +172,10 @@ pointed_below way r s e = by (find (λ t. same_pointer way t.0) (schemas_from r)
         let same : x.1 ≡ s = cc in
         subst (λ y. y) (ap₂ (λ t w. IsBelow keywords r t w) same ways) q.2
 
-pointed_both : (way : Pointer) (r t : Schema) → Extends r t → IsDefinite t.value → is_some (pointed way r) ≡ true → AreAlike (pointed way r) (pointed way t)
-pointed_both way r t h d found = by (pointed way r) refl found
+pointed_both : (way : Pointer) (r t : Schema) → Extends r t → IsDefinite t.value → is_some (schema_at_pointer way r) ≡ true → AreAlike (schema_at_pointer way r) (schema_at_pointer way t)
+pointed_both way r t h d found = by (schema_at_pointer way r) refl found
   where
-    by : (o : Option Schema) → pointed way r ≡ o → is_some o ≡ true → AreAlike o (pointed way t)
+    by : (o : Option Schema) → schema_at_pointer way r ≡ o → is_some o ≡ true → AreAlike o (schema_at_pointer way t)
     by None e f = absurd (cc)
     by (Some s) e f =
         let u = extends_below r t s way h (pointed_below way r s e) in
@@ -185,7 +185,7 @@ pointed_both way r t h d found = by (pointed way r) refl found
 pub record IsPrepared (ds : List Document) (other : List Schema) : Type 0 where
   pub distinct : has_repeat same_text (resource_uris_of ds) ≡ false
   pub anchors : (d : Document) → IsIn d ds → HasOwnAnchors d
-  pub linked : missing ds ≡ []
+  pub linked : missing_references ds ≡ []
   pub correspond : Correspond (table_of ds) other
   pub definite : (t : Schema) → IsIn t other → IsDefinite t.value
 
@@ -202,7 +202,7 @@ pub roots_alike : (ds : List Document) (other : List Schema) → IsPrepared ds o
 roots_alike ds other h uri = extended_alike (resource_root (table_of ds) uri) (resource_root other uri) (roots_both ds other h uri)
 
 pointed_roots : (way : Pointer) (other : List Schema) → ((t : Schema) → IsIn t other → IsDefinite t.value) → (o p : Option Schema) → AreExtended o p → ((t : Schema) → p ≡ Some t → IsIn t other)
-    → is_some (option_and_then (pointed way) o) ≡ true → AreAlike (option_and_then (pointed way) o) (option_and_then (pointed way) p)
+    → is_some (option_and_then (schema_at_pointer way) o) ≡ true → AreAlike (option_and_then (schema_at_pointer way) o) (option_and_then (schema_at_pointer way) p)
 pointed_roots way other definite None None h held f = tt
 pointed_roots way other definite None (Some t) h held f = absurd h
 pointed_roots way other definite (Some r) None h held f = absurd h
@@ -215,7 +215,7 @@ target_both ds other h uri (Ok no_fragment) k = roots_alike ds other h uri
 target_both ds other h uri (Ok (tokens way)) k =
     pointed_roots way other h.definite (resource_root (table_of ds) uri) (resource_root other uri) (roots_both ds other h uri) (λ t e. found_in _ other t e) k
 target_both ds other h uri (Ok (plain_name n)) k =
-    extended_alike (anchored (table_of ds) uri n) (anchored other uri n)
+    extended_alike (schema_with_anchor (table_of ds) uri n) (schema_with_anchor other uri n)
     (found_both (table_of ds) other h.correspond (λ s. same_text uri s.resource && is_anchor n s) (of_uri_like uri (is_anchor n) (anchor_like n)) (anchors_once ds h.distinct h.anchors uri n))
 
 pub prepared_alike : (ds : List Document) (other : List Schema) → IsPrepared ds other → IsAlike (table_of ds) other
@@ -225,7 +225,7 @@ prepared_alike ds other h = record {
       let found = has_target ds h.linked s r (in_from_contains (table_of ds) s i) (in_from_contains (references s) r j) in
       (found, target_both ds other h (without_fragment r) (fragment_of r) found);
   dynamic_anchors = λ s name i.
-      extended_alike (dynamically_anchored (table_of ds) s.resource name) (dynamically_anchored other s.resource name)
+      extended_alike (schema_with_dynamic_anchor (table_of ds) s.resource name) (schema_with_dynamic_anchor other s.resource name)
       (found_both (table_of ds) other h.correspond (λ t. same_text s.resource t.resource && is_dynamic_anchor name t) (of_uri_like s.resource (is_dynamic_anchor name) (dynamic_like name))
       (λ q r j k a b. anchors_once ds h.distinct h.anchors s.resource name q r j k (any_anchor name s.resource q a) (any_anchor name s.resource r b)));
 }

@@ -7,9 +7,9 @@ use Rattle.std.specs.Str.{IsUtf8}
 use lib.Dec.{leb, ltb}
 use lib.Utf8.{scalar, scalars, next, encode, encodes}
 use Rattle.definitions.specs.Values.{Text}
-use Rattle.definitions.specs.Fragments.{hex_value, percent_decoded, kind_of_text, kind_of_decoded, fragment_kind}
+use Rattle.definitions.specs.Fragments.{hex_value, percent_decoded_text, kind_of_text, kind_of_decoded_text, fragment_kind}
 use Rattle.definitions.specs.Faults.{bad_fragment}
-use Rattle.definitions.specs.Pointers.{Pointer, is_fragment_byte, hex_digit, percent_encoded, escaped_byte, pointer_text, fragment_text}
+use Rattle.definitions.specs.Pointers.{Pointer, is_fragment_byte, hex_digit, percent_encoded_text, escaped_byte, pointer_text, fragment_text}
 
 -- ---- bytes
 abbrev pub AreBytes : Text → Type 0
@@ -51,7 +51,7 @@ all_digits = refl
 hex_back : (n : ℕ) → n < 16 → hex_value (hex_digit n) ≡ Some n
 hex_back n l = number_is (hex_value (hex_digit n)) n (below_each (λ k. is_number (hex_value (hex_digit k)) k) 16 n all_digits l)
 
-plain_decoded : (c : ℕ) (rest : Text) → (c == 37) ≡ false → percent_decoded (c ∷ rest) ≡ option_map (λ r. c ∷ r) (percent_decoded rest)
+plain_decoded : (c : ℕ) (rest : Text) → (c == 37) ≡ false → percent_decoded_text (c ∷ rest) ≡ option_map (λ r. c ∷ r) (percent_decoded_text rest)
 plain_decoded c [] e = rw e refl
 plain_decoded c (d ∷ []) e = rw e (by (d == 37))
   where
@@ -60,13 +60,13 @@ plain_decoded c (d ∷ []) e = rw e (by (d == 37))
     by false = refl
 plain_decoded c (d ∷ f ∷ rest) e = rw e refl
 
-escape_decoded : (c : ℕ) (rest : Text) → c < 256 → percent_decoded (37 ∷ hex_digit (c / 16) ∷ hex_digit (c % 16) ∷ rest) ≡ option_map (λ r. c ∷ r) (percent_decoded rest)
+escape_decoded : (c : ℕ) (rest : Text) → c < 256 → percent_decoded_text (37 ∷ hex_digit (c / 16) ∷ hex_digit (c % 16) ∷ rest) ≡ option_map (λ r. c ∷ r) (percent_decoded_text rest)
 escape_decoded c rest l =
     let high : hex_value (hex_digit (c / 16)) ≡ Some (c / 16) = hex_back (c / 16) (omega arith) in
     let low : hex_value (hex_digit (c % 16)) ≡ Some (c % 16) = hex_back (c % 16) (omega arith) in
     let whole : 16 * (c / 16) + c % 16 ≡ c = omega arith in
-    ap₂ (λ h o. option_and_then (λ m. option_and_then (λ n. option_map (λ r. (16 * m + n) ∷ r) (percent_decoded rest)) o) h) high low
-    ∙ ap (λ n. option_map (λ r. n ∷ r) (percent_decoded rest)) whole
+    ap₂ (λ h o. option_and_then (λ m. option_and_then (λ n. option_map (λ r. (16 * m + n) ∷ r) (percent_decoded_text rest)) o) h) high low
+    ∙ ap (λ n. option_map (λ r. n ∷ r) (percent_decoded_text rest)) whole
 
 not_sign : (c : ℕ) → is_fragment_byte c ≡ true → (c == 37) ≡ false
 not_sign c h = by (c == 37) refl
@@ -75,14 +75,14 @@ not_sign c h = by (c == 37) refl
     by true e = absurd (let no : is_fragment_byte c ≡ false = ap is_fragment_byte (eqb-true c 37 e) in let both : true ≡ false = sym h ∙ no in cc)
     by false e = refl
 
-pub decoded_back : (t : Text) → AreBytes t → percent_decoded (percent_encoded t) ≡ Some t
+pub decoded_back : (t : Text) → AreBytes t → percent_decoded_text (percent_encoded_text t) ≡ Some t
 decoded_back [] h = refl
 decoded_back (c ∷ cs) h = by (is_fragment_byte c) refl (decoded_back cs h.1)
   where
-    by : (b : Bool) → is_fragment_byte c ≡ b → percent_decoded (percent_encoded cs) ≡ Some cs
-        → percent_decoded (cond b (c ∷ []) (37 ∷ hex_digit (c / 16) ∷ hex_digit (c % 16) ∷ []) ++ percent_encoded cs) ≡ Some (c ∷ cs)
-    by true e back = plain_decoded c (percent_encoded cs) (not_sign c e) ∙ ap (option_map (λ r. c ∷ r)) back
-    by false e back = escape_decoded c (percent_encoded cs) h.0 ∙ ap (option_map (λ r. c ∷ r)) back
+    by : (b : Bool) → is_fragment_byte c ≡ b → percent_decoded_text (percent_encoded_text cs) ≡ Some cs
+        → percent_decoded_text (cond b (c ∷ []) (37 ∷ hex_digit (c / 16) ∷ hex_digit (c % 16) ∷ []) ++ percent_encoded_text cs) ≡ Some (c ∷ cs)
+    by true e back = plain_decoded c (percent_encoded_text cs) (not_sign c e) ∙ ap (option_map (λ r. c ∷ r)) back
+    by false e back = escape_decoded c (percent_encoded_text cs) h.0 ∙ ap (option_map (λ r. c ∷ r)) back
 
 -- ---- UTF-8
 -- from 128 to 255
@@ -175,5 +175,5 @@ pointer_plain (t ∷ ts) h =
 pub fragment_back : (p : Pointer) → AreTexts p → fragment_kind (Some (fragment_text p)) ≡ kind_of_text (pointer_text p)
 fragment_back p h =
     let plain = pointer_plain p h in
-    ap kind_of_decoded (decoded_back (pointer_text p) plain.1)
+    ap kind_of_decoded_text (decoded_back (pointer_text p) plain.1)
     ∙ ap (λ b. cond b (kind_of_text (pointer_text p)) (Err bad_fragment)) (is_utf8-from_IsUtf8 (pointer_text p) plain.0)

@@ -11,7 +11,7 @@ use Rattle.definitions.specs.Lists.{has_repeat, first}
 use Rattle.definitions.specs.Schemas.{Document, document_from}
 use Rattle.definitions.specs.Scanning.{scan_faults}
 use Rattle.definitions.specs.Searches.{Search, is_regular}
-use Rattle.definitions.specs.Documents.{placed, resources_of, placed_all, Ascend}
+use Rattle.definitions.specs.Documents.{documents_with, resources_of, documents_with_all, Ascend}
 use Rattle.definitions.specs.Keeping.{AreKept}
 use Rattle.definition_laws.proofs.Membership.{nothing_in, is_first, is_later, from_filter}
 use Rattle.definition_laws.proofs.Repeats.{AreApart, filtered}
@@ -40,7 +40,7 @@ part_kept search p ds kept = record {
   regular_patterns = λ d c. kept.regular_patterns d (from_filter p d ds c).0;
 }
 
-pub added_kept : (search : Search) (d : Document) (ds : List Document) → AreKept search ds → IsFine search d → IsFree d ds → AreKept search (placed d ds)
+pub added_kept : (search : Search) (d : Document) (ds : List Document) → AreKept search ds → IsFine search d → IsFree d ds → AreKept search (documents_with d ds)
 added_kept search d ds kept fine free = record {
   ordered = ascend_placed d ds kept.ordered;
   named = λ e c. elim (from_placed d e ds c) [
@@ -62,11 +62,11 @@ added_kept search d ds kept fine free = record {
 
 -- several, each free of what is there in the end: one after the other goes among those that stay
 all_kept : (search : Search) (es ds : List Document) → Ascend ds → AreKept search (outside es ds) → ((e : Document) → Contains es e → IsFine search e)
-    → ((e : Document) → Contains es e → IsFree e (placed_all es ds)) → has_repeat same_text (map key_of es) ≡ false → AreKept search (placed_all es ds)
+    → ((e : Document) → Contains es e → IsFree e (documents_with_all es ds)) → has_repeat same_text (map key_of es) ≡ false → AreKept search (documents_with_all es ds)
 all_kept search [] ds sorted kept fine free once = kept
 all_kept search (e ∷ es) ds sorted kept fine free once =
     let apart = or_parts (list_any (same_text e.canonical) (map key_of es)) (has_repeat same_text (map key_of es)) once in
-    all_kept search es (placed e ds) (ascend_placed e ds sorted)
+    all_kept search es (documents_with e ds) (ascend_placed e ds sorted)
     (subst (AreKept search) (sym (outside_rest e es ds apart.0 sorted))
     (added_kept search e (outside (e ∷ es) ds) kept (fine e (is_first e es))
     (λ x c. free e (is_first e es) x (let there = from_outside (e ∷ es) ds x c in in_all (e ∷ es) ds x there.0 there.1))))
@@ -77,7 +77,7 @@ outside_kept search [] ds kept = kept
 outside_kept search (e ∷ es) ds kept = part_kept search _ (outside es ds) (outside_kept search es ds kept)
 
 pub batch_kept : (search : Search) (es ds : List Document) → AreKept search ds → ((e : Document) → Contains es e → IsFine search e)
-    → ((e : Document) → Contains es e → IsFree e (placed_all es ds)) → has_repeat same_text (map key_of es) ≡ false → AreKept search (placed_all es ds)
+    → ((e : Document) → Contains es e → IsFree e (documents_with_all es ds)) → has_repeat same_text (map key_of es) ≡ false → AreKept search (documents_with_all es ds)
 batch_kept search es ds kept = all_kept search es ds kept.ordered (outside_kept search es ds kept)
 
 pub none_kept : (search : Search) → AreKept search []

@@ -8,7 +8,7 @@ use Rattle.definitions.specs.Lists.{has_repeat}
 use Rattle.definitions.specs.Schemas.{Document}
 use Rattle.definitions.specs.Reach.{reach, IsReached, holds, referred}
 use Rattle.definitions.specs.Alike.{Agree}
-use Rattle.definitions.specs.Documents.{others_of, placed}
+use Rattle.definitions.specs.Documents.{documents_with, others_of}
 use Rattle.definitions.specs.Searches.{Search}
 use Rattle.definitions.specs.Keeping.{AreKept}
 use Rattle.definition_laws.specs.Reaching.{IsUnreached}
@@ -47,13 +47,13 @@ reached_in : (G H : List Document) (uri : Text) → ((e : Document) → IsReache
 reached_in G H uri stays e (holds c h) = holds (stays e (holds c h) c) h
 reached_in G H uri stays e (referred {d = d} r c h) = referred (reached_in G H uri stays d r) (stays e (referred r c h) c) h
 
-pub unreached_put : (search : Search) (ds : List Document) (d : Document) (uri : Text) → AreKept search ds → AreKept search (placed d ds)
-    → IsUnreached ds uri d.canonical → IsUnreached (placed d ds) uri d.canonical → Agree ds (placed d ds) uri
+pub unreached_put : (search : Search) (ds : List Document) (d : Document) (uri : Text) → AreKept search ds → AreKept search (documents_with d ds)
+    → IsUnreached ds uri d.canonical → IsUnreached (documents_with d ds) uri d.canonical → Agree ds (documents_with d ds) uri
 unreached_put search ds d uri kept kept_after before after =
-    same_reached_agree search ds (placed d ds) uri kept kept_after
+    same_reached_agree search ds (documents_with d ds) uri kept kept_after
     (λ e. (
-      reached_in ds (placed d ds) uri (λ x r c. in_placed d x ds (before x r) c) e,
-      reached_in (placed d ds) ds uri (λ x r c. elim (from_placed d x ds c) [
+      reached_in ds (documents_with d ds) uri (λ x r c. in_placed d x ds (before x r) c) e,
+      reached_in (documents_with d ds) ds uri (λ x r c. elim (from_placed d x ds c) [
         | inl itself ↦ absurd (after x r (ap key_of (sym itself)))
         | inr other ↦ other
       ]) e,

@@ -8,7 +8,7 @@ use Rattle.definitions.specs.Faults.{Fault}
 use Rattle.definitions.specs.Texts.{text}
 use Rattle.definitions.specs.Resolution.{base_form}
 use Rattle.definitions.specs.Schemas.{Document, document_from}
-use Rattle.definitions.specs.Documents.{others_of, placed, bytes_of, placed_all}
+use Rattle.definitions.specs.Documents.{others_of, documents_with, bytes_of, documents_with_all}
 use Rattle.definitions.specs.Registries.{Registry, documents_seen, is_in_library, Request, Reply, put_refusal, body_value}
 use Rattle.definitions.specs.Searches.{Search}
 use Rattle.definitions.specs.Batches.{Entry, Numbered, batch_entries, entry_documents, batch_refusal, library_from, library_by, library_of}
@@ -28,15 +28,15 @@ use Rattle.definition_laws.proofs.AcceptedBatches.{AreFree, entered, granted, li
 use Rattle.definition_laws.proofs.BatchValues.{body_formed, entry_formed}
 
 -- ---- a document that is put
-put_kept : (search : Search) (g : Registry) (b : Text) (v : Value) → IsKept search g → put_refusal search g (document_from b v) (placed (document_from b v) g.documents) ≡ None
-    → IsKept search (record g { documents = placed (document_from b v) g.documents })
+put_kept : (search : Search) (g : Registry) (b : Text) (v : Value) → IsKept search g → put_refusal search g (document_from b v) (documents_with (document_from b v) g.documents) ≡ None
+    → IsKept search (record g { documents = documents_with (document_from b v) g.documents })
 put_kept search g b v kept none =
     let d = document_from b v in
-    let fine = accepted search g d (placed d g.documents) none in
+    let fine = accepted search g d (documents_with d g.documents) none in
     record {
       ordered = ascend_placed d g.documents kept.ordered;
-      few = ltb-false g.most_documents (length (placed d g.documents)) fine.few;
-      small = ltb-false g.most_bytes (bytes_of (placed d g.documents)) fine.small;
+      few = ltb-false g.most_documents (length (documents_with d g.documents)) fine.few;
+      small = ltb-false g.most_bytes (bytes_of (documents_with d g.documents)) fine.small;
       apart = λ e c. elim (from_placed d e g.documents c) [
         | inl itself ↦ subst (λ (x : Document). is_in_library g x.canonical ≡ false) itself fine.unowned
         | inr other ↦ kept.apart e other
@@ -66,9 +66,9 @@ delete_kept search g b kept unowned =
 
 -- ---- several documents
 all_put_kept : (search : Search) (g : Registry) (es : List Entry) (ds : List Document) → IsKept search g → entry_documents search 0 es ≡ Ok ds
-    → batch_refusal g ds (placed_all ds g.documents) ≡ None → IsKept search (record g { documents = placed_all ds g.documents })
+    → batch_refusal g ds (documents_with_all ds g.documents) ≡ None → IsKept search (record g { documents = documents_with_all ds g.documents })
 all_put_kept search g es ds kept made none =
-    let after = placed_all ds g.documents in
+    let after = documents_with_all ds g.documents in
     let fine = granted g ds after none in
     record {
       ordered = ascend_all ds g.documents kept.ordered;
@@ -113,7 +113,7 @@ module _ (P : Document → Type 0) where
             ];
         by_delete = λ b unowned d c.
             held d (from_filter (λ x. not (same_text b x.canonical)) d (documents_seen g) (subst (λ ds. Contains ds d) (deletes search g b kept unowned) c)).0;
-        by_batch = λ bytes es ds read made none d c. elim (from_all ds (documents_seen g) d (subst (λ xs. Contains xs d) (batches g ds (granted g ds (placed_all ds g.documents) none).unowned) c)) [
+        by_batch = λ bytes es ds read made none d c. elim (from_all ds (documents_seen g) d (subst (λ xs. Contains xs d) (batches g ds (granted g ds (documents_with_all ds g.documents) none).unowned) c)) [
           | inl new ↦ all bytes es ds read made d new
           | inr old ↦ held d old
         ];
@@ -158,7 +158,7 @@ entries_give search (Ok es) library e = (es, (refl, e))
 entries_give search (Err f) library e = cc
 
 pub documents_give : (r : Result (List Document) Numbered) (library : List Document) → library_from r ≡ Ok library
-    → (ds : List Document) × ((r ≡ Ok ds) × ((placed_all ds [] ≡ library) × AreFree (placed_all ds []) ds))
+    → (ds : List Document) × ((r ≡ Ok ds) × ((documents_with_all ds [] ≡ library) × AreFree (documents_with_all ds []) ds))
 documents_give (Ok ds) library e = (ds, (refl, library_free ds library e))
 documents_give (Err (k, f)) library e = cc
 

@@ -3,7 +3,7 @@ use Rattle.std.proofs.Common.{◌≡◌, ℕ, [], ◌∷◌, Bool, true, false, 
 use Rattle.std.specs.List.{enumerate_from}
 use Rattle.definitions.specs.Values.{Text, Value, same_text, elements, members}
 use Rattle.definitions.specs.Shapes.{Shape, one_schema, schema_list, schema_map}
-use Rattle.definitions.specs.Keywords.{keywords, shape_in, Meaning, refers, refers_dynamically, all_of, any_of, one_of, negated, condition, consequence, dependent_schemas, prefix_items, rest_items, some_item, properties, pattern_properties, other_properties, property_names, unevaluated_items, unevaluated_properties}
+use Rattle.definitions.specs.Keywords.{keywords, shape_in, Meaning, refers, refers_dynamically, all_of, any_of, one_of, negation, condition, consequence, dependent_schemas, prefix_items, items, contains, properties, pattern_properties, additional_properties, property_names, unevaluated_items, unevaluated_properties}
 use Rattle.definitions.specs.Schemas.{Schema, below}
 use Rattle.definition_laws.proofs.Occurrences.{IsIn, into_map}
 use Rattle.definition_laws.proofs.Places.{IsStep, places}
@@ -82,12 +82,12 @@ fits prefix_items k shape = is_list shape
 fits dependent_schemas k shape = is_map shape
 fits properties k shape = is_map shape
 fits pattern_properties k shape = is_map shape
-fits negated k shape = is_one shape
+fits negation k shape = is_one shape
 fits condition k shape = is_one shape
 fits (consequence wanted) k shape = is_one shape
-fits rest_items k shape = is_one shape
-fits some_item k shape = is_one shape
-fits other_properties k shape = is_one shape
+fits items k shape = is_one shape
+fits contains k shape = is_one shape
+fits additional_properties k shape = is_one shape
 fits property_names k shape = is_one shape
 fits unevaluated_items k shape = is_one shape
 fits unevaluated_properties k shape = is_one shape

@@ -6,7 +6,7 @@ use Rattle.std.specs.Ordering.{nat_cmp, match_ordering, ordering_reverse}
 use Rattle.definitions.specs.Values.{Text}
 use Rattle.definitions.specs.Schemas.{Document, table_of}
 use Rattle.definitions.specs.Targets.{target}
-use Rattle.definitions.specs.Reach.{references_in, missing, least, lesser}
+use Rattle.definitions.specs.Reach.{references_in, missing_references, least, lesser}
 use Rattle.lemmas.proofs.Options.{none_from_is_none}
 use Rattle.lemmas.proofs.Orders.{less_is_lt}
 use Rattle.definition_laws.specs.Linking.{IsLeast, IsMissing}
@@ -96,16 +96,16 @@ pub no_texts : (ts : List Text) → (least ts ≡ None) ↔ (ts ≡ [])
 no_texts ts = (no_least ts, λ e. ap least e)
 
 -- ---- references without a target
-pub missing_name_nothing : (ds : List Document) (reference : Text) → Contains (missing ds) reference ↔ IsMissing ds reference
+pub missing_name_nothing : (ds : List Document) (reference : Text) → Contains (missing_references ds) reference ↔ IsMissing ds reference
 missing_name_nothing ds r = (from_missing, to_missing)
   where
-    from_missing : Contains (missing ds) r → IsMissing ds r
+    from_missing : Contains (missing_references ds) r → IsMissing ds r
     from_missing c =
         let kept = from_filter (λ x. is_none (target (table_of ds) x)) r (flat_map references_in ds) c in
         let by : (d : Document) × (Contains ds d × Contains (references_in d) r) = from_flat_map references_in r ds kept.0 in
         record { document = by.0; inside = by.1.0; refers = by.1.1; names_nothing = none_from_is_none (target (table_of ds) r) kept.1 }
 
-    to_missing : IsMissing ds r → Contains (missing ds) r
+    to_missing : IsMissing ds r → Contains (missing_references ds) r
     to_missing m =
         in_filter (λ x. is_none (target (table_of ds) x)) r (flat_map references_in ds) (in_flat_map references_in m.document r ds m.inside m.refers) (ap is_none m.names_nothing)
 
@@ -121,12 +121,12 @@ only_empty [] h = refl
 only_empty (x ∷ xs) h = absurd (h x (is_first x xs))
 
 pub linked_name_all : (ds : List Document)
-    → (least (missing ds) ≡ None) ↔ ((d : Document) (reference : Text) → Contains ds d → Contains (references_in d) reference → IsTrue (is_some (target (table_of ds) reference)))
+    → (least (missing_references ds) ≡ None) ↔ ((d : Document) (reference : Text) → Contains ds d → Contains (references_in d) reference → IsTrue (is_some (target (table_of ds) reference)))
 linked_name_all ds = (
   λ e d r c k. something (target (table_of ds) r) (λ none.
-      nothing_in r (subst (λ ts. Contains ts r) (no_least (missing ds) e)
+      nothing_in r (subst (λ ts. Contains ts r) (no_least (missing_references ds) e)
       ((missing_name_nothing ds r).1 (record { document = d; inside = c; refers = k; names_nothing = none })))),
-  λ all. ap least (only_empty (missing ds) (λ r c.
+  λ all. ap least (only_empty (missing_references ds) (λ r c.
       let m = (missing_name_nothing ds r).0 c in
       nothing (target (table_of ds) r) (all m.document r m.inside m.refers) m.names_nothing)),
 )

@@ -5,14 +5,14 @@ use Rattle.std.proofs.lemmas.Fmt.{IsAscii-decimal}
 use Rattle.std.proofs.lemmas.Str.{IsUtf8-from_is_utf8, IsUtf8-from_ascii}
 use Rattle.std.specs.Str.{IsUtf8, is_utf8}
 use Rattle.definitions.specs.Values.{Text, Value, null, boolean, integer, string, array, object, Members, no_members, member, elements, members, members_list, is_well_formed, are_well_formed_members, is_before}
-use Rattle.definitions.specs.Fragments.{pointed_to, kind_of_text, fragment_kind}
+use Rattle.definitions.specs.Fragments.{pointer_fragment, kind_of_text, fragment_kind}
 use Rattle.definitions.specs.Pointers.{Pointer, pointer_text, fragment_text}
 use Rattle.definitions.specs.Uris.{without_fragment}
 use Rattle.definitions.specs.Lists.{cut_at}
 use Rattle.definitions.specs.Shapes.{Shape, one_schema, schema_list, schema_map}
 use Rattle.definitions.specs.Keywords.{Keyword, keywords, shape_in}
 use Rattle.definitions.specs.Schemas.{Schema, table_of}
-use Rattle.definitions.specs.Targets.{target_in, resource_root, pointed}
+use Rattle.definitions.specs.Targets.{target_in, resource_root, schema_at_pointer}
 use Rattle.definition_laws.specs.Identities.{IsDefinite}
 use Rattle.definition_laws.specs.Locations.{LocationsNameSchemas}
 use Rattle.definition_laws.proofs.Occurrences.{IsIn, in_from_contains, contains_from_in, in_map, numbered_within}
@@ -78,9 +78,9 @@ cut_before (c ∷ cs) fragment h = by (c == 35) h (cut_before cs fragment)
     by false e later = let rest : without_fragment cs ≡ cs = cc in ap (λ x. (c ∷ x.0, x.1)) (later rest)
 
 located : (table : List Schema) (uri : Text) (p : Pointer) (s : Schema) → AreTexts p → (p ≡ [] → resource_root table uri ≡ Some s)
-    → option_and_then (pointed p) (resource_root table uri) ≡ Some s → target_in table uri (kind_of_text (pointer_text p)) ≡ Some s
+    → option_and_then (schema_at_pointer p) (resource_root table uri) ≡ Some s → target_in table uri (kind_of_text (pointer_text p)) ≡ Some s
 located table uri [] s h root below = root refl
-located table uri (t ∷ ts) s h root below = ap (λ o. target_in table uri (pointed_to o)) (read_back (t ∷ ts)) ∙ below
+located table uri (t ∷ ts) s h root below = ap (λ o. target_in table uri (pointer_fragment o)) (read_back (t ∷ ts)) ∙ below
 
 pub locations_name_schemas : LocationsNameSchemas
 locations_name_schemas ds h s i bare =

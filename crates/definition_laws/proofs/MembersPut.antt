@@ -6,7 +6,7 @@ use Rattle.std.specs.Cmp.Lexicographic.{slice_cmp}
 use Rattle.std.specs.List.{filter}
 use Rattle.std.specs.Ordering.{match_ordering, is_eq}
 use Rattle.definitions.specs.Values.{Text, Value, object, members, members_list, to_members, entry, is_object, same_text}
-use Rattle.definitions.specs.Alike.{unbundled}
+use Rattle.definitions.specs.Alike.{unbundled_value}
 use Rattle.definitions.specs.Bundles.{put_member, with_member}
 use Rattle.lemmas.proofs.Texts.{same_text_itself}
 use Rattle.definition_laws.proofs.Occurrences.{IsIn}
@@ -88,7 +88,7 @@ pub is_object-with : (n : Text) (v x : Value) → is_object x ≡ true → is_ob
 is_object-with n v (object ms) h = refl
 is_object-with n v _ h = absurd (cc)
 
-pub unbundled-with : (n : Text) (v x : Value) → is_object x ≡ true → is_changed n ≡ true → unbundled (with_member n v x) ≡ unbundled x
+pub unbundled-with : (n : Text) (v x : Value) → is_object x ≡ true → is_changed n ≡ true → unbundled_value (with_member n v x) ≡ unbundled_value x
 unbundled-with n v (object ms) h c =
     ap (λ ns. object (to_members ns)) (ap (filter is_kept) (members_back (put_member n v (members_list ms))) ∙ put_kept n v (members_list ms) c)
 unbundled-with n v _ h c = absurd (cc)

@@ -11,14 +11,14 @@ use Rattle.definitions.specs.Values.{Text, Value, null, boolean, integer, string
 use Rattle.definitions.specs.Pointers.{Pointer}
 use Rattle.definitions.specs.Shapes.{Shape, one_schema, schema_list, schema_map}
 use Rattle.definitions.specs.Keywords.{Keyword, shape_in}
-use Rattle.definitions.specs.Schemas.{Schema, opened, below, at_place, subschemas_by}
+use Rattle.definitions.specs.Schemas.{Schema, opened_schema, below, at_place, subschemas_by}
 use Rattle.lemmas.proofs.Orders.{is_less}
 use Rattle.lemmas.proofs.Members.{member_parts}
 use Rattle.definition_laws.specs.Identities.{has_short_arrays, have_short_arrays, members_have_short_arrays, IsDefinite}
 use Rattle.definition_laws.proofs.Occurrences.{IsIn, in_flat_map, into_flat_map, in_map, into_map, numbered_within, numbered_once, numbered_in}
 
 -- ---- the value of a schema
-pub value-opened : (base : Text) (p : Pointer) (v : Value) (id : Option Text) → (opened base p v id).value ≡ v
+pub value-opened : (base : Text) (p : Pointer) (v : Value) (id : Option Text) → (opened_schema base p v id).value ≡ v
 value-opened base p v None = refl
 value-opened base p v (Some id) = refl
 

@@ -8,7 +8,7 @@ use Rattle.definitions.specs.Values.{Text, same_text}
 use Rattle.definitions.specs.Texts.{text}
 use Rattle.definitions.specs.Schemas.{Document}
 use Rattle.definitions.specs.Searches.{Search}
-use Rattle.definitions.specs.Documents.{document_of, others_of, placed, bytes_of, Ascend}
+use Rattle.definitions.specs.Documents.{document_of, others_of, documents_with, bytes_of, Ascend}
 use Rattle.definitions.specs.Registries.{Registry}
 use Rattle.definitions.specs.Keeping.{IsKept}
 use Rattle.definition_laws.specs.Quotas.{documents_at, IsAdded, IsTakenOff}
@@ -56,8 +56,8 @@ left_later after part before rest first one e f g = omega (arith, e, f, g)
 -- ---- what each document adds
 module _ (f : Document → ℕ) where
   added_at : (d e : Document) (es : List Document) (o : Ordering) → slice_cmp nat_cmp d.canonical e.canonical ≡ o → Ascend (e ∷ es)
-      → sum_by f (placed d es) + sum_by f (documents_at d.canonical es) ≡ sum_by f es + f d
-      → sum_by f (placed d (e ∷ es)) + sum_by f (documents_at d.canonical (e ∷ es)) ≡ sum_by f (e ∷ es) + f d
+      → sum_by f (documents_with d es) + sum_by f (documents_at d.canonical es) ≡ sum_by f es + f d
+      → sum_by f (documents_with d (e ∷ es)) + sum_by f (documents_at d.canonical (e ∷ es)) ≡ sum_by f (e ∷ es) + f d
   added_at d e es Less is sorted more =
       rw (is, unfound d.canonical (e ∷ es) (below_other d e es sorted is))
       (put_first (sum_by f (d ∷ e ∷ es)) (sum_by f (e ∷ es)) (f d) (sum_by-cons f d (e ∷ es)))
@@ -66,10 +66,10 @@ module _ (f : Document → ℕ) where
       (put_instead (sum_by f (d ∷ es)) (sum_by f (e ∷ [])) (sum_by f (e ∷ es)) (sum_by f es) (f d) (f e) (sum_by-cons f d es) (sum_by-cons f e []) (sum_by-cons f e es))
   added_at d e es Greater is sorted more =
       rw (is, other d.canonical e (λ same. unlike_greater (sym is ∙ tie_at d.canonical e.canonical same)))
-      (put_later (sum_by f (e ∷ placed d es)) (sum_by f (placed d es)) (sum_by f (e ∷ es)) (sum_by f es) (f d) (f e) (sum_by f (documents_at d.canonical es))
-      (sum_by-cons f e (placed d es)) (sum_by-cons f e es) more)
+      (put_later (sum_by f (e ∷ documents_with d es)) (sum_by f (documents_with d es)) (sum_by f (e ∷ es)) (sum_by f es) (f d) (f e) (sum_by f (documents_at d.canonical es))
+      (sum_by-cons f e (documents_with d es)) (sum_by-cons f e es) more)
 
-  pub added : (d : Document) (ds : List Document) → Ascend ds → sum_by f (placed d ds) + sum_by f (documents_at d.canonical ds) ≡ sum_by f ds + f d
+  pub added : (d : Document) (ds : List Document) → Ascend ds → sum_by f (documents_with d ds) + sum_by f (documents_at d.canonical ds) ≡ sum_by f ds + f d
   added d [] sorted = put_first (sum_by f (d ∷ [])) (sum_by f []) (f d) (sum_by-cons f d [])
   added d (e ∷ es) sorted =
       added_at d e es (slice_cmp nat_cmp d.canonical e.canonical) refl sorted (added d es (tail_ascending (slice_cmp nat_cmp) nat_list_cmp_total key_of e es sorted))
@@ -115,11 +115,11 @@ add_up search g kept = (add, take_off)
     add : (d : Document) → IsAdded g.documents d
     add d = record {
       documents =
-          in_place (sum_by (λ (e : Document). 1) (placed d g.documents)) (sum_by (λ (e : Document). 1) (documents_at d.canonical g.documents)) (sum_by (λ (e : Document). 1) g.documents)
-          (length (placed d g.documents)) (length (documents_at d.canonical g.documents)) (length g.documents) 1
-          (counted (placed d g.documents)) (counted (documents_at d.canonical g.documents)) (counted g.documents) (added (λ (e : Document). 1) d g.documents kept.ordered);
+          in_place (sum_by (λ (e : Document). 1) (documents_with d g.documents)) (sum_by (λ (e : Document). 1) (documents_at d.canonical g.documents)) (sum_by (λ (e : Document). 1) g.documents)
+          (length (documents_with d g.documents)) (length (documents_at d.canonical g.documents)) (length g.documents) 1
+          (counted (documents_with d g.documents)) (counted (documents_at d.canonical g.documents)) (counted g.documents) (added (λ (e : Document). 1) d g.documents kept.ordered);
       bytes =
-          own_bytes (bytes_of (placed d g.documents) + bytes_of (documents_at d.canonical g.documents)) (bytes_of g.documents) (length (text d.value)) (bytes_of (d ∷ []))
+          own_bytes (bytes_of (documents_with d g.documents) + bytes_of (documents_at d.canonical g.documents)) (bytes_of g.documents) (length (text d.value)) (bytes_of (d ∷ []))
           (sum_by-cons (λ (e : Document). length (text e.value)) d []) (added (λ (e : Document). length (text e.value)) d g.documents kept.ordered);
     }
 

@@ -5,7 +5,7 @@ use Rattle.std.specs.List.{list_any}
 use Rattle.definitions.specs.Values.{Text, same_text}
 use Rattle.definitions.specs.Lists.{has_repeat}
 use Rattle.definitions.specs.Schemas.{Document}
-use Rattle.definitions.specs.Reach.{IsReached, holds, referred, holds_resource, refers_to, grown, grown_times, reach, ReachIsLeast}
+use Rattle.definitions.specs.Reach.{IsReached, holds, referred, holds_resource, refers_to, reach_by_one, reach_by_steps, reach, ReachIsLeast}
 use Rattle.lemmas.proofs.Texts.{same_text_itself, same_text_turned}
 use Rattle.definition_laws.proofs.Membership.{nothing_in, from_filter, any_where, one_of}
 use Rattle.definition_laws.proofs.Growing.{after, nothing_from_nothing, as_filter, inside, led, kept_from_start, stands_still}
@@ -20,9 +20,9 @@ leads d e = same_text d.canonical e.canonical || refers_to d e
 own : (d : Document) → leads d d ≡ true
 own d = or_left (same_text d.canonical d.canonical) (refers_to d d) (same_text_itself d.canonical)
 
-as_steps : (n : ℕ) (G : List Document) (uri : Text) → grown_times n G (filter (holds_resource uri) G) ≡ after leads own (holds_resource uri) G n
+as_steps : (n : ℕ) (G : List Document) (uri : Text) → reach_by_steps n G (filter (holds_resource uri) G) ≡ after leads own (holds_resource uri) G n
 as_steps zero G uri = refl
-as_steps (suc n) G uri = ap (grown G) (as_steps n G uri)
+as_steps (suc n) G uri = ap (reach_by_one G) (as_steps n G uri)
 
 abbrev AreDistinct : List Document → Type 0
 AreDistinct G = has_repeat same_text (map (λ d. d.canonical) G) ≡ false

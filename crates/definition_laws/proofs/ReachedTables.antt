@@ -11,8 +11,8 @@ use Rattle.definitions.specs.Fragments.{Fragment, no_fragment, tokens, plain_nam
 use Rattle.definitions.specs.Uris.{without_fragment}
 use Rattle.definitions.specs.Schemas.{Schema, Document, references, schemas_of, table_of, is_root}
 use Rattle.definitions.specs.Documents.{resources_of, resource_uris_of}
-use Rattle.definitions.specs.Targets.{resource_root, dynamically_anchored, is_anchor, is_dynamic_anchor, pointed, target_in, target, fragment_of}
-use Rattle.definitions.specs.Reach.{holds_resource, references_in, refers_to, grown_times, reach, missing}
+use Rattle.definitions.specs.Targets.{resource_root, schema_with_dynamic_anchor, is_anchor, is_dynamic_anchor, schema_at_pointer, target_in, target, fragment_of}
+use Rattle.definitions.specs.Reach.{holds_resource, references_in, refers_to, reach_by_steps, reach, missing_references}
 use Rattle.lemmas.proofs.Texts.{same_text_itself, same_text_is}
 use Rattle.definition_laws.specs.Likeness.{ReachIsEnough}
 use Rattle.definition_laws.proofs.Occurrences.{IsIn, in_from_contains, contains_from_in, in_flat_map, into_flat_map, into_map, from_filter, into_filter, filter_passes, any_of_in, in_right, found_somewhere, found_in, found_passes}
@@ -70,7 +70,7 @@ own_uri d s i =
     (into_map (λ r. r.resource) (filter is_root (schemas_of d.base d.value)) h.root (into_filter is_root (schemas_of d.base d.value) h.root h.held (pointer_root h.root h.at_root)))
 
 -- ---- where none is missing each reference has a target
-pub has_target : (ds : List Document) → missing ds ≡ [] → (s : Schema) (r : Text) → IsIn s (table_of ds) → IsIn r (references s) → is_some (target (table_of ds) r) ≡ true
+pub has_target : (ds : List Document) → missing_references ds ≡ [] → (s : Schema) (r : Text) → IsIn s (table_of ds) → IsIn r (references s) → is_some (target (table_of ds) r) ≡ true
 has_target ds none_missing s r i j = by (target (table_of ds) r) refl
   where
     by : (o : Option Schema) → target (table_of ds) r ≡ o → is_some o ≡ true
@@ -78,7 +78,7 @@ has_target ds none_missing s r i j = by (target (table_of ds) r) refl
     by None e =
         let d = in_flat_map (λ c. schemas_of c.base c.value) ds s i in
         let referred : IsIn r (flat_map references_in ds) = into_flat_map references_in ds d.0 r d.1 (into_flat_map references (schemas_of (d.0).base (d.0).value) s r d.2 j) in
-        let lost : IsIn r (missing ds) = into_filter (λ t. is_none (target (table_of ds) t)) (flat_map references_in ds) r referred (ap is_none e) in
+        let lost : IsIn r (missing_references ds) = into_filter (λ t. is_none (target (table_of ds) t)) (flat_map references_in ds) r referred (ap is_none e) in
         absurd (subst (IsIn r) none_missing lost)
 
 -- ---- a part of the documents that has a schema under a URI has all of them
@@ -126,9 +126,9 @@ module _ (ds : List Document) (q : Document → Bool) (distinct : has_repeat sam
   target_same uri (Err e) h = refl
   target_same uri (Ok no_fragment) h = found_same uri is_root h
   target_same uri (Ok (plain_name n)) h = found_same uri (is_anchor n) h
-  target_same uri (Ok (tokens way)) h = ap (option_and_then (pointed way)) (found_same uri is_root (by (resource_root (table_of (filter q ds)) uri) h))
+  target_same uri (Ok (tokens way)) h = ap (option_and_then (schema_at_pointer way)) (found_same uri is_root (by (resource_root (table_of (filter q ds)) uri) h))
     where
-      by : (o : Option Schema) → is_some (option_and_then (pointed way) o) ≡ true → is_some o ≡ true
+      by : (o : Option Schema) → is_some (option_and_then (schema_at_pointer way) o) ≡ true → is_some o ≡ true
       by None k = k
       by (Some s) k = refl
 
@@ -139,7 +139,7 @@ module _ (ds : List Document) (q : Document → Bool) (distinct : has_repeat sam
       by None = tt
       by (Some s) = (refl, refl)
 
-  part_alike : missing (filter q ds) ≡ [] → IsAlike (table_of (filter q ds)) (table_of ds)
+  part_alike : missing_references (filter q ds) ≡ [] → IsAlike (table_of (filter q ds)) (table_of ds)
   part_alike none_missing = record {
     schemas = λ s i. (s, (contains_from_in (table_of ds) s (part_held s (in_from_contains (table_of (filter q ds)) s i)), (refl, refl)));
     targets = λ s r i j. (
@@ -148,20 +148,20 @@ module _ (ds : List Document) (q : Document → Bool) (distinct : has_repeat sam
           (target_same (without_fragment r) (fragment_of r) (has_target (filter q ds) none_missing s r (in_from_contains (table_of (filter q ds)) s i) (in_from_contains (references s) r j))),
     );
     dynamic_anchors = λ s name i.
-        equal_found (dynamically_anchored (table_of (filter q ds)) s.resource name) (dynamically_anchored (table_of ds) s.resource name)
+        equal_found (schema_with_dynamic_anchor (table_of (filter q ds)) s.resource name) (schema_with_dynamic_anchor (table_of ds) s.resource name)
         (same_find s.resource (is_dynamic_anchor name) s (in_from_contains (table_of (filter q ds)) s i) refl);
   }
 
 -- ---- what is reached is a part, and has the document that holds the URI
-reached_part : (n : ℕ) (ds : List Document) (uri : Text) → (q : Document → Bool) × (grown_times n ds (filter (holds_resource uri) ds) ≡ filter q ds)
+reached_part : (n : ℕ) (ds : List Document) (uri : Text) → (q : Document → Bool) × (reach_by_steps n ds (filter (holds_resource uri) ds) ≡ filter q ds)
 reached_part zero ds uri = (holds_resource uri, refl)
-reached_part (suc n) ds uri = (λ e. list_any (λ d. same_text d.canonical e.canonical || refers_to d e) (grown_times n ds (filter (holds_resource uri) ds)), refl)
+reached_part (suc n) ds uri = (λ e. list_any (λ d. same_text d.canonical e.canonical || refers_to d e) (reach_by_steps n ds (filter (holds_resource uri) ds)), refl)
 
-holder_reached : (n : ℕ) (ds : List Document) (uri : Text) (d : Document) → IsIn d ds → holds_resource uri d ≡ true → IsIn d (grown_times n ds (filter (holds_resource uri) ds))
+holder_reached : (n : ℕ) (ds : List Document) (uri : Text) (d : Document) → IsIn d ds → holds_resource uri d ≡ true → IsIn d (reach_by_steps n ds (filter (holds_resource uri) ds))
 holder_reached zero ds uri d i h = into_filter (holds_resource uri) ds d i h
 holder_reached (suc n) ds uri d i h =
-    into_filter (λ e. list_any (λ c. same_text c.canonical e.canonical || refers_to c e) (grown_times n ds (filter (holds_resource uri) ds))) ds d i
-    (any_of_in (λ c. same_text c.canonical d.canonical || refers_to c d) (grown_times n ds (filter (holds_resource uri) ds)) d (holder_reached n ds uri d i h)
+    into_filter (λ e. list_any (λ c. same_text c.canonical e.canonical || refers_to c e) (reach_by_steps n ds (filter (holds_resource uri) ds))) ds d i
+    (any_of_in (λ c. same_text c.canonical d.canonical || refers_to c d) (reach_by_steps n ds (filter (holds_resource uri) ds)) d (holder_reached n ds uri d i h)
     (rw (same_text_itself d.canonical) refl))
 
 root_same : (ds : List Document) (uri : Text) (q : Document → Bool) → has_repeat same_text (resource_uris_of ds) ≡ false → ((d : Document) → IsIn d ds → holds_resource uri d ≡ true → IsIn d (filter q ds))
@@ -181,7 +181,7 @@ root_same ds uri q distinct held = by (resource_root (table_of ds) uri) refl (re
 
 -- ---- the law
 part_enough : (matches : Text → Text → Bool) (ds : List Document) (uri : Text) (x : Value) (q : Document → Bool) → has_repeat same_text (resource_uris_of ds) ≡ false
-    → missing (filter q ds) ≡ [] → ((d : Document) → IsIn d ds → holds_resource uri d ≡ true → IsIn d (filter q ds)) → answer matches ds uri x ≡ answer matches (filter q ds) uri x
+    → missing_references (filter q ds) ≡ [] → ((d : Document) → IsIn d ds → holds_resource uri d ≡ true → IsIn d (filter q ds)) → answer matches ds uri x ≡ answer matches (filter q ds) uri x
 part_enough matches ds uri x q distinct none_missing held =
     alike_tables_answer_the_same matches (filter q ds) ds uri x (part_alike ds q distinct none_missing)
     (equal_found ds q distinct (resource_root (table_of (filter q ds)) uri) (resource_root (table_of ds) uri) (root_same ds uri q distinct held))
@@ -190,6 +190,6 @@ pub reach_is_enough : ReachIsEnough
 reach_is_enough matches ds uri x distinct none_missing =
     let part = reached_part (length ds) ds uri in
     let is : reach ds uri ≡ filter part.0 ds = part.1 in
-    part_enough matches ds uri x part.0 distinct (ap missing (sym is) ∙ none_missing)
+    part_enough matches ds uri x part.0 distinct (ap missing_references (sym is) ∙ none_missing)
     (λ d i h. subst (IsIn d) is (holder_reached (length ds) ds uri d i h))
     ∙ ap (λ es. answer matches es uri x) (sym is)

@@ -16,7 +16,7 @@ use Rattle.serde_json.specs.Find.{as_integer}
 use Rattle.serde_json.specs.Read.{read, of_json, of_items, of_members, number_of, max_depth}
 use Rattle.definitions.specs.Values.{Text, Value, Elements, Members, null, boolean, integer, string, array, object, no_elements, element, no_members, member, is_before, is_well_formed, are_well_formed, are_well_formed_members}
 use Rattle.definitions.specs.Faults.{bad_json, too_large}
-use Rattle.definitions.specs.Texts.{value_of, elements_of, members_of, value_or_bad_json, value_or_bad_number, reading}
+use Rattle.definitions.specs.Texts.{value_of, elements_of, members_of, value_or_bad_json, value_or_bad_number, parsed_value}
 use Rattle.definitions.specs.Registries.{body_value}
 use Rattle.definitions.specs.Limits.{limits}
 use Rattle.definition_laws.proofs.TokenTexts.{tokens_text}
@@ -154,10 +154,10 @@ by_utf8 : (b : Bool) (bytes : Text) (v : Value) → is_utf8 bytes ≡ b → cond
 by_utf8 true bytes v text e = let d = of_data (read bytes) v e in value_formed d.0 v (read_formed max_depth bytes d.0 text d.1.0) d.1.1
 by_utf8 false bytes v text e = cc
 
-pub well_formed : (bytes : Text) (v : Value) → reading bytes ≡ Ok v → is_well_formed v ≡ true
+pub well_formed : (bytes : Text) (v : Value) → parsed_value bytes ≡ Ok v → is_well_formed v ≡ true
 well_formed bytes v e = by_utf8 (is_utf8 bytes) bytes v refl e
 
-of_size : (large : Bool) (body : Text) (v : Value) → cond large (Err too_large) (reading body) ≡ Ok v → is_well_formed v ≡ true
+of_size : (large : Bool) (body : Text) (v : Value) → cond large (Err too_large) (parsed_value body) ≡ Ok v → is_well_formed v ≡ true
 of_size true body v e = cc
 of_size false body v e = well_formed body v e
 

@@ -6,7 +6,7 @@ use Rattle.definitions.specs.Resolution.{base_form}
 use Rattle.definitions.specs.Schemas.{Document, document_from}
 use Rattle.definitions.specs.Reach.{reach}
 use Rattle.definitions.specs.Alike.{Agree}
-use Rattle.definitions.specs.Registries.{Registry, documents_seen, is_in_library, deleted_from, Request, put, delete, validate, bundled_from, batch, Reply, deleted, refused, stored_all, for_base, for_value, decided, put_refusal, validation, body_value}
+use Rattle.definitions.specs.Registries.{Registry, documents_seen, is_in_library, deleted_from, Request, put, delete, validate, bundled_from, batch, Reply, deleted, refused, stored_all, for_base, for_value, decision, put_refusal, validation, body_value}
 use Rattle.definitions.specs.Searches.{Search}
 use Rattle.definitions.specs.Documents.{document_of, others_of}
 use Rattle.definitions.specs.Batches.{Entry, Numbered, batch_entries, entry_documents, batch_refusal, each_stored, for_documents, for_entries}
@@ -26,7 +26,7 @@ for_value_keeps g (Ok v) next keeps e = keeps v e
 for_value_keeps g (Err fault) next keeps e = refl
 
 decided_keeps : (o : Option Fault) (reply : Reply) (after before : Registry) → (IsRefused reply → ⊥)
-    → IsRefused (decided o reply after before).0 → (decided o reply after before).1 ≡ before
+    → IsRefused (decision o reply after before).0 → (decision o reply after before).1 ≡ before
 decided_keeps None reply after before granted e = absurd (granted e)
 decided_keeps (Some fault) reply after before granted e = refl
 

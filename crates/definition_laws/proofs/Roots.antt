@@ -7,9 +7,9 @@ use Rattle.definitions.specs.Lists.{has_repeat}
 use Rattle.definitions.specs.Pointers.{Pointer, same_pointer}
 use Rattle.definitions.specs.Shapes.{Shape, one_schema, schema_list, schema_map}
 use Rattle.definitions.specs.Keywords.{Keyword, keywords, shape_in}
-use Rattle.definitions.specs.Schemas.{Schema, Document, opened, schema_at, subschemas_by, schemas_within, schemas_from, schemas_of, table_of, is_root}
+use Rattle.definitions.specs.Schemas.{Schema, Document, opened_schema, schema_at, subschemas_by, schemas_within, schemas_from, schemas_of, table_of, is_root}
 use Rattle.definitions.specs.Scanning.{resource_uris}
-use Rattle.definitions.specs.Targets.{resource_root, pointed}
+use Rattle.definitions.specs.Targets.{resource_root, schema_at_pointer}
 use Rattle.lemmas.proofs.Texts.{same_text_itself, same_text_is}
 use Rattle.definition_laws.specs.Identities.{IsDefinite, IsDistinct, IdentityNamesOneSchema, RootsAreFound, SchemasArePointedTo}
 use Rattle.definition_laws.proofs.Occurrences.{IsIn, in_from_contains, contains_from_in, in_flat_map, into_flat_map, in_map, into_map, into_filter, finds_only, any_of_in, numbered_in}
@@ -116,7 +116,7 @@ within_to rows (suc n) way s t p l (further {t = u} {way = first} {rest = rest} 
     inr (into_flat_map (λ x. schemas_within rows n (way ++ x.0) x.1) (subschemas_by rows s) (first, u) (way ++ p, t) (step_to rows s u first step)
     (subst (λ x. IsIn (x, t) (schemas_within rows n (way ++ first) u)) tokens_are deeper))
 
-pub pointed_from : (r s : Schema) (way : Pointer) → IsDefinite r.value → IsBelow keywords r s way → pointed way r ≡ Some s
+pub pointed_from : (r s : Schema) (way : Pointer) → IsDefinite r.value → IsBelow keywords r s way → schema_at_pointer way r ≡ Some s
 pointed_from r s way d b =
     ap (option_map (λ t. t.1)) (finds_only (λ t. same_pointer way t.0) (schemas_from r) (way, s) (within_to keywords (suc (nesting r.value)) [] r s way (omega arith) b)
     (same_pointer_itself way) only)
@@ -142,7 +142,7 @@ own_root rows table s i e = record { root = s; held = i; at_root = e; leads = he
 step_root : (rows : List Keyword) (table : List Schema) (s t : Schema) (way : Pointer) → HasRoot rows table s → IsStep rows s t way → IsIn t table → HasRoot rows table t
 step_root rows table s t way h step i = by_id (text_at (codes "$id") step.part) step.is
   where
-    by_id : (id : Option Text) → t ≡ opened s.resource (s.pointer ++ way) step.part id → HasRoot rows table t
+    by_id : (id : Option Text) → t ≡ opened_schema s.resource (s.pointer ++ way) step.part id → HasRoot rows table t
     by_id None e = record {
       root = h.root;
       held = h.held;
@@ -172,7 +172,7 @@ within_roots rows table (suc n) way s held h x (inr i) =
 pub root_opened : (base : Text) (v : Value) → (schema_at base [] v).pointer ≡ []
 root_opened base v = by_id (text_at (codes "$id") v)
   where
-    by_id : (id : Option Text) → (opened base [] v id).pointer ≡ []
+    by_id : (id : Option Text) → (opened_schema base [] v id).pointer ≡ []
     by_id None = refl
     by_id (Some id) = refl
 
@@ -241,4 +241,4 @@ schemas_pointed_to ds h s i =
     let a = table_roots ds s (in_from_contains table s i) in
     let found : resource_root table s.resource ≡ Some a.root =
     ap (resource_root table) a.resource ∙ roots_found ds h.uris a.root (contains_from_in table a.root a.held) (pointer_root a.root a.at_root) in
-    ap (option_and_then (pointed s.pointer)) found ∙ pointed_from a.root s s.pointer (table_definite ds (values_in ds h) a.root a.held) a.leads
+    ap (option_and_then (schema_at_pointer s.pointer)) found ∙ pointed_from a.root s s.pointer (table_definite ds (values_in ds h) a.root a.held) a.leads

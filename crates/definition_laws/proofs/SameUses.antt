@@ -9,8 +9,8 @@ use Rattle.definitions.specs.Alike.{IsAlikeSchema}
 use Rattle.definitions.specs.Keywords.{Keyword, row, declares}
 use Rattle.definitions.specs.Schemas.{Schema}
 use Rattle.definitions.specs.Applied.{Application, Outcome, Rules}
-use Rattle.definitions.specs.Evaluated.{failed, passed}
-use Rattle.definitions.specs.Outcomes.{Use, unit, own_annotation, use_annotations, use_errors, used}
+use Rattle.definitions.specs.Evaluated.{outcomes_that_fail, outcomes_that_pass}
+use Rattle.definitions.specs.Outcomes.{Use, unit, own_annotation, use_annotations, use_errors, uses_by_keyword}
 use Rattle.definition_laws.proofs.Targets.{alike_resource, alike_pointer}
 use Rattle.definition_laws.proofs.Applying.{of_schema}
 
@@ -49,10 +49,10 @@ unit_same a t k says h =
     ap₂ (λ r p. record { path = a.path ++ k ∷ []; resource = r; pointer = p ++ k ∷ []; place = a.place.pointer; says = says }) (alike_resource a.schema t h) (alike_pointer a.schema t h)
 
 errors_same : (a : Application) (t : Schema) → IsAlikeSchema a.schema t → (u : Use) → use_errors (of_schema a t) u ≡ use_errors a u
-errors_same a t h u = ap (λ x. cond u.passes [] (x ∷ flat_map (λ o. o.1.errors) (failed u.outcomes))) (unit_same a t u.keyword (string (u.keyword ++ codes " is not met")) h)
+errors_same a t h u = ap (λ x. cond u.passes [] (x ∷ flat_map (λ o. o.1.errors) (outcomes_that_fail u.outcomes))) (unit_same a t u.keyword (string (u.keyword ++ codes " is not met")) h)
 
 annotations_same : (a : Application) (t : Schema) → IsAlikeSchema a.schema t → (u : Use) → use_annotations (of_schema a t) u ≡ use_annotations a u
-annotations_same a t h u = ap (λ x. x ++ cond u.annotates (flat_map (λ o. o.1.annotations) (passed u.outcomes)) []) (by u.annotation)
+annotations_same a t h u = ap (λ x. x ++ cond u.annotates (flat_map (λ o. o.1.annotations) (outcomes_that_pass u.outcomes)) []) (by u.annotation)
   where
     by : (o : Option Value) → own_annotation (of_schema a t) u o ≡ own_annotation a u o
     by None = refl
@@ -86,7 +86,7 @@ pub record IsNothing (us : List Use) : Type 0 where
   pub deep : list_any (λ u. list_any (λ o. o.1.deep) u.outcomes) us ≡ false
 
 pub declared_nothing : (rules : Rules) (run : Application → Outcome) (names : List Text) (indexes : List ℕ) (a : Application) (k : Keyword) (o : Option Value) → k.meaning ≡ declares
-    → IsNothing (used rules run names indexes a k o)
+    → IsNothing (uses_by_keyword rules run names indexes a k o)
 declared_nothing rules run names indexes a k None e = record {
   passes = refl;
   names = refl;
@@ -98,7 +98,7 @@ declared_nothing rules run names indexes a k None e = record {
   deep = refl;
 }
 declared_nothing rules run names indexes a k (Some v) e =
-    subst (λ m. IsNothing (used rules run names indexes a (row k.name k.shape m) (Some v))) (sym e)
+    subst (λ m. IsNothing (uses_by_keyword rules run names indexes a (row k.name k.shape m) (Some v))) (sym e)
     (record { passes = refl; names = refl; indexes = refl; errors = λ b. refl; annotations = λ b. refl; count = refl; looped = refl; deep = refl })
 
 pub nothing_same : (a b : Application) (us vs : List Use) → IsNothing us → IsNothing vs → AreSameUses a b us vs

@@ -14,7 +14,7 @@ use Rattle.serde_json.specs.Find.{as_integer}
 use Rattle.serde_json.specs.Read.{read, of_json, of_items, of_members, number_of, max_depth}
 use Rattle.definitions.specs.Values.{Text, Value, Elements, Members, null, boolean, integer, string, array, object, no_elements, element, no_members, member, elements_list}
 use Rattle.definitions.specs.Faults.{bad_json, too_large}
-use Rattle.definitions.specs.Texts.{value_of, elements_of, members_of, value_or_bad_json, reading}
+use Rattle.definitions.specs.Texts.{value_of, elements_of, members_of, value_or_bad_json, parsed_value}
 use Rattle.definitions.specs.Registries.{body_value}
 use Rattle.definitions.specs.Limits.{limits}
 use Rattle.definition_laws.specs.Reading.{has_arrays_within, have_arrays_within, members_have_arrays_within}
@@ -139,7 +139,7 @@ by_utf8 : (b : Bool) (bytes : Text) (v : Value) → cond b (value_or_bad_json (r
 by_utf8 true bytes v e = let d = of_data (read bytes) v e in value_short (length bytes) d.0 v (read_short max_depth bytes d.0 d.1.0) d.1.1
 by_utf8 false bytes v e = cc
 
-pub arrays_short : (bytes : Text) (v : Value) → reading bytes ≡ Ok v → has_arrays_within (length bytes) v ≡ true
+pub arrays_short : (bytes : Text) (v : Value) → parsed_value bytes ≡ Ok v → has_arrays_within (length bytes) v ≡ true
 arrays_short bytes v e = by_utf8 (is_utf8 bytes) bytes v e
 
 -- ---- the body of a request
@@ -167,7 +167,7 @@ mutual
       let parts = and_parts (has_arrays_within m v) (members_have_arrays_within m ms) h in
       and_from (has_arrays_within n v) (members_have_arrays_within n ms) (value_longer m n le v parts.0) (members_longer m n le ms parts.1)
 
-of_size : (n : ℕ) (large : Bool) (body : Text) (v : Value) → nat_lt n (length body) ≡ large → cond large (Err too_large) (reading body) ≡ Ok v → has_arrays_within n v ≡ true
+of_size : (n : ℕ) (large : Bool) (body : Text) (v : Value) → nat_lt n (length body) ≡ large → cond large (Err too_large) (parsed_value body) ≡ Ok v → has_arrays_within n v ≡ true
 of_size n true body v size e = cc
 of_size n false body v size e = value_longer (length body) n (ltb-false n (length body) size) v (arrays_short body v e)
 

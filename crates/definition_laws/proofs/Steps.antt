@@ -4,8 +4,8 @@ use Rattle.definitions.specs.Values.{Text, Value}
 use Rattle.definitions.specs.Faults.{Fault}
 use Rattle.definitions.specs.Resolution.{base_form}
 use Rattle.definitions.specs.Schemas.{Document, document_from}
-use Rattle.definitions.specs.Documents.{document_of, others_of, placed, placed_all}
-use Rattle.definitions.specs.Registries.{Registry, is_in_library, Request, put, delete, validate, bundled_from, batch, Reply, for_base, for_value, decided, put_refusal, body_value}
+use Rattle.definitions.specs.Documents.{document_of, documents_with, documents_with_all, others_of}
+use Rattle.definitions.specs.Registries.{Registry, is_in_library, Request, put, delete, validate, bundled_from, batch, Reply, for_base, for_value, decision, put_refusal, body_value}
 use Rattle.definitions.specs.Searches.{Search}
 use Rattle.definitions.specs.Batches.{Entry, batch_entries, entry_documents, Numbered, batch_refusal, for_documents, for_entries}
 use Rattle.definitions.specs.Steps.{step}
@@ -15,10 +15,10 @@ use Rattle.definition_laws.specs.Keeping.{IsSetAlike}
 -- what a property has to be kept by
 pub record IsKeptByChanges (search : Search) (P : Registry → Type 0) (g : Registry) : Type 0 where
   pub by_put : (uri b body : Text) (v : Value) → base_form uri ≡ Ok b → body_value body ≡ Ok v
-      → put_refusal search g (document_from b v) (placed (document_from b v) g.documents) ≡ None → P (record g { documents = placed (document_from b v) g.documents })
+      → put_refusal search g (document_from b v) (documents_with (document_from b v) g.documents) ≡ None → P (record g { documents = documents_with (document_from b v) g.documents })
   pub by_delete : (b : Text) → is_in_library g b ≡ false → P (record g { documents = others_of b g.documents })
   pub by_batch : (bytes : Text) (es : List Entry) (ds : List Document) → batch_entries bytes ≡ Ok es → entry_documents search 0 es ≡ Ok ds
-      → batch_refusal g ds (placed_all ds g.documents) ≡ None → P (record g { documents = placed_all ds g.documents })
+      → batch_refusal g ds (documents_with_all ds g.documents) ≡ None → P (record g { documents = documents_with_all ds g.documents })
 
 module _ (P : Registry → Type 0) where
   pub for_base_keeps : (g : Registry) (r : Result Text Fault) (next : Text → Reply × Registry) → ((b : Text) → r ≡ Ok b → P (next b).1) → P g → P (for_base g r next).1
@@ -29,7 +29,7 @@ module _ (P : Registry → Type 0) where
   for_value_keeps g (Ok v) next h before = h v refl
   for_value_keeps g (Err e) next h before = before
 
-  pub decided_keeps : (o : Option Fault) (reply : Reply) (after g : Registry) → (o ≡ None → P after) → P g → P (decided o reply after g).1
+  pub decided_keeps : (o : Option Fault) (reply : Reply) (after g : Registry) → (o ≡ None → P after) → P g → P (decision o reply after g).1
   decided_keeps None reply after g h before = h refl
   decided_keeps (Some f) reply after g h before = before
 
@@ -42,20 +42,20 @@ module _ (P : Registry → Type 0) where
   deleted_keeps false reply rest g h before = h refl
 
   for_documents_keeps : (g : Registry) (r : Result (List Document) Numbered)
-      → ((ds : List Document) → r ≡ Ok ds → batch_refusal g ds (placed_all ds g.documents) ≡ None → P (record g { documents = placed_all ds g.documents })) → P g → P (for_documents g r).1
-  for_documents_keeps g (Ok ds) h before = decided_keeps (batch_refusal g ds (placed_all ds g.documents)) _ _ g (h ds refl) before
+      → ((ds : List Document) → r ≡ Ok ds → batch_refusal g ds (documents_with_all ds g.documents) ≡ None → P (record g { documents = documents_with_all ds g.documents })) → P g → P (for_documents g r).1
+  for_documents_keeps g (Ok ds) h before = decided_keeps (batch_refusal g ds (documents_with_all ds g.documents)) _ _ g (h ds refl) before
   for_documents_keeps g (Err (k, f)) h before = before
 
   pub for_entries_keeps : (search : Search) (g : Registry) (r : Result (List Entry) Fault)
-      → ((es : List Entry) (ds : List Document) → r ≡ Ok es → entry_documents search 0 es ≡ Ok ds → batch_refusal g ds (placed_all ds g.documents) ≡ None
-      → P (record g { documents = placed_all ds g.documents })) → P g → P (for_entries search g r).1
+      → ((es : List Entry) (ds : List Document) → r ≡ Ok es → entry_documents search 0 es ≡ Ok ds → batch_refusal g ds (documents_with_all ds g.documents) ≡ None
+      → P (record g { documents = documents_with_all ds g.documents })) → P g → P (for_entries search g r).1
   for_entries_keeps search g (Ok es) h before = for_documents_keeps g (entry_documents search 0 es) (λ ds made none. h es ds refl made none) before
   for_entries_keeps search g (Err f) h before = before
 
   pub step_keeps : (search : Search) (g : Registry) → P g → IsKeptByChanges search P g → (q : Request) → P (step search g q).1
   step_keeps search g before changes (put uri body) =
       for_base_keeps g (base_form uri) _ (λ b is_base. for_value_keeps g (body_value body) _ (λ v was_read.
-      decided_keeps (put_refusal search g (document_from b v) (placed (document_from b v) g.documents)) _ _ g (changes.by_put uri b body v is_base was_read) before) before) before
+      decided_keeps (put_refusal search g (document_from b v) (documents_with (document_from b v) g.documents)) _ _ g (changes.by_put uri b body v is_base was_read) before) before) before
   step_keeps search g before changes (delete uri) =
       for_base_keeps g (base_form uri) _ (λ b is_base. deleted_keeps (is_in_library g b) _ _ g
       (λ unowned. found_keeps (is_some (document_of g.documents b)) _ _ _ g (changes.by_delete b unowned) before) before) before

@@ -4,7 +4,7 @@ use Rattle.std.proofs.lemmas.Bool.{and_from, not-true}
 use Rattle.std.specs.Cmp.Lexicographic.{bytes_decides}
 use Rattle.std.specs.List.{list_any}
 use Rattle.definitions.specs.Values.{Text, Value, same_text, text_at}
-use Rattle.definitions.specs.Schemas.{Document, document_from, schema_at, opened, is_root}
+use Rattle.definitions.specs.Schemas.{Document, document_from, schema_at, opened_schema, is_root}
 use Rattle.definitions.specs.Reach.{holds_resource, reach, holds}
 use Rattle.definitions.specs.Documents.{document_of, others_of, resources_of, taken_uri, AreSound}
 use Rattle.definitions.specs.Searches.{Search}
@@ -18,7 +18,7 @@ use Rattle.definition_laws.proofs.LeastTexts.{least_is_least, no_least}
 use Rattle.definition_laws.proofs.KeptReaches.{kept_distinct, kept_reach_is_least}
 
 -- ---- a document's root
-root_at : (base : Text) (v : Value) (id : Option Text) → is_root (opened base [] v id) ≡ true
+root_at : (base : Text) (v : Value) (id : Option Text) → is_root (opened_schema base [] v id) ≡ true
 root_at base v None = refl
 root_at base v (Some id) = refl
 

@@ -8,7 +8,7 @@ use Rattle.definitions.specs.Pointers.{Pointer, same_pointer}
 use Rattle.definitions.specs.Keywords.{Keyword, keywords}
 use Rattle.definitions.specs.Schemas.{Schema, Document, schema_at, schemas_of, schemas_from, table_of}
 use Rattle.definitions.specs.Uris.{without_fragment}
-use Rattle.definitions.specs.Targets.{resource_root, dynamically_anchored, pointed, target_in, target, fragment_of}
+use Rattle.definitions.specs.Targets.{resource_root, schema_with_dynamic_anchor, schema_at_pointer, target_in, target, fragment_of}
 use Rattle.definition_laws.proofs.Occurrences.{IsIn, in_flat_map, into_flat_map, in_map, into_map, found_in}
 use Rattle.definition_laws.proofs.Places.{IsStep, IsBelow, here, further}
 use Rattle.definition_laws.proofs.Roots.{within_from, within_to}
@@ -37,7 +37,7 @@ pub step_closed : (table : List Schema) → IsClosed table → (s t : Schema) (w
 step_closed table closed s t way i step = closed s t (way ++ []) i (further step (here refl refl) refl)
 
 -- ---- what a search finds
-pointed_in : (table : List Schema) → IsClosed table → (r s : Schema) (way : Pointer) → IsIn r table → pointed way r ≡ Some s → IsIn s table
+pointed_in : (table : List Schema) → IsClosed table → (r s : Schema) (way : Pointer) → IsIn r table → schema_at_pointer way r ≡ Some s → IsIn s table
 pointed_in table closed r s way i e = by (find (λ t. same_pointer way t.0) (schemas_from r)) refl e
   where
     by : (o : Option (Pointer × Schema)) → find (λ t. same_pointer way t.0) (schemas_from r) ≡ o → option_map (λ t. t.1) o ≡ Some s → IsIn s table
@@ -47,7 +47,7 @@ pointed_in table closed r s way i e = by (find (λ t. same_pointer way t.0) (sch
         let same : x.1 ≡ s = cc in
         subst (λ y. IsIn y table) same (closed r x.1 q.0 i q.2)
 
-root_pointed_in : (table : List Schema) → IsClosed table → (o : Option Schema) (s : Schema) (way : Pointer) → ((r : Schema) → o ≡ Some r → IsIn r table) → option_and_then (pointed way) o ≡ Some s → IsIn s table
+root_pointed_in : (table : List Schema) → IsClosed table → (o : Option Schema) (s : Schema) (way : Pointer) → ((r : Schema) → o ≡ Some r → IsIn r table) → option_and_then (schema_at_pointer way) o ≡ Some s → IsIn s table
 root_pointed_in table closed None s way held e = absurd (cc)
 root_pointed_in table closed (Some r) s way held e = pointed_in table closed r s way (held r refl) e
 
@@ -60,5 +60,5 @@ target_by_in table closed uri (Err f) s e = absurd (cc)
 pub target_held : (table : List Schema) → IsClosed table → (text : Text) (s : Schema) → target table text ≡ Some s → IsIn s table
 target_held table closed text s e = target_by_in table closed (without_fragment text) (fragment_of text) s e
 
-pub dynamically_anchored_in : (table : List Schema) (uri name : Text) (s : Schema) → dynamically_anchored table uri name ≡ Some s → IsIn s table
+pub dynamically_anchored_in : (table : List Schema) (uri name : Text) (s : Schema) → schema_with_dynamic_anchor table uri name ≡ Some s → IsIn s table
 dynamically_anchored_in table uri name s e = found_in _ table s e

@@ -1,14 +1,14 @@
 -- References of alike schemas name alike schemas of the table.
 use Rattle.std.proofs.Common.{◌≡◌, ◌++◌, List, [], ◌∷◌, Bool, true, false, cond, Option, Some, None, Result, Ok, Err, option_map, option_and_then, unwrap_or, codes, refl, ap, ap₂, inl, inr}
 use Rattle.definitions.specs.Values.{Text, Value, same_text, as_string, get}
-use Rattle.definitions.specs.Alike.{unbundled, IsAlikeSchema, AreAlike}
+use Rattle.definitions.specs.Alike.{unbundled_value, IsAlikeSchema, AreAlike}
 use Rattle.definitions.specs.Faults.{Fault}
 use Rattle.definitions.specs.Fragments.{Fragment, no_fragment, tokens, plain_name}
 use Rattle.definitions.specs.Pointers.{Pointer}
-use Rattle.definitions.specs.Resolution.{resolved}
+use Rattle.definitions.specs.Resolution.{target_uri}
 use Rattle.definitions.specs.Schemas.{Schema, schema_at, below, identity, reference_at, references}
 use Rattle.definitions.specs.Lists.{option_list}
-use Rattle.definitions.specs.Targets.{is_dynamic_anchor, target, fragment_of, dynamically_anchored, outermost, dynamic_by, dynamic_target}
+use Rattle.definitions.specs.Targets.{is_dynamic_anchor, target, fragment_of, schema_with_dynamic_anchor, outermost, dynamic_by, dynamic_target}
 use Rattle.definition_laws.proofs.Occurrences.{IsIn, in_left, in_right}
 use Rattle.definition_laws.proofs.Unbundled.{is_changed, get_alike}
 
@@ -20,7 +20,7 @@ pub alike_pointer : (s t : Schema) → IsAlikeSchema s t → t.pointer ≡ s.poi
 alike_pointer s t h = ap (λ x. x.1) h.0
 
 pub equal_alike : (s t : Schema) → t ≡ s → IsAlikeSchema s t
-equal_alike s t e = (ap identity e, ap (λ x. unbundled x.value) e)
+equal_alike s t e = (ap identity e, ap (λ x. unbundled_value x.value) e)
 
 pub below_alike : (s t : Schema) (way : Pointer) (v : Value) → IsAlikeSchema s t → below t way v ≡ below s way v
 below_alike s t way v h = ap₂ (λ r p. schema_at r (p ++ way) v) (alike_resource s t h) (alike_pointer s t h)
@@ -29,7 +29,7 @@ pub alike_get : (name : Text) (s t : Schema) → is_changed name ≡ false → I
 alike_get name s t k h = get_alike name s.value t.value k h.1
 
 pub alike_reference : (name : Text) (s t : Schema) → is_changed name ≡ false → IsAlikeSchema s t → reference_at name t ≡ reference_at name s
-alike_reference name s t k h = ap₂ (λ r o. option_map (resolved r) (option_and_then as_string o)) (alike_resource s t h) (alike_get name s t k h)
+alike_reference name s t k h = ap₂ (λ r o. option_map (target_uri r) (option_and_then as_string o)) (alike_resource s t h) (alike_get name s t k h)
 
 alike_dynamic_anchor : (name : Text) (s t : Schema) → IsAlikeSchema s t → is_dynamic_anchor name t ≡ is_dynamic_anchor name s
 alike_dynamic_anchor name s t h = ap (λ o. unwrap_or (option_map (same_text name) (option_and_then as_string o)) false) (alike_get (codes "$dynamicAnchor") s t refl h)
@@ -48,13 +48,13 @@ alike_in table (Some s) (Some t) h held = (held s refl, h)
 
 -- what each URI of the scope has under a dynamic anchor
 abbrev pub AnchorsAlike : List Schema → List Schema → List Text → Type 0
-AnchorsAlike table other scope = (uri : Text) → IsIn uri scope → (name : Text) → AlikeIn table (dynamically_anchored table uri name) (dynamically_anchored other uri name)
+AnchorsAlike table other scope = (uri : Text) → IsIn uri scope → (name : Text) → AlikeIn table (schema_with_dynamic_anchor table uri name) (schema_with_dynamic_anchor other uri name)
 
 outermost_alike : (table other : List Schema) (scope : List Text) (name : Text) (s t : Schema) → AnchorsAlike table other scope → IsIn s table × IsAlikeSchema s t
     → IsIn (outermost table scope name s) table × IsAlikeSchema (outermost table scope name s) (outermost other scope name t)
 outermost_alike table other [] name s t h k = k
 outermost_alike table other (uri ∷ scope) name s t h k =
-    by (dynamically_anchored table uri name) (dynamically_anchored other uri name) (h uri (inl refl) name) (outermost_alike table other scope name s t (λ u i. h u (inr i)) k)
+    by (schema_with_dynamic_anchor table uri name) (schema_with_dynamic_anchor other uri name) (h uri (inl refl) name) (outermost_alike table other scope name s t (λ u i. h u (inr i)) k)
   where
     by : (o p : Option Schema) → AlikeIn table o p → IsIn (outermost table scope name s) table × IsAlikeSchema (outermost table scope name s) (outermost other scope name t)
         → IsIn (unwrap_or o (outermost table scope name s)) table × IsAlikeSchema (unwrap_or o (outermost table scope name s)) (unwrap_or p (outermost other scope name t))

@@ -9,7 +9,7 @@ use Rattle.definitions.specs.Searches.{Search}
 use Rattle.definitions.specs.Steps.{step}
 use Rattle.definitions.specs.Runs.{Course, IsAnswer, replies}
 use Rattle.definitions.specs.Keeping.{AreKept, IsKept}
-use Rattle.definitions.specs.Services.{KeyedRegistry, Call, registry_of, with_registry, call_at, IsCallAnswer, CallCourse, own, replies_at, AllUnknown}
+use Rattle.definitions.specs.Services.{KeyedRegistry, Call, registry_of, with_registry, call_at, IsCallAnswer, CallCourse, own_requests, replies_at, AllUnknown}
 use Rattle.definitions.specs.Tenants.{Tenant, server_fault, empty_registry, empty_registries, unless_refused, new_server}
 use Rattle.lemmas.proofs.SomeValues.{some_same, none_some}
 use Rattle.lemmas.proofs.Texts.{same_text_is}
@@ -99,14 +99,14 @@ HasCourse search key ls g qs rs = (h : Registry) × ((registry_of ls key ≡ Som
 
 module _ (search : Search) (ks ms ls : List KeyedRegistry) (c : Call) (r : Reply) (cs : List Call) (rs : List Reply) (key : Text) (answer : IsCallAnswer search ks c r ms) where
   course_at : (b : Bool) → same_text key c.0 ≡ b → (g : Registry) → registry_of ks key ≡ Some g
-      → ((m : Registry) → registry_of ms key ≡ Some m → HasCourse search key ls m (own key cs) (replies_at key cs rs))
-      → HasCourse search key ls g (cond b (c.1 ∷ own key cs) (own key cs)) (cond b (r ∷ replies_at key cs rs) (replies_at key cs rs))
+      → ((m : Registry) → registry_of ms key ≡ Some m → HasCourse search key ls m (own_requests key cs) (replies_at key cs rs))
+      → HasCourse search key ls g (cond b (c.1 ∷ own_requests key cs) (own_requests key cs)) (cond b (r ∷ replies_at key cs rs) (replies_at key cs rs))
   course_at true e g is more =
       let same = same_text_is key c.0 e in
       let own_answer : (m : Registry) × ((registry_of ms c.0 ≡ Some m) × IsAnswer search g c.1 r m) =
       answered search ks ms c r g answer (ap (registry_of ks) (sym same) ∙ is) in
-      let rest : HasCourse search key ls own_answer.0 (own key cs) (replies_at key cs rs) = more own_answer.0 (ap (registry_of ms) same ∙ own_answer.1.0) in
-      (rest.0, (rest.1.0, with_answer search g own_answer.0 rest.0 c.1 r (own key cs) (replies_at key cs rs) own_answer.1.1 rest.1.1))
+      let rest : HasCourse search key ls own_answer.0 (own_requests key cs) (replies_at key cs rs) = more own_answer.0 (ap (registry_of ms) same ∙ own_answer.1.0) in
+      (rest.0, (rest.1.0, with_answer search g own_answer.0 rest.0 c.1 r (own_requests key cs) (replies_at key cs rs) own_answer.1.1 rest.1.1))
   course_at false e g is more = more g (others_stay search ks ms c r key answer (differs key c.0 e) ∙ is)
 
   unknown_in : (b : Bool) → same_text key c.0 ≡ b → registry_of ks key ≡ None
@@ -119,7 +119,7 @@ module _ (search : Search) (ks ms ls : List KeyedRegistry) (c : Call) (r : Reply
   unknown_in false e is more = more (others_stay search ks ms c r key answer (differs key c.0 e) ∙ is)
 
 pub own_course : (search : Search) (ks ls : List KeyedRegistry) (cs : List Call) (rs : List Reply) (key : Text) (g : Registry)
-    → CallCourse search ks cs rs ls → registry_of ks key ≡ Some g → HasCourse search key ls g (own key cs) (replies_at key cs rs)
+    → CallCourse search ks cs rs ls → registry_of ks key ≡ Some g → HasCourse search key ls g (own_requests key cs) (replies_at key cs rs)
 own_course search ks ls [] [] key g course is = (g, (ap (λ ms. registry_of ms key) course ∙ is, refl))
 own_course search ks ls [] (r ∷ rs) key g course is = absurd course
 own_course search ks ls (c ∷ cs) [] key g course is = absurd course
@@ -127,11 +127,11 @@ own_course search ks ls (c ∷ cs) (r ∷ rs) key g course is =
     course_at search ks course.0 ls c r cs rs key course.1 (same_text key c.0) refl g is (λ m now. own_course search course.0 ls cs rs key m course.2 now)
 
 pub own_replies : (search : Search) (ks ls : List KeyedRegistry) (cs : List Call) (rs : List Reply) (key : Text) (g : Registry)
-    → CallCourse search ks cs rs ls → registry_of ks key ≡ Some g → NoneIsForRoom search (own key cs) (replies_at key cs rs)
-    → replies_at key cs rs ≡ replies search g (own key cs)
+    → CallCourse search ks cs rs ls → registry_of ks key ≡ Some g → NoneIsForRoom search (own_requests key cs) (replies_at key cs rs)
+    → replies_at key cs rs ≡ replies search g (own_requests key cs)
 own_replies search ks ls cs rs key g course is none =
     let mine = own_course search ks ls cs rs key g course is in
-    (course_replies search g mine.0 (own key cs) (replies_at key cs rs) mine.1.1 none).0
+    (course_replies search g mine.0 (own_requests key cs) (replies_at key cs rs) mine.1.1 none).0
 
 pub all_unknown : (search : Search) (ks ls : List KeyedRegistry) (cs : List Call) (rs : List Reply) (key : Text)
     → CallCourse search ks cs rs ls → registry_of ks key ≡ None → AllUnknown (replies_at key cs rs) × (registry_of ls key ≡ None)

@@ -4,11 +4,11 @@ use Rattle.std.specs.Str.{is_utf8}
 use Rattle.definitions.specs.Values.{Text, Value, is_object, same_text}
 use Rattle.definitions.specs.Lists.{has_repeat}
 use Rattle.definitions.specs.Uris.{without_fragment}
-use Rattle.definitions.specs.Resolution.{resolved}
+use Rattle.definitions.specs.Resolution.{target_uri}
 use Rattle.definitions.specs.Schemas.{Document, document_from, schemas_of, table_of}
 use Rattle.definitions.specs.Scanning.{anchors_of, same_anchor, resource_uris}
 use Rattle.definitions.specs.Answers.{answer}
-use Rattle.definitions.specs.Reach.{missing}
+use Rattle.definitions.specs.Reach.{missing_references}
 use Rattle.definitions.specs.Bundles.{bundle}
 use Rattle.definitions.specs.Documents.{resource_uris_of}
 use Rattle.definitions.specs.Alike.{IsAlike}
@@ -16,7 +16,7 @@ use Rattle.definition_laws.specs.Identities.{IsDefinite}
 
 -- resolved against whatever base it is itself, and has no fragment
 abbrev pub IsAbsolute : Text → Type 0
-IsAbsolute uri = (base : Text) → without_fragment (resolved base uri) ≡ uri
+IsAbsolute uri = (base : Text) → without_fragment (target_uri base uri) ≡ uri
 
 -- documents as a registry keeps them, under URIs that don't hang on where they stand, with no reference missing
 pub record AreWhole (ds : List Document) : Type 0 where
@@ -27,7 +27,7 @@ pub record AreWhole (ds : List Document) : Type 0 where
   pub values : (d : Document) → Contains ds d → IsDefinite d.value
   pub texts : (d : Document) → Contains ds d → IsTrue (is_utf8 d.canonical)
   pub absolute : (d : Document) → Contains ds d → IsAbsolute d.canonical
-  pub linked : missing ds ≡ []
+  pub linked : missing_references ds ≡ []
 
 -- under any base, the bundle is stored under the URI that it was asked by
 abbrev pub BundlesKeepTheirUri : Type 0

@@ -5,7 +5,7 @@ use Rattle.definitions.specs.Values.{Value, null, boolean, integer, string, arra
 use Rattle.definitions.specs.Lists.{has_repeat}
 use Rattle.definitions.specs.Schemas.{Schema, Document, identity, is_root, table_of}
 use Rattle.definitions.specs.Scanning.{resource_uris}
-use Rattle.definitions.specs.Targets.{resource_root, pointed}
+use Rattle.definitions.specs.Targets.{resource_root, schema_at_pointer}
 
 -- each array has less than 2 ^ 64 elements: so far places differ in their decimal text
 abbrev mutual
@@ -49,4 +49,4 @@ RootsAreFound =
 abbrev pub SchemasArePointedTo : Type 0
 SchemasArePointedTo =
     (ds : List Document) → IsDistinct ds →
-    (s : Schema) → Contains (table_of ds) s → option_and_then (pointed s.pointer) (resource_root (table_of ds) s.resource) ≡ Some s
+    (s : Schema) → Contains (table_of ds) s → option_and_then (schema_at_pointer s.pointer) (resource_root (table_of ds) s.resource) ≡ Some s

@@ -2,7 +2,7 @@
 use Rattle.std.specs.Prelude.{◌≡◌, List, Contains, false}
 use Rattle.definitions.specs.Values.{Text}
 use Rattle.definitions.specs.Schemas.{Document}
-use Rattle.definitions.specs.Documents.{others_of, placed, placed_all}
+use Rattle.definitions.specs.Documents.{documents_with, documents_with_all, others_of}
 use Rattle.definitions.specs.Registries.{Registry, documents_seen, is_in_library}
 use Rattle.definitions.specs.Searches.{Search}
 use Rattle.definitions.specs.Keeping.{IsKept}
@@ -11,7 +11,7 @@ use Rattle.definitions.specs.Keeping.{IsKept}
 abbrev pub PutsCommute : Type 0
 PutsCommute =
     (g : Registry) (d : Document) → is_in_library g d.canonical ≡ false
-    → documents_seen (record g { documents = placed d g.documents }) ≡ placed d (documents_seen g)
+    → documents_seen (record g { documents = documents_with d g.documents }) ≡ documents_with d (documents_seen g)
 
 -- and what is deleted
 abbrev pub DeletesCommute : Type 0
@@ -23,4 +23,4 @@ DeletesCommute =
 abbrev pub BatchesCommute : Type 0
 BatchesCommute =
     (g : Registry) (ds : List Document) → ((d : Document) → Contains ds d → is_in_library g d.canonical ≡ false)
-    → documents_seen (record g { documents = placed_all ds g.documents }) ≡ placed_all ds (documents_seen g)
+    → documents_seen (record g { documents = documents_with_all ds g.documents }) ≡ documents_with_all ds (documents_seen g)

@@ -7,7 +7,7 @@ use Rattle.definitions.specs.Targets.{resource_root}
 use Rattle.definitions.specs.Applied.{Rules}
 use Rattle.definitions.specs.Answers.{answer}
 use Rattle.definitions.specs.Alike.{AreAlike, IsAlike, AlikeGiveTheSame}
-use Rattle.definitions.specs.Reach.{reach, missing}
+use Rattle.definitions.specs.Reach.{reach, missing_references}
 use Rattle.definitions.specs.Documents.{resource_uris_of}
 
 abbrev pub AlikeTablesGiveTheSame : Type 0
@@ -24,4 +24,4 @@ AlikeTablesAnswerTheSame =
 abbrev pub ReachIsEnough : Type 0
 ReachIsEnough =
     (matches : Text → Text → Bool) (ds : List Document) (uri : Text) (x : Value) →
-    has_repeat same_text (resource_uris_of ds) ≡ false → missing (reach ds uri) ≡ [] → answer matches ds uri x ≡ answer matches (reach ds uri) uri x
+    has_repeat same_text (resource_uris_of ds) ≡ false → missing_references (reach ds uri) ≡ [] → answer matches ds uri x ≡ answer matches (reach ds uri) uri x

@@ -5,7 +5,7 @@ use Rattle.std.specs.Cmp.Lexicographic.{slice_cmp}
 use Rattle.definitions.specs.Values.{Text}
 use Rattle.definitions.specs.Schemas.{Document, table_of}
 use Rattle.definitions.specs.Targets.{target}
-use Rattle.definitions.specs.Reach.{references_in, missing, least}
+use Rattle.definitions.specs.Reach.{references_in, missing_references, least}
 
 -- one of the texts, and none of them comes before it in byte order
 pub record IsLeast (ts : List Text) (t : Text) : Type 0 where
@@ -27,10 +27,10 @@ pub record IsMissing (ds : List Document) (reference : Text) : Type 0 where
   pub names_nothing : target (table_of ds) reference ≡ None
 
 abbrev pub MissingNameNothing : Type 0
-MissingNameNothing = (ds : List Document) (reference : Text) → Contains (missing ds) reference ↔ IsMissing ds reference
+MissingNameNothing = (ds : List Document) (reference : Text) → Contains (missing_references ds) reference ↔ IsMissing ds reference
 
 -- nothing is missing exactly where each reference of each document names a schema
 abbrev pub LinkedNameAll : Type 0
 LinkedNameAll =
     (ds : List Document)
-    → (least (missing ds) ≡ None) ↔ ((d : Document) (reference : Text) → Contains ds d → Contains (references_in d) reference → IsTrue (is_some (target (table_of ds) reference)))
+    → (least (missing_references ds) ≡ None) ↔ ((d : Document) (reference : Text) → Contains ds d → Contains (references_in d) reference → IsTrue (is_some (target (table_of ds) reference)))

@@ -6,7 +6,7 @@ use Rattle.definitions.specs.Schemas.{Document, table_of}
 use Rattle.definitions.specs.Scanning.{resource_uris}
 use Rattle.definitions.specs.Reach.{holds_resource, reach, IsReached, ReachIsLeast}
 use Rattle.definitions.specs.Alike.{Agree}
-use Rattle.definitions.specs.Documents.{others_of, placed, resource_uris_of}
+use Rattle.definitions.specs.Documents.{documents_with, others_of, resource_uris_of}
 use Rattle.definitions.specs.Searches.{Search}
 use Rattle.definitions.specs.Keeping.{AreKept}
 
@@ -59,8 +59,8 @@ IsUnreached G uri canonical = (d : Document) → IsReached G uri d → d.canonic
 -- a document that is put changes no answer by a URI that reaches neither it nor the one that it replaces
 abbrev pub UnreachedPutsChangeNothing : Type 0
 UnreachedPutsChangeNothing =
-    (search : Search) (ds : List Document) (d : Document) (uri : Text) → AreKept search ds → AreKept search (placed d ds)
-    → IsUnreached ds uri d.canonical → IsUnreached (placed d ds) uri d.canonical → Agree ds (placed d ds) uri
+    (search : Search) (ds : List Document) (d : Document) (uri : Text) → AreKept search ds → AreKept search (documents_with d ds)
+    → IsUnreached ds uri d.canonical → IsUnreached (documents_with d ds) uri d.canonical → Agree ds (documents_with d ds) uri
 
 -- and a document that is deleted none by a URI that doesn't reach it
 abbrev pub UnreachedDeletesChangeNothing : Type 0

@@ -1,11 +1,11 @@
 -- What the laws say of the values that are read (RFC 8259).
 use Rattle.std.specs.Prelude.{◌≡◌, ℕ, Bool, true, ◌&&◌, Ok, IsTrue, length, nat_le}
 use Rattle.definitions.specs.Values.{Text, Value, null, boolean, integer, string, array, object, Elements, no_elements, element, Members, no_members, member, elements_list, is_well_formed}
-use Rattle.definitions.specs.Texts.{reading}
+use Rattle.definitions.specs.Texts.{parsed_value}
 
 -- a value that is read has whole numbers of 64 bits, texts in UTF-8, and each object's names in byte order, each once
 abbrev pub ReadValuesAreWellFormed : Type 0
-ReadValuesAreWellFormed = (bytes : Text) (v : Value) → reading bytes ≡ Ok v → IsTrue (is_well_formed v)
+ReadValuesAreWellFormed = (bytes : Text) (v : Value) → parsed_value bytes ≡ Ok v → IsTrue (is_well_formed v)
 
 -- no array in it has more elements than this
 abbrev mutual
@@ -27,4 +27,4 @@ abbrev mutual
 
 -- no array has more elements than the text has bytes
 abbrev pub ReadArraysAreShort : Type 0
-ReadArraysAreShort = (bytes : Text) (v : Value) → reading bytes ≡ Ok v → IsTrue (has_arrays_within (length bytes) v)
+ReadArraysAreShort = (bytes : Text) (v : Value) → parsed_value bytes ≡ Ok v → IsTrue (has_arrays_within (length bytes) v)

@@ -7,7 +7,7 @@ use Rattle.definitions.specs.Registries.{Registry, Reply, refused}
 use Rattle.definitions.specs.Searches.{Search}
 use Rattle.definitions.specs.Runs.{Course, IsAnswer, replies}
 use Rattle.definitions.specs.Keeping.{AreKept, IsKept}
-use Rattle.definitions.specs.Services.{KeyedRegistry, Call, registry_of, IsCallAnswer, CallCourse, own, replies_at, AllUnknown}
+use Rattle.definitions.specs.Services.{KeyedRegistry, Call, registry_of, IsCallAnswer, CallCourse, own_requests, replies_at, AllUnknown}
 use Rattle.definitions.specs.Tenants.{Tenant, new_server}
 use Rattle.definition_laws.specs.Laws.{NoneIsForRoom}
 
@@ -36,14 +36,14 @@ abbrev pub TenantsHaveTheirCourses : Type 0
 TenantsHaveTheirCourses =
     (search : Search) (ks ls : List KeyedRegistry) (cs : List Call) (rs : List Reply) (key : Text) (g : Registry)
     → CallCourse search ks cs rs ls → registry_of ks key ≡ Some g
-    → (h : Registry) × ((registry_of ls key ≡ Some h) × Course search g (own key cs) (replies_at key cs rs) h)
+    → (h : Registry) × ((registry_of ls key ≡ Some h) × Course search g (own_requests key cs) (replies_at key cs rs) h)
 
 -- and where none of them is for room, its replies are those to its own requests alone
 abbrev pub TenantsHaveTheirReplies : Type 0
 TenantsHaveTheirReplies =
     (search : Search) (ks ls : List KeyedRegistry) (cs : List Call) (rs : List Reply) (key : Text) (g : Registry)
-    → CallCourse search ks cs rs ls → registry_of ks key ≡ Some g → NoneIsForRoom search (own key cs) (replies_at key cs rs)
-    → replies_at key cs rs ≡ replies search g (own key cs)
+    → CallCourse search ks cs rs ls → registry_of ks key ≡ Some g → NoneIsForRoom search (own_requests key cs) (replies_at key cs rs)
+    → replies_at key cs rs ≡ replies search g (own_requests key cs)
 
 -- a key that no tenant has is refused each time
 abbrev pub UnknownKeysStayUnknown : Type 0

@@ -2,8 +2,8 @@
 use Rattle.std.specs.Prelude.{ℕ, zero, suc, decimal, List, [], ◌∷◌, ◌++◌, codes, Bool, Option, Some, None, Result, Ok, Err, option_map, option_and_then, map, not}
 use Rattle.std.specs.List.{list_any}
 use Rattle.definitions.specs.Values.{Text, Value, same_text}
-use Rattle.definitions.specs.Texts.{text, reading}
-use Rattle.definitions.specs.Faults.{Fault, name_of, carried}
+use Rattle.definitions.specs.Texts.{text, parsed_value}
+use Rattle.definitions.specs.Faults.{Fault, name_of, carried_text}
 use Rattle.definitions.specs.Pointers.{fragment_text}
 use Rattle.definitions.specs.Schemas.{Document, document_from, table_of}
 use Rattle.definitions.specs.Scanning.{scan_fault}
@@ -26,7 +26,7 @@ read_value (Ok v) = Some v
 read_value (Err f) = None
 
 abbrev pub parsed : Text → Option Value
-parsed t = read_value (reading t)
+parsed t = read_value (parsed_value t)
 
 -- a fault, by its name and the text that it carries
 pub data Told : Type 0 where
@@ -34,7 +34,7 @@ pub data Told : Type 0 where
   refused : Text → Option Text → Told
 
 abbrev pub told : Fault → Told
-told f = refused (name_of f) (carried f)
+told f = refused (name_of f) (carried_text f)
 
 -- ---- reading
 abbrev pub read_again : Result Value Fault → Told
@@ -43,7 +43,7 @@ read_again (Err f) = told f
 
 -- the text is read and written again
 abbrev pub rewritten : Text → Told
-rewritten t = read_again (reading t)
+rewritten t = read_again (parsed_value t)
 
 -- ---- scanning
 abbrev pub scanned : Text → Text → Option (Option Told)
@@ -91,8 +91,8 @@ pub data ToldReply : Type 0 where
   gave_at : ℕ → Text → Option Text → ToldReply
 
 abbrev pub told_reply : Reply → ToldReply
-told_reply (registry.refused f) = gave (name_of f) (carried f)
-told_reply (registry.refused_at k f) = gave_at k (name_of f) (carried f)
+told_reply (registry.refused f) = gave (name_of f) (carried_text f)
+told_reply (registry.refused_at k f) = gave_at k (name_of f) (carried_text f)
 told_reply r = was r
 
 abbrev pub reading_all_but : List Text → Search
@@ -118,7 +118,7 @@ pub data ToldLibrary : Type 0 where
 
 abbrev pub told_library : Result (List Document) Fault → ToldLibrary
 told_library (Ok ds) = holds (map (λ d. d.canonical) ds)
-told_library (Err f) = denied (name_of f) (carried f)
+told_library (Err f) = denied (name_of f) (carried_text f)
 
 abbrev pub library_told : Text → ToldLibrary
 library_told bytes = told_library (library_of (reading_all_but []) bytes)

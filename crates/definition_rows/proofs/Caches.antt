@@ -2,12 +2,12 @@
 use Rattle.std.proofs.Common.{◌≡◌, refl}
 use Rattle.std.specs.Prelude.{ℕ, List, [], ◌∷◌, codes, true, false}
 use Rattle.definitions.specs.Values.{Text}
-use Rattle.definitions.specs.Caches.{Cache, CacheKey, is_capacity, used}
+use Rattle.definitions.specs.Caches.{Cache, CacheKey, cache_after_use, is_capacity}
 
 -- asked for in turn, from an empty cache on
 abbrev kept : ℕ → List CacheKey → Cache
 kept capacity [] = record { keys = []; capacity = capacity }
-kept capacity (k ∷ ks) = used (kept capacity ks) k
+kept capacity (k ∷ ks) = cache_after_use (kept capacity ks) k
 
 abbrev at : Text → CacheKey
 at base = (base, codes "{}")

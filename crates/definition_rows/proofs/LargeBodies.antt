@@ -5,12 +5,12 @@ use Rattle.std.proofs.lemmas.List.{length-replicate}
 use Rattle.definitions.specs.Bytes.{space}
 use Rattle.definitions.specs.Values.{Text}
 use Rattle.definitions.specs.Faults.{too_large}
-use Rattle.definitions.specs.Texts.{reading}
+use Rattle.definitions.specs.Texts.{parsed_value}
 use Rattle.definitions.specs.Searches.{Search}
 use Rattle.definitions.specs.Registries.{Registry, put, validate, batch, refused, body_value}
 use Rattle.definitions.specs.Steps.{step}
 
-read_still : (body : Text) → length body ≡ 1048576 → body_value body ≡ reading body
+read_still : (body : Text) → length body ≡ 1048576 → body_value body ≡ parsed_value body
 read_still body e = rw e refl
 
 read_no_more : (body : Text) → length body ≡ 1048577 → body_value body ≡ Err too_large

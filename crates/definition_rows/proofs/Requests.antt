@@ -12,7 +12,7 @@ use Rattle.definitions.specs.Limits.{limits}
 use Rattle.definitions.specs.Values.{null}
 use Rattle.definitions.specs.Faults.{too_large, bundle_too_large}
 use Rattle.definitions.specs.Outcomes.{object_outcome, outcome}
-use Rattle.definitions.specs.Bundles.{sized_within}
+use Rattle.definitions.specs.Bundles.{value_within_limits}
 use Rattle.definitions.specs.Registries.{put, delete, validate, bundled_from, stored, deleted, validated, bundled, body_within}
 use Rattle.definition_rows.proofs.Asked.{replied, replied_matching, reached, was, gave}
 
@@ -213,10 +213,10 @@ body_that_fits = refl
 body_too_large : body_within (record limits { body_bytes = 3 }) (codes "null") ≡ Err too_large
 body_too_large = refl
 
-bundle_that_fits : sized_within (record limits { bundle_bytes = 4 }) null ≡ Ok null
+bundle_that_fits : value_within_limits (record limits { bundle_bytes = 4 }) null ≡ Ok null
 unfolding digits is_utf8 chars
 bundle_that_fits = refl
 
-bundle_of_too_many_bytes : sized_within (record limits { bundle_bytes = 3 }) null ≡ Err bundle_too_large
+bundle_of_too_many_bytes : value_within_limits (record limits { bundle_bytes = 3 }) null ≡ Err bundle_too_large
 unfolding digits is_utf8 chars
 bundle_of_too_many_bytes = refl

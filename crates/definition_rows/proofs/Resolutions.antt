@@ -3,7 +3,7 @@ use Rattle.std.proofs.Common.{◌≡◌, refl}
 use Rattle.std.specs.Prelude.{List, [], ◌∷◌, codes, map, Ok, Err}
 use Rattle.definitions.specs.Values.{Text}
 use Rattle.definitions.specs.Faults.{bad_uri}
-use Rattle.definitions.specs.Resolution.{resolved, base_form}
+use Rattle.definitions.specs.Resolution.{target_uri, base_form}
 
 -- each reference, and what it is against `http://a/b/c/d;p?q`
 examples : List (Text × Text)
@@ -51,11 +51,11 @@ examples =
     ∷ (codes "g#s/../x", codes "http://a/b/c/g#s/../x")
     ∷ (codes "http:g", codes "http:g") ∷ []
 
-examples_resolve : map (λ e. resolved (codes "http://a/b/c/d;p?q") e.0) examples ≡ map (λ e. e.1) examples
+examples_resolve : map (λ e. target_uri (codes "http://a/b/c/d;p?q") e.0) examples ≡ map (λ e. e.1) examples
 unfolding examples
 examples_resolve = refl
 
-no_authority : resolved (codes "urn:x:y") (codes "b") ≡ codes "urn:b"
+no_authority : target_uri (codes "urn:x:y") (codes "b") ≡ codes "urn:b"
 no_authority = refl
 
 -- ---- the URI of a request

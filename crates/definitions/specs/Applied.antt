@@ -3,7 +3,7 @@ use Rattle.std.specs.Prelude.{ℕ, List, [], ◌∷◌, ◌++◌, Bool, true, fa
 use Rattle.std.specs.List.{list_any, enumerate_from}
 use Rattle.definitions.specs.Values.{Text, Value, null, string, same_text, get, elements, members}
 use Rattle.definitions.specs.Pointers.{Pointer}
-use Rattle.definitions.specs.Keywords.{Keyword, Meaning, refers, refers_dynamically, all_of, any_of, one_of, negated, condition, consequence, dependent_schemas, prefix_items, rest_items, some_item, properties, pattern_properties, other_properties, property_names, unevaluated_items, unevaluated_properties}
+use Rattle.definitions.specs.Keywords.{Keyword, Meaning, refers, refers_dynamically, all_of, any_of, one_of, negation, condition, consequence, dependent_schemas, prefix_items, items, contains, properties, pattern_properties, additional_properties, property_names, unevaluated_items, unevaluated_properties}
 use Rattle.definitions.specs.Schemas.{Schema, Identity, identity, below, reference_at}
 use Rattle.definitions.specs.Targets.{target, dynamic_target}
 
@@ -60,22 +60,22 @@ part_place p (named n) = record p { pointer = p.pointer ++ n ∷ [] }
 part_place p (indexed i) = record p { pointer = p.pointer ++ decimal i ∷ [] }
 part_place p (name_of n) = record p { name = Some n }
 
-abbrev pub applying : Application → Pointer → Schema → Part → Value → Application
-applying a way s part x = record a { schema = s; path = a.path ++ way; place = part_place a.place part; instance = x }
+abbrev pub part_application : Application → Pointer → Schema → Part → Value → Application
+part_application a way s part x = record a { schema = s; path = a.path ++ way; place = part_place a.place part; instance = x }
 
 -- the schema v, which stands that way below the keyword's object, at a part of the instance
 abbrev pub at_part : Application → Pointer → Value → Part → Value → Part × Application
-at_part a way v part x = (part, applying a way (below a.schema way v) part x)
+at_part a way v part x = (part, part_application a way (below a.schema way v) part x)
 
 abbrev pub in_place : Application → Pointer → Value → Part × Application
 in_place a way v = at_part a way v whole a.instance
 
 abbrev pub to_target : Application → Text → Option Schema → List (Part × Application)
 to_target a keyword None = []
-to_target a keyword (Some s) = (whole, applying a (keyword ∷ []) s whole a.instance) ∷ []
+to_target a keyword (Some s) = (whole, part_application a (keyword ∷ []) s whole a.instance) ∷ []
 
-abbrev pub each_listed : Application → Text → Value → List (Part × Application)
-each_listed a keyword v = map (λ e. in_place a (keyword ∷ decimal e.0 ∷ []) e.1) (enumerate_from 0 (elements v))
+abbrev pub list_applications : Application → Text → Value → List (Part × Application)
+list_applications a keyword v = map (λ e. in_place a (keyword ∷ decimal e.0 ∷ []) e.1) (enumerate_from 0 (elements v))
 
 -- one schema at each of these elements, numbered from i
 abbrev pub at_items : Application → Text → Value → ℕ → List Value → List (Part × Application)
@@ -103,8 +103,8 @@ at_present a keyword m None = []
 at_present a keyword m (Some x) = at_part a (keyword ∷ m.0 ∷ []) m.1 (named m.0) x ∷ []
 
 -- the scope and the schemas running, for what this object applies
-abbrev pub entered : Application → Application
-entered a = record a { scope = a.scope ++ a.schema.resource ∷ []; running = a.running ++ (identity a.schema, a.place) ∷ [] }
+abbrev pub application_within : Application → Application
+application_within a = record a { scope = a.scope ++ a.schema.resource ∷ []; running = a.running ++ (identity a.schema, a.place) ∷ [] }
 
 -- the outcomes of `if`, and of `contains`
 abbrev pub condition_outcome : (Application → Outcome) → Application → Option Outcome
@@ -121,28 +121,28 @@ is_taken rules a name =
     || list_any (λ p. rules.matches p.0 name) (members (beside a (codes "patternProperties")))
 
 -- run gives the outcome of an application; names and indexes are those that all keywords but the unevaluated ones evaluated
-abbrev pub applied : Rules → (Application → Outcome) → List Text → List ℕ → Application → Text → Meaning → Value → List (Part × Application)
-applied rules run names indexes a k refers v = to_target a k (option_and_then (target rules.schemas) (reference_at k a.schema))
-applied rules run names indexes a k refers_dynamically v = to_target a k (option_and_then (dynamic_target rules.schemas a.scope) (reference_at k a.schema))
-applied rules run names indexes a k all_of v = each_listed a k v
-applied rules run names indexes a k any_of v = each_listed a k v
-applied rules run names indexes a k one_of v = each_listed a k v
-applied rules run names indexes a k negated v = in_place a (k ∷ []) v ∷ []
-applied rules run names indexes a k condition v = in_place a (k ∷ []) v ∷ []
-applied rules run names indexes a k (consequence wanted) v = consequence_of a k wanted v (condition_outcome run a)
-applied rules run names indexes a k dependent_schemas v =
+abbrev pub keyword_applications : Rules → (Application → Outcome) → List Text → List ℕ → Application → Text → Meaning → Value → List (Part × Application)
+keyword_applications rules run names indexes a k refers v = to_target a k (option_and_then (target rules.schemas) (reference_at k a.schema))
+keyword_applications rules run names indexes a k refers_dynamically v = to_target a k (option_and_then (dynamic_target rules.schemas a.scope) (reference_at k a.schema))
+keyword_applications rules run names indexes a k all_of v = list_applications a k v
+keyword_applications rules run names indexes a k any_of v = list_applications a k v
+keyword_applications rules run names indexes a k one_of v = list_applications a k v
+keyword_applications rules run names indexes a k negation v = in_place a (k ∷ []) v ∷ []
+keyword_applications rules run names indexes a k condition v = in_place a (k ∷ []) v ∷ []
+keyword_applications rules run names indexes a k (consequence wanted) v = consequence_of a k wanted v (condition_outcome run a)
+keyword_applications rules run names indexes a k dependent_schemas v =
     map (λ m. in_place a (k ∷ m.0 ∷ []) m.1) (filter (λ m. is_some (get m.0 a.instance)) (members v))
-applied rules run names indexes a k prefix_items v =
+keyword_applications rules run names indexes a k prefix_items v =
     map (λ e. at_part a (k ∷ decimal (e.0).0 ∷ []) (e.0).1 (indexed (e.0).0) e.1) (zip (enumerate_from 0 (elements v)) (elements a.instance))
-applied rules run names indexes a k rest_items v =
+keyword_applications rules run names indexes a k items v =
     let start = length (elements (beside a (codes "prefixItems"))) in at_items a k v start (drop start (elements a.instance))
-applied rules run names indexes a k some_item v = at_items a k v 0 (elements a.instance)
-applied rules run names indexes a k properties v = flat_map (λ m. at_present a k m (get m.0 a.instance)) (members v)
-applied rules run names indexes a k pattern_properties v =
+keyword_applications rules run names indexes a k contains v = at_items a k v 0 (elements a.instance)
+keyword_applications rules run names indexes a k properties v = flat_map (λ m. at_present a k m (get m.0 a.instance)) (members v)
+keyword_applications rules run names indexes a k pattern_properties v =
     flat_map (λ m. map (λ p. at_part a (k ∷ p.0 ∷ []) p.1 (named m.0) m.1) (filter (λ p. rules.matches p.0 m.0) (members v))) (members a.instance)
-applied rules run names indexes a k other_properties v = at_members a k v (filter (λ m. not (is_taken rules a m.0)) (members a.instance))
-applied rules run names indexes a k property_names v = map (λ m. at_part a (k ∷ []) v (name_of m.0) (string m.0)) (members a.instance)
-applied rules run names indexes a k unevaluated_items v =
+keyword_applications rules run names indexes a k additional_properties v = at_members a k v (filter (λ m. not (is_taken rules a m.0)) (members a.instance))
+keyword_applications rules run names indexes a k property_names v = map (λ m. at_part a (k ∷ []) v (name_of m.0) (string m.0)) (members a.instance)
+keyword_applications rules run names indexes a k unevaluated_items v =
     map (λ e. at_part a (k ∷ []) v (indexed e.0) e.1) (filter (λ e. not (list_any (λ i. i == e.0) indexes)) (enumerate_from 0 (elements a.instance)))
-applied rules run names indexes a k unevaluated_properties v = at_members a k v (filter (λ m. not (has m.0 names)) (members a.instance))
-applied rules run names indexes a k _ v = []
+keyword_applications rules run names indexes a k unevaluated_properties v = at_members a k v (filter (λ m. not (has m.0 names)) (members a.instance))
+keyword_applications rules run names indexes a k _ v = []

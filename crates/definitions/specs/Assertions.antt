@@ -124,25 +124,25 @@ has_dependents (object ms) (object ds) =
 has_dependents _ _ = true
 
 -- ---- what each asks of the instance
-abbrev pub asserted : Assertion → Value → Value → Bool
-asserted type_is v x = is_of_types x v
-asserted enum_of v x = is_one_of x v
-asserted const_is v x = same v x
-asserted multiple_of v x = on_integer (λ y. is_multiple y v) x
-asserted maximum v x = are_ordered int_le x v
-asserted exclusive_maximum v x = are_ordered int_lt x v
-asserted minimum v x = are_ordered int_le v x
-asserted exclusive_minimum v x = are_ordered int_lt v x
-asserted max_length v x = on_length (is_at_most v) x
-asserted min_length v x = on_length (is_at_least v) x
-asserted max_properties v x = on_members (is_at_most v) x
-asserted min_properties v x = on_members (is_at_least v) x
-asserted required v x = has_names x v
-asserted dependent_required v x = has_dependents x v
-asserted max_items v x = on_elements (is_at_most v) x
-asserted min_items v x = on_elements (is_at_least v) x
-asserted unique_items v x = is_unique_if v x
+abbrev pub assertion_holds : Assertion → Value → Value → Bool
+assertion_holds type_is v x = is_of_types x v
+assertion_holds enum_of v x = is_one_of x v
+assertion_holds const_is v x = same v x
+assertion_holds multiple_of v x = on_integer (λ y. is_multiple y v) x
+assertion_holds maximum v x = are_ordered int_le x v
+assertion_holds exclusive_maximum v x = are_ordered int_lt x v
+assertion_holds minimum v x = are_ordered int_le v x
+assertion_holds exclusive_minimum v x = are_ordered int_lt v x
+assertion_holds max_length v x = on_length (is_at_most v) x
+assertion_holds min_length v x = on_length (is_at_least v) x
+assertion_holds max_properties v x = on_members (is_at_most v) x
+assertion_holds min_properties v x = on_members (is_at_least v) x
+assertion_holds required v x = has_names x v
+assertion_holds dependent_required v x = has_dependents x v
+assertion_holds max_items v x = on_elements (is_at_most v) x
+assertion_holds min_items v x = on_elements (is_at_least v) x
+assertion_holds unique_items v x = is_unique_if v x
 
 -- the keyword with this value holds of the instance. A value of another shape asks for nothing
 abbrev pub holds : Assertion → Value → Value → Bool
-holds a v x = not (has_shape (shape_of a) v) || asserted a v x
+holds a v x = not (has_shape (shape_of a) v) || assertion_holds a v x

@@ -24,31 +24,31 @@ with_member n v w = w
 abbrev pub under_its_uri : Document → Value
 under_its_uri d = with_member (codes "$id") (string d.canonical) d.value
 
-abbrev pub embedded : List Document → List (Text × Value) → List (Text × Value)
-embedded [] ms = ms
-embedded (d ∷ ds) ms = put_member d.canonical (under_its_uri d) (embedded ds ms)
+abbrev pub members_with_documents : List Document → List (Text × Value) → List (Text × Value)
+members_with_documents [] ms = ms
+members_with_documents (d ∷ ds) ms = put_member d.canonical (under_its_uri d) (members_with_documents ds ms)
 
 abbrev pub defs_of : Value → List (Text × Value)
 defs_of v = members (unwrap_or (get (codes "$defs") v) (object no_members))
 
 abbrev pub bundle_of : Document → List Document → Value
 bundle_of root [] = under_its_uri root
-bundle_of root (d ∷ ds) = with_member (codes "$defs") (object (to_members (embedded (d ∷ ds) (defs_of root.value)))) (under_its_uri root)
+bundle_of root (d ∷ ds) = with_member (codes "$defs") (object (to_members (members_with_documents (d ∷ ds) (defs_of root.value)))) (under_its_uri root)
 
 -- the least canonical URI of the others that is a key of the root's `$defs` already
 abbrev pub clash : Document → List Document → Option Text
 clash root ds = least (filter (λ n. is_some (entry n (defs_of root.value))) (map (λ d. d.canonical) ds))
 
 -- ---- with its limits
-abbrev pub sized_within : Limits → Value → Result Value Fault
-sized_within most v = if nat_lt most.bundle_bytes (length (text v)) || nat_lt most.bundle_nesting (nesting v) then Err bundle_too_large else Ok v
+abbrev pub value_within_limits : Limits → Value → Result Value Fault
+value_within_limits most v = if nat_lt most.bundle_bytes (length (text v)) || nat_lt most.bundle_nesting (nesting v) then Err bundle_too_large else Ok v
 
-abbrev pub sized : Value → Result Value Fault
-sized = sized_within limits
+abbrev pub value_or_too_large : Value → Result Value Fault
+value_or_too_large = value_within_limits limits
 
 abbrev pub bundle_unless : Option Text → Document → List Document → Result Value Fault
 bundle_unless (Some key) root ds = Err (bundle_clash key)
-bundle_unless None root ds = sized (bundle_of root ds)
+bundle_unless None root ds = value_or_too_large (bundle_of root ds)
 
 abbrev pub bundle_from : Option Document → List Document → Result Value Fault
 bundle_from None ds = Err not_found

@@ -20,12 +20,12 @@ pub record Cache : Type 0 where
   pub capacity : ℕ
 
 -- the key was asked for: it comes first, then the others, as many as there may be
-abbrev pub used : Cache → CacheKey → Cache
-used c k = record c { keys = take c.capacity (k ∷ filter (λ l. not (same_key k l)) c.keys) }
+abbrev pub cache_after_use : Cache → CacheKey → Cache
+cache_after_use c k = record c { keys = take c.capacity (k ∷ filter (λ l. not (same_key k l)) c.keys) }
 
 abbrev pub has_key : Cache → CacheKey → Bool
 has_key c k = list_any (same_key k) c.keys
 
 -- the key was used, or it is new and found no memory
 abbrev pub IsUsed : Cache → CacheKey → Cache → Type 0
-IsUsed before k after = (after ≡ used before k) ⊎ ((after ≡ before) × (has_key before k ≡ false))
+IsUsed before k after = (after ≡ cache_after_use before k) ⊎ ((after ≡ before) × (has_key before k ≡ false))

@@ -19,19 +19,19 @@ abbrev pub others_of : Text → List Document → List Document
 others_of uri = filter (λ d. not (same_text uri d.canonical))
 
 -- at its place in byte order, instead of the one with its canonical URI
-abbrev pub placed : Document → List Document → List Document
-placed d [] = d ∷ []
-placed d (e ∷ es) = match_ordering (slice_cmp nat_cmp d.canonical e.canonical) (d ∷ e ∷ es) (d ∷ es) (e ∷ placed d es)
+abbrev pub documents_with : Document → List Document → List Document
+documents_with d [] = d ∷ []
+documents_with d (e ∷ es) = match_ordering (slice_cmp nat_cmp d.canonical e.canonical) (d ∷ e ∷ es) (d ∷ es) (e ∷ documents_with d es)
 
 -- one after the other
-abbrev pub placed_all : List Document → List Document → List Document
-placed_all [] ds = ds
-placed_all (e ∷ es) ds = placed_all es (placed e ds)
+abbrev pub documents_with_all : List Document → List Document → List Document
+documents_with_all [] ds = ds
+documents_with_all (e ∷ es) ds = documents_with_all es (documents_with e ds)
 
 -- both, in byte order, where no canonical URI is in both
-abbrev pub joined : List Document → List Document → List Document
-joined [] ds = ds
-joined (l ∷ ls) ds = placed l (joined ls ds)
+abbrev pub documents_of_both : List Document → List Document → List Document
+documents_of_both [] ds = ds
+documents_of_both (l ∷ ls) ds = documents_with l (documents_of_both ls ds)
 
 abbrev pub canonicals : List Document → List Text
 canonicals ds = map (λ d. d.canonical) ds

@@ -4,11 +4,11 @@ use Rattle.std.specs.List.{list_all}
 use Rattle.definitions.specs.Values.{Text, Value, boolean, integer, string, array, to_elements, same_text, get, elements, is_array, is_object, is_string}
 use Rattle.definitions.specs.Uris.{begins}
 use Rattle.definitions.specs.Assertions.{holds, is_at_most, is_at_least}
-use Rattle.definitions.specs.Keywords.{Meaning, asserts, matches_pattern, refers, refers_dynamically, any_of, one_of, negated, condition, some_item, at_least_items, at_most_items, properties, pattern_properties, other_properties, prefix_items, rest_items, property_names, unevaluated_items, unevaluated_properties, keywords, is_keyword_of}
+use Rattle.definitions.specs.Keywords.{Meaning, asserts, matches_pattern, refers, refers_dynamically, any_of, one_of, negation, condition, contains, min_contains, max_contains, properties, pattern_properties, additional_properties, prefix_items, items, property_names, unevaluated_items, unevaluated_properties, keywords, is_keyword_of}
 use Rattle.definitions.specs.Applied.{Application, Outcome, Part, whole, named, indexed, Rules, beside, has, contains_outcomes}
 
-abbrev pub passing : List (Part × Outcome) → ℕ
-passing os = count_by (λ o. o.1.valid) os
+abbrev pub pass_count : List (Part × Outcome) → ℕ
+pass_count os = count_by (λ o. o.1.valid) os
 
 abbrev pub all_pass : List (Part × Outcome) → Bool
 all_pass os = list_all (λ o. o.1.valid) os
@@ -31,15 +31,15 @@ pattern_holds matches _ _ = true
 abbrev pub keyword_passes : Rules → (Application → Outcome) → Application → Text → Meaning → Value → List (Part × Outcome) → Bool
 keyword_passes rules run a k (asserts assertion) v os = holds assertion v a.instance
 keyword_passes rules run a k matches_pattern v os = pattern_holds rules.matches v a.instance
-keyword_passes rules run a k refers v os = passing os == 1
-keyword_passes rules run a k refers_dynamically v os = passing os == 1
-keyword_passes rules run a k any_of v os = nat_lt 0 (passing os)
-keyword_passes rules run a k one_of v os = passing os == 1
-keyword_passes rules run a k negated v os = passing os == 0
+keyword_passes rules run a k refers v os = pass_count os == 1
+keyword_passes rules run a k refers_dynamically v os = pass_count os == 1
+keyword_passes rules run a k any_of v os = nat_lt 0 (pass_count os)
+keyword_passes rules run a k one_of v os = pass_count os == 1
+keyword_passes rules run a k negation v os = pass_count os == 0
 keyword_passes rules run a k condition v os = true
-keyword_passes rules run a k some_item v os = not (is_array a.instance) || (nat_lt 0 (passing os) || needs_none (beside a (codes "minContains")))
-keyword_passes rules run a k at_least_items v os = contains_holds (is_at_least v) (is_array a.instance) (contains_outcomes run a)
-keyword_passes rules run a k at_most_items v os = contains_holds (is_at_most v) (is_array a.instance) (contains_outcomes run a)
+keyword_passes rules run a k contains v os = not (is_array a.instance) || (nat_lt 0 (pass_count os) || needs_none (beside a (codes "minContains")))
+keyword_passes rules run a k min_contains v os = contains_holds (is_at_least v) (is_array a.instance) (contains_outcomes run a)
+keyword_passes rules run a k max_contains v os = contains_holds (is_at_most v) (is_array a.instance) (contains_outcomes run a)
 keyword_passes rules run a k _ v os = all_pass os
 
 -- ---- what a use of a keyword evaluates (11)
@@ -58,21 +58,21 @@ is_in_place whole = true
 is_in_place _ = false
 
 -- of what passed
-abbrev pub passed : List (Part × Outcome) → List (Part × Outcome)
-passed os = filter (λ o. o.1.valid) os
+abbrev pub outcomes_that_pass : List (Part × Outcome) → List (Part × Outcome)
+outcomes_that_pass os = filter (λ o. o.1.valid) os
 
-abbrev pub failed : List (Part × Outcome) → List (Part × Outcome)
-failed os = filter (λ o. not o.1.valid) os
+abbrev pub outcomes_that_fail : List (Part × Outcome) → List (Part × Outcome)
+outcomes_that_fail os = filter (λ o. not o.1.valid) os
 
 abbrev pub evaluated_names : Meaning → List (Part × Outcome) → List Text
-evaluated_names negated os = []
+evaluated_names negation os = []
 evaluated_names property_names os = []
-evaluated_names _ os = part_names os ++ flat_map (λ o. if is_in_place o.0 then o.1.names else []) (passed os)
+evaluated_names _ os = part_names os ++ flat_map (λ o. if is_in_place o.0 then o.1.names else []) (outcomes_that_pass os)
 
 abbrev pub evaluated_indexes : Meaning → List (Part × Outcome) → List ℕ
-evaluated_indexes negated os = []
-evaluated_indexes some_item os = part_indexes (passed os)
-evaluated_indexes _ os = part_indexes os ++ flat_map (λ o. if is_in_place o.0 then o.1.indexes else []) (passed os)
+evaluated_indexes negation os = []
+evaluated_indexes contains os = part_indexes (outcomes_that_pass os)
+evaluated_indexes _ os = part_indexes os ++ flat_map (λ o. if is_in_place o.0 then o.1.indexes else []) (outcomes_that_pass os)
 
 -- ---- annotations (12.4.2)
 abbrev pub names_value : List (Part × Outcome) → Value
@@ -88,26 +88,26 @@ last_index [] = 0
 last_index (i ∷ []) = i
 last_index (i ∷ j ∷ is) = last_index (j ∷ is)
 
-abbrev pub if_some_applied : List (Part × Outcome) → Value → Option Value
-if_some_applied [] v = None
-if_some_applied (o ∷ os) v = Some v
+abbrev pub value_if_any_apply : List (Part × Outcome) → Value → Option Value
+value_if_any_apply [] v = None
+value_if_any_apply (o ∷ os) v = Some v
 
 abbrev pub annotation_of : Application → Meaning → List (Part × Outcome) → Option Value
 annotation_of a properties os = if is_object a.instance then Some (names_value os) else None
 annotation_of a pattern_properties os =
     if is_object a.instance then Some (array (to_elements (map string (once (part_names os))))) else None
-annotation_of a other_properties os = if is_object a.instance then Some (names_value os) else None
+annotation_of a additional_properties os = if is_object a.instance then Some (names_value os) else None
 annotation_of a unevaluated_properties os = if is_object a.instance then Some (names_value os) else None
 annotation_of a prefix_items os =
-    if_some_applied os (if length os == length (elements a.instance) then boolean true else integer (pos (last_index (part_indexes os))))
-annotation_of a rest_items os = if_some_applied os (boolean true)
-annotation_of a unevaluated_items os = if_some_applied os (boolean true)
-annotation_of a some_item os =
-    if is_array a.instance then Some (array (to_elements (map (λ i. integer (pos i)) (part_indexes (passed os))))) else None
+    value_if_any_apply os (if length os == length (elements a.instance) then boolean true else integer (pos (last_index (part_indexes os))))
+annotation_of a items os = value_if_any_apply os (boolean true)
+annotation_of a unevaluated_items os = value_if_any_apply os (boolean true)
+annotation_of a contains os =
+    if is_array a.instance then Some (array (to_elements (map (λ i. integer (pos i)) (part_indexes (outcomes_that_pass os))))) else None
 annotation_of a _ os = None
 
 abbrev pub may_annotate : Meaning → Bool
-may_annotate negated = false
+may_annotate negation = false
 may_annotate property_names = false
 may_annotate _ = true
 

@@ -107,10 +107,10 @@ abbrev pub status_of : Fault → Option ℕ
 status_of f = (row_of f).2
 
 -- the text that it carries
-abbrev pub carried : Fault → Option Text
-carried (bad_keyword at) = Some at
-carried (unresolved at) = Some at
-carried (bundle_clash at) = Some at
-carried (taken at) = Some at
-carried (same_document at) = Some at
-carried _ = None
+abbrev pub carried_text : Fault → Option Text
+carried_text (bad_keyword at) = Some at
+carried_text (unresolved at) = Some at
+carried_text (bundle_clash at) = Some at
+carried_text (taken at) = Some at
+carried_text (same_document at) = Some at
+carried_text _ = None

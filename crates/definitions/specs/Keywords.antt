@@ -14,19 +14,19 @@ pub data Meaning : Type 0 where
   all_of : Meaning
   any_of : Meaning
   one_of : Meaning
-  negated : Meaning
+  negation : Meaning
   condition : Meaning
   -- where the condition passed, or where it failed
   consequence : Bool → Meaning
   dependent_schemas : Meaning
   prefix_items : Meaning
-  rest_items : Meaning
-  some_item : Meaning
-  at_least_items : Meaning
-  at_most_items : Meaning
+  items : Meaning
+  contains : Meaning
+  min_contains : Meaning
+  max_contains : Meaning
   properties : Meaning
   pattern_properties : Meaning
-  other_properties : Meaning
+  additional_properties : Meaning
   property_names : Meaning
   unevaluated_items : Meaning
   unevaluated_properties : Meaning
@@ -41,47 +41,47 @@ pub record Keyword : Type 0 where
 abbrev pub row : Text → Shape → Meaning → Keyword
 row name shape meaning = record { name = name; shape = shape; meaning = meaning }
 
-abbrev pub asserting : Text → Assertion → Keyword
-asserting name a = row name (shape_of a) (asserts a)
+abbrev pub assertion_row : Text → Assertion → Keyword
+assertion_row name a = row name (shape_of a) (asserts a)
 
 abbrev pub keywords : List Keyword
 keywords =
     row (codes "$ref") reference refers
     ∷ row (codes "$dynamicRef") reference refers_dynamically
-    ∷ asserting (codes "type") type_is
-    ∷ asserting (codes "enum") enum_of
-    ∷ asserting (codes "const") const_is
-    ∷ asserting (codes "multipleOf") multiple_of
-    ∷ asserting (codes "maximum") maximum
-    ∷ asserting (codes "exclusiveMaximum") exclusive_maximum
-    ∷ asserting (codes "minimum") minimum
-    ∷ asserting (codes "exclusiveMinimum") exclusive_minimum
-    ∷ asserting (codes "maxLength") max_length
-    ∷ asserting (codes "minLength") min_length
+    ∷ assertion_row (codes "type") type_is
+    ∷ assertion_row (codes "enum") enum_of
+    ∷ assertion_row (codes "const") const_is
+    ∷ assertion_row (codes "multipleOf") multiple_of
+    ∷ assertion_row (codes "maximum") maximum
+    ∷ assertion_row (codes "exclusiveMaximum") exclusive_maximum
+    ∷ assertion_row (codes "minimum") minimum
+    ∷ assertion_row (codes "exclusiveMinimum") exclusive_minimum
+    ∷ assertion_row (codes "maxLength") max_length
+    ∷ assertion_row (codes "minLength") min_length
     ∷ row (codes "pattern") any_text matches_pattern
-    ∷ asserting (codes "maxProperties") max_properties
-    ∷ asserting (codes "minProperties") min_properties
-    ∷ asserting (codes "required") required
-    ∷ asserting (codes "dependentRequired") dependent_required
-    ∷ asserting (codes "maxItems") max_items
-    ∷ asserting (codes "minItems") min_items
-    ∷ asserting (codes "uniqueItems") unique_items
+    ∷ assertion_row (codes "maxProperties") max_properties
+    ∷ assertion_row (codes "minProperties") min_properties
+    ∷ assertion_row (codes "required") required
+    ∷ assertion_row (codes "dependentRequired") dependent_required
+    ∷ assertion_row (codes "maxItems") max_items
+    ∷ assertion_row (codes "minItems") min_items
+    ∷ assertion_row (codes "uniqueItems") unique_items
     ∷ row (codes "allOf") schema_list all_of
     ∷ row (codes "anyOf") schema_list any_of
     ∷ row (codes "oneOf") schema_list one_of
-    ∷ row (codes "not") one_schema negated
+    ∷ row (codes "not") one_schema negation
     ∷ row (codes "if") one_schema condition
     ∷ row (codes "then") one_schema (consequence true)
     ∷ row (codes "else") one_schema (consequence false)
     ∷ row (codes "dependentSchemas") schema_map dependent_schemas
     ∷ row (codes "prefixItems") schema_list prefix_items
-    ∷ row (codes "items") one_schema rest_items
-    ∷ row (codes "contains") one_schema some_item
-    ∷ row (codes "minContains") size at_least_items
-    ∷ row (codes "maxContains") size at_most_items
+    ∷ row (codes "items") one_schema items
+    ∷ row (codes "contains") one_schema contains
+    ∷ row (codes "minContains") size min_contains
+    ∷ row (codes "maxContains") size max_contains
     ∷ row (codes "properties") schema_map properties
     ∷ row (codes "patternProperties") schema_map pattern_properties
-    ∷ row (codes "additionalProperties") one_schema other_properties
+    ∷ row (codes "additionalProperties") one_schema additional_properties
     ∷ row (codes "propertyNames") one_schema property_names
     ∷ row (codes "unevaluatedItems") one_schema unevaluated_items
     ∷ row (codes "unevaluatedProperties") one_schema unevaluated_properties

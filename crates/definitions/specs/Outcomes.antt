@@ -5,8 +5,8 @@ use Rattle.definitions.specs.Values.{Text, Value, boolean, string, same_text, ge
 use Rattle.definitions.specs.Pointers.{same_pointer}
 use Rattle.definitions.specs.Keywords.{Keyword, Meaning, looks_at_evaluated}
 use Rattle.definitions.specs.Schemas.{identity, same_identity}
-use Rattle.definitions.specs.Applied.{Application, OutputUnit, Outcome, Part, Place, Rules, entered, applied}
-use Rattle.definitions.specs.Evaluated.{passed, failed, keyword_passes, evaluated_names, evaluated_indexes, annotation_of, may_annotate, is_annotation}
+use Rattle.definitions.specs.Applied.{Application, OutputUnit, Outcome, Part, Place, Rules, application_within, keyword_applications}
+use Rattle.definitions.specs.Evaluated.{outcomes_that_pass, outcomes_that_fail, keyword_passes, evaluated_names, evaluated_indexes, annotation_of, may_annotate, is_annotation}
 
 -- what a schema object does with one of its keywords
 pub record Use : Type 0 where
@@ -34,7 +34,7 @@ own_annotation a u None = []
 own_annotation a u (Some v) = unit a u.keyword v ∷ []
 
 abbrev pub use_annotations : Application → Use → List OutputUnit
-use_annotations a u = own_annotation a u u.annotation ++ (if u.annotates then flat_map (λ o. o.1.annotations) (passed u.outcomes) else [])
+use_annotations a u = own_annotation a u u.annotation ++ (if u.annotates then flat_map (λ o. o.1.annotations) (outcomes_that_pass u.outcomes) else [])
 
 abbrev pub other_annotations : Application → List OutputUnit
 other_annotations a =
@@ -42,11 +42,11 @@ other_annotations a =
 
 abbrev pub use_errors : Application → Use → List OutputUnit
 use_errors a u =
-    if u.passes then [] else unit a u.keyword (string (u.keyword ++ codes " is not met")) ∷ flat_map (λ o. o.1.errors) (failed u.outcomes)
+    if u.passes then [] else unit a u.keyword (string (u.keyword ++ codes " is not met")) ∷ flat_map (λ o. o.1.errors) (outcomes_that_fail u.outcomes)
 
 -- ---- the whole of an object
-abbrev pub combined : Application → List Use → Outcome
-combined a us =
+abbrev pub outcome_of_uses : Application → List Use → Outcome
+outcome_of_uses a us =
     let valid = list_all (λ u. u.passes) us in
     record {
       valid = valid;
@@ -71,22 +71,22 @@ module _ (rules : Rules) (run : Application → Outcome) where
     annotates = may_annotate meaning;
   }
 
-  abbrev pub used : List Text → List ℕ → Application → Keyword → Option Value → List Use
-  used names indexes a k None = []
-  used names indexes a k (Some v) =
-      use_of a k.name k.meaning v (map (λ e. (e.0, run e.1)) (applied rules run names indexes a k.name k.meaning v)) ∷ []
+  abbrev pub uses_by_keyword : List Text → List ℕ → Application → Keyword → Option Value → List Use
+  uses_by_keyword names indexes a k None = []
+  uses_by_keyword names indexes a k (Some v) =
+      use_of a k.name k.meaning v (map (λ e. (e.0, run e.1)) (keyword_applications rules run names indexes a k.name k.meaning v)) ∷ []
 
   -- each keyword of these that the object has
   abbrev pub uses_of : List Keyword → List Text → List ℕ → Application → List Use
-  uses_of rows names indexes a = flat_map (λ k. used names indexes a k (get k.name a.schema.value)) rows
+  uses_of rows names indexes a = flat_map (λ k. uses_by_keyword names indexes a k (get k.name a.schema.value)) rows
 
   -- the unevaluated keywords come last
   unfoldable pub object_outcome : Application → Outcome
   object_outcome a =
-      let here = entered a in
+      let here = application_within a in
       let us = uses_of (filter (λ k. not (looks_at_evaluated k.meaning)) rules.keywords) [] [] here in
       let evaluated_by = filter (λ k. looks_at_evaluated k.meaning) rules.keywords in
-      combined a (us ++ uses_of evaluated_by (flat_map (λ u. u.names) us) (flat_map (λ u. u.indexes) us) here)
+      outcome_of_uses a (us ++ uses_of evaluated_by (flat_map (λ u. u.names) us) (flat_map (λ u. u.indexes) us) here)
 
 -- ---- boolean schemas, and leaves
 abbrev pub leaf : Bool → Bool → Outcome

@@ -42,17 +42,17 @@ abbrev pub pointer_text : Pointer → Text
 pointer_text = flat_map (λ token. slash ∷ flat_map escaped_byte token)
 
 -- a token as it was before its `/` and `~` were escaped
-abbrev pub unescaped : Text → Option Text
-unescaped [] = Some []
-unescaped (c ∷ []) = if c == tilde then None else Some (c ∷ [])
-unescaped (c ∷ d ∷ cs) =
-    if c == tilde then (if d == digit_zero then option_map (λ r. tilde ∷ r) (unescaped cs) else if d == digit_one then option_map (λ r. slash ∷ r) (unescaped cs) else None)
-    else option_map (λ r. c ∷ r) (unescaped (d ∷ cs))
+abbrev pub unescaped_token : Text → Option Text
+unescaped_token [] = Some []
+unescaped_token (c ∷ []) = if c == tilde then None else Some (c ∷ [])
+unescaped_token (c ∷ d ∷ cs) =
+    if c == tilde then (if d == digit_zero then option_map (λ r. tilde ∷ r) (unescaped_token cs) else if d == digit_one then option_map (λ r. slash ∷ r) (unescaped_token cs) else None)
+    else option_map (λ r. c ∷ r) (unescaped_token (d ∷ cs))
 
 -- the pointer whose text this is
 abbrev pub pointer_of : Text → Option Pointer
 pointer_of [] = Some []
-pointer_of (c ∷ cs) = if c == slash then each unescaped (slice_split (λ d. d == slash) cs) else None
+pointer_of (c ∷ cs) = if c == slash then each unescaped_token (slice_split (λ d. d == slash) cs) else None
 
 -- ---- section 6: the bytes that stand in a URI fragment as they are (RFC 3986, 3.5)
 abbrev pub is_fragment_byte : ℕ → Bool
@@ -63,8 +63,8 @@ is_fragment_byte c =
 abbrev pub hex_digit : ℕ → ℕ
 hex_digit n = if nat_lt n 10 then digit_zero + n else 55 + n
 
-abbrev pub percent_encoded : Text → Text
-percent_encoded = flat_map (λ c. if is_fragment_byte c then c ∷ [] else percent_sign ∷ hex_digit (c / 16) ∷ hex_digit (c % 16) ∷ [])
+abbrev pub percent_encoded_text : Text → Text
+percent_encoded_text = flat_map (λ c. if is_fragment_byte c then c ∷ [] else percent_sign ∷ hex_digit (c / 16) ∷ hex_digit (c % 16) ∷ [])
 
 abbrev pub fragment_text : Pointer → Text
-fragment_text p = percent_encoded (pointer_text p)
+fragment_text p = percent_encoded_text (pointer_text p)

@@ -46,18 +46,18 @@ keyword_faults None base way s v = []
 keyword_faults (Some k) base way s v = shape_faults k.shape base way s v
 
 -- so many levels; `way` leads from the document's root to the schema, and the base is that of the schema around
-abbrev pub walked : ℕ → Text → Pointer → Schema → List Fault
-walked zero base way s = []
-walked (suc n) base way s =
+abbrev pub subtree_faults : ℕ → Text → Pointer → Schema → List Fault
+subtree_faults zero base way s = []
+subtree_faults (suc n) base way s =
     flat_map (λ m. keyword_faults (keyword_named m.0 keywords) base (way ++ m.0 ∷ []) s m.1) (members s.value)
-    ++ flat_map (λ t. walked n s.resource (way ++ t.0) t.1) (subschemas_by keywords s)
+    ++ flat_map (λ t. subtree_faults n s.resource (way ++ t.0) t.1) (subschemas_by keywords s)
 
 -- of the document's form
 abbrev pub form_faults : Text → Value → List Fault
 form_faults base v =
     unless (is_object v) not_object
     ++ (when (nat_lt limits.schema_nesting (nesting v)) too_nested
-    ++ walked (suc (nesting v)) base [] (schema_at base [] v))
+    ++ subtree_faults (suc (nesting v)) base [] (schema_at base [] v))
 
 -- ---- names that stand twice
 -- the URIs that the schemas open

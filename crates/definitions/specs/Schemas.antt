@@ -5,7 +5,7 @@ use Rattle.definitions.specs.Lists.{option_list}
 use Rattle.definitions.specs.Values.{Text, Value, text_at, elements, members, nesting, same_text}
 use Rattle.definitions.specs.Pointers.{Pointer, same_pointer}
 use Rattle.definitions.specs.Uris.{without_fragment}
-use Rattle.definitions.specs.Resolution.{resolved}
+use Rattle.definitions.specs.Resolution.{target_uri}
 use Rattle.definitions.specs.Shapes.{Shape, one_schema, schema_list, schema_map}
 use Rattle.definitions.specs.Keywords.{Keyword, keywords, shape_in}
 
@@ -17,13 +17,13 @@ pub record Schema : Type 0 where
   pub value : Value
 
 -- 8.2.1: `$id` opens a resource, whose URI is the base from here on
-abbrev pub opened : Text → Pointer → Value → Option Text → Schema
-opened base pointer v None = record { resource = base; pointer = pointer; value = v }
-opened base pointer v (Some id) = record { resource = without_fragment (resolved base id); pointer = []; value = v }
+abbrev pub opened_schema : Text → Pointer → Value → Option Text → Schema
+opened_schema base pointer v None = record { resource = base; pointer = pointer; value = v }
+opened_schema base pointer v (Some id) = record { resource = without_fragment (target_uri base id); pointer = []; value = v }
 
 -- the schema that stands there
 abbrev pub schema_at : Text → Pointer → Value → Schema
-schema_at base pointer v = opened base pointer v (text_at (codes "$id") v)
+schema_at base pointer v = opened_schema base pointer v (text_at (codes "$id") v)
 
 -- the schema that stands below by these tokens
 abbrev pub below : Schema → Pointer → Value → Schema
@@ -81,7 +81,7 @@ same_identity i j = same_text i.0 j.0 && same_pointer i.1 j.1
 
 -- ---- 8.2.3: an absolute reference is the keyword's text, resolved against the schema's base
 abbrev pub reference_at : Text → Schema → Option Text
-reference_at keyword s = option_map (resolved s.resource) (text_at keyword s.value)
+reference_at keyword s = option_map (target_uri s.resource) (text_at keyword s.value)
 
 abbrev pub references : Schema → List Text
 references s = option_list (reference_at (codes "$ref") s) ++ option_list (reference_at (codes "$dynamicRef") s)

@@ -53,9 +53,9 @@ CallCourse search ks _ _ ls = ⊥
 
 -- ---- one tenant's part of them
 -- its own requests
-abbrev pub own : Text → List Call → List Request
-own key [] = []
-own key (c ∷ cs) = if same_text key c.0 then c.1 ∷ own key cs else own key cs
+abbrev pub own_requests : Text → List Call → List Request
+own_requests key [] = []
+own_requests key (c ∷ cs) = if same_text key c.0 then c.1 ∷ own_requests key cs else own_requests key cs
 
 -- the replies at the key's places
 abbrev pub replies_at : Text → List Call → List Reply → List Reply

@@ -6,7 +6,7 @@ use Rattle.definitions.specs.Bytes.{is_visible}
 use Rattle.definitions.specs.Lists.{has_repeat, each, first, when}
 use Rattle.definitions.specs.Values.{Text, Value, integer, array, elements_list, get, text_at, same_text}
 use Rattle.definitions.specs.Faults.{Fault, bad_capacity, duplicate_tenant, too_many_tenants, bad_tenants}
-use Rattle.definitions.specs.Texts.{reading}
+use Rattle.definitions.specs.Texts.{parsed_value}
 use Rattle.definitions.specs.Schemas.{Document}
 use Rattle.definitions.specs.Registries.{Registry}
 use Rattle.definitions.specs.Services.{KeyedRegistry}
@@ -44,7 +44,7 @@ tenants_of (Ok v) = some_tenants (tenants_in (get (codes "tenants") v))
 tenants_of (Err f) = Err f
 
 abbrev pub file_tenants : Text → Result (List Tenant) Fault
-file_tenants bytes = tenants_of (reading bytes)
+file_tenants bytes = tenants_of (parsed_value bytes)
 
 -- ---- a new server
 -- visible characters of ASCII

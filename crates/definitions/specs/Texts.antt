@@ -57,5 +57,5 @@ value_or_bad_json None = Err bad_json
 
 -- the value that the bytes spell. `serde_json`'s own reading, `read`, is none above a nesting of 127, lets the last of
 -- repeated names win and gives members in byte order of names
-abbrev pub reading : Text → Result Value Fault
-reading bytes = if is_utf8 bytes then value_or_bad_json (read bytes) else Err bad_json
+abbrev pub parsed_value : Text → Result Value Fault
+parsed_value bytes = if is_utf8 bytes then value_or_bad_json (read bytes) else Err bad_json

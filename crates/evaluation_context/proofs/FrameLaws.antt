@@ -5,14 +5,14 @@ use Rattle.std.proofs.lemmas.List.{map_push, same_from_push, append-nil, append_
 use Rattle.std.specs.Option.{option_to_list, IsSome}
 use Rattle.definitions.specs.Values.{Text, Value, is_object}
 use Rattle.definitions.specs.Pointers.{Pointer}
-use Rattle.definitions.specs.Schemas.{Schema, Identity, schema_at, opened}
+use Rattle.definitions.specs.Schemas.{Schema, Identity, schema_at, opened_schema}
 use Rattle.definitions.specs.Outcomes.{is_running}
 use Rattle.std.specs.List.{list_any}
 use Rattle.evaluation_context.specs.Runnings.{is_running_as}
 use Rattle.definitions.specs.Applied.{Place, OutputUnit}
-use Rattle.evaluation_context.specs.Frames.{Frame, standing}
+use Rattle.evaluation_context.specs.Frames.{Frame, frame_standing}
 use Rattle.evaluation_context.specs.Standings.{Standing, application_at}
-use Rattle.evaluation_context.specs.Moves.{Onward, LeadsTo, stepped, placed, at_schema, identified}
+use Rattle.evaluation_context.specs.Moves.{Onward, LeadsTo, frame_below, frame_at, at_schema, standing_at}
 use Rattle.evaluation_context.specs.Returns.{CameFrom}
 use Rattle.evaluation_context.specs.declared.context.Return.{Return}
 use Rattle.evaluation_context.proofs.RunningLaws.{none_popped}
@@ -38,8 +38,8 @@ popped g xs ys None n e there size older v seen =
 popped g xs ys (Some x) n e there size older v seen = (same_from_push (map g ys) older (g x) v (sym (map_push g ys x) ∙ ap (map g) (sym e) ∙ seen)).0
 
 -- ---- moves
-pub stepped_nowhere : (f : Frame) → f ≡ stepped [] f
-unfolding stepped
+pub stepped_nowhere : (f : Frame) → f ≡ frame_below [] f
+unfolding frame_below
 stepped_nowhere f = same_frames (sym (append-nil f.path)) refl refl (sym (append-nil f.pointer)) refl refl refl
 
 front : {A : Type 0} (xs more : List A) → take (length xs) (xs ++ more) ≡ xs
@@ -55,8 +55,8 @@ onward_itself f =
       running = refl;
     }
 
-pub onward_stepped : (way : Pointer) (f : Frame) → Onward f (stepped way f)
-unfolding stepped
+pub onward_stepped : (way : Pointer) (f : Frame) → Onward f (frame_below way f)
+unfolding frame_below
 onward_stepped way f =
     record {
       path = front f.path way;
@@ -77,8 +77,8 @@ onward_schema s f =
       running = refl;
     }
 
-pub onward_placed : (p : Place) (f : Frame) → take (length f.place.pointer) p.pointer ≡ f.place.pointer → Onward f (placed p f)
-unfolding placed
+pub onward_placed : (p : Place) (f : Frame) → take (length f.place.pointer) p.pointer ≡ f.place.pointer → Onward f (frame_at p f)
+unfolding frame_at
 onward_placed p f place =
     record {
       path = take_all (length f.path) f.path (omega arith);
@@ -118,15 +118,15 @@ came_from back older newer leads onward =
     (sym onward.running)
 
 -- ---- a schema
-pub schema_stays : (f : Frame) (v : Value) → opened f.resource f.pointer v None ≡ schema_at f.resource f.pointer v → standing f ≡ identified [] (schema_at f.resource f.pointer v) (standing f)
-unfolding standing identified
+pub schema_stays : (f : Frame) (v : Value) → opened_schema f.resource f.pointer v None ≡ schema_at f.resource f.pointer v → frame_standing f ≡ standing_at [] (schema_at f.resource f.pointer v) (frame_standing f)
+unfolding frame_standing standing_at
 schema_stays f v e =
-    ap₂ (λ p (s : Schema). record (standing f) { path = p; resource = s.resource; pointer = s.pointer }) (sym (append-nil f.path)) e
+    ap₂ (λ p (s : Schema). record (frame_standing f) { path = p; resource = s.resource; pointer = s.pointer }) (sym (append-nil f.path)) e
 
-pub schema_opened : (f : Frame) (uri : Text) (s : Schema) → uri ≡ s.resource → s.pointer ≡ [] → standing (record f { outer = f.outer ++ f.pointer; resource = uri; pointer = [] }) ≡ identified [] s (standing f)
-unfolding standing identified
+pub schema_opened : (f : Frame) (uri : Text) (s : Schema) → uri ≡ s.resource → s.pointer ≡ [] → frame_standing (record f { outer = f.outer ++ f.pointer; resource = uri; pointer = [] }) ≡ standing_at [] s (frame_standing f)
+unfolding frame_standing standing_at
 schema_opened f uri s same root =
-    ap₂ (λ p (q : Text × Pointer). record (standing f) { path = p; resource = q.0; pointer = q.1 }) (sym (append-nil f.path)) (ap₂ (λ r t. (r, t)) same (sym root))
+    ap₂ (λ p (q : Text × Pointer). record (frame_standing f) { path = p; resource = q.0; pointer = q.1 }) (sym (append-nil f.path)) (ap₂ (λ r t. (r, t)) same (sym root))
 
 -- ---- standings, units and objects, field by field
 pub same_standings : {s t : Standing} → s.path ≡ t.path → s.resource ≡ t.resource → s.pointer ≡ t.pointer → s.place ≡ t.place → s.scope ≡ t.scope → s.running ≡ t.running → s ≡ t

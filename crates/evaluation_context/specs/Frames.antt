@@ -20,8 +20,8 @@ pub record Frame : Type 0 where
   pub scope : List Text
   pub running : List (Identity × Place)
 
-unfoldable pub frame : Context → Frame
-frame c = record {
+unfoldable pub context_view : Context → Frame
+context_view c = record {
   path = tokens c.path.items;
   outer = outer_pointers c.pointers;
   resource = c.resource.now;
@@ -31,8 +31,8 @@ frame c = record {
   running = running_objects c.running;
 }
 
-unfoldable pub standing : Frame → Standing
-standing f = record {
+unfoldable pub frame_standing : Frame → Standing
+frame_standing f = record {
   path = f.path;
   resource = f.resource;
   pointer = f.pointer;
@@ -42,9 +42,9 @@ standing f = record {
 }
 
 -- a schema object is being applied
-unfoldable pub object_entered : Frame → Frame
-object_entered f = record f { scope = f.scope ++ f.resource ∷ []; running = f.running ++ ((f.resource, f.pointer), f.place) ∷ [] }
+unfoldable pub object_frame : Frame → Frame
+object_frame f = record f { scope = f.scope ++ f.resource ∷ []; running = f.running ++ ((f.resource, f.pointer), f.place) ∷ [] }
 
 -- at a keyword of the schema
-unfoldable pub keyword_entered : Text → Frame → Frame
-keyword_entered k f = record f { path = f.path ++ k ∷ []; pointer = f.pointer ++ k ∷ [] }
+unfoldable pub keyword_frame : Text → Frame → Frame
+keyword_frame k f = record f { path = f.path ++ k ∷ []; pointer = f.pointer ++ k ∷ [] }

@@ -5,7 +5,7 @@ use Rattle.definitions.specs.Pointers.{Pointer}
 use Rattle.definitions.specs.Schemas.{Schema, schema_at}
 use Rattle.definitions.specs.Applied.{Place}
 use Rattle.json_doc.specs.Docs.{value}
-use Rattle.schema_index.specs.Locateds.{located_schema}
+use Rattle.schema_index.specs.Locateds.{located_view}
 use Rattle.keyword_plans.specs.Plans.{step_view}
 use Rattle.keyword_plans.specs.declared.planned.Chosen.{Chosen}
 use Rattle.keyword_plans.specs.declared.planned.Chosen.TheVariants.{Below, Target}
@@ -14,20 +14,20 @@ use Rattle.evaluation_context.specs.Standings.{Standing}
 use Rattle.evaluation_context.specs.declared.context.Return.{Return}
 
 -- further by these tokens
-unfoldable pub stepped : Pointer → Frame → Frame
-stepped way f = record f { path = f.path ++ way; pointer = f.pointer ++ way }
+unfoldable pub frame_below : Pointer → Frame → Frame
+frame_below way f = record f { path = f.path ++ way; pointer = f.pointer ++ way }
 
 -- at this place of the instance
-unfoldable pub placed : Place → Frame → Frame
-placed place f = record f { place = place }
+unfoldable pub frame_at : Place → Frame → Frame
+frame_at place f = record f { place = place }
 
 -- at this schema, where a new pointer begins
 unfoldable pub at_schema : Schema → Frame → Frame
 at_schema s f = record f { outer = f.outer ++ f.pointer; resource = s.resource; pointer = s.pointer }
 
 -- at this schema, so much further along the path
-unfoldable pub identified : Pointer → Schema → Standing → Standing
-identified way s st = record st { path = st.path ++ way; resource = s.resource; pointer = s.pointer }
+unfoldable pub standing_at : Pointer → Schema → Standing → Standing
+standing_at way s st = record st { path = st.path ++ way; resource = s.resource; pointer = s.pointer }
 
 -- how far the path leads to what is chosen, and the schema that is chosen, in the resource and at the pointer of a keyword
 abbrev pub chosen_way : Chosen → Pointer
@@ -36,7 +36,7 @@ chosen_way (Target located) = []
 
 abbrev pub chosen_schema : Text → Pointer → Chosen → Schema
 chosen_schema resource pointer (Below step schema) = schema_at resource (pointer ++ step_view step) (value schema.now)
-chosen_schema resource pointer (Target located) = located_schema located
+chosen_schema resource pointer (Target located) = located_view located
 
 -- the older frame still stands in front of the newer one, but for its resource and its name
 pub record Onward (older newer : Frame) : Type 0 where

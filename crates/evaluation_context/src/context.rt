@@ -7,7 +7,7 @@ ghost use Rattle.definitions.specs.Outcomes.{is_running};
 ghost use Rattle.basic_output.specs.declared.says.Says as output;
 ghost use Rattle.basic_output.specs.Sayings.{says_value, unit_at};
 ghost use Rattle.json_doc.specs.Docs.{value};
-ghost use Rattle.schema_index.specs.Locateds.{located_schema};
+ghost use Rattle.schema_index.specs.Locateds.{located_view};
 ghost use Rattle.evaluation_context.specs.Standings.{application_at, at_keyword, unit_there, within_object};
 
 use crate::pointers::Pointers;
@@ -19,7 +19,7 @@ use std::alloc::{AllocError, Global};
 
 /// Where an application of a schema stands.
 ///
-/// Contracts see all that it keeps by `frame`, and where that stands by `standing`.
+/// Contracts see all that it keeps by `context_view`, and where that stands by `frame_standing`.
 #[derive(Drop)]
 pub struct Context<'a> {
     pub(crate) path: Vec<Step<'a>>,
@@ -43,13 +43,13 @@ pub struct Return<'a> {
 }
 
 impl<'a> Context<'a> {
-    ghost use Rattle.evaluation_context.specs.Frames.{Frame, frame, keyword_entered, object_entered, standing};
+    ghost use Rattle.evaluation_context.specs.Frames.{Frame, context_view, frame_standing, keyword_frame, object_frame};
 
     /// Where the first application stands, of a schema to the whole instance. The only error is want of memory.
     pub fn new(alloc: Global, root: Located<'a>) -> Result<Context<'a>, AllocError>
         ensures { (x : Value) → IfOk result
-            (λ c. application_at (standing (frame c)) (value root.entry.schema.now) x
-            ≡ first_application (located_schema root.entry) x) }
+            (λ c. application_at (frame_standing (context_view c)) (value root.entry.schema.now) x
+            ≡ first_application (located_view root.entry) x) }
     {
         let Located {
             resource,
@@ -69,14 +69,14 @@ impl<'a> Context<'a> {
 
     /// The URI of the resource of the schema that is applied.
     pub fn resource(&self) -> &'a str
-        ensures { result.now ≡ (standing (frame self.now)).resource }
+        ensures { result.now ≡ (frame_standing (context_view self.now)).resource }
     {
         self.resource
     }
 
     /// The URIs of the resources of the dynamic scope, the outermost first.
     pub fn scope(&self) -> &[&'a str]
-        ensures { map (λ uri. uri.now) result.now ≡ (standing (frame self.now)).scope }
+        ensures { map (λ uri. uri.now) result.now ≡ (frame_standing (context_view self.now)).scope }
     {
         &self.scope
     }
@@ -84,7 +84,7 @@ impl<'a> Context<'a> {
     /// Whether a schema object that is applied here is being applied at this place already.
     pub fn is_running(&self) -> bool
         ensures { (s x : Value) → is_object s ≡ true
-            → result ≡ is_running (application_at (standing (frame self.now)) s x) }
+            → result ≡ is_running (application_at (frame_standing (context_view self.now)) s x) }
     {
         self.running.contains(self.resource, self.pointers.last(), &self.place, self.name)
     }
@@ -92,7 +92,8 @@ impl<'a> Context<'a> {
     /// The location of a unit of the output.
     pub fn location(&self) -> Location<'_, 'a>
         ensures { (says : output.Says)
-            → unit_at result says ≡ unit_there (standing (frame self.now)) (says_value says) }
+            → unit_at result says ≡ unit_there (frame_standing (context_view self.now))
+            (says_value says) }
     {
         Location {
             path: &self.path,
@@ -105,8 +106,10 @@ impl<'a> Context<'a> {
     /// A schema object is being applied here. The only error is want of memory.
     pub fn enter_object(&mut self) -> Result<(), AllocError>
         ensures there { OnOk result
-            (standing (frame self.new) ≡ within_object (standing (frame self.old))) }
-        ensures entered { OnOk result (frame self.new ≡ object_entered (frame self.old)) }
+            (frame_standing (context_view self.new)
+            ≡ within_object (frame_standing (context_view self.old))) }
+        ensures entered { OnOk result
+            (context_view self.new ≡ object_frame (context_view self.old)) }
     {
         self.scope.push(self.resource)?;
         self.running.push(self.resource, self.pointers.last(), &self.place, self.name)?;
@@ -115,7 +118,8 @@ impl<'a> Context<'a> {
 
     /// It has been applied.
     pub fn leave_object(&mut self)
-        ensures { (older : Frame) → frame self.old ≡ object_entered older → frame self.new ≡ older }
+        ensures { (older : Frame) → context_view self.old ≡ object_frame older
+            → context_view self.new ≡ older }
     {
         self.scope.pop();
         self.running.pop();
@@ -124,8 +128,10 @@ impl<'a> Context<'a> {
     /// To the keyword of this name. The only error is want of memory.
     pub fn enter_keyword(&mut self, name: &'a str) -> Result<(), AllocError>
         ensures there { OnOk result
-            (standing (frame self.new) ≡ at_keyword name.now (standing (frame self.old))) }
-        ensures entered { OnOk result (frame self.new ≡ keyword_entered name.now (frame self.old)) }
+            (frame_standing (context_view self.new)
+            ≡ at_keyword name.now (frame_standing (context_view self.old))) }
+        ensures entered { OnOk result
+            (context_view self.new ≡ keyword_frame name.now (context_view self.old)) }
     {
         self.path.push(Step::Name(name))?;
         self.pointers.push(Step::Name(name))?;
@@ -134,8 +140,8 @@ impl<'a> Context<'a> {
 
     /// Back from the keyword.
     pub fn leave_keyword(&mut self)
-        ensures { (older : Frame) (k : Text) → frame self.old ≡ keyword_entered k older
-            → frame self.new ≡ older }
+        ensures { (older : Frame) (k : Text) → context_view self.old ≡ keyword_frame k older
+            → context_view self.new ≡ older }
     {
         self.path.pop();
         self.pointers.pop();

@@ -7,10 +7,10 @@ ghost use Rattle.definitions.specs.Applied.{Application, part_place};
 ghost use Rattle.json_doc.specs.Docs.{value};
 ghost use Rattle.keyword_plans.specs.Plans.{part_view, planned_view, step_view};
 ghost use Rattle.linker.specs.LinkedDocuments.{linked_schemas};
-ghost use Rattle.schema_index.specs.Locateds.{located_schema};
+ghost use Rattle.schema_index.specs.Locateds.{located_view};
 ghost use Rattle.evaluation_context.specs.Standings.{at_keyword, standing_of};
-ghost use Rattle.evaluation_context.specs.Frames.{Frame, frame, standing};
-ghost use Rattle.evaluation_context.specs.Moves.{LeadsTo, Onward, at_schema, chosen_schema, chosen_way, identified, placed, stepped};
+ghost use Rattle.evaluation_context.specs.Frames.{Frame, context_view, frame_standing};
+ghost use Rattle.evaluation_context.specs.Moves.{LeadsTo, Onward, at_schema, chosen_schema, chosen_way, frame_at, frame_below, standing_at};
 ghost use Rattle.evaluation_context.specs.Returns.{CameFrom};
 
 use crate::context::{Context, Return};
@@ -31,11 +31,12 @@ impl<'a> Context<'a> {
         planned: &Planned<'a>,
     ) -> Result<Return<'a>, Fault>
         ensures there { (a : Application) (k : Text)
-            → standing (frame self.old) ≡ at_keyword k (standing_of a)
+            → frame_standing (context_view self.old) ≡ at_keyword k (standing_of a)
             → Contains (linked_schemas linked.now) (planned_view k a planned.now).1.schema
-            → OnOk result (standing (frame self.new)
+            → OnOk result (frame_standing (context_view self.new)
             ≡ standing_of (planned_view k a planned.now).1) }
-        ensures entered { IfOk result (λ back. CameFrom back (frame self.old) (frame self.new)) }
+        ensures entered { IfOk result
+            (λ back. CameFrom back (context_view self.old) (context_view self.new)) }
         ensures err { IfErr result (λ f. f ≡ Fault.NoRoom) }
     {
         let back = self.way_back();
@@ -46,8 +47,8 @@ impl<'a> Context<'a> {
 
     /// Back to the keyword.
     pub fn leave_planned(&mut self, back: Return<'a>)
-        ensures { (older : Frame) → CameFrom back.entry older (frame self.old)
-            → frame self.new ≡ older }
+        ensures { (older : Frame) → CameFrom back.entry older (context_view self.old)
+            → context_view self.new ≡ older }
     {
         self.path.truncate(back.path);
         self.pointers.cut(back.steps, back.start);
@@ -57,7 +58,7 @@ impl<'a> Context<'a> {
     }
 
     fn way_back(&self) -> Return<'a>
-        ensures { LeadsTo result (frame self.now) }
+        ensures { LeadsTo result (context_view self.now) }
     {
         Return {
             path: self.path.len(),
@@ -75,11 +76,11 @@ impl<'a> Context<'a> {
         linked: &'a Linked,
         chosen: &Chosen<'a>,
     ) -> Result<(), Fault>
-        ensures there { let s = chosen_schema (frame self.old).resource
-            (frame self.old).pointer chosen.now in Contains (linked_schemas linked.now) s
-            → OnOk result (standing (frame self.new)
-            ≡ identified (chosen_way chosen.now) s (standing (frame self.old))) }
-        ensures onward { OnOk result (Onward (frame self.old) (frame self.new)) }
+        ensures there { let s = chosen_schema (context_view self.old).resource
+            (context_view self.old).pointer chosen.now in Contains (linked_schemas linked.now) s
+            → OnOk result (frame_standing (context_view self.new)
+            ≡ standing_at (chosen_way chosen.now) s (frame_standing (context_view self.old))) }
+        ensures onward { OnOk result (Onward (context_view self.old) (context_view self.new)) }
         ensures err { IfErr result (λ f. f ≡ Fault.NoRoom) }
     {
         match chosen {
@@ -95,7 +96,8 @@ impl<'a> Context<'a> {
     }
 
     fn enter_step(&mut self, step: Option<Step<'a>>) -> Result<(), AllocError>
-        ensures { OnOk result (frame self.new ≡ stepped (step_view step.entry) (frame self.old)) }
+        ensures { OnOk result (context_view self.new
+            ≡ frame_below (step_view step.entry) (context_view self.old)) }
     {
         match step {
             Some(step) => {
@@ -114,11 +116,12 @@ impl<'a> Context<'a> {
         linked: &'a Linked,
         schema: &'a Doc,
     ) -> Result<(), Fault>
-        ensures there { let s = schema_at (frame self.old).resource (frame self.old).pointer
+        ensures there { let s = schema_at (context_view self.old).resource
+            (context_view self.old).pointer
             (value schema.now) in Contains (linked_schemas linked.now) s
-            → OnOk result (standing (frame self.new)
-            ≡ identified [] s (standing (frame self.old))) }
-        ensures onward { OnOk result (Onward (frame self.old) (frame self.new)) }
+            → OnOk result (frame_standing (context_view self.new)
+            ≡ standing_at [] s (frame_standing (context_view self.old))) }
+        ensures onward { OnOk result (Onward (context_view self.old) (context_view self.new)) }
         ensures err { IfErr result (λ f. f ≡ Fault.NoRoom) }
     {
         match schema.text_at("$id") {
@@ -132,8 +135,8 @@ impl<'a> Context<'a> {
     }
 
     fn enter_target(&mut self, located: &Located<'a>) -> Result<(), AllocError>
-        ensures { OnOk result (frame self.new
-            ≡ at_schema (located_schema located.now) (frame self.old)) }
+        ensures { OnOk result (context_view self.new
+            ≡ at_schema (located_view located.now) (context_view self.old)) }
     {
         self.pointers.begin();
         self.pointers.append(&located.steps)?;
@@ -142,8 +145,9 @@ impl<'a> Context<'a> {
     }
 
     fn enter_part(&mut self, part: Part<'a>) -> Result<(), AllocError>
-        ensures { OnOk result (frame self.new
-            ≡ placed (part_place (frame self.old).place (part_view part.entry)) (frame self.old)) }
+        ensures { OnOk result (context_view self.new
+            ≡ frame_at (part_place (context_view self.old).place (part_view part.entry))
+            (context_view self.old)) }
     {
         match part {
             Part::Whole => {}

@@ -2,9 +2,9 @@
 use Rattle.std.proofs.Common.{◌≡◌, ℕ, List, [], ◌∷◌, map, Bool, true, false, not, ◌||◌, Option, Some, None, refl, sym, ap, ◌∙◌, append-nil}
 use Rattle.definitions.specs.Values.{Text, Value, get}
 use Rattle.definitions.specs.Keywords as table
-use Rattle.definitions.specs.Keywords.{Meaning, looks_at_evaluated, asserts, matches_pattern, refers, refers_dynamically, all_of, any_of, one_of, negated, condition, consequence, dependent_schemas, prefix_items, rest_items, some_item, at_least_items, at_most_items, properties, pattern_properties, other_properties, property_names, unevaluated_items, unevaluated_properties, declares}
-use Rattle.definitions.specs.Applied.{Application, Outcome, Rules, applied}
-use Rattle.definitions.specs.Outcomes.{used, use_of}
+use Rattle.definitions.specs.Keywords.{Meaning, looks_at_evaluated, asserts, matches_pattern, refers, refers_dynamically, all_of, any_of, one_of, negation, condition, consequence, dependent_schemas, prefix_items, items, contains, min_contains, max_contains, properties, pattern_properties, additional_properties, property_names, unevaluated_items, unevaluated_properties, declares}
+use Rattle.definitions.specs.Applied.{Application, Outcome, Rules, keyword_applications}
+use Rattle.definitions.specs.Outcomes.{uses_by_keyword, use_of}
 use Rattle.linker.specs.declared.linked.Linked.{Linked}
 use Rattle.keywords.specs.Rows.{row_of}
 use Rattle.keyword_plans.specs.Sites.{linked_rules}
@@ -12,13 +12,13 @@ use Rattle.keywords.specs.declared.keyword.Keyword.{Keyword}
 use Rattle.keyword_plans.specs.Plans.{is_consequence, counts_contained}
 use Rattle.evaluator.specs.Groups.{stands_alone}
 use Rattle.evaluator.specs.Notes.{Notes}
-use Rattle.evaluator.specs.Rounds.{Knows, group_uses, said, uses_since, names_since, indexes_since}
+use Rattle.evaluator.specs.Rounds.{Knows, group_uses, linked_outcome, uses_since, names_since, indexes_since}
 use Rattle.evaluator.specs.declared.beside.Beside.{Beside}
 use Rattle.keywords.specs.declared.group.Group.TheVariants.{One}
 use Rattle.evaluator.specs.declared.log.Before.{Before}
 
 same_applied : (rules : Rules) (run : Application → Outcome) (names : List Text) (indexes : List ℕ) (a : Application) (k : Text) (m : Meaning) (v : Value)
-    → looks_at_evaluated m ≡ false → applied rules run names indexes a k m v ≡ applied rules run [] [] a k m v
+    → looks_at_evaluated m ≡ false → keyword_applications rules run names indexes a k m v ≡ keyword_applications rules run [] [] a k m v
 same_applied rules run names indexes a k (asserts x) v e = refl
 same_applied rules run names indexes a k matches_pattern v e = refl
 same_applied rules run names indexes a k refers v e = refl
@@ -26,18 +26,18 @@ same_applied rules run names indexes a k refers_dynamically v e = refl
 same_applied rules run names indexes a k all_of v e = refl
 same_applied rules run names indexes a k any_of v e = refl
 same_applied rules run names indexes a k one_of v e = refl
-same_applied rules run names indexes a k negated v e = refl
+same_applied rules run names indexes a k negation v e = refl
 same_applied rules run names indexes a k condition v e = refl
 same_applied rules run names indexes a k (consequence b) v e = refl
 same_applied rules run names indexes a k dependent_schemas v e = refl
 same_applied rules run names indexes a k prefix_items v e = refl
-same_applied rules run names indexes a k rest_items v e = refl
-same_applied rules run names indexes a k some_item v e = refl
-same_applied rules run names indexes a k at_least_items v e = refl
-same_applied rules run names indexes a k at_most_items v e = refl
+same_applied rules run names indexes a k items v e = refl
+same_applied rules run names indexes a k contains v e = refl
+same_applied rules run names indexes a k min_contains v e = refl
+same_applied rules run names indexes a k max_contains v e = refl
 same_applied rules run names indexes a k properties v e = refl
 same_applied rules run names indexes a k pattern_properties v e = refl
-same_applied rules run names indexes a k other_properties v e = refl
+same_applied rules run names indexes a k additional_properties v e = refl
 same_applied rules run names indexes a k property_names v e = refl
 same_applied rules run names indexes a k unevaluated_items v e = absurd (cc)
 same_applied rules run names indexes a k unevaluated_properties v e = absurd (cc)
@@ -45,7 +45,7 @@ same_applied rules run names indexes a k declares v e = refl
 
 -- it doesn't matter to them what others evaluated
 pub same_used : (rules : Rules) (run : Application → Outcome) (names : List Text) (indexes : List ℕ) (a : Application) (k : table.Keyword) (o : Option Value)
-    → looks_at_evaluated k.meaning ≡ false → used rules run names indexes a k o ≡ used rules run [] [] a k o
+    → looks_at_evaluated k.meaning ≡ false → uses_by_keyword rules run names indexes a k o ≡ uses_by_keyword rules run [] [] a k o
 same_used rules run names indexes a k None e = refl
 same_used rules run names indexes a k (Some v) e =
     ap (λ es. use_of rules run a k.name k.meaning v (map (λ e. (e.0, run e.1)) es) ∷ []) (same_applied rules run names indexes a k.name k.meaning v e)
@@ -82,6 +82,6 @@ pub alone_uses : (l : Linked) (left : ℕ) (a : Application) (k : Keyword) (befo
     → uses_since l left a k before n ≡ group_uses l left a (One k)
 alone_uses l left a k before n alone =
     let m = (row_of k).meaning in
-    same_used (linked_rules l) (said l left) (names_since before n) (indexes_since before n) a (row_of k) (get (row_of k).name a.schema.value)
+    same_used (linked_rules l) (linked_outcome l left) (names_since before n) (indexes_since before n) a (row_of k) (get (row_of k).name a.schema.value)
     (third_not (is_consequence m) (counts_contained m) (looks_at_evaluated m) alone)
-    ∙ sym (append-nil (used (linked_rules l) (said l left) [] [] a (row_of k) (get (row_of k).name a.schema.value)))
+    ∙ sym (append-nil (uses_by_keyword (linked_rules l) (linked_outcome l left) [] [] a (row_of k) (get (row_of k).name a.schema.value)))

@@ -3,7 +3,7 @@ use Rattle.std.proofs.Common.{◌≡◌, ℕ, ◌+◌, List, [], ◌∷◌, ◌+
 use Rattle.definitions.specs.Values.{Text, Value, elements, get}
 use Rattle.definitions.specs.Keywords.{Meaning, consequence, looks_at_evaluated}
 use Rattle.definitions.specs.Applied.{Application, Outcome, Part, Rules, at_items, in_place}
-use Rattle.definitions.specs.Outcomes.{Use, used, uses_of}
+use Rattle.definitions.specs.Outcomes.{Use, uses_by_keyword, uses_of}
 use Rattle.linker.specs.declared.linked.Linked.{Linked}
 use Rattle.keywords.specs.Rows.{row_of}
 use Rattle.keyword_plans.specs.Sites.{linked_rules}
@@ -11,8 +11,8 @@ use Rattle.keywords.specs.declared.keyword.Keyword.{Keyword}
 use Rattle.keywords.specs.declared.keyword.Keyword.TheVariants.{If, Then, Else, Contains, MinContains, MaxContains}
 use Rattle.evaluator.specs.Findings.{FindsUse, passing_first}
 use Rattle.keyword_plans.specs.Plans.{is_consequence, counts_contained}
-use Rattle.evaluator.specs.Notes.{Notes, added, uses_notes}
-use Rattle.evaluator.specs.Rounds.{Knows, group_uses, indexes_since, keyword_uses, names_since, said, two_uses, uses_since}
+use Rattle.evaluator.specs.Notes.{Notes, notes_of_both, uses_notes}
+use Rattle.evaluator.specs.Rounds.{Knows, group_uses, indexes_since, keyword_uses, linked_outcome, names_since, two_uses, uses_since}
 use Rattle.evaluator.specs.declared.beside.Beside.{Beside}
 use Rattle.evaluator.specs.declared.found.Used.{Used}
 use Rattle.keywords.specs.declared.group.Group.TheVariants.{Conditional, Counted}
@@ -25,7 +25,7 @@ tells true = refl
 tells false = refl
 
 condition_told : (rules : Rules) (run : Application → Outcome) (names : List Text) (indexes : List ℕ) (a : Application) (o : Option Value)
-    → option_map (λ n. nat_lt 0 n) (passing_first (used rules run names indexes a (row_of If) o))
+    → option_map (λ n. nat_lt 0 n) (passing_first (uses_by_keyword rules run names indexes a (row_of If) o))
     ≡ option_map (λ (p : Outcome). p.valid) (option_map (λ v. run (in_place a (codes "if" ∷ []) v).1) o)
 condition_told rules run names indexes a None = refl
 condition_told rules run names indexes a (Some v) = ap Some (tells (run (in_place a (codes "if" ∷ []) v).1).valid)
@@ -37,7 +37,7 @@ same_count run [] n = refl
 same_count run (e ∷ es) n = same_count run es (n + cond (run e.1).valid 1 0)
 
 containing_told : (rules : Rules) (run : Application → Outcome) (names : List Text) (indexes : List ℕ) (a : Application) (o : Option Value)
-    → passing_first (used rules run names indexes a (row_of Contains) o)
+    → passing_first (uses_by_keyword rules run names indexes a (row_of Contains) o)
     ≡ option_map (count_by (λ (p : Outcome). p.valid)) (option_map (λ v. map (λ (e : Part × Application). run e.1) (at_items a (codes "contains") v 0 (elements a.instance))) o)
 containing_told rules run names indexes a None = refl
 containing_told rules run names indexes a (Some v) = ap Some (same_count run (at_items a (codes "contains") v 0 (elements a.instance)) 0)
@@ -54,7 +54,7 @@ pub knows_condition : (l : Linked) (left budget : ℕ) (a : Application) (u : Us
 knows_condition l left budget a u wanted before n beside found is = record {
   condition =
       λ t. sym (is ∙ ap (option_map (λ n. nat_lt 0 n)) found.passing
-      ∙ condition_told (linked_rules l) (said l left) (names_since before n) (indexes_since before n) a (get (codes "if") a.schema.value));
+      ∙ condition_told (linked_rules l) (linked_outcome l left) (names_since before n) (indexes_since before n) a (get (codes "if") a.schema.value));
   containing = λ t. absurd (let g : false ≡ true = t in cc);
 }
 
@@ -64,25 +64,25 @@ knows_containing l left budget a u m before n beside found is apart = record {
   condition = λ t. absurd (let g = sym apart ∙ t in cc);
   containing =
       λ t. sym (is ∙ found.passing
-      ∙ containing_told (linked_rules l) (said l left) (names_since before n) (indexes_since before n) a (get (codes "contains") a.schema.value));
+      ∙ containing_told (linked_rules l) (linked_outcome l left) (names_since before n) (indexes_since before n) a (get (codes "contains") a.schema.value));
 }
 
 -- ---- three keywords, none of which sees what others evaluated
 three_uses : (l : Linked) (left : ℕ) (a : Application) (first second third : Keyword) (before : Before) (n m : Notes)
     → looks_at_evaluated (row_of first).meaning ≡ false → looks_at_evaluated (row_of second).meaning ≡ false → looks_at_evaluated (row_of third).meaning ≡ false
     → uses_since l left a first before n ++ two_uses l left a second third before m
-    ≡ uses_of (linked_rules l) (said l left) (row_of first ∷ row_of second ∷ row_of third ∷ []) [] [] a
+    ≡ uses_of (linked_rules l) (linked_outcome l left) (row_of first ∷ row_of second ∷ row_of third ∷ []) [] [] a
 three_uses l left a first second third before n m e f g =
     let us = keyword_uses l left a first [] [] in
     let vs = keyword_uses l left a second [] [] in
     let ws = keyword_uses l left a third [] [] in
-    let last = added m (uses_notes a (uses_since l left a second before m)) in
+    let last = notes_of_both m (uses_notes a (uses_since l left a second before m)) in
     let one : uses_since l left a first before n ≡ us =
-    same_used (linked_rules l) (said l left) (names_since before n) (indexes_since before n) a (row_of first) (get (row_of first).name a.schema.value) e in
+    same_used (linked_rules l) (linked_outcome l left) (names_since before n) (indexes_since before n) a (row_of first) (get (row_of first).name a.schema.value) e in
     let two : uses_since l left a second before m ≡ vs =
-    same_used (linked_rules l) (said l left) (names_since before m) (indexes_since before m) a (row_of second) (get (row_of second).name a.schema.value) f in
+    same_used (linked_rules l) (linked_outcome l left) (names_since before m) (indexes_since before m) a (row_of second) (get (row_of second).name a.schema.value) f in
     let three : uses_since l left a third before last ≡ ws =
-    same_used (linked_rules l) (said l left) (names_since before last) (indexes_since before last) a (row_of third) (get (row_of third).name a.schema.value) g in
+    same_used (linked_rules l) (linked_outcome l left) (names_since before last) (indexes_since before last) a (row_of third) (get (row_of third).name a.schema.value) g in
     ap (λ (xs : List Use). xs ++ (uses_since l left a second before m ++ uses_since l left a third before last)) one
     ∙ ap (λ (xs : List Use). us ++ (xs ++ uses_since l left a third before last)) two ∙ ap (λ (xs : List Use). us ++ (vs ++ xs)) (three ∙ sym (append-nil ws))
 

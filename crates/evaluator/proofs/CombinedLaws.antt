@@ -3,13 +3,13 @@ use Rattle.std.proofs.Common.{◌≡◌, ℕ, List, [], ◌∷◌, ◌++◌, tru
 use Rattle.std.proofs.lemmas.Bool.{and_parts}
 use Rattle.std.specs.List.{list_all}
 use Rattle.definitions.specs.Values.{Value}
-use Rattle.definitions.specs.Applied.{Application, entered}
-use Rattle.definitions.specs.Outcomes.{Use, combined, other_annotations, use_annotations, use_errors}
+use Rattle.definitions.specs.Applied.{Application, application_within}
+use Rattle.definitions.specs.Outcomes.{Use, other_annotations, outcome_of_uses, use_annotations, use_errors}
 use Rattle.linker.specs.declared.linked.Linked.{Linked}
-use Rattle.evaluation_context.specs.Frames.{Frame, standing}
+use Rattle.evaluation_context.specs.Frames.{Frame, frame_standing}
 use Rattle.evaluation_context.specs.Standings.{Standing, application_at, standing_of, within_object}
 use Rattle.evaluator.specs.Findings.{Finds, FindsObject}
-use Rattle.evaluator.specs.Notes.{added, kept_annotations, outcome_notes, uses_notes}
+use Rattle.evaluator.specs.Notes.{kept_annotations, notes_of_both, outcome_notes, uses_notes}
 use Rattle.evaluator.specs.Rounds.{IsAt}
 use Rattle.evaluator.specs.declared.found.Found.{Found}
 use Rattle.evaluator.proofs.LogLaws.{annotated, same_notes}
@@ -27,17 +27,17 @@ all_kept a (u ∷ us) h =
 
 -- ---- what the object notes
 pub passing_object : (a : Application) (us : List Use) → list_all (λ u. u.passes) us ≡ true
-    → added (uses_notes a us) (annotated (other_annotations a)) ≡ outcome_notes (combined a us)
-unfolding added
+    → notes_of_both (uses_notes a us) (annotated (other_annotations a)) ≡ outcome_notes (outcome_of_uses a us)
+unfolding notes_of_both
 passing_object a us h =
     same_notes (append-nil _ ∙ no_errors a us h) (ap (λ l. l ++ other_annotations a) (all_kept a us h)) (append-nil _) (append-nil _) ∙ rw h refl
 
 pub failing_object : (a : Application) (us : List Use) → list_all (λ u. u.passes) us ≡ false
-    → record (uses_notes a us) { annotations = []; names = []; indexes = [] } ≡ outcome_notes (combined a us)
+    → record (uses_notes a us) { annotations = []; names = []; indexes = [] } ≡ outcome_notes (outcome_of_uses a us)
 failing_object a us h = rw h refl
 
 -- ---- what was found
-pub object_found : (f : Found) (budget : ℕ) (a : Application) (us : List Use) → FindsObject f budget us → Finds f budget (combined a us)
+pub object_found : (f : Found) (budget : ℕ) (a : Application) (us : List Use) → FindsObject f budget us → Finds f budget (outcome_of_uses a us)
 object_found f budget a us h = record {
   valid = h.valid;
   count = h.count;
@@ -47,12 +47,12 @@ object_found f budget a us h = record {
 }
 
 -- ---- within the object
-entered_there : (st : Standing) (s x : Value) → entered (application_at st s x) ≡ application_at (within_object st) s x
+entered_there : (st : Standing) (s x : Value) → application_within (application_at st s x) ≡ application_at (within_object st) s x
 entered_there st s x = refl
 
-pub entered_at : (l : Linked) (f g : Frame) (s x : Value) (a : Application) → IsAt l f s x a → standing g ≡ within_object (standing f) → IsAt l g s x (entered a)
+pub entered_at : (l : Linked) (f g : Frame) (s x : Value) (a : Application) → IsAt l f s x a → frame_standing g ≡ within_object (frame_standing f) → IsAt l g s x (application_within a)
 entered_at l f g s x a at e = record {
-  there = ap entered at.there ∙ entered_there (standing f) s x ∙ ap (λ st. application_at st s x) (sym e);
+  there = ap application_within at.there ∙ entered_there (frame_standing f) s x ∙ ap (λ st. application_at st s x) (sym e);
   inside = at.inside;
 }
 
@@ -60,5 +60,5 @@ pub stands_there : (st : Standing) (s x : Value) (a : Application) → a ≡ app
 stands_there st s x a e = sym (ap standing_of e)
 
 -- the same units, and the same names and indexes
-pub entered_notes : (a : Application) (us : List Use) → uses_notes (entered a) us ≡ uses_notes a us
+pub entered_notes : (a : Application) (us : List Use) → uses_notes (application_within a) us ≡ uses_notes a us
 entered_notes a us = refl

@@ -6,7 +6,7 @@ use Rattle.linker.specs.declared.linked.Linked.{Linked}
 use Rattle.keywords.specs.declared.keyword.Keyword.TheVariants.{UnevaluatedItems, UnevaluatedProperties}
 use Rattle.evaluator.specs.Findings.{FindsObject, FindsUses, use_count}
 use Rattle.evaluator.specs.Groups.{first_groups}
-use Rattle.evaluator.specs.Notes.{Notes, added, uses_notes}
+use Rattle.evaluator.specs.Notes.{Notes, notes_of_both, uses_notes}
 use Rattle.evaluator.specs.Rounds.{evaluated_in, groups_uses, object_uses, two_uses, unevaluated_uses}
 use Rattle.evaluator.specs.declared.found.Found.{Found}
 use Rattle.evaluator.specs.declared.log.Before.{Before}
@@ -14,23 +14,23 @@ use Rattle.evaluator.proofs.LogLaws.{added_twice}
 use Rattle.evaluator.proofs.UnevaluatedLaws.{both_after}
 use Rattle.evaluator.proofs.UseLaws.{so_far_more, uses_more_notes}
 
-last_uses : (l : Linked) (left : ℕ) (a : Application) (before : Before) (n mid : Notes) → before ≡ evaluated_in n → mid ≡ added n (uses_notes a (groups_uses l left a first_groups))
+last_uses : (l : Linked) (left : ℕ) (a : Application) (before : Before) (n mid : Notes) → before ≡ evaluated_in n → mid ≡ notes_of_both n (uses_notes a (groups_uses l left a first_groups))
     → two_uses l left a UnevaluatedItems UnevaluatedProperties before mid ≡ unevaluated_uses l left a (groups_uses l left a first_groups)
 last_uses l left a before n mid e m =
     ap (two_uses l left a UnevaluatedItems UnevaluatedProperties before) m ∙ both_after l left a before n (groups_uses l left a first_groups) e
 
 pub keywords_noted : (l : Linked) (left : ℕ) (a : Application) (before : Before) (n mid new : Notes) → before ≡ evaluated_in n
-    → mid ≡ added n (uses_notes a (groups_uses l left a first_groups)) → new ≡ added mid (uses_notes a (two_uses l left a UnevaluatedItems UnevaluatedProperties before mid))
-    → new ≡ added n (uses_notes a (object_uses l left a))
+    → mid ≡ notes_of_both n (uses_notes a (groups_uses l left a first_groups)) → new ≡ notes_of_both mid (uses_notes a (two_uses l left a UnevaluatedItems UnevaluatedProperties before mid))
+    → new ≡ notes_of_both n (uses_notes a (object_uses l left a))
 unfolding object_uses
 keywords_noted l left a before n mid new e m k =
     let gs = groups_uses l left a first_groups in
     let us = unevaluated_uses l left a gs in
-    k ∙ ap (λ vs. added mid (uses_notes a vs)) (last_uses l left a before n mid e m) ∙ ap (λ (o : Notes). added o (uses_notes a us)) m
-    ∙ added_twice n (uses_notes a gs) (uses_notes a us) ∙ ap (added n) (uses_more_notes a gs us)
+    k ∙ ap (λ vs. notes_of_both mid (uses_notes a vs)) (last_uses l left a before n mid e m) ∙ ap (λ (o : Notes). notes_of_both o (uses_notes a us)) m
+    ∙ added_twice n (uses_notes a gs) (uses_notes a us) ∙ ap (notes_of_both n) (uses_more_notes a gs us)
 
 pub keywords_found : (l : Linked) (left : ℕ) (a : Application) (before : Before) (n mid : Notes) (f g h : Found) (budget : ℕ) → before ≡ evaluated_in n
-    → mid ≡ added n (uses_notes a (groups_uses l left a first_groups)) → FindsObject f budget (groups_uses l left a first_groups)
+    → mid ≡ notes_of_both n (uses_notes a (groups_uses l left a first_groups)) → FindsObject f budget (groups_uses l left a first_groups)
     → FindsUses g (budget - f.count) (two_uses l left a UnevaluatedItems UnevaluatedProperties before mid)
     → h ≡ record { valid = f.valid && g.valid; count = f.count + g.count; looped = f.looped || g.looped; deep = f.deep || g.deep }
     → FindsObject h budget (object_uses l left a)
@@ -50,7 +50,7 @@ groups_over l left a budget over =
     omega (arith, c, over)
 
 pub last_over : (l : Linked) (left : ℕ) (a : Application) (before : Before) (n mid : Notes) (f : Found) (budget : ℕ) → before ≡ evaluated_in n
-    → mid ≡ added n (uses_notes a (groups_uses l left a first_groups)) → FindsObject f budget (groups_uses l left a first_groups)
+    → mid ≡ notes_of_both n (uses_notes a (groups_uses l left a first_groups)) → FindsObject f budget (groups_uses l left a first_groups)
     → budget - f.count < use_count (two_uses l left a UnevaluatedItems UnevaluatedProperties before mid) → budget < suc (use_count (object_uses l left a))
 unfolding object_uses
 last_over l left a before n mid f budget e m so_far over =

@@ -10,8 +10,8 @@ use Rattle.definitions.specs.Values.{Text, Value, get}
 use Rattle.definitions.specs.Keywords as table
 use Rattle.definitions.specs.Keywords.{keywords, looks_at_evaluated, row, declares}
 use Rattle.definitions.specs.Shapes.{Shape, schema_map, one_schema, identifier, anchor_name, dialect}
-use Rattle.definitions.specs.Applied.{Application, Outcome, Rules, entered}
-use Rattle.definitions.specs.Outcomes.{Use, combined, object_outcome, use_annotations, use_errors, used, uses_of}
+use Rattle.definitions.specs.Applied.{Application, Outcome, Rules, application_within}
+use Rattle.definitions.specs.Outcomes.{Use, object_outcome, outcome_of_uses, use_annotations, use_errors, uses_by_keyword, uses_of}
 use Rattle.linker.specs.declared.linked.Linked.{Linked}
 use Rattle.keywords.specs.Rows.{row_of}
 use Rattle.keyword_plans.specs.Sites.{linked_rules}
@@ -19,7 +19,7 @@ use Rattle.keywords.specs.declared.keyword.Keyword.TheVariants.{UnevaluatedItems
 use Rattle.evaluator.specs.Findings.{use_count}
 use Rattle.evaluator.specs.Groups.{first_groups, rows_of}
 use Rattle.keywords.specs.Groups.{in_order}
-use Rattle.evaluator.specs.Rounds.{groups_uses, object_uses, said, unevaluated_uses}
+use Rattle.evaluator.specs.Rounds.{groups_uses, linked_outcome, object_uses, unevaluated_uses}
 
 -- ---- uses that say nothing
 pub record Idle (a : Application) (us : List Use) : Type 0 where
@@ -58,10 +58,10 @@ combined_same : (a : Application) (us vs : List Use) → list_all (λ u. u.passe
     → use_count us ≡ use_count vs
     → list_any (λ u. list_any (λ o. o.1.looped) u.outcomes) us ≡ list_any (λ u. list_any (λ o. o.1.looped) u.outcomes) vs
     → list_any (λ u. list_any (λ o. o.1.deep) u.outcomes) us ≡ list_any (λ u. list_any (λ o. o.1.deep) u.outcomes) vs
-    → combined a us ≡ combined a vs
+    → outcome_of_uses a us ≡ outcome_of_uses a vs
 combined_same a us vs p n i e u c l d = rw (p, n, i, e, u, c, l, d) refl
 
-pub idle_between : (a : Application) (us ds vs : List Use) → Idle a ds → combined a ((us ++ ds) ++ vs) ≡ combined a (us ++ vs)
+pub idle_between : (a : Application) (us ds vs : List Use) → Idle a ds → outcome_of_uses a ((us ++ ds) ++ vs) ≡ outcome_of_uses a (us ++ vs)
 idle_between a us ds vs h =
     combined_same a ((us ++ ds) ++ vs) (us ++ vs)
     (all_between (λ u. u.passes) us ds vs h.passes)
@@ -78,7 +78,7 @@ no_uses : (a : Application) → Idle a []
 no_uses a = record { passes = refl; names = refl; indexes = refl; errors = refl; annotations = refl; count = refl; looped = refl; deep = refl }
 
 declared_first : (rules : Rules) (run : Application → Outcome) (names : List Text) (indexes : List ℕ) (a b : Application) (name : Text) (shape : Shape) (v : Option Value) (us : List Use)
-    → Idle a us → Idle a (used rules run names indexes b (row name shape declares) v ++ us)
+    → Idle a us → Idle a (uses_by_keyword rules run names indexes b (row name shape declares) v ++ us)
 declared_first rules run names indexes a b name shape None us h = h
 declared_first rules run names indexes a b name shape (Some v) us h = record {
   passes = h.passes;
@@ -122,28 +122,28 @@ flat_map_twice f g [] = refl
 flat_map_twice f g (x ∷ xs) = flat_map-append f (g x) (flat_map g xs) ∙ ap (λ l. flat_map f (g x) ++ l) (flat_map_twice f g xs)
 
 grouped_uses : (l : Linked) (left : ℕ) (b : Application)
-    → uses_of (linked_rules l) (said l left) (filter (λ k. not (looks_at_evaluated k.meaning)) keywords) [] [] b
-    ≡ groups_uses l left b first_groups ++ uses_of (linked_rules l) (said l left) declared_rows [] [] b
+    → uses_of (linked_rules l) (linked_outcome l left) (filter (λ k. not (looks_at_evaluated k.meaning)) keywords) [] [] b
+    ≡ groups_uses l left b first_groups ++ uses_of (linked_rules l) (linked_outcome l left) declared_rows [] [] b
 grouped_uses l left b =
-    let uses = λ (k : table.Keyword). used (linked_rules l) (said l left) [] [] b k (get k.name b.schema.value) in
+    let uses = λ (k : table.Keyword). uses_by_keyword (linked_rules l) (linked_outcome l left) [] [] b k (get k.name b.schema.value) in
     ap (flat_map uses) grouped_rows ∙ flat_map-append uses (flat_map rows_of first_groups) declared_rows
     ∙ ap (λ us. us ++ flat_map uses declared_rows) (flat_map_twice uses rows_of first_groups)
 
 -- a schema object: its groups, and then what looks at what they evaluated
-pub object_by_groups : (l : Linked) (left : ℕ) (a : Application) → object_outcome (linked_rules l) (said l left) a ≡ combined a (object_uses l left (entered a))
+pub object_by_groups : (l : Linked) (left : ℕ) (a : Application) → object_outcome (linked_rules l) (linked_outcome l left) a ≡ outcome_of_uses a (object_uses l left (application_within a))
 unfolding object_outcome object_uses
 object_by_groups l left a =
-    let here = entered a in
+    let here = application_within a in
     let gs = groups_uses l left here first_groups in
-    let ds = uses_of (linked_rules l) (said l left) declared_rows [] [] here in
-    let idle = declaring_idle (linked_rules l) (said l left) [] [] a here declared_names in
-    ap (λ rows. combined a (uses_of (linked_rules l) (said l left) (filter (λ k. not (looks_at_evaluated k.meaning)) keywords) [] [] here
-    ++ uses_of (linked_rules l) (said l left) rows
-    (flat_map (λ u. u.names) (uses_of (linked_rules l) (said l left) (filter (λ k. not (looks_at_evaluated k.meaning)) keywords) [] [] here))
-    (flat_map (λ u. u.indexes) (uses_of (linked_rules l) (said l left) (filter (λ k. not (looks_at_evaluated k.meaning)) keywords) [] [] here)) here)) unevaluated_rows
-    ∙ ap (λ us. combined a (us ++ unevaluated_uses l left here us)) (grouped_uses l left here)
-    ∙ ap (λ names. combined a ((gs ++ ds) ++ uses_of (linked_rules l) (said l left) (row_of UnevaluatedItems ∷ row_of UnevaluatedProperties ∷ []) names (flat_map (λ u. u.indexes) (gs ++ ds)) here))
+    let ds = uses_of (linked_rules l) (linked_outcome l left) declared_rows [] [] here in
+    let idle = declaring_idle (linked_rules l) (linked_outcome l left) [] [] a here declared_names in
+    ap (λ rows. outcome_of_uses a (uses_of (linked_rules l) (linked_outcome l left) (filter (λ k. not (looks_at_evaluated k.meaning)) keywords) [] [] here
+    ++ uses_of (linked_rules l) (linked_outcome l left) rows
+    (flat_map (λ u. u.names) (uses_of (linked_rules l) (linked_outcome l left) (filter (λ k. not (looks_at_evaluated k.meaning)) keywords) [] [] here))
+    (flat_map (λ u. u.indexes) (uses_of (linked_rules l) (linked_outcome l left) (filter (λ k. not (looks_at_evaluated k.meaning)) keywords) [] [] here)) here)) unevaluated_rows
+    ∙ ap (λ us. outcome_of_uses a (us ++ unevaluated_uses l left here us)) (grouped_uses l left here)
+    ∙ ap (λ names. outcome_of_uses a ((gs ++ ds) ++ uses_of (linked_rules l) (linked_outcome l left) (row_of UnevaluatedItems ∷ row_of UnevaluatedProperties ∷ []) names (flat_map (λ u. u.indexes) (gs ++ ds)) here))
     (without_some (λ u. u.names) gs ds idle.names)
-    ∙ ap (λ indexes. combined a ((gs ++ ds) ++ uses_of (linked_rules l) (said l left) (row_of UnevaluatedItems ∷ row_of UnevaluatedProperties ∷ []) (flat_map (λ u. u.names) gs) indexes here))
+    ∙ ap (λ indexes. outcome_of_uses a ((gs ++ ds) ++ uses_of (linked_rules l) (linked_outcome l left) (row_of UnevaluatedItems ∷ row_of UnevaluatedProperties ∷ []) (flat_map (λ u. u.names) gs) indexes here))
     (without_some (λ u. u.indexes) gs ds idle.indexes)
     ∙ idle_between a gs ds (unevaluated_uses l left here gs) idle

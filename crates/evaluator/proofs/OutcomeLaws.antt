@@ -6,7 +6,7 @@ use Rattle.definitions.specs.Applied.{Application, Outcome, Rules}
 use Rattle.definitions.specs.Outcomes.{outcome, schema_outcome, object_outcome, boolean_outcome, leaf, is_running}
 use Rattle.evaluator.specs.Findings.{Finds}
 use Rattle.evaluator.proofs.LogLaws.{added_nothing}
-use Rattle.evaluator.specs.Notes.{Notes, added, outcome_notes}
+use Rattle.evaluator.specs.Notes.{Notes, notes_of_both, outcome_notes}
 use Rattle.evaluator.specs.Rounds.{boolean_found, boolean_notes}
 use Rattle.evaluator.specs.declared.found.Found.{Found}
 use Rattle.json_doc.specs.Kinds.{as_boolean}
@@ -114,7 +114,7 @@ pub boolean_noted : (rules : Rules) (n : ℕ) (a : Application) (b : Bool) → S
 boolean_noted rules zero a b e = rw (outcome-deep-boolean rules 0 a b e refl) refl
 boolean_noted rules (suc n) a b e = rw (outcome-boolean rules (suc n) a b e (omega arith)) refl
 
-pub deep_noted : (m : Notes) (n : ℕ) (a : Application) (b : Bool) → n ≡ 0 → m ≡ added m (boolean_notes n a b)
+pub deep_noted : (m : Notes) (n : ℕ) (a : Application) (b : Bool) → n ≡ 0 → m ≡ notes_of_both m (boolean_notes n a b)
 deep_noted m zero a b e = sym (added_nothing m)
 deep_noted m (suc n) a b e = absurd (omega arith)
 

@@ -6,9 +6,9 @@ use Rattle.std.proofs.lemmas.List.Folds.{list_all-append}
 use Rattle.definitions.specs.Values.{Text, Value, get, elements, members, string}
 use Rattle.definitions.specs.Schemas.{Schema, reference_at}
 use Rattle.definitions.specs.Targets.{target, dynamic_target}
-use Rattle.definitions.specs.Keywords.{Meaning, asserts, matches_pattern, refers, refers_dynamically, all_of, any_of, one_of, negated, condition, consequence, dependent_schemas, prefix_items, rest_items, some_item, at_least_items, at_most_items, properties, pattern_properties, other_properties, property_names, unevaluated_items, unevaluated_properties, declares}
-use Rattle.definitions.specs.Applied.{Application, Outcome, OutputUnit, Part, Rules, whole, named, indexed, name_of, applied, at_part, at_present, beside, consequence_of, condition_outcome, is_taken, to_target, has}
-use Rattle.definitions.specs.Evaluated.{passed, failed, part_names, part_indexes, is_in_place, evaluated_names, evaluated_indexes}
+use Rattle.definitions.specs.Keywords.{Meaning, asserts, matches_pattern, refers, refers_dynamically, all_of, any_of, one_of, negation, condition, consequence, dependent_schemas, prefix_items, items, contains, min_contains, max_contains, properties, pattern_properties, additional_properties, property_names, unevaluated_items, unevaluated_properties, declares}
+use Rattle.definitions.specs.Applied.{Application, Outcome, OutputUnit, Part, Rules, whole, named, indexed, name_of, keyword_applications, at_part, at_present, beside, consequence_of, condition_outcome, is_taken, to_target, has}
+use Rattle.definitions.specs.Evaluated.{outcomes_that_pass, outcomes_that_fail, part_names, part_indexes, is_in_place, evaluated_names, evaluated_indexes}
 use Rattle.evaluator.specs.Notes.{names_from, indexes_from, needs_to_pass, evaluates}
 
 -- ---- the parts that a keyword applies schemas to: all in place, or none
@@ -47,9 +47,9 @@ kept_if true inner e own xs os same none rest = ap₂ (λ us vs. us ++ vs) same 
 kept_if false inner e own xs os same none rest = ap₂ (λ us vs. us ++ vs) (none refl) rest
 
 names_here : (run : Application → Outcome) → Quiet run → (es : List (Part × Application)) → stand true es ≡ true
-    → flat_map (λ (o : Part × Outcome). names_from o.0 o.1) (ran run es) ≡ flat_map names_in (passed (ran run es))
+    → flat_map (λ (o : Part × Outcome). names_from o.0 o.1) (ran run es) ≡ flat_map names_in (outcomes_that_pass (ran run es))
 names_here run quiet [] h = refl
-names_here run quiet ((whole, a) ∷ es) h = kept_if (run a).valid names_in (whole, run a) (run a).names _ (passed (ran run es)) refl (λ e. (quiet a e).0) (names_here run quiet es h)
+names_here run quiet ((whole, a) ∷ es) h = kept_if (run a).valid names_in (whole, run a) (run a).names _ (outcomes_that_pass (ran run es)) refl (λ e. (quiet a e).0) (names_here run quiet es h)
 names_here run quiet ((named n, a) ∷ es) h = absurd (cc)
 names_here run quiet ((indexed i, a) ∷ es) h = absurd (cc)
 names_here run quiet ((name_of n, a) ∷ es) h = absurd (cc)
@@ -69,9 +69,9 @@ names_apart run ((indexed i, a) ∷ es) h = names_apart run es h
 names_apart run ((name_of n, a) ∷ es) h = names_apart run es h
 
 indexes_here : (run : Application → Outcome) → Quiet run → (m : Meaning) (es : List (Part × Application)) → stand true es ≡ true
-    → flat_map (λ (o : Part × Outcome). indexes_from m o.0 o.1) (ran run es) ≡ flat_map indexes_in (passed (ran run es))
+    → flat_map (λ (o : Part × Outcome). indexes_from m o.0 o.1) (ran run es) ≡ flat_map indexes_in (outcomes_that_pass (ran run es))
 indexes_here run quiet m [] h = refl
-indexes_here run quiet m ((whole, a) ∷ es) h = kept_if (run a).valid indexes_in (whole, run a) (run a).indexes _ (passed (ran run es)) refl (λ e. (quiet a e).1) (indexes_here run quiet m es h)
+indexes_here run quiet m ((whole, a) ∷ es) h = kept_if (run a).valid indexes_in (whole, run a) (run a).indexes _ (outcomes_that_pass (ran run es)) refl (λ e. (quiet a e).1) (indexes_here run quiet m es h)
 indexes_here run quiet m ((named n, a) ∷ es) h = absurd (cc)
 indexes_here run quiet m ((indexed i, a) ∷ es) h = absurd (cc)
 indexes_here run quiet m ((name_of n, a) ∷ es) h = absurd (cc)
@@ -97,22 +97,22 @@ kept_none true inner e os none rest = ap₂ (λ us vs. us ++ vs) none rest
 kept_none false inner e os none rest = rest
 
 inner_none : {X : Type 0} (inner : Part × Outcome → List X) → ((o : Part × Outcome) → is_in_place o.0 ≡ false → inner o ≡ []) → (run : Application → Outcome) (es : List (Part × Application))
-    → stand false es ≡ true → flat_map inner (passed (ran run es)) ≡ []
+    → stand false es ≡ true → flat_map inner (outcomes_that_pass (ran run es)) ≡ []
 inner_none inner none run [] h = refl
 inner_none inner none run ((whole, a) ∷ es) h = absurd (cc)
-inner_none inner none run ((named n, a) ∷ es) h = kept_none (run a).valid inner (named n, run a) (passed (ran run es)) (none (named n, run a) refl) (inner_none inner none run es h)
-inner_none inner none run ((indexed i, a) ∷ es) h = kept_none (run a).valid inner (indexed i, run a) (passed (ran run es)) (none (indexed i, run a) refl) (inner_none inner none run es h)
-inner_none inner none run ((name_of n, a) ∷ es) h = kept_none (run a).valid inner (name_of n, run a) (passed (ran run es)) (none (name_of n, run a) refl) (inner_none inner none run es h)
+inner_none inner none run ((named n, a) ∷ es) h = kept_none (run a).valid inner (named n, run a) (outcomes_that_pass (ran run es)) (none (named n, run a) refl) (inner_none inner none run es h)
+inner_none inner none run ((indexed i, a) ∷ es) h = kept_none (run a).valid inner (indexed i, run a) (outcomes_that_pass (ran run es)) (none (indexed i, run a) refl) (inner_none inner none run es h)
+inner_none inner none run ((name_of n, a) ∷ es) h = kept_none (run a).valid inner (name_of n, run a) (outcomes_that_pass (ran run es)) (none (name_of n, run a) refl) (inner_none inner none run es h)
 
 names_law : (run : Application → Outcome) → Quiet run → (b : Bool) (es : List (Part × Application)) → stand b es ≡ true
-    → flat_map (λ (o : Part × Outcome). names_from o.0 o.1) (ran run es) ≡ part_names (ran run es) ++ flat_map names_in (passed (ran run es))
-names_law run quiet true es h = names_here run quiet es h ∙ ap (λ ns. ns ++ flat_map names_in (passed (ran run es))) (sym (no_part_names run es h))
+    → flat_map (λ (o : Part × Outcome). names_from o.0 o.1) (ran run es) ≡ part_names (ran run es) ++ flat_map names_in (outcomes_that_pass (ran run es))
+names_law run quiet true es h = names_here run quiet es h ∙ ap (λ ns. ns ++ flat_map names_in (outcomes_that_pass (ran run es))) (sym (no_part_names run es h))
 names_law run quiet false es h =
     names_apart run es h ∙ sym (append-nil (part_names (ran run es))) ∙ ap (λ ns. part_names (ran run es) ++ ns) (sym (inner_none names_in (λ o e. rw e refl) run es h))
 
 indexes_law : (run : Application → Outcome) → Quiet run → (m : Meaning) → needs_to_pass m ≡ false → (b : Bool) (es : List (Part × Application)) → stand b es ≡ true
-    → flat_map (λ (o : Part × Outcome). indexes_from m o.0 o.1) (ran run es) ≡ part_indexes (ran run es) ++ flat_map indexes_in (passed (ran run es))
-indexes_law run quiet m all true es h = indexes_here run quiet m es h ∙ ap (λ is. is ++ flat_map indexes_in (passed (ran run es))) (sym (no_part_indexes run es h))
+    → flat_map (λ (o : Part × Outcome). indexes_from m o.0 o.1) (ran run es) ≡ part_indexes (ran run es) ++ flat_map indexes_in (outcomes_that_pass (ran run es))
+indexes_law run quiet m all true es h = indexes_here run quiet m es h ∙ ap (λ is. is ++ flat_map indexes_in (outcomes_that_pass (ran run es))) (sym (no_part_indexes run es h))
 indexes_law run quiet m all false es h =
     indexes_apart run m es all h ∙ sym (append-nil (part_indexes (ran run es))) ∙ ap (λ is. part_indexes (ran run es) ++ is) (sym (inner_none indexes_in (λ o e. rw e refl) run es h))
 
@@ -126,12 +126,12 @@ skipped_if true is e os skips rest = rest ∙ sym skips
 skipped_if false is e os skips rest = rest
 
 indexes_found : (run : Application → Outcome) (es : List (Part × Application)) → stand false es ≡ true
-    → flat_map (λ (o : Part × Outcome). indexes_from some_item o.0 o.1) (ran run es) ≡ part_indexes (passed (ran run es))
+    → flat_map (λ (o : Part × Outcome). indexes_from contains o.0 o.1) (ran run es) ≡ part_indexes (outcomes_that_pass (ran run es))
 indexes_found run [] h = refl
 indexes_found run ((whole, a) ∷ es) h = absurd (cc)
-indexes_found run ((named n, a) ∷ es) h = skipped_if (run a).valid _ (named n, run a) (passed (ran run es)) refl (indexes_found run es h)
-indexes_found run ((indexed i, a) ∷ es) h = found_if (run a).valid i _ (run a) (passed (ran run es)) (indexes_found run es h)
-indexes_found run ((name_of n, a) ∷ es) h = skipped_if (run a).valid _ (name_of n, run a) (passed (ran run es)) refl (indexes_found run es h)
+indexes_found run ((named n, a) ∷ es) h = skipped_if (run a).valid _ (named n, run a) (outcomes_that_pass (ran run es)) refl (indexes_found run es h)
+indexes_found run ((indexed i, a) ∷ es) h = found_if (run a).valid i _ (run a) (outcomes_that_pass (ran run es)) (indexes_found run es h)
+indexes_found run ((name_of n, a) ∷ es) h = skipped_if (run a).valid _ (name_of n, run a) (outcomes_that_pass (ran run es)) refl (indexes_found run es h)
 
 -- ---- names alone evaluate nothing
 names_nothing : {X : Type 0} (run : Application → Outcome) (n : X → Text) (b : X → Application) (xs : List X)
@@ -162,18 +162,18 @@ presented a k m (Some x) = refl
 -- whether it applies schemas in place
 abbrev applies_in_place : Meaning → Bool
 applies_in_place prefix_items = false
-applies_in_place rest_items = false
-applies_in_place some_item = false
+applies_in_place items = false
+applies_in_place contains = false
 applies_in_place properties = false
 applies_in_place pattern_properties = false
-applies_in_place other_properties = false
+applies_in_place additional_properties = false
 applies_in_place property_names = false
 applies_in_place unevaluated_items = false
 applies_in_place unevaluated_properties = false
 applies_in_place _ = true
 
 parts_stand : (rules : Rules) (run : Application → Outcome) (names : List Text) (indexes : List ℕ) (a : Application) (k : Text) (m : Meaning) (v : Value)
-    → stand (applies_in_place m) (applied rules run names indexes a k m v) ≡ true
+    → stand (applies_in_place m) (keyword_applications rules run names indexes a k m v) ≡ true
 parts_stand rules run names indexes a k (asserts assertion) v = refl
 parts_stand rules run names indexes a k matches_pattern v = refl
 parts_stand rules run names indexes a k refers v = referred a k (option_and_then (target rules.schemas) (reference_at k a.schema))
@@ -181,73 +181,73 @@ parts_stand rules run names indexes a k refers_dynamically v = referred a k (opt
 parts_stand rules run names indexes a k all_of v = all_map _ _ (enumerate_from 0 (elements v)) (λ e. refl)
 parts_stand rules run names indexes a k any_of v = all_map _ _ (enumerate_from 0 (elements v)) (λ e. refl)
 parts_stand rules run names indexes a k one_of v = all_map _ _ (enumerate_from 0 (elements v)) (λ e. refl)
-parts_stand rules run names indexes a k negated v = refl
+parts_stand rules run names indexes a k negation v = refl
 parts_stand rules run names indexes a k condition v = refl
 parts_stand rules run names indexes a k (consequence wanted) v = followed a k wanted v (condition_outcome run a)
 parts_stand rules run names indexes a k dependent_schemas v = all_map _ _ (filter (λ m. is_some (get m.0 a.instance)) (members v)) (λ e. refl)
 parts_stand rules run names indexes a k prefix_items v = all_map _ _ (zip (enumerate_from 0 (elements v)) (elements a.instance)) (λ e. refl)
-parts_stand rules run names indexes a k rest_items v = all_map _ _ (let start = length (elements (beside a (codes "prefixItems"))) in enumerate_from start (drop start (elements a.instance))) (λ e. refl)
-parts_stand rules run names indexes a k some_item v = all_map _ _ (enumerate_from 0 (elements a.instance)) (λ e. refl)
-parts_stand rules run names indexes a k at_least_items v = refl
-parts_stand rules run names indexes a k at_most_items v = refl
+parts_stand rules run names indexes a k items v = all_map _ _ (let start = length (elements (beside a (codes "prefixItems"))) in enumerate_from start (drop start (elements a.instance))) (λ e. refl)
+parts_stand rules run names indexes a k contains v = all_map _ _ (enumerate_from 0 (elements a.instance)) (λ e. refl)
+parts_stand rules run names indexes a k min_contains v = refl
+parts_stand rules run names indexes a k max_contains v = refl
 parts_stand rules run names indexes a k properties v = all_flat _ _ (members v) (λ m. presented a k m (get m.0 a.instance))
 parts_stand rules run names indexes a k pattern_properties v = all_flat _ _ (members a.instance) (λ m. all_map _ _ (filter (λ p. rules.matches p.0 m.0) (members v)) (λ e. refl))
-parts_stand rules run names indexes a k other_properties v = all_map _ _ (filter (λ m. not (is_taken rules a m.0)) (members a.instance)) (λ e. refl)
+parts_stand rules run names indexes a k additional_properties v = all_map _ _ (filter (λ m. not (is_taken rules a m.0)) (members a.instance)) (λ e. refl)
 parts_stand rules run names indexes a k property_names v = all_map _ _ (members a.instance) (λ e. refl)
 parts_stand rules run names indexes a k unevaluated_items v = all_map _ _ (filter (λ e. not (list_any (λ i. i == e.0) indexes)) (enumerate_from 0 (elements a.instance))) (λ e. refl)
 parts_stand rules run names indexes a k unevaluated_properties v = all_map _ _ (filter (λ m. not (has m.0 names)) (members a.instance)) (λ e. refl)
 parts_stand rules run names indexes a k declares v = refl
 
 pub names_of_use : (rules : Rules) (run : Application → Outcome) → Quiet run → (names : List Text) (indexes : List ℕ) (a : Application) (k : Text) (m : Meaning) (v : Value)
-    → (if evaluates m then flat_map (λ (o : Part × Outcome). names_from o.0 o.1) (map (λ e. (e.0, run e.1)) (applied rules run names indexes a k m v)) else []) ≡ evaluated_names m (map (λ e. (e.0, run e.1)) (applied rules run names indexes a k m v))
+    → (if evaluates m then flat_map (λ (o : Part × Outcome). names_from o.0 o.1) (map (λ e. (e.0, run e.1)) (keyword_applications rules run names indexes a k m v)) else []) ≡ evaluated_names m (map (λ e. (e.0, run e.1)) (keyword_applications rules run names indexes a k m v))
 names_of_use rules run quiet names indexes a k (asserts assertion) v = refl
 names_of_use rules run quiet names indexes a k matches_pattern v = refl
-names_of_use rules run quiet names indexes a k refers v = names_law run quiet true (applied rules run names indexes a k refers v) (parts_stand rules run names indexes a k refers v)
-names_of_use rules run quiet names indexes a k refers_dynamically v = names_law run quiet true (applied rules run names indexes a k refers_dynamically v) (parts_stand rules run names indexes a k refers_dynamically v)
-names_of_use rules run quiet names indexes a k all_of v = names_law run quiet true (applied rules run names indexes a k all_of v) (parts_stand rules run names indexes a k all_of v)
-names_of_use rules run quiet names indexes a k any_of v = names_law run quiet true (applied rules run names indexes a k any_of v) (parts_stand rules run names indexes a k any_of v)
-names_of_use rules run quiet names indexes a k one_of v = names_law run quiet true (applied rules run names indexes a k one_of v) (parts_stand rules run names indexes a k one_of v)
-names_of_use rules run quiet names indexes a k negated v = refl
-names_of_use rules run quiet names indexes a k condition v = names_law run quiet true (applied rules run names indexes a k condition v) (parts_stand rules run names indexes a k condition v)
-names_of_use rules run quiet names indexes a k (consequence wanted) v = names_law run quiet true (applied rules run names indexes a k (consequence wanted) v) (parts_stand rules run names indexes a k (consequence wanted) v)
-names_of_use rules run quiet names indexes a k dependent_schemas v = names_law run quiet true (applied rules run names indexes a k dependent_schemas v) (parts_stand rules run names indexes a k dependent_schemas v)
-names_of_use rules run quiet names indexes a k prefix_items v = names_law run quiet false (applied rules run names indexes a k prefix_items v) (parts_stand rules run names indexes a k prefix_items v)
-names_of_use rules run quiet names indexes a k rest_items v = names_law run quiet false (applied rules run names indexes a k rest_items v) (parts_stand rules run names indexes a k rest_items v)
-names_of_use rules run quiet names indexes a k some_item v = names_law run quiet false (applied rules run names indexes a k some_item v) (parts_stand rules run names indexes a k some_item v)
-names_of_use rules run quiet names indexes a k at_least_items v = refl
-names_of_use rules run quiet names indexes a k at_most_items v = refl
-names_of_use rules run quiet names indexes a k properties v = names_law run quiet false (applied rules run names indexes a k properties v) (parts_stand rules run names indexes a k properties v)
-names_of_use rules run quiet names indexes a k pattern_properties v = names_law run quiet false (applied rules run names indexes a k pattern_properties v) (parts_stand rules run names indexes a k pattern_properties v)
-names_of_use rules run quiet names indexes a k other_properties v = names_law run quiet false (applied rules run names indexes a k other_properties v) (parts_stand rules run names indexes a k other_properties v)
+names_of_use rules run quiet names indexes a k refers v = names_law run quiet true (keyword_applications rules run names indexes a k refers v) (parts_stand rules run names indexes a k refers v)
+names_of_use rules run quiet names indexes a k refers_dynamically v = names_law run quiet true (keyword_applications rules run names indexes a k refers_dynamically v) (parts_stand rules run names indexes a k refers_dynamically v)
+names_of_use rules run quiet names indexes a k all_of v = names_law run quiet true (keyword_applications rules run names indexes a k all_of v) (parts_stand rules run names indexes a k all_of v)
+names_of_use rules run quiet names indexes a k any_of v = names_law run quiet true (keyword_applications rules run names indexes a k any_of v) (parts_stand rules run names indexes a k any_of v)
+names_of_use rules run quiet names indexes a k one_of v = names_law run quiet true (keyword_applications rules run names indexes a k one_of v) (parts_stand rules run names indexes a k one_of v)
+names_of_use rules run quiet names indexes a k negation v = refl
+names_of_use rules run quiet names indexes a k condition v = names_law run quiet true (keyword_applications rules run names indexes a k condition v) (parts_stand rules run names indexes a k condition v)
+names_of_use rules run quiet names indexes a k (consequence wanted) v = names_law run quiet true (keyword_applications rules run names indexes a k (consequence wanted) v) (parts_stand rules run names indexes a k (consequence wanted) v)
+names_of_use rules run quiet names indexes a k dependent_schemas v = names_law run quiet true (keyword_applications rules run names indexes a k dependent_schemas v) (parts_stand rules run names indexes a k dependent_schemas v)
+names_of_use rules run quiet names indexes a k prefix_items v = names_law run quiet false (keyword_applications rules run names indexes a k prefix_items v) (parts_stand rules run names indexes a k prefix_items v)
+names_of_use rules run quiet names indexes a k items v = names_law run quiet false (keyword_applications rules run names indexes a k items v) (parts_stand rules run names indexes a k items v)
+names_of_use rules run quiet names indexes a k contains v = names_law run quiet false (keyword_applications rules run names indexes a k contains v) (parts_stand rules run names indexes a k contains v)
+names_of_use rules run quiet names indexes a k min_contains v = refl
+names_of_use rules run quiet names indexes a k max_contains v = refl
+names_of_use rules run quiet names indexes a k properties v = names_law run quiet false (keyword_applications rules run names indexes a k properties v) (parts_stand rules run names indexes a k properties v)
+names_of_use rules run quiet names indexes a k pattern_properties v = names_law run quiet false (keyword_applications rules run names indexes a k pattern_properties v) (parts_stand rules run names indexes a k pattern_properties v)
+names_of_use rules run quiet names indexes a k additional_properties v = names_law run quiet false (keyword_applications rules run names indexes a k additional_properties v) (parts_stand rules run names indexes a k additional_properties v)
 names_of_use rules run quiet names indexes a k property_names v = names_nothing run (λ m. m.0) (λ m. (at_part a (k ∷ []) v (name_of m.0) (string m.0)).1) (members a.instance)
-names_of_use rules run quiet names indexes a k unevaluated_items v = names_law run quiet false (applied rules run names indexes a k unevaluated_items v) (parts_stand rules run names indexes a k unevaluated_items v)
-names_of_use rules run quiet names indexes a k unevaluated_properties v = names_law run quiet false (applied rules run names indexes a k unevaluated_properties v) (parts_stand rules run names indexes a k unevaluated_properties v)
+names_of_use rules run quiet names indexes a k unevaluated_items v = names_law run quiet false (keyword_applications rules run names indexes a k unevaluated_items v) (parts_stand rules run names indexes a k unevaluated_items v)
+names_of_use rules run quiet names indexes a k unevaluated_properties v = names_law run quiet false (keyword_applications rules run names indexes a k unevaluated_properties v) (parts_stand rules run names indexes a k unevaluated_properties v)
 names_of_use rules run quiet names indexes a k declares v = refl
 
 pub indexes_of_use : (rules : Rules) (run : Application → Outcome) → Quiet run → (names : List Text) (indexes : List ℕ) (a : Application) (k : Text) (m : Meaning) (v : Value)
-    → (if evaluates m then flat_map (λ (o : Part × Outcome). indexes_from m o.0 o.1) (map (λ e. (e.0, run e.1)) (applied rules run names indexes a k m v)) else []) ≡ evaluated_indexes m (map (λ e. (e.0, run e.1)) (applied rules run names indexes a k m v))
+    → (if evaluates m then flat_map (λ (o : Part × Outcome). indexes_from m o.0 o.1) (map (λ e. (e.0, run e.1)) (keyword_applications rules run names indexes a k m v)) else []) ≡ evaluated_indexes m (map (λ e. (e.0, run e.1)) (keyword_applications rules run names indexes a k m v))
 indexes_of_use rules run quiet names indexes a k (asserts assertion) v = refl
 indexes_of_use rules run quiet names indexes a k matches_pattern v = refl
-indexes_of_use rules run quiet names indexes a k refers v = indexes_law run quiet refers refl true (applied rules run names indexes a k refers v) (parts_stand rules run names indexes a k refers v)
-indexes_of_use rules run quiet names indexes a k refers_dynamically v = indexes_law run quiet refers_dynamically refl true (applied rules run names indexes a k refers_dynamically v) (parts_stand rules run names indexes a k refers_dynamically v)
-indexes_of_use rules run quiet names indexes a k all_of v = indexes_law run quiet all_of refl true (applied rules run names indexes a k all_of v) (parts_stand rules run names indexes a k all_of v)
-indexes_of_use rules run quiet names indexes a k any_of v = indexes_law run quiet any_of refl true (applied rules run names indexes a k any_of v) (parts_stand rules run names indexes a k any_of v)
-indexes_of_use rules run quiet names indexes a k one_of v = indexes_law run quiet one_of refl true (applied rules run names indexes a k one_of v) (parts_stand rules run names indexes a k one_of v)
-indexes_of_use rules run quiet names indexes a k negated v = refl
-indexes_of_use rules run quiet names indexes a k condition v = indexes_law run quiet condition refl true (applied rules run names indexes a k condition v) (parts_stand rules run names indexes a k condition v)
-indexes_of_use rules run quiet names indexes a k (consequence wanted) v = indexes_law run quiet (consequence wanted) refl true (applied rules run names indexes a k (consequence wanted) v) (parts_stand rules run names indexes a k (consequence wanted) v)
-indexes_of_use rules run quiet names indexes a k dependent_schemas v = indexes_law run quiet dependent_schemas refl true (applied rules run names indexes a k dependent_schemas v) (parts_stand rules run names indexes a k dependent_schemas v)
-indexes_of_use rules run quiet names indexes a k prefix_items v = indexes_law run quiet prefix_items refl false (applied rules run names indexes a k prefix_items v) (parts_stand rules run names indexes a k prefix_items v)
-indexes_of_use rules run quiet names indexes a k rest_items v = indexes_law run quiet rest_items refl false (applied rules run names indexes a k rest_items v) (parts_stand rules run names indexes a k rest_items v)
-indexes_of_use rules run quiet names indexes a k some_item v = indexes_found run (applied rules run names indexes a k some_item v) (parts_stand rules run names indexes a k some_item v)
-indexes_of_use rules run quiet names indexes a k at_least_items v = refl
-indexes_of_use rules run quiet names indexes a k at_most_items v = refl
-indexes_of_use rules run quiet names indexes a k properties v = indexes_law run quiet properties refl false (applied rules run names indexes a k properties v) (parts_stand rules run names indexes a k properties v)
-indexes_of_use rules run quiet names indexes a k pattern_properties v = indexes_law run quiet pattern_properties refl false (applied rules run names indexes a k pattern_properties v) (parts_stand rules run names indexes a k pattern_properties v)
-indexes_of_use rules run quiet names indexes a k other_properties v = indexes_law run quiet other_properties refl false (applied rules run names indexes a k other_properties v) (parts_stand rules run names indexes a k other_properties v)
-indexes_of_use rules run quiet names indexes a k property_names v = indexes_law run quiet property_names refl false (applied rules run names indexes a k property_names v) (parts_stand rules run names indexes a k property_names v)
-indexes_of_use rules run quiet names indexes a k unevaluated_items v = indexes_law run quiet unevaluated_items refl false (applied rules run names indexes a k unevaluated_items v) (parts_stand rules run names indexes a k unevaluated_items v)
-indexes_of_use rules run quiet names indexes a k unevaluated_properties v = indexes_law run quiet unevaluated_properties refl false (applied rules run names indexes a k unevaluated_properties v) (parts_stand rules run names indexes a k unevaluated_properties v)
+indexes_of_use rules run quiet names indexes a k refers v = indexes_law run quiet refers refl true (keyword_applications rules run names indexes a k refers v) (parts_stand rules run names indexes a k refers v)
+indexes_of_use rules run quiet names indexes a k refers_dynamically v = indexes_law run quiet refers_dynamically refl true (keyword_applications rules run names indexes a k refers_dynamically v) (parts_stand rules run names indexes a k refers_dynamically v)
+indexes_of_use rules run quiet names indexes a k all_of v = indexes_law run quiet all_of refl true (keyword_applications rules run names indexes a k all_of v) (parts_stand rules run names indexes a k all_of v)
+indexes_of_use rules run quiet names indexes a k any_of v = indexes_law run quiet any_of refl true (keyword_applications rules run names indexes a k any_of v) (parts_stand rules run names indexes a k any_of v)
+indexes_of_use rules run quiet names indexes a k one_of v = indexes_law run quiet one_of refl true (keyword_applications rules run names indexes a k one_of v) (parts_stand rules run names indexes a k one_of v)
+indexes_of_use rules run quiet names indexes a k negation v = refl
+indexes_of_use rules run quiet names indexes a k condition v = indexes_law run quiet condition refl true (keyword_applications rules run names indexes a k condition v) (parts_stand rules run names indexes a k condition v)
+indexes_of_use rules run quiet names indexes a k (consequence wanted) v = indexes_law run quiet (consequence wanted) refl true (keyword_applications rules run names indexes a k (consequence wanted) v) (parts_stand rules run names indexes a k (consequence wanted) v)
+indexes_of_use rules run quiet names indexes a k dependent_schemas v = indexes_law run quiet dependent_schemas refl true (keyword_applications rules run names indexes a k dependent_schemas v) (parts_stand rules run names indexes a k dependent_schemas v)
+indexes_of_use rules run quiet names indexes a k prefix_items v = indexes_law run quiet prefix_items refl false (keyword_applications rules run names indexes a k prefix_items v) (parts_stand rules run names indexes a k prefix_items v)
+indexes_of_use rules run quiet names indexes a k items v = indexes_law run quiet items refl false (keyword_applications rules run names indexes a k items v) (parts_stand rules run names indexes a k items v)
+indexes_of_use rules run quiet names indexes a k contains v = indexes_found run (keyword_applications rules run names indexes a k contains v) (parts_stand rules run names indexes a k contains v)
+indexes_of_use rules run quiet names indexes a k min_contains v = refl
+indexes_of_use rules run quiet names indexes a k max_contains v = refl
+indexes_of_use rules run quiet names indexes a k properties v = indexes_law run quiet properties refl false (keyword_applications rules run names indexes a k properties v) (parts_stand rules run names indexes a k properties v)
+indexes_of_use rules run quiet names indexes a k pattern_properties v = indexes_law run quiet pattern_properties refl false (keyword_applications rules run names indexes a k pattern_properties v) (parts_stand rules run names indexes a k pattern_properties v)
+indexes_of_use rules run quiet names indexes a k additional_properties v = indexes_law run quiet additional_properties refl false (keyword_applications rules run names indexes a k additional_properties v) (parts_stand rules run names indexes a k additional_properties v)
+indexes_of_use rules run quiet names indexes a k property_names v = indexes_law run quiet property_names refl false (keyword_applications rules run names indexes a k property_names v) (parts_stand rules run names indexes a k property_names v)
+indexes_of_use rules run quiet names indexes a k unevaluated_items v = indexes_law run quiet unevaluated_items refl false (keyword_applications rules run names indexes a k unevaluated_items v) (parts_stand rules run names indexes a k unevaluated_items v)
+indexes_of_use rules run quiet names indexes a k unevaluated_properties v = indexes_law run quiet unevaluated_properties refl false (keyword_applications rules run names indexes a k unevaluated_properties v) (parts_stand rules run names indexes a k unevaluated_properties v)
 indexes_of_use rules run quiet names indexes a k declares v = refl
 
 -- what passes reports no error, and what fails annotates nothing
@@ -257,11 +257,11 @@ kept_failed true e us os none rest = ap₂ (λ us vs. us ++ vs) (none refl) rest
 kept_failed false e us os none rest = ap (λ us. e.1.errors ++ us) rest
 
 pub errors_of_failed : (run : Application → Outcome) → ((a : Application) → (run a).valid ≡ true → (run a).errors ≡ []) → (es : List (Part × Application))
-    → flat_map (λ (o : Part × Outcome). o.1.errors) (map (λ e. (e.0, run e.1)) es) ≡ flat_map (λ (o : Part × Outcome). o.1.errors) (failed (map (λ e. (e.0, run e.1)) es))
+    → flat_map (λ (o : Part × Outcome). o.1.errors) (map (λ e. (e.0, run e.1)) es) ≡ flat_map (λ (o : Part × Outcome). o.1.errors) (outcomes_that_fail (map (λ e. (e.0, run e.1)) es))
 errors_of_failed run none [] = refl
-errors_of_failed run none (e ∷ es) = kept_failed (run e.1).valid (e.0, run e.1) _ (failed (ran run es)) (none e.1) (errors_of_failed run none es)
+errors_of_failed run none (e ∷ es) = kept_failed (run e.1).valid (e.0, run e.1) _ (outcomes_that_fail (ran run es)) (none e.1) (errors_of_failed run none es)
 
 pub annotations_of_passed : (run : Application → Outcome) → ((a : Application) → (run a).valid ≡ false → (run a).annotations ≡ []) → (es : List (Part × Application))
-    → flat_map (λ (o : Part × Outcome). o.1.annotations) (map (λ e. (e.0, run e.1)) es) ≡ flat_map (λ (o : Part × Outcome). o.1.annotations) (passed (map (λ e. (e.0, run e.1)) es))
+    → flat_map (λ (o : Part × Outcome). o.1.annotations) (map (λ e. (e.0, run e.1)) es) ≡ flat_map (λ (o : Part × Outcome). o.1.annotations) (outcomes_that_pass (map (λ e. (e.0, run e.1)) es))
 annotations_of_passed run none [] = refl
-annotations_of_passed run none (e ∷ es) = kept_if (run e.1).valid (λ o. o.1.annotations) (e.0, run e.1) (run e.1).annotations _ (passed (ran run es)) refl (none e.1) (annotations_of_passed run none es)
+annotations_of_passed run none (e ∷ es) = kept_if (run e.1).valid (λ o. o.1.annotations) (e.0, run e.1) (run e.1).annotations _ (outcomes_that_pass (ran run es)) refl (none e.1) (annotations_of_passed run none es)

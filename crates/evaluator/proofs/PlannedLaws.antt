@@ -8,7 +8,7 @@ use Rattle.definitions.specs.Values.{Text, Value}
 use Rattle.definitions.specs.Keywords.{Meaning}
 use Rattle.definitions.specs.Applied as definition
 use Rattle.definitions.specs.Applied.{Application, Outcome}
-use Rattle.definitions.specs.Evaluated.{passing}
+use Rattle.definitions.specs.Evaluated.{pass_count}
 use Rattle.lemmas.proofs.Lists.{flat_map-push, map-take_more}
 use Rattle.definition_laws.proofs.Places.{value-opened}
 use Rattle.json_doc.specs.Docs.{value}
@@ -18,10 +18,10 @@ use Rattle.keyword_plans.specs.Subjects.{subject_value}
 use Rattle.keyword_plans.specs.declared.planned.Planned.{Planned}
 use Rattle.keyword_plans.specs.declared.planned.Chosen.{Chosen}
 use Rattle.keyword_plans.specs.declared.planned.Chosen.TheVariants.{Below, Target}
-use Rattle.evaluation_context.specs.Frames.{Frame, standing}
+use Rattle.evaluation_context.specs.Frames.{Frame, frame_standing}
 use Rattle.evaluation_context.specs.Standings.{Standing, application_at, standing_of}
 use Rattle.evaluator.specs.Findings.{Finds, IsWithin, AreWithin, FindsAll, Outcomes, count_of}
-use Rattle.evaluator.specs.Notes.{Notes, added, part_notes, parts_notes}
+use Rattle.evaluator.specs.Notes.{Notes, notes_of_both, part_notes, parts_notes}
 use Rattle.evaluator.specs.Rounds.{IsAt, IsKnown, chosen_value}
 use Rattle.evaluator.specs.declared.found.Found.{Found}
 use Rattle.evaluator.specs.declared.found.Applied as found
@@ -42,11 +42,11 @@ at_itself a = refl
 at_same : (a : Application) (st : Standing) (s x : Value) → st ≡ standing_of a → a.schema.value ≡ s → a.instance ≡ x → a ≡ application_at st s x
 at_same a st s x e v i = sym (at_itself a) ∙ ap (λ u. application_at (standing_of a) u a.instance) v ∙ ap (application_at (standing_of a) s) i ∙ ap (λ t. application_at t s x) (sym e)
 
-pub planned_at : (l : Linked) (f : Frame) (k : Text) (a : Application) (p : Planned) (s : Value) → standing f ≡ standing_of (planned_view k a p).1 → s ≡ chosen_value p.chosen
+pub planned_at : (l : Linked) (f : Frame) (k : Text) (a : Application) (p : Planned) (s : Value) → frame_standing f ≡ standing_of (planned_view k a p).1 → s ≡ chosen_value p.chosen
     → IsKnown l k a p → IsAt l f s (subject_value p.subject) (planned_view k a p).1
 planned_at l f k a p s e v known = record {
   there =
-      at_same (planned_view k a p).1 (standing f) s (subject_value p.subject) e
+      at_same (planned_view k a p).1 (frame_standing f) s (subject_value p.subject) e
       (chosen_schema_value k a p.chosen (part_view p.part) (subject_value p.subject) ∙ sym v) (chosen_instance k a p.chosen (part_view p.part) (subject_value p.subject));
   inside = known;
 }
@@ -69,7 +69,7 @@ pub finds_more : (a : found.Applied) (f : Found) (budget : ℕ) (os : Outcomes) 
 finds_more a f budget os (part, o) all one =
     let c : count_of (os ++ (part, o) ∷ []) ≡ count_of os + (0 + o.count) = sum_by-append _ os ((part, o) ∷ []) in
     let l : length (os ++ (part, o) ∷ []) ≡ length os + 1 = length-append os ((part, o) ∷ []) in
-    let p : passing (os ++ (part, o) ∷ []) ≡ passing os + (0 + cond o.valid 1 0) = sum_by-append _ os ((part, o) ∷ []) in
+    let p : pass_count (os ++ (part, o) ∷ []) ≡ pass_count os + (0 + cond o.valid 1 0) = sum_by-append _ os ((part, o) ∷ []) in
     let v : cond f.valid (a.passing + 1) a.passing ≡ a.passing + cond f.valid 1 0 = passing_more f.valid a.passing in
     let w : ◌≡◌ {A = ℕ} (cond f.valid 1 0) (cond o.valid 1 0) = ap (λ b. cond b 1 0) one.valid in
     record {
@@ -107,8 +107,8 @@ over a budget before e after all h =
     let d : count_of (e ∷ after) ≡ e.1.count + count_of after = sum_by-cons _ e after in
     omega (arith, all.count, all.within, c, d)
 
-pub notes_more : (m : Meaning) (es : Outcomes) (e : definition.Part × Outcome) → added (parts_notes m es) (part_notes m e) ≡ parts_notes m (es ++ e ∷ [])
-unfolding added
+pub notes_more : (m : Meaning) (es : Outcomes) (e : definition.Part × Outcome) → notes_of_both (parts_notes m es) (part_notes m e) ≡ parts_notes m (es ++ e ∷ [])
+unfolding notes_of_both
 notes_more m es e = same_notes (sym (flat_map-push _ es e)) (sym (flat_map-push _ es e)) (sym (flat_map-push _ es e)) (sym (flat_map-push _ es e))
 
 -- ---- the loop over what a keyword applies
@@ -125,10 +125,10 @@ pub child_more : {X : Type 0} (a b : found.Applied) (f : Found) (budget : ℕ) (
 child_more a b f budget g xs i x h is all one e = rw (e, map-take_more g xs i x h is) (finds_more a f budget (map g (take i xs)) (g x) all one)
 
 pub child_noted : {X : Type 0} (m : Meaning) (older old new : Notes) (g : X → definition.Part × Outcome) (xs : List X) (i : ℕ) (x : X) → i < length xs → x ≡ get_or xs i x
-    → old ≡ added older (parts_notes m (map g (take i xs))) → new ≡ added old (part_notes m (g x)) → new ≡ added older (parts_notes m (map g (take (i + 1) xs)))
+    → old ≡ notes_of_both older (parts_notes m (map g (take i xs))) → new ≡ notes_of_both old (part_notes m (g x)) → new ≡ notes_of_both older (parts_notes m (map g (take (i + 1) xs)))
 child_noted m older old new g xs i x h is e f =
-    f ∙ ap (λ n. added n (part_notes m (g x))) e ∙ added_twice older (parts_notes m (map g (take i xs))) (part_notes m (g x))
-    ∙ ap (added older) (notes_more m (map g (take i xs)) (g x) ∙ ap (parts_notes m) (sym (map-take_more g xs i x h is)))
+    f ∙ ap (λ n. notes_of_both n (part_notes m (g x))) e ∙ added_twice older (parts_notes m (map g (take i xs))) (part_notes m (g x))
+    ∙ ap (notes_of_both older) (notes_more m (map g (take i xs)) (g x) ∙ ap (parts_notes m) (sym (map-take_more g xs i x h is)))
 
 pub child_over : {X : Type 0} (a : found.Applied) (budget : ℕ) (g : X → definition.Part × Outcome) (xs : List X) (i : ℕ) (x : X) → i < length xs → x ≡ get_or xs i x
     → FindsAll a budget (map g (take i xs)) → budget - a.count < (g x).1.count → budget < count_of (map g xs)

@@ -16,7 +16,7 @@ use Rattle.keyword_plans.specs.Sites.{linked_rules}
 use Rattle.keywords.specs.declared.keyword.Keyword.TheVariants.{UnevaluatedItems, UnevaluatedProperties}
 use Rattle.evaluation_context.specs.Frames.{Frame}
 use Rattle.evaluator.specs.Groups.{are_marked, has_mark, first_groups, is_marked, place_in, place_of, rows_of}
-use Rattle.evaluator.specs.Rounds.{IsAt, group_uses, groups_uses, object_uses, said, unevaluated_uses}
+use Rattle.evaluator.specs.Rounds.{IsAt, group_uses, groups_uses, linked_outcome, object_uses, unevaluated_uses}
 use Rattle.keywords.specs.declared.group.Group.{Group}
 
 -- ---- the places of the table
@@ -137,7 +137,7 @@ no_uses rules run marks names indexes a (k ∷ ks) gone all =
 -- a group that isn't marked does nothing
 pub unused_at : (l : Linked) (left : ℕ) (a : Application) (marks : List Bool) (g : Group) → has_mark marks g ≡ false
     → are_marked marks (members a.schema.value) ≡ true → group_uses l left a g ≡ []
-unused_at l left a marks g gone all = no_uses (linked_rules l) (said l left) marks [] [] a (rows_of g) gone all
+unused_at l left a marks g gone all = no_uses (linked_rules l) (linked_outcome l left) marks [] [] a (rows_of g) gone all
 
 pub marked_there : (l : Linked) (f : Frame) (s x : Value) (a : Application) (marks : List Bool) → IsAt l f s x a → are_marked marks (members s) ≡ true
     → are_marked marks (members a.schema.value) ≡ true

@@ -5,7 +5,7 @@ use Rattle.definitions.specs.Values.{Value, same_text}
 use Rattle.definitions.specs.Faults as meaning
 use Rattle.faults.specs.declared.Fault.{Fault}
 use Rattle.definitions.specs.Faults.{costly, loop, deep}
-use Rattle.definitions.specs.Reach.{missing, reach}
+use Rattle.definitions.specs.Reach.{missing_references, reach}
 use Rattle.definitions.specs.Schemas.{Document, Schema, is_root}
 use Rattle.definition_laws.specs.Reaching.{HaveDistinctResources}
 use Rattle.definition_laws.proofs.ReachedTables.{reach_is_enough}
@@ -20,13 +20,13 @@ use Rattle.basic_output.specs.Units.{units_view}
 use Rattle.linker.specs.LinkedDocuments.{linked_documents, linked_schemas, linked_uri}
 use Rattle.linker.specs.declared.linked.Linked.{Linked}
 use Rattle.keyword_plans.specs.Sites.{linked_rules}
-use Rattle.evaluation_context.specs.Frames.{Frame, standing}
+use Rattle.evaluation_context.specs.Frames.{Frame, frame_standing}
 use Rattle.evaluation_context.specs.Standings.{application_at}
-use Rattle.evaluator.specs.Logs.{notes}
-use Rattle.evaluator.specs.Notes.{Notes, added, nothing, outcome_notes}
+use Rattle.evaluator.specs.Logs.{log_view}
+use Rattle.evaluator.specs.Notes.{Notes, no_notes, notes_of_both, outcome_notes}
 use Rattle.evaluator.specs.declared.report.Report.{Report}
-use Rattle.evaluator.specs.Reports.{Gives, is_valid, report_text, reported}
-use Rattle.evaluator.specs.Rounds.{IsAt, said}
+use Rattle.evaluator.specs.Reports.{Gives, is_valid, report_or_fault, report_text}
+use Rattle.evaluator.specs.Rounds.{IsAt, linked_outcome}
 use Rattle.evaluator.specs.declared.log.Log.{Log}
 use Rattle.evaluator.proofs.LogLaws.{nothing_added}
 
@@ -45,48 +45,48 @@ answer_deep most o h l d = rw (le-ltb most o.count h, l, d) refl
 
 -- ---- the first application
 pub first_outcome : (l : Linked) (s : Schema) (x : Value) → resource_root (linked_schemas l) (linked_uri l) ≡ Some s
-    → answer has_match (linked_documents l) (linked_uri l) x ≡ answer_of 100000 (said l 1000 (first_application s x))
+    → answer has_match (linked_documents l) (linked_uri l) x ≡ answer_of 100000 (linked_outcome l 1000 (first_application s x))
 first_outcome l s x e = ap (answer_from limits (linked_rules l) x) e
 
 pub first_is_at : (l : Linked) (f : Frame) (s : Schema) (x : Value) → resource_root (linked_schemas l) (linked_uri l) ≡ Some s
-    → application_at (standing f) s.value x ≡ first_application s x → IsAt l f s.value x (first_application s x)
+    → application_at (frame_standing f) s.value x ≡ first_application s x → IsAt l f s.value x (first_application s x)
 first_is_at l f s x e there = record {
   there = sym there;
   inside = (found_there (λ t. same_text (linked_uri l) t.resource && is_root t) (linked_schemas l) s e).0;
 }
 
 -- ---- what was noted from nothing on
-pub noted_first : (n older : Notes) (o : Outcome) → older ≡ nothing → n ≡ added older (outcome_notes o) → n ≡ outcome_notes o
-noted_first n older o e h = h ∙ ap (λ m. added m (outcome_notes o)) e ∙ nothing_added (outcome_notes o)
+pub noted_first : (n older : Notes) (o : Outcome) → older ≡ no_notes → n ≡ notes_of_both older (outcome_notes o) → n ≡ outcome_notes o
+noted_first n older o e h = h ∙ ap (λ m. notes_of_both m (outcome_notes o)) e ∙ nothing_added (outcome_notes o)
 
-pub logged_annotations : (l : Log) (o : Outcome) → notes l ≡ outcome_notes o → o.valid ≡ true → output.reported o ≡ units_view l.annotations
-unfolding notes
+pub logged_annotations : (l : Log) (o : Outcome) → log_view l ≡ outcome_notes o → o.valid ≡ true → output.reported_units o ≡ units_view l.annotations
+unfolding log_view
 logged_annotations l o e v = rw v (sym (ap (λ (n : Notes). n.annotations) e))
 
-pub logged_errors : (l : Log) (o : Outcome) → notes l ≡ outcome_notes o → o.valid ≡ false → output.reported o ≡ units_view l.errors
-unfolding notes
+pub logged_errors : (l : Log) (o : Outcome) → log_view l ≡ outcome_notes o → o.valid ≡ false → output.reported_units o ≡ units_view l.errors
+unfolding log_view
 logged_errors l o e v = rw v (sym (ap (λ (n : Notes). n.errors) e))
 
 -- ---- the report
-pub reported_ok : (o : Outcome) (r : Report) → is_valid r ≡ o.valid → output_text o ≡ report_text r → reported (Ok o) ≡ Ok (is_valid r, report_text r)
+pub reported_ok : (o : Outcome) (r : Report) → is_valid r ≡ o.valid → output_text o ≡ report_text r → report_or_fault (Ok o) ≡ Ok (is_valid r, report_text r)
 reported_ok o r v t = rw (v, sym t) refl
 
 pub made_ok : (e : Result Report Fault) (o : Outcome) (b : Bool) {answered : Result Outcome meaning.Fault} → b ≡ o.valid → answered ≡ Ok o
-    → IfOk e (λ r. output_text o ≡ report_text r) → IfOk e (λ r. is_valid r ≡ b) → IfOk e (λ r. reported answered ≡ Ok (is_valid r, report_text r))
-made_ok (Ok r) o b f is t v = ap reported is ∙ reported_ok o r (v ∙ f) t
+    → IfOk e (λ r. output_text o ≡ report_text r) → IfOk e (λ r. is_valid r ≡ b) → IfOk e (λ r. report_or_fault answered ≡ Ok (is_valid r, report_text r))
+made_ok (Ok r) o b f is t v = ap report_or_fault is ∙ reported_ok o r (v ∙ f) t
 made_ok (Err f) o b g is t v = tt
 
 -- ---- what isn't reached
-none_missing : (l : Linked) → missing (linked_documents l) ≡ []
+none_missing : (l : Linked) → missing_references (linked_documents l) ≡ []
 unfolding linked_documents
 none_missing l = l.whole
 
 pub unreached_changes_nothing : (l : Linked) (G : List Document) (x : Value) → HaveDistinctResources G → linked_documents l ≡ reach G (linked_uri l)
     → answer has_match G (linked_uri l) x ≡ answer has_match (linked_documents l) (linked_uri l) x
 unreached_changes_nothing l G x distinct same =
-    reach_is_enough has_match G (linked_uri l) x distinct (ap missing (sym same) ∙ none_missing l) ∙ ap (λ ds. answer has_match ds (linked_uri l) x) (sym same)
+    reach_is_enough has_match G (linked_uri l) x distinct (ap missing_references (sym same) ∙ none_missing l) ∙ ap (λ ds. answer has_match ds (linked_uri l) x) (sym same)
 
 pub made_gives : (e : Result Report Fault) {answered : Result Outcome meaning.Fault} (a : Result Outcome meaning.Fault) → a ≡ answered
-    → IfOk e (λ r. reported answered ≡ Ok (is_valid r, report_text r)) → IfErr e (λ f. f ≡ Fault.NoRoom) → Gives e a
-made_gives (Ok r) a same is err = ap reported same ∙ is
+    → IfOk e (λ r. report_or_fault answered ≡ Ok (is_valid r, report_text r)) → IfErr e (λ f. f ≡ Fault.NoRoom) → Gives e a
+made_gives (Ok r) a same is err = ap report_or_fault same ∙ is
 made_gives (Err f) a same is err = λ other. absurd (other err)

@@ -4,8 +4,8 @@ use Rattle.std.proofs.Math.Bool.{and-true, or-false}
 use Rattle.std.specs.Prelude.{Some, None, codes}
 use Rattle.definitions.specs.Values.{Text, Value, string, get}
 use Rattle.definitions.specs.Keywords.{keywords}
-use Rattle.definitions.specs.Applied.{Application, OutputUnit, applied}
-use Rattle.definitions.specs.Evaluated.{failed, may_annotate, passed}
+use Rattle.definitions.specs.Applied.{Application, OutputUnit, keyword_applications}
+use Rattle.definitions.specs.Evaluated.{may_annotate, outcomes_that_fail, outcomes_that_pass}
 use Rattle.definitions.specs.Outcomes.{Use, own_annotation, unit}
 use Rattle.definition_laws.proofs.Evaluations.{failing_nothing}
 use Rattle.definition_laws.proofs.AppliedSchemas.{applied_schemas_are_known}
@@ -20,15 +20,15 @@ use Rattle.keywords.specs.declared.keyword.Keyword.{Keyword}
 use Rattle.keywords.specs.declared.keyword.Keyword.TheVariants as keyword
 use Rattle.keywords.specs.declared.keyword.Keyword.TheVariants.{Ref, DynamicRef, «Type», Enum, Const, MultipleOf, Maximum, ExclusiveMaximum, Minimum, ExclusiveMinimum, MaxLength, MinLength, MaxProperties, MinProperties, Required, DependentRequired, MaxItems, MinItems, UniqueItems, Pattern, AllOf, AnyOf, OneOf, Not, If, Then, Else, DependentSchemas, PrefixItems, Items, MinContains, MaxContains, Properties, PatternProperties, AdditionalProperties, PropertyNames, UnevaluatedItems, UnevaluatedProperties, Defs, Definitions, ContentSchema, Id, Anchor, DynamicAnchor, Schema}
 use Rattle.keyword_plans.specs.declared.planned.Planned.{Planned}
-use Rattle.evaluation_context.specs.Frames.{Frame, standing}
+use Rattle.evaluation_context.specs.Frames.{Frame, frame_standing}
 use Rattle.evaluation_context.specs.Standings.{at_keyword, standing_of}
 use Rattle.evaluator.specs.Findings.{FindsAll, FindsUse, count_of, use_count}
 use Rattle.evaluator.specs.declared.found.Applied as found
 use Rattle.evaluator.specs.declared.found.Found.{Found}
 use Rattle.evaluator.specs.declared.beside.Beside.{Beside}
 use Rattle.evaluator.specs.declared.found.Used.{Used}
-use Rattle.evaluator.specs.Notes.{Notes, parts_notes, shown, uses_notes}
-use Rattle.evaluator.specs.Rounds.{IsAt, IsAtKeyword, IsKnown, Knows, part_outcomes, said, use_there}
+use Rattle.evaluator.specs.Notes.{Notes, parts_notes, uses_notes, visible_notes}
+use Rattle.evaluator.specs.Rounds.{IsAt, IsAtKeyword, IsKnown, Knows, linked_outcome, part_outcomes, use_there}
 use Rattle.evaluator.proofs.LogLaws.{same_notes}
 use Rattle.evaluator.proofs.PartLaws.{annotations_of_passed, errors_of_failed, indexes_of_use, names_of_use}
 
@@ -37,21 +37,21 @@ module _ (l : Linked) (left : ℕ) (a : Application) (keyword : Keyword) (names 
   this = use_there l left a keyword names indexes v
 
   abbrev noted : Notes
-  noted = shown (row_of keyword).meaning (parts_notes (row_of keyword).meaning this.outcomes)
+  noted = visible_notes (row_of keyword).meaning (parts_notes (row_of keyword).meaning this.outcomes)
 
   pub names_settled : noted.names ≡ this.names
-  names_settled = names_of_use (linked_rules l) (said l left) (failing_nothing (linked_rules l) left) names indexes a (row_of keyword).name (row_of keyword).meaning v
+  names_settled = names_of_use (linked_rules l) (linked_outcome l left) (failing_nothing (linked_rules l) left) names indexes a (row_of keyword).name (row_of keyword).meaning v
 
   pub indexes_settled : noted.indexes ≡ this.indexes
-  indexes_settled = indexes_of_use (linked_rules l) (said l left) (failing_nothing (linked_rules l) left) names indexes a (row_of keyword).name (row_of keyword).meaning v
+  indexes_settled = indexes_of_use (linked_rules l) (linked_outcome l left) (failing_nothing (linked_rules l) left) names indexes a (row_of keyword).name (row_of keyword).meaning v
 
-  annotations_settled : noted.annotations ≡ (if this.annotates then flat_map (λ o. o.1.annotations) (passed this.outcomes) else [])
+  annotations_settled : noted.annotations ≡ (if this.annotates then flat_map (λ o. o.1.annotations) (outcomes_that_pass this.outcomes) else [])
   annotations_settled =
       ap (λ us. if may_annotate (row_of keyword).meaning then us else [])
-      (annotations_of_passed (said l left) (failing_annotates_nothing (linked_rules l) left) (applied (linked_rules l) (said l left) names indexes a (row_of keyword).name (row_of keyword).meaning v))
+      (annotations_of_passed (linked_outcome l left) (failing_annotates_nothing (linked_rules l) left) (keyword_applications (linked_rules l) (linked_outcome l left) names indexes a (row_of keyword).name (row_of keyword).meaning v))
 
-  errors_settled : noted.errors ≡ flat_map (λ o. o.1.errors) (failed this.outcomes)
-  errors_settled = errors_of_failed (said l left) (passing_reports_no_error (linked_rules l) left) (applied (linked_rules l) (said l left) names indexes a (row_of keyword).name (row_of keyword).meaning v)
+  errors_settled : noted.errors ≡ flat_map (λ o. o.1.errors) (outcomes_that_fail this.outcomes)
+  errors_settled = errors_of_failed (linked_outcome l left) (passing_reports_no_error (linked_rules l) left) (keyword_applications (linked_rules l) (linked_outcome l left) names indexes a (row_of keyword).name (row_of keyword).meaning v)
 
   pub passing_settled : true ≡ this.passes
       → record noted { errors = []; annotations = own_annotation a this this.annotation ++ noted.annotations } ≡ uses_notes a (this ∷ [])
@@ -75,9 +75,9 @@ own_some a u v us e = rw (← e) refl
 
 -- ---- what is planned is what the definitions apply
 pub planned_outcomes : (l : Linked) (left : ℕ) (k : Text) (a : Application) (ps : List Planned)
-    → part_outcomes l left k a ps ≡ map (λ e. (e.0, said l left e.1)) (map (planned_view k a) ps)
+    → part_outcomes l left k a ps ≡ map (λ e. (e.0, linked_outcome l left e.1)) (map (planned_view k a) ps)
 planned_outcomes l left k a [] = refl
-planned_outcomes l left k a (p ∷ ps) = ap (λ os. (let e = planned_view k a p in (e.0, said l left e.1)) ∷ os) (planned_outcomes l left k a ps)
+planned_outcomes l left k a (p ∷ ps) = ap (λ os. (let e = planned_view k a p in (e.0, linked_outcome l left e.1)) ∷ os) (planned_outcomes l left k a ps)
 
 row_in : (k : Keyword) → Contains keywords (row_of k)
 row_in Ref = (0, omega arith, refl)
@@ -129,13 +129,13 @@ row_in Schema = (45, omega arith, refl)
 
 pub planned_known : (l : Linked) (left : ℕ) (keyword : Keyword) (a : Application) (ps : List Planned) (names : List Text) (indexes : List ℕ) (v : Value)
     → Contains (linked_schemas l) a.schema → get (row_of keyword).name a.schema.value ≡ Some v
-    → map (planned_view (row_of keyword).name a) ps ≡ applied (linked_rules l) (said l left) names indexes a (row_of keyword).name (row_of keyword).meaning v
+    → map (planned_view (row_of keyword).name a) ps ≡ keyword_applications (linked_rules l) (linked_outcome l left) names indexes a (row_of keyword).name (row_of keyword).meaning v
     → (p : Planned) → Contains ps p → IsKnown l (row_of keyword).name a p
 planned_known l left keyword a ps names indexes v inside found same p here =
     let k = (row_of keyword).name in
     let e = planned_view k a p in
     let there : Contains (map (planned_view k a) ps) e = contains_from_in (map (planned_view k a) ps) e (into_map (planned_view k a) ps p (in_from_contains ps p here)) in
-    applied_schemas_are_known (linked_rules l) (linked_documents l) refl (said l left) names indexes a (row_of keyword) v e (row_in keyword) inside found
+    applied_schemas_are_known (linked_rules l) (linked_documents l) refl (linked_outcome l left) names indexes a (row_of keyword) v e (row_in keyword) inside found
     (subst (λ es. Contains es e) same there)
 
 -- ---- one use
@@ -158,7 +158,7 @@ use_over budget this h = omega (arith, h)
 
 -- ---- at the keyword
 pub at_keyword_of : (l : Linked) (left : ℕ) (f g : Frame) (s x : Value) (keyword : Keyword) (v : Value) (beside : Beside) (a : Application)
-    → IsAt l f s x a → standing g ≡ at_keyword (row_of keyword).name (standing f) → Knows l left a (row_of keyword).meaning beside
+    → IsAt l f s x a → frame_standing g ≡ at_keyword (row_of keyword).name (frame_standing f) → Knows l left a (row_of keyword).meaning beside
     → get (row_of keyword).name a.schema.value ≡ Some v → IsAtKeyword l left g s x keyword v beside a
 at_keyword_of l left f g s x keyword v beside a at e knows valued = record {
   under = e ∙ ap (at_keyword (row_of keyword).name) (sym (ap standing_of at.there));

@@ -5,14 +5,14 @@ use Rattle.std.specs.List.{enumerate_from, list_any}
 use Rattle.definitions.specs.Values.{Text, Value, elements, get}
 use Rattle.definitions.specs.Keywords.{unevaluated_items}
 use Rattle.definitions.specs.Applied.{Application, Outcome, Part, at_part, indexed}
-use Rattle.definitions.specs.Evaluated.{evaluated_names, is_in_place, part_names, passed}
+use Rattle.definitions.specs.Evaluated.{evaluated_names, is_in_place, outcomes_that_pass, part_names}
 use Rattle.definitions.specs.Outcomes.{Use}
 use Rattle.linker.specs.declared.linked.Linked.{Linked}
 use Rattle.keywords.specs.Rows.{row_of}
 use Rattle.keywords.specs.declared.keyword.Keyword.TheVariants.{UnevaluatedItems, UnevaluatedProperties}
 use Rattle.evaluator.specs.Findings.{Outcomes}
-use Rattle.evaluator.specs.Notes.{Notes, added, uses_notes}
-use Rattle.evaluator.specs.Rounds.{Knows, evaluated_in, indexes_since, keyword_uses, names_since, said, two_uses, unevaluated_uses, uses_since, uses_with}
+use Rattle.evaluator.specs.Notes.{Notes, notes_of_both, uses_notes}
+use Rattle.evaluator.specs.Rounds.{Knows, evaluated_in, indexes_since, keyword_uses, linked_outcome, names_since, two_uses, unevaluated_uses, uses_since, uses_with}
 use Rattle.evaluator.specs.declared.beside.Beside.{Beside}
 use Rattle.evaluator.specs.declared.log.Before.{Before}
 use Rattle.evaluator.proofs.LogLaws.{rest_list}
@@ -32,21 +32,21 @@ one_more : (b : Bool) (o : Part × Outcome) (os : Outcomes) → is_in_place o.0 
 one_more false o os is h = h
 one_more true o os is h = ap (λ c. cond c o.1.names [] ++ flat_map names_in_place os) is ∙ h
 
-none_in_place : (run : Application → Outcome) (a : Application) (k : Text) (v : Value) (es : List (ℕ × Value)) → flat_map names_in_place (passed (at_elements run a k v es)) ≡ []
+none_in_place : (run : Application → Outcome) (a : Application) (k : Text) (v : Value) (es : List (ℕ × Value)) → flat_map names_in_place (outcomes_that_pass (at_elements run a k v es)) ≡ []
 none_in_place run a k v [] = refl
 none_in_place run a k v (e ∷ es) =
     let x = at_part a (k ∷ []) v (indexed e.0) e.1 in
-    one_more (run x.1).valid (x.0, run x.1) (passed (at_elements run a k v es)) refl (none_in_place run a k v es)
+    one_more (run x.1).valid (x.0, run x.1) (outcomes_that_pass (at_elements run a k v es)) refl (none_in_place run a k v es)
 
 no_names : (run : Application → Outcome) (a : Application) (k : Text) (v : Value) (es : List (ℕ × Value)) → evaluated_names unevaluated_items (at_elements run a k v es) ≡ []
-no_names run a k v es = ap (λ ns. ns ++ flat_map names_in_place (passed (at_elements run a k v es))) (no_part_names run a k v es) ∙ none_in_place run a k v es
+no_names run a k v es = ap (λ ns. ns ++ flat_map names_in_place (outcomes_that_pass (at_elements run a k v es))) (no_part_names run a k v es) ∙ none_in_place run a k v es
 
 items_name_nothing : (l : Linked) (left : ℕ) (a : Application) (names : List Text) (indexes : List ℕ) (v : Option Value)
     → flat_map (λ u. u.names) (uses_with l left a UnevaluatedItems names indexes v) ≡ []
 items_name_nothing l left a names indexes None = refl
 items_name_nothing l left a names indexes (Some v) =
     append-nil _
-    ∙ no_names (said l left) a (row_of UnevaluatedItems).name v (filter (λ e. not (list_any (λ i. i == e.0) indexes)) (enumerate_from 0 (elements a.instance)))
+    ∙ no_names (linked_outcome l left) a (row_of UnevaluatedItems).name v (filter (λ e. not (list_any (λ i. i == e.0) indexes)) (enumerate_from 0 (elements a.instance)))
 
 -- ---- the second doesn't look at indexes
 any_indexes : (l : Linked) (left : ℕ) (a : Application) (names : List Text) (is js : List ℕ) (v : Option Value)
@@ -56,18 +56,18 @@ any_indexes l left a names is js (Some v) = refl
 
 -- ---- both, after uses
 names_after : (a : Application) (before : Before) (older : Notes) (gs : List Use) → before ≡ evaluated_in older
-    → names_since before (added older (uses_notes a gs)) ≡ flat_map (λ u. u.names) gs
-unfolding added
+    → names_since before (notes_of_both older (uses_notes a gs)) ≡ flat_map (λ u. u.names) gs
+unfolding notes_of_both
 names_after a before older gs e = rest_list before.names older.names (flat_map (λ u. u.names) gs) _ (ap (λ (b : Before). b.names) e) refl
 
 indexes_after : (a : Application) (before : Before) (older : Notes) (gs : List Use) → before ≡ evaluated_in older
-    → indexes_since before (added older (uses_notes a gs)) ≡ flat_map (λ u. u.indexes) gs
-unfolding added
+    → indexes_since before (notes_of_both older (uses_notes a gs)) ≡ flat_map (λ u. u.indexes) gs
+unfolding notes_of_both
 indexes_after a before older gs e = rest_list before.indexes older.indexes (flat_map (λ u. u.indexes) gs) _ (ap (λ (b : Before). b.indexes) e) refl
 
 names_after_both : (a : Application) (before : Before) (older : Notes) (gs us : List Use) → before ≡ evaluated_in older → flat_map (λ u. u.names) us ≡ []
-    → names_since before (added (added older (uses_notes a gs)) (uses_notes a us)) ≡ flat_map (λ u. u.names) gs
-unfolding added
+    → names_since before (notes_of_both (notes_of_both older (uses_notes a gs)) (uses_notes a us)) ≡ flat_map (λ u. u.names) gs
+unfolding notes_of_both
 names_after_both a before older gs us e none =
     let ns = flat_map (λ (u : Use). u.names) gs in
     let ms = flat_map (λ (u : Use). u.names) us in
@@ -75,15 +75,15 @@ names_after_both a before older gs us e none =
     ∙ ap (λ ls. ns ++ ls) none ∙ append-nil ns
 
 pub both_after : (l : Linked) (left : ℕ) (a : Application) (before : Before) (older : Notes) (gs : List Use) → before ≡ evaluated_in older
-    → two_uses l left a UnevaluatedItems UnevaluatedProperties before (added older (uses_notes a gs)) ≡ unevaluated_uses l left a gs
+    → two_uses l left a UnevaluatedItems UnevaluatedProperties before (notes_of_both older (uses_notes a gs)) ≡ unevaluated_uses l left a gs
 both_after l left a before older gs e =
-    let n = added older (uses_notes a gs) in
+    let n = notes_of_both older (uses_notes a gs) in
     let ns = flat_map (λ (u : Use). u.names) gs in
     let is = flat_map (λ (u : Use). u.indexes) gs in
     let us = uses_since l left a UnevaluatedItems before n in
     let v = get (row_of UnevaluatedProperties).name a.schema.value in
     let none = items_name_nothing l left a (names_since before n) (indexes_since before n) (get (row_of UnevaluatedItems).name a.schema.value) in
-    let m = added n (uses_notes a us) in
+    let m = notes_of_both n (uses_notes a us) in
     let first : us ≡ keyword_uses l left a UnevaluatedItems ns is =
     ap (λ names. keyword_uses l left a UnevaluatedItems names (indexes_since before n)) (names_after a before older gs e)
     ∙ ap (keyword_uses l left a UnevaluatedItems ns) (indexes_after a before older gs e) in

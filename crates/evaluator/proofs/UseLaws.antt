@@ -11,7 +11,7 @@ use Rattle.definitions.specs.Outcomes.{Use, use_errors}
 use Rattle.evaluator.specs.Findings.{FindsObject, FindsUses, IsWithin, use_count}
 use Rattle.evaluator.specs.Groups.{first_groups, stands_alone}
 use Rattle.keywords.specs.Groups.{in_order}
-use Rattle.evaluator.specs.Notes.{Notes, added, kept_annotations, uses_notes}
+use Rattle.evaluator.specs.Notes.{Notes, kept_annotations, notes_of_both, uses_notes}
 use Rattle.evaluator.specs.declared.found.Found.{Found}
 use Rattle.evaluator.proofs.LogLaws.{added_twice, same_notes}
 use Rattle.evaluator.proofs.PlannedLaws.{split_at}
@@ -25,8 +25,8 @@ pub all_alone : list_all stands_alone first_groups ≡ true
 unfolding first_groups in_order
 all_alone = refl
 
-pub uses_more_notes : (a : Application) (us vs : List Use) → added (uses_notes a us) (uses_notes a vs) ≡ uses_notes a (us ++ vs)
-unfolding added
+pub uses_more_notes : (a : Application) (us vs : List Use) → notes_of_both (uses_notes a us) (uses_notes a vs) ≡ uses_notes a (us ++ vs)
+unfolding notes_of_both
 uses_more_notes a us vs =
     same_notes (sym (flat_map-append (use_errors a) us vs)) (sym (flat_map-append (kept_annotations a) us vs)) (sym (flat_map-append (λ u. u.names) us vs)) (sym (flat_map-append (λ u. u.indexes) us vs))
 
@@ -62,11 +62,11 @@ pub group_more : {X : Type 0} (f g h : Found) (budget : ℕ) (uses : X → List 
 group_more f g h budget uses xs i d less so_far more e = rw (e, flat_more uses xs i d less) (so_far_more f g budget (flat_map uses (take i xs)) (uses (get_or xs i d)) so_far more)
 
 pub group_noted : {X : Type 0} (a : Application) (older old new : Notes) (uses : X → List Use) (xs : List X) (i : ℕ) (d : X) → i < length xs
-    → old ≡ added older (uses_notes a (flat_map uses (take i xs))) → new ≡ added old (uses_notes a (uses (get_or xs i d)))
-    → new ≡ added older (uses_notes a (flat_map uses (take (i + 1) xs)))
+    → old ≡ notes_of_both older (uses_notes a (flat_map uses (take i xs))) → new ≡ notes_of_both old (uses_notes a (uses (get_or xs i d)))
+    → new ≡ notes_of_both older (uses_notes a (flat_map uses (take (i + 1) xs)))
 group_noted a older old new uses xs i d less e f =
-    f ∙ ap (λ n. added n (uses_notes a (uses (get_or xs i d)))) e ∙ added_twice older (uses_notes a (flat_map uses (take i xs))) (uses_notes a (uses (get_or xs i d)))
-    ∙ ap (added older) (uses_more_notes a (flat_map uses (take i xs)) (uses (get_or xs i d)) ∙ ap (uses_notes a) (sym (flat_more uses xs i d less)))
+    f ∙ ap (λ n. notes_of_both n (uses_notes a (uses (get_or xs i d)))) e ∙ added_twice older (uses_notes a (flat_map uses (take i xs))) (uses_notes a (uses (get_or xs i d)))
+    ∙ ap (notes_of_both older) (uses_more_notes a (flat_map uses (take i xs)) (uses (get_or xs i d)) ∙ ap (uses_notes a) (sym (flat_more uses xs i d less)))
 
 pub group_over : {X : Type 0} (f : Found) (budget : ℕ) (uses : X → List Use) (xs : List X) (i : ℕ) (d : X) → i < length xs
     → FindsObject f budget (flat_map uses (take i xs)) → budget - f.count < use_count (uses (get_or xs i d)) → budget < suc (use_count (flat_map uses xs))
@@ -100,8 +100,8 @@ pub second_over : (f : Found) (budget : ℕ) (us vs : List Use) → FindsUses f 
 second_over f budget us vs first h =
     let c : use_count (us ++ vs) ≡ use_count us + use_count vs = sum_by-append _ us vs in omega (arith, h, c, first.count, first.within)
 
-pub two_noted : (a : Application) (n mid new : Notes) (us : List Use) (uses : Notes → List Use) → mid ≡ added n (uses_notes a us) → new ≡ added mid (uses_notes a (uses mid))
-    → new ≡ added n (uses_notes a (us ++ uses (added n (uses_notes a us))))
+pub two_noted : (a : Application) (n mid new : Notes) (us : List Use) (uses : Notes → List Use) → mid ≡ notes_of_both n (uses_notes a us) → new ≡ notes_of_both mid (uses_notes a (uses mid))
+    → new ≡ notes_of_both n (uses_notes a (us ++ uses (notes_of_both n (uses_notes a us))))
 two_noted a n mid new us uses e f =
-    f ∙ ap (λ m. added m (uses_notes a (uses m))) e ∙ added_twice n (uses_notes a us) (uses_notes a (uses (added n (uses_notes a us))))
-    ∙ ap (added n) (uses_more_notes a us (uses (added n (uses_notes a us))))
+    f ∙ ap (λ m. notes_of_both m (uses_notes a (uses m))) e ∙ added_twice n (uses_notes a us) (uses_notes a (uses (notes_of_both n (uses_notes a us))))
+    ∙ ap (notes_of_both n) (uses_more_notes a us (uses (notes_of_both n (uses_notes a us))))

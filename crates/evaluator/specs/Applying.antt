@@ -11,16 +11,16 @@ use Rattle.keyword_plans.specs.Sites.{linked_rules}
 use Rattle.keyword_plans.specs.Subjects.{subject_value}
 use Rattle.keyword_plans.specs.declared.planned.Planned.{Planned}
 use Rattle.keyword_plans.specs.declared.subject.Subject.{Subject}
-use Rattle.evaluation_context.specs.Frames.{frame}
-use Rattle.evaluator.specs.Logs.{notes}
-use Rattle.evaluator.specs.Notes.{Notes, added}
-use Rattle.evaluator.specs.Rounds.{IsAt, IsKnown, said}
+use Rattle.evaluation_context.specs.Frames.{context_view}
+use Rattle.evaluator.specs.Logs.{log_view}
+use Rattle.evaluator.specs.Notes.{Notes, notes_of_both}
+use Rattle.evaluator.specs.Rounds.{IsAt, IsKnown, linked_outcome}
 use Rattle.evaluator.specs.declared.applying.Evaluation.{Evaluation}
 use Rattle.evaluator.specs.declared.here.Here.{Here}
 
 -- it is this application of the schema to the subject, where the evaluation stands
 abbrev pub Applies : Evaluation → Doc → Subject → Application → Type 0
-Applies e schema subject a = IsAt e.linked.now (frame e.context) (value schema) (subject_value subject) a
+Applies e schema subject a = IsAt e.linked.now (context_view e.context) (value schema) (subject_value subject) a
 
 -- it is the application of what is applied here
 abbrev pub IsHere : Evaluation → Here → Application → Type 0
@@ -28,7 +28,7 @@ IsHere e h a = Applies e h.schema.now h.subject a
 
 -- the evaluation noted this too
 abbrev pub Adds : Evaluation → Evaluation → Notes → Type 0
-Adds older newer n = notes newer.log ≡ added (notes older.log) n
+Adds older newer n = log_view newer.log ≡ notes_of_both (log_view older.log) n
 
 -- want of memory aside, the fault is Costly, and so many applications are over the budget
 abbrev pub IsCostly : code.Fault → ℕ → ℕ → Type 0
@@ -40,4 +40,4 @@ AreKnown l k a ps = (p : Planned) → Contains ps p → IsKnown l k a p
 
 -- of a schema object, by the linked documents, where so many applications may nest in it
 abbrev pub object_said : Linked → ℕ → Application → Outcome
-object_said l left a = object_outcome (linked_rules l) (said l left) a
+object_said l left a = object_outcome (linked_rules l) (linked_outcome l left) a

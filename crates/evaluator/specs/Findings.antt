@@ -3,7 +3,7 @@ use Rattle.std.specs.Prelude.{◌≡◌, ◌≤◌, ◌<◌, ℕ, List, [], ◌�
 use Rattle.std.specs.List.{list_all, list_any}
 use Rattle.definitions.specs.Applied as definition
 use Rattle.definitions.specs.Applied.{Outcome}
-use Rattle.definitions.specs.Evaluated.{passing}
+use Rattle.definitions.specs.Evaluated.{pass_count}
 use Rattle.definitions.specs.Outcomes.{Use}
 use Rattle.evaluator.specs.declared.found.Found.{Found}
 use Rattle.evaluator.specs.declared.found.Applied as found
@@ -31,7 +31,7 @@ count_of os = sum_by (λ o. o.1.count) os
 
 pub record FindsAll (a : found.Applied) (budget : ℕ) (os : Outcomes) : Type 0 where
   pub number : a.number ≡ length os
-  pub passing : a.passing ≡ passing os
+  pub passing : a.passing ≡ pass_count os
   pub count : a.count ≡ count_of os
   pub looped : a.looped ≡ list_any (λ o. o.1.looped) os
   pub deep : a.deep ≡ list_any (λ o. o.1.deep) os
@@ -65,7 +65,7 @@ pub record FindsObject (f : Found) (budget : ℕ) (us : List Use) : Type 0 where
 -- how many schemas passed that the first of these applied
 abbrev pub passing_first : List Use → Option ℕ
 passing_first [] = None
-passing_first (u ∷ us) = Some (passing u.outcomes)
+passing_first (u ∷ us) = Some (pass_count u.outcomes)
 
 pub record FindsUse (u : Used) (budget : ℕ) (us : List Use) : Type 0 where
   pub found : FindsUses u.found budget us

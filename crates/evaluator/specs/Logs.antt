@@ -5,13 +5,13 @@ use Rattle.evaluator.specs.Notes.{Notes, Lengths}
 use Rattle.evaluator.specs.declared.log.Log.{Log}
 use Rattle.evaluator.specs.declared.log.LogMark.{LogMark}
 
-unfoldable pub notes : Log → Notes
-notes l = record {
+unfoldable pub log_view : Log → Notes
+log_view l = record {
   errors = units_view l.errors;
   annotations = units_view l.annotations;
   names = map (λ name. name.now) l.names.items;
   indexes = l.indexes.items;
 }
 
-abbrev pub marked : LogMark → Lengths
-marked m = record { errors = m.errors; annotations = m.annotations; names = m.names; indexes = m.indexes }
+abbrev pub mark_view : LogMark → Lengths
+mark_view m = record { errors = m.errors; annotations = m.annotations; names = m.names; indexes = m.indexes }

@@ -1,7 +1,7 @@
 -- What an evaluation notes: units of the output, and the names and indexes that were evaluated.
 use Rattle.std.specs.Prelude.{ℕ, List, [], ◌∷◌, ◌++◌, Bool, true, false, ◌&&◌, not, if◌then◌else◌, length, flat_map}
 use Rattle.definitions.specs.Values.{Text}
-use Rattle.definitions.specs.Keywords.{Meaning, negated, some_item}
+use Rattle.definitions.specs.Keywords.{Meaning, contains, negation}
 use Rattle.definitions.specs.Applied.{Application, Outcome, OutputUnit, Part, whole, named, indexed}
 use Rattle.definitions.specs.Evaluated.{may_annotate}
 use Rattle.definitions.specs.Outcomes.{Use, use_annotations, use_errors}
@@ -12,12 +12,12 @@ pub record Notes : Type 0 where
   pub names : List Text
   pub indexes : List ℕ
 
-abbrev pub nothing : Notes
-nothing = record { errors = []; annotations = []; names = []; indexes = [] }
+abbrev pub no_notes : Notes
+no_notes = record { errors = []; annotations = []; names = []; indexes = [] }
 
 -- these, and then those
-unfoldable pub added : Notes → Notes → Notes
-added older newer = record {
+unfoldable pub notes_of_both : Notes → Notes → Notes
+notes_of_both older newer = record {
   errors = older.errors ++ newer.errors;
   annotations = older.annotations ++ newer.annotations;
   names = older.names ++ newer.names;
@@ -36,7 +36,7 @@ names_from _ o = []
 
 -- of `contains` alone an element counts only where it passed
 abbrev pub needs_to_pass : Meaning → Bool
-needs_to_pass some_item = true
+needs_to_pass contains = true
 needs_to_pass _ = false
 
 abbrev pub indexes_from : Meaning → Part → Outcome → List ℕ
@@ -62,12 +62,12 @@ parts_notes meaning es = record {
 
 -- `not` evaluates nothing
 abbrev pub evaluates : Meaning → Bool
-evaluates negated = false
+evaluates negation = false
 evaluates _ = true
 
 -- what the keyword lets be seen of that
-abbrev pub shown : Meaning → Notes → Notes
-shown meaning n = record n {
+abbrev pub visible_notes : Meaning → Notes → Notes
+visible_notes meaning n = record n {
   annotations = (if may_annotate meaning then n.annotations else []);
   names = (if evaluates meaning then n.names else []);
   indexes = (if evaluates meaning then n.indexes else []);

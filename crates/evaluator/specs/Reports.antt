@@ -4,7 +4,7 @@ use Rattle.definitions.specs.Values.{Text}
 use Rattle.definitions.specs.Faults.{Fault}
 use Rattle.definitions.specs.Applied.{Outcome}
 use Rattle.definitions.specs.Answers.{output_text}
-use Rattle.faults.specs.View.{fault}
+use Rattle.faults.specs.View.{fault_view}
 use Rattle.faults.specs.declared.Fault as code
 use Rattle.evaluator.specs.declared.report.Report.{Report}
 
@@ -15,11 +15,11 @@ abbrev pub report_text : Report → Text
 report_text r = string_bytes r.text
 
 -- whether the instance is valid, and the basic output
-abbrev pub reported : Result Outcome Fault → Result (Bool × Text) Fault
-reported (Ok o) = Ok (o.valid, output_text o)
-reported (Err f) = Err f
+abbrev pub report_or_fault : Result Outcome Fault → Result (Bool × Text) Fault
+report_or_fault (Ok o) = Ok (o.valid, output_text o)
+report_or_fault (Err f) = Err f
 
 -- the answer is given, want of memory aside
 abbrev pub Gives : Result Report code.Fault → Result Outcome Fault → Type 0
-Gives (Ok r) answer = reported answer ≡ Ok (is_valid r, report_text r)
-Gives (Err f) answer = f ≢ code.Fault.NoRoom → answer ≡ Err (fault f)
+Gives (Ok r) answer = report_or_fault answer ≡ Ok (is_valid r, report_text r)
+Gives (Err f) answer = f ≢ code.Fault.NoRoom → answer ≡ Err (fault_view f)

@@ -4,7 +4,7 @@ use Rattle.definitions.specs.Values.{Text, Value, get}
 use Rattle.definitions.specs.Keywords.{Meaning}
 use Rattle.definitions.specs.Applied as definition
 use Rattle.definitions.specs.Applied.{Application, Outcome, condition_outcome, contains_outcomes}
-use Rattle.definitions.specs.Outcomes.{Use, boolean_outcome, outcome, use_of, used, uses_of}
+use Rattle.definitions.specs.Outcomes.{Use, boolean_outcome, outcome, use_of, uses_by_keyword, uses_of}
 use Rattle.json_doc.specs.Docs.{value}
 use Rattle.linker.specs.LinkedDocuments.{linked_schemas}
 use Rattle.linker.specs.declared.linked.Linked.{Linked}
@@ -16,32 +16,32 @@ use Rattle.keywords.specs.declared.keyword.Keyword.TheVariants.{UnevaluatedItems
 use Rattle.keyword_plans.specs.declared.planned.Planned.{Planned}
 use Rattle.keyword_plans.specs.declared.planned.Chosen.{Chosen}
 use Rattle.keyword_plans.specs.declared.planned.Chosen.TheVariants.{Below, Target}
-use Rattle.evaluation_context.specs.Frames.{Frame, standing}
+use Rattle.evaluation_context.specs.Frames.{Frame, frame_standing}
 use Rattle.evaluation_context.specs.Standings.{application_at, at_keyword, standing_of}
 use Rattle.evaluator.specs.Findings.{Outcomes}
 use Rattle.evaluator.specs.Groups.{first_groups, rows_of}
-use Rattle.evaluator.specs.Notes.{Notes, added, nothing, outcome_notes, uses_notes}
+use Rattle.evaluator.specs.Notes.{Notes, no_notes, notes_of_both, outcome_notes, uses_notes}
 use Rattle.evaluator.specs.declared.beside.Beside.{Beside}
 use Rattle.evaluator.specs.declared.found.Found.{Found}
 use Rattle.keywords.specs.declared.group.Group.{Group}
 use Rattle.evaluator.specs.declared.log.Before.{Before}
 
 -- by the linked documents, where so many applications may nest
-abbrev pub said : Linked → ℕ → Application → Outcome
-said l left = outcome (linked_rules l) left
+abbrev pub linked_outcome : Linked → ℕ → Application → Outcome
+linked_outcome l left = outcome (linked_rules l) left
 
 -- the application of this schema, which is one of the linked documents', to this instance there
 pub record IsAt (l : Linked) (f : Frame) (s x : Value) (a : Application) : Type 0 where
-  pub there : a ≡ application_at (standing f) s x
+  pub there : a ≡ application_at (frame_standing f) s x
   pub inside : Contains (linked_schemas l) a.schema
 
 -- at the keyword of this name, under this application's schema object
 abbrev pub IsUnder : Frame → Text → Application → Type 0
-IsUnder f k a = standing f ≡ at_keyword k (standing_of a)
+IsUnder f k a = frame_standing f ≡ at_keyword k (standing_of a)
 
 -- ---- what a keyword applied
 abbrev pub part_outcome : Linked → ℕ → Text → Application → Planned → definition.Part × Outcome
-part_outcome l left k a p = let e = planned_view k a p in (e.0, said l left e.1)
+part_outcome l left k a p = let e = planned_view k a p in (e.0, linked_outcome l left e.1)
 
 abbrev pub part_outcomes : Linked → ℕ → Text → Application → List Planned → Outcomes
 part_outcomes l left k a ps = map (part_outcome l left k a) ps
@@ -51,8 +51,8 @@ IsKnown l k a p = Contains (linked_schemas l) (planned_view k a p).1.schema
 
 -- ---- what keywords beside said
 pub record Knows (l : Linked) (left : ℕ) (a : Application) (meaning : Meaning) (beside : Beside) : Type 0 where
-  pub condition : is_consequence meaning ≡ true → option_map (λ o. o.valid) (condition_outcome (said l left) a) ≡ beside.condition
-  pub containing : counts_contained meaning ≡ true → option_map (count_by (λ o. o.valid)) (contains_outcomes (said l left) a) ≡ beside.containing
+  pub condition : is_consequence meaning ≡ true → option_map (λ o. o.valid) (condition_outcome (linked_outcome l left) a) ≡ beside.condition
+  pub containing : counts_contained meaning ≡ true → option_map (count_by (λ o. o.valid)) (contains_outcomes (linked_outcome l left) a) ≡ beside.containing
 
 -- at a keyword with this value, of the schema s that is applied to the instance x
 pub record IsAtKeyword (l : Linked) (left : ℕ) (f : Frame) (s x : Value) (keyword : Keyword) (v : Value) (beside : Beside) (a : Application) : Type 0 where
@@ -72,19 +72,19 @@ indexes_since before n = drop before.indexes n.indexes
 
 -- a keyword of the application's schema, where it has this value
 abbrev pub uses_with : Linked → ℕ → Application → Keyword → List Text → List ℕ → Option Value → List Use
-uses_with l left a k names indexes v = used (linked_rules l) (said l left) names indexes a (row_of k) v
+uses_with l left a k names indexes v = uses_by_keyword (linked_rules l) (linked_outcome l left) names indexes a (row_of k) v
 
 -- the same, by itself
 abbrev pub use_there : Linked → ℕ → Application → Keyword → List Text → List ℕ → Value → Use
 use_there l left a k names indexes v =
-    use_of (linked_rules l) (said l left) a (row_of k).name (row_of k).meaning v
-    (outcomes_of (linked_rules l) (said l left) names indexes a (row_of k).name (row_of k).meaning v)
+    use_of (linked_rules l) (linked_outcome l left) a (row_of k).name (row_of k).meaning v
+    (outcomes_of (linked_rules l) (linked_outcome l left) names indexes a (row_of k).name (row_of k).meaning v)
 
 abbrev pub keyword_uses : Linked → ℕ → Application → Keyword → List Text → List ℕ → List Use
 keyword_uses l left a k names indexes = uses_with l left a k names indexes (get (row_of k).name a.schema.value)
 
 abbrev pub group_uses : Linked → ℕ → Application → Group → List Use
-group_uses l left a g = uses_of (linked_rules l) (said l left) (rows_of g) [] [] a
+group_uses l left a g = uses_of (linked_rules l) (linked_outcome l left) (rows_of g) [] [] a
 
 abbrev pub groups_uses : Linked → ℕ → Application → List Group → List Use
 groups_uses l left a gs = flat_map (group_uses l left a) gs
@@ -95,12 +95,12 @@ uses_since l left a k before n = keyword_uses l left a k (names_since before n) 
 
 abbrev pub two_uses : Linked → ℕ → Application → Keyword → Keyword → Before → Notes → List Use
 two_uses l left a first second before n =
-    let us = uses_since l left a first before n in us ++ uses_since l left a second before (added n (uses_notes a us))
+    let us = uses_since l left a first before n in us ++ uses_since l left a second before (notes_of_both n (uses_notes a us))
 
 -- the keywords that look at what others evaluated, after these uses
 abbrev pub unevaluated_uses : Linked → ℕ → Application → List Use → List Use
 unevaluated_uses l left a us =
-    uses_of (linked_rules l) (said l left) (row_of UnevaluatedItems ∷ row_of UnevaluatedProperties ∷ []) (flat_map (λ u. u.names) us) (flat_map (λ u. u.indexes) us) a
+    uses_of (linked_rules l) (linked_outcome l left) (row_of UnevaluatedItems ∷ row_of UnevaluatedProperties ∷ []) (flat_map (λ u. u.names) us) (flat_map (λ u. u.indexes) us) a
 
 -- all keywords of a schema object
 unfoldable pub object_uses : Linked → ℕ → Application → List Use
@@ -116,7 +116,7 @@ boolean_found zero b = record { valid = false; count = 1; looped = false; deep =
 boolean_found (suc n) b = record { valid = b; count = 1; looped = false; deep = false }
 
 abbrev pub boolean_notes : ℕ → Application → Bool → Notes
-boolean_notes zero a b = nothing
+boolean_notes zero a b = no_notes
 boolean_notes (suc n) a b = outcome_notes (boolean_outcome a b)
 
 abbrev pub chosen_value : Chosen → Value

@@ -6,11 +6,11 @@ ghost use Rattle.definitions.specs.Evaluated.{is_annotation};
 ghost use Rattle.definitions.specs.Keywords.{is_keyword_of, keywords};
 ghost use Rattle.definitions.specs.Outcomes.{other_annotations, unit};
 ghost use Rattle.json_doc.specs.Docs.{value, members_value};
-ghost use Rattle.evaluation_context.specs.Frames.{frame, standing};
+ghost use Rattle.evaluation_context.specs.Frames.{context_view, frame_standing};
 ghost use Rattle.evaluation_context.specs.Standings.{standing_of};
 ghost use Rattle.evaluator.specs.Annotations.{annotations_among};
-ghost use Rattle.evaluator.specs.Logs.{notes};
-ghost use Rattle.evaluator.specs.Notes.{added, nothing};
+ghost use Rattle.evaluator.specs.Logs.{log_view};
+ghost use Rattle.evaluator.specs.Notes.{no_notes, notes_of_both};
 ghost use Rattle.keyword_plans.specs.Subjects.{subject_value};
 
 use crate::log::Log;
@@ -29,11 +29,12 @@ pub(crate) fn note_others<'a>(
     schema: &'a Doc,
     subject: Subject<'a>,
 ) -> Result<(), AllocError>
-    ensures back { OnOk result (frame context.new ≡ frame context.old) }
-    ensures noted { (a : Application) → standing (frame context.old) ≡ standing_of a
+    ensures back { OnOk result (context_view context.new ≡ context_view context.old) }
+    ensures noted { (a : Application) → frame_standing (context_view context.old) ≡ standing_of a
         → a.schema.value ≡ value schema.now → a.instance ≡ subject_value subject.entry
-        → OnOk result (notes log.new
-        ≡ added (notes log.old) (record nothing { annotations = other_annotations a })) }
+        → OnOk result (log_view log.new
+        ≡ notes_of_both (log_view log.old)
+        (record no_notes { annotations = other_annotations a })) }
 {
     match schema.as_dict() {
         Some(members) => note_members(context, log, schema, members, subject),
@@ -48,11 +49,11 @@ fn note_members<'a>(
     members: &'a Members,
     subject: Subject<'a>,
 ) -> Result<(), AllocError>
-    ensures back { OnOk result (frame context.new ≡ frame context.old) }
-    ensures noted { (a : Application) → standing (frame context.old) ≡ standing_of a
+    ensures back { OnOk result (context_view context.new ≡ context_view context.old) }
+    ensures noted { (a : Application) → frame_standing (context_view context.old) ≡ standing_of a
         → a.schema.value ≡ value schema.now → a.instance ≡ subject_value subject.entry
-        → OnOk result (notes log.new
-        ≡ added (notes log.old) (record nothing {
+        → OnOk result (log_view log.new
+        ≡ notes_of_both (log_view log.old) (record no_notes {
           annotations = annotations_among a
               (members_value members.now);
         })) }
@@ -71,10 +72,10 @@ fn note_member<'a>(
     name: &'a str,
     member: &'a Doc,
 ) -> Result<(), AllocError>
-    ensures back { OnOk result (frame context.new ≡ frame context.old) }
-    ensures noted { (a : Application) → standing (frame context.old) ≡ standing_of a
-        → OnOk result (notes log.new
-        ≡ added (notes log.old) (record nothing {
+    ensures back { OnOk result (context_view context.new ≡ context_view context.old) }
+    ensures noted { (a : Application) → frame_standing (context_view context.old) ≡ standing_of a
+        → OnOk result (log_view log.new
+        ≡ notes_of_both (log_view log.old) (record no_notes {
           annotations = unit a name.now (value member.now)
               ∷ [];
         })) }

@@ -32,12 +32,12 @@ impl<'a> Evaluation<'a> {
     ghost use Rattle.definitions.specs.Applied.{Application};
     ghost use Rattle.definitions.specs.Outcomes.{is_running, boolean_outcome};
     ghost use Rattle.json_doc.specs.Kinds.{as_boolean};
-    ghost use Rattle.evaluation_context.specs.Frames.{frame, standing};
+    ghost use Rattle.evaluation_context.specs.Frames.{context_view, frame_standing};
     ghost use Rattle.evaluation_context.specs.Standings.{application_at};
     ghost use Rattle.evaluator.specs.Applying.{Adds, Applies, IsCostly, object_said};
     ghost use Rattle.evaluator.specs.Findings.{Finds, IsWithin};
     ghost use Rattle.evaluator.specs.Notes.{outcome_notes};
-    ghost use Rattle.evaluator.specs.Rounds.{boolean_found, boolean_notes, said};
+    ghost use Rattle.evaluator.specs.Rounds.{boolean_found, boolean_notes, linked_outcome};
 
     /// Applies a schema to what stands here. Where there is no room for one more application in all, it is Costly.
     #[cycle(apply)]
@@ -48,17 +48,17 @@ impl<'a> Evaluation<'a> {
         room: Room,
     ) -> Result<Found, Fault>
         ensures linked { self.new.linked ≡ self.old.linked }
-        ensures back { OnOk result (frame self.new.context ≡ frame self.old.context) }
+        ensures back { OnOk result (context_view self.new.context ≡ context_view self.old.context) }
         ensures within { IfOk result (λ f. IsWithin f room.applications) }
         ensures found { (a : Application) → Applies self.old schema.now subject.entry a
             → IfOk result (λ f. Finds f room.applications
-            (said self.old.linked.now room.nesting a)) }
+            (linked_outcome self.old.linked.now room.nesting a)) }
         ensures noted { (a : Application) → Applies self.old schema.now subject.entry a
             → OnOk result (Adds self.old self.new (outcome_notes
-            (said self.old.linked.now room.nesting a))) }
+            (linked_outcome self.old.linked.now room.nesting a))) }
         ensures err { (a : Application) → Applies self.old schema.now subject.entry a
             → IfErr result (λ f. IsCostly f room.applications
-            (said self.old.linked.now room.nesting a).count) }
+            (linked_outcome self.old.linked.now room.nesting a).count) }
     {
         if room.applications == 0 {
             return Err(Fault::Costly);
@@ -72,10 +72,10 @@ impl<'a> Evaluation<'a> {
     /// A boolean schema: `false` has a unit of its own (Core, 4.3.2).
     fn apply_boolean(&mut self, allowed: bool, left: u32) -> Result<Found, Fault>
         ensures linked { self.new.linked ≡ self.old.linked }
-        ensures back { OnOk result (frame self.new.context ≡ frame self.old.context) }
+        ensures back { OnOk result (context_view self.new.context ≡ context_view self.old.context) }
         ensures found { IfOk result (λ f. f ≡ boolean_found left allowed) }
         ensures noted { (a : Application) (s x : Value)
-            → a ≡ application_at (standing (frame self.old.context)) s x
+            → a ≡ application_at (frame_standing (context_view self.old.context)) s x
             → OnOk result (Adds self.old self.new (boolean_notes left a allowed)) }
         ensures err { IfErr result (λ f. f ≡ Fault.NoRoom) }
     {
@@ -90,7 +90,7 @@ impl<'a> Evaluation<'a> {
         ensures linked { self.new.linked ≡ self.old.linked }
         ensures back { self.new.context ≡ self.old.context }
         ensures noted { (a : Application) (s x : Value)
-            → a ≡ application_at (standing (frame self.old.context)) s x
+            → a ≡ application_at (frame_standing (context_view self.old.context)) s x
             → OnOk result (Adds self.old self.new (outcome_notes (boolean_outcome a allowed))) }
         ensures err { IfErr result (λ f. f ≡ Fault.NoRoom) }
     {
@@ -113,17 +113,17 @@ impl<'a> Evaluation<'a> {
         requires some { 0 < room.applications }
         requires other { as_boolean (value schema.now) ≡ None }
         ensures linked { self.new.linked ≡ self.old.linked }
-        ensures back { OnOk result (frame self.new.context ≡ frame self.old.context) }
+        ensures back { OnOk result (context_view self.new.context ≡ context_view self.old.context) }
         ensures within { IfOk result (λ f. IsWithin f room.applications) }
         ensures found { (a : Application) → Applies self.old schema.now subject.entry a
             → IfOk result (λ f. Finds f room.applications
-            (said self.old.linked.now room.nesting a)) }
+            (linked_outcome self.old.linked.now room.nesting a)) }
         ensures noted { (a : Application) → Applies self.old schema.now subject.entry a
             → OnOk result (Adds self.old self.new (outcome_notes
-            (said self.old.linked.now room.nesting a))) }
+            (linked_outcome self.old.linked.now room.nesting a))) }
         ensures err { (a : Application) → Applies self.old schema.now subject.entry a
             → IfErr result (λ f. IsCostly f room.applications
-            (said self.old.linked.now room.nesting a).count) }
+            (linked_outcome self.old.linked.now room.nesting a).count) }
     {
         if self.is_looping(schema) {
             return Ok(Found::leaf(true, false));
@@ -144,7 +144,7 @@ impl<'a> Evaluation<'a> {
     /// Whether this schema is being applied here already.
     fn is_looping(&self, schema: &Doc) -> bool
         ensures { (x : Value)
-            → result ≡ is_running (application_at (standing (frame self.now.context))
+            → result ≡ is_running (application_at (frame_standing (context_view self.now.context))
             (value schema.now) x) }
     {
         is_object(schema) && self.context.is_running()
@@ -160,7 +160,7 @@ impl<'a> Evaluation<'a> {
     ) -> Result<Found, Fault>
         requires some { 0 < room.applications }
         ensures linked { self.new.linked ≡ self.old.linked }
-        ensures back { OnOk result (frame self.new.context ≡ frame self.old.context) }
+        ensures back { OnOk result (context_view self.new.context ≡ context_view self.old.context) }
         ensures within { IfOk result (λ f. IsWithin f room.applications) }
         ensures found { (a : Application) → Applies self.old schema.now subject.entry a
             → IfOk result (λ f. Finds f room.applications

@@ -12,7 +12,7 @@ use std::alloc::{AllocError, Global};
 /// The errors, should what is being applied fail; the annotations, should it pass; and the names and the indexes of the
 /// instance that were evaluated.
 ///
-/// Contracts see all four by `notes`.
+/// Contracts see all four by `log_view`.
 #[derive(Drop)]
 pub(crate) struct Log<'a> {
     pub(crate) errors: Units<'a>,
@@ -54,12 +54,12 @@ impl<'a> Log<'a> {
     ghost use Rattle.basic_output.specs.Sayings.{unit_at};
     ghost use Rattle.definitions.specs.Applied.{Outcome};
     ghost use Rattle.keyword_plans.specs.Plans.{part_view};
-    ghost use Rattle.evaluator.specs.Notes.{Notes, added, lengths, nothing, outcome_notes, part_notes};
-    ghost use Rattle.evaluator.specs.Logs.{marked, notes};
+    ghost use Rattle.evaluator.specs.Notes.{Notes, lengths, no_notes, notes_of_both, outcome_notes, part_notes};
+    ghost use Rattle.evaluator.specs.Logs.{log_view, mark_view};
 
     /// Nothing yet.
     pub(crate) fn new(alloc: Global) -> Log<'a>
-        ensures { notes result ≡ nothing }
+        ensures { log_view result ≡ no_notes }
     {
         Log {
             errors: Units::new(alloc),
@@ -71,7 +71,7 @@ impl<'a> Log<'a> {
 
     /// All that there is.
     pub(crate) fn mark(&self) -> LogMark
-        ensures { marked result ≡ lengths (notes self.now) }
+        ensures { mark_view result ≡ lengths (log_view self.now) }
     {
         LogMark {
             errors: self.errors.mark(),
@@ -87,9 +87,9 @@ impl<'a> Log<'a> {
         location: Location<'_, 'a>,
         says: Says<'_, 'a>,
     ) -> Result<(), AllocError>
-        ensures { OnOk result (notes self.new
-            ≡ added (notes self.old)
-            (record nothing { errors = unit_at location.entry says.entry ∷ [] })) }
+        ensures { OnOk result (log_view self.new
+            ≡ notes_of_both (log_view self.old)
+            (record no_notes { errors = unit_at location.entry says.entry ∷ [] })) }
     {
         self.errors.push(location, says)
     }
@@ -100,17 +100,17 @@ impl<'a> Log<'a> {
         location: Location<'_, 'a>,
         says: Says<'_, 'a>,
     ) -> Result<(), AllocError>
-        ensures { OnOk result (notes self.new
-            ≡ added (notes self.old)
-            (record nothing { annotations = unit_at location.entry says.entry ∷ [] })) }
+        ensures { OnOk result (log_view self.new
+            ≡ notes_of_both (log_view self.old)
+            (record no_notes { annotations = unit_at location.entry says.entry ∷ [] })) }
     {
         self.annotations.push(location, says)
     }
 
     /// A name was evaluated. The only error is want of memory.
     pub(crate) fn push_name(&mut self, name: &'a str) -> Result<(), AllocError>
-        ensures { OnOk result (notes self.new
-            ≡ added (notes self.old) (record nothing { names = name.now ∷ [] })) }
+        ensures { OnOk result (log_view self.new
+            ≡ notes_of_both (log_view self.old) (record no_notes { names = name.now ∷ [] })) }
     {
         self.names.push(name)?;
         Ok(())
@@ -118,8 +118,8 @@ impl<'a> Log<'a> {
 
     /// An index was evaluated. The only error is want of memory.
     pub(crate) fn push_index(&mut self, index: usize) -> Result<(), AllocError>
-        ensures { OnOk result (notes self.new
-            ≡ added (notes self.old) (record nothing { indexes = index ∷ [] })) }
+        ensures { OnOk result (log_view self.new
+            ≡ notes_of_both (log_view self.old) (record no_notes { indexes = index ∷ [] })) }
     {
         self.indexes.push(index)?;
         Ok(())
@@ -132,10 +132,10 @@ impl<'a> Log<'a> {
         location: Location<'_, 'a>,
         says: Says<'_, 'a>,
     ) -> Result<(), AllocError>
-        ensures { (older more : Notes) → marked mark.now ≡ lengths older
-            → notes self.old ≡ added older more
-            → OnOk result (notes self.new
-            ≡ added older (record more {
+        ensures { (older more : Notes) → mark_view mark.now ≡ lengths older
+            → log_view self.old ≡ notes_of_both older more
+            → OnOk result (log_view self.new
+            ≡ notes_of_both older (record more {
               errors = unit_at location.entry says.entry
                   ∷ more.errors;
             })) }
@@ -150,10 +150,10 @@ impl<'a> Log<'a> {
         location: Location<'_, 'a>,
         says: Says<'_, 'a>,
     ) -> Result<(), AllocError>
-        ensures { (older more : Notes) → marked mark.now ≡ lengths older
-            → notes self.old ≡ added older more
-            → OnOk result (notes self.new
-            ≡ added older (record more {
+        ensures { (older more : Notes) → mark_view mark.now ≡ lengths older
+            → log_view self.old ≡ notes_of_both older more
+            → OnOk result (log_view self.new
+            ≡ notes_of_both older (record more {
               annotations = unit_at location.entry says.entry
                   ∷ more.annotations;
             })) }
@@ -163,27 +163,27 @@ impl<'a> Log<'a> {
 
     /// Cuts off the errors that came after the mark.
     pub(crate) fn cut_errors(&mut self, mark: &LogMark)
-        ensures { (older more : Notes) → marked mark.now ≡ lengths older
-            → notes self.old ≡ added older more
-            → notes self.new ≡ added older (record more { errors = [] }) }
+        ensures { (older more : Notes) → mark_view mark.now ≡ lengths older
+            → log_view self.old ≡ notes_of_both older more
+            → log_view self.new ≡ notes_of_both older (record more { errors = [] }) }
     {
         self.errors.cut_back(mark.errors);
     }
 
     /// Cuts off the annotations that came after the mark.
     pub(crate) fn cut_annotations(&mut self, mark: &LogMark)
-        ensures { (older more : Notes) → marked mark.now ≡ lengths older
-            → notes self.old ≡ added older more
-            → notes self.new ≡ added older (record more { annotations = [] }) }
+        ensures { (older more : Notes) → mark_view mark.now ≡ lengths older
+            → log_view self.old ≡ notes_of_both older more
+            → log_view self.new ≡ notes_of_both older (record more { annotations = [] }) }
     {
         self.annotations.cut_back(mark.annotations);
     }
 
     /// Cuts off the names and the indexes that came after the mark.
     pub(crate) fn cut_evaluated(&mut self, mark: &LogMark)
-        ensures { (older more : Notes) → marked mark.now ≡ lengths older
-            → notes self.old ≡ added older more
-            → notes self.new ≡ added older (record more { names = []; indexes = [] }) }
+        ensures { (older more : Notes) → mark_view mark.now ≡ lengths older
+            → log_view self.old ≡ notes_of_both older more
+            → log_view self.new ≡ notes_of_both older (record more { names = []; indexes = [] }) }
     {
         self.names.truncate(mark.names);
         self.indexes.truncate(mark.indexes);
@@ -199,10 +199,10 @@ impl<'a> Log<'a> {
         mark: &LogMark,
         passed: bool,
     ) -> Result<(), AllocError>
-        ensures { (older : Notes) (o : Outcome) → marked mark.now ≡ lengths older
-            → notes self.old ≡ added older (outcome_notes o) → passed ≡ o.valid
-            → OnOk result (notes self.new
-            ≡ added older (part_notes (row_of keyword).meaning (part_view part.entry, o))) }
+        ensures { (older : Notes) (o : Outcome) → mark_view mark.now ≡ lengths older
+            → log_view self.old ≡ notes_of_both older (outcome_notes o) → passed ≡ o.valid
+            → OnOk result (log_view self.new
+            ≡ notes_of_both older (part_notes (row_of keyword).meaning (part_view part.entry, o))) }
     {
         match part {
             Part::Whole => Ok(()),

@@ -18,12 +18,12 @@ impl<'a> Evaluation<'a> {
     ghost use Rattle.definitions.specs.Values.{members};
     ghost use Rattle.definitions.specs.Applied.{Application};
     ghost use Rattle.keywords.specs.Rows.{row_of};
-    ghost use Rattle.evaluation_context.specs.Frames.{frame};
+    ghost use Rattle.evaluation_context.specs.Frames.{context_view};
     ghost use Rattle.evaluator.specs.Applying.{Adds, IsCostly, IsHere};
     ghost use Rattle.evaluator.specs.Findings.{FindsObject, FindsUse, FindsUses, IsWithin, use_count};
     ghost use Rattle.evaluator.specs.Groups.{are_marked, first_groups, stands_alone};
     ghost use Rattle.keywords.specs.declared.group.Group.TheVariants.{One, Conditional, Counted};
-    ghost use Rattle.evaluator.specs.Logs.{notes};
+    ghost use Rattle.evaluator.specs.Logs.{log_view};
     ghost use Rattle.evaluator.specs.Notes.{uses_notes};
     ghost use Rattle.evaluator.specs.Rounds.{Knows, evaluated_in, group_uses, groups_uses, object_uses, two_uses, uses_since};
 
@@ -31,9 +31,9 @@ impl<'a> Evaluation<'a> {
     #[cycle(apply)]
     pub(crate) fn use_keywords(&mut self, here: Here<'a>, room: Room) -> Result<Found, Fault>
         requires some { 0 < room.applications }
-        requires before { here.before ≡ evaluated_in (notes self.old.log) }
+        requires before { here.before ≡ evaluated_in (log_view self.old.log) }
         ensures linked { self.new.linked ≡ self.old.linked }
-        ensures back { OnOk result (frame self.new.context ≡ frame self.old.context) }
+        ensures back { OnOk result (context_view self.new.context ≡ context_view self.old.context) }
         ensures within { IfOk result (λ f. IsWithin f room.applications) }
         ensures found { (a : Application) → IsHere self.old here.entry a
             → IfOk result (λ f. FindsObject f room.applications
@@ -80,7 +80,7 @@ impl<'a> Evaluation<'a> {
         requires present { are_marked present.now.marks (members (value here.schema.now))
             ≡ true }
         ensures linked { self.new.linked ≡ self.old.linked }
-        ensures back { OnOk result (frame self.new.context ≡ frame self.old.context) }
+        ensures back { OnOk result (context_view self.new.context ≡ context_view self.old.context) }
         ensures within { IfOk result (λ f. IsWithin f room.applications) }
         ensures found { (a : Application) → IsHere self.old here.entry a
             → IfOk result (λ f. FindsObject f room.applications
@@ -116,7 +116,7 @@ impl<'a> Evaluation<'a> {
     fn use_group(&mut self, group: Group, here: Here<'a>, room: Room) -> Result<Found, Fault>
         requires alone { stands_alone group ≡ true }
         ensures linked { self.new.linked ≡ self.old.linked }
-        ensures back { OnOk result (frame self.new.context ≡ frame self.old.context) }
+        ensures back { OnOk result (context_view self.new.context ≡ context_view self.old.context) }
         ensures within { IfOk result (λ f. f.count ≤ room.applications) }
         ensures found { (a : Application) → IsHere self.old here.entry a
             → IfOk result (λ f. FindsUses f room.applications
@@ -140,7 +140,7 @@ impl<'a> Evaluation<'a> {
     fn use_one(&mut self, keyword: Keyword, here: Here<'a>, room: Room) -> Result<Found, Fault>
         requires alone { stands_alone (One keyword) ≡ true }
         ensures linked { self.new.linked ≡ self.old.linked }
-        ensures back { OnOk result (frame self.new.context ≡ frame self.old.context) }
+        ensures back { OnOk result (context_view self.new.context ≡ context_view self.old.context) }
         ensures within { IfOk result (λ f. f.count ≤ room.applications) }
         ensures found { (a : Application) → IsHere self.old here.entry a
             → IfOk result (λ f. FindsUses f room.applications
@@ -166,7 +166,7 @@ impl<'a> Evaluation<'a> {
     #[cycle(apply)]
     fn use_conditional(&mut self, here: Here<'a>, room: Room) -> Result<Found, Fault>
         ensures linked { self.new.linked ≡ self.old.linked }
-        ensures back { OnOk result (frame self.new.context ≡ frame self.old.context) }
+        ensures back { OnOk result (context_view self.new.context ≡ context_view self.old.context) }
         ensures within { IfOk result (λ f. f.count ≤ room.applications) }
         ensures found { (a : Application) → IsHere self.old here.entry a
             → IfOk result (λ f. FindsUses f room.applications
@@ -210,7 +210,7 @@ impl<'a> Evaluation<'a> {
     #[cycle(apply)]
     fn use_counted(&mut self, here: Here<'a>, room: Room) -> Result<Found, Fault>
         ensures linked { self.new.linked ≡ self.old.linked }
-        ensures back { OnOk result (frame self.new.context ≡ frame self.old.context) }
+        ensures back { OnOk result (context_view self.new.context ≡ context_view self.old.context) }
         ensures within { IfOk result (λ f. f.count ≤ room.applications) }
         ensures found { (a : Application) → IsHere self.old here.entry a
             → IfOk result (λ f. FindsUses f room.applications
@@ -261,26 +261,26 @@ impl<'a> Evaluation<'a> {
         room: Room,
     ) -> Result<Found, Fault>
         ensures linked { self.new.linked ≡ self.old.linked }
-        ensures back { OnOk result (frame self.new.context ≡ frame self.old.context) }
+        ensures back { OnOk result (context_view self.new.context ≡ context_view self.old.context) }
         ensures within { IfOk result (λ f. f.count ≤ room.applications) }
         ensures found { (a : Application) → IsHere self.old here.entry a
             → Knows self.old.linked.now room.nesting a (row_of first).meaning beside
             → Knows self.old.linked.now room.nesting a (row_of second).meaning beside
             → IfOk result (λ f. FindsUses f room.applications
             (two_uses self.old.linked.now room.nesting a first second here.entry.before
-            (notes self.old.log))) }
+            (log_view self.old.log))) }
         ensures noted { (a : Application) → IsHere self.old here.entry a
             → Knows self.old.linked.now room.nesting a (row_of first).meaning beside
             → Knows self.old.linked.now room.nesting a (row_of second).meaning beside
             → OnOk result (Adds self.old self.new (uses_notes a
             (two_uses self.old.linked.now room.nesting a first second here.entry.before
-            (notes self.old.log)))) }
+            (log_view self.old.log)))) }
         ensures err { (a : Application) → IsHere self.old here.entry a
             → Knows self.old.linked.now room.nesting a (row_of first).meaning beside
             → Knows self.old.linked.now room.nesting a (row_of second).meaning beside
             → IfErr result (λ f. IsCostly f room.applications (use_count
             (two_uses self.old.linked.now room.nesting a first second here.entry.before
-            (notes self.old.log)))) }
+            (log_view self.old.log)))) }
     {
         match self.use_named(first, here, beside, room) {
             Ok(used) => match self.use_named(
@@ -309,23 +309,23 @@ impl<'a> Evaluation<'a> {
         room: Room,
     ) -> Result<Used, Fault>
         ensures linked { self.new.linked ≡ self.old.linked }
-        ensures back { OnOk result (frame self.new.context ≡ frame self.old.context) }
+        ensures back { OnOk result (context_view self.new.context ≡ context_view self.old.context) }
         ensures within { IfOk result (λ u. u.found.count ≤ room.applications) }
         ensures found { (a : Application) → IsHere self.old here.entry a
             → Knows self.old.linked.now room.nesting a (row_of keyword).meaning beside
             → IfOk result (λ u. FindsUse u room.applications
             (uses_since self.old.linked.now room.nesting a keyword here.entry.before
-            (notes self.old.log))) }
+            (log_view self.old.log))) }
         ensures noted { (a : Application) → IsHere self.old here.entry a
             → Knows self.old.linked.now room.nesting a (row_of keyword).meaning beside
             → OnOk result (Adds self.old self.new (uses_notes a
             (uses_since self.old.linked.now room.nesting a keyword here.entry.before
-            (notes self.old.log)))) }
+            (log_view self.old.log)))) }
         ensures err { (a : Application) → IsHere self.old here.entry a
             → Knows self.old.linked.now room.nesting a (row_of keyword).meaning beside
             → IfErr result (λ f. IsCostly f room.applications (use_count
             (uses_since self.old.linked.now room.nesting a keyword here.entry.before
-            (notes self.old.log)))) }
+            (log_view self.old.log)))) }
     {
         match here.schema.get(keyword.name()) {
             Some(keyword_value) => self.use_keyword(keyword, keyword_value, here, beside, room),

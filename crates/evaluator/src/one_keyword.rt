@@ -21,17 +21,17 @@ impl<'a> Evaluation<'a> {
     ghost use Rattle.definitions.specs.Values.{Text, get};
     ghost use Rattle.definitions.specs.Applied.{Application};
     ghost use Rattle.definitions.specs.Applied as definition;
-    ghost use Rattle.definitions.specs.Evaluated.{passing};
+    ghost use Rattle.definitions.specs.Evaluated.{pass_count};
     ghost use Rattle.keyword_plans.specs.Plans.{planned_view};
     ghost use Rattle.keywords.specs.Rows.{row_of};
     ghost use Rattle.keyword_plans.specs.Sites.{linked_rules};
     ghost use Rattle.keyword_plans.specs.Subjects.{subject_value};
-    ghost use Rattle.evaluation_context.specs.Frames.{Frame, frame, keyword_entered};
+    ghost use Rattle.evaluation_context.specs.Frames.{Frame, context_view, keyword_frame};
     ghost use Rattle.evaluator.specs.Applying.{Adds, AreKnown, IsCostly, IsHere};
     ghost use Rattle.evaluator.specs.Findings.{AreWithin, Finds, FindsAll, FindsUse, IsWithin, count_of, use_count};
-    ghost use Rattle.evaluator.specs.Logs.{marked, notes};
-    ghost use Rattle.evaluator.specs.Notes.{Notes, added, lengths, part_notes, parts_notes, uses_notes};
-    ghost use Rattle.evaluator.specs.Rounds.{IsAtKeyword, IsKnown, IsUnder, Knows, indexes_since, names_since, part_outcome, part_outcomes, said, use_there, uses_with};
+    ghost use Rattle.evaluator.specs.Logs.{log_view, mark_view};
+    ghost use Rattle.evaluator.specs.Notes.{Notes, lengths, notes_of_both, part_notes, parts_notes, uses_notes};
+    ghost use Rattle.evaluator.specs.Rounds.{IsAtKeyword, IsKnown, IsUnder, Knows, indexes_since, linked_outcome, names_since, part_outcome, part_outcomes, use_there, uses_with};
 
     /// A keyword with this value: what it applies, and whether it passes.
     #[cycle(apply)]
@@ -44,30 +44,30 @@ impl<'a> Evaluation<'a> {
         room: Room,
     ) -> Result<Used, Fault>
         ensures linked { self.new.linked ≡ self.old.linked }
-        ensures back { OnOk result (frame self.new.context ≡ frame self.old.context) }
+        ensures back { OnOk result (context_view self.new.context ≡ context_view self.old.context) }
         ensures within { IfOk result (λ u. u.found.count ≤ room.applications) }
         ensures found { (a : Application) → IsHere self.old here.entry a
             → Knows self.old.linked.now room.nesting a (row_of keyword).meaning beside
             → get (row_of keyword).name a.schema.value ≡ Some (value keyword_value.now)
             → IfOk result (λ u. FindsUse u room.applications
             (uses_with self.old.linked.now room.nesting a keyword (names_since here.entry.before
-            (notes self.old.log)) (indexes_since here.entry.before (notes self.old.log)) (Some
+            (log_view self.old.log)) (indexes_since here.entry.before (log_view self.old.log)) (Some
             (value keyword_value.now)))) }
         ensures noted { (a : Application) → IsHere self.old here.entry a
             → Knows self.old.linked.now room.nesting a (row_of keyword).meaning beside
             → get (row_of keyword).name a.schema.value ≡ Some (value keyword_value.now)
             → OnOk result (Adds self.old self.new (uses_notes a
             (uses_with self.old.linked.now room.nesting a keyword
-            (names_since here.entry.before (notes self.old.log))
-            (indexes_since here.entry.before (notes self.old.log))
+            (names_since here.entry.before (log_view self.old.log))
+            (indexes_since here.entry.before (log_view self.old.log))
             (Some (value keyword_value.now))))) }
         ensures err { (a : Application) → IsHere self.old here.entry a
             → Knows self.old.linked.now room.nesting a (row_of keyword).meaning beside
             → get (row_of keyword).name a.schema.value ≡ Some (value keyword_value.now)
             → IfErr result (λ f. IsCostly f room.applications (use_count
             (uses_with self.old.linked.now room.nesting a keyword
-            (names_since here.entry.before (notes self.old.log))
-            (indexes_since here.entry.before (notes self.old.log))
+            (names_since here.entry.before (log_view self.old.log))
+            (indexes_since here.entry.before (log_view self.old.log))
             (Some (value keyword_value.now))))) }
     {
         let mark = self.log.mark();
@@ -101,9 +101,10 @@ impl<'a> Evaluation<'a> {
             → Knows self.old.linked.now left a (row_of keyword).meaning beside
             → get (row_of keyword).name a.schema.value ≡ Some (value keyword_value.now)
             → IfOk result (λ ps. map (planned_view (row_of keyword).name a) ps.items
-            ≡ definition.applied (linked_rules self.old.linked.now) (said self.old.linked.now left)
-            (names_since here.entry.before (notes self.old.log))
-            (indexes_since here.entry.before (notes self.old.log))
+            ≡ definition.keyword_applications (linked_rules self.old.linked.now)
+            (linked_outcome self.old.linked.now left)
+            (names_since here.entry.before (log_view self.old.log))
+            (indexes_since here.entry.before (log_view self.old.log))
             a (row_of keyword).name (row_of keyword).meaning (value keyword_value.now)) }
         ensures err { IfErr result (λ f. f ≡ Fault.NoRoom) }
     {
@@ -139,11 +140,11 @@ impl<'a> Evaluation<'a> {
     ) -> Result<Used, Fault>
         ensures linked { self.new.linked ≡ self.old.linked }
         ensures back { (older : Frame)
-            → frame self.old.context ≡ keyword_entered (row_of keyword).name older
-            → OnOk result (frame self.new.context ≡ older) }
+            → context_view self.old.context ≡ keyword_frame (row_of keyword).name older
+            → OnOk result (context_view self.new.context ≡ older) }
         ensures count { IfOk result (λ r. r.found.count ≡ applied.count) }
         ensures found { (a : Application) (left budget : ℕ) (names : List Text) (indexes : List ℕ)
-            → IsAtKeyword self.old.linked.now left (frame self.old.context)
+            → IsAtKeyword self.old.linked.now left (context_view self.old.context)
             (value here.entry.schema.now) (subject_value here.entry.subject) keyword
             (value keyword_value.now) beside a
             → let u = use_there self.old.linked.now left a keyword names indexes
@@ -151,15 +152,16 @@ impl<'a> Evaluation<'a> {
             FindsAll applied budget u.outcomes → IfOk result (λ r. FindsUse r budget (u ∷ [])) }
         ensures noted { (a : Application) (left : ℕ) (names : List Text) (indexes : List ℕ)
             (older : Notes)
-            → IsAtKeyword self.old.linked.now left (frame self.old.context)
+            → IsAtKeyword self.old.linked.now left (context_view self.old.context)
             (value here.entry.schema.now) (subject_value here.entry.subject) keyword
             (value keyword_value.now) beside a
             → let u = use_there self.old.linked.now left a keyword names indexes
             (value keyword_value.now) in
-            applied.number ≡ length u.outcomes → applied.passing ≡ passing u.outcomes
-            → marked mark.now ≡ lengths older
-            → notes self.old.log ≡ added older (parts_notes (row_of keyword).meaning u.outcomes)
-            → OnOk result (notes self.new.log ≡ added older (uses_notes a (u ∷ []))) }
+            applied.number ≡ length u.outcomes → applied.passing ≡ pass_count u.outcomes
+            → mark_view mark.now ≡ lengths older
+            → log_view self.old.log ≡ notes_of_both older
+            (parts_notes (row_of keyword).meaning u.outcomes)
+            → OnOk result (log_view self.new.log ≡ notes_of_both older (uses_notes a (u ∷ []))) }
         ensures err { IfErr result (λ f. f ≡ Fault.NoRoom) }
     {
         let passes = self.passes(keyword, keyword_value, here, beside, applied)?;
@@ -193,12 +195,12 @@ impl<'a> Evaluation<'a> {
         ensures back { self.new.context ≡ self.old.context }
         ensures noted { self.new.log ≡ self.old.log }
         ensures passes { (a : Application) (left : ℕ) (names : List Text) (indexes : List ℕ)
-            → IsAtKeyword self.old.linked.now left (frame self.old.context)
+            → IsAtKeyword self.old.linked.now left (context_view self.old.context)
             (value here.entry.schema.now) (subject_value here.entry.subject) keyword
             (value keyword_value.now) beside a
             → let u = use_there self.old.linked.now left a keyword names indexes
             (value keyword_value.now) in
-            applied.number ≡ length u.outcomes → applied.passing ≡ passing u.outcomes
+            applied.number ≡ length u.outcomes → applied.passing ≡ pass_count u.outcomes
             → IfOk result (λ b. b ≡ u.passes) }
         ensures err { IfErr result (λ f. f ≡ Fault.NoRoom) }
     {
@@ -232,19 +234,22 @@ impl<'a> Evaluation<'a> {
         room: Room,
     ) -> Result<Applied, Fault>
         ensures linked { self.new.linked ≡ self.old.linked }
-        ensures back { OnOk result (frame self.new.context ≡ frame self.old.context) }
+        ensures back { OnOk result (context_view self.new.context ≡ context_view self.old.context) }
         ensures within { IfOk result (λ f. AreWithin f room.applications) }
-        ensures found { (a : Application) → IsUnder (frame self.old.context) (row_of keyword).name a
+        ensures found { (a : Application)
+            → IsUnder (context_view self.old.context) (row_of keyword).name a
             → AreKnown self.old.linked.now (row_of keyword).name a planned.now.items
             → IfOk result (λ f. FindsAll f room.applications
             (part_outcomes self.old.linked.now room.nesting
             (row_of keyword).name a planned.now.items)) }
-        ensures noted { (a : Application) → IsUnder (frame self.old.context) (row_of keyword).name a
+        ensures noted { (a : Application)
+            → IsUnder (context_view self.old.context) (row_of keyword).name a
             → AreKnown self.old.linked.now (row_of keyword).name a planned.now.items
             → OnOk result (Adds self.old self.new (parts_notes (row_of keyword).meaning
             (part_outcomes self.old.linked.now room.nesting
             (row_of keyword).name a planned.now.items))) }
-        ensures err { (a : Application) → IsUnder (frame self.old.context) (row_of keyword).name a
+        ensures err { (a : Application)
+            → IsUnder (context_view self.old.context) (row_of keyword).name a
             → AreKnown self.old.linked.now (row_of keyword).name a planned.now.items
             → IfErr result (λ f. IsCostly f room.applications (count_of
             (part_outcomes self.old.linked.now room.nesting
@@ -276,17 +281,20 @@ impl<'a> Evaluation<'a> {
         room: Room,
     ) -> Result<Found, Fault>
         ensures linked { self.new.linked ≡ self.old.linked }
-        ensures back { OnOk result (frame self.new.context ≡ frame self.old.context) }
+        ensures back { OnOk result (context_view self.new.context ≡ context_view self.old.context) }
         ensures within { IfOk result (λ f. IsWithin f room.applications) }
-        ensures found { (a : Application) → IsUnder (frame self.old.context) (row_of keyword).name a
+        ensures found { (a : Application)
+            → IsUnder (context_view self.old.context) (row_of keyword).name a
             → IsKnown self.old.linked.now (row_of keyword).name a planned.now
             → IfOk result (λ f. Finds f room.applications
             (part_outcome self.old.linked.now room.nesting (row_of keyword).name a planned.now).1) }
-        ensures noted { (a : Application) → IsUnder (frame self.old.context) (row_of keyword).name a
+        ensures noted { (a : Application)
+            → IsUnder (context_view self.old.context) (row_of keyword).name a
             → IsKnown self.old.linked.now (row_of keyword).name a planned.now
             → OnOk result (Adds self.old self.new (part_notes (row_of keyword).meaning
             (part_outcome self.old.linked.now room.nesting (row_of keyword).name a planned.now))) }
-        ensures err { (a : Application) → IsUnder (frame self.old.context) (row_of keyword).name a
+        ensures err { (a : Application)
+            → IsUnder (context_view self.old.context) (row_of keyword).name a
             → IsKnown self.old.linked.now (row_of keyword).name a planned.now
             → IfErr result (λ f. IsCostly f room.applications
             (part_outcome self.old.linked.now room.nesting

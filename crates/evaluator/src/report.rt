@@ -7,12 +7,12 @@ ghost use Rattle.definitions.specs.Schemas.{Document};
 ghost use Rattle.definitions.specs.Applied.{Outcome};
 ghost use Rattle.definitions.specs.Patterns.{has_match};
 ghost use Rattle.definition_laws.specs.Reaching.{HaveDistinctResources};
-ghost use Rattle.faults.specs.View.{fault};
+ghost use Rattle.faults.specs.View.{fault_view};
 ghost use Rattle.json_doc.specs.Docs.{value};
 ghost use Rattle.linker.specs.LinkedDocuments.{linked_documents, linked_uri};
-ghost use Rattle.evaluator.specs.Logs.{notes};
+ghost use Rattle.evaluator.specs.Logs.{log_view};
 ghost use Rattle.evaluator.specs.Notes.{outcome_notes};
-ghost use Rattle.evaluator.specs.Reports.{Gives, is_valid, report_text, reported};
+ghost use Rattle.evaluator.specs.Reports.{Gives, is_valid, report_or_fault, report_text};
 
 use crate::applying::Evaluation;
 use crate::log::Log;
@@ -73,11 +73,12 @@ impl Report {
 /// No document that the linked resource doesn't reach changes the answer.
 pub fn evaluate<'a>(alloc: Global, linked: &'a Linked, instance: &'a Doc) -> Result<Report, Fault>
     ensures ok { IfOk result
-        (λ r. reported (answer has_match (linked_documents linked.now) (linked_uri linked.now)
+        (λ r. report_or_fault (answer has_match (linked_documents linked.now)
+        (linked_uri linked.now)
         (value instance.now)) ≡ Ok (is_valid r, report_text r)) }
     ensures err { IfErr result
         (λ f. f ≢ Fault.NoRoom → answer has_match (linked_documents linked.now)
-        (linked_uri linked.now) (value instance.now) ≡ Err (fault f)) }
+        (linked_uri linked.now) (value instance.now) ≡ Err (fault_view f)) }
     ensures whole { (G : List Document) → HaveDistinctResources G
         → linked_documents linked.now ≡ reach G (linked_uri linked.now)
         → Gives result (answer has_match G (linked_uri linked.now) (value instance.now)) }
@@ -115,7 +116,7 @@ pub fn evaluate<'a>(alloc: Global, linked: &'a Linked, instance: &'a Doc) -> Res
 // The report of all that was noted.
 fn made<'a>(alloc: Global, valid: bool, log: &Log<'a>) -> Result<Report, Fault>
     ensures valid { IfOk result (λ r. is_valid r ≡ valid) }
-    ensures text { (o : Outcome) → valid ≡ o.valid → notes log.now ≡ outcome_notes o
+    ensures text { (o : Outcome) → valid ≡ o.valid → log_view log.now ≡ outcome_notes o
         → IfOk result (λ r. output_text o ≡ report_text r) }
     ensures err { IfErr result (λ f. f ≡ Fault.NoRoom) }
 {

@@ -12,9 +12,9 @@ ghost use Rattle.keyword_plans.specs.Plans.{outcomes_of};
 ghost use Rattle.keywords.specs.Rows.{row_of};
 ghost use Rattle.keyword_plans.specs.Subjects.{subject_value};
 ghost use Rattle.linker.specs.declared.linked.Linked.{Linked};
-ghost use Rattle.evaluator.specs.Logs.{marked, notes};
-ghost use Rattle.evaluator.specs.Notes.{Notes, added, evaluates, lengths, parts_notes, shown, uses_notes};
-ghost use Rattle.evaluator.specs.Rounds.{said, use_there};
+ghost use Rattle.evaluator.specs.Logs.{log_view, mark_view};
+ghost use Rattle.evaluator.specs.Notes.{Notes, evaluates, lengths, notes_of_both, parts_notes, uses_notes, visible_notes};
+ghost use Rattle.evaluator.specs.Rounds.{linked_outcome, use_there};
 
 use crate::log::{Before, Log, LogMark};
 use basic_output::{Location, Says};
@@ -41,9 +41,9 @@ pub(crate) fn settle<'a>(
         a.instance ≡ subject_value subject.entry → applied ≡ length u.outcomes → passes ≡ u.passes
         → ((says : output.Says) → unit_at location.entry says
         ≡ unit a (row_of keyword).name (says_value says))
-        → marked mark.now ≡ lengths older
-        → notes log.old ≡ added older (parts_notes (row_of keyword).meaning u.outcomes)
-        → OnOk result (notes log.new ≡ added older (uses_notes a (u ∷ []))) }
+        → mark_view mark.now ≡ lengths older
+        → log_view log.old ≡ notes_of_both older (parts_notes (row_of keyword).meaning u.outcomes)
+        → OnOk result (log_view log.new ≡ notes_of_both older (uses_notes a (u ∷ []))) }
     ensures err { IfErr result (λ f. f ≡ Fault.NoRoom) }
 {
     hide(log, keyword, mark);
@@ -59,9 +59,9 @@ pub(crate) fn settle<'a>(
 
 // What `not` and `propertyNames` apply doesn't annotate, and `not` evaluates nothing.
 fn hide(log: &mut Log<'_>, keyword: Keyword, mark: &LogMark)
-    ensures { (older more : Notes) → marked mark.now ≡ lengths older
-        → notes log.old ≡ added older more
-        → notes log.new ≡ added older (shown (row_of keyword).meaning more) }
+    ensures { (older more : Notes) → mark_view mark.now ≡ lengths older
+        → log_view log.old ≡ notes_of_both older more
+        → log_view log.new ≡ notes_of_both older (visible_notes (row_of keyword).meaning more) }
 {
     match keyword {
         Keyword::Not => {
@@ -89,10 +89,11 @@ fn note_own<'a>(
         a.instance ≡ subject_value subject.entry → applied ≡ length u.outcomes
         → ((says : output.Says) → unit_at location.entry says
         ≡ unit a (row_of keyword).name (says_value says))
-        → marked mark.now ≡ lengths older → notes log.old ≡ added older more → more.names ≡ u.names
+        → mark_view mark.now ≡ lengths older → log_view log.old ≡ notes_of_both older more
+        → more.names ≡ u.names
         → more.indexes ≡ u.indexes
-        → OnOk result (notes log.new
-        ≡ added older (record more {
+        → OnOk result (log_view log.new
+        ≡ notes_of_both older (record more {
           annotations = own_annotation a u u.annotation
               ++ more.annotations;
         })) }

@@ -3,12 +3,12 @@
 ghost use Rattle.std.specs.Prelude.{◌≡◌, List, OnOk};
 ghost use Rattle.std.specs.List.{list_all};
 ghost use Rattle.definitions.specs.Applied.{Application};
-ghost use Rattle.definitions.specs.Outcomes.{Use, combined};
+ghost use Rattle.definitions.specs.Outcomes.{Use, outcome_of_uses};
 ghost use Rattle.json_doc.specs.Docs.{value};
-ghost use Rattle.evaluation_context.specs.Frames.{frame, standing};
+ghost use Rattle.evaluation_context.specs.Frames.{context_view, frame_standing};
 ghost use Rattle.evaluation_context.specs.Standings.{application_at};
-ghost use Rattle.evaluator.specs.Logs.{marked, notes};
-ghost use Rattle.evaluator.specs.Notes.{Notes, added, lengths, outcome_notes, uses_notes};
+ghost use Rattle.evaluator.specs.Logs.{log_view, mark_view};
+ghost use Rattle.evaluator.specs.Notes.{Notes, lengths, notes_of_both, outcome_notes, uses_notes};
 ghost use Rattle.keyword_plans.specs.Subjects.{subject_value};
 
 use crate::annotating::note_others;
@@ -28,13 +28,15 @@ pub(crate) fn settle_object<'a>(
     subject: Subject<'a>,
     valid: bool,
 ) -> Result<(), AllocError>
-    ensures back { OnOk result (frame context.new ≡ frame context.old) }
+    ensures back { OnOk result (context_view context.new ≡ context_view context.old) }
     ensures noted { (a : Application) (older : Notes) (us : List Use)
-        → a ≡ application_at (standing (frame context.old)) (value schema.now)
+        → a ≡ application_at (frame_standing (context_view context.old)) (value schema.now)
         (subject_value subject.entry)
-        → marked mark.now ≡ lengths older → notes log.old ≡ added older (uses_notes a us)
+        → mark_view mark.now ≡ lengths older
+        → log_view log.old ≡ notes_of_both older (uses_notes a us)
         → valid ≡ list_all (λ u. u.passes) us
-        → OnOk result (notes log.new ≡ added older (outcome_notes (combined a us))) }
+        → OnOk result (log_view log.new
+        ≡ notes_of_both older (outcome_notes (outcome_of_uses a us))) }
 {
     if valid {
         note_others(context, log, schema, subject)

@@ -2,8 +2,8 @@
 #![tactic(auto)]
 
 ghost use Rattle.std.specs.Prelude.{◌≡◌, Some, option_map};
-ghost use Rattle.definitions.specs.Faults.{row_of, number_of, name_of, status_of, carried};
-ghost use Rattle.faults.specs.View.{fault, printed};
+ghost use Rattle.definitions.specs.Faults.{row_of, number_of, name_of, status_of, carried_text};
+ghost use Rattle.faults.specs.View.{fault_view, printed_text};
 ghost use Rattle.faults.specs.declared.Fault.TheVariants.{NoRoom};
 
 use std::alloc::{AllocError, AllocFailed};
@@ -102,28 +102,28 @@ pub enum Fault {
 impl Fault {
     /// The number, from 1 to 43.
     pub fn number(&self) -> u8
-        ensures { result ≡ number_of (fault self.now) }
+        ensures { result ≡ number_of (fault_view self.now) }
     {
         self.row().0
     }
 
     /// The name, as [`Fault::NoRoom`] has `NoRoom`.
     pub fn name(&self) -> &'static str
-        ensures { result.now ≡ name_of (fault self.now) }
+        ensures { result.now ≡ name_of (fault_view self.now) }
     {
         self.row().1
     }
 
     /// The HTTP status of a request that is refused so, from 400 to 503 (RFC 9110, section 15); none where no request is.
     pub fn status(&self) -> Option<u16>
-        ensures { result ≡ status_of (fault self.now) }
+        ensures { result ≡ status_of (fault_view self.now) }
     {
         self.row().2
     }
 
     /// The text that the fault carries: a pointer, a reference or a URI.
     pub fn at(&self) -> Option<&str>
-        ensures { option_map (λ t. t.now) result ≡ carried (fault self.now) }
+        ensures { option_map (λ t. t.now) result ≡ carried_text (fault_view self.now) }
     {
         match self {
             Fault::BadKeyword(at)
@@ -137,7 +137,7 @@ impl Fault {
 
     // The number, the name and the status.
     fn row(&self) -> (u8, &'static str, Option<u16>)
-        ensures { (result.0, result.1.now, result.2) ≡ row_of (fault self.now) }
+        ensures { (result.0, result.1.now, result.2) ≡ row_of (fault_view self.now) }
     {
         match self {
             Fault::BadJson => (1, "BadJson", Some(400)),
@@ -188,7 +188,7 @@ impl Fault {
 
 /// The number, the name and, where the fault carries a text, this text, with a space between them.
 impl fmt::Display for Fault {
-    ghost output = { λ f. Some (printed (fault f)) };
+    ghost output = { λ f. Some (printed_text (fault_view f)) };
 
     fn fmt<W: fmt::Write>(&self, f: &mut fmt::Formatter<W>) -> fmt::Result {
         let (number, name, _) = self.row();

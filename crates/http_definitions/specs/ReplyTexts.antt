@@ -4,7 +4,7 @@ use Rattle.std.specs.List.{list_all}
 use Rattle.httparse.specs.Ascii.{crlf_bytes}
 use Rattle.definitions.specs.Values.{Text, Value, boolean, integer, string, array, object, to_elements, to_members}
 use Rattle.definitions.specs.Texts.{text}
-use Rattle.definitions.specs.Faults.{Fault, number_of, name_of, carried, status_of, bad_request}
+use Rattle.definitions.specs.Faults.{Fault, number_of, name_of, carried_text, status_of, bad_request}
 use Rattle.definitions.specs.Registries.{Reply, stored, deleted, validated, bundled, stored_all, refused, refused_at}
 
 -- ---- bodies
@@ -22,7 +22,7 @@ stored_all_value ds =
 -- a fault, and the entry of a batch that it is of
 abbrev pub fault_value : Option ℕ → Fault → Value
 fault_value entry f =
-    object (to_members (option_to_list (option_map (λ at. (codes "at", string at)) (carried f))
+    object (to_members (option_to_list (option_map (λ at. (codes "at", string at)) (carried_text f))
     ++ (option_to_list (option_map (λ k. (codes "entry", integer (pos k))) entry)
     ++ ((codes "fault", integer (pos (number_of f))) ∷ (codes "name", string (name_of f)) ∷ []))))
 

@@ -13,12 +13,12 @@ pub record Route : Type 0 where
   pub request : Text → Text → Option Request
 
 -- the text without its escapes; a `%` that begins none is kept
-abbrev pub unescaped : Text → Option Text
-unescaped t = if is_utf8 (percent_decode t) then Some (percent_decode t) else None
+abbrev pub unescaped_text : Text → Option Text
+unescaped_text t = if is_utf8 (percent_decode t) then Some (percent_decode t) else None
 
 -- the rest of the target is a URI
 abbrev pub by_uri : (Text → Text → Request) → Text → Text → Option Request
-by_uri ask rest body = option_map (λ uri. ask uri body) (unescaped rest)
+by_uri ask rest body = option_map (λ uri. ask uri body) (unescaped_text rest)
 
 -- the target ends here
 abbrev pub alone : (Text → Request) → Text → Text → Option Request

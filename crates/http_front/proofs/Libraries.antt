@@ -8,7 +8,7 @@ use Rattle.definitions.specs.Schemas.{Document}
 use Rattle.definitions.specs.Services.{KeyedRegistry}
 use Rattle.definitions.specs.Tenants.{Tenant, file_tenants, unless_refused}
 use Rattle.definitions.specs.Values.{Text}
-use Rattle.faults.specs.View.{fault}
+use Rattle.faults.specs.View.{fault_view}
 use Rattle.faults.specs.declared.Fault.{Fault}
 use Rattle.faults.specs.declared.Fault.TheVariants.{NoRoom}
 use Rattle.serving.specs.Transfers.{Transfer}
@@ -40,16 +40,16 @@ read_server file capacity ts f batch e (inr r) = inr (
 )
 
 pub over_refused : (T : Type 0) (file : Text) (capacity : ℕ) (ts : List Tenant) (batch : Text) (r : Result T Fault) → file_tenants file ≡ Ok ts
-    → IfErr r (λ f. f ≢ NoRoom → IsRefusedServer ts capacity batch (fault f))
-    → IfErr r (λ f. f ≢ NoRoom → OnLibraryOf batch (λ l. server_of file capacity l ≡ Err (fault f)))
+    → IfErr r (λ f. f ≢ NoRoom → IsRefusedServer ts capacity batch (fault_view f))
+    → IfErr r (λ f. f ≢ NoRoom → OnLibraryOf batch (λ l. server_of file capacity l ≡ Err (fault_view f)))
 over_refused T file capacity ts batch (Ok made) e h = tt
-over_refused T file capacity ts batch (Err f) e h = λ other. read_server file capacity ts (fault f) batch e (h other)
+over_refused T file capacity ts batch (Err f) e h = λ other. read_server file capacity ts (fault_view f) batch e (h other)
 
 pub refused_run_with : (server : Result (List Document) meaning.Fault → Result (List KeyedRegistry) meaning.Fault) (batch : Text)
-    (reads writes : List Transfer) (f : Fault) → (f ≢ NoRoom → OnLibraryOf batch (λ l. server l ≡ Err (fault f)))
+    (reads writes : List Transfer) (f : Fault) → (f ≢ NoRoom → OnLibraryOf batch (λ l. server l ≡ Err (fault_view f)))
     → OnLibraryOf batch (λ l. IsRun (server l) reads writes (Err f) reads writes)
 refused_run_with server batch reads writes f why = elim (is_no_room f) [
   | inl e ↦ inl (refused_run (server (library_of regular_search batch)) reads writes f (λ other. absurd (other e)))
-  | inr other ↦ each_library batch (λ l. server l ≡ Err (fault f)) (λ l. IsRun (server l) reads writes (Err f) reads writes)
+  | inr other ↦ each_library batch (λ l. server l ≡ Err (fault_view f)) (λ l. IsRun (server l) reads writes (Err f) reads writes)
       (λ l p. refused_run (server l) reads writes f (λ o. p)) (why other)
 ]

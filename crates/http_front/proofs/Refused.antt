@@ -2,7 +2,7 @@
 use Rattle.std.proofs.Common.{◌≡◌, ◌≢◌, ◌⊎◌, List, [], Result, Ok, Err, refl, inl, inr}
 use Rattle.definitions.specs.Faults as meaning
 use Rattle.definitions.specs.Services.{KeyedRegistry}
-use Rattle.faults.specs.View.{fault}
+use Rattle.faults.specs.View.{fault_view}
 use Rattle.faults.specs.declared.Fault.{Fault}
 use Rattle.faults.specs.declared.Fault.TheVariants.{NoRoom}
 use Rattle.http_definitions.specs.Connections.{holding}
@@ -17,7 +17,7 @@ is_no_room NoRoom = inl refl
 is_no_room f = inr (λ e. cc e)
 
 pub refused_run : (server : Result (List KeyedRegistry) meaning.Fault) (reads writes : List Transfer) (f : Fault)
-    → (f ≢ NoRoom → server ≡ Err (fault f)) → IsRun server reads writes (Err f) reads writes
+    → (f ≢ NoRoom → server ≡ Err (fault_view f)) → IsRun server reads writes (Err f) reads writes
 refused_run (Err g) reads writes f why = ((λ other. cc (why other)), refl, refl)
 refused_run (Ok ks) reads writes f why = elim (is_no_room f) [
   | inl e ↦ (ks, inl (inr (inr (e, inl (holding [], [], reads_nothing call_answers (wire ks reads writes))))))

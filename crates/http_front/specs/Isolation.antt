@@ -8,7 +8,7 @@ use Rattle.http_definitions.specs.Heads.{key_of}
 use Rattle.http_definitions.specs.Routes.{request_of}
 use Rattle.connections.specs.Feeding.{Fed, FeedsAll, Answered, IsHistory}
 use Rattle.tenant_hub.specs.Isolation.{HaveOwnCourses, HaveOwnReplies, RefuseUnknownKeys}
-use Rattle.http_front.specs.HubAnswers.{registries_of, call_answers, hub_answers}
+use Rattle.http_front.specs.HubAnswers.{handler_view, call_answers, hub_answers}
 use Rattle.http_front.specs.declared.hub_handler.HubHandler.{HubHandler}
 
 -- ---- the calls among whole requests, and their replies; a target that is no route's is no call
@@ -30,10 +30,10 @@ call_replies_of (a ∷ xs) = with_reply (request_of a.message.head a.message.bod
 
 -- ---- what is said of them
 pub record AreIsolated (before : HubHandler) (fs : List Fed) (now : ℕ → Connection) (after : HubHandler) (xs : List Answered) : Type 0 where
-  pub history : IsHistory call_answers (registries_of before) fs now (registries_of after) xs
-  pub courses : HaveOwnCourses (registries_of before) (calls_of xs) (call_replies_of xs) (registries_of after)
-  pub own : HaveOwnReplies (registries_of before) (calls_of xs) (call_replies_of xs)
-  pub unknown : RefuseUnknownKeys (registries_of before) (calls_of xs) (call_replies_of xs)
+  pub history : IsHistory call_answers (handler_view before) fs now (handler_view after) xs
+  pub courses : HaveOwnCourses (handler_view before) (calls_of xs) (call_replies_of xs) (handler_view after)
+  pub own : HaveOwnReplies (handler_view before) (calls_of xs) (call_replies_of xs)
+  pub unknown : RefuseUnknownKeys (handler_view before) (calls_of xs) (call_replies_of xs)
 
 abbrev pub ConnectionsAreIsolated : Type 0
 ConnectionsAreIsolated =

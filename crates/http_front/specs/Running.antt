@@ -2,7 +2,7 @@
 use Rattle.std.specs.Prelude.{◌≡◌, ◌≢◌, List, None, Result, Ok, Err}
 use Rattle.definitions.specs.Faults as meaning
 use Rattle.definitions.specs.Services.{KeyedRegistry}
-use Rattle.faults.specs.View.{fault}
+use Rattle.faults.specs.View.{fault_view}
 use Rattle.faults.specs.declared.Fault.{Fault}
 use Rattle.faults.specs.declared.Fault.TheVariants.{NoRoom}
 use Rattle.serving.specs.Transfers.{Transfer}
@@ -17,7 +17,7 @@ IsHubServed ks reads writes result more others =
 
 abbrev pub IsRefusedBy : meaning.Fault → Result (Unit {0}) Fault → Type 0
 IsRefusedBy f (Ok u) = ⊥
-IsRefusedBy f (Err g) = g ≢ NoRoom → f ≡ fault g
+IsRefusedBy f (Err g) = g ≢ NoRoom → f ≡ fault_view g
 
 -- a server that is refused reads and writes nothing
 abbrev pub IsRun : Result (List KeyedRegistry) meaning.Fault → List Transfer → List Transfer → Result (Unit {0}) Fault → List Transfer → List Transfer → Type 0

@@ -3,7 +3,7 @@
 ghost use Rattle.std.specs.Prelude.{◌≡◌};
 ghost use Rattle.definitions.specs.Patterns.{regular_search};
 ghost use Rattle.definitions.specs.Services.{IsCallAnswer};
-ghost use Rattle.tenant_hub.specs.Hubs.{hub_registries};
+ghost use Rattle.tenant_hub.specs.Hubs.{hub_view};
 
 use connections::Handler;
 use requests::{Reply, Request};
@@ -17,11 +17,11 @@ pub struct HubHandler {
 }
 
 impl HubHandler {
-    ghost use Rattle.http_front.specs.HubAnswers.{registries_of};
+    ghost use Rattle.http_front.specs.HubAnswers.{handler_view};
 
     /// Over this hub.
     pub fn new(hub: Hub) -> HubHandler
-        ensures { registries_of result ≡ hub_registries hub }
+        ensures { handler_view result ≡ hub_view hub }
     {
         HubHandler { hub }
     }
@@ -29,7 +29,7 @@ impl HubHandler {
 
 impl Handler for HubHandler {
     ghost answers = { λ s key q r t.
-        IsCallAnswer regular_search (hub_registries s.hub) (key, q) r (hub_registries t.hub) };
+        IsCallAnswer regular_search (hub_view s.hub) (key, q) r (hub_view t.hub) };
 
     fn apply(&mut self, alloc: Global, key: &str, request: &Request) -> Reply {
         self.hub.apply(alloc, key, request)

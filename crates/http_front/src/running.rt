@@ -4,7 +4,7 @@ ghost use Rattle.std.specs.Prelude.{[], List, Ok};
 ghost use Rattle.http_front.specs.Libraries.{OnLibraryOf};
 ghost use Rattle.http_front.specs.Running.{IsHubServed, IsRun};
 ghost use Rattle.http_front.specs.Servers.{server_of};
-ghost use Rattle.tenant_hub.specs.Hubs.{hub_registries};
+ghost use Rattle.tenant_hub.specs.Hubs.{hub_view};
 
 use crate::hub_handler::HubHandler;
 use crate::servers::{hub_of, hub_over};
@@ -20,7 +20,7 @@ fn serve_hub<R: ByteReader, W: ByteWriter>(
     reader: &mut R,
     writer: &mut W,
 ) -> Result<(), Fault>
-    ensures { IsHubServed (hub_registries hub) (R.reads reader.old) (W.writes writer.old)
+    ensures { IsHubServed (hub_view hub) (R.reads reader.old) (W.writes writer.old)
         result (R.reads reader.new) (W.writes writer.new) }
 {
     let mut sessions = Sessions::new(alloc, HubHandler::new(hub));

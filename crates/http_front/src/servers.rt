@@ -3,10 +3,10 @@
 ghost use Rattle.std.specs.Prelude.{◌≡◌, ◌≢◌, [], Ok, Err, IfOk, IfErr};
 ghost use Rattle.definitions.specs.Batches.{library_of};
 ghost use Rattle.definitions.specs.Patterns.{regular_search};
-ghost use Rattle.faults.specs.View.{fault};
+ghost use Rattle.faults.specs.View.{fault_view};
 ghost use Rattle.http_front.specs.Libraries.{OnLibraryOf};
 ghost use Rattle.http_front.specs.Servers.{server_of};
-ghost use Rattle.tenant_hub.specs.Hubs.{hub_registries};
+ghost use Rattle.tenant_hub.specs.Hubs.{hub_view};
 
 use std::alloc::Global;
 use tenant_hub::{Fault, Hub, read_tenants};
@@ -15,9 +15,9 @@ use tenant_hub::{Fault, Hub, read_tenants};
 /// of `Hub::new`; `NoRoom` may take the place of any answer.
 pub fn hub_of(alloc: Global, tenants: &[u8], capacity: usize) -> Result<Hub, Fault>
     ensures ok { IfOk result (λ h.
-        server_of tenants.now capacity (Ok []) ≡ Ok (hub_registries h)) }
+        server_of tenants.now capacity (Ok []) ≡ Ok (hub_view h)) }
     ensures err { IfErr result (λ f. f ≢ Fault.NoRoom
-        → server_of tenants.now capacity (Ok []) ≡ Err (fault f)) }
+        → server_of tenants.now capacity (Ok []) ≡ Err (fault_view f)) }
 {
     match read_tenants(alloc, tenants) {
         Err(fault) => Err(fault),
@@ -34,9 +34,9 @@ pub fn hub_over(
     library: &[u8],
 ) -> Result<Hub, Fault>
     ensures ok { IfOk result (λ h. server_of tenants.now capacity
-        (library_of regular_search library.now) ≡ Ok (hub_registries h)) }
+        (library_of regular_search library.now) ≡ Ok (hub_view h)) }
     ensures err { IfErr result (λ f. f ≢ Fault.NoRoom → OnLibraryOf library.now
-        (λ l. server_of tenants.now capacity l ≡ Err (fault f))) }
+        (λ l. server_of tenants.now capacity l ≡ Err (fault_view f))) }
 {
     match read_tenants(alloc, tenants) {
         Err(fault) => Err(fault),

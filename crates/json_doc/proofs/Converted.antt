@@ -12,7 +12,7 @@ use Rattle.definitions.specs.Values as meaning
 use Rattle.definitions.specs.Values.{Text, no_members, member, members_list, to_elements, to_members}
 use Rattle.definitions.specs.Texts.{value_of, elements_of, members_of}
 use Rattle.json_doc.specs.Docs.{value}
-use Rattle.json_doc.specs.Members.{put}
+use Rattle.json_doc.specs.Members.{members_with}
 use Rattle.json_doc.specs.declared.doc.Doc.{Doc}
 
 -- ---- a list: each item beside the document that it was read as
@@ -74,7 +74,7 @@ below_middle first (x ∷ es) e more h = below_middle first es e more h.1
 
 -- the next name is above those before it, so its member goes last
 pub next_is_last : (done : List Entry) (e : Entry) (more : List Entry) (ms : List (Text × meaning.Value)) (v : meaning.Value)
-    → IsStrictlySortedBy string_cmp (keys_of (done ++ e ∷ more)) → AreMembers done ms → put (string_bytes e.0) v ms ≡ ms ++ (string_bytes e.0, v) ∷ []
+    → IsStrictlySortedBy string_cmp (keys_of (done ++ e ∷ more)) → AreMembers done ms → members_with (string_bytes e.0) v ms ≡ ms ++ (string_bytes e.0, v) ∷ []
 unfolding IsStrictlySortedBy
 next_is_last [] e more [] v sorted h = refl
 next_is_last [] e more (m ∷ ms) v sorted h = absurd h

@@ -11,7 +11,7 @@ use Rattle.std.specs.Ordering.{match_ordering}
 use Rattle.std.specs.Str.{is_utf8}
 use Rattle.definitions.specs.Values.{Text, Value, entry}
 use Rattle.json_doc.specs.Docs.{value}
-use Rattle.json_doc.specs.Members.{member_value, put, HasNamesInOrder, HasTextsAsNames}
+use Rattle.json_doc.specs.Members.{member_value, members_with, HasNamesInOrder, HasTextsAsNames}
 use Rattle.json_doc.specs.NameMaps.{entry_named}
 use Rattle.json_doc.specs.declared.doc.Doc.{Doc}
 use Rattle.json_doc.proofs.Views.{Entry}
@@ -51,7 +51,7 @@ members-match_ordering Less a b c = refl
 members-match_ordering Equal a b c = refl
 members-match_ordering Greater a b c = refl
 
-pub put-insert_entry : (es : List Entry) (k : String Global) (d : Doc) → map member_value (insert_entry string_cmp es k d) ≡ put (string_bytes k) (value d) (map member_value es)
+pub put-insert_entry : (es : List Entry) (k : String Global) (d : Doc) → map member_value (insert_entry string_cmp es k d) ≡ members_with (string_bytes k) (value d) (map member_value es)
 put-insert_entry [] k d = refl
 put-insert_entry (e ∷ es) k d = members-match_ordering (string_cmp k e.0) _ _ _ ∙ rw (put-insert_entry es k d)
 

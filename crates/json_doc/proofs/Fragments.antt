@@ -10,7 +10,7 @@ use Rattle.percent_encoding.specs.AsciiSet.{should_percent_encode}
 use Rattle.percent_encoding.specs.Percent.{percent_encode, percent_encode_byte}
 use Rattle.percent_encoding.proofs.PercentLemmas.{percent_encode_escaped, percent_encode_kept, percent_encode-nil}
 use Rattle.definitions.specs.Values.{Text, same_text}
-use Rattle.definitions.specs.Pointers.{Pointer, escaped_byte, pointer_text, is_fragment_byte, hex_digit, percent_encoded, fragment_text}
+use Rattle.definitions.specs.Pointers.{Pointer, escaped_byte, pointer_text, is_fragment_byte, hex_digit, percent_encoded_text, fragment_text}
 use Rattle.json_doc.specs.Escapes.{is_escaped}
 use Rattle.json_doc.specs.declared.pointer.fragment.TheConstants.{ESCAPED}
 use Rattle.json_doc.proofs.Escaped.{escape_at, pointer_text-more}
@@ -56,7 +56,7 @@ one b bs true e same = percent_encode_kept ESCAPED b bs e
 one b bs false e same = percent_encode_escaped ESCAPED b bs e ∙ ap (λ r. r ++ percent_encode ESCAPED bs) same
 
 -- the set's escapes are those of a fragment
-pub encodes : (bs : Text) → ((k : ℕ) → get_or bs k 0 < 256) → percent_encode ESCAPED bs ≡ percent_encoded bs
+pub encodes : (bs : Text) → ((k : ℕ) → get_or bs k 0 < 256) → percent_encode ESCAPED bs ≡ percent_encoded_text bs
 encodes [] small = percent_encode-nil ESCAPED
 encodes (b ∷ bs) small =
     let e = escapes b (small 0) in
@@ -64,27 +64,27 @@ encodes (b ∷ bs) small =
     ∙ ap (λ r. cond (is_fragment_byte b) (b ∷ []) (percent_escape b) ++ r) (encodes bs (λ k. small (suc k)))
 
 -- ---- a pointer's text, run by run
-percent_encoded-append : (xs ys : Text) → percent_encoded (xs ++ ys) ≡ percent_encoded xs ++ percent_encoded ys
+percent_encoded-append : (xs ys : Text) → percent_encoded_text (xs ++ ys) ≡ percent_encoded_text xs ++ percent_encoded_text ys
 percent_encoded-append xs ys = flat_map-append (λ (c : ℕ). cond (is_fragment_byte c) (c ∷ []) (percent_escape c)) xs ys
 
 escape_kept : (x : ℕ) (a b : Bool) → (x == 126) ≡ a → (x == 47) ≡ b → (a || b) ≡ true
-    → percent_encoded (cond a (codes "~0") (cond b (codes "~1") (x ∷ []))) ≡ cond a (codes "~0") (cond b (codes "~1") (x ∷ []))
+    → percent_encoded_text (cond a (codes "~0") (cond b (codes "~1") (x ∷ []))) ≡ cond a (codes "~0") (cond b (codes "~1") (x ∷ []))
 escape_kept x true b ea eb h = refl
 escape_kept x false true ea eb h = refl
 escape_kept x false false ea eb h = cc
 
 -- the first escape, and what stands before and after it
 pub fragment_at : (bs : Text) (i : ℕ) → position is_escaped bs ≡ Some i
-    → percent_encoded (flat_map escaped_byte bs) ≡ percent_encoded (take i bs) ++ (escaped_byte (get_or bs i 0) ++ percent_encoded (flat_map escaped_byte (drop (i + 1) bs)))
+    → percent_encoded_text (flat_map escaped_byte bs) ≡ percent_encoded_text (take i bs) ++ (escaped_byte (get_or bs i 0) ++ percent_encoded_text (flat_map escaped_byte (drop (i + 1) bs)))
 fragment_at bs i e =
     let b = get_or bs i 0 in
     let after = flat_map escaped_byte (drop (i + 1) bs) in
-    let escape : percent_encoded (escaped_byte b) ≡ escaped_byte b = escape_kept b (b == 126) (b == 47) refl refl (position-Some is_escaped bs i 0 e).1 in
-    ap percent_encoded (escape_at bs i e) ∙ percent_encoded-append (take i bs) (escaped_byte b ++ after)
-    ∙ ap (λ r. percent_encoded (take i bs) ++ r) (percent_encoded-append (escaped_byte b) after ∙ ap (λ r. r ++ percent_encoded after) escape)
+    let escape : percent_encoded_text (escaped_byte b) ≡ escaped_byte b = escape_kept b (b == 126) (b == 47) refl refl (position-Some is_escaped bs i 0 e).1 in
+    ap percent_encoded_text (escape_at bs i e) ∙ percent_encoded-append (take i bs) (escaped_byte b ++ after)
+    ∙ ap (λ r. percent_encoded_text (take i bs) ++ r) (percent_encoded-append (escaped_byte b) after ∙ ap (λ r. r ++ percent_encoded_text after) escape)
 
 -- one more token
-pub fragment_text-more : (ts : Pointer) (t : Text) → fragment_text (ts ++ t ∷ []) ≡ (fragment_text ts ++ 47 ∷ []) ++ percent_encoded (flat_map escaped_byte t)
+pub fragment_text-more : (ts : Pointer) (t : Text) → fragment_text (ts ++ t ∷ []) ≡ (fragment_text ts ++ 47 ∷ []) ++ percent_encoded_text (flat_map escaped_byte t)
 fragment_text-more ts t =
-    ap percent_encoded (pointer_text-more ts t) ∙ percent_encoded-append (pointer_text ts ++ 47 ∷ []) (flat_map escaped_byte t)
-    ∙ ap (λ r. r ++ percent_encoded (flat_map escaped_byte t)) (percent_encoded-append (pointer_text ts) (47 ∷ []))
+    ap percent_encoded_text (pointer_text-more ts t) ∙ percent_encoded-append (pointer_text ts ++ 47 ∷ []) (flat_map escaped_byte t)
+    ∙ ap (λ r. r ++ percent_encoded_text (flat_map escaped_byte t)) (percent_encoded-append (pointer_text ts) (47 ∷ []))

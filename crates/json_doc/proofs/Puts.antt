@@ -6,7 +6,7 @@ use Rattle.std.specs.List.{AllByRecursion}
 use Rattle.std.specs.List.Sorted.{IsStrictlySortedBy}
 use Rattle.std.specs.Ordering.{ordering_reverse}
 use Rattle.definitions.specs.Values.{Text, Value}
-use Rattle.json_doc.specs.Members.{put, HasNamesInOrder}
+use Rattle.json_doc.specs.Members.{members_with, HasNamesInOrder}
 
 before_middle : (name : Text) (done : List (Text × Value)) (m : Text × Value) (rest : List (Text × Value))
     → AllByRecursion (λ n. slice_cmp nat_cmp name n ≡ Less) (map (λ e. e.0) (done ++ m ∷ rest)) → slice_cmp nat_cmp name m.0 ≡ Less
@@ -15,7 +15,7 @@ before_middle name (d ∷ done) m rest h = before_middle name done m rest h.1
 
 -- a name that comes after those before it goes last
 pub put_last : (done : List (Text × Value)) (m : Text × Value) (rest : List (Text × Value)) → HasNamesInOrder (done ++ m ∷ rest)
-    → put m.0 m.1 done ≡ done ++ m ∷ []
+    → members_with m.0 m.1 done ≡ done ++ m ∷ []
 unfolding IsStrictlySortedBy
 put_last [] m rest h = refl
 put_last (d ∷ done) m rest h =

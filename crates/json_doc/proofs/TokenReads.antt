@@ -14,7 +14,7 @@ use Rattle.json_doc.proofs.Grammar.{twice, converted_some, item_read, items_over
 use Rattle.definitions.specs.Values.{Text, Value, Elements, integer, array, object, no_elements, element, member, to_elements, to_members}
 use Rattle.definitions.specs.Texts.{value_of, elements_of, members_of}
 use Rattle.json_doc.specs.Docs.{value}
-use Rattle.json_doc.specs.Members.{put}
+use Rattle.json_doc.specs.Members.{members_with}
 use Rattle.json_doc.specs.Reads.{IsTextOf, whole_at}
 use Rattle.json_doc.specs.declared.doc.Doc.{Doc}
 
@@ -73,12 +73,12 @@ read_by_order Less a b c as' bs cs h i j = h
 read_by_order Equal a b c as' bs cs h i j = i
 read_by_order Greater a b c as' bs cs h i j = j
 
-pub AreRead-put : (k : Text) (d : Data) (v : Value) (old : json.Members) (ms : List (Text × Value)) → AreRead old ms → value_of d ≡ Some v → AreRead (json.put k d old) (put k v ms)
+pub AreRead-put : (k : Text) (d : Data) (v : Value) (old : json.Members) (ms : List (Text × Value)) → AreRead old ms → value_of d ≡ Some v → AreRead (json.put k d old) (members_with k v ms)
 AreRead-put k d v json.no_members [] h is = (refl, is, tt)
 AreRead-put k d v json.no_members (m ∷ ms) h is = absurd h
 AreRead-put k d v (json.member l e rest) [] h is = absurd h
 AreRead-put k d v (json.member l e rest) (m ∷ ms) h is =
-    subst (λ n. AreRead (json.put k d (json.member l e rest)) (match_ordering (slice_cmp nat_cmp k n) ((k, v) ∷ m ∷ ms) ((m.0, v) ∷ ms) (m ∷ put k v ms))) h.0
+    subst (λ n. AreRead (json.put k d (json.member l e rest)) (match_ordering (slice_cmp nat_cmp k n) ((k, v) ∷ m ∷ ms) ((m.0, v) ∷ ms) (m ∷ members_with k v ms))) h.0
     (read_by_order (slice_cmp nat_cmp k l) _ _ _ _ _ _ (refl, is, (h.0, h.1, h.2)) (h.0, is, h.2) (h.0, h.1, AreRead-put k d v rest ms h.2 is))
 
 pub AreRead-whole : (old : json.Members) (ms : List (Text × Value)) → AreRead old ms → members_of old ≡ Some (to_members ms)

@@ -7,7 +7,7 @@ use Rattle.std.proofs.Math.Seq.{drop-append-add, get_or-append_seam}
 use Rattle.std.specs.List.{slice_split}
 use Rattle.std.specs.Str.{IsUtf8}
 use Rattle.definitions.specs.Values.{Text}
-use Rattle.definitions.specs.Pointers.{unescaped, pointer_of}
+use Rattle.definitions.specs.Pointers.{unescaped_token, pointer_of}
 use Rattle.definitions.specs.Lists.{each}
 use Rattle.lemmas.proofs.PointerTexts.{kept_byte}
 use Rattle.json_doc.specs.Escapes.{escape_before}
@@ -29,13 +29,13 @@ abbrev pub HasNoTilde : Text → Type 0
 HasNoTilde bs = (i : ℕ) → i < length bs → get_or bs i 0 ≢ 126
 
 -- up to the first `~` a token stands as it is
-kept : (xs ys : Text) → HasNoTilde xs → unescaped (xs ++ ys) ≡ resumed xs (unescaped ys)
-kept [] ys h = sym (resumed-nil (unescaped ys))
+kept : (xs ys : Text) → HasNoTilde xs → unescaped_token (xs ++ ys) ≡ resumed xs (unescaped_token ys)
+kept [] ys h = sym (resumed-nil (unescaped_token ys))
 kept (x ∷ xs) ys h =
     let first : x ≢ 126 = h 0 (omega arith) in
     kept_byte x (xs ++ ys) (ne_eqb x 126 first)
     ∙ ap (resumed (x ∷ [])) (kept xs ys (λ i within. h (suc i) (omega arith)))
-    ∙ sym (resumed-more (x ∷ []) xs (unescaped ys))
+    ∙ sym (resumed-more (x ∷ []) xs (unescaped_token ys))
 
 by_escape : (a b : Bool) (o : Option Text) → cond a (resumed (126 ∷ []) o) (cond b (resumed (47 ∷ []) o) None)
     ≡ option_and_then (λ c. resumed (c ∷ []) o) (cond a (Some 126) (cond b (Some 47) None))
@@ -43,33 +43,33 @@ by_escape true b o = refl
 by_escape false true o = refl
 by_escape false false o = refl
 
-escape : (ds : Text) → unescaped (126 ∷ ds) ≡ option_and_then (λ c. resumed (c ∷ []) (unescaped (drop 1 ds))) (escape_before ds)
+escape : (ds : Text) → unescaped_token (126 ∷ ds) ≡ option_and_then (λ c. resumed (c ∷ []) (unescaped_token (drop 1 ds))) (escape_before ds)
 escape [] = refl
-escape (d ∷ ds) = by_escape (d == 48) (d == 49) (unescaped ds)
+escape (d ∷ ds) = by_escape (d == 48) (d == 49) (unescaped_token ds)
 
 to_escape : (done before after rest : Text) → rest ≡ before ++ 126 ∷ after → HasNoTilde before
-    → resumed done (unescaped rest) ≡ resumed (done ++ before) (option_and_then (λ c. resumed (c ∷ []) (unescaped (drop 1 after))) (escape_before after))
+    → resumed done (unescaped_token rest) ≡ resumed (done ++ before) (option_and_then (λ c. resumed (c ∷ []) (unescaped_token (drop 1 after))) (escape_before after))
 to_escape done before after rest cut plain =
-    ap (λ bs. resumed done (unescaped bs)) cut ∙ ap (resumed done) (kept before (126 ∷ after) plain)
-    ∙ sym (resumed-more done before (unescaped (126 ∷ after))) ∙ ap (resumed (done ++ before)) (escape after)
+    ap (λ bs. resumed done (unescaped_token bs)) cut ∙ ap (resumed done) (kept before (126 ∷ after) plain)
+    ∙ sym (resumed-more done before (unescaped_token (126 ∷ after))) ∙ ap (resumed (done ++ before)) (escape after)
 
 -- one more run and its escape
 pub token_more : (done before after rest : Text) (c : ℕ) → rest ≡ before ++ 126 ∷ after → HasNoTilde before → escape_before after ≡ Some c
-    → resumed ((done ++ before) ++ c ∷ []) (unescaped (drop 1 after)) ≡ resumed done (unescaped rest)
+    → resumed ((done ++ before) ++ c ∷ []) (unescaped_token (drop 1 after)) ≡ resumed done (unescaped_token rest)
 token_more done before after rest c cut plain e =
-    resumed-more (done ++ before) (c ∷ []) (unescaped (drop 1 after))
-    ∙ sym (to_escape done before after rest cut plain ∙ ap (λ o. resumed (done ++ before) (option_and_then (λ c. resumed (c ∷ []) (unescaped (drop 1 after))) o)) e)
+    resumed-more (done ++ before) (c ∷ []) (unescaped_token (drop 1 after))
+    ∙ sym (to_escape done before after rest cut plain ∙ ap (λ o. resumed (done ++ before) (option_and_then (λ c. resumed (c ∷ []) (unescaped_token (drop 1 after))) o)) e)
 
 -- a `~` that begins no escape
 pub token_none : (done before after rest : Text) → rest ≡ before ++ 126 ∷ after → HasNoTilde before → escape_before after ≡ None
-    → resumed done (unescaped rest) ≡ None
+    → resumed done (unescaped_token rest) ≡ None
 token_none done before after rest cut plain e =
-    to_escape done before after rest cut plain ∙ ap (λ o. resumed (done ++ before) (option_and_then (λ c. resumed (c ∷ []) (unescaped (drop 1 after))) o)) e
+    to_escape done before after rest cut plain ∙ ap (λ o. resumed (done ++ before) (option_and_then (λ c. resumed (c ∷ []) (unescaped_token (drop 1 after))) o)) e
 
 -- the last run
-pub token_last : (done rest : Text) → HasNoTilde rest → resumed done (unescaped rest) ≡ Some (done ++ rest)
+pub token_last : (done rest : Text) → HasNoTilde rest → resumed done (unescaped_token rest) ≡ Some (done ++ rest)
 token_last done rest plain =
-    ap (resumed done) (ap unescaped (sym (append-nil rest)) ∙ kept rest [] plain ∙ ap Some (append-nil rest))
+    ap (resumed done) (ap unescaped_token (sym (append-nil rest)) ∙ kept rest [] plain ∙ ap Some (append-nil rest))
 
 by_escape-small : (a b : Bool) (c : ℕ) → cond a (Some 126) (cond b (Some 47) None) ≡ Some c → c < 128
 by_escape-small true b c e = let is : 126 ≡ c = cc in omega arith
@@ -91,23 +91,23 @@ escape-first (d ∷ ds) c e = (omega arith, by_first d (d == 48) (d == 49) c ref
 
 -- ---- the tokens of a text
 each_at : (parts : List Text) (n : ℕ) (part : Text) → n < length parts → part ≡ get_or parts n part
-    → each unescaped (drop n parts) ≡ option_and_then (λ y. resumed (y ∷ []) (each unescaped (drop (n + 1) parts))) (unescaped part)
+    → each unescaped_token (drop n parts) ≡ option_and_then (λ y. resumed (y ∷ []) (each unescaped_token (drop (n + 1) parts))) (unescaped_token part)
 each_at parts n part within is =
-    at_drop_more (each unescaped) parts n part within ∙ ap (λ p. each unescaped (p ∷ drop (n + 1) parts)) (sym is)
+    at_drop_more (each unescaped_token) parts n part within ∙ ap (λ p. each unescaped_token (p ∷ drop (n + 1) parts)) (sym is)
 
-pub tokens_more : (done parts : List Text) (n : ℕ) (part token : Text) → n < length parts → part ≡ get_or parts n part → unescaped part ≡ Some token
-    → resumed (done ++ token ∷ []) (each unescaped (drop (n + 1) parts)) ≡ resumed done (each unescaped (drop n parts))
+pub tokens_more : (done parts : List Text) (n : ℕ) (part token : Text) → n < length parts → part ≡ get_or parts n part → unescaped_token part ≡ Some token
+    → resumed (done ++ token ∷ []) (each unescaped_token (drop (n + 1) parts)) ≡ resumed done (each unescaped_token (drop n parts))
 tokens_more done parts n part token within is e =
-    resumed-more done (token ∷ []) (each unescaped (drop (n + 1) parts))
-    ∙ sym (ap (resumed done) (each_at parts n part within is ∙ ap (option_and_then (λ y. resumed (y ∷ []) (each unescaped (drop (n + 1) parts)))) e))
+    resumed-more done (token ∷ []) (each unescaped_token (drop (n + 1) parts))
+    ∙ sym (ap (resumed done) (each_at parts n part within is ∙ ap (option_and_then (λ y. resumed (y ∷ []) (each unescaped_token (drop (n + 1) parts)))) e))
 
-pub tokens_none : (done parts : List Text) (n : ℕ) (part : Text) → n < length parts → part ≡ get_or parts n part → unescaped part ≡ None
-    → resumed done (each unescaped (drop n parts)) ≡ None
+pub tokens_none : (done parts : List Text) (n : ℕ) (part : Text) → n < length parts → part ≡ get_or parts n part → unescaped_token part ≡ None
+    → resumed done (each unescaped_token (drop n parts)) ≡ None
 tokens_none done parts n part within is e =
-    ap (resumed done) (each_at parts n part within is ∙ ap (option_and_then (λ y. resumed (y ∷ []) (each unescaped (drop (n + 1) parts)))) e)
+    ap (resumed done) (each_at parts n part within is ∙ ap (option_and_then (λ y. resumed (y ∷ []) (each unescaped_token (drop (n + 1) parts)))) e)
 
-pub tokens_all : (done parts : List Text) (n : ℕ) → length parts ≤ n → resumed done (each unescaped (drop n parts)) ≡ Some done
-tokens_all done parts n past = ap (resumed done) (at_drop_all (each unescaped) parts n past) ∙ ap Some (append-nil done)
+pub tokens_all : (done parts : List Text) (n : ℕ) → length parts ≤ n → resumed done (each unescaped_token (drop n parts)) ≡ Some done
+tokens_all done parts n past = ap (resumed done) (at_drop_all (each unescaped_token) parts n past) ∙ ap Some (append-nil done)
 
 -- ---- a text after its first `~`
 pub text_after : (before after rest : Text) → rest ≡ before ++ 126 ∷ after → IsUtf8 rest → IsUtf8 after
@@ -119,7 +119,7 @@ text_after before after rest cut text =
     rw left at (IsUtf8-drop rest (length before + 1) text (IsCharBoundary-after_ascii rest (length before) text within small))
 
 -- ---- what is no pointer's text
-by_slash : (c : ℕ) (cs : Text) (b : Bool) → (c == 47) ≡ b → ((rest : Text) → c ∷ cs ≢ 47 ∷ rest) → cond b (each unescaped (slice_split (λ d. d == 47) cs)) None ≡ None
+by_slash : (c : ℕ) (cs : Text) (b : Bool) → (c == 47) ≡ b → ((rest : Text) → c ∷ cs ≢ 47 ∷ rest) → cond b (each unescaped_token (slice_split (λ d. d == 47) cs)) None ≡ None
 by_slash c cs true e other = absurd (other cs (ap (λ x. x ∷ cs) (eqb-true c 47 e)))
 by_slash c cs false e other = refl
 

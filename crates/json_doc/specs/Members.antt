@@ -14,9 +14,9 @@ use Rattle.json_doc.specs.declared.doc.Doc.{Doc}
 use Rattle.json_doc.specs.declared.members.MembersIter.{MembersIter}
 
 -- the members, with the value at this name: it takes the place of the one there, or goes to its place in byte order
-abbrev pub put : Text → Value → List (Text × Value) → List (Text × Value)
-put name v [] = (name, v) ∷ []
-put name v (m ∷ ms) = match_ordering (slice_cmp nat_cmp name m.0) ((name, v) ∷ m ∷ ms) ((m.0, v) ∷ ms) (m ∷ put name v ms)
+abbrev pub members_with : Text → Value → List (Text × Value) → List (Text × Value)
+members_with name v [] = (name, v) ∷ []
+members_with name v (m ∷ ms) = match_ordering (slice_cmp nat_cmp name m.0) ((name, v) ∷ m ∷ ms) ((m.0, v) ∷ ms) (m ∷ members_with name v ms)
 
 -- each name once, in byte order
 abbrev pub HasNamesInOrder : List (Text × Value) → Type 0
@@ -35,5 +35,5 @@ unfoldable pub members_left : MembersIter → List (Text × Value)
 members_left i = map member_value (iter_rest i.entries)
 
 -- the member that an item shows
-abbrev pub member_shown : Bor Text × Bor Doc → Text × Value
-member_shown item = (item.0.now, value item.1.now)
+abbrev pub member_view : Bor Text × Bor Doc → Text × Value
+member_view item = (item.0.now, value item.1.now)

@@ -42,8 +42,8 @@ pub record IsGapFor {T : Type 0} (name : Text) (es : List (String Global × T)) 
   pub below : IsBelow name (drop gap es)
 
 -- the name and the value of the entry that an item shows
-abbrev pub entry_shown : {T : Type 0} → Bor (String Global × T) → Text × T
-entry_shown item = (string_bytes item.now.0, item.now.1)
+abbrev pub entry_view : {T : Type 0} → Bor (String Global × T) → Text × T
+entry_view item = (string_bytes item.now.0, item.now.1)
 
 -- the name with its value, if it is there
 abbrev pub entry_named : {T : Type 0} → Text → List (String Global × T) → Option (Text × T)

@@ -3,7 +3,7 @@
 ghost use Rattle.std.specs.Prelude.{◌≡◌, [], IfOk, OnOk, string_bytes};
 ghost use Rattle.json_doc.specs.Docs.{value, members_value};
 ghost use Rattle.json_doc.specs.Gathers.{gathered_view};
-ghost use Rattle.json_doc.specs.Members.{put};
+ghost use Rattle.json_doc.specs.Members.{members_with};
 
 use crate::doc::Doc;
 use crate::members::Members;
@@ -40,7 +40,7 @@ impl Gathered {
     #[inline(always)]
     pub fn insert(&mut self, alloc: Global, name: String, member: Doc) -> Result<(), AllocError>
         ensures { OnOk result
-            (gathered_view self.new ≡ put (string_bytes name) (value member)
+            (gathered_view self.new ≡ members_with (string_bytes name) (value member)
             (gathered_view self.old)) }
     {
         self.make_room(alloc, name.as_str())?;

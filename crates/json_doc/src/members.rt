@@ -4,7 +4,7 @@ ghost use Rattle.std.specs.Prelude.{◌≡◌, ◌↔◌, [], ◌∷◌, IsTrue,
 ghost use Rattle.std.specs.Iterator.{YieldsFirstBy, item_count};
 ghost use Rattle.definitions.specs.Values.{entry};
 ghost use Rattle.json_doc.specs.Docs.{value, members_value};
-ghost use Rattle.json_doc.specs.Members.{put, member_shown, member_value, members_left, HasNamesInOrder, HasTextsAsNames};
+ghost use Rattle.json_doc.specs.Members.{members_with, member_view, member_value, members_left, HasNamesInOrder, HasTextsAsNames};
 
 use crate::doc::Doc;
 use crate::name_map::NameMap;
@@ -58,7 +58,7 @@ impl Members {
     /// The member of this name, with its name as it stands here. The time grows with the logarithm of the number of
     /// members, as that of `get` does.
     pub fn get_key_value(&self, name: &str) -> Option<(&str, &Doc)>
-        ensures found { option_map member_shown result
+        ensures found { option_map member_view result
             ≡ option_map (λ v. (name.now, v)) (entry name.now (members_value self.now)) }
         ensures ordered { HasNamesInOrder (members_value self.now) }
     {
@@ -85,7 +85,7 @@ impl Members {
     /// (RFC 8259, section 4). The only error is want of memory, and then the members stay as they were.
     pub fn insert(&mut self, name: String, member: Doc) -> Result<(), Fault>
         ensures ok { OnOk result
-            (members_value self.new ≡ put (string_bytes name) (value member)
+            (members_value self.new ≡ members_with (string_bytes name) (value member)
             (members_value self.old)) }
         ensures unchanged { OnErr result (members_value self.new ≡ members_value self.old) }
         ensures room { IfErr result (λ f. f ≡ Fault.NoRoom) }
@@ -113,7 +113,7 @@ pub struct MembersIter<'a> {
 impl<'a> Iterator for MembersIter<'a> {
     type Item = (&'a str, &'a Doc);
 
-    ghost next_gives = { YieldsFirstBy member_shown members_left };
+    ghost next_gives = { YieldsFirstBy member_view members_left };
 
     ghost remaining = { item_count members_left };
 

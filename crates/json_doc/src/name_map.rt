@@ -5,7 +5,7 @@ ghost use Rattle.std.specs.BTreeMap.{insert_entry};
 ghost use Rattle.std.specs.List.Sorted.{IsStrictlySortedBy};
 ghost use Rattle.std.specs.Map.{keys_of};
 ghost use Rattle.std.specs.String.{string_cmp};
-ghost use Rattle.json_doc.specs.NameMaps.{entry_shown, entry_named, IsAbove, IsPlaceOf, IsGapFor};
+ghost use Rattle.json_doc.specs.NameMaps.{entry_view, entry_named, IsAbove, IsPlaceOf, IsGapFor};
 
 use std::alloc::{AllocError, Global};
 use std::cmp::Ordering;
@@ -71,7 +71,7 @@ impl<T> NameMap<T> {
 
     /// The value of this name, with the name as it stands here. The time grows with the logarithm of their number.
     pub fn get_key_value(&self, name: &str) -> Option<&(String, T)>
-        ensures { option_map entry_shown result ≡ entry_named name.now self.now }
+        ensures { option_map entry_view result ≡ entry_named name.now self.now }
     {
         let entries = self.as_slice();
         match place_of(entries, name) {

@@ -5,8 +5,8 @@ ghost use Rattle.serde_json.specs.Find.{as_integer};
 ghost use Rattle.serde_json.specs.Read.{read as read_text};
 ghost use Rattle.serde_json.specs.View.{view, number_view, items_view, members_view as entries_view};
 ghost use Rattle.definitions.specs.Values.{to_elements};
-ghost use Rattle.definitions.specs.Texts.{reading, value_or_bad_json, value_of, elements_of, members_of};
-ghost use Rattle.faults.specs.View.{fault};
+ghost use Rattle.definitions.specs.Texts.{parsed_value, value_or_bad_json, value_of, elements_of, members_of};
+ghost use Rattle.faults.specs.View.{fault_view};
 ghost use Rattle.json_doc.specs.Docs.{value, members_view};
 
 mod direct;
@@ -26,8 +26,9 @@ use std::alloc::Global;
 /// `Fault::BadNumber` where the value holds a number that is not a whole number from -2^63 to 2^64 - 1, as `1.0` and
 /// `-0`. `Fault::NoRoom` is want of memory, which may take the place of any other answer.
 pub fn read(alloc: Global, bytes: &[u8]) -> Result<Doc, Fault>
-    ensures ok { IfOk result (λ d. reading bytes.now ≡ Ok (value d)) }
-    ensures err { IfErr result (λ f. f ≢ Fault.NoRoom → reading bytes.now ≡ Err (fault f)) }
+    ensures ok { IfOk result (λ d. parsed_value bytes.now ≡ Ok (value d)) }
+    ensures err { IfErr result
+        (λ f. f ≢ Fault.NoRoom → parsed_value bytes.now ≡ Err (fault_view f)) }
 {
     let mut scratch = Scratch::new(alloc);
     read_with(alloc, &mut scratch, bytes)
@@ -36,8 +37,9 @@ pub fn read(alloc: Global, bytes: &[u8]) -> Result<Doc, Fault>
 /// The same as [`read`], in memory that is kept from one text to the next: to make a new one takes the time of many
 /// small texts. It grows to the length of the longest text.
 pub fn read_with(alloc: Global, scratch: &mut Scratch, bytes: &[u8]) -> Result<Doc, Fault>
-    ensures ok { IfOk result (λ d. reading bytes.now ≡ Ok (value d)) }
-    ensures err { IfErr result (λ f. f ≢ Fault.NoRoom → reading bytes.now ≡ Err (fault f)) }
+    ensures ok { IfOk result (λ d. parsed_value bytes.now ≡ Ok (value d)) }
+    ensures err { IfErr result
+        (λ f. f ≢ Fault.NoRoom → parsed_value bytes.now ≡ Err (fault_view f)) }
 {
     match simdutf8::basic::from_utf8(bytes) {
         Ok(text) => doc_of_text(alloc, scratch, text),
@@ -48,7 +50,7 @@ pub fn read_with(alloc: Global, scratch: &mut Scratch, bytes: &[u8]) -> Result<D
 fn doc_of_text(alloc: Global, scratch: &mut Scratch, text: &str) -> Result<Doc, Fault>
     ensures ok { IfOk result (λ d. value_or_bad_json (read_text text.now) ≡ Ok (value d)) }
     ensures err { IfErr result (λ f. f ≢ Fault.NoRoom
-        → value_or_bad_json (read_text text.now) ≡ Err (fault f)) }
+        → value_or_bad_json (read_text text.now) ≡ Err (fault_view f)) }
 {
     match read_directly(alloc, scratch, text) {
         Ok(doc) => Ok(doc),
@@ -61,7 +63,7 @@ fn doc_of_text(alloc: Global, scratch: &mut Scratch, text: &str) -> Result<Doc, 
 fn read_by_value(alloc: Global, text: &str) -> Result<Doc, Fault>
     ensures ok { IfOk result (λ d. value_or_bad_json (read_text text.now) ≡ Ok (value d)) }
     ensures err { IfErr result (λ f. f ≢ Fault.NoRoom
-        → value_or_bad_json (read_text text.now) ≡ Err (fault f)) }
+        → value_or_bad_json (read_text text.now) ≡ Err (fault_view f)) }
 {
     match Value::from_str(alloc, text) {
         Ok(read) => doc_of(alloc, read),

@@ -2,7 +2,7 @@
 
 ghost use Rattle.std.specs.Prelude.{◌≡◌, ◌≤◌, ◌++◌, Ok, true, IfOk, IfErr, OnOk, map, string_bytes};
 ghost use Rattle.definitions.specs.Values.{nesting, integer, fits_64_bits, is_well_formed, are_well_formed, are_well_formed_members, to_elements};
-ghost use Rattle.definitions.specs.Texts.{reading, text};
+ghost use Rattle.definitions.specs.Texts.{parsed_value, text};
 ghost use Rattle.json_doc.specs.Docs.{value, members_view};
 ghost use Rattle.json_doc.specs.Tokens.{value_tokens, elements_tokens, members_tokens};
 
@@ -18,7 +18,7 @@ use std::alloc::{AllocError, Global};
 pub fn write(alloc: Global, doc: &Doc) -> Result<String, Fault>
     ensures text { IfOk result (λ s. string_bytes s ≡ text (value doc.now)) }
     ensures reads_back { IfOk result
-        (λ s. nesting (value doc.now) ≤ 127 → reading (string_bytes s) ≡ Ok (value doc.now)) }
+        (λ s. nesting (value doc.now) ≤ 127 → parsed_value (string_bytes s) ≡ Ok (value doc.now)) }
     ensures room { IfErr result (λ f. f ≡ Fault.NoRoom) }
 {
     let mut out = Writer::new(Vec::with_capacity(alloc, 128)?);

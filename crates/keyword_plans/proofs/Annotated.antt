@@ -3,9 +3,9 @@ use Rattle.std.proofs.Common.{◌≡◌, ℕ, suc, ◌-◌, ◌==◌, List, [], 
 use Rattle.std.proofs.lemmas.Bool.Decides.{nat_tests}
 use Rattle.std.specs.List.{AllByRecursion, enumerate_from}
 use Rattle.definitions.specs.Values.{Text, Value, string, get, members, elements}
-use Rattle.definitions.specs.Applied.{Application, Outcome, Part, Rules, named, indexed, at_present, at_part, applied, is_taken, has}
-use Rattle.definitions.specs.Keywords.{Meaning, properties, pattern_properties, other_properties, unevaluated_properties, prefix_items}
-use Rattle.definitions.specs.Evaluated.{evaluated_names, evaluated_indexes, part_names, part_indexes, passed, is_in_place, last_index, if_some_applied}
+use Rattle.definitions.specs.Applied.{Application, Outcome, Part, Rules, named, indexed, at_present, at_part, keyword_applications, is_taken, has}
+use Rattle.definitions.specs.Keywords.{Meaning, properties, pattern_properties, additional_properties, unevaluated_properties, prefix_items}
+use Rattle.definitions.specs.Evaluated.{evaluated_names, evaluated_indexes, part_names, part_indexes, outcomes_that_pass, is_in_place, last_index, value_if_any_apply}
 
 -- ---- texts
 pub string-names : (ns : List (Bor Text)) → map (λ (n : Bor Text). string n.now) ns ≡ map string (map (λ (n : Bor Text). n.now) ns)
@@ -26,16 +26,16 @@ whole-first : {X : Type 0} (of : Outcome → List X) (p : Part) (o : Outcome) (o
 whole-first of p o os true h rest = ap (λ b. cond b (of o) [] ++ from_whole of os) h ∙ rest
 whole-first of p o os false h rest = rest
 
-none-whole : {X : Type 0} (of : Outcome → List X) (run : Application → Outcome) (es : List (Part × Application)) → NoneWhole es → from_whole of (passed (outs run es)) ≡ []
+none-whole : {X : Type 0} (of : Outcome → List X) (run : Application → Outcome) (es : List (Part × Application)) → NoneWhole es → from_whole of (outcomes_that_pass (outs run es)) ≡ []
 none-whole of run [] h = refl
-none-whole of run (e ∷ es) h = whole-first of e.0 (run e.1) (passed (outs run es)) (run e.1).valid h.0 (none-whole of run es h.1)
+none-whole of run (e ∷ es) h = whole-first of e.0 (run e.1) (outcomes_that_pass (outs run es)) (run e.1).valid h.0 (none-whole of run es h.1)
 
 pub names-of_parts : (run : Application → Outcome) (es : List (Part × Application)) → NoneWhole es
-    → part_names (outs run es) ++ from_whole (λ o. o.names) (passed (outs run es)) ≡ part_names (outs run es)
+    → part_names (outs run es) ++ from_whole (λ o. o.names) (outcomes_that_pass (outs run es)) ≡ part_names (outs run es)
 names-of_parts run es h = ap (λ ns. part_names (outs run es) ++ ns) (none-whole (λ o. o.names) run es h) ∙ append-nil (part_names (outs run es))
 
 pub indexes-of_parts : (run : Application → Outcome) (es : List (Part × Application)) → NoneWhole es
-    → part_indexes (outs run es) ++ from_whole (λ o. o.indexes) (passed (outs run es)) ≡ part_indexes (outs run es)
+    → part_indexes (outs run es) ++ from_whole (λ o. o.indexes) (outcomes_that_pass (outs run es)) ≡ part_indexes (outs run es)
 indexes-of_parts run es h = ap (λ ns. part_indexes (outs run es) ++ ns) (none-whole (λ o. o.indexes) run es h) ∙ append-nil (part_indexes (outs run es))
 
 pub none-map : {X : Type 0} (f : X → Part × Application) → ((x : X) → is_in_place (f x).0 ≡ false) → (xs : List X) → NoneWhole (map f xs)
@@ -57,10 +57,10 @@ none-present a k m (Some x) = (refl, tt)
 -- ---- what the keywords of members and of elements evaluate
 module _ (rules : Rules) (run : Application → Outcome) (names : List Text) (indexes : List ℕ) (a : Application) (k : Text) (v : Value) where
   abbrev pub all_of : Meaning → List (Part × Outcome)
-  all_of meaning = map (λ e. (e.0, run e.1)) (applied rules run names indexes a k meaning v)
+  all_of meaning = map (λ e. (e.0, run e.1)) (keyword_applications rules run names indexes a k meaning v)
 
   abbrev those : Meaning → List (Part × Application)
-  those meaning = applied rules run names indexes a k meaning v
+  those meaning = keyword_applications rules run names indexes a k meaning v
 
   none-properties : NoneWhole (those properties)
   none-properties = none-flat_map (λ (m : Text × Value). at_present a k m (get m.0 a.instance)) (λ m. none-present a k m (get m.0 a.instance)) (members v)
@@ -71,7 +71,7 @@ module _ (rules : Rules) (run : Application → Outcome) (names : List Text) (in
       (λ m. none-map (λ (p : Text × Value). at_part a (k ∷ p.0 ∷ []) p.1 (named m.0) m.1) (λ p. refl) (filter (λ (p : Text × Value). rules.matches p.0 m.0) (members v)))
       (members a.instance)
 
-  none-others : NoneWhole (those other_properties)
+  none-others : NoneWhole (those additional_properties)
   none-others = none-map (λ (m : Text × Value). at_part a (k ∷ []) v (named m.0) m.1) (λ m. refl) (filter (λ (m : Text × Value). not (is_taken rules a m.0)) (members a.instance))
 
   none-unevaluated : NoneWhole (those unevaluated_properties)
@@ -88,8 +88,8 @@ module _ (rules : Rules) (run : Application → Outcome) (names : List Text) (in
   pub names-patterns : evaluated_names pattern_properties (all_of pattern_properties) ≡ part_names (all_of pattern_properties)
   names-patterns = names-of_parts run (those pattern_properties) none-patterns
 
-  pub names-others : evaluated_names other_properties (all_of other_properties) ≡ part_names (all_of other_properties)
-  names-others = names-of_parts run (those other_properties) none-others
+  pub names-others : evaluated_names additional_properties (all_of additional_properties) ≡ part_names (all_of additional_properties)
+  names-others = names-of_parts run (those additional_properties) none-others
 
   pub names-unevaluated : evaluated_names unevaluated_properties (all_of unevaluated_properties) ≡ part_names (all_of unevaluated_properties)
   names-unevaluated = names-of_parts run (those unevaluated_properties) none-unevaluated
@@ -101,7 +101,7 @@ module _ (rules : Rules) (run : Application → Outcome) (names : List Text) (in
 differs : (n m : ℕ) → n ≡ suc m → (n == 0) ≡ false
 differs n m e = grind (arith, nat_tests)
 
-pub if_some-by_count : (os : List (Part × Outcome)) (v : Value) (n : ℕ) → n ≡ length os → cond (n == 0) None (Some v) ≡ if_some_applied os v
+pub if_some-by_count : (os : List (Part × Outcome)) (v : Value) (n : ℕ) → n ≡ length os → cond (n == 0) None (Some v) ≡ value_if_any_apply os v
 if_some-by_count [] v n e = rw e refl
 if_some-by_count (o ∷ os) v n e = ap (λ b. cond b None (Some v)) (differs n (length os) e)
 

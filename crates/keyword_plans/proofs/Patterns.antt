@@ -11,7 +11,7 @@ use Rattle.definitions.specs.Lists.{option_list}
 use Rattle.definitions.specs.Applied.{Application, beside}
 use Rattle.keyword_plans.specs.Sites.{Shows}
 use Rattle.keyword_plans.specs.declared.site.Site.{Site}
-use Rattle.keyword_plans.specs.Applications.{ArePatternsOf, planned_matched}
+use Rattle.keyword_plans.specs.Applications.{ArePatternsOf, planned_pattern}
 
 contains-first : {Y : Type 0} (y : Y) (ys : List Y) → Contains (y ∷ ys) y
 contains-first y ys = (0, omega arith, refl)
@@ -59,6 +59,6 @@ pub pattern_holds-strings : (v x : Value) (p s : Text) → Some p ≡ as_string 
 pattern_holds-strings v x p s e f = rw (string-of v p e, string-of x s f) refl
 
 -- ---- where there are none
-pub matched-none : (k : Text) (a : Application) (ms : List (Text × Value)) → planned_matched k a [] ms ≡ []
+pub matched-none : (k : Text) (a : Application) (ms : List (Text × Value)) → planned_pattern k a [] ms ≡ []
 matched-none k a [] = refl
 matched-none k a (m ∷ ms) = matched-none k a ms

@@ -11,8 +11,8 @@ use Rattle.linker.specs.declared.linked.Linked.{Linked}
 use Rattle.keyword_plans.specs.Sites.{linked_rules}
 
 -- these schemas, numbered from i, at the whole instance
-abbrev pub planned_listed : Text → Application → ℕ → List Value → List (Part × Application)
-planned_listed k a i vs = map (λ e. in_place a (k ∷ decimal e.0 ∷ []) e.1) (enumerate_from i vs)
+abbrev pub planned_elements : Text → Application → ℕ → List Value → List (Part × Application)
+planned_elements k a i vs = map (λ e. in_place a (k ∷ decimal e.0 ∷ []) e.1) (enumerate_from i vs)
 
 -- the members of the instance whose names stand among these schemas
 abbrev pub planned_members : Text → Application → List (Text × Value) → List (Part × Application)
@@ -31,8 +31,8 @@ abbrev pub planned_matches : Text → Application → Text → Value → List (T
 planned_matches k a name x ps = map (λ p. at_part a (k ∷ p.0 ∷ []) p.1 (named name) x) (filter (λ p. has_match p.0 name) ps)
 
 -- the same, at each of these members
-abbrev pub planned_matched : Text → Application → List (Text × Value) → List (Text × Value) → List (Part × Application)
-planned_matched k a ps ms = flat_map (λ m. planned_matches k a m.0 m.1 ps) ms
+abbrev pub planned_pattern : Text → Application → List (Text × Value) → List (Text × Value) → List (Part × Application)
+planned_pattern k a ps ms = flat_map (λ m. planned_matches k a m.0 m.1 ps) ms
 
 -- the schema v, at each of these members that no keyword beside takes
 abbrev pub planned_others : Linked → Text → Application → Value → List (Text × Value) → List (Part × Application)
@@ -43,12 +43,12 @@ abbrev pub planned_names : Text → Application → Value → List (Text × Valu
 planned_names k a v ms = map (λ m. at_part a (k ∷ []) v (name_of m.0) (string m.0)) ms
 
 -- the schema v, at each of these elements, numbered from i, whose index isn't among these
-abbrev pub planned_unevaluated : Text → Application → Value → List ℕ → ℕ → List Value → List (Part × Application)
-planned_unevaluated k a v is i xs = map (λ e. at_part a (k ∷ []) v (indexed e.0) e.1) (filter (λ e. not (list_any (λ i. i == e.0) is)) (enumerate_from i xs))
+abbrev pub planned_unevaluated_items : Text → Application → Value → List ℕ → ℕ → List Value → List (Part × Application)
+planned_unevaluated_items k a v is i xs = map (λ e. at_part a (k ∷ []) v (indexed e.0) e.1) (filter (λ e. not (list_any (λ i. i == e.0) is)) (enumerate_from i xs))
 
 -- the schema v, at each of these members whose name isn't among these
-abbrev pub planned_unnamed : Text → Application → Value → List Text → List (Text × Value) → List (Part × Application)
-planned_unnamed k a v ns ms = at_members a k v (filter (λ m. not (has m.0 ns)) ms)
+abbrev pub planned_unevaluated_properties : Text → Application → Value → List Text → List (Text × Value) → List (Part × Application)
+planned_unevaluated_properties k a v ns ms = at_members a k v (filter (λ m. not (has m.0 ns)) ms)
 
 -- each of these names is a pattern of a schema of the linked documents
 pub record ArePatternsOf (l : Linked) (s : Schema) (ps : List (Text × Value)) : Type 0 where

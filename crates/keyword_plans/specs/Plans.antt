@@ -2,13 +2,13 @@
 use Rattle.std.specs.Prelude.{ℕ, Bool, true, false, List, [], ◌∷◌, Option, Some, None, map}
 use Rattle.definitions.specs.Values.{Text, Value}
 use Rattle.definitions.specs.Pointers.{Pointer}
-use Rattle.definitions.specs.Keywords.{Meaning, consequence, at_least_items, at_most_items}
+use Rattle.definitions.specs.Keywords.{Meaning, consequence, min_contains, max_contains}
 use Rattle.definitions.specs.Applied as definition
-use Rattle.definitions.specs.Applied.{Application, Outcome, Rules, whole, named, indexed, name_of, applied, applying, at_part}
+use Rattle.definitions.specs.Applied.{Application, Outcome, Rules, whole, named, indexed, name_of, keyword_applications, part_application, at_part}
 use Rattle.json_doc.specs.Docs.{value}
 use Rattle.locations.specs.declared.step.Step.{Step}
 use Rattle.locations.specs.Steps.{token}
-use Rattle.schema_index.specs.Locateds.{located_schema}
+use Rattle.schema_index.specs.Locateds.{located_view}
 use Rattle.keyword_plans.specs.Subjects.{subject_value}
 use Rattle.keyword_plans.specs.declared.planned.Planned.{Planned}
 use Rattle.keyword_plans.specs.declared.planned.Chosen.{Chosen}
@@ -29,14 +29,14 @@ step_view (Some step) = token step ∷ []
 -- the application that is planned, under the keyword k of the application a
 abbrev pub chosen_application : Text → Application → Chosen → definition.Part → Value → Application
 chosen_application k a (Below step schema) part x = (at_part a (k ∷ step_view step) (value schema.now) part x).1
-chosen_application k a (Target located) part x = applying a (k ∷ []) (located_schema located) part x
+chosen_application k a (Target located) part x = part_application a (k ∷ []) (located_view located) part x
 
 abbrev pub planned_view : Text → Application → Planned → definition.Part × Application
 planned_view k a p = (part_view p.part, chosen_application k a p.chosen (part_view p.part) (subject_value p.subject))
 
 -- what the keyword with this value applied, each with its outcome
 abbrev pub outcomes_of : Rules → (Application → Outcome) → List Text → List ℕ → Application → Text → Meaning → Value → List (definition.Part × Outcome)
-outcomes_of rules run names indexes a k meaning v = map (λ e. (e.0, run e.1)) (applied rules run names indexes a k meaning v)
+outcomes_of rules run names indexes a k meaning v = map (λ e. (e.0, run e.1)) (keyword_applications rules run names indexes a k meaning v)
 
 -- asks what `if` beside said
 abbrev pub is_consequence : Meaning → Bool
@@ -45,6 +45,6 @@ is_consequence _ = false
 
 -- asks what `contains` beside found
 abbrev pub counts_contained : Meaning → Bool
-counts_contained at_least_items = true
-counts_contained at_most_items = true
+counts_contained min_contains = true
+counts_contained max_contains = true
 counts_contained _ = false

@@ -2,7 +2,7 @@
 
 ghost use Rattle.std.specs.Prelude.{◌≡◌, ℕ, List, Some, true, IfOk, IfErr, map, option_map};
 ghost use Rattle.definitions.specs.Values.{get};
-ghost use Rattle.definitions.specs.Applied.{Application, Outcome, applied, condition_outcome};
+ghost use Rattle.definitions.specs.Applied.{Application, Outcome, condition_outcome, keyword_applications};
 ghost use Rattle.json_doc.specs.Docs.{value};
 ghost use Rattle.keywords.specs.Rows.{row_of};
 ghost use Rattle.keyword_plans.specs.Plans.{is_consequence, planned_view};
@@ -47,7 +47,7 @@ pub fn plan<'a>(
         → (is_consequence (row_of keyword).meaning ≡ true
         → option_map (λ o. o.valid) (condition_outcome run a) ≡ condition)
         → IfOk result (λ ps. map (planned_view (row_of keyword).name a) ps.items
-        ≡ applied (linked_rules site.entry.linked.now) run
+        ≡ keyword_applications (linked_rules site.entry.linked.now) run
         (map (λ n. n.now) evaluated.entry.names.now) evaluated.entry.indexes.now a
         (row_of keyword).name (row_of keyword).meaning (value keyword_value.now)) }
     ensures err { IfErr result (λ f. f ≡ Fault.NoRoom) }

@@ -7,7 +7,7 @@ ghost use Rattle.definitions.specs.Values.{Text, get, integer, is_array};
 ghost use Rattle.definitions.specs.Assertions.{holds, is_at_least, is_at_most, unique_items};
 ghost use Rattle.definitions.specs.Patterns.{has_match};
 ghost use Rattle.definitions.specs.Applied.{Application, Outcome, beside, contains_outcomes};
-ghost use Rattle.definitions.specs.Evaluated.{contains_holds, keyword_passes, needs_none, passing, pattern_holds};
+ghost use Rattle.definitions.specs.Evaluated.{contains_holds, keyword_passes, needs_none, pass_count, pattern_holds};
 ghost use Rattle.json_doc.specs.Docs.{value};
 ghost use Rattle.keywords.specs.Rows.{row_of};
 ghost use Rattle.keyword_plans.specs.Plans.{counts_contained, outcomes_of};
@@ -52,7 +52,7 @@ pub fn passes<'a>(
         → option_map (count_by (λ o. o.valid)) (contains_outcomes run a) ≡ containing)
         → let os = outcomes_of (linked_rules site.entry.linked.now) run names indexes a
         (row_of keyword).name (row_of keyword).meaning (value keyword_value.now) in
-        tally.applied ≡ length os → tally.passing ≡ passing os
+        tally.applied ≡ length os → tally.passing ≡ pass_count os
         → IfOk result (λ b. b ≡ keyword_passes (linked_rules site.entry.linked.now) run a
         (row_of keyword).name (row_of keyword).meaning (value keyword_value.now) os) }
     ensures err { IfErr result (λ f. f ≡ Fault.NoRoom) }

@@ -10,7 +10,7 @@ use Rattle.definitions.specs.Lists.{has_repeat}
 use Rattle.definitions.specs.Schemas.{Document, document_from, schemas_of}
 use Rattle.definitions.specs.Scanning.{scan_fault, scan_faults}
 use Rattle.definitions.specs.Reach.{holds_resource}
-use Rattle.definitions.specs.Documents.{document_of, placed, resources_of, resource_uris_of, Ascend, is_faultless}
+use Rattle.definitions.specs.Documents.{document_of, documents_with, resources_of, resource_uris_of, Ascend, is_faultless}
 use Rattle.definition_laws.proofs.AcceptedDocuments.{first_none, scanned}
 use Rattle.definition_laws.proofs.Membership.{any_at, found_there}
 use Rattle.definition_laws.proofs.PlacedDocuments.{key_of, as_inserted}
@@ -18,7 +18,7 @@ use Rattle.definition_laws.proofs.Placing.{ascending, distinct}
 use Rattle.definition_laws.proofs.Resources.{apart_from_held, same_text-unlike, root_opens}
 use Rattle.definition_laws.proofs.StoredDocuments.{holds_itself}
 use Rattle.linker.specs.Sources.{shares_resource}
-use Rattle.linker.specs.Together.{unshared}
+use Rattle.linker.specs.Together.{unshared_holds_none}
 
 -- ---- tests of images
 found_at : {X : Type 0} (p : X → Bool) (x : X) (xs : List X) (b : Bool) → is_some (find p xs) ≡ list_any p xs → is_some (cond b (Some x) (find p xs)) ≡ (b || list_any p xs)
@@ -30,22 +30,22 @@ is_some-find p [] = refl
 is_some-find p (x ∷ xs) = found_at p x xs (p x) (is_some-find p xs)
 
 -- ---- an element that is put in
-all_placed_at : (p : Document → Bool) (d e : Document) (es : List Document) (o : Ordering) → p d ≡ true → p e ≡ true → list_all p es ≡ true → list_all p (placed d es) ≡ true
-    → list_all p (match_ordering o (d ∷ e ∷ es) (d ∷ es) (e ∷ placed d es)) ≡ true
+all_placed_at : (p : Document → Bool) (d e : Document) (es : List Document) (o : Ordering) → p d ≡ true → p e ≡ true → list_all p es ≡ true → list_all p (documents_with d es) ≡ true
+    → list_all p (match_ordering o (d ∷ e ∷ es) (d ∷ es) (e ∷ documents_with d es)) ≡ true
 all_placed_at p d e es Less here there rest more = and_from (p d) (list_all p (e ∷ es)) here (and_from (p e) (list_all p es) there rest)
 all_placed_at p d e es Equal here there rest more = and_from (p d) (list_all p es) here rest
-all_placed_at p d e es Greater here there rest more = and_from (p e) (list_all p (placed d es)) there more
+all_placed_at p d e es Greater here there rest more = and_from (p e) (list_all p (documents_with d es)) there more
 
-all_placed : (p : Document → Bool) (d : Document) (ds : List Document) → p d ≡ true → list_all p ds ≡ true → list_all p (placed d ds) ≡ true
+all_placed : (p : Document → Bool) (d : Document) (ds : List Document) → p d ≡ true → list_all p ds ≡ true → list_all p (documents_with d ds) ≡ true
 all_placed p d [] here rest = and_from (p d) true here refl
 all_placed p d (e ∷ es) here rest =
     let parts = and_parts (p e) (list_all p es) rest in
     all_placed_at p d e es (slice_cmp nat_cmp d.canonical e.canonical) here parts.0 parts.1 (all_placed p d es here parts.1)
 
 pub record IsSoundWith (d : Document) (ds : List Document) : Type 0 where
-  pub ascend : Ascend (placed d ds)
-  pub distinct : has_repeat same_text (resource_uris_of (placed d ds)) ≡ false
-  pub faultless : list_all is_faultless (placed d ds) ≡ true
+  pub ascend : Ascend (documents_with d ds)
+  pub distinct : has_repeat same_text (resource_uris_of (documents_with d ds)) ≡ false
+  pub faultless : list_all is_faultless (documents_with d ds) ≡ true
 
 pub added : (ds : List Document) (d : Document) → Ascend ds → has_repeat same_text (resource_uris_of ds) ≡ false → list_all is_faultless ds ≡ true
     → scan_fault d.base d.value ≡ None → shares_resource ds d ≡ false → IsSoundWith d ds
@@ -54,7 +54,7 @@ added ds d ascend apart faultless fine free = record {
   distinct = subst (λ es. has_repeat same_text (resource_uris_of es) ≡ false) (as_inserted d ds)
       (distinct (slice_cmp nat_cmp) nat_list_cmp_total key_of same_text same_text-unlike resources_of d ds ascend
       (scanned d (first_none (scan_faults d.base d.value) fine)).uris apart
-      (λ e c other. apart_from_held d e (unshared ds d e free c)));
+      (λ e c other. apart_from_held d e (unshared_holds_none ds d e free c)));
   faultless = all_placed is_faultless d ds (ap is_none fine) faultless;
 }
 
@@ -66,8 +66,8 @@ shares_its_own ds d e own holds c same =
     any_at (λ u. list_any (holds_resource u) ds) d.canonical (resources_of d) (root_opens (schemas_of d.base d.value) d.canonical own)
     (any_at (holds_resource d.canonical) e ds c (subst (λ u. holds_resource u e ≡ true) same holds))
 
-pub kept_or_put : {E : Type 0} (r : Result Bool E) (old new : List Document) (d : Document) → IfOk r (λ put. new ≡ cond put (placed d old) old) → OnErr r (new ≡ old)
-    → (new ≡ old) ⊎ (new ≡ placed d old)
+pub kept_or_put : {E : Type 0} (r : Result Bool E) (old new : List Document) (d : Document) → IfOk r (λ put. new ≡ cond put (documents_with d old) old) → OnErr r (new ≡ old)
+    → (new ≡ old) ⊎ (new ≡ documents_with d old)
 kept_or_put (Ok true) old new d put kept = inr put
 kept_or_put (Ok false) old new d put kept = inl put
 kept_or_put (Err e) old new d put kept = inl kept
@@ -78,7 +78,7 @@ pub record IsSoundList (ds : List Document) : Type 0 where
   pub distinct : has_repeat same_text (resource_uris_of ds) ≡ false
   pub faultless : list_all is_faultless ds ≡ true
 
-pub sound_after : (old new : List Document) (d : Document) → IsSoundList old → scan_fault d.base d.value ≡ None → shares_resource old d ≡ false → (new ≡ old) ⊎ (new ≡ placed d old) → IsSoundList new
+pub sound_after : (old new : List Document) (d : Document) → IsSoundList old → scan_fault d.base d.value ≡ None → shares_resource old d ≡ false → (new ≡ old) ⊎ (new ≡ documents_with d old) → IsSoundList new
 sound_after old new d sound fine free way = elim way [
   | inl same ↦ subst IsSoundList (sym same) sound
   | inr put ↦

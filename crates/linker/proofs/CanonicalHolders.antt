@@ -13,7 +13,7 @@ use Rattle.definitions.specs.Documents.{resources_of, resource_uris_of}
 use Rattle.definition_laws.proofs.Membership.{nothing_in, is_first, is_later, first_or_later, found_there, found_some}
 use Rattle.definition_laws.proofs.Resources.{one_document, root_opens}
 use Rattle.definition_laws.proofs.StoredDocuments.{holds_itself}
-use Rattle.schema_scan.specs.CompiledDocuments.{compiled_document}
+use Rattle.schema_scan.specs.CompiledDocuments.{compiled_view}
 use Rattle.schema_scan.specs.declared.compiled.Compiled.{Compiled}
 use Rattle.linker.specs.Positions.{StandsAt, IsGap}
 use Rattle.linker.specs.SharedDocuments.{shared_documents}
@@ -35,12 +35,12 @@ first_holder ds uri d distinct c held =
     some_one.1 ∙ ap Some (one_document ds uri some_one.0 d distinct there.0 c there.1 held)
 
 pub standing_holder : (items : List (Rc Compiled Global)) (uri : Text) (at : ℕ) (d : Rc Compiled Global) → has_repeat same_text (resource_uris_of (shared_documents items)) ≡ false
-    → StandsAt (shared_documents items) uri at → d ≡ get_or items at d → find (holds_resource uri) (shared_documents items) ≡ Some (compiled_document d.value)
+    → StandsAt (shared_documents items) uri at → d ≡ get_or items at d → find (holds_resource uri) (shared_documents items) ≡ Some (compiled_view d.value)
 unfolding shared_documents
 standing_holder items uri at d distinct stands is =
-    let own = compiled_document d.value in
+    let own = compiled_view d.value in
     let here : get_or (shared_documents items) at own ≡ own =
-    get_or-map (λ (x : Rc Compiled Global). compiled_document x.value) items at d ∙ ap (λ (x : Rc Compiled Global). compiled_document x.value) (sym is) in
+    get_or-map (λ (x : Rc Compiled Global). compiled_view x.value) items at d ∙ ap (λ (x : Rc Compiled Global). compiled_view x.value) (sym is) in
     let named : own.canonical ≡ uri = ap (λ (x : Document). x.canonical) (sym here) ∙ stands.named own in
     let inside : Contains (shared_documents items) own = subst (Contains (shared_documents items)) here (Contains-get_or (shared_documents items) at own stands.inside) in
     first_holder (shared_documents items) uri own distinct inside (ap (λ u. holds_resource u own) (sym named) ∙ own_resource own (shared_made items own inside))

@@ -8,7 +8,7 @@ use Rattle.std.specs.declared.rc.Rc.{Rc}
 use Rattle.definitions.specs.Values.{Text}
 use Rattle.definitions.specs.Schemas.{Document, document_from}
 use Rattle.definitions.specs.Reach.{holds_resource}
-use Rattle.definitions.specs.Documents.{placed, resources_of}
+use Rattle.definitions.specs.Documents.{documents_with, resources_of}
 use Rattle.lemmas.proofs.Booleans.{same_truth}
 use Rattle.definition_laws.proofs.Membership.{nothing_in, is_first, first_or_later, any_at, any_where}
 use Rattle.definition_laws.proofs.PlacedDocuments.{from_placed, in_placed, placed_itself}
@@ -25,16 +25,16 @@ pub none_compound : AreCompound [] []
 none_compound = record { inside = λ d c. c; each = λ d c several. c }
 
 pub compound_placed : (ds cs : List Document) (d : Document) → AreCompound ds cs → ((e : Document) → Contains ds e → e.canonical ≢ d.canonical)
-    → AreCompound (placed d ds) (with_compound d cs)
+    → AreCompound (documents_with d ds) (with_compound d cs)
 unfolding with_compound
 compound_placed ds cs d known other = by (nat_lt 1 (length (resources_of d))) refl
   where
-    by : (b : Bool) → nat_lt 1 (length (resources_of d)) ≡ b → AreCompound (placed d ds) (cond b (cs ++ d ∷ []) cs)
+    by : (b : Bool) → nat_lt 1 (length (resources_of d)) ≡ b → AreCompound (documents_with d ds) (cond b (cs ++ d ∷ []) cs)
     by true several = record {
       inside = λ e c. elim (Contains-append_cases cs (d ∷ []) e c) [
         | inl before ↦ in_placed d e ds (other e (known.inside e before)) (known.inside e before)
         | inr last ↦ elim (first_or_later d e [] last) [
-          | inl same ↦ subst (Contains (placed d ds)) same (placed_itself d ds)
+          | inl same ↦ subst (Contains (documents_with d ds)) same (placed_itself d ds)
           | inr none ↦ absurd (nothing_in e none)
         ]
       ];

@@ -3,7 +3,7 @@ use Rattle.std.proofs.Common.{◌≡◌, is_some, string_bytes, true≢false, Op
 use Rattle.definitions.specs.Values.{Text}
 use Rattle.definitions.specs.Fragments.{Fragment}
 use Rattle.definitions.specs.Schemas.{Document, schemas_of}
-use Rattle.definitions.specs.Targets.{resource_root, target_by, dynamically_anchored}
+use Rattle.definitions.specs.Targets.{resource_root, target_by, schema_with_dynamic_anchor}
 use Rattle.definitions.specs.Reach.{holds_resource}
 use Rattle.linker.specs.LinkedDocuments.{linked_documents, linked_schemas}
 use Rattle.linker.specs.declared.linked.Linked.{Linked}
@@ -22,7 +22,7 @@ target_of_first l uri f None e = sym (target_nowhere (linked_documents l) uri f 
 target_of_first l uri f (Some d) e = sym (target_in_holder (linked_documents l) uri d f (found_holder (linked_documents l) uri d l.distinct (sym e)))
 
 pub anchored_of_first : (l : Linked) (uri name : Text) (o : Option Document) → o ≡ find (holds_resource uri) (linked_documents l)
-    → option_and_then (λ d. dynamically_anchored (schemas_of d.base d.value) uri name) o ≡ dynamically_anchored (linked_schemas l) uri name
+    → option_and_then (λ d. schema_with_dynamic_anchor (schemas_of d.base d.value) uri name) o ≡ schema_with_dynamic_anchor (linked_schemas l) uri name
 unfolding linked_documents
 anchored_of_first l uri name None e = sym (dynamically_anchored_nowhere (linked_documents l) uri name (no_holder (linked_documents l) uri (sym e)))
 anchored_of_first l uri name (Some d) e =

@@ -8,7 +8,7 @@ use Rattle.definitions.specs.Faults.{unresolved, not_found}
 use Rattle.definitions.specs.Schemas.{Document, table_of}
 use Rattle.definitions.specs.Scanning.{resource_uris}
 use Rattle.definitions.specs.Targets.{resource_root}
-use Rattle.definitions.specs.Reach.{holds, holds_resource, reach, least, missing}
+use Rattle.definitions.specs.Reach.{holds, holds_resource, reach, least, missing_references}
 use Rattle.definition_laws.proofs.LeastTexts.{no_least}
 use Rattle.definition_laws.proofs.Membership.{any_where}
 use Rattle.definition_laws.proofs.Repeats.{none_of}
@@ -26,7 +26,7 @@ unfolding link_fault
 none_found [] e = refl
 none_found (d ∷ ds) e = absurd (omega (arith, e))
 
-pub judged : (ds : List Document) (o : Option Text) → (length ds ≡ 0 → ⊥) → o ≡ least (missing ds) → link_fault ds ≡ option_map unresolved o
+pub judged : (ds : List Document) (o : Option Text) → (length ds ≡ 0 → ⊥) → o ≡ least (missing_references ds) → link_fault ds ≡ option_map unresolved o
 unfolding link_fault
 judged [] o some_there e = absurd (some_there refl)
 judged (d ∷ ds) o some_there e = ap (option_map unresolved) (sym e)
@@ -35,10 +35,10 @@ nothing : (o : Option Text) → option_map unresolved o ≡ None → o ≡ None
 nothing None e = refl
 nothing (Some t) e = cc
 
-pub linked_whole : (ds : List Document) → link_fault ds ≡ None → missing ds ≡ []
+pub linked_whole : (ds : List Document) → link_fault ds ≡ None → missing_references ds ≡ []
 unfolding link_fault
 linked_whole [] e = cc
-linked_whole (d ∷ ds) e = no_least (missing (d ∷ ds)) (nothing (least (missing (d ∷ ds))) e)
+linked_whole (d ∷ ds) e = no_least (missing_references (d ∷ ds)) (nothing (least (missing_references (d ∷ ds))) e)
 
 some_linked : (ds : List Document) → link_fault ds ≡ None → ds ≡ [] → ⊥
 unfolding link_fault
@@ -66,7 +66,7 @@ asked_root all uri sound linked =
 pub record IsLinked (ds : List Document) (uri : Text) : Type 0 where
   pub ascend : Ascend ds
   pub distinct : has_repeat same_text (resource_uris (table_of ds)) ≡ false
-  pub whole : missing ds ≡ []
+  pub whole : missing_references ds ≡ []
   pub asked : is_some (resource_root (table_of ds) uri) ≡ true
 
 pub is_linked : (all ds : List Document) (uri : Text) → AreSound all → ds ≡ reach all uri → link_fault ds ≡ None → IsLinked ds uri

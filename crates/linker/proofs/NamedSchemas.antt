@@ -7,7 +7,7 @@ use Rattle.definitions.specs.Schemas.{Schema}
 use Rattle.definitions.specs.Targets.{resource_root, fragment_of, target_in, target, dynamic_by, dynamic_target}
 use Rattle.definitions.specs.Uris.{without_fragment}
 use Rattle.definitions.specs.Values.{Text}
-use Rattle.uri_ref.specs.FragmentViews.{fragment_shown}
+use Rattle.uri_ref.specs.FragmentViews.{fragment_view}
 use Rattle.definition_laws.proofs.Roots.{roots_found, pointer_root}
 use Rattle.linker.specs.AbsoluteReferences.{target_of, dynamic_target_of}
 use Rattle.linker.specs.LinkedDocuments.{linked_documents, linked_schemas}
@@ -26,14 +26,14 @@ pub unread_dynamic : (table : List Schema) (scope : List Text) (text : Text) →
 unread_dynamic table scope text e = ap (option_map (λ first. dynamic_by table scope first (fragment_of text))) (unread table text e)
 
 -- and one that is read names what it is read as
-pub read : (table : List Schema) (text : Text) (r : AbsoluteReference) → cow_str_bytes r.uri ≡ without_fragment text → fragment_of text ≡ Ok (fragment_shown r.fragment)
+pub read : (table : List Schema) (text : Text) (r : AbsoluteReference) → cow_str_bytes r.uri ≡ without_fragment text → fragment_of text ≡ Ok (fragment_view r.fragment)
     → target_of table r ≡ target table text
-read table text r e f = ap (λ u. target_in table u (Ok (fragment_shown r.fragment))) e ∙ ap (target_in table (without_fragment text)) (sym f)
+read table text r e f = ap (λ u. target_in table u (Ok (fragment_view r.fragment))) e ∙ ap (target_in table (without_fragment text)) (sym f)
 
 pub read_dynamic : (table : List Schema) (scope : List Text) (text : Text) (r : AbsoluteReference) → cow_str_bytes r.uri ≡ without_fragment text
-    → fragment_of text ≡ Ok (fragment_shown r.fragment) → dynamic_target_of table scope r ≡ dynamic_target table scope text
+    → fragment_of text ≡ Ok (fragment_view r.fragment) → dynamic_target_of table scope r ≡ dynamic_target table scope text
 read_dynamic table scope text r e f =
-    ap (option_map (λ first. dynamic_by table scope first (Ok (fragment_shown r.fragment)))) (read table text r e f)
+    ap (option_map (λ first. dynamic_by table scope first (Ok (fragment_view r.fragment)))) (read table text r e f)
     ∙ ap (λ kind. option_map (λ first. dynamic_by table scope first kind) (target table text)) (sym f)
 
 -- the URI of a schema that opens a resource has a root

@@ -9,7 +9,7 @@ use Rattle.definition_laws.proofs.Occurrences.{IsIn, in_from_contains, contains_
 use Rattle.definition_laws.proofs.Places.{IsStep, IsBelow, here, further, value-below, value-opened}
 use Rattle.definition_laws.proofs.Repeats.{in_flat_map, from_flat_map}
 use Rattle.definition_laws.proofs.Roots.{within_from, within_to}
-use Rattle.schema_scan.specs.CompiledDocuments.{compiled_document, compiled_value}
+use Rattle.schema_scan.specs.CompiledDocuments.{compiled_value, compiled_view}
 use Rattle.schema_scan.specs.declared.compiled.Compiled.{Compiled}
 use Rattle.linker.specs.DocumentPatterns.{HasPattern}
 
@@ -55,7 +55,7 @@ table_pattern ds s text c k =
     (d.0, (d.1.0, document_pattern d.0.base d.0.value s text d.1.1 k))
 
 -- a compiled document that lacks a pattern means a document that does
-pub lacks_pattern : (x y : Compiled) (text : Text) → y ≡ x → (Contains (patterns (compiled_value y)) text → ⊥) → (d : Document) → HasPattern d text → compiled_document x ≡ d → ⊥
+pub lacks_pattern : (x y : Compiled) (text : Text) → y ≡ x → (Contains (patterns (compiled_value y)) text → ⊥) → (d : Document) → HasPattern d text → compiled_view x ≡ d → ⊥
 unfolding HasPattern
 lacks_pattern x y text e none d has same =
     none (subst (λ (z : Compiled). Contains (patterns (compiled_value z)) text) (sym e) (subst (λ (f : Document). Contains (patterns f.value) text) (sym same) has))

@@ -19,7 +19,7 @@ use Rattle.definition_laws.proofs.PlacedDocuments.{key_of, as_inserted, tied}
 use Rattle.definition_laws.proofs.ReachedSets.{same_text-back}
 use Rattle.std.specs.Global.{Global}
 use Rattle.std.specs.declared.rc.Rc.{Rc}
-use Rattle.schema_scan.specs.CompiledDocuments.{compiled_document}
+use Rattle.schema_scan.specs.CompiledDocuments.{compiled_view}
 use Rattle.schema_scan.specs.declared.compiled.Compiled.{Compiled}
 use Rattle.linker.specs.SharedDocuments.{shared_documents}
 use Rattle.linker.specs.Positions.{StandsAt, IsGap}
@@ -179,11 +179,11 @@ get_or-map f (x ∷ xs) (suc k) d = get_or-map f xs k d
 
 pub shared_as_long : (items : List (Rc Compiled Global)) → length (shared_documents items) ≡ length items
 unfolding shared_documents
-shared_as_long items = length-map items (λ (d : Rc Compiled Global). compiled_document d.value)
+shared_as_long items = length-map items (λ (d : Rc Compiled Global). compiled_view d.value)
 
 pub shared_standing : (items : List (Rc Compiled Global)) (uri : Text) (at : ℕ) (d : Rc Compiled Global) → Ascend (shared_documents items) → StandsAt (shared_documents items) uri at → d ≡ get_or items at d
-    → document_of (shared_documents items) uri ≡ Some (compiled_document d.value)
+    → document_of (shared_documents items) uri ≡ Some (compiled_view d.value)
 unfolding shared_documents
 shared_standing items uri at d ascend stands is =
-    standing_found (shared_documents items) uri at ascend stands (compiled_document d.value)
-    ∙ ap Some (get_or-map (λ (x : Rc Compiled Global). compiled_document x.value) items at d ∙ ap (λ (x : Rc Compiled Global). compiled_document x.value) (sym is))
+    standing_found (shared_documents items) uri at ascend stands (compiled_view d.value)
+    ∙ ap Some (get_or-map (λ (x : Rc Compiled Global). compiled_view x.value) items at d ∙ ap (λ (x : Rc Compiled Global). compiled_view x.value) (sym is))

@@ -6,7 +6,7 @@ use Rattle.std.specs.Global.{Global}
 use Rattle.std.specs.declared.rc.Rc.{Rc}
 use Rattle.lemmas.proofs.Lists.{find-map, map-take_more}
 use Rattle.lemmas.proofs.Options.{option_map-twice}
-use Rattle.schema_scan.specs.CompiledDocuments.{compiled_document}
+use Rattle.schema_scan.specs.CompiledDocuments.{compiled_view}
 use Rattle.schema_scan.specs.declared.compiled.Compiled.{Compiled}
 use Rattle.linker.specs.SharedDocuments.{shared_documents}
 
@@ -17,18 +17,18 @@ found_image p f xs r e = option_map-twice f (λ d. d.now) r ∙ ap (option_map f
 
 -- one document more
 pub shared_more : (ds : List (Rc Compiled Global)) (i : ℕ) (d : Rc Compiled Global) → i < length ds → d ≡ get_or ds i d
-    → shared_documents (take (i + 1) ds) ≡ shared_documents (take i ds) ++ compiled_document d.value ∷ []
+    → shared_documents (take (i + 1) ds) ≡ shared_documents (take i ds) ++ compiled_view d.value ∷ []
 unfolding shared_documents
-shared_more ds i d l e = map-take_more (λ (x : Rc Compiled Global). compiled_document x.value) ds i d l e
+shared_more ds i d l e = map-take_more (λ (x : Rc Compiled Global). compiled_view x.value) ds i d l e
 
 pub shared_none : shared_documents [] ≡ []
 unfolding shared_documents
 shared_none = refl
 
 -- a document is pushed
-pub shared_pushed : (ds : List (Rc Compiled Global)) (d : Rc Compiled Global) → shared_documents (ds ++ d ∷ []) ≡ shared_documents ds ++ compiled_document d.value ∷ []
+pub shared_pushed : (ds : List (Rc Compiled Global)) (d : Rc Compiled Global) → shared_documents (ds ++ d ∷ []) ≡ shared_documents ds ++ compiled_view d.value ∷ []
 unfolding shared_documents
-shared_pushed ds d = map-append (λ (x : Rc Compiled Global). compiled_document x.value) ds (d ∷ [])
+shared_pushed ds d = map-append (λ (x : Rc Compiled Global). compiled_view x.value) ds (d ∷ [])
 
 pub shared_empty : (ds : List (Rc Compiled Global)) → length ds ≡ 0 → shared_documents ds ≡ []
 unfolding shared_documents

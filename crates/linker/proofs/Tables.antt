@@ -8,7 +8,7 @@ use Rattle.definitions.specs.Lists.{has_repeat}
 use Rattle.definitions.specs.Fragments.{Fragment, no_fragment, tokens, plain_name}
 use Rattle.definitions.specs.Schemas.{Schema, Document, is_root, schemas_of, table_of}
 use Rattle.definitions.specs.Scanning.{resource_uris}
-use Rattle.definitions.specs.Targets.{resource_root, anchored, dynamically_anchored, is_anchor, is_dynamic_anchor, pointed, target_by}
+use Rattle.definitions.specs.Targets.{resource_root, schema_with_anchor, schema_with_dynamic_anchor, is_anchor, is_dynamic_anchor, schema_at_pointer, target_by}
 use Rattle.definitions.specs.Reach.{holds_resource}
 use Rattle.definition_laws.proofs.Membership.{nothing_in, is_first, is_later, first_or_later, in_map, in_filter, found_none}
 use Rattle.definition_laws.proofs.Occurrences.{in_from_contains, contains_from_in}
@@ -95,34 +95,34 @@ pub root_in_holder : (ds : List Document) (uri : Text) (d : Document) → IsHold
 root_in_holder ds uri d h = find_in_holder ds uri d is_root h
 
 pub anchored_in_holder : (ds : List Document) (uri name : Text) (d : Document) → IsHolder ds uri d
-    → anchored (table_of ds) uri name ≡ anchored (schemas_of d.base d.value) uri name
+    → schema_with_anchor (table_of ds) uri name ≡ schema_with_anchor (schemas_of d.base d.value) uri name
 anchored_in_holder ds uri name d h = find_in_holder ds uri d (is_anchor name) h
 
 pub dynamically_anchored_in_holder : (ds : List Document) (uri name : Text) (d : Document) → IsHolder ds uri d
-    → dynamically_anchored (table_of ds) uri name ≡ dynamically_anchored (schemas_of d.base d.value) uri name
+    → schema_with_dynamic_anchor (table_of ds) uri name ≡ schema_with_dynamic_anchor (schemas_of d.base d.value) uri name
 dynamically_anchored_in_holder ds uri name d h = find_in_holder ds uri d (is_dynamic_anchor name) h
 
 pub target_in_holder : (ds : List Document) (uri : Text) (d : Document) (f : Fragment) → IsHolder ds uri d
     → target_by (table_of ds) uri f ≡ target_by (schemas_of d.base d.value) uri f
 target_in_holder ds uri d no_fragment h = root_in_holder ds uri d h
-target_in_holder ds uri d (tokens way) h = ap (option_and_then (pointed way)) (root_in_holder ds uri d h)
+target_in_holder ds uri d (tokens way) h = ap (option_and_then (schema_at_pointer way)) (root_in_holder ds uri d h)
 target_in_holder ds uri d (plain_name n) h = anchored_in_holder ds uri n d h
 
 -- where no document holds the URI
 pub root_nowhere : (ds : List Document) (uri : Text) → ((d : Document) → Contains ds d → holds_resource uri d ≡ false) → resource_root (table_of ds) uri ≡ None
 root_nowhere ds uri none = find_nowhere ds uri is_root none
 
-pub anchored_nowhere : (ds : List Document) (uri name : Text) → ((d : Document) → Contains ds d → holds_resource uri d ≡ false) → anchored (table_of ds) uri name ≡ None
+pub anchored_nowhere : (ds : List Document) (uri name : Text) → ((d : Document) → Contains ds d → holds_resource uri d ≡ false) → schema_with_anchor (table_of ds) uri name ≡ None
 anchored_nowhere ds uri name none = find_nowhere ds uri (is_anchor name) none
 
 pub dynamically_anchored_nowhere : (ds : List Document) (uri name : Text) → ((d : Document) → Contains ds d → holds_resource uri d ≡ false)
-    → dynamically_anchored (table_of ds) uri name ≡ None
+    → schema_with_dynamic_anchor (table_of ds) uri name ≡ None
 dynamically_anchored_nowhere ds uri name none = find_nowhere ds uri (is_dynamic_anchor name) none
 
 pub target_nowhere : (ds : List Document) (uri : Text) (f : Fragment) → ((d : Document) → Contains ds d → holds_resource uri d ≡ false)
     → target_by (table_of ds) uri f ≡ None
 target_nowhere ds uri no_fragment none = root_nowhere ds uri none
-target_nowhere ds uri (tokens way) none = ap (option_and_then (pointed way)) (root_nowhere ds uri none)
+target_nowhere ds uri (tokens way) none = ap (option_and_then (schema_at_pointer way)) (root_nowhere ds uri none)
 target_nowhere ds uri (plain_name n) none = anchored_nowhere ds uri n none
 
 -- ---- the first document that holds the URI

@@ -9,7 +9,7 @@ use Rattle.std.specs.List.Sorted.{IsStrictlySortedBy}
 use Rattle.std.specs.Ordering.{nat_cmp, match_ordering}
 use Rattle.definitions.specs.Values.{Text, same_text}
 use Rattle.definitions.specs.Schemas.{Document, table_of}
-use Rattle.definitions.specs.Documents.{document_of, placed, resources_of, resource_uris_of, Ascend, AreSound}
+use Rattle.definitions.specs.Documents.{document_of, documents_with, resources_of, resource_uris_of, Ascend, AreSound}
 use Rattle.definitions.specs.Lists.{has_repeat}
 use Rattle.definitions.specs.Scanning.{resource_uris}
 use Rattle.definitions.specs.Reach.{IsReached, holds, referred, holds_resource, refers_to, reach}
@@ -80,13 +80,13 @@ adds_then all p q r a v b w c x one two both = record {
 }
 
 -- ---- one document is added
-longer_at : (d e : Document) (es : List Document) (o : Ordering) → slice_cmp nat_cmp d.canonical e.canonical ≡ o → e.canonical ≢ d.canonical → length (placed d es) ≡ length es + 1
-    → length (match_ordering o (d ∷ e ∷ es) (d ∷ es) (e ∷ placed d es)) ≡ length (e ∷ es) + 1
+longer_at : (d e : Document) (es : List Document) (o : Ordering) → slice_cmp nat_cmp d.canonical e.canonical ≡ o → e.canonical ≢ d.canonical → length (documents_with d es) ≡ length es + 1
+    → length (match_ordering o (d ∷ e ∷ es) (d ∷ es) (e ∷ documents_with d es)) ≡ length (e ∷ es) + 1
 longer_at d e es Less is other more = omega arith
 longer_at d e es Equal is other more = absurd (other (sym (tied d.canonical e.canonical is)))
 longer_at d e es Greater is other more = omega (arith, more)
 
-longer : (d : Document) (ds : List Document) → ((e : Document) → Contains ds e → e.canonical ≢ d.canonical) → length (placed d ds) ≡ length ds + 1
+longer : (d : Document) (ds : List Document) → ((e : Document) → Contains ds e → e.canonical ≢ d.canonical) → length (documents_with d ds) ≡ length ds + 1
 longer d [] other = omega arith
 longer d (e ∷ es) other =
     longer_at d e es (slice_cmp nat_cmp d.canonical e.canonical) refl (other e (is_first e es)) (longer d es (λ x c. other x (is_later e x es c)))
@@ -127,7 +127,7 @@ adds_kept all uri d reached waiting now waits sound part first (inr new) =
     (record {
       ascend = subst Ascend (as_inserted d reached) (ascending (slice_cmp nat_cmp) nat_list_cmp_total key_of d reached part.ascend);
       kept = λ e c. in_placed d e reached (nothing_found reached d new.0 e c) c;
-      found = λ e c passes. subst (Contains (placed d reached)) (one_document all uri d e sound.distinct found.0 c found.1 passes) (placed_itself d reached);
+      found = λ e c passes. subst (Contains (documents_with d reached)) (one_document all uri d e sound.distinct found.0 c found.1 passes) (placed_itself d reached);
       only = λ e c. elim (from_placed d e reached c) [
         | inl same ↦ inr (subst (Contains all) same found.0, ap (holds_resource uri) (sym same) ∙ found.1)
         | inr there ↦ inl there
@@ -140,7 +140,7 @@ adds_kept all uri d reached waiting now waits sound part first (inr new) =
       waiting_reached = λ e c. elim (Contains-append_cases waiting (d ∷ []) e c) [
         | inl before ↦ inl before
         | inr last ↦ elim (first_or_later d e [] last) [
-          | inl same ↦ inr (subst (Contains (placed d reached)) same (placed_itself d reached))
+          | inl same ↦ inr (subst (Contains (documents_with d reached)) same (placed_itself d reached))
           | inr none ↦ absurd (nothing_in e none)
         ]
       ];

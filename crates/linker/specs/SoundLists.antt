@@ -8,7 +8,7 @@ use Rattle.definitions.specs.Schemas.{Document, document_from}
 use Rattle.definitions.specs.Scanning.{scan_fault}
 use Rattle.lemmas.proofs.Options.{none_from_is_none}
 use Rattle.definition_laws.proofs.Membership.{nothing_in, first_or_later}
-use Rattle.schema_scan.specs.CompiledDocuments.{compiled_document}
+use Rattle.schema_scan.specs.CompiledDocuments.{compiled_view}
 use Rattle.schema_scan.specs.declared.compiled.Compiled.{Compiled}
 use Rattle.linker.specs.SharedDocuments.{shared_documents}
 use Rattle.definitions.specs.Documents.{AreSound, is_faultless}
@@ -19,7 +19,7 @@ use Rattle.linker.specs.declared.list_source.ListSource.{ListSource}
 pub shared_made : (ds : List (Rc Compiled Global)) (d : Document) → Contains (shared_documents ds) d → d ≡ document_from d.base d.value
 unfolding shared_documents
 shared_made [] d c = absurd (nothing_in d c)
-shared_made (x ∷ xs) d c = elim (first_or_later (compiled_document x.value) d (map (λ (y : Rc Compiled Global). compiled_document y.value) xs) c) [
+shared_made (x ∷ xs) d c = elim (first_or_later (compiled_view x.value) d (map (λ (y : Rc Compiled Global). compiled_view y.value) xs) c) [
   | inl same ↦ subst (λ (e : Document). e ≡ document_from e.base e.value) same refl
   | inr later ↦ shared_made xs d later
 ]

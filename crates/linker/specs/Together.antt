@@ -5,7 +5,7 @@ use Rattle.std.proofs.lemmas.Cmp.{nat_list_cmp_total}
 use Rattle.std.specs.Cmp.Lexicographic.{slice_cmp}
 use Rattle.std.specs.List.{list_any}
 use Rattle.std.specs.Ordering.{nat_cmp}
-use Rattle.definitions.specs.Documents.{joined, placed, resources_of, resource_uris_of, AreSound}
+use Rattle.definitions.specs.Documents.{documents_of_both, documents_with, resources_of, resource_uris_of, AreSound}
 use Rattle.definitions.specs.Lists.{has_repeat}
 use Rattle.definitions.specs.Reach.{holds_resource}
 use Rattle.definitions.specs.Scanning.{scan_fault, scan_faults}
@@ -26,9 +26,9 @@ use Rattle.linker.specs.Sources.{shares_resource}
 abbrev pub HoldsNoneOf : Document → Document → Type 0
 HoldsNoneOf d e = (u : Text) → Contains (resources_of d) u → holds_resource u e ≡ false
 
-pub unshared : (ds : List Document) (d e : Document) → shares_resource ds d ≡ false → Contains ds e → HoldsNoneOf d e
+pub unshared_holds_none : (ds : List Document) (d e : Document) → shares_resource ds d ≡ false → Contains ds e → HoldsNoneOf d e
 unfolding shares_resource
-unshared ds d e none c u own =
+unshared_holds_none ds d e none c u own =
     none_of (holds_resource u) e ds (none_of (λ v. list_any (holds_resource v) ds) u (resources_of d) none own) c
 
 pub shares_none : (ds : List Document) (d : Document) → ((e : Document) → Contains ds e → HoldsNoneOf d e) → shares_resource ds d ≡ false
@@ -52,13 +52,13 @@ others_sound l ls sound = record {
 
 -- ---- a document among others
 sound_with : (ds : List Document) (d : Document) → AreSound ds → d ≡ document_from d.base d.value → scan_fault d.base d.value ≡ None → shares_resource ds d ≡ false
-    → AreSound (placed d ds)
+    → AreSound (documents_with d ds)
 sound_with ds d sound made fine free = record {
   ascend = ascend_placed d ds sound.ascend;
   distinct = subst (λ es. has_repeat same_text (resource_uris_of es) ≡ false) (as_inserted d ds)
       (distinct (slice_cmp nat_cmp) nat_list_cmp_total key_of same_text same_text-unlike resources_of d ds sound.ascend
       (scanned d (first_none (scan_faults d.base d.value) fine)).uris sound.distinct
-      (λ e c other. apart_from_held d e (unshared ds d e free c)));
+      (λ e c other. apart_from_held d e (unshared_holds_none ds d e free c)));
   made = λ e c. elim (from_placed d e ds c) [
     | inl same ↦ subst (λ (x : Document). x ≡ document_from x.base x.value) same made
     | inr there ↦ sound.made e there
@@ -69,9 +69,9 @@ sound_with ds d sound made fine free = record {
   ];
 }
 
-pub from_joined : (ls ds : List Document) (x : Document) → Contains (joined ls ds) x → Contains ls x ⊎ Contains ds x
+pub from_joined : (ls ds : List Document) (x : Document) → Contains (documents_of_both ls ds) x → Contains ls x ⊎ Contains ds x
 from_joined [] ds x c = inr c
-from_joined (l ∷ ls) ds x c = elim (from_placed l x (joined ls ds) c) [
+from_joined (l ∷ ls) ds x c = elim (from_placed l x (documents_of_both ls ds) c) [
   | inl same ↦ inl (subst (Contains (l ∷ ls)) same (is_first l ls))
   | inr there ↦ elim (from_joined ls ds x there) [
     | inl later ↦ inl (is_later l x ls later)
@@ -80,12 +80,12 @@ from_joined (l ∷ ls) ds x c = elim (from_placed l x (joined ls ds) c) [
 ]
 
 -- ---- both together
-pub together_sound : (ds es : List Document) → AreSound ds → AreSound es → list_any (shares_resource ds) es ≡ false → AreSound (joined es ds)
+pub together_sound : (ds es : List Document) → AreSound ds → AreSound es → list_any (shares_resource ds) es ≡ false → AreSound (documents_of_both es ds)
 together_sound ds [] first second apart = first
 together_sound ds (l ∷ ls) first second apart =
     let parts = or_parts (shares_resource ds l) (list_any (shares_resource ds) ls) apart in
-    sound_with (joined ls ds) l (together_sound ds ls first (others_sound l ls second) parts.1) (second.made l (is_first l ls)) (second.faultless l (is_first l ls))
-    (shares_none (joined ls ds) l (λ e c. elim (from_joined ls ds e c) [
+    sound_with (documents_of_both ls ds) l (together_sound ds ls first (others_sound l ls second) parts.1) (second.made l (is_first l ls)) (second.faultless l (is_first l ls))
+    (shares_none (documents_of_both ls ds) l (λ e c. elim (from_joined ls ds e c) [
       | inl own ↦ first_unshared l ls second e own
-      | inr other ↦ unshared ds l e parts.0 other
+      | inr other ↦ unshared_holds_none ds l e parts.0 other
     ]))

@@ -1,7 +1,7 @@
 -- A visit of documents: those that are reached so far, and those of them whose references wait to be followed.
 use Rattle.std.specs.Prelude.{◌≡◌, ◌⊎◌, ◌+◌, ◌++◌, List, [], ◌∷◌, Bool, true, false, Contains, if◌then◌else◌, is_some, length, nat_lt}
 use Rattle.definitions.specs.Schemas.{Document}
-use Rattle.definitions.specs.Documents.{document_of, placed, resources_of, Ascend}
+use Rattle.definitions.specs.Documents.{document_of, documents_with, resources_of, Ascend}
 
 -- documents of the source, in byte order of canonical URIs
 pub record IsPart (reached all : List Document) : Type 0 where
@@ -21,7 +21,7 @@ with_compound d compound = if nat_lt 1 (length (resources_of d)) then compound +
 abbrev pub Keeps : Document → List Document → List Document → List Document → List Document → Type 0
 Keeps d reached waiting reached_now waiting_now =
     (is_some (document_of reached d.canonical) ≡ true) × (reached_now ≡ reached) × (waiting_now ≡ waiting)
-    ⊎ (is_some (document_of reached d.canonical) ≡ false) × (reached_now ≡ placed d reached) × (waiting_now ≡ waiting ++ d ∷ [])
+    ⊎ (is_some (document_of reached d.canonical) ≡ false) × (reached_now ≡ documents_with d reached) × (waiting_now ≡ waiting ++ d ∷ [])
 
 -- of all documents those that pass the test are reached now, and what is new waits
 pub record Adds (all : List Document) (p : Document → Bool) (reached waiting reached_now waiting_now : List Document) : Type 0 where

@@ -2,7 +2,7 @@
 
 ghost use Rattle.std.specs.Prelude.{◌≡◌, false};
 ghost use Rattle.std.specs.List.{list_any};
-ghost use Rattle.definitions.specs.Documents.{joined};
+ghost use Rattle.definitions.specs.Documents.{documents_of_both};
 ghost use Rattle.linker.specs.Sources.{shares_resource};
 ghost use Rattle.linker.specs.Together.{together_sound};
 
@@ -32,7 +32,7 @@ impl<A: Source, B: Source> Both<A, B> {
 }
 
 impl<A: Source, B: Source> Source for Both<A, B> {
-    ghost documents = { λ b. joined (B.documents b.second) (A.documents b.first) };
+    ghost documents = { λ b. documents_of_both (B.documents b.second) (A.documents b.first) };
 
     fn holding(&mut self, alloc: Global, resource: &str) -> Result<Option<Rc<Compiled>>, Fault> {
         match self.first.holding(alloc, resource)? {

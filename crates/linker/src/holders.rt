@@ -8,7 +8,7 @@ ghost use Rattle.definitions.specs.Reach.{holds_resource};
 ghost use Rattle.definitions.specs.Scanning.{resource_uris};
 ghost use Rattle.definitions.specs.Schemas.{table_of};
 ghost use Rattle.definitions.specs.Values.{same_text};
-ghost use Rattle.schema_scan.specs.CompiledDocuments.{compiled_document};
+ghost use Rattle.schema_scan.specs.CompiledDocuments.{compiled_view};
 ghost use Rattle.linker.specs.SharedDocuments.{shared_documents};
 ghost use Rattle.linker.specs.Sources.{embeds, shares_resource};
 ghost use Rattle.linker.specs.Visits.{AreCompound};
@@ -22,7 +22,7 @@ pub(crate) fn holder<'a>(documents: &'a [Rc<Compiled>], uri: &str) -> Option<&'a
     requires ascend { Ascend (shared_documents documents.now) }
     requires distinct { has_repeat same_text
         (resource_uris (table_of (shared_documents documents.now))) ≡ false }
-    ensures { option_map (λ d. compiled_document d.now.value) result
+    ensures { option_map (λ d. compiled_view d.now.value) result
         ≡ find (holds_resource uri.now) (shared_documents documents.now) }
 {
     match position(documents, uri) {
@@ -33,14 +33,14 @@ pub(crate) fn holder<'a>(documents: &'a [Rc<Compiled>], uri: &str) -> Option<&'a
 
 // The first document of several resources that has this one.
 fn embedding<'a>(documents: &'a [Rc<Compiled>], uri: &str) -> Option<&'a Rc<Compiled>>
-    ensures { option_map (λ d. compiled_document d.now.value) result
+    ensures { option_map (λ d. compiled_view d.now.value) result
         ≡ find (embeds uri.now) (shared_documents documents.now) }
 {
     documents.iter().find(|document| embeds(document, uri))
 }
 
 fn embeds(document: &Rc<Compiled>, uri: &str) -> bool
-    ensures { result ≡ embeds uri.now (compiled_document document.now.value) }
+    ensures { result ≡ embeds uri.now (compiled_view document.now.value) }
 {
     document.resource_uris().len() > 1 && document.resource_uri(uri).is_some()
 }
@@ -51,7 +51,7 @@ pub(crate) fn shares_resource(documents: &[Rc<Compiled>], document: &Compiled) -
     requires distinct { has_repeat same_text
         (resource_uris (table_of (shared_documents documents.now))) ≡ false }
     ensures { result ≡ shares_resource (shared_documents documents.now)
-        (compiled_document document.now) }
+        (compiled_view document.now) }
 {
     document
         .resource_uris()

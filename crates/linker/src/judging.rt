@@ -3,13 +3,13 @@
 ghost use Rattle.std.specs.Prelude.{◌≡◌, ◌++◌, List, Some, false, IfErr, IfOk, if◌then◌else◌, is_some, option_map};
 ghost use Rattle.definitions.specs.Documents.{Ascend};
 ghost use Rattle.definitions.specs.Fragments.{fragment_kind};
-ghost use Rattle.definitions.specs.Reach.{least, lesser, missing};
+ghost use Rattle.definitions.specs.Reach.{least, lesser, missing_references};
 ghost use Rattle.definitions.specs.Scanning.{resource_uris};
 ghost use Rattle.definitions.specs.Schemas.{table_of};
 ghost use Rattle.definitions.specs.Targets.{target, target_in};
 ghost use Rattle.definitions.specs.Values.{Text, same_text};
 ghost use Rattle.definitions.specs.Lists.{has_repeat};
-ghost use Rattle.schema_scan.specs.CompiledDocuments.{compiled_document, compiled_schemas};
+ghost use Rattle.schema_scan.specs.CompiledDocuments.{compiled_schemas, compiled_view};
 ghost use Rattle.linker.specs.Missing.{missing_in};
 ghost use Rattle.linker.specs.SharedDocuments.{shared_documents};
 
@@ -67,7 +67,8 @@ pub(crate) fn least_missing<'a>(
     requires distinct { has_repeat same_text
         (resource_uris (table_of (shared_documents documents.now))) ≡ false }
     ensures ok { IfOk result
-        (λ t. option_map (λ t. t.now) t ≡ least (missing (shared_documents documents.now))) }
+        (λ t. option_map (λ t. t.now) t
+        ≡ least (missing_references (shared_documents documents.now))) }
     ensures err { IfErr result (λ f. f ≡ Fault.NoRoom) }
 {
     let mut found = None;
@@ -90,7 +91,7 @@ fn least_missing_of<'a>(
     ensures ok { (before : List Text) → option_map (λ t. t.now) found.entry ≡ least before
         → IfOk result (λ t. option_map (λ t. t.now) t
         ≡ least (before ++ missing_in (shared_documents documents.now)
-        (compiled_document document.now))) }
+        (compiled_view document.now))) }
     ensures err { IfErr result (λ f. f ≡ Fault.NoRoom) }
 {
     let mut least = found;

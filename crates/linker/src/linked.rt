@@ -3,7 +3,7 @@
 ghost use Rattle.std.specs.Prelude.{◌≡◌, [], true, false, is_some, string_bytes};
 ghost use Rattle.definitions.specs.Values.{same_text};
 ghost use Rattle.definitions.specs.Lists.{has_repeat};
-ghost use Rattle.definitions.specs.Reach.{missing};
+ghost use Rattle.definitions.specs.Reach.{missing_references};
 ghost use Rattle.definitions.specs.Scanning.{resource_uris};
 ghost use Rattle.definitions.specs.Schemas.{table_of};
 ghost use Rattle.definitions.specs.Targets.{resource_root};
@@ -24,6 +24,6 @@ pub struct Linked {
     pub(crate) documents: Vec<Rc<Compiled>>,
     ghost ascend: { Ascend (shared_documents documents.items) } by { IsStrictlySortedBy-prop _ _ },
     ghost distinct: { has_repeat same_text (resource_uris (table_of (shared_documents documents.items))) ≡ false },
-    ghost whole: { missing (shared_documents documents.items) ≡ [] },
+    ghost whole: { missing_references (shared_documents documents.items) ≡ [] },
     ghost asked: { is_some (resource_root (table_of (shared_documents documents.items)) (string_bytes uri)) ≡ true },
 }

@@ -7,7 +7,7 @@ ghost use Rattle.definitions.specs.Scanning.{resource_uris};
 ghost use Rattle.definitions.specs.Schemas.{table_of};
 ghost use Rattle.definitions.specs.Values.{same_text};
 ghost use Rattle.definitions.specs.Lists.{has_repeat};
-ghost use Rattle.faults.specs.View.{fault};
+ghost use Rattle.faults.specs.View.{fault_view};
 ghost use Rattle.linker.specs.LinkFaults.{link_fault};
 ghost use Rattle.linker.specs.LinkedDocuments.{linked_uri, linked_documents};
 ghost use Rattle.linker.specs.SharedDocuments.{shared_documents};
@@ -34,7 +34,7 @@ pub fn link<S: Source>(alloc: Global, source: &mut S, resource: &str) -> Result<
     ensures ok { OnOk result (link_fault (reach (S.documents source.old) resource.now) ≡ None) }
     ensures err { IfErr result
         (λ f. f ≢ Fault.NoRoom → link_fault (reach (S.documents source.old) resource.now)
-        ≡ Some (fault f)) }
+        ≡ Some (fault_view f)) }
     ensures same { S.documents source.new ≡ S.documents source.old }
 {
     let documents = reached_documents(alloc, source, resource)?;
@@ -50,7 +50,8 @@ fn judge(alloc: Global, documents: &[Rc<Compiled>]) -> Result<(), Fault>
         (resource_uris (table_of (shared_documents documents.now))) ≡ false }
     ensures ok { OnOk result (link_fault (shared_documents documents.now) ≡ None) }
     ensures err { IfErr result
-        (λ f. f ≢ Fault.NoRoom → link_fault (shared_documents documents.now) ≡ Some (fault f)) }
+        (λ f. f ≢ Fault.NoRoom → link_fault (shared_documents documents.now)
+        ≡ Some (fault_view f)) }
 {
     if documents.is_empty() {
         return Err(Fault::NotFound);

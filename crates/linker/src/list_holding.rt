@@ -2,7 +2,7 @@
 
 ghost use Rattle.std.specs.Prelude.{◌≡◌, IfErr, IfOk, find, option_map};
 ghost use Rattle.definitions.specs.Reach.{holds_resource};
-ghost use Rattle.schema_scan.specs.CompiledDocuments.{compiled_document};
+ghost use Rattle.schema_scan.specs.CompiledDocuments.{compiled_view};
 ghost use Rattle.linker.specs.ListedDocuments.{listed_documents};
 ghost use Rattle.linker.specs.SoundLists.{listed_sound};
 
@@ -37,7 +37,7 @@ impl Source for &ListSource {
 // The document of the list that has a resource of this URI.
 fn holding(list: &ListSource, resource: &str) -> Result<Option<Rc<Compiled>>, Fault>
     ensures held { IfOk result
-        (λ d. option_map (λ it. compiled_document it.value) d
+        (λ d. option_map (λ it. compiled_view it.value) d
         ≡ find (holds_resource resource.now) (listed_documents list.now)) }
     ensures err { IfErr result (λ f. f ≡ Fault.NoRoom) }
 {

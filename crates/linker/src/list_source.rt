@@ -6,9 +6,9 @@ ghost use Rattle.std.specs.List.{list_all};
 ghost use Rattle.std.specs.List.Sorted.{IsStrictlySortedBy-prop};
 ghost use Rattle.definitions.specs.Values.{same_text};
 ghost use Rattle.definitions.specs.Lists.{has_repeat};
-ghost use Rattle.definitions.specs.Documents.{placed, resource_uris_of, Ascend, is_faultless};
+ghost use Rattle.definitions.specs.Documents.{documents_with, resource_uris_of, Ascend, is_faultless};
 ghost use Rattle.definitions.specs.Scanning.{scan_fault};
-ghost use Rattle.schema_scan.specs.CompiledDocuments.{compiled_base, compiled_value, compiled_document};
+ghost use Rattle.schema_scan.specs.CompiledDocuments.{compiled_base, compiled_value, compiled_view};
 ghost use Rattle.linker.specs.Sources.{shares_resource};
 ghost use Rattle.linker.specs.SharedDocuments.{shared_documents};
 
@@ -48,10 +48,10 @@ impl ListSource {
     pub fn add(&mut self, document: Rc<Compiled>) -> Result<bool, Fault>
         ensures ok { IfOk result
             (λ added. added ≡ not (shares_resource (listed_documents self.old)
-            (compiled_document document.value))) }
+            (compiled_view document.value))) }
         ensures added { IfOk result
             (λ added. listed_documents self.new
-            ≡ (if added then placed (compiled_document document.value)
+            ≡ (if added then documents_with (compiled_view document.value)
             (listed_documents self.old) else listed_documents self.old)) }
         ensures kept { OnErr result (listed_documents self.new ≡ listed_documents self.old) }
         ensures err { IfErr result (λ f. f ≡ Fault.NoRoom) }

@@ -2,18 +2,18 @@
 
 ghost use Rattle.std.specs.Prelude.{◌≡◌, [], Some, Ok, Err, IfOk, IfErr, IfSome, IsTrue, Contains, is_some, map, option_map, find, unwrap_or, string_bytes};
 ghost use Rattle.definitions.specs.Reach.{holds_resource};
-ghost use Rattle.definitions.specs.Resolution.{resolved};
+ghost use Rattle.definitions.specs.Resolution.{target_uri};
 ghost use Rattle.definitions.specs.Searches.{patterns_of};
 ghost use Rattle.definitions.specs.Schemas.{Document, Schema};
-ghost use Rattle.definitions.specs.Targets.{resource_root, target, target_by, is_dynamic_anchor, dynamically_anchored, outermost, dynamic_by, dynamic_target};
+ghost use Rattle.definitions.specs.Targets.{resource_root, target, target_by, is_dynamic_anchor, schema_with_dynamic_anchor, outermost, dynamic_by, dynamic_target};
 ghost use Rattle.definitions.specs.Uris.{without_fragment};
 ghost use Rattle.linker.specs.AbsoluteReferences.{dynamic_target_of};
 ghost use Rattle.linker.specs.DocumentPatterns.{HasPattern};
 ghost use Rattle.linker.specs.SharedDocuments.{shared_documents};
 ghost use Rattle.linker.specs.LinkedDocuments.{linked_uri, linked_documents, linked_schemas};
-ghost use Rattle.schema_index.specs.Locateds.{located_schema};
-ghost use Rattle.schema_scan.specs.CompiledDocuments.{compiled_document};
-ghost use Rattle.uri_ref.specs.FragmentViews.{fragment_shown};
+ghost use Rattle.schema_index.specs.Locateds.{located_view};
+ghost use Rattle.schema_scan.specs.CompiledDocuments.{compiled_view};
+ghost use Rattle.uri_ref.specs.FragmentViews.{fragment_view};
 
 use crate::holders::holder;
 use crate::linked::Linked;
@@ -29,7 +29,7 @@ impl Linked {
     /// The root of the resource that was linked.
     pub fn root(&self, alloc: Global) -> Located<'_>
         ensures { resource_root (linked_schemas self.now) (linked_uri self.now)
-            ≡ Some (located_schema result) }
+            ≡ Some (located_view result) }
     {
         match self.resource_root(alloc, self.uri.as_str()) {
             Some(root) => root,
@@ -46,8 +46,8 @@ impl Linked {
         reference: &str,
     ) -> Result<Option<Located<'_>>, Fault>
         ensures ok { IfOk result
-            (λ t. option_map located_schema t
-            ≡ target (linked_schemas self.now) (resolved resource.now reference.now)) }
+            (λ t. option_map located_view t
+            ≡ target (linked_schemas self.now) (target_uri resource.now reference.now)) }
         ensures err { IfErr result (λ f. f ≡ Fault.NoRoom) }
     {
         match resolve_reference(alloc, resource, reference)? {
@@ -66,9 +66,9 @@ impl Linked {
         reference: &str,
     ) -> Result<Option<Located<'_>>, Fault>
         ensures ok { IfOk result
-            (λ t. option_map located_schema t
+            (λ t. option_map located_view t
             ≡ dynamic_target (linked_schemas self.now) (map (λ uri. uri.now) scope.now)
-            (resolved resource.now reference.now)) }
+            (target_uri resource.now reference.now)) }
         ensures err { IfErr result (λ f. f ≡ Fault.NoRoom) }
     {
         match resolve_reference(alloc, resource, reference)? {
@@ -81,7 +81,7 @@ impl Linked {
     /// The only error is want of memory. Of texts that open no resource of these documents it answers some text.
     pub fn resource_opened(&self, alloc: Global, around: &str, id: &str) -> Result<&str, Fault>
         ensures ok { (s : Schema) → Contains (linked_schemas self.now) s → s.pointer ≡ []
-            → s.resource ≡ without_fragment (resolved around.now id.now)
+            → s.resource ≡ without_fragment (target_uri around.now id.now)
             → IfOk result (λ uri. uri.now ≡ s.resource) }
         ensures err { IfErr result (λ f. f ≡ Fault.NoRoom) }
     {
@@ -100,7 +100,7 @@ impl Linked {
 
     // The document that has a resource with this URI.
     fn holder(&self, uri: &str) -> Option<&Compiled>
-        ensures { option_map (λ d. compiled_document d.now) result
+        ensures { option_map (λ d. compiled_view d.now) result
             ≡ find (holds_resource uri.now) (linked_documents self.now) }
     {
         match holder(self.documents.as_slice(), uri) {
@@ -111,7 +111,7 @@ impl Linked {
 
     // The root of the resource with this URI.
     fn resource_root(&self, alloc: Global, uri: &str) -> Option<Located<'_>>
-        ensures { option_map located_schema result
+        ensures { option_map located_view result
             ≡ resource_root (linked_schemas self.now) uri.now }
     {
         match self.holder(uri) {
@@ -128,8 +128,8 @@ impl Linked {
         fragment: &FragmentKind,
     ) -> Result<Option<Located<'_>>, Fault>
         ensures ok { IfOk result
-            (λ t. option_map located_schema t
-            ≡ target_by (linked_schemas self.now) uri.now (fragment_shown fragment.now)) }
+            (λ t. option_map located_view t
+            ≡ target_by (linked_schemas self.now) uri.now (fragment_view fragment.now)) }
         ensures err { IfErr result (λ f. f ≡ Fault.NoRoom) }
     {
         match self.holder(uri) {
@@ -146,8 +146,8 @@ impl Linked {
         name: &str,
     ) -> Result<Option<Located<'_>>, Fault>
         ensures ok { IfOk result
-            (λ t. option_map located_schema t
-            ≡ dynamically_anchored (linked_schemas self.now) uri.now name.now) }
+            (λ t. option_map located_view t
+            ≡ schema_with_dynamic_anchor (linked_schemas self.now) uri.now name.now) }
         ensures err { IfErr result (λ f. f ≡ Fault.NoRoom) }
     {
         match self.holder(uri) {
@@ -178,7 +178,7 @@ impl Linked {
         named: &AbsoluteReference,
     ) -> Result<Option<Located<'_>>, Fault>
         ensures ok { IfOk result
-            (λ t. option_map located_schema t
+            (λ t. option_map located_view t
             ≡ dynamic_target_of (linked_schemas self.now)
             (map (λ uri. uri.now) scope.now) named.now) }
         ensures err { IfErr result (λ f. f ≡ Fault.NoRoom) }
@@ -202,9 +202,9 @@ impl Linked {
         fragment: &FragmentKind,
     ) -> Result<Located<'a>, Fault>
         ensures ok { IfOk result
-            (λ t. located_schema t ≡ dynamic_by (linked_schemas self.now)
-            (map (λ uri. uri.now) scope.now) (located_schema first.entry)
-            (Ok (fragment_shown fragment.now))) }
+            (λ t. located_view t ≡ dynamic_by (linked_schemas self.now)
+            (map (λ uri. uri.now) scope.now) (located_view first.entry)
+            (Ok (fragment_view fragment.now))) }
         ensures err { IfErr result (λ f. f ≡ Fault.NoRoom) }
     {
         match fragment {
@@ -231,7 +231,7 @@ impl Linked {
         name: &str,
     ) -> Result<Option<Located<'_>>, Fault>
         ensures ok { IfOk result
-            (λ t. (first : Schema) → unwrap_or (option_map located_schema t) first
+            (λ t. (first : Schema) → unwrap_or (option_map located_view t) first
             ≡ outermost (linked_schemas self.now) (map (λ uri. uri.now) scope.now) name.now first) }
         ensures err { IfErr result (λ f. f ≡ Fault.NoRoom) }
     {
@@ -252,7 +252,7 @@ impl Linked {
 
 // Whether the schema has this dynamic anchor (section 8.2.2).
 fn has_dynamic_anchor(schema: &Located<'_>, name: &str) -> bool
-    ensures { result ≡ is_dynamic_anchor name.now (located_schema schema.now) }
+    ensures { result ≡ is_dynamic_anchor name.now (located_view schema.now) }
 {
     match schema.schema.get("$dynamicAnchor") {
         Some(anchor) => anchor.as_str() == Some(name),

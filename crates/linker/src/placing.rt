@@ -3,8 +3,8 @@
 ghost use Rattle.std.specs.Prelude.{◌≡◌, IfErr, IfOk, OnErr, if◌then◌else◌, is_none};
 ghost use Rattle.std.specs.Cmp.Lexicographic.{slice_cmp};
 ghost use Rattle.std.specs.Ordering.{nat_cmp};
-ghost use Rattle.definitions.specs.Documents.{document_of, placed, Ascend};
-ghost use Rattle.schema_scan.specs.CompiledDocuments.{compiled_document};
+ghost use Rattle.definitions.specs.Documents.{document_of, documents_with, Ascend};
+ghost use Rattle.schema_scan.specs.CompiledDocuments.{compiled_view};
 ghost use Rattle.linker.specs.Positions.{StandsAt, IsGap};
 ghost use Rattle.linker.specs.SharedDocuments.{shared_documents};
 
@@ -30,10 +30,10 @@ pub(crate) fn place(
     requires { Ascend (shared_documents documents.old.items) }
     ensures absent { IfOk result
         (λ put. put ≡ is_none (document_of (shared_documents documents.old.items)
-        (compiled_document document.value).canonical)) }
+        (compiled_view document.value).canonical)) }
     ensures put { IfOk result
         (λ put. shared_documents documents.new.items
-        ≡ (if put then placed (compiled_document document.value)
+        ≡ (if put then documents_with (compiled_view document.value)
         (shared_documents documents.old.items) else shared_documents documents.old.items)) }
     ensures kept { OnErr result
         (shared_documents documents.new.items ≡ shared_documents documents.old.items) }
@@ -48,7 +48,7 @@ pub(crate) fn place(
 }
 
 fn order(document: &Rc<Compiled>, uri: &str) -> Ordering
-    ensures { result ≡ slice_cmp nat_cmp (compiled_document document.now.value).canonical uri.now }
+    ensures { result ≡ slice_cmp nat_cmp (compiled_view document.now.value).canonical uri.now }
 {
     canonical(document).cmp(uri)
 }

@@ -4,7 +4,7 @@ ghost use Rattle.std.specs.Prelude.{◌≡◌, ◌∷◌, IfOk, IfErr, option_ma
 ghost use Rattle.std.specs.Cow.{cow_str_bytes};
 ghost use Rattle.definitions.specs.Bytes.{number_sign};
 ghost use Rattle.definitions.specs.Fragments.{fragment_kind};
-ghost use Rattle.definitions.specs.Resolution.{resolved};
+ghost use Rattle.definitions.specs.Resolution.{target_uri};
 ghost use Rattle.definitions.specs.Uris.{without_fragment};
 ghost use Rattle.linker.specs.AbsoluteReferences.{IsReadAs, IsShownBy};
 
@@ -26,7 +26,7 @@ pub(crate) fn resolve_reference<'a>(
     resource: &'a str,
     reference: &str,
 ) -> Result<Option<AbsoluteReference<'a>>, Fault>
-    ensures ok { IfOk result (λ r. IsReadAs (resolved resource.now reference.now) r) }
+    ensures ok { IfOk result (λ r. IsReadAs (target_uri resource.now reference.now) r) }
     ensures err { IfErr result (λ f. f ≡ Fault.NoRoom) }
 {
     match reference.strip_prefix('#') {
@@ -42,7 +42,7 @@ fn resolve_fragment<'a>(
     fragment: &str,
 ) -> Result<Option<AbsoluteReference<'a>>, Fault>
     ensures ok { IfOk result
-        (λ r. IsReadAs (resolved resource.now (number_sign ∷ fragment.now)) r) }
+        (λ r. IsReadAs (target_uri resource.now (number_sign ∷ fragment.now)) r) }
     ensures err { IfErr result (λ f. f ≡ Fault.NoRoom) }
 {
     match readable_fragment(alloc, Some(fragment)) {
@@ -61,7 +61,7 @@ fn resolve_whole<'a>(
     resource: &str,
     reference: &str,
 ) -> Result<Option<AbsoluteReference<'a>>, Fault>
-    ensures ok { IfOk result (λ r. IsReadAs (resolved resource.now reference.now) r) }
+    ensures ok { IfOk result (λ r. IsReadAs (target_uri resource.now reference.now) r) }
     ensures err { IfErr result (λ f. f ≡ Fault.NoRoom) }
 {
     let resolved = resolve(alloc, &split(resource), &split(reference))?;

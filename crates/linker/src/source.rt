@@ -4,7 +4,7 @@ ghost use Rattle.std.specs.Prelude.{◌≡◌, List, IfOk, IfErr, find, option_m
 ghost use Rattle.definitions.specs.Documents.{AreSound};
 ghost use Rattle.definitions.specs.Reach.{holds_resource};
 ghost use Rattle.definitions.specs.Schemas.{Document};
-ghost use Rattle.schema_scan.specs.CompiledDocuments.{compiled_document};
+ghost use Rattle.schema_scan.specs.CompiledDocuments.{compiled_view};
 
 use faults::Fault;
 use schema_scan::Compiled;
@@ -23,7 +23,7 @@ pub trait Source {
     /// source with the documents that it had.
     fn holding(&mut self, alloc: Global, resource: &str) -> Result<Option<Rc<Compiled>>, Fault>
         ensures held { IfOk result
-            (λ d. option_map (λ it. compiled_document it.value) d
+            (λ d. option_map (λ it. compiled_view it.value) d
             ≡ find (holds_resource resource.now) (documents self.old)) }
         ensures err { IfErr result (λ f. f ≡ Fault.NoRoom) }
         ensures same { documents self.new ≡ documents self.old };

@@ -2,7 +2,7 @@
 
 ghost use Rattle.std.specs.Prelude.{◌≡◌, IfErr, IfOk, OnOk};
 ghost use Rattle.definitions.specs.Reach.{holds_resource, reach, refers_to};
-ghost use Rattle.schema_scan.specs.CompiledDocuments.{compiled_document};
+ghost use Rattle.schema_scan.specs.CompiledDocuments.{compiled_view};
 ghost use Rattle.linker.specs.SharedDocuments.{shared_documents};
 ghost use Rattle.definitions.specs.Documents.{Ascend};
 ghost use Rattle.linker.specs.Visits.{Adds, AreCompound, IsPart, Keeps, with_compound};
@@ -64,7 +64,7 @@ fn follow<S: Source>(
     requires known { AreCompound (shared_documents reached.old.items)
         (shared_documents compound.old.items) }
     ensures ok { OnOk result
-        (Adds (S.documents source.old) (refers_to (compiled_document document.now))
+        (Adds (S.documents source.old) (refers_to (compiled_view document.now))
         (shared_documents reached.old.items) (shared_documents waiting.old.items)
         (shared_documents reached.new.items) (shared_documents waiting.new.items)) }
     ensures known { OnOk result
@@ -126,7 +126,7 @@ fn keep(
     requires known { AreCompound (shared_documents reached.old.items)
         (shared_documents compound.old.items) }
     ensures kept { OnOk result
-        (Keeps (compiled_document document.value) (shared_documents reached.old.items)
+        (Keeps (compiled_view document.value) (shared_documents reached.old.items)
         (shared_documents waiting.old.items) (shared_documents reached.new.items)
         (shared_documents waiting.new.items)) }
     ensures known { OnOk result
@@ -143,7 +143,7 @@ fn keep(
 // Adds a document to those of several resources, if it has several.
 fn note(document: &Rc<Compiled>, compound: &mut Vec<Rc<Compiled>>) -> Result<(), AllocError>
     ensures { OnOk result (shared_documents compound.new.items
-        ≡ with_compound (compiled_document document.now.value)
+        ≡ with_compound (compiled_view document.now.value)
         (shared_documents compound.old.items)) }
 {
     if document.resource_uris().len() > 1 {

@@ -2,7 +2,7 @@
 
 ghost use Rattle.std.specs.Prelude.{◌≡◌, ◌∷◌, ◌++◌, OnOk, flat_map, map, string_bytes};
 ghost use Rattle.definitions.specs.Bytes.{slash};
-ghost use Rattle.definitions.specs.Pointers.{escaped_byte, fragment_text, percent_encoded, pointer_text};
+ghost use Rattle.definitions.specs.Pointers.{escaped_byte, fragment_text, percent_encoded_text, pointer_text};
 ghost use Rattle.locations.specs.Steps.{token, tokens};
 
 use json_doc::{push_fragment_token, push_token};
@@ -58,7 +58,7 @@ fn push_step(text: &mut String, step: Step<'_>) -> Result<(), AllocError>
 fn push_fragment_step(text: &mut String, step: Step<'_>) -> Result<(), AllocError>
     ensures { OnOk result (string_bytes text.new
         ≡ string_bytes text.old ++ slash
-        ∷ percent_encoded (flat_map escaped_byte (token step.entry))) }
+        ∷ percent_encoded_text (flat_map escaped_byte (token step.entry))) }
 {
     match step {
         Step::Name(name) => push_fragment_token(text, name),

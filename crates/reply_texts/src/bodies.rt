@@ -3,7 +3,7 @@ ghost use Rattle.std.specs.Prelude.{◌≡◌, ◌++◌, ◌∷◌, [], OnOk, If
 ghost use Rattle.json.specs.Print.{print};
 ghost use Rattle.json.specs.Token as json;
 ghost use Rattle.definitions.specs.Texts.{text};
-ghost use Rattle.faults.specs.View.{fault};
+ghost use Rattle.faults.specs.View.{fault_view};
 ghost use Rattle.http_definitions.specs.ReplyTexts.{stored_value, deleted_value, stored_all_value, fault_value};
 ghost use Rattle.requests.specs.Views.{stored_entry_view};
 ghost use Rattle.reply_texts.specs.Bodies.{value_tokens, elements_tokens, at_tokens, entry_tokens};
@@ -156,7 +156,8 @@ fn write_entry(out: &mut Writer, entry: Option<usize>) -> Result<(), AllocError>
 
 fn write_fault(out: &mut Writer, entry: Option<usize>, refusal: &Fault) -> Result<(), AllocError>
     ensures ok { OnOk result
-        (out.new.tokens ≡ out.old.tokens ++ value_tokens (fault_value entry (fault refusal.now))) }
+        (out.new.tokens ≡ out.old.tokens
+        ++ value_tokens (fault_value entry (fault_view refusal.now))) }
     ensures before { out.new.before ≡ out.old.before }
 {
     out.begin_object()?;
@@ -173,7 +174,8 @@ pub fn fault_body(
     entry: Option<usize>,
     refusal: &Fault,
 ) -> Result<String, AllocError>
-    ensures { IfOk result (λ t. string_bytes t ≡ text (fault_value entry (fault refusal.now))) }
+    ensures { IfOk result (λ t. string_bytes t
+        ≡ text (fault_value entry (fault_view refusal.now))) }
 {
     let mut out = new_writer(alloc);
     write_fault(&mut out, entry, refusal)?;

@@ -2,7 +2,7 @@
 ghost use Rattle.std.specs.Prelude.{◌≡◌, ◌++◌, OnOk, IfErr, map, string_bytes};
 ghost use Rattle.std.specs.List.{list_all};
 ghost use Rattle.http_definitions.specs.ReplyTexts.{closing_text, reply_text, refused_status, stored_status};
-ghost use Rattle.faults.specs.View.{fault};
+ghost use Rattle.faults.specs.View.{fault_view};
 ghost use Rattle.reply_texts.specs.Bodies.{refusal_text};
 ghost use Rattle.requests.specs.Views.{reply_view, stored_entry_view};
 
@@ -14,7 +14,7 @@ use std::alloc::{AllocError, Global};
 
 // The status of a refusal; no request is refused by a fault that has none.
 fn refused_status(refusal: &Fault) -> u16
-    ensures { result ≡ refused_status (fault refusal.now) }
+    ensures { result ≡ refused_status (fault_view refusal.now) }
 {
     refusal.status().unwrap_or(400)
 }
@@ -40,7 +40,7 @@ fn write_refusal(
     refusal: &Fault,
 ) -> Result<(), AllocError>
     ensures { OnOk result (string_bytes out.new
-        ≡ string_bytes out.old ++ refusal_text closes entry (fault refusal.now)) }
+        ≡ string_bytes out.old ++ refusal_text closes entry (fault_view refusal.now)) }
 {
     let body = fault_body(alloc, entry, refusal)?;
     write_http(out, closes, refused_status(refusal), body.as_str())

@@ -7,7 +7,7 @@ use Rattle.std.proofs.lemmas.Str.{is_utf8-from_IsUtf8, IsUtf8-from_is_utf8}
 use Rattle.percent_encoding.specs.Percent.{percent_decode}
 use Rattle.definitions.specs.Values.{Text}
 use Rattle.definitions.specs.Registries.{Request, put, delete, validate, bundled_from, batch}
-use Rattle.http_definitions.specs.Routes.{behind, by_uri, alone, request_or, request_by, routes, unescaped}
+use Rattle.http_definitions.specs.Routes.{behind, by_uri, alone, request_or, request_by, routes, unescaped_text}
 
 -- ---- what follows a beginning
 pub stripped_is : (path target : Text) → pointwise eqb (take (length path) target) path ≡ true → behind path target ≡ Some (drop (length path) target)
@@ -52,10 +52,10 @@ whole_behind (c ∷ cs) (d ∷ ds) e = either (c == d) refl (whole_behind cs ds)
 
 -- ---- routes by a URI
 pub by_uri_is : (ask : Text → Text → Request) (path target body : Text)
-    → option_map (λ uri. ask uri body) (option_and_then unescaped (behind path target)) ≡ request_or (behind path target) (λ rest. by_uri ask rest body) None
+    → option_map (λ uri. ask uri body) (option_and_then unescaped_text (behind path target)) ≡ request_or (behind path target) (λ rest. by_uri ask rest body) None
 by_uri_is ask path target body = either (behind path target)
   where
-    either : (o : Option Text) → option_map (λ uri. ask uri body) (option_and_then unescaped o) ≡ request_or o (λ rest. by_uri ask rest body) None
+    either : (o : Option Text) → option_map (λ uri. ask uri body) (option_and_then unescaped_text o) ≡ request_or o (λ rest. by_uri ask rest body) None
     either None = refl
     either (Some rest) = refl
 
@@ -70,7 +70,7 @@ no_batch path target body other = either (behind path target) refl
 
 -- ---- each route
 abbrev found_at : Text → Text → Option Text
-found_at path target = option_and_then unescaped (behind path target)
+found_at path target = option_and_then unescaped_text (behind path target)
 
 pub put_is : (target body : Text) (o : Option Text) → o ≡ found_at (codes "/schemas?uri=") target
     → option_map (λ u. put u body) o ≡ request_by routes (codes "PUT") target body
@@ -95,11 +95,11 @@ pub batch_is : (target body : Text) → target ≡ codes "/batch" → Some (batc
 batch_is target body e = sym (ap (λ t. request_by routes (codes "POST") t body) e)
 
 -- ---- texts without escapes
-pub decoded_is : (text decoded : Text) → decoded ≡ percent_decode text → IsUtf8 (percent_decode text) → Some decoded ≡ unescaped text
+pub decoded_is : (text decoded : Text) → decoded ≡ percent_decode text → IsUtf8 (percent_decode text) → Some decoded ≡ unescaped_text text
 decoded_is text decoded e utf8 =
     ap Some e ∙ sym (ap (λ b. cond b (Some (percent_decode text)) None) (is_utf8-from_IsUtf8 (percent_decode text) utf8))
 
-pub ill_is : (text : Text) → ¬ (IsUtf8 (percent_decode text)) → None ≡ unescaped text
+pub ill_is : (text : Text) → ¬ (IsUtf8 (percent_decode text)) → None ≡ unescaped_text text
 ill_is text ill = sym (either (is_utf8 (percent_decode text)) refl)
   where
     either : (b : Bool) → is_utf8 (percent_decode text) ≡ b → ◌≡◌ {A = Option Text} (cond b (Some (percent_decode text)) None) None

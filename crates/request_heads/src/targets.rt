@@ -1,6 +1,6 @@
 //! Which request a target and a body ask for.
 ghost use Rattle.std.specs.Prelude.{◌≡◌, ◌↔◌, IsTrue, IfOk, IfErr, codes, option_map, option_and_then, string_bytes};
-ghost use Rattle.http_definitions.specs.Routes.{behind, request_by, routes, unescaped};
+ghost use Rattle.http_definitions.specs.Routes.{behind, request_by, routes, unescaped_text};
 ghost use Rattle.requests.specs.Views.{request_view};
 ghost use Rattle.request_heads.specs.Methods.{method_text};
 
@@ -22,7 +22,7 @@ fn behind<'a>(path: &[u8], target: &'a [u8]) -> Option<&'a [u8]>
 
 // The text without its percent escapes; none where it is no UTF-8 then.
 fn unescaped(alloc: Global, text: &[u8]) -> Result<Option<String>, Fault>
-    ensures ok { IfOk result (λ t. option_map string_bytes t ≡ unescaped text.now) }
+    ensures ok { IfOk result (λ t. option_map string_bytes t ≡ unescaped_text text.now) }
     ensures err { IfErr result (λ f. f ≡ Fault.NoRoom) }
 {
     match percent_decode(text).decode_utf8(alloc) {
@@ -36,7 +36,7 @@ fn unescaped(alloc: Global, text: &[u8]) -> Result<Option<String>, Fault>
 fn uri_behind(alloc: Global, path: &[u8], target: &[u8]) -> Result<Option<String>, Fault>
     ensures ok { IfOk result
         (λ uri. option_map string_bytes uri
-        ≡ option_and_then unescaped (behind path.now target.now)) }
+        ≡ option_and_then unescaped_text (behind path.now target.now)) }
     ensures err { IfErr result (λ f. f ≡ Fault.NoRoom) }
 {
     match behind(path, target) {

@@ -2,7 +2,7 @@
 use Rattle.std.specs.Prelude.{Bool, map, string_bytes}
 use Rattle.definitions.specs.Values.{Text}
 use Rattle.definitions.specs.Registries as meaning
-use Rattle.faults.specs.View.{fault}
+use Rattle.faults.specs.View.{fault_view}
 use Rattle.requests.specs.declared.Request.{Request}
 use Rattle.requests.specs.declared.Request.TheVariants.{Put, Delete, Validate, Bundle, Batch}
 use Rattle.requests.specs.declared.StoredEntry.{StoredEntry}
@@ -26,5 +26,5 @@ reply_view (Deleted uri) = meaning.deleted (string_bytes uri)
 reply_view (Output text) = meaning.validated (string_bytes text)
 reply_view (Bundled text) = meaning.bundled (string_bytes text)
 reply_view (StoredAll entries) = meaning.stored_all (map stored_entry_view entries.items)
-reply_view (Refused f) = meaning.refused (fault f)
-reply_view (RefusedAt k f) = meaning.refused_at k (fault f)
+reply_view (Refused f) = meaning.refused (fault_view f)
+reply_view (RefusedAt k f) = meaning.refused_at k (fault_view f)

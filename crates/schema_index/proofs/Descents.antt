@@ -12,7 +12,7 @@ use Rattle.definitions.specs.Pointers.{Pointer}
 use Rattle.definitions.specs.Shapes.{Shape, one_schema, schema_list, schema_map}
 use Rattle.definitions.specs.Keywords.{keywords, shape_in}
 use Rattle.definitions.specs.Schemas.{Schema, below, at_place, subschemas_by, schemas_within}
-use Rattle.definitions.specs.Targets.{pointed}
+use Rattle.definitions.specs.Targets.{schema_at_pointer}
 use Rattle.lemmas.proofs.Texts.{same_text_itself, same_text_is, same_text_differs}
 use Rattle.json_doc.specs.Members.{HasNamesInOrder}
 use Rattle.definition_laws.proofs.Occurrences.{IsIn, contains_from_in, into_map}
@@ -22,7 +22,7 @@ use Rattle.definition_laws.proofs.Roots.{elements_nest, members_nest}
 use Rattle.keywords.specs.Shapes.{shape_view}
 use Rattle.keywords.specs.declared.shape.Shape as asked
 use Rattle.keywords.specs.declared.shape.Shape.TheVariants.{OneSchema, SchemaList, SchemaMap}
-use Rattle.schema_index.specs.Descents.{led, LeadsNowhere, StepsTo, schemas_held, row, name_of, IsHeld}
+use Rattle.schema_index.specs.Descents.{led_schema, LeadsNowhere, StepsTo, schema_shape, row, name_of, IsHeld}
 use Rattle.schema_index.proofs.Lookups.{look, prefixed, keyed, look_keyed-none, look_keyed-some, look_keyed-empty}
 use Rattle.schema_index.proofs.Levels.{within_behind, within_levels}
 
@@ -60,7 +60,7 @@ by_keyword n s (m ∷ ms) =
     ∙ ap₂ (λ ys zs. ys ++ zs) (inner_is n s m.0 m.1 (shape_in keywords m.0)) (by_keyword n s ms)
 
 looked : (k : Text) (rest : Pointer) (s : Schema)
-    → pointed (k ∷ rest) s ≡ look (k ∷ rest) (keyed (λ (m : Text × Value). m.0) (λ m. inner (nesting s.value) s m.0 m.1 (shape_in keywords m.0)) (members s.value))
+    → schema_at_pointer (k ∷ rest) s ≡ look (k ∷ rest) (keyed (λ (m : Text × Value). m.0) (λ m. inner (nesting s.value) s m.0 m.1 (shape_in keywords m.0)) (members s.value))
 looked k rest s = ap (look (k ∷ rest)) (by_keyword (nesting s.value) s (members s.value))
 
 -- ---- the row of a name
@@ -126,13 +126,13 @@ row-no_index t n m (u ∷ us) h k =
 
 -- ---- from a schema to where a keyword of it leads
 at_member : (k : Text) (rest : Pointer) (s : Schema) (v : Value) → HasNamesInOrder (members s.value) → row name_of k (members s.value) ≡ Some (k, v)
-    → pointed (k ∷ rest) s ≡ look rest (inner (nesting s.value) s k v (shape_in keywords k))
+    → schema_at_pointer (k ∷ rest) s ≡ look rest (inner (nesting s.value) s k v (shape_in keywords k))
 at_member k rest s v ordered e =
     looked k rest s
     ∙ look_keyed-some (λ (m : Text × Value). m.0) (λ m. inner (nesting s.value) s m.0 m.1 (shape_in keywords m.0)) k rest (members s.value) (k, v) (names_once (members s.value) ordered) e
 
 further : (rest : Pointer) (s : Schema) (way : Pointer) (u : Value) → nesting u < nesting s.value
-    → look rest (schemas_within keywords (nesting s.value) [] (below s way u)) ≡ pointed rest (below s way u)
+    → look rest (schemas_within keywords (nesting s.value) [] (below s way u)) ≡ schema_at_pointer rest (below s way u)
 further rest s way u h =
     let is : nesting (below s way u).value ≡ nesting u = ap nesting (value-below s way u) in
     ap (look rest) (within_levels keywords (nesting s.value) (suc (nesting (below s way u).value)) [] (below s way u) (omega arith) (omega arith))
@@ -150,13 +150,13 @@ held_nests : (v w : Value) (k : Text) → IsHeld v k w → nesting w < nesting v
 held_nests v w k h = members_nest v k w (row-in name_of k (members v) (k, w) h.found)
 
 at_shape : (k : Text) (rest : Pointer) (s : Schema) (w : Value) (shape : Shape) → IsHeld s.value k w → shape_in keywords k ≡ shape
-    → led (k ∷ rest) s ≡ look rest (inner (nesting s.value) s k w shape)
-unfolding led
+    → led_schema (k ∷ rest) s ≡ look rest (inner (nesting s.value) s k w shape)
+unfolding led_schema
 at_shape k rest s w shape h e = at_member k rest s w h.ordered h.found ∙ ap (λ x. look rest (inner (nesting s.value) s k w x)) e
 
 further_led : (rest : Pointer) (s : Schema) (way : Pointer) (u : Value) → nesting u < nesting s.value
-    → look rest (schemas_within keywords (nesting s.value) [] (below s way u)) ≡ led rest (below s way u)
-unfolding led
+    → look rest (schemas_within keywords (nesting s.value) [] (below s way u)) ≡ led_schema rest (below s way u)
+unfolding led_schema
 further_led rest s way u h = further rest s way u h
 
 held_stands : (s : Schema) (k : Text) (w : Value) (shape : Shape) (rest : Pointer) (part : Value) → IsHeld s.value k w → shape_in keywords k ≡ shape → IsIn (rest, part) (places w shape)
@@ -219,7 +219,7 @@ to_entry k t rest v w u h e at = record {
 
 -- ---- nowhere
 pub from_no_member : (k : Text) (rest : Pointer) (v : Value) → row name_of k (members v) ≡ None → LeadsNowhere (k ∷ rest) v
-unfolding led
+unfolding led_schema
 from_no_member k rest v h s is =
     looked k rest s
     ∙ look_keyed-none (λ (m : Text × Value). m.0) (λ m. inner (nesting s.value) s m.0 m.1 (shape_in keywords m.0)) k rest (members s.value) (ap (λ x. row name_of k (members x)) is ∙ h)
@@ -245,10 +245,10 @@ from_map_itself k v w h e s is =
     at_shape k [] s w schema_map (held_in v s.value w k is h) e
     ∙ look_keyed-empty (λ (x : Text × Value). x.0) (λ x. schemas_within keywords (nesting s.value) [] (below s (k ∷ x.0 ∷ []) x.1)) (members w)
 
-pub from_other : (k : Text) (rest : Pointer) (v w : Value) → IsHeld v k w → schemas_held (shape_in keywords k) ≡ None → LeadsNowhere (k ∷ rest) v
+pub from_other : (k : Text) (rest : Pointer) (v w : Value) → IsHeld v k w → schema_shape (shape_in keywords k) ≡ None → LeadsNowhere (k ∷ rest) v
 from_other k rest v w h e s is = at_shape k rest s w (shape_in keywords k) (held_in v s.value w k is h) refl ∙ by (shape_in keywords k) e
   where
-    by : (shape : Shape) → schemas_held shape ≡ None → look rest (inner (nesting s.value) s k w shape) ≡ None
+    by : (shape : Shape) → schema_shape shape ≡ None → look rest (inner (nesting s.value) s k w shape) ≡ None
     by one_schema f = cc
     by schema_list f = cc
     by schema_map f = cc
@@ -265,14 +265,14 @@ from_no_map k rest v w h e none s is =
     at_shape k rest s w schema_map (held_in v s.value w k is h) e
     ∙ ap (λ xs. look rest (keyed (λ (x : Text × Value). x.0) (λ x. schemas_within keywords (nesting s.value) [] (below s (k ∷ x.0 ∷ []) x.1)) xs)) none
 
-pub holds_none : (s : asked.Shape) → (s ≡ OneSchema → ⊥) → (s ≡ SchemaList → ⊥) → (s ≡ SchemaMap → ⊥) → schemas_held (shape_view s) ≡ None
+pub holds_none : (s : asked.Shape) → (s ≡ OneSchema → ⊥) → (s ≡ SchemaList → ⊥) → (s ≡ SchemaMap → ⊥) → schema_shape (shape_view s) ≡ None
 holds_none OneSchema one all each = absurd (one refl)
 holds_none SchemaList one all each = absurd (all refl)
 holds_none SchemaMap one all each = absurd (each refl)
 holds_none _ one all each = refl
 
-pub led_here : (s : Schema) → led [] s ≡ Some s
-unfolding led
+pub led_here : (s : Schema) → led_schema [] s ≡ Some s
+unfolding led_schema
 led_here s = refl
 
 pub shorter : {A B : Type 0} (f : A → Text) (g : B → Text) (k t : Text) (ts : Pointer) (xs : List A) (ys : List B) → k ∷ map f xs ≡ (t ∷ ts) ++ map g ys → length ys ≤ length xs

@@ -5,7 +5,7 @@ use Rattle.std.specs.List.{slice_get}
 use Rattle.definitions.specs.Values.{Text, Value, null, boolean, integer, string, array, object, elements, members}
 use Rattle.json_doc.specs.Docs.{value}
 use Rattle.json_doc.specs.Kinds.{as_elements, as_members}
-use Rattle.json_doc.specs.Members.{member_shown, HasNamesInOrder}
+use Rattle.json_doc.specs.Members.{member_view, HasNamesInOrder}
 use Rattle.json_doc.specs.declared.doc.Doc.{Doc}
 use Rattle.schema_index.specs.Descents.{row, name_of, IsHeld}
 use Rattle.schema_index.proofs.Descents.{row-key}
@@ -47,10 +47,10 @@ element_of w items i d is h e =
     ap (λ vs. slice_get vs i) is ∙ slice_get-map value items i ∙ ap (option_map value) (slice_get-get_or items i d h) ∙ ap (λ y. Some (value y)) (sym e)
 
 pub held : (v : Value) (name : Text) (ms : List (Text × Value)) (m : Bor Text × Bor Doc) → as_members v ≡ Some ms → HasNamesInOrder ms
-    → Some (member_shown m) ≡ row name_of name ms → (name ≡ m.0.now) × IsHeld v name (value m.1.now)
+    → Some (member_view m) ≡ row name_of name ms → (name ≡ m.0.now) × IsHeld v name (value m.1.now)
 held v name ms m e ordered found =
     let is : members v ≡ ms = members_some v ms e in
-    let key : name ≡ m.0.now = row-key name_of name ms (member_shown m) (sym found) in (
+    let key : name ≡ m.0.now = row-key name_of name ms (member_view m) (sym found) in (
       key,
       record {
         ordered = subst HasNamesInOrder (sym is) ordered;

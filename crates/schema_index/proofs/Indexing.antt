@@ -6,10 +6,10 @@ use Rattle.definitions.specs.Values.{Text, Value, null, boolean, integer, string
 use Rattle.definitions.specs.Schemas.{Schema, document_from, schemas_of, references}
 use Rattle.definitions.specs.Scanning.{resource_uris}
 use Rattle.definitions.specs.Reach.{holds_resource, references_in}
-use Rattle.definitions.specs.Targets.{resource_root, anchored, dynamically_anchored}
+use Rattle.definitions.specs.Targets.{resource_root, schema_with_anchor, schema_with_dynamic_anchor}
 use Rattle.schema_index.specs.Spots.{Spot, spot_in, at_root, spots, resource_of, start_of}
 use Rattle.schema_index.specs.Gathering.{marks, root_uris, root_ways, spot_references}
-use Rattle.schema_index.specs.Lookups.{has_dynamic_mark, has_mark, marked, root_numbered}
+use Rattle.schema_index.specs.Lookups.{has_dynamic_mark, has_mark, marked_schema, numbered_root}
 use Rattle.schema_index.proofs.Following.{AreFollowed, spots-followed}
 use Rattle.schema_index.proofs.Standing.{schema-spot, schemas_of-spots}
 use Rattle.schema_index.proofs.Tables.{uris-of, references-of, root-by_number, uri-held, anchored-by_mark, dynamically-by_mark}
@@ -56,13 +56,13 @@ module _ (base : Text) (v : Value) where
     followed = spots-followed v [] 0 base v formed refl
 
     pub document-root : (uri : Text)
-        → option_and_then (root_numbered (root_uris (standing base v)) (root_ways (standing base v)) v) (position_from (same_text uri) 0 (root_uris (standing base v))) ≡ resource_root (schemas_of base v) uri
+        → option_and_then (numbered_root (root_uris (standing base v)) (root_ways (standing base v)) v) (position_from (same_text uri) 0 (root_uris (standing base v))) ≡ resource_root (schemas_of base v) uri
     document-root uri = root-by_number uri v (standing base v) followed ∙ ap (λ ss. resource_root ss uri) (sym (schemas_of-spots base v))
 
     pub document-anchored : (uri name : Text)
-        → option_and_then (marked v) (find (has_mark uri name) (flat_map marks (standing base v))) ≡ anchored (schemas_of base v) uri name
-    document-anchored uri name = anchored-by_mark v uri name (standing base v) followed ∙ ap (λ ss. anchored ss uri name) (sym (schemas_of-spots base v))
+        → option_and_then (marked_schema v) (find (has_mark uri name) (flat_map marks (standing base v))) ≡ schema_with_anchor (schemas_of base v) uri name
+    document-anchored uri name = anchored-by_mark v uri name (standing base v) followed ∙ ap (λ ss. schema_with_anchor ss uri name) (sym (schemas_of-spots base v))
 
     pub document-dynamically_anchored : (uri name : Text)
-        → option_and_then (marked v) (find (has_dynamic_mark uri name) (flat_map marks (standing base v))) ≡ dynamically_anchored (schemas_of base v) uri name
-    document-dynamically_anchored uri name = dynamically-by_mark v uri name (standing base v) followed ∙ ap (λ ss. dynamically_anchored ss uri name) (sym (schemas_of-spots base v))
+        → option_and_then (marked_schema v) (find (has_dynamic_mark uri name) (flat_map marks (standing base v))) ≡ schema_with_dynamic_anchor (schemas_of base v) uri name
+    document-dynamically_anchored uri name = dynamically-by_mark v uri name (standing base v) followed ∙ ap (λ ss. schema_with_dynamic_anchor ss uri name) (sym (schemas_of-spots base v))

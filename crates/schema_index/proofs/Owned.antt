@@ -4,11 +4,11 @@ use Rattle.std.specs.List.{find, position_from, slice_get}
 use Rattle.definitions.specs.Values.{Text, same_text}
 use Rattle.definitions.specs.Reach.{holds_resource, references_in}
 use Rattle.definitions.specs.Scanning.{resource_uris}
-use Rattle.definitions.specs.Targets.{resource_root, anchored, dynamically_anchored}
+use Rattle.definitions.specs.Targets.{resource_root, schema_with_anchor, schema_with_dynamic_anchor}
 use Rattle.json_doc.specs.Docs.{value}
 use Rattle.schema_index.specs.Gathering.{gathered_marks, gathered_references, gathered_uris, gathered_ways}
-use Rattle.schema_index.specs.IndexedDocuments.{indexed_base, indexed_value, indexed_schemas, indexed_document}
-use Rattle.schema_index.specs.Lookups.{has_dynamic_mark, has_mark, marked, root_numbered}
+use Rattle.schema_index.specs.IndexedDocuments.{indexed_base, indexed_value, indexed_schemas, indexed_view}
+use Rattle.schema_index.specs.Lookups.{has_dynamic_mark, has_mark, marked_schema, numbered_root}
 use Rattle.schema_index.specs.declared.indexed.Indexed.{Indexed}
 use Rattle.schema_index.proofs.Indexing.{document-anchored, document-canonical, document-dynamically_anchored, document-held, document-references, document-root, document-uris}
 use Rattle.schema_index.proofs.Tables.{uri-by_number, uri-found}
@@ -17,38 +17,38 @@ pub owned-uris : (d : Indexed) → gathered_uris d.gathered ≡ resource_uris (i
 unfolding indexed_base indexed_value
 owned-uris d = d.of_document.uris ∙ sym (document-uris (string_bytes d.base) (value d.document))
 
-pub owned-references : (d : Indexed) → gathered_references d.gathered ≡ references_in (indexed_document d)
+pub owned-references : (d : Indexed) → gathered_references d.gathered ≡ references_in (indexed_view d)
 unfolding indexed_base indexed_value
 owned-references d = d.of_document.references ∙ sym (document-references (string_bytes d.base) (value d.document))
 
-pub owned-canonical : (d : Indexed) → slice_get (gathered_uris d.gathered) 0 ≡ Some (indexed_document d).canonical
+pub owned-canonical : (d : Indexed) → slice_get (gathered_uris d.gathered) 0 ≡ Some (indexed_view d).canonical
 unfolding indexed_base indexed_value
 owned-canonical d = ap (λ us. slice_get us 0) d.of_document.uris ∙ document-canonical (string_bytes d.base) (value d.document)
 
-owned-held : (d : Indexed) (uri : Text) → is_some (find (same_text uri) (gathered_uris d.gathered)) ≡ holds_resource uri (indexed_document d)
+owned-held : (d : Indexed) (uri : Text) → is_some (find (same_text uri) (gathered_uris d.gathered)) ≡ holds_resource uri (indexed_view d)
 unfolding indexed_base indexed_value
 owned-held d uri = ap (λ us. is_some (find (same_text uri) us)) d.of_document.uris ∙ sym (document-held (string_bytes d.base) (value d.document) uri)
 
 pub owned-root : (d : Indexed) (uri : Text)
-    → option_and_then (root_numbered (gathered_uris d.gathered) (gathered_ways d.gathered) (value d.document)) (position_from (same_text uri) 0 (gathered_uris d.gathered))
+    → option_and_then (numbered_root (gathered_uris d.gathered) (gathered_ways d.gathered) (value d.document)) (position_from (same_text uri) 0 (gathered_uris d.gathered))
     ≡ resource_root (indexed_schemas d) uri
 unfolding indexed_base indexed_value
 owned-root d uri =
-    ap₂ (λ us ws. option_and_then (root_numbered us ws (value d.document)) (position_from (same_text uri) 0 us)) d.of_document.uris d.of_document.ways
+    ap₂ (λ us ws. option_and_then (numbered_root us ws (value d.document)) (position_from (same_text uri) 0 us)) d.of_document.uris d.of_document.ways
     ∙ document-root (string_bytes d.base) (value d.document) d.well_formed uri
 
 pub owned-anchored : (d : Indexed) (uri name : Text)
-    → option_and_then (marked (value d.document)) (find (has_mark uri name) (gathered_marks d.gathered)) ≡ anchored (indexed_schemas d) uri name
+    → option_and_then (marked_schema (value d.document)) (find (has_mark uri name) (gathered_marks d.gathered)) ≡ schema_with_anchor (indexed_schemas d) uri name
 unfolding indexed_base indexed_value
 owned-anchored d uri name =
-    ap (λ ms. option_and_then (marked (value d.document)) (find (has_mark uri name) ms)) d.of_document.marks
+    ap (λ ms. option_and_then (marked_schema (value d.document)) (find (has_mark uri name) ms)) d.of_document.marks
     ∙ document-anchored (string_bytes d.base) (value d.document) d.well_formed uri name
 
 pub owned-dynamically_anchored : (d : Indexed) (uri name : Text)
-    → option_and_then (marked (value d.document)) (find (has_dynamic_mark uri name) (gathered_marks d.gathered)) ≡ dynamically_anchored (indexed_schemas d) uri name
+    → option_and_then (marked_schema (value d.document)) (find (has_dynamic_mark uri name) (gathered_marks d.gathered)) ≡ schema_with_dynamic_anchor (indexed_schemas d) uri name
 unfolding indexed_base indexed_value
 owned-dynamically_anchored d uri name =
-    ap (λ ms. option_and_then (marked (value d.document)) (find (has_dynamic_mark uri name) ms)) d.of_document.marks
+    ap (λ ms. option_and_then (marked_schema (value d.document)) (find (has_dynamic_mark uri name) ms)) d.of_document.marks
     ∙ document-dynamically_anchored (string_bytes d.base) (value d.document) d.well_formed uri name
 
 -- ---- a URI among the resources'
@@ -60,7 +60,7 @@ borrowed-there : (r : Option (Bor Text)) → is_some r ≡ is_some (option_map (
 borrowed-there None = refl
 borrowed-there (Some u) = refl
 
-pub held-uri : (d : Indexed) (uri : Text) (r : Option (Bor Text)) → option_map (λ (u : Bor Text). u.now) r ≡ find (same_text uri) (gathered_uris d.gathered) → is_some r ≡ holds_resource uri (indexed_document d)
+pub held-uri : (d : Indexed) (uri : Text) (r : Option (Bor Text)) → option_map (λ (u : Bor Text). u.now) r ≡ find (same_text uri) (gathered_uris d.gathered) → is_some r ≡ holds_resource uri (indexed_view d)
 held-uri d uri r e = borrowed-there r ∙ ap is_some e ∙ owned-held d uri
 
 pub uri-at : (uri : Text) (us : List Text) (n : Option ℕ) → n ≡ position_from (same_text uri) 0 us → option_and_then (slice_get us) n ≡ find (same_text uri) us

@@ -4,9 +4,9 @@ use Rattle.std.specs.List.{Contains}
 use Rattle.definitions.specs.Values.{Text, Value, nesting, same_text, text_at}
 use Rattle.definitions.specs.Pointers.{Pointer}
 use Rattle.definitions.specs.Uris.{without_fragment}
-use Rattle.definitions.specs.Resolution.{resolved}
+use Rattle.definitions.specs.Resolution.{target_uri}
 use Rattle.definitions.specs.Keywords.{keywords}
-use Rattle.definitions.specs.Schemas.{Schema, schema_at, below, opened, subschemas_by, schemas_from, schemas_of, is_root}
+use Rattle.definitions.specs.Schemas.{Schema, schema_at, below, opened_schema, subschemas_by, schemas_from, schemas_of, is_root}
 use Rattle.definitions.specs.Targets.{resource_root}
 use Rattle.lemmas.proofs.Texts.{same_text_itself}
 use Rattle.definition_laws.proofs.Occurrences.{in_from_contains, contains_from_in, in_map, into_map, found_somewhere}
@@ -29,9 +29,9 @@ root_held table s c e =
 
 -- ---- the schema below, by its `$id`
 pub below-opened : (s : Schema) (way : Pointer) (v : Value) (id : Text) → text_at (codes "$id") v ≡ Some id
-    → below s way v ≡ record { resource = without_fragment (resolved s.resource id); pointer = []; value = v }
-below-opened s way v id e = ap (opened s.resource (s.pointer ++ way) v) e
+    → below s way v ≡ record { resource = without_fragment (target_uri s.resource id); pointer = []; value = v }
+below-opened s way v id e = ap (opened_schema s.resource (s.pointer ++ way) v) e
 
 pub below-inside : (s : Schema) (way : Pointer) (v : Value) → text_at (codes "$id") v ≡ None
     → below s way v ≡ record { resource = s.resource; pointer = s.pointer ++ way; value = v }
-below-inside s way v e = ap (opened s.resource (s.pointer ++ way) v) e
+below-inside s way v e = ap (opened_schema s.resource (s.pointer ++ way) v) e

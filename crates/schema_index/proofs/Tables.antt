@@ -8,42 +8,42 @@ use Rattle.definitions.specs.Values.{Text, Value, same_text, text_at}
 use Rattle.definitions.specs.Schemas.{Schema, is_root, references}
 use Rattle.definitions.specs.Lists.{option_list}
 use Rattle.definitions.specs.Scanning.{resource_uris}
-use Rattle.definitions.specs.Targets.{resource_root, is_anchor, is_dynamic_anchor, anchored, dynamically_anchored}
+use Rattle.definitions.specs.Targets.{resource_root, is_anchor, is_dynamic_anchor, schema_with_anchor, schema_with_dynamic_anchor}
 use Rattle.schema_index.specs.Hops.{Hop, hop_token, hop_tokens}
-use Rattle.schema_index.specs.Spots.{Spot, at_root, spot_schema}
+use Rattle.schema_index.specs.Spots.{Spot, at_root, spot_view}
 use Rattle.schema_index.specs.Gathering.{Mark, mark, marks, marks_under, references_at, root_uris, root_ways, spot_references}
-use Rattle.schema_index.specs.Lookups.{has_dynamic_mark, has_mark, marked, root_at, root_numbered, rooted}
+use Rattle.schema_index.specs.Lookups.{has_dynamic_mark, has_mark, marked_schema, numbered_root, root_at, root_schema}
 use Rattle.schema_index.proofs.Following.{AreFollowed, IsFollowed}
 
 -- ---- roots
 same-tests : (m n : ℕ) → (m - n == 0) ≡ nat_le m n
 same-tests m n = grind (arith, nat_tests)
 
-pub is_root-spot : (s : Spot) → is_root (spot_schema s) ≡ at_root s
+pub is_root-spot : (s : Spot) → is_root (spot_view s) ≡ at_root s
 is_root-spot s =
     ap (λ n. n == 0) (length-map (drop s.start s.way) hop_token ∙ length-drop s.start s.way) ∙ same-tests (length s.way) s.start
 
-roots-of : (ss : List Spot) → filter is_root (map spot_schema ss) ≡ map spot_schema (filter at_root ss)
+roots-of : (ss : List Spot) → filter is_root (map spot_view ss) ≡ map spot_view (filter at_root ss)
 roots-of [] = refl
-roots-of (s ∷ ss) = ap (λ b. cond b (spot_schema s ∷ filter is_root (map spot_schema ss)) (filter is_root (map spot_schema ss))) (is_root-spot s) ∙ by (at_root s) (roots-of ss)
+roots-of (s ∷ ss) = ap (λ b. cond b (spot_view s ∷ filter is_root (map spot_view ss)) (filter is_root (map spot_view ss))) (is_root-spot s) ∙ by (at_root s) (roots-of ss)
   where
-    by : (b : Bool) → filter is_root (map spot_schema ss) ≡ map spot_schema (filter at_root ss)
-        → cond b (spot_schema s ∷ filter is_root (map spot_schema ss)) (filter is_root (map spot_schema ss)) ≡ map spot_schema (cond b (s ∷ filter at_root ss) (filter at_root ss))
-    by true e = ap (λ ts. spot_schema s ∷ ts) e
+    by : (b : Bool) → filter is_root (map spot_view ss) ≡ map spot_view (filter at_root ss)
+        → cond b (spot_view s ∷ filter is_root (map spot_view ss)) (filter is_root (map spot_view ss)) ≡ map spot_view (cond b (s ∷ filter at_root ss) (filter at_root ss))
+    by true e = ap (λ ts. spot_view s ∷ ts) e
     by false e = e
 
-resources-of : (ss : List Spot) → map (λ (t : Schema). t.resource) (map spot_schema ss) ≡ map (λ (s : Spot). s.resource) ss
+resources-of : (ss : List Spot) → map (λ (t : Schema). t.resource) (map spot_view ss) ≡ map (λ (s : Spot). s.resource) ss
 resources-of [] = refl
 resources-of (s ∷ ss) = ap (λ us. s.resource ∷ us) (resources-of ss)
 
-pub uris-of : (ss : List Spot) → root_uris ss ≡ resource_uris (map spot_schema ss)
+pub uris-of : (ss : List Spot) → root_uris ss ≡ resource_uris (map spot_view ss)
 uris-of ss = sym (ap (map (λ (t : Schema). t.resource)) (roots-of ss) ∙ resources-of (filter at_root ss))
 
 -- ---- references
-pub references-of : (ss : List Spot) → flat_map spot_references ss ≡ flat_map references (map spot_schema ss)
+pub references-of : (ss : List Spot) → flat_map spot_references ss ≡ flat_map references (map spot_view ss)
 unfolding references_at
 references-of [] = refl
-references-of (s ∷ ss) = ap (λ us. references (spot_schema s) ++ us) (references-of ss)
+references-of (s ∷ ss) = ap (λ us. references (spot_view s) ++ us) (references-of ss)
 
 -- ---- the root with a URI
 root-pointer : (s : Spot) → at_root s ≡ true → drop s.start s.way ≡ []
@@ -52,9 +52,9 @@ root-pointer s e = drop_all s.start s.way (grind (arith, nat_tests))
 abbrev schema_with : Text → Value → List Hop → Schema
 schema_with uri v hops = record { resource = uri; pointer = hop_tokens hops; value = v }
 
-root-at : (root : Value) (s : Spot) → at_root s ≡ true → IsFollowed root s → root_at s.resource s.way root ≡ Some (spot_schema s)
+root-at : (root : Value) (s : Spot) → at_root s ≡ true → IsFollowed root s → root_at s.resource s.way root ≡ Some (spot_view s)
 unfolding root_at
-root-at root s e f = ap (option_map (rooted s.resource)) f ∙ ap (λ hops. Some (schema_with s.resource s.value hops)) (sym (root-pointer s e))
+root-at root s e f = ap (option_map (root_schema s.resource)) f ∙ ap (λ hops. Some (schema_with s.resource s.value hops)) (sym (root-pointer s e))
 
 module _ (uri : Text) (root : Value) where
   -- the first of these roots with the URI
@@ -66,24 +66,24 @@ module _ (uri : Text) (root : Value) where
   abbrev IsNamed : Schema → Bool
   IsNamed t = same_text uri t.resource && is_root t
 
-  pub root-named : (ss : List Spot) → AreFollowed root ss → root_named (root_uris ss) (root_ways ss) ≡ resource_root (map spot_schema ss) uri
+  pub root-named : (ss : List Spot) → AreFollowed root ss → root_named (root_uris ss) (root_ways ss) ≡ resource_root (map spot_view ss) uri
   root-named [] f = refl
   root-named (s ∷ ss) f =
       by (at_root s) refl (root-named ss f.1)
-      ∙ sym (ap (λ b. cond (same_text uri s.resource && b) (Some (spot_schema s)) (resource_root (map spot_schema ss) uri)) (is_root-spot s))
+      ∙ sym (ap (λ b. cond (same_text uri s.resource && b) (Some (spot_view s)) (resource_root (map spot_view ss) uri)) (is_root-spot s))
     where
-      hit : (u : Bool) (r t : Option Schema) → root_at s.resource s.way root ≡ Some (spot_schema s) → r ≡ t
-          → cond u (root_at s.resource s.way root) r ≡ cond (u && true) (Some (spot_schema s)) t
+      hit : (u : Bool) (r t : Option Schema) → root_at s.resource s.way root ≡ Some (spot_view s) → r ≡ t
+          → cond u (root_at s.resource s.way root) r ≡ cond (u && true) (Some (spot_view s)) t
       hit true r t e g = e
       hit false r t e g = g
 
-      miss : (u : Bool) (r t : Option Schema) → r ≡ t → r ≡ cond (u && false) (Some (spot_schema s)) t
+      miss : (u : Bool) (r t : Option Schema) → r ≡ t → r ≡ cond (u && false) (Some (spot_view s)) t
       miss true r t g = g
       miss false r t g = g
 
-      by : (b : Bool) → at_root s ≡ b → root_named (root_uris ss) (root_ways ss) ≡ resource_root (map spot_schema ss) uri
+      by : (b : Bool) → at_root s ≡ b → root_named (root_uris ss) (root_ways ss) ≡ resource_root (map spot_view ss) uri
           → root_named (map (λ (t : Spot). t.resource) (cond b (s ∷ filter at_root ss) (filter at_root ss))) (map (λ (t : Spot). t.way) (cond b (s ∷ filter at_root ss) (filter at_root ss)))
-          ≡ cond (same_text uri s.resource && b) (Some (spot_schema s)) (resource_root (map spot_schema ss) uri)
+          ≡ cond (same_text uri s.resource && b) (Some (spot_view s)) (resource_root (map spot_view ss) uri)
       by true e g = hit (same_text uri s.resource) _ _ (root-at root s e f.0) g
       by false e g = miss (same_text uri s.resource) _ _ g
 
@@ -96,10 +96,10 @@ module _ (uri : Text) (root : Value) where
 
   abbrev Found : ℕ → Option ℕ → Option Schema → List Text → List (List Hop) → Type 0
   Found k at_number named us ws =
-      ((at_number ≡ None) × (named ≡ None)) ⊎ ((j : ℕ) × (at_number ≡ Some (k + j)) × (named ≡ root_numbered us ws root j))
+      ((at_number ≡ None) × (named ≡ None)) ⊎ ((j : ℕ) × (at_number ≡ Some (k + j)) × (named ≡ numbered_root us ws root j))
 
   found : (k : ℕ) (rs : List Spot) → Found k (position_from (same_text uri) k (named_by rs)) (root_named (named_by rs) (ways_to rs)) (named_by rs) (ways_to rs)
-  unfolding root_numbered
+  unfolding numbered_root
   found k [] = inl (refl, refl)
   found k (s ∷ rs) = by (same_text uri s.resource) _ _ (found (k + 1) rs)
     where
@@ -109,14 +109,14 @@ module _ (uri : Text) (root : Value) where
       by false o t (inl f) = inl f
       by false o t (inr f) = inr (suc f.0, f.1 ∙ ap Some (omega arith), f.2)
 
-  by-number : (rs : List Spot) → option_and_then (root_numbered (named_by rs) (ways_to rs) root) (position_from (same_text uri) 0 (named_by rs)) ≡ root_named (named_by rs) (ways_to rs)
+  by-number : (rs : List Spot) → option_and_then (numbered_root (named_by rs) (ways_to rs) root) (position_from (same_text uri) 0 (named_by rs)) ≡ root_named (named_by rs) (ways_to rs)
   by-number rs = elim (found 0 rs) [
-    | inl f ↦ ap (option_and_then (root_numbered (named_by rs) (ways_to rs) root)) f.0 ∙ sym f.1
-    | inr f ↦ ap (option_and_then (root_numbered (named_by rs) (ways_to rs) root)) (f.1 ∙ ap Some (omega arith)) ∙ sym f.2
+    | inl f ↦ ap (option_and_then (numbered_root (named_by rs) (ways_to rs) root)) f.0 ∙ sym f.1
+    | inr f ↦ ap (option_and_then (numbered_root (named_by rs) (ways_to rs) root)) (f.1 ∙ ap Some (omega arith)) ∙ sym f.2
   ]
 
   pub root-by_number : (ss : List Spot) → AreFollowed root ss
-      → option_and_then (root_numbered (root_uris ss) (root_ways ss) root) (position_from (same_text uri) 0 (root_uris ss)) ≡ resource_root (map spot_schema ss) uri
+      → option_and_then (numbered_root (root_uris ss) (root_ways ss) root) (position_from (same_text uri) 0 (root_uris ss)) ≡ resource_root (map spot_view ss) uri
   root-by_number ss f = by-number (filter at_root ss) ∙ root-named ss f
 
 -- ---- a URI among others
@@ -147,54 +147,54 @@ module _ (uri : Text) where
       by true t more f = let same : w ≡ u = cc in sym same ∙ sym ((bytes_eq-Decides uri w).0 t)
       by false t more f = more f
 
-  pub uri-held : (ss : List Spot) → is_some (find (same_text uri) (root_uris ss)) ≡ is_some (resource_root (map spot_schema ss) uri)
+  pub uri-held : (ss : List Spot) → is_some (find (same_text uri) (root_uris ss)) ≡ is_some (resource_root (map spot_view ss) uri)
   uri-held [] = refl
   uri-held (s ∷ ss) =
       by (at_root s) (same_text uri s.resource) (uri-held ss)
-      ∙ sym (ap (λ b. is_some (cond (same_text uri s.resource && b) (Some (spot_schema s)) (resource_root (map spot_schema ss) uri))) (is_root-spot s))
+      ∙ sym (ap (λ b. is_some (cond (same_text uri s.resource && b) (Some (spot_view s)) (resource_root (map spot_view ss) uri))) (is_root-spot s))
     where
-      hit : (u : Bool) (r : Option Text) (t : Option Schema) → is_some r ≡ is_some t → is_some (cond u (Some s.resource) r) ≡ is_some (cond (u && true) (Some (spot_schema s)) t)
+      hit : (u : Bool) (r : Option Text) (t : Option Schema) → is_some r ≡ is_some t → is_some (cond u (Some s.resource) r) ≡ is_some (cond (u && true) (Some (spot_view s)) t)
       hit true r t g = refl
       hit false r t g = g
 
-      miss : (u : Bool) (r : Option Text) (t : Option Schema) → is_some r ≡ is_some t → is_some r ≡ is_some (cond (u && false) (Some (spot_schema s)) t)
+      miss : (u : Bool) (r : Option Text) (t : Option Schema) → is_some r ≡ is_some t → is_some r ≡ is_some (cond (u && false) (Some (spot_view s)) t)
       miss true r t g = g
       miss false r t g = g
 
-      by : (b u : Bool) → is_some (find (same_text uri) (root_uris ss)) ≡ is_some (resource_root (map spot_schema ss) uri)
+      by : (b u : Bool) → is_some (find (same_text uri) (root_uris ss)) ≡ is_some (resource_root (map spot_view ss) uri)
           → is_some (find (same_text uri) (map (λ (t : Spot). t.resource) (cond b (s ∷ filter at_root ss) (filter at_root ss))))
-          ≡ is_some (cond (same_text uri s.resource && b) (Some (spot_schema s)) (resource_root (map spot_schema ss) uri))
+          ≡ is_some (cond (same_text uri s.resource && b) (Some (spot_view s)) (resource_root (map spot_view ss) uri))
       by true u g = hit (same_text uri s.resource) _ _ g
       by false u g = miss (same_text uri s.resource) _ _ g
 
 -- ---- anchors
 module _ (root : Value) (uri name : Text) where
   abbrev found_mark : (Mark → Bool) → List Mark → Option Schema
-  found_mark fits ms = option_and_then (marked root) (find fits ms)
+  found_mark fits ms = option_and_then (marked_schema root) (find fits ms)
 
   abbrev tested : Option Text → Bool
   tested o = unwrap_or (option_map (same_text name) o) false
 
-  marked-spot : (s : Spot) (b : Bool) (n : Text) → IsFollowed root s → marked root (mark b s n) ≡ Some (spot_schema s)
-  unfolding marked
+  marked-spot : (s : Spot) (b : Bool) (n : Text) → IsFollowed root s → marked_schema root (mark b s n) ≡ Some (spot_view s)
+  unfolding marked_schema
   marked-spot s b n f = ap (option_map (λ v. record { resource = s.resource; pointer = hop_tokens (drop s.start s.way); value = v })) f
 
   module _ (s : Spot) (followed : IsFollowed root s) where
-    hit-mark : (b : Bool) (n : Text) (t : Bool) (ms : Option Mark) → option_and_then (marked root) (cond t (Some (mark b s n)) ms) ≡ cond t (Some (spot_schema s)) (option_and_then (marked root) ms)
+    hit-mark : (b : Bool) (n : Text) (t : Bool) (ms : Option Mark) → option_and_then (marked_schema root) (cond t (Some (mark b s n)) ms) ≡ cond t (Some (spot_view s)) (option_and_then (marked_schema root) ms)
     hit-mark b n true ms = marked-spot s b n followed
     hit-mark b n false ms = refl
 
-    never : (u : Bool) (t : Option Schema) → t ≡ cond (u && false) (Some (spot_schema s)) t
+    never : (u : Bool) (t : Option Schema) → t ≡ cond (u && false) (Some (spot_view s)) t
     never true t = refl
     never false t = refl
 
     one-mark : (b : Bool) (o : Option Text) (rest : List Mark)
-        → found_mark (has_mark uri name) (map (mark b s) (option_list o) ++ rest) ≡ cond (same_text uri s.resource && tested o) (Some (spot_schema s)) (found_mark (has_mark uri name) rest)
+        → found_mark (has_mark uri name) (map (mark b s) (option_list o) ++ rest) ≡ cond (same_text uri s.resource && tested o) (Some (spot_view s)) (found_mark (has_mark uri name) rest)
     one-mark b None rest = never (same_text uri s.resource) _
     one-mark b (Some n) rest = hit-mark b n (same_text uri s.resource && same_text name n) (find (has_mark uri name) rest)
 
     one-dynamic : (o : Option Text) (rest : List Mark)
-        → found_mark (has_dynamic_mark uri name) (map (mark true s) (option_list o) ++ rest) ≡ cond (same_text uri s.resource && tested o) (Some (spot_schema s)) (found_mark (has_dynamic_mark uri name) rest)
+        → found_mark (has_dynamic_mark uri name) (map (mark true s) (option_list o) ++ rest) ≡ cond (same_text uri s.resource && tested o) (Some (spot_view s)) (found_mark (has_dynamic_mark uri name) rest)
     one-dynamic None rest = never (same_text uri s.resource) _
     one-dynamic (Some n) rest = hit-mark true n (same_text uri s.resource && same_text name n) (find (has_dynamic_mark uri name) rest)
 
@@ -202,34 +202,34 @@ module _ (root : Value) (uri name : Text) where
     no-dynamic None rest = refl
     no-dynamic (Some n) rest = refl
 
-    either : (u a d : Bool) (t : Option Schema) → cond (u && a) (Some (spot_schema s)) (cond (u && d) (Some (spot_schema s)) t) ≡ cond (u && (a || d)) (Some (spot_schema s)) t
+    either : (u a d : Bool) (t : Option Schema) → cond (u && a) (Some (spot_view s)) (cond (u && d) (Some (spot_view s)) t) ≡ cond (u && (a || d)) (Some (spot_view s)) t
     either true true d t = refl
     either true false d t = refl
     either false a d t = refl
 
-    all-marks : (rest : List Mark) → found_mark (has_mark uri name) (marks s ++ rest) ≡ cond (same_text uri s.resource && is_anchor name (spot_schema s)) (Some (spot_schema s)) (found_mark (has_mark uri name) rest)
+    all-marks : (rest : List Mark) → found_mark (has_mark uri name) (marks s ++ rest) ≡ cond (same_text uri s.resource && is_anchor name (spot_view s)) (Some (spot_view s)) (found_mark (has_mark uri name) rest)
     unfolding marks
     all-marks rest =
         ap (found_mark (has_mark uri name)) (append_assoc (marks_under (codes "$anchor") false s) (marks_under (codes "$dynamicAnchor") true s) rest)
         ∙ one-mark false (text_at (codes "$anchor") s.value) (marks_under (codes "$dynamicAnchor") true s ++ rest)
-        ∙ ap (λ t. cond (same_text uri s.resource && tested (text_at (codes "$anchor") s.value)) (Some (spot_schema s)) t) (one-mark true (text_at (codes "$dynamicAnchor") s.value) rest)
+        ∙ ap (λ t. cond (same_text uri s.resource && tested (text_at (codes "$anchor") s.value)) (Some (spot_view s)) t) (one-mark true (text_at (codes "$dynamicAnchor") s.value) rest)
         ∙ either (same_text uri s.resource) (tested (text_at (codes "$anchor") s.value)) (tested (text_at (codes "$dynamicAnchor") s.value)) (found_mark (has_mark uri name) rest)
 
-    dynamic-marks : (rest : List Mark) → found_mark (has_dynamic_mark uri name) (marks s ++ rest) ≡ cond (same_text uri s.resource && is_dynamic_anchor name (spot_schema s)) (Some (spot_schema s)) (found_mark (has_dynamic_mark uri name) rest)
+    dynamic-marks : (rest : List Mark) → found_mark (has_dynamic_mark uri name) (marks s ++ rest) ≡ cond (same_text uri s.resource && is_dynamic_anchor name (spot_view s)) (Some (spot_view s)) (found_mark (has_dynamic_mark uri name) rest)
     unfolding marks
     dynamic-marks rest =
         ap (found_mark (has_dynamic_mark uri name)) (append_assoc (marks_under (codes "$anchor") false s) (marks_under (codes "$dynamicAnchor") true s) rest)
         ∙ no-dynamic (text_at (codes "$anchor") s.value) (marks_under (codes "$dynamicAnchor") true s ++ rest)
         ∙ one-dynamic (text_at (codes "$dynamicAnchor") s.value) rest
 
-  pub anchored-by_mark : (ss : List Spot) → AreFollowed root ss → found_mark (has_mark uri name) (flat_map marks ss) ≡ anchored (map spot_schema ss) uri name
+  pub anchored-by_mark : (ss : List Spot) → AreFollowed root ss → found_mark (has_mark uri name) (flat_map marks ss) ≡ schema_with_anchor (map spot_view ss) uri name
   anchored-by_mark [] f = refl
   anchored-by_mark (s ∷ ss) f =
       all-marks s f.0 (flat_map marks ss)
-      ∙ ap (λ t. cond (same_text uri s.resource && is_anchor name (spot_schema s)) (Some (spot_schema s)) t) (anchored-by_mark ss f.1)
+      ∙ ap (λ t. cond (same_text uri s.resource && is_anchor name (spot_view s)) (Some (spot_view s)) t) (anchored-by_mark ss f.1)
 
-  pub dynamically-by_mark : (ss : List Spot) → AreFollowed root ss → found_mark (has_dynamic_mark uri name) (flat_map marks ss) ≡ dynamically_anchored (map spot_schema ss) uri name
+  pub dynamically-by_mark : (ss : List Spot) → AreFollowed root ss → found_mark (has_dynamic_mark uri name) (flat_map marks ss) ≡ schema_with_dynamic_anchor (map spot_view ss) uri name
   dynamically-by_mark [] f = refl
   dynamically-by_mark (s ∷ ss) f =
       dynamic-marks s f.0 (flat_map marks ss)
-      ∙ ap (λ t. cond (same_text uri s.resource && is_dynamic_anchor name (spot_schema s)) (Some (spot_schema s)) t) (dynamically-by_mark ss f.1)
+      ∙ ap (λ t. cond (same_text uri s.resource && is_dynamic_anchor name (spot_view s)) (Some (spot_view s)) t) (dynamically-by_mark ss f.1)

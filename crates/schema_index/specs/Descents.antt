@@ -5,30 +5,30 @@ use Rattle.definitions.specs.Pointers.{Pointer}
 use Rattle.definitions.specs.Shapes.{Shape, one_schema, schema_list, schema_map}
 use Rattle.definitions.specs.Keywords.{keywords}
 use Rattle.definitions.specs.Schemas.{Schema, below, subschemas_by}
-use Rattle.definitions.specs.Targets.{pointed}
+use Rattle.definitions.specs.Targets.{schema_at_pointer}
 use Rattle.json_doc.specs.Members.{HasNamesInOrder}
 
 -- what the pointer leads to from the schema
-unfoldable pub led : Pointer → Schema → Option Schema
-led way s = pointed way s
+unfoldable pub led_schema : Pointer → Schema → Option Schema
+led_schema way s = schema_at_pointer way s
 
 -- from a schema of this value the pointer leads nowhere
 abbrev pub LeadsNowhere : Pointer → Value → Type 0
-LeadsNowhere way v = (s : Schema) → s.value ≡ v → led way s ≡ None
+LeadsNowhere way v = (s : Schema) → s.value ≡ v → led_schema way s ≡ None
 
 -- from a schema of this value the pointer leads first by these tokens to one directly below, of that value, and then where
 -- the rest leads
 pub record StepsTo (way : Pointer) (v : Value) (tokens : Pointer) (part : Value) (rest : Pointer) : Type 0 where
   pub begins : way ≡ tokens ++ rest
   pub stands : (s : Schema) → s.value ≡ v → Contains (subschemas_by keywords s) (tokens, below s tokens part)
-  pub leads : (s : Schema) → s.value ≡ v → led way s ≡ led rest (below s tokens part)
+  pub leads : (s : Schema) → s.value ≡ v → led_schema way s ≡ led_schema rest (below s tokens part)
 
 -- the shape, if schemas stand in a value of it
-abbrev pub schemas_held : Shape → Option Shape
-schemas_held one_schema = Some one_schema
-schemas_held schema_list = Some schema_list
-schemas_held schema_map = Some schema_map
-schemas_held _ = None
+abbrev pub schema_shape : Shape → Option Shape
+schema_shape one_schema = Some one_schema
+schema_shape schema_list = Some schema_list
+schema_shape schema_map = Some schema_map
+schema_shape _ = None
 
 -- ---- what stands under a name
 abbrev pub row : {X : Type 0} → (X → Text) → Text → List X → Option X

@@ -1,7 +1,7 @@
 -- What a walk gathers of the schemas that it comes by.
 use Rattle.std.specs.Prelude.{ℕ, ◌≡◌, List, ◌++◌, Bool, true, false, codes, filter, flat_map, map, option_map, string_bytes}
 use Rattle.definitions.specs.Values.{Text, Value, text_at}
-use Rattle.definitions.specs.Resolution.{resolved}
+use Rattle.definitions.specs.Resolution.{target_uri}
 use Rattle.definitions.specs.Lists.{option_list}
 use Rattle.schema_index.specs.Hops.{Hop}
 use Rattle.schema_index.specs.Spots.{Spot, at_root}
@@ -18,7 +18,7 @@ root_ways ss = map (λ s. s.way) (filter at_root ss)
 
 -- ---- references (Core, 8.2.3)
 abbrev pub reference_under : Text → Text → Value → List Text
-reference_under keyword base v = option_list (option_map (resolved base) (text_at keyword v))
+reference_under keyword base v = option_list (option_map (target_uri base) (text_at keyword v))
 
 unfoldable pub references_at : Text → Value → List Text
 references_at base v = reference_under (codes "$ref") base v ++ reference_under (codes "$dynamicRef") base v

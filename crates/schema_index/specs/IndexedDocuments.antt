@@ -15,5 +15,5 @@ indexed_value d = value d.document
 abbrev pub indexed_schemas : Indexed → List Schema
 indexed_schemas d = schemas_of (indexed_base d) (indexed_value d)
 
-abbrev pub indexed_document : Indexed → Document
-indexed_document d = document_from (indexed_base d) (indexed_value d)
+abbrev pub indexed_view : Indexed → Document
+indexed_view d = document_from (indexed_base d) (indexed_value d)

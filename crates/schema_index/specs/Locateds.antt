@@ -4,5 +4,5 @@ use Rattle.json_doc.specs.Docs.{value}
 use Rattle.locations.specs.Steps.{tokens}
 use Rattle.schema_index.specs.declared.located.Located.{Located}
 
-abbrev pub located_schema : Located → Schema
-located_schema l = record { resource = l.resource.now; pointer = tokens l.steps.items; value = value l.schema.now }
+abbrev pub located_view : Located → Schema
+located_view l = record { resource = l.resource.now; pointer = tokens l.steps.items; value = value l.schema.now }

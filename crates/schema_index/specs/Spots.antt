@@ -3,7 +3,7 @@
 use Rattle.std.specs.Prelude.{ℕ, ◌+◌, List, [], ◌∷◌, ◌++◌, Bool, nat_le, Option, Some, None, codes, drop, length}
 use Rattle.definitions.specs.Values.{Text, Value, array, object, Elements, no_elements, element, Members, no_members, member, text_at}
 use Rattle.definitions.specs.Uris.{without_fragment}
-use Rattle.definitions.specs.Resolution.{resolved}
+use Rattle.definitions.specs.Resolution.{target_uri}
 use Rattle.definitions.specs.Shapes.{Shape, one_schema, schema_list, schema_map}
 use Rattle.definitions.specs.Schemas.{Schema}
 use Rattle.keywords.specs.Rows.{shape_named}
@@ -16,8 +16,8 @@ pub record Spot : Type 0 where
   pub resource : Text
   pub value : Value
 
-abbrev pub spot_schema : Spot → Schema
-spot_schema s = record { resource = s.resource; pointer = hop_tokens (drop s.start s.way); value = s.value }
+abbrev pub spot_view : Spot → Schema
+spot_view s = record { resource = s.resource; pointer = hop_tokens (drop s.start s.way); value = s.value }
 
 abbrev pub at_root : Spot → Bool
 at_root s = nat_le (length s.way) s.start
@@ -28,7 +28,7 @@ id_of v = text_at (codes "$id") v
 
 abbrev pub opened_uri : Text → Option Text → Text
 opened_uri base None = base
-opened_uri base (Some id) = without_fragment (resolved base id)
+opened_uri base (Some id) = without_fragment (target_uri base id)
 
 abbrev pub opened_start : ℕ → ℕ → Option Text → ℕ
 opened_start start here None = start

@@ -3,8 +3,8 @@
 ghost use Rattle.std.specs.Prelude.{◌≡◌, IfOk, option_map};
 ghost use Rattle.json_doc.specs.Docs.{value};
 ghost use Rattle.schema_index.specs.Gathering.{anchor_mark};
-ghost use Rattle.schema_index.specs.Locateds.{located_schema};
-ghost use Rattle.schema_index.specs.Lookups.{marked};
+ghost use Rattle.schema_index.specs.Locateds.{located_view};
+ghost use Rattle.schema_index.specs.Lookups.{marked_schema};
 
 use crate::located::Located;
 use crate::ways::{OwnedStep, follow, steps_after};
@@ -26,14 +26,14 @@ pub(crate) struct Anchor {
 }
 
 /// The schema of the document that has the anchor.
-#[tactic(auto, unfolding(crate::specs::Lookups::marked))]
+#[tactic(auto, unfolding(crate::specs::Lookups::marked_schema))]
 pub(crate) fn schema_of_anchor<'a>(
     alloc: Global,
     anchor: &'a Anchor,
     document: &'a Doc,
 ) -> Result<Option<Located<'a>>, AllocError>
-    ensures { IfOk result (λ t. option_map located_schema t
-        ≡ marked (value document.now) (anchor_mark anchor.now)) }
+    ensures { IfOk result (λ t. option_map located_view t
+        ≡ marked_schema (value document.now) (anchor_mark anchor.now)) }
 {
     match follow(&anchor.way, document) {
         Some(schema) => Ok(Some(Located {

@@ -11,7 +11,11 @@ use json_doc::Doc;
 use std::alloc::{AllocError, Global};
 
 /// What is gathered of the schemas of a document that stands under this base.
-pub(crate) fn gather(alloc: Global, base: &str, document: &Doc) -> Result<GatheredSchemas, AllocError>
+pub(crate) fn gather(
+    alloc: Global,
+    base: &str,
+    document: &Doc,
+) -> Result<GatheredSchemas, AllocError>
     ensures { IfOk result (λ gathered.
         IsGathered gathered (spots [] 0 base.now (value document.now))) }
 {

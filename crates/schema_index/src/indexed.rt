@@ -5,16 +5,16 @@ ghost use Rattle.std.specs.BTreeMap.{get_by_text};
 ghost use Rattle.std.specs.List.{position_from};
 ghost use Rattle.definitions.specs.Reach.{holds_resource, references_in};
 ghost use Rattle.definitions.specs.Scanning.{resource_uris, scan_fault};
-ghost use Rattle.definitions.specs.Targets.{resource_root, target_by, pointed, anchored, dynamically_anchored};
+ghost use Rattle.definitions.specs.Targets.{resource_root, target_by, schema_at_pointer, schema_with_anchor, schema_with_dynamic_anchor};
 ghost use Rattle.definitions.specs.Values.{Text, is_well_formed, same_text};
 ghost use Rattle.json_doc.specs.Docs.{value};
 ghost use Rattle.schema_index.specs.AnchorNumbers.{is_marked, pair_number};
 ghost use Rattle.schema_index.specs.Gathering.{IsGathered, gathered_marks, gathered_uris, gathered_ways};
-ghost use Rattle.schema_index.specs.Locateds.{located_schema};
-ghost use Rattle.schema_index.specs.Lookups.{root_at, root_numbered};
+ghost use Rattle.schema_index.specs.Locateds.{located_view};
+ghost use Rattle.schema_index.specs.Lookups.{numbered_root, root_at};
 ghost use Rattle.schema_index.specs.Ways.{owned_hops};
 ghost use Rattle.schema_index.specs.Spots.{spots};
-ghost use Rattle.uri_ref.specs.FragmentViews.{fragment_shown};
+ghost use Rattle.uri_ref.specs.FragmentViews.{fragment_view};
 
 use crate::anchor_numbers::{anchor_numbers_of, find_anchor};
 use crate::anchors::schema_of_anchor;
@@ -52,7 +52,7 @@ pub struct Indexed {
 }
 
 impl Indexed {
-    ghost use Rattle.schema_index.specs.IndexedDocuments.{indexed_base, indexed_value, indexed_schemas, indexed_document};
+    ghost use Rattle.schema_index.specs.IndexedDocuments.{indexed_base, indexed_value, indexed_schemas, indexed_view};
 
     /// Makes the index of a document that stands under this base. The only error is want of memory.
     pub fn of(alloc: Global, base: String, document: Doc) -> Result<Indexed, Fault>
@@ -96,7 +96,7 @@ impl Indexed {
 
     /// The document's canonical URI: that of its root's resource.
     pub fn canonical(&self) -> &str
-        ensures { result.now ≡ (indexed_document self.now).canonical }
+        ensures { result.now ≡ (indexed_view self.now).canonical }
     {
         match numbered(&self.gathered.uris, 0) {
             Some(uri) => uri,
@@ -113,7 +113,7 @@ impl Indexed {
 
     /// The absolute references of its schemas, in the order of a walk; some may stand more than once.
     pub fn references(&self) -> &[String]
-        ensures { map string_bytes result.now ≡ references_in (indexed_document self.now) }
+        ensures { map string_bytes result.now ≡ references_in (indexed_view self.now) }
     {
         self.gathered.references.as_slice()
     }
@@ -121,7 +121,7 @@ impl Indexed {
     /// The URI, as the document's own text, where one of its resources has it.
     pub fn resource_uri(&self, uri: &str) -> Option<&str>
         ensures same { IfSome result (λ u. u.now ≡ uri.now) }
-        ensures held { is_some result ≡ holds_resource uri.now (indexed_document self.now) }
+        ensures held { is_some result ≡ holds_resource uri.now (indexed_view self.now) }
     {
         match self.number(uri) {
             Some(number) => numbered(&self.gathered.uris, number),
@@ -131,7 +131,7 @@ impl Indexed {
 
     /// The root of the resource with this URI.
     pub fn resource_root(&self, alloc: Global, uri: &str) -> Option<Located<'_>>
-        ensures { option_map located_schema result
+        ensures { option_map located_view result
             ≡ resource_root (indexed_schemas self.now) uri.now }
     {
         match self.number(uri) {
@@ -149,8 +149,8 @@ impl Indexed {
 
     // The root of the resource of this number.
     fn root(&self, alloc: Global, number: usize) -> Option<Located<'_>>
-        ensures { option_map located_schema result
-            ≡ root_numbered (gathered_uris self.now.gathered) (gathered_ways self.now.gathered)
+        ensures { option_map located_view result
+            ≡ numbered_root (gathered_uris self.now.gathered) (gathered_ways self.now.gathered)
             (value self.now.document) number }
     {
         match numbered(&self.gathered.uris, number) {
@@ -171,8 +171,8 @@ impl Indexed {
         fragment: &FragmentKind,
     ) -> Result<Option<Located<'_>>, Fault>
         ensures ok { IfOk result
-            (λ t. option_map located_schema t
-            ≡ target_by (indexed_schemas self.now) uri.now (fragment_shown fragment.now)) }
+            (λ t. option_map located_view t
+            ≡ target_by (indexed_schemas self.now) uri.now (fragment_view fragment.now)) }
         ensures err { IfErr result (λ f. f ≡ Fault.NoRoom) }
     {
         match fragment {
@@ -190,8 +190,8 @@ impl Indexed {
         name: &str,
     ) -> Result<Option<Located<'_>>, Fault>
         ensures ok { IfOk result
-            (λ t. option_map located_schema t
-            ≡ dynamically_anchored (indexed_schemas self.now) uri.now name.now) }
+            (λ t. option_map located_view t
+            ≡ schema_with_dynamic_anchor (indexed_schemas self.now) uri.now name.now) }
         ensures err { IfErr result (λ f. f ≡ Fault.NoRoom) }
     {
         match find_anchor(&self.gathered.anchors, &self.dynamic_numbers, uri, name) {
@@ -208,8 +208,8 @@ impl Indexed {
         pointer: &Pointer,
     ) -> Result<Option<Located<'_>>, Fault>
         ensures ok { IfOk result
-            (λ t. option_map located_schema t
-            ≡ option_and_then (pointed pointer.now)
+            (λ t. option_map located_view t
+            ≡ option_and_then (schema_at_pointer pointer.now)
             (resource_root (indexed_schemas self.now) uri.now)) }
         ensures err { IfErr result (λ f. f ≡ Fault.NoRoom) }
     {
@@ -222,8 +222,8 @@ impl Indexed {
     // The schema with this anchor in the resource with this URI.
     fn anchored(&self, alloc: Global, uri: &str, name: &str) -> Result<Option<Located<'_>>, Fault>
         ensures ok { IfOk result
-            (λ t. option_map located_schema t
-            ≡ anchored (indexed_schemas self.now) uri.now name.now) }
+            (λ t. option_map located_view t
+            ≡ schema_with_anchor (indexed_schemas self.now) uri.now name.now) }
         ensures err { IfErr result (λ f. f ≡ Fault.NoRoom) }
     {
         match find_anchor(&self.gathered.anchors, &self.anchor_numbers, uri, name) {
@@ -241,7 +241,7 @@ fn root_along<'a>(
     way: &[OwnedStep],
     document: &'a Doc,
 ) -> Option<Located<'a>>
-    ensures { option_map located_schema result
+    ensures { option_map located_view result
         ≡ root_at resource.now (owned_hops way.now) (value document.now) }
 {
     match follow(way, document) {

@@ -3,12 +3,12 @@
 ghost use Rattle.std.specs.Prelude.{◌≡◌, ◌∷◌, ◌++◌, codes, IfOk, IfErr, Contains, map, option_map, string_bytes};
 ghost use Rattle.definitions.specs.Schemas.{below};
 ghost use Rattle.definitions.specs.Lists.{option_list};
-ghost use Rattle.definitions.specs.Targets.{pointed};
+ghost use Rattle.definitions.specs.Targets.{schema_at_pointer};
 ghost use Rattle.json_doc.specs.Docs.{value};
 ghost use Rattle.locations.specs.Steps.{tokens};
 ghost use Rattle.schema_index.specs.DescentViews.{tokens_taken};
-ghost use Rattle.schema_index.specs.Descents.{led};
-ghost use Rattle.schema_index.specs.Locateds.{located_schema};
+ghost use Rattle.schema_index.specs.Descents.{led_schema};
+ghost use Rattle.schema_index.specs.Locateds.{located_view};
 
 use crate::indexed::Indexed;
 use crate::located::Located;
@@ -37,9 +37,10 @@ impl Indexed {
         root: Located<'a>,
         pointer: &Pointer,
     ) -> Result<Option<Located<'a>>, Fault>
-        requires { Contains (indexed_schemas self.now) (located_schema root) }
+        requires { Contains (indexed_schemas self.now) (located_view root) }
         ensures ok { IfOk result
-            (λ t. option_map located_schema t ≡ pointed pointer.now (located_schema root.entry)) }
+            (λ t. option_map located_view t
+            ≡ schema_at_pointer pointer.now (located_view root.entry)) }
         ensures err { IfErr result (λ f. f ≡ Fault.NoRoom) }
     {
         self.led(alloc, root, pointer.tokens())
@@ -52,10 +53,10 @@ impl Indexed {
         from: Located<'a>,
         tokens: &[String],
     ) -> Result<Option<Located<'a>>, Fault>
-        requires { Contains (indexed_schemas self.now) (located_schema from) }
+        requires { Contains (indexed_schemas self.now) (located_view from) }
         ensures ok { IfOk result
-            (λ t. option_map located_schema t
-            ≡ led (map string_bytes tokens.now) (located_schema from.entry)) }
+            (λ t. option_map located_view t
+            ≡ led_schema (map string_bytes tokens.now) (located_view from.entry)) }
         ensures err { IfErr result (λ f. f ≡ Fault.NoRoom) }
     {
         let mut here = from;
@@ -78,9 +79,9 @@ impl Indexed {
         descent: Descent<'a, '_>,
     ) -> Result<Located<'a>, Fault>
         requires { Contains (indexed_schemas self.now)
-            (below (located_schema around) (tokens_taken descent) (value descent.schema.now)) }
+            (below (located_view around) (tokens_taken descent) (value descent.schema.now)) }
         ensures ok { IfOk result
-            (λ l. located_schema l ≡ below (located_schema around.entry)
+            (λ l. located_view l ≡ below (located_view around.entry)
             (tokens_taken descent.entry) (value descent.entry.schema.now)) }
         ensures err { IfErr result (λ f. f ≡ Fault.NoRoom) }
     {

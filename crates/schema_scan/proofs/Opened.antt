@@ -5,7 +5,7 @@ use Rattle.std.proofs.lemmas.Bool.Decides.{nat_tests}
 use Rattle.definitions.specs.Values.{Text, Value, text_at}
 use Rattle.definitions.specs.Pointers.{Pointer}
 use Rattle.definitions.specs.Keywords.{keywords, shape_in}
-use Rattle.definitions.specs.Schemas.{opened, schema_at, is_root}
+use Rattle.definitions.specs.Schemas.{opened_schema, schema_at, is_root}
 use Rattle.definition_laws.proofs.Places.{value-opened}
 use Rattle.keywords.specs.Rows.{shape_named}
 use Rattle.schema_scan.specs.Places.{opened_uri, resource_of, opens_resource}
@@ -13,7 +13,7 @@ use Rattle.schema_scan.specs.Places.{opened_uri, resource_of, opens_resource}
 pub value-at : (base : Text) (p : Pointer) (v : Value) → (schema_at base p v).value ≡ v
 value-at base p v = value-opened base p v (text_at (codes "$id") v)
 
-resource-opened : (base : Text) (p : Pointer) (v : Value) (id : Option Text) → (opened base p v id).resource ≡ opened_uri base id
+resource-opened : (base : Text) (p : Pointer) (v : Value) (id : Option Text) → (opened_schema base p v id).resource ≡ opened_uri base id
 resource-opened base p v None = refl
 resource-opened base p v (Some id) = refl
 
@@ -21,7 +21,7 @@ pub resource-at : (base : Text) (p : Pointer) (v : Value) → (schema_at base p 
 unfolding resource_of
 resource-at base p v = resource-opened base p v (text_at (codes "$id") v)
 
-is_root-opened : (base : Text) (p : Pointer) (v : Value) (id : Option Text) → is_root (opened base p v id) ≡ ((length p == 0) || is_some id)
+is_root-opened : (base : Text) (p : Pointer) (v : Value) (id : Option Text) → is_root (opened_schema base p v id) ≡ ((length p == 0) || is_some id)
 is_root-opened base p v None = sym (or-false (length p == 0))
 is_root-opened base p v (Some id) = sym (or-true (length p == 0))
 

@@ -8,7 +8,7 @@ use Rattle.std.proofs.lemmas.Bool.{lt-ltb}
 use Rattle.std.specs.List.{list_all}
 use Rattle.definitions.specs.Values.{Text, Value}
 use Rattle.definitions.specs.Uris.{without_fragment}
-use Rattle.definitions.specs.Resolution.{resolved}
+use Rattle.definitions.specs.Resolution.{target_uri}
 use Rattle.json_doc.specs.Docs.{value}
 use Rattle.schema_scan.specs.Places.{Place, id_of, opened_uri, resource_of, opens_resource}
 use Rattle.schema_scan.specs.Uris.{Extends}
@@ -16,7 +16,7 @@ use Rattle.schema_scan.specs.Tables.{place_by}
 use Rattle.schema_scan.specs.declared.table.Position.{Position}
 
 -- ---- what `$id` opens
-pub resource-some : (base : Text) (v : Value) (id : Text) → Some id ≡ id_of v → without_fragment (resolved base id) ≡ resource_of base v
+pub resource-some : (base : Text) (v : Value) (id : Text) → Some id ≡ id_of v → without_fragment (target_uri base id) ≡ resource_of base v
 unfolding resource_of
 resource-some base v id e = ap (opened_uri base) e
 

@@ -9,7 +9,7 @@ use Rattle.definitions.specs.Faults.{Fault, bad_keyword}
 use Rattle.definitions.specs.Shapes.{Shape, any_value, truth, whole_number, size, divisor, any_text, value_list, text_list, text_lists, type_names, reference, one_schema, schema_list, schema_map, identifier, anchor_name, dialect}
 use Rattle.definitions.specs.Keywords.{Keyword, keywords, keyword_named, shape_in}
 use Rattle.definitions.specs.Schemas.{Schema, schema_at, below, at_place, is_root}
-use Rattle.definitions.specs.Scanning.{shape_faults, keyword_faults, walked}
+use Rattle.definitions.specs.Scanning.{shape_faults, keyword_faults, subtree_faults}
 use Rattle.definitions.specs.Lists.{unless}
 use Rattle.keywords.specs.Rows.{shape_named}
 use Rattle.schema_scan.specs.Places.{resource_of, opens_resource}
@@ -84,11 +84,11 @@ one-missteps base (array vs) = refl
 -- what so many levels find, at every schema that nests less deep
 abbrev Finds : ℕ → Type 0
 Finds n = (base : Text) (way p : Pointer) (v : Value) (at_root : Bool) → (length p == 0) ≡ at_root → nesting v < n
-    → walked n base way (schema_at base p v) ≡ map (misstep_fault way) (missteps base at_root v)
+    → subtree_faults n base way (schema_at base p v) ≡ map (misstep_fault way) (missteps base at_root v)
 
 module _ (n : ℕ) (finds : Finds n) (way : Pointer) (s : Schema) where
   abbrev found_below : Pointer × Schema → List Fault
-  found_below t = walked n s.resource (way ++ t.0) t.1
+  found_below t = subtree_faults n s.resource (way ++ t.0) t.1
 
   -- below this name, with one token more
   found : (name token : Text) (v : Value) → nesting v < n
@@ -166,7 +166,7 @@ module _ (n : ℕ) (finds : Finds n) (way : Pointer) (s : Schema) where
 
 level_faults : (n : ℕ) → Finds n → (base : Text) (way p : Pointer) (v : Value) (at_root : Bool) → (length p == 0) ≡ at_root → nesting v < suc n
     → (flat_map (λ m. keyword_faults (keyword_named m.0 keywords) base (way ++ m.0 ∷ []) (schema_at base p v) m.1) (members v)
-    ++ flat_map (λ t. walked n (schema_at base p v).resource (way ++ t.0) t.1) (flat_map (λ m. at_place (schema_at base p v) m.0 m.1 (shape_in keywords m.0)) (members v)))
+    ++ flat_map (λ t. subtree_faults n (schema_at base p v).resource (way ++ t.0) t.1) (flat_map (λ m. at_place (schema_at base p v) m.0 m.1 (shape_in keywords m.0)) (members v)))
     ≡ map (misstep_fault way) (missteps base at_root v)
 level_faults n finds base way p (object ms) at_root e h =
     ap₂ (λ a b. a ++ b)
@@ -183,9 +183,9 @@ pub walked-missteps : (n : ℕ) → Finds n
 walked-missteps zero base way p v at_root e h = absurd (omega arith)
 walked-missteps (suc n) base way p v at_root e h =
     ap (λ u. flat_map (λ m. keyword_faults (keyword_named m.0 keywords) base (way ++ m.0 ∷ []) (schema_at base p v) m.1) (members u)
-    ++ flat_map (λ t. walked n (schema_at base p v).resource (way ++ t.0) t.1) (flat_map (λ m. at_place (schema_at base p v) m.0 m.1 (shape_in keywords m.0)) (members u))) (value-at base p v)
+    ++ flat_map (λ t. subtree_faults n (schema_at base p v).resource (way ++ t.0) t.1) (flat_map (λ m. at_place (schema_at base p v) m.0 m.1 (shape_in keywords m.0)) (members u))) (value-at base p v)
     ∙ level_faults n (walked-missteps n) base way p v at_root e h
 
 -- the walk over a document
-pub document-missteps : (base : Text) (v : Value) → walked (suc (nesting v)) base [] (schema_at base [] v) ≡ map (misstep_fault []) (missteps base true v)
+pub document-missteps : (base : Text) (v : Value) → subtree_faults (suc (nesting v)) base [] (schema_at base [] v) ≡ map (misstep_fault []) (missteps base true v)
 document-missteps base v = walked-missteps (suc (nesting v)) base [] [] v true refl (omega arith)

@@ -15,5 +15,5 @@ compiled_value c = indexed_value c.indexed
 abbrev pub compiled_schemas : Compiled → List Schema
 compiled_schemas c = schemas_of (compiled_base c) (compiled_value c)
 
-abbrev pub compiled_document : Compiled → Document
-compiled_document c = document_from (compiled_base c) (compiled_value c)
+abbrev pub compiled_view : Compiled → Document
+compiled_view c = document_from (compiled_base c) (compiled_value c)

@@ -3,7 +3,7 @@
 use Rattle.std.specs.Prelude.{List, [], ◌∷◌, ◌++◌, Bool, false, ◌||◌, Option, Some, None, is_some, codes}
 use Rattle.definitions.specs.Values.{Text, Value, array, object, Elements, no_elements, element, Members, no_members, member, text_at}
 use Rattle.definitions.specs.Uris.{without_fragment}
-use Rattle.definitions.specs.Resolution.{resolved}
+use Rattle.definitions.specs.Resolution.{target_uri}
 use Rattle.definitions.specs.Shapes.{Shape, one_schema, schema_list, schema_map}
 use Rattle.keywords.specs.Rows.{shape_named}
 
@@ -20,7 +20,7 @@ id_of v = text_at (codes "$id") v
 -- the URI of the resource, where the base around is this one
 abbrev pub opened_uri : Text → Option Text → Text
 opened_uri base None = base
-opened_uri base (Some id) = without_fragment (resolved base id)
+opened_uri base (Some id) = without_fragment (target_uri base id)
 
 unfoldable pub resource_of : Text → Value → Text
 resource_of base v = opened_uri base (id_of v)

@@ -6,12 +6,12 @@ ghost use Rattle.definitions.specs.Patterns.{regular_search};
 ghost use Rattle.definitions.specs.Reach.{holds_resource, references_in};
 ghost use Rattle.definitions.specs.Searches.{is_regular, patterns};
 ghost use Rattle.definitions.specs.Scanning.{resource_uris, scan_fault};
-ghost use Rattle.definitions.specs.Targets.{resource_root, target_by, dynamically_anchored};
+ghost use Rattle.definitions.specs.Targets.{resource_root, target_by, schema_with_dynamic_anchor};
 ghost use Rattle.json_doc.specs.Docs.{value};
 ghost use Rattle.schema_index.specs.IndexedDocuments.{indexed_value};
-ghost use Rattle.schema_index.specs.Locateds.{located_schema};
+ghost use Rattle.schema_index.specs.Locateds.{located_view};
 ghost use Rattle.schema_scan.specs.PatternTables.{holds_pattern};
-ghost use Rattle.uri_ref.specs.FragmentViews.{fragment_shown};
+ghost use Rattle.uri_ref.specs.FragmentViews.{fragment_view};
 
 use crate::pattern_table::PatternTable;
 use faults::Fault;
@@ -34,7 +34,7 @@ pub struct Compiled {
 }
 
 impl Compiled {
-    ghost use Rattle.schema_scan.specs.CompiledDocuments.{compiled_base, compiled_value, compiled_schemas, compiled_document};
+    ghost use Rattle.schema_scan.specs.CompiledDocuments.{compiled_base, compiled_value, compiled_schemas, compiled_view};
 
     /// The text of the base that the document stands under.
     pub fn base(&self) -> &str
@@ -61,7 +61,7 @@ impl Compiled {
 
     /// The absolute references of its schemas, in the order of a walk; some may stand more than once.
     pub fn references(&self) -> &[String]
-        ensures { map string_bytes result.now ≡ references_in (compiled_document self.now) }
+        ensures { map string_bytes result.now ≡ references_in (compiled_view self.now) }
     {
         self.indexed.references()
     }
@@ -69,14 +69,14 @@ impl Compiled {
     /// The URI, as the document's own text, where one of its resources has it.
     pub fn resource_uri(&self, uri: &str) -> Option<&str>
         ensures same { IfSome result (λ u. u.now ≡ uri.now) }
-        ensures held { is_some result ≡ holds_resource uri.now (compiled_document self.now) }
+        ensures held { is_some result ≡ holds_resource uri.now (compiled_view self.now) }
     {
         self.indexed.resource_uri(uri)
     }
 
     /// The root of the resource with this URI.
     pub fn resource_root(&self, alloc: Global, uri: &str) -> Option<Located<'_>>
-        ensures { option_map located_schema result
+        ensures { option_map located_view result
             ≡ resource_root (compiled_schemas self.now) uri.now }
     {
         self.indexed.resource_root(alloc, uri)
@@ -91,8 +91,8 @@ impl Compiled {
         fragment: &FragmentKind,
     ) -> Result<Option<Located<'_>>, Fault>
         ensures ok { IfOk result
-            (λ t. option_map located_schema t
-            ≡ target_by (compiled_schemas self.now) uri.now (fragment_shown fragment.now)) }
+            (λ t. option_map located_view t
+            ≡ target_by (compiled_schemas self.now) uri.now (fragment_view fragment.now)) }
         ensures err { IfErr result (λ f. f ≡ Fault.NoRoom) }
     {
         self.indexed.target(alloc, uri, fragment)
@@ -106,8 +106,8 @@ impl Compiled {
         name: &str,
     ) -> Result<Option<Located<'_>>, Fault>
         ensures ok { IfOk result
-            (λ t. option_map located_schema t
-            ≡ dynamically_anchored (compiled_schemas self.now) uri.now name.now) }
+            (λ t. option_map located_view t
+            ≡ schema_with_dynamic_anchor (compiled_schemas self.now) uri.now name.now) }
         ensures err { IfErr result (λ f. f ≡ Fault.NoRoom) }
     {
         self.indexed.dynamically_anchored(alloc, uri, name)

@@ -5,7 +5,7 @@ ghost use Rattle.definitions.specs.Patterns.{regular_search};
 ghost use Rattle.definitions.specs.Searches.{is_regular, patterns};
 ghost use Rattle.definitions.specs.Schemas.{document_from};
 ghost use Rattle.schema_scan.specs.Scans.{scanned_base, scanned_value};
-ghost use Rattle.schema_scan.specs.CompiledDocuments.{compiled_base, compiled_value, compiled_document};
+ghost use Rattle.schema_scan.specs.CompiledDocuments.{compiled_base, compiled_value, compiled_view};
 
 use crate::compiled::Compiled;
 use crate::pattern_table::PatternTable;
@@ -40,7 +40,7 @@ pub fn compile(alloc: Global, scanned: Scanned<'_>) -> Result<Compiled, Fault>
 
 /// The document's canonical URI: that of its root's resource (JSON Schema 2020-12 Core, section 8.2.1).
 pub fn canonical(compiled: &Compiled) -> &str
-    ensures { result.now ≡ (compiled_document compiled.now).canonical }
+    ensures { result.now ≡ (compiled_view compiled.now).canonical }
 {
     compiled.indexed.canonical()
 }

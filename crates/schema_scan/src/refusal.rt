@@ -3,7 +3,7 @@
 ghost use Rattle.std.specs.Prelude.{◌≡◌, ◌≢◌, [], ◌∷◌, List, Some, IfOk, map, decimal, string_bytes};
 ghost use Rattle.definitions.specs.Pointers.{pointer_text};
 ghost use Rattle.definitions.specs.Lists.{first};
-ghost use Rattle.faults.specs.View.{fault};
+ghost use Rattle.faults.specs.View.{fault_view};
 ghost use Rattle.schema_scan.specs.Missteps.{Misstep, wrong_shape, below_name, misstep_fault};
 ghost use Rattle.schema_scan.specs.Refusals.{Refuses, way_up};
 
@@ -80,7 +80,7 @@ impl<'a> Refusal<'a> {
     /// The fault, if the walk began at the document's root.
     pub(crate) fn fault(self, alloc: Global) -> Fault
         ensures { (ms : List Misstep) → Refuses self.entry ms → result ≢ Fault.NoRoom
-            → first (map (misstep_fault []) ms) ≡ Some (fault result) }
+            → first (map (misstep_fault []) ms) ≡ Some (fault_view result) }
     {
         match self {
             Refusal::NoRoom => Fault::NoRoom,

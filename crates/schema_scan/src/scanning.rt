@@ -4,7 +4,7 @@ ghost use Rattle.std.specs.Prelude.{◌≡◌, ◌≢◌, Some, None, OnOk, IfOk
 ghost use Rattle.definitions.specs.Values.{is_object};
 ghost use Rattle.definitions.specs.Uris.{recompose};
 ghost use Rattle.definitions.specs.Scanning.{scan_fault};
-ghost use Rattle.faults.specs.View.{fault};
+ghost use Rattle.faults.specs.View.{fault_view};
 ghost use Rattle.json_doc.specs.Docs.{value};
 ghost use Rattle.schema_scan.specs.Scans.{scanned_base, scanned_value};
 ghost use Rattle.schema_scan.specs.Places.{places};
@@ -45,7 +45,7 @@ pub fn scan<'a>(alloc: Global, base: &Parts, document: &'a Doc) -> Result<Scanne
     ensures sound { OnOk result (scan_fault (recompose base.now) (value document.now) ≡ None) }
     ensures err { IfErr result
         (λ f. f ≢ Fault.NoRoom → scan_fault (recompose base.now) (value document.now)
-        ≡ Some (fault f)) }
+        ≡ Some (fault_view f)) }
 {
     let table = match read_schemas(alloc, base, document) {
         Ok(table) => table,
@@ -62,7 +62,7 @@ fn read_schemas<'a>(alloc: Global, base: &Parts, document: &'a Doc) -> Result<Ta
     ensures sound { OnOk result (scan_fault (recompose base.now) (value document.now) ≡ None) }
     ensures err { IfErr result
         (λ f. f ≢ Fault.NoRoom → scan_fault (recompose base.now) (value document.now)
-        ≡ Some (fault f)) }
+        ≡ Some (fault_view f)) }
 {
     if !is_object(document) {
         return Err(Fault::NotObject);

@@ -7,7 +7,7 @@ use Rattle.definitions.specs.Faults as meaning
 use Rattle.definitions.specs.Patterns.{regular_search}
 use Rattle.definitions.specs.Schemas.{Document}
 use Rattle.definitions.specs.Values.{Text}
-use Rattle.faults.specs.View.{fault}
+use Rattle.faults.specs.View.{fault_view}
 use Rattle.faults.specs.declared.Fault.{Fault}
 use Rattle.faults.specs.declared.Fault.TheVariants.{NoRoom}
 use Rattle.command_line.specs.Calls.{Start}
@@ -120,7 +120,7 @@ pub judged_made : (T : Type 0) (made : T) (server : Server) → IsOk server → 
 judged_made T made (Ok registries) h = tt
 judged_made T made (Err g) h = absurd (true≢false (sym h))
 
-refused_alike : (T : Type 0) (f : Fault) (server : Server) → server ≡ Err (fault f) → IsJudged {T = T} server (Err (Refused f))
+refused_alike : (T : Type 0) (f : Fault) (server : Server) → server ≡ Err (fault_view f) → IsJudged {T = T} server (Err (Refused f))
 refused_alike T f (Ok registries) h = tt
 refused_alike T f (Err g) h = λ other. cc h
 
@@ -133,12 +133,12 @@ lacking_judged : (T : Type 0) (f : Fault) (server : Server) → f ≡ NoRoom →
 lacking_judged T f (Ok registries) e = tt
 lacking_judged T f (Err g) e = λ other. absurd (other e)
 
-pub judged_refused : (T : Type 0) (f : Fault) (sources : Sources) (capacity : ℕ) → (f ≢ NoRoom → OnServerIn sources capacity (λ server. server ≡ Err (fault f)))
+pub judged_refused : (T : Type 0) (f : Fault) (sources : Sources) (capacity : ℕ) → (f ≢ NoRoom → OnServerIn sources capacity (λ server. server ≡ Err (fault_view f)))
     → OnServerIn sources capacity (λ server. IsJudged {T = T} server (Err (Refused f)))
 judged_refused T f sources capacity why = elim (is_no_room f) [
   | inl e ↦ any_library sources.library (λ l. IsJudged {T = T} (server_of sources.tenants.items capacity l) (Err (Refused f)))
       (λ l. lacking_judged T f (server_of sources.tenants.items capacity l) e)
-  | inr other ↦ each_server sources capacity (λ server. server ≡ Err (fault f)) (λ server. IsJudged {T = T} server (Err (Refused f)))
+  | inr other ↦ each_server sources capacity (λ server. server ≡ Err (fault_view f)) (λ server. IsJudged {T = T} server (Err (Refused f)))
       (refused_alike T f) (why other)
 ]
 
@@ -167,14 +167,14 @@ ran_refused sources capacity f reads writes more others h =
 
 -- refused over the same texts
 pub refused_over : (T : Type 0) (t u a b : Text) (capacity : ℕ) (r : Result T Fault) → t ≡ u → a ≡ b
-    → IfErr r (λ f. f ≢ NoRoom → OnLibraryOf a (λ l. server_of t capacity l ≡ Err (fault f)))
-    → IfErr r (λ f. f ≢ NoRoom → OnLibraryOf b (λ l. server_of u capacity l ≡ Err (fault f)))
+    → IfErr r (λ f. f ≢ NoRoom → OnLibraryOf a (λ l. server_of t capacity l ≡ Err (fault_view f)))
+    → IfErr r (λ f. f ≢ NoRoom → OnLibraryOf b (λ l. server_of u capacity l ≡ Err (fault_view f)))
 refused_over T t u a b capacity r e k h =
-    subst (λ x. IfErr r (λ f. f ≢ NoRoom → OnLibraryOf x (λ l. server_of u capacity l ≡ Err (fault f)))) k
-    (subst (λ x. IfErr r (λ f. f ≢ NoRoom → OnLibraryOf a (λ l. server_of x capacity l ≡ Err (fault f)))) e h)
+    subst (λ x. IfErr r (λ f. f ≢ NoRoom → OnLibraryOf x (λ l. server_of u capacity l ≡ Err (fault_view f)))) k
+    (subst (λ x. IfErr r (λ f. f ≢ NoRoom → OnLibraryOf a (λ l. server_of x capacity l ≡ Err (fault_view f)))) e h)
 
 pub refused_in : (T : Type 0) (sources : Sources) (capacity : ℕ) (batch : Vec ℕ Global) (r : Result T Fault) → sources.library ≡ Some batch
-    → IfErr r (λ f. f ≢ NoRoom → OnLibraryOf batch.items (λ l. server_of sources.tenants.items capacity l ≡ Err (fault f)))
-    → IfErr r (λ f. f ≢ NoRoom → OnServerIn sources capacity (λ server. server ≡ Err (fault f)))
+    → IfErr r (λ f. f ≢ NoRoom → OnLibraryOf batch.items (λ l. server_of sources.tenants.items capacity l ≡ Err (fault_view f)))
+    → IfErr r (λ f. f ≢ NoRoom → OnServerIn sources capacity (λ server. server ≡ Err (fault_view f)))
 refused_in T sources capacity batch r e h =
-    subst (λ (o : Option (Vec ℕ Global)). IfErr r (λ f. f ≢ NoRoom → OnLibraryIn o (λ l. server_of sources.tenants.items capacity l ≡ Err (fault f)))) (sym e) h
+    subst (λ (o : Option (Vec ℕ Global)). IfErr r (λ f. f ≢ NoRoom → OnLibraryIn o (λ l. server_of sources.tenants.items capacity l ≡ Err (fault_view f)))) (sym e) h

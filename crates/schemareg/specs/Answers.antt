@@ -2,10 +2,10 @@
 use Rattle.std.specs.Prelude.{◌≡◌, ◌≢◌, ◌⊎◌, ℕ, ◌++◌, ◌∷◌, [], Bool, true, false, Option, Result, Ok, Err, IfOk, IfSome, ⊤}
 use Rattle.std.specs.Io.KnownBytes.{Appends, Keeps}
 use Rattle.definitions.specs.Faults as meaning
-use Rattle.definitions.specs.Texts.{reading}
+use Rattle.definitions.specs.Texts.{parsed_value}
 use Rattle.definitions.specs.Values.{Text}
 use Rattle.checks.specs.Judgements.{Judgement, judgement, judgement_of, input_of, builds_patterns, builds_patterns_of, is_for_pattern}
-use Rattle.faults.specs.View.{fault}
+use Rattle.faults.specs.View.{fault_view}
 use Rattle.faults.specs.declared.Fault.TheVariants.{NoRoom}
 use Rattle.command_line.specs.Calls.{Asked}
 use Rattle.command_line.specs.Calls as call
@@ -29,8 +29,8 @@ pub record Check : Type 0 where
 -- of the text of the instance by the text of the schema, which stands under the URI
 abbrev pub check_of_texts : Text → Text → Text → Check
 check_of_texts uri schema instance = record {
-  judgement = judgement uri (reading schema) (reading instance);
-  has_patterns = builds_patterns uri (reading schema);
+  judgement = judgement uri (parsed_value schema) (parsed_value instance);
+  has_patterns = builds_patterns uri (parsed_value schema);
 }
 
 -- of one text that holds all three
@@ -51,7 +51,7 @@ OnCheck files bytes _ P = ⊤
 -- reads or writes failed, or memory ran out. Nothing is written but a report
 abbrev pub EndsBy : Check → Option Text → Option Text → Result ℕ Stop → Type 0
 EndsBy check old new (Ok status) = (status_after check.judgement ≡ Ok status) × IfOk check.judgement (λ report. Appends old new (report.1 ++ 10 ∷ []))
-EndsBy check old new (Err (Refused f)) = Keeps old new × (f ≢ NoRoom → is_for_pattern (fault f) check.has_patterns ≡ false → check.judgement ≡ Err (fault f))
+EndsBy check old new (Err (Refused f)) = Keeps old new × (f ≢ NoRoom → is_for_pattern (fault_view f) check.has_patterns ≡ false → check.judgement ≡ Err (fault_view f))
 EndsBy check old new (Err (CannotRead name)) = Keeps old new
 EndsBy check old new (Err CannotWrite) = ⊤
 EndsBy check old new (Err _) = ⊥

@@ -6,7 +6,7 @@ use Rattle.definitions.specs.Faults as meaning
 use Rattle.definitions.specs.Schemas.{Document}
 use Rattle.definitions.specs.Services.{KeyedRegistry}
 use Rattle.definitions.specs.Values.{Text}
-use Rattle.faults.specs.View.{fault}
+use Rattle.faults.specs.View.{fault_view}
 use Rattle.faults.specs.declared.Fault.TheVariants.{NoRoom}
 use Rattle.command_line.specs.Calls.{Start}
 use Rattle.http_front.specs.Libraries.{OnLibraryOf}
@@ -60,5 +60,5 @@ OnServer files start P =
 abbrev pub IsJudged : {T : Type 0} → Server → Result T Stop → Type 0
 IsJudged (Ok registries) result = ⊤
 IsJudged (Err g) (Err (CannotRead name)) = ⊤
-IsJudged (Err g) (Err (Refused f)) = f ≢ NoRoom → g ≡ fault f
+IsJudged (Err g) (Err (Refused f)) = f ≢ NoRoom → g ≡ fault_view f
 IsJudged (Err g) _ = ⊥

@@ -4,7 +4,7 @@ use Rattle.std.specs.Io.KnownBytes.{Appends, Keeps}
 use Rattle.std.specs.List.{list_any}
 use Rattle.definitions.specs.Bytes.{line_feed}
 use Rattle.definitions.specs.Values.{Text}
-use Rattle.faults.specs.View.{fault, printed}
+use Rattle.faults.specs.View.{fault_view, printed_text}
 use Rattle.faults.specs.declared.Fault.TheVariants.{NoRoom}
 use Rattle.clap.specs.Words.{IsAmong, Kinds, kind_of}
 use Rattle.clap.specs.declared.error.Error.{Error}
@@ -18,7 +18,7 @@ abbrev pub text_of : Stop → Option Text
 text_of (Words e) = None
 text_of NotText = Some (codes "error: the command line is not UTF-8" ++ line_feed ∷ [])
 text_of (CannotRead name) = Some (codes "cannot read " ++ name.now ++ line_feed ∷ [])
-text_of (Refused f) = Some (codes "refused: " ++ printed (fault f) ++ line_feed ∷ [])
+text_of (Refused f) = Some (codes "refused: " ++ printed_text (fault_view f) ++ line_feed ∷ [])
 text_of CannotWrite = Some (codes "cannot write -" ++ line_feed ∷ [])
 text_of (CannotListen address) = Some (codes "cannot listen on " ++ address.now ++ line_feed ∷ [])
 text_of CannotAccept = Some (codes "cannot accept" ++ line_feed ∷ [])

@@ -1,7 +1,7 @@
 //! The program, by the form of its command line.
 ghost use Rattle.std.specs.Prelude.{◌≡◌, ◌≤◌, ◌⊎◌, true, IfOk, IfErr, map};
 ghost use Rattle.clap.specs.Words.{fault_of};
-ghost use Rattle.command_line.specs.Calls.{Asked, Means, asked};
+ghost use Rattle.command_line.specs.Calls.{Asked, Means, call_view};
 ghost use Rattle.command_line.specs.Commands.{program};
 ghost use Rattle.command_line.specs.Forms.{Asks};
 ghost use Rattle.schemareg.specs.Answers.{EndsBy, IsStatusOf, OnCheck};
@@ -109,11 +109,11 @@ fn carry_out<'a, F: Texts, N, I: Read, O: Write, E: Write>(
 ) -> Result<u8, Stop<'a>>
 where
     N: Net<Listener = TcpListener, Stream = TcpStream> + Clock,
-    ensures ends { OnCheck (F.text_at files.now) (I.remaining input.old) (asked call.entry)
+    ensures ends { OnCheck (F.text_at files.now) (I.remaining input.old) (call_view call.entry)
         (λ check. EndsBy check (O.contents out.old) (O.contents out.new) result) }
-    ensures reading { EndsReading (names_of (asked call.entry))
-        (address_of (asked call.entry)) result }
-    ensures served { is_service (asked call.entry) ≡ true → IfOk result (λ status. status ≡ 0) }
+    ensures reading { EndsReading (names_of (call_view call.entry))
+        (address_of (call_view call.entry)) result }
+    ensures served { is_service (call_view call.entry) ≡ true → IfOk result (λ status. status ≡ 0) }
 {
     match call {
         Call::Input => checking::check_input(alloc, input, out),

@@ -1,9 +1,9 @@
 //! The forms that serve connections: `run` and `serve`.
 ghost use Rattle.std.specs.Prelude.{◌≡◌, ◌≢◌, List, None, Some, Err, IsOk, IfOk, IfErr};
 ghost use Rattle.definitions.specs.Values.{Text};
-ghost use Rattle.faults.specs.View.{fault};
+ghost use Rattle.faults.specs.View.{fault_view};
 ghost use Rattle.http_front.specs.Running.{IsRun};
-ghost use Rattle.command_line.specs.Calls.{start};
+ghost use Rattle.command_line.specs.Calls.{setup_view};
 ghost use Rattle.schemareg.specs.Endings.{EndsReading, files_of, library_name};
 ghost use Rattle.schemareg.specs.Services.{HoldsLibrary, HoldsSources, IsJudged, IsUnstarted, OnServer, OnServerIn, library_path};
 ghost use Rattle.schemareg.specs.Stops.{IsUnreadAmong};
@@ -54,8 +54,8 @@ fn read_sources<'a, F: Texts>(
     files: &F,
     setup: Setup<'a>,
 ) -> Result<Sources, Stop<'a>>
-    ensures ok { IfOk result (HoldsSources (F.text_at files.now) (start setup.entry)) }
-    ensures err { IfErr result (IsUnreadAmong (files_of (start setup.entry))) }
+    ensures ok { IfOk result (HoldsSources (F.text_at files.now) (setup_view setup.entry)) }
+    ensures err { IfErr result (IsUnreadAmong (files_of (setup_view setup.entry))) }
 {
     match files.whole(alloc, setup.tenants) {
         Ok(tenants) => match read_library(alloc, files, setup.library) {
@@ -114,9 +114,9 @@ pub fn run<'a, F: Texts, I: Read, O: Write>(
     input: &mut I,
     out: &mut O,
 ) -> Result<u8, Stop<'a>>
-    ensures reading { EndsReading (files_of (start setup.entry)) None result }
+    ensures reading { EndsReading (files_of (setup_view setup.entry)) None result }
     ensures status { IfOk result (λ status. status ≡ 0) }
-    ensures judged { OnServer (F.text_at files.now) (start setup.entry)
+    ensures judged { OnServer (F.text_at files.now) (setup_view setup.entry)
         (λ server. IsJudged server result) }
 {
     match read_sources(alloc, files, setup) {
@@ -129,7 +129,7 @@ pub fn run<'a, F: Texts, I: Read, O: Write>(
 fn hub(alloc: Global, sources: &Sources, capacity: usize) -> Result<Hub, Fault>
     ensures ok { IfOk result (λ _. OnServerIn sources.now capacity IsOk) }
     ensures err { IfErr result (λ f. f ≢ Fault.NoRoom
-        → OnServerIn sources.now capacity (λ server. server ≡ Err (fault f))) }
+        → OnServerIn sources.now capacity (λ server. server ≡ Err (fault_view f))) }
 {
     let tenants = sources.tenants.as_slice();
     match &sources.library {
@@ -151,8 +151,8 @@ fn start_hub<'a>(alloc: Global, sources: &Sources, capacity: usize) -> Result<Hu
 
 /// New registries, of what the files of a service hold.
 fn new_hub<'a, F: Texts>(alloc: Global, files: &F, setup: Setup<'a>) -> Result<Hub, Stop<'a>>
-    ensures err { IfErr result (IsUnstarted (files_of (start setup.entry))) }
-    ensures judged { OnServer (F.text_at files.now) (start setup.entry)
+    ensures err { IfErr result (IsUnstarted (files_of (setup_view setup.entry))) }
+    ensures judged { OnServer (F.text_at files.now) (setup_view setup.entry)
         (λ server. IsJudged server result) }
 {
     match read_sources(alloc, files, setup) {
@@ -213,9 +213,9 @@ pub fn serve<'a, N, F: Texts, E: Write>(
 ) -> Result<u8, Stop<'a>>
 where
     N: Net<Listener = TcpListener, Stream = TcpStream> + Clock,
-    ensures reading { EndsReading (files_of (start setup.entry)) (Some address.now) result }
+    ensures reading { EndsReading (files_of (setup_view setup.entry)) (Some address.now) result }
     ensures status { IfOk result (λ status. status ≡ 0) }
-    ensures judged { OnServer (F.text_at files.now) (start setup.entry)
+    ensures judged { OnServer (F.text_at files.now) (setup_view setup.entry)
         (λ server. IsJudged server result) }
 {
     match new_hub(alloc, files, setup) {

@@ -1,19 +1,19 @@
 -- Writes, one after the other.
 use Rattle.std.proofs.Common.{◌≡◌, ℕ, ◌+◌, List, [], ◌∷◌, ◌++◌, Some, None, take, drop, refl, sym, ap, ◌∙◌, append_assoc, append-nil, take-add, take-append-drop}
 use Rattle.definitions.specs.Values.{Text}
-use Rattle.serving.specs.Transfers.{Transfer, transferred}
+use Rattle.serving.specs.Transfers.{Transfer, transferred_bytes}
 use Rattle.serving.specs.Writing.{Writes, WritesSome, IsBroken}
 
-pub transferred-append : (ts us : List Transfer) → transferred (ts ++ us) ≡ transferred ts ++ transferred us
+pub transferred-append : (ts us : List Transfer) → transferred_bytes (ts ++ us) ≡ transferred_bytes ts ++ transferred_bytes us
 transferred-append [] us = refl
 transferred-append (None ∷ ts) us = transferred-append ts us
-transferred-append (Some b ∷ ts) us = ap (λ t. b ++ t) (transferred-append ts us) ∙ sym (append_assoc b (transferred ts) (transferred us))
+transferred-append (Some b ∷ ts) us = ap (λ t. b ++ t) (transferred-append ts us) ∙ sym (append_assoc b (transferred_bytes ts) (transferred_bytes us))
 
-pub took_some : (ts : List Transfer) (b : Text) → transferred (ts ++ (Some b ∷ [])) ≡ transferred ts ++ b
-took_some ts b = transferred-append ts (Some b ∷ []) ∙ ap (λ t. transferred ts ++ t) (append-nil b)
+pub took_some : (ts : List Transfer) (b : Text) → transferred_bytes (ts ++ (Some b ∷ [])) ≡ transferred_bytes ts ++ b
+took_some ts b = transferred-append ts (Some b ∷ []) ∙ ap (λ t. transferred_bytes ts ++ t) (append-nil b)
 
-pub took_nothing : (ts : List Transfer) → transferred (ts ++ (None ∷ [])) ≡ transferred ts
-took_nothing ts = transferred-append ts (None ∷ []) ∙ append-nil (transferred ts)
+pub took_nothing : (ts : List Transfer) → transferred_bytes (ts ++ (None ∷ [])) ≡ transferred_bytes ts
+took_nothing ts = transferred-append ts (None ∷ []) ∙ append-nil (transferred_bytes ts)
 
 pub took_none : (n : ℕ) (bytes : Text) → n ≡ 0 → ◌≡◌ {A = Transfer} (Some (take n bytes)) (Some [])
 took_none n bytes e = rw e refl
@@ -26,7 +26,7 @@ pub writes_on : (before middle after : List Transfer) (a b : Text) → Writes be
 writes_on before middle after a b x y = record {
   writes = x.writes ++ y.writes;
   on = y.on ∙ ap (λ ts. ts ++ y.writes) x.on ∙ append_assoc before x.writes y.writes;
-  whole = transferred-append x.writes y.writes ∙ ap (λ t. t ++ transferred y.writes) x.whole ∙ ap (λ t. a ++ t) y.whole;
+  whole = transferred-append x.writes y.writes ∙ ap (λ t. t ++ transferred_bytes y.writes) x.whole ∙ ap (λ t. a ++ t) y.whole;
 }
 
 -- .. and the second breaks off
@@ -37,8 +37,8 @@ writes_some_on before middle after a b x y = record {
   on = y.on ∙ ap (λ ts. ts ++ (y.writes ++ (y.last ∷ []))) x.on ∙ append_assoc before x.writes (y.writes ++ (y.last ∷ []))
       ∙ ap (λ ts. before ++ ts) (sym (append_assoc x.writes y.writes (y.last ∷ [])));
   rest = y.rest;
-  part = ap (λ t. a ++ t) y.part ∙ sym (append_assoc a (transferred y.writes) y.rest)
-      ∙ ap (λ t. (t ++ transferred y.writes) ++ y.rest) (sym x.whole) ∙ ap (λ t. t ++ y.rest) (sym (transferred-append x.writes y.writes));
+  part = ap (λ t. a ++ t) y.part ∙ sym (append_assoc a (transferred_bytes y.writes) y.rest)
+      ∙ ap (λ t. (t ++ transferred_bytes y.writes) ++ y.rest) (sym x.whole) ∙ ap (λ t. t ++ y.rest) (sym (transferred-append x.writes y.writes));
   broken = y.broken;
 }
 
@@ -49,7 +49,7 @@ writes_some_of before after a b x = record {
   last = x.last;
   on = x.on;
   rest = x.rest ++ b;
-  part = ap (λ t. t ++ b) x.part ∙ append_assoc (transferred x.writes) x.rest b;
+  part = ap (λ t. t ++ b) x.part ∙ append_assoc (transferred_bytes x.writes) x.rest b;
   broken = x.broken;
 }
 

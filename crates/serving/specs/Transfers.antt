@@ -7,10 +7,10 @@ abbrev pub Transfer : Type 0
 Transfer = Option Text
 
 -- all bytes of some calls, in order
-abbrev pub transferred : List Transfer → Text
-transferred [] = []
-transferred (None ∷ ts) = transferred ts
-transferred (Some bytes ∷ ts) = bytes ++ transferred ts
+abbrev pub transferred_bytes : List Transfer → Text
+transferred_bytes [] = []
+transferred_bytes (None ∷ ts) = transferred_bytes ts
+transferred_bytes (Some bytes ∷ ts) = bytes ++ transferred_bytes ts
 
 -- what a call moved of these bytes
 abbrev pub transfer_of : {E : Type 0} → Result ℕ E → Text → Transfer

@@ -3,13 +3,13 @@ use Rattle.std.specs.Prelude.{◌≡◌, ◌⊎◌, List, [], ◌∷◌, ◌++�
 use Rattle.definitions.specs.Values.{Text}
 use Rattle.faults.specs.declared.Fault.{Fault}
 use Rattle.faults.specs.declared.Fault.TheVariants.{WriteFailed}
-use Rattle.serving.specs.Transfers.{Transfer, transferred}
+use Rattle.serving.specs.Transfers.{Transfer, transferred_bytes}
 
 -- all of these bytes
 pub record Writes (before : List Transfer) (bytes : Text) (after : List Transfer) : Type 0 where
   pub writes : List Transfer
   pub on : after ≡ before ++ writes
-  pub whole : transferred writes ≡ bytes
+  pub whole : transferred_bytes writes ≡ bytes
 
 -- a write that failed, or took none of some bytes
 abbrev pub IsBroken : Transfer → Type 0
@@ -21,7 +21,7 @@ pub record WritesSome (before : List Transfer) (bytes : Text) (after : List Tran
   pub last : Transfer
   pub on : after ≡ before ++ (writes ++ (last ∷ []))
   pub rest : Text
-  pub part : bytes ≡ transferred writes ++ rest
+  pub part : bytes ≡ transferred_bytes writes ++ rest
   pub broken : IsBroken last
 
 abbrev pub IsWriting : List Transfer → Text → Result (Unit {0}) Fault → List Transfer → Type 0

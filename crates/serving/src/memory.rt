@@ -1,7 +1,7 @@
 //! Readers and writers over memory.
 
 ghost use Rattle.std.specs.Prelude.{◌≡◌, ◌≤◌, ◌++◌, [], IfOk, OnErr, length, take};
-ghost use Rattle.serving.specs.Transfers.{transferred};
+ghost use Rattle.serving.specs.Transfers.{transferred_bytes};
 
 use crate::broken::Broken;
 use crate::streams::{ByteReader, ByteWriter};
@@ -108,7 +108,7 @@ pub struct MemoryWriter {
     bytes: Vec<u8>,
     pace: Pace,
     transcript: Transcript,
-    ghost told: { bytes.items ≡ transferred transcript.transfers },
+    ghost told: { bytes.items ≡ transferred_bytes transcript.transfers },
 }
 
 impl MemoryWriter {
@@ -127,7 +127,7 @@ impl MemoryWriter {
 
     /// The bytes that it took, in order.
     pub fn bytes(&self) -> &[u8]
-        ensures { result.now ≡ transferred (writes_of self.now) }
+        ensures { result.now ≡ transferred_bytes (writes_of self.now) }
     {
         &self.bytes
     }

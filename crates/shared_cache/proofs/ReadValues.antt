@@ -5,7 +5,7 @@ use Rattle.definitions.specs.Caches.{CacheKey}
 use Rattle.definitions.specs.Patterns.{regular_search}
 use Rattle.definitions.specs.Scanning.{scan_fault}
 use Rattle.definitions.specs.Searches.{is_regular}
-use Rattle.definitions.specs.Texts.{reading}
+use Rattle.definitions.specs.Texts.{parsed_value}
 use Rattle.definitions.specs.Values.{Text, Value}
 use Rattle.json_doc.proofs.Equality.{same-Decides}
 use Rattle.schema_scan.specs.CompiledDocuments.{compiled_base, compiled_value}
@@ -17,11 +17,11 @@ ok_of : (r : Result Value Fault) (v : Value) → is_ok_of v r ≡ true → r ≡
 ok_of (Ok w) v h = ap (λ u. Ok u) (sym ((same-Decides v w).0 h))
 ok_of (Err f) v h = cc
 
-pub read_as : (t : Text) (v : Value) → is_read_as t v ≡ true → reading t ≡ Ok v
+pub read_as : (t : Text) (v : Value) → is_read_as t v ≡ true → parsed_value t ≡ Ok v
 unfolding is_read_as
-read_as t v h = ok_of (reading t) v h
+read_as t v h = ok_of (parsed_value t) v h
 
-pub is_read : (t : Text) (v : Value) → reading t ≡ Ok v → is_read_as t v ≡ true
+pub is_read : (t : Text) (v : Value) → parsed_value t ≡ Ok v → is_read_as t v ≡ true
 unfolding is_read_as
 is_read t v e = ap (is_ok_of v) e ∙ (same-Decides v v).1 refl
 
@@ -29,7 +29,7 @@ same_Ok : {X E : Type 0} {x y : X} → ◌≡◌ {A = Result X E} (Ok x) (Ok y) 
 same_Ok e = cc
 
 -- two values that one text is read as are one
-pub one_value : (t : Text) (v w : Value) → is_read_as t v ≡ true → reading t ≡ Ok w → w ≡ v
+pub one_value : (t : Text) (v w : Value) → is_read_as t v ≡ true → parsed_value t ≡ Ok w → w ≡ v
 one_value t v w h e = same_Ok (sym e ∙ read_as t v h)
 
 -- ---- of the value that a key's text is read as, where the document d is made by the key

@@ -1,13 +1,13 @@
 //! The cache of compiled documents.
 
 ghost use Rattle.std.specs.Prelude.{◌≡◌, ◌≢◌, [], true, false, None, IfErr, IfOk, IfSome, OnErr, OnOk, length};
-ghost use Rattle.definitions.specs.Caches.{has_key, is_capacity, used, IsUsed};
+ghost use Rattle.definitions.specs.Caches.{has_key, is_capacity, cache_after_use, IsUsed};
 ghost use Rattle.definitions.specs.Patterns.{regular_search};
 ghost use Rattle.definitions.specs.Scanning.{scan_fault};
 ghost use Rattle.definitions.specs.Searches.{is_regular};
 ghost use Rattle.definitions.specs.Texts.{text};
 ghost use Rattle.definitions.specs.Uris.{recompose};
-ghost use Rattle.faults.specs.View.{fault};
+ghost use Rattle.faults.specs.View.{fault_view};
 ghost use Rattle.json_doc.specs.Docs.{value};
 ghost use Rattle.schema_scan.specs.CompiledDocuments.{compiled_base, compiled_value};
 ghost use Rattle.shared_cache.specs.Entries.{IsMadeBy};
@@ -104,7 +104,8 @@ impl Cache {
         ensures sound { OnOk result (scan_fault (recompose base.now) (value document.now) ≡ None) }
         ensures regular { OnOk result (is_regular regular_search (value document.now) ≡ true) }
         ensures err { IfErr result
-            (λ f. f ≢ Fault.NoRoom → Refuses (recompose base.now) (value document.now) (fault f)) }
+            (λ f. f ≢ Fault.NoRoom → Refuses (recompose base.now) (value document.now)
+            (fault_view f)) }
         ensures kept { OnOk result
             (IsUsed self.old (recompose base.now, text (value document.now)) self.new) }
         ensures refused { OnErr result (self.new ≡ self.old) }
@@ -128,7 +129,8 @@ impl Cache {
         ensures sound { OnOk result (scan_fault (recompose base.now) (value document.now) ≡ None) }
         ensures regular { OnOk result (is_regular regular_search (value document.now) ≡ true) }
         ensures err { IfErr result
-            (λ f. f ≢ Fault.NoRoom → Refuses (recompose base.now) (value document.now) (fault f)) }
+            (λ f. f ≢ Fault.NoRoom → Refuses (recompose base.now) (value document.now)
+            (fault_view f)) }
         ensures kept { OnOk result
             (IsUsed self.old (recompose base.now, text (value document.now)) self.new) }
         ensures refused { OnErr result (self.new ≡ self.old) }
@@ -154,7 +156,7 @@ impl Cache {
         ensures sound { OnOk result (scan_fault key.now.value.0 (value document.now) ≡ None) }
         ensures regular { OnOk result (is_regular regular_search (value document.now) ≡ true) }
         ensures err { IfErr result
-            (λ f. f ≢ Fault.NoRoom → Refuses key.now.value.0 (value document.now) (fault f)) }
+            (λ f. f ≢ Fault.NoRoom → Refuses key.now.value.0 (value document.now) (fault_view f)) }
         ensures kept { OnOk result (IsUsed self.old key.now.value self.new) }
         ensures refused { OnErr result (self.new ≡ self.old) }
     {
@@ -175,7 +177,8 @@ impl Cache {
     // The document that is kept under this key, which is now the most recently used.
     fn find(&mut self, key: &Rc<Key>) -> Result<Option<Rc<Compiled>>, AllocError>
         ensures found { IfOk result (λ o. IfSome o (λ c. IsMadeBy key.now.value c.value)) }
-        ensures used { IfOk result (λ o. IfSome o (λ c. self.new ≡ used self.old key.now.value)) }
+        ensures used { IfOk result
+            (λ o. IfSome o (λ c. self.new ≡ cache_after_use self.old key.now.value)) }
         ensures absent { IfOk result (λ o. o ≡ None → has_key self.old key.now.value ≡ false) }
         ensures same { IfOk result (λ o. o ≡ None → self.new ≡ self.old) }
         ensures err { OnErr result (self.new ≡ self.old) }

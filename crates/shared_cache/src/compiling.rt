@@ -6,7 +6,7 @@ ghost use Rattle.definitions.specs.Scanning.{scan_fault};
 ghost use Rattle.definitions.specs.Searches.{is_regular};
 ghost use Rattle.definitions.specs.Uris.{recompose};
 ghost use Rattle.definitions.specs.Values.{nesting};
-ghost use Rattle.faults.specs.View.{fault};
+ghost use Rattle.faults.specs.View.{fault_view};
 ghost use Rattle.json_doc.specs.Docs.{value};
 ghost use Rattle.schema_scan.specs.CompiledDocuments.{compiled_base, compiled_value};
 ghost use Rattle.shared_cache.specs.Refusals.{Refuses};
@@ -29,7 +29,7 @@ pub(crate) fn compiled_anew(
     ensures sound { OnOk result (scan_fault (recompose base.now) (value document.now) ≡ None) }
     ensures regular { OnOk result (is_regular regular_search (value document.now) ≡ true) }
     ensures err { IfErr result
-        (λ f. f ≢ Fault.NoRoom → Refuses (recompose base.now) (value document.now) (fault f)) }
+        (λ f. f ≢ Fault.NoRoom → Refuses (recompose base.now) (value document.now) (fault_view f)) }
 {
     let scanned = scan(alloc, base, document)?;
     let compiled = compile(alloc, scanned)?;
@@ -40,7 +40,7 @@ pub(crate) fn compiled_anew(
 pub(crate) fn refusal(alloc: Global, base: &Parts, document: &Doc) -> Fault
     requires { 120 < nesting (value document.now) }
     ensures { result ≢ Fault.NoRoom
-        → scan_fault (recompose base.now) (value document.now) ≡ Some (fault result) }
+        → scan_fault (recompose base.now) (value document.now) ≡ Some (fault_view result) }
 {
     match scan(alloc, base, document) {
         Ok(_) => unreachable!(),

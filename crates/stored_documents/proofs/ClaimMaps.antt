@@ -7,7 +7,7 @@ use Rattle.std.specs.declared.rc.Rc.{Rc}
 use Rattle.std.specs.declared.string.String.{String}
 use Rattle.definitions.specs.Values.{Text, same_text}
 use Rattle.stored_documents.specs.Claims.{claim_of}
-use Rattle.stored_documents.specs.StoredDocuments.{stored_document}
+use Rattle.stored_documents.specs.StoredDocuments.{stored_view}
 use Rattle.stored_documents.specs.declared.stored.Stored.{Stored}
 
 abbrev pub Writes : BTreeMap (String Global) (Rc Stored Global) → BTreeMap (String Global) (Rc Stored Global) → Text → Rc Stored Global → Type 0
@@ -18,58 +18,58 @@ same_claims claims now e u = rw e refl
 
 pub claims_stay : (claims now : BTreeMap (String Global) (Rc Stored Global)) → now.entries ≡ claims.entries → (u claim : Text) → claim_of claims u ≡ Some claim → claim_of now u ≡ Some claim
 unfolding claim_of
-claims_stay claims now e u claim h = ap (option_map (λ (s : Rc Stored Global). (stored_document s.value).canonical)) (same_claims claims now e u) ∙ h
+claims_stay claims now e u claim h = ap (option_map (λ (s : Rc Stored Global). (stored_view s.value).canonical)) (same_claims claims now e u) ∙ h
 
 pub kept_where_none : (claims now : BTreeMap (String Global) (Rc Stored Global)) (key : Text) (s : Rc Stored Global) → Writes claims now key s → is_some (get_by_text claims key) ≡ false
     → (u claim : Text) → claim_of claims u ≡ Some claim → claim_of now u ≡ Some claim
 unfolding claim_of
-kept_where_none claims now key s writes none u claim h = ap (option_map (λ (x : Rc Stored Global). (stored_document x.value).canonical)) (writes u) ∙ at (same_text key u) refl
+kept_where_none claims now key s writes none u claim h = ap (option_map (λ (x : Rc Stored Global). (stored_view x.value).canonical)) (writes u) ∙ at (same_text key u) refl
   where
-    some_there : (o : Option (Rc Stored Global)) → option_map (λ (x : Rc Stored Global). (stored_document x.value).canonical) o ≡ Some claim → is_some o ≡ true
+    some_there : (o : Option (Rc Stored Global)) → option_map (λ (x : Rc Stored Global). (stored_view x.value).canonical) o ≡ Some claim → is_some o ≡ true
     some_there (Some x) e = refl
     some_there None e = cc
 
     at : (b : Bool) → same_text key u ≡ b
-        → option_map (λ (x : Rc Stored Global). (stored_document x.value).canonical) (cond b (Some s) (get_by_text claims u)) ≡ Some claim
+        → option_map (λ (x : Rc Stored Global). (stored_view x.value).canonical) (cond b (Some s) (get_by_text claims u)) ≡ Some claim
     at true e = absurd (true≢false (sym (some_there (get_by_text claims u) h) ∙ ap (λ t. is_some (get_by_text claims t)) (sym ((bytes_decides key u).0 e)) ∙ none))
     at false e = h
 
 pub claimed_now : (claims now : BTreeMap (String Global) (Rc Stored Global)) (key : Text) (s : Rc Stored Global) → Writes claims now key s → is_some (claim_of now key) ≡ true
 unfolding claim_of
 claimed_now claims now key s writes =
-    ap (λ o. is_some (option_map (λ (x : Rc Stored Global). (stored_document x.value).canonical) o))
+    ap (λ o. is_some (option_map (λ (x : Rc Stored Global). (stored_view x.value).canonical) o))
     (writes key ∙ ap (λ b. cond b (Some s) (get_by_text claims key)) ((bytes_decides key key).1 refl))
 
 pub claimed_before : (claims : BTreeMap (String Global) (Rc Stored Global)) (key : Text) → is_some (get_by_text claims key) ≡ true → is_some (claim_of claims key) ≡ true
 unfolding claim_of
 claimed_before claims key e = at (get_by_text claims key) e
   where
-    at : (o : Option (Rc Stored Global)) → is_some o ≡ true → is_some (option_map (λ (x : Rc Stored Global). (stored_document x.value).canonical) o) ≡ true
+    at : (o : Option (Rc Stored Global)) → is_some o ≡ true → is_some (option_map (λ (x : Rc Stored Global). (stored_view x.value).canonical) o) ≡ true
     at (Some x) h = refl
     at None h = h
 
 pub written_there : (claims now : BTreeMap (String Global) (Rc Stored Global)) (key : Text) (s : Rc Stored Global) → Writes claims now key s → is_some (get_by_text claims key) ≡ true
-    → (u : Text) → claim_of now u ≡ option_map (λ claim. cond (same_text key u) (stored_document s.value).canonical claim) (claim_of claims u)
+    → (u : Text) → claim_of now u ≡ option_map (λ claim. cond (same_text key u) (stored_view s.value).canonical claim) (claim_of claims u)
 unfolding claim_of
 written_there claims now key s writes there u =
-    ap (option_map (λ (x : Rc Stored Global). (stored_document x.value).canonical)) (writes u) ∙ at (same_text key u) refl (get_by_text claims u) refl
+    ap (option_map (λ (x : Rc Stored Global). (stored_view x.value).canonical)) (writes u) ∙ at (same_text key u) refl (get_by_text claims u) refl
   where
     at : (b : Bool) → same_text key u ≡ b → (o : Option (Rc Stored Global)) → get_by_text claims u ≡ o
-        → option_map (λ (x : Rc Stored Global). (stored_document x.value).canonical) (cond b (Some s) o)
-        ≡ option_map (λ claim. cond b (stored_document s.value).canonical claim) (option_map (λ (x : Rc Stored Global). (stored_document x.value).canonical) o)
+        → option_map (λ (x : Rc Stored Global). (stored_view x.value).canonical) (cond b (Some s) o)
+        ≡ option_map (λ claim. cond b (stored_view s.value).canonical claim) (option_map (λ (x : Rc Stored Global). (stored_view x.value).canonical) o)
     at true e None f = absurd (true≢false (sym there ∙ ap (λ t. is_some (get_by_text claims t)) ((bytes_decides key u).0 e) ∙ ap is_some f))
     at true e (Some x) f = refl
     at false e None f = refl
     at false e (Some x) f = refl
 
 pub unwritten_there : (claims : BTreeMap (String Global) (Rc Stored Global)) (key : Text) (s : Rc Stored Global) → is_some (get_by_text claims key) ≡ false
-    → (u : Text) → claim_of claims u ≡ option_map (λ claim. cond (same_text key u) (stored_document s.value).canonical claim) (claim_of claims u)
+    → (u : Text) → claim_of claims u ≡ option_map (λ claim. cond (same_text key u) (stored_view s.value).canonical claim) (claim_of claims u)
 unfolding claim_of
 unwritten_there claims key s none u = at (same_text key u) refl (get_by_text claims u) refl
   where
     at : (b : Bool) → same_text key u ≡ b → (o : Option (Rc Stored Global)) → get_by_text claims u ≡ o
-        → option_map (λ (x : Rc Stored Global). (stored_document x.value).canonical) o
-        ≡ option_map (λ claim. cond b (stored_document s.value).canonical claim) (option_map (λ (x : Rc Stored Global). (stored_document x.value).canonical) o)
+        → option_map (λ (x : Rc Stored Global). (stored_view x.value).canonical) o
+        ≡ option_map (λ claim. cond b (stored_view s.value).canonical claim) (option_map (λ (x : Rc Stored Global). (stored_view x.value).canonical) o)
     at b e None f = refl
     at true e (Some x) f = absurd (true≢false (sym (ap is_some f) ∙ ap (λ t. is_some (get_by_text claims t)) (sym ((bytes_decides key u).0 e)) ∙ none))
     at false e (Some x) f = refl

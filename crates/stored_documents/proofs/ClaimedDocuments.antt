@@ -7,7 +7,7 @@ use Rattle.std.specs.Global.{Global}
 use Rattle.std.specs.List.{list_any}
 use Rattle.std.specs.declared.rc.Rc.{Rc}
 use Rattle.std.specs.declared.string.String.{String}
-use Rattle.definitions.specs.Documents.{canonicals, document_of, others_of, placed, placed_all, resources_of, resource_uris_of}
+use Rattle.definitions.specs.Documents.{canonicals, document_of, others_of, documents_with, documents_with_all, resources_of, resource_uris_of}
 use Rattle.definitions.specs.Keeping.{AreKept}
 use Rattle.definitions.specs.Lists.{has_repeat}
 use Rattle.definitions.specs.Patterns.{regular_search}
@@ -21,7 +21,7 @@ use Rattle.definition_laws.proofs.Repeats.{in_flat_map, from_flat_map}
 use Rattle.definition_laws.proofs.Resources.{one_document, opened_is_root, root_opens, same_text-unlike}
 use Rattle.definition_laws.proofs.StoredDocuments.{found_by_uri, one_holder}
 use Rattle.stored_documents.specs.Claims.{claim_of, claims_of, last_claim, own_claims, AreClaimed}
-use Rattle.stored_documents.specs.StoredDocuments.{stored_document}
+use Rattle.stored_documents.specs.StoredDocuments.{stored_view}
 use Rattle.stored_documents.specs.declared.stored.Stored.{Stored}
 
 is_same : {X : Type 0} (x y : X) → Some x ≡ Some y → x ≡ y
@@ -59,11 +59,11 @@ pub released : (claims now : BTreeMap (String Global) (Rc Stored Global)) (ds : 
     → ((u : Text) → get_by_text now u ≡ cond (same_text uri u) None (get_by_text claims u)) → AreClaimed now ds
 unfolding AreClaimed claim_of
 released claims now ds uri claimed none change d k u h =
-    ap (option_map (λ (s : Rc Stored Global). (stored_document s.value).canonical)) (change u) ∙ rest (same_text uri u) refl ∙ claimed d k u h
+    ap (option_map (λ (s : Rc Stored Global). (stored_view s.value).canonical)) (change u) ∙ rest (same_text uri u) refl ∙ claimed d k u h
   where
     rest : (b : Bool) → same_text uri u ≡ b
-        → option_map (λ (s : Rc Stored Global). (stored_document s.value).canonical) (cond b None (get_by_text claims u))
-        ≡ option_map (λ (s : Rc Stored Global). (stored_document s.value).canonical) (get_by_text claims u)
+        → option_map (λ (s : Rc Stored Global). (stored_view s.value).canonical) (cond b None (get_by_text claims u))
+        ≡ option_map (λ (s : Rc Stored Global). (stored_view s.value).canonical) (get_by_text claims u)
     rest true e =
         let held : holds_resource uri d ≡ true = subst (λ t. holds_resource t d ≡ true) (sym ((bytes_decides uri u).0 e)) h in
         let some_one : (z : Document) × (find (holds_resource uri) ds ≡ Some z) = found_some (holds_resource uri) d ds k held in
@@ -126,19 +126,19 @@ claims_put claims now es ds after claimed there made from within distinct x k u 
     some_claim (Some before) e f = ap Some (f before)
 
 -- ---- what is put is there
-each_placed : (es ds : List Document) → has_repeat same_text (canonicals es) ≡ false → (e : Document) → Contains es e → Contains (placed_all es ds) e
+each_placed : (es ds : List Document) → has_repeat same_text (canonicals es) ≡ false → (e : Document) → Contains es e → Contains (documents_with_all es ds) e
 each_placed [] ds once e k = absurd (nothing_in e k)
 each_placed (f ∷ es) ds once e k =
     let apart = or_parts (list_any (same_text f.canonical) (canonicals es)) (has_repeat same_text (canonicals es)) once in
     elim (first_or_later f e es k) [
       | inl same ↦
-          subst (Contains (placed_all es (placed f ds))) same
-          (in_all es (placed f ds) f (placed_itself f ds) (λ g c. same_text-unlike f.canonical g.canonical (first_apart f es apart.0 g c)))
-      | inr later ↦ each_placed es (placed f ds) apart.1 e later
+          subst (Contains (documents_with_all es (documents_with f ds))) same
+          (in_all es (documents_with f ds) f (placed_itself f ds) (λ g c. same_text-unlike f.canonical g.canonical (first_apart f es apart.0 g c)))
+      | inr later ↦ each_placed es (documents_with f ds) apart.1 e later
     ]
 
 -- the claims that were made being those of the documents that are put
-pub claimed_after : (claims now : BTreeMap (String Global) (Rc Stored Global)) (es ds after : List Document) (ps : List (Text × Text)) → ps ≡ claims_of es → after ≡ placed_all es ds
+pub claimed_after : (claims now : BTreeMap (String Global) (Rc Stored Global)) (es ds after : List Document) (ps : List (Text × Text)) → ps ≡ claims_of es → after ≡ documents_with_all es ds
     → has_repeat same_text (canonicals es) ≡ false → has_repeat same_text (resource_uris_of after) ≡ false → AreClaimed claims ds
     → ((u c : Text) → Contains ps (u, c) → is_some (claim_of claims u) ≡ true)
     → ((u : Text) → claim_of now u ≡ option_map (last_claim u ps) (claim_of claims u)) → AreClaimed now after

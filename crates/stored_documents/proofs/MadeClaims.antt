@@ -10,7 +10,7 @@ use Rattle.definition_laws.proofs.Membership.{nothing_in, is_first, is_later, fi
 use Rattle.lemmas.proofs.Lists.{flat_map-push, map-take_more}
 use Rattle.stored_documents.specs.Claims.{claims_in, claims_of, last_claim, own_claims}
 use Rattle.stored_documents.specs.SharedStored.{stored_documents}
-use Rattle.stored_documents.specs.StoredDocuments.{stored_document}
+use Rattle.stored_documents.specs.StoredDocuments.{stored_view}
 use Rattle.stored_documents.specs.declared.stored.Stored.{Stored}
 use Rattle.stored_documents.proofs.ClaimedDocuments.{one_more_claim}
 
@@ -20,9 +20,9 @@ none_made uri None = refl
 none_made uri (Some claim) = refl
 
 pub claims_pushed : (ps : List (String Global × Rc Stored Global)) (p : String Global × Rc Stored Global)
-    → claims_in (ps ++ p ∷ []) ≡ claims_in ps ++ (string_bytes p.0, (stored_document p.1.value).canonical) ∷ []
+    → claims_in (ps ++ p ∷ []) ≡ claims_in ps ++ (string_bytes p.0, (stored_view p.1.value).canonical) ∷ []
 unfolding claims_in
-claims_pushed ps p = map-append (λ (q : String Global × Rc Stored Global). (string_bytes q.0, (stored_document q.1.value).canonical)) ps (p ∷ [])
+claims_pushed ps p = map-append (λ (q : String Global × Rc Stored Global). (string_bytes q.0, (stored_view q.1.value).canonical)) ps (p ∷ [])
 
 pub made_one_more : (uri : Text) (ps : List (Text × Text)) (p : Text × Text) (o : Option Text)
     → option_map (λ claim. cond (same_text p.0 uri) p.1 claim) (option_map (last_claim uri ps) o) ≡ option_map (last_claim uri (ps ++ p ∷ [])) o
@@ -55,9 +55,9 @@ unfolding claims_in
 none_in p c = nothing_in p c
 
 pub claims_taken : (ps : List (String Global × Rc Stored Global)) (i : ℕ) (p : String Global × Rc Stored Global) → i < length ps → p ≡ get_or ps i p
-    → claims_in (take (i + 1) ps) ≡ claims_in (take i ps) ++ (string_bytes p.0, (stored_document p.1.value).canonical) ∷ []
+    → claims_in (take (i + 1) ps) ≡ claims_in (take i ps) ++ (string_bytes p.0, (stored_view p.1.value).canonical) ∷ []
 unfolding claims_in
-claims_taken ps i p l e = map-take_more (λ (q : String Global × Rc Stored Global). (string_bytes q.0, (stored_document q.1.value).canonical)) ps i p l e
+claims_taken ps i p l e = map-take_more (λ (q : String Global × Rc Stored Global). (string_bytes q.0, (stored_view q.1.value).canonical)) ps i p l e
 
 pub uris_claimed : (canonical : Text) (us : List (String Global)) (i : ℕ) (u : String Global) → i < length us → u ≡ get_or us i u
     → map {B = Text × Text} (λ (t : Text). (t, canonical)) (map string_bytes (take (i + 1) us))
@@ -71,11 +71,11 @@ unfolding claims_in claims_of stored_documents
 none_to_make = refl
 
 pub claims_of_taken : (ss : List (Rc Stored Global)) (i : ℕ) (s : Rc Stored Global) → i < length ss → s ≡ get_or ss i s
-    → claims_of (stored_documents (take (i + 1) ss)) ≡ claims_of (stored_documents (take i ss)) ++ own_claims (stored_document s.value)
+    → claims_of (stored_documents (take (i + 1) ss)) ≡ claims_of (stored_documents (take i ss)) ++ own_claims (stored_view s.value)
 unfolding stored_documents
 claims_of_taken ss i s l e =
-    ap claims_of (map-take_more (λ (x : Rc Stored Global). stored_document x.value) ss i s l e)
-    ∙ claims_of_more (map (λ (x : Rc Stored Global). stored_document x.value) (take i ss)) (stored_document s.value)
+    ap claims_of (map-take_more (λ (x : Rc Stored Global). stored_view x.value) ss i s l e)
+    ∙ claims_of_more (map (λ (x : Rc Stored Global). stored_view x.value) (take i ss)) (stored_view s.value)
 
 pub claims_made : (before made : List (String Global × Rc Stored Global)) (d : Document) → before ≡ [] → claims_in made ≡ claims_in before ++ own_claims d → claims_in made ≡ claims_of (d ∷ [])
 unfolding claims_in

@@ -1,7 +1,7 @@
 -- How many bytes documents have of which one is put or taken out.
 use Rattle.std.proofs.Common.{◌≡◌, ℕ, ◌+◌, ◌-◌, ◌^◌, ◌<◌, ◌≤◌, Fits, w64, List, [], ◌∷◌, length, Some, None, sym, ap, ◌∙◌, arith}
 use Rattle.std.proofs.lemmas.List.Sums.{sum_by-cons}
-use Rattle.definitions.specs.Documents.{bytes_of, document_of, others_of, placed, Ascend}
+use Rattle.definitions.specs.Documents.{bytes_of, document_of, others_of, documents_with, Ascend}
 use Rattle.definitions.specs.Lists.{option_list}
 use Rattle.definitions.specs.Schemas.{Document}
 use Rattle.definitions.specs.Texts.{text}
@@ -39,15 +39,15 @@ fits_as n m e l = omega (arith, e, l)
 
 -- ---- of documents
 pub bytes_instead : (d old : Document) (ds : List Document) → Ascend ds → document_of ds d.canonical ≡ Some old
-    → bytes_of (placed d ds) + length (text old.value) ≡ bytes_of ds + length (text d.value)
+    → bytes_of (documents_with d ds) + length (text old.value) ≡ bytes_of ds + length (text d.value)
 bytes_instead d old ds ascend e =
-    instead (bytes_of (placed d ds)) (bytes_of (old ∷ [])) (bytes_of ds) (length (text d.value)) (length (text old.value))
-    (ap (λ o. bytes_of (placed d ds) + bytes_of (option_list o)) (sym e) ∙ added (λ (x : Document). length (text x.value)) d ds ascend) (one old)
+    instead (bytes_of (documents_with d ds)) (bytes_of (old ∷ [])) (bytes_of ds) (length (text d.value)) (length (text old.value))
+    (ap (λ o. bytes_of (documents_with d ds) + bytes_of (option_list o)) (sym e) ∙ added (λ (x : Document). length (text x.value)) d ds ascend) (one old)
 
-pub bytes_more : (d : Document) (ds : List Document) → Ascend ds → document_of ds d.canonical ≡ None → bytes_of (placed d ds) ≡ bytes_of ds + length (text d.value)
+pub bytes_more : (d : Document) (ds : List Document) → Ascend ds → document_of ds d.canonical ≡ None → bytes_of (documents_with d ds) ≡ bytes_of ds + length (text d.value)
 bytes_more d ds ascend e =
-    more (bytes_of (placed d ds)) (bytes_of ds) (length (text d.value))
-    (ap (λ o. bytes_of (placed d ds) + bytes_of (option_list o)) (sym e) ∙ added (λ (x : Document). length (text x.value)) d ds ascend)
+    more (bytes_of (documents_with d ds)) (bytes_of ds) (length (text d.value))
+    (ap (λ o. bytes_of (documents_with d ds) + bytes_of (option_list o)) (sym e) ∙ added (λ (x : Document). length (text x.value)) d ds ascend)
 
 pub bytes_without : (uri : Text) (old : Document) (ds : List Document) → Ascend ds → document_of ds uri ≡ Some old → bytes_of (others_of uri ds) + length (text old.value) ≡ bytes_of ds
 bytes_without uri old ds ascend e =
@@ -64,11 +64,11 @@ bytes_left uri ds ascend e =
 
 -- ---- the sum that is kept
 pub sum_instead : (d old : Document) (ds : List Document) (size new bytes : ℕ) → Ascend ds → document_of ds d.canonical ≡ Some old → size ≡ length (text old.value)
-    → new ≡ length (text d.value) → bytes ≡ bytes_of ds → (size ≤ bytes) × (bytes - size + new ≡ bytes_of (placed d ds))
+    → new ≡ length (text d.value) → bytes ≡ bytes_of ds → (size ≤ bytes) × (bytes - size + new ≡ bytes_of (documents_with d ds))
 sum_instead d old ds size new bytes ascend found e f g =
     let le = is_within (bytes_of (others_of d.canonical ds)) (length (text old.value)) (bytes_of ds) size bytes (bytes_without d.canonical old ds ascend found) e g in
-    (le, is_instead (bytes_of (placed d ds)) (length (text old.value)) (bytes_of ds) (length (text d.value)) size new bytes (bytes_instead d old ds ascend found) e f g le)
+    (le, is_instead (bytes_of (documents_with d ds)) (length (text old.value)) (bytes_of ds) (length (text d.value)) size new bytes (bytes_instead d old ds ascend found) e f g le)
 
 pub sum_more : (d : Document) (ds : List Document) (new bytes : ℕ) → Ascend ds → document_of ds d.canonical ≡ None → new ≡ length (text d.value) → bytes ≡ bytes_of ds
-    → bytes + new ≡ bytes_of (placed d ds)
-sum_more d ds new bytes ascend none f g = is_more (bytes_of (placed d ds)) (bytes_of ds) (length (text d.value)) new bytes (bytes_more d ds ascend none) f g
+    → bytes + new ≡ bytes_of (documents_with d ds)
+sum_more d ds new bytes ascend none f g = is_more (bytes_of (documents_with d ds)) (bytes_of ds) (length (text d.value)) new bytes (bytes_more d ds ascend none) f g

@@ -6,7 +6,7 @@ use Rattle.std.proofs.lemmas.List.Elements.{Contains-get_or}
 use Rattle.std.specs.Cmp.Lexicographic.{slice_cmp, bytes_decides}
 use Rattle.std.specs.List.{remove}
 use Rattle.std.specs.Ordering.{nat_cmp, ordering_reverse}
-use Rattle.definitions.specs.Documents.{others_of, placed, Ascend}
+use Rattle.definitions.specs.Documents.{others_of, documents_with, Ascend}
 use Rattle.definitions.specs.Schemas.{Document}
 use Rattle.definitions.specs.Values.{Text, same_text}
 use Rattle.definition_laws.proofs.JoinedDocuments.{IsOther, other, tie_at}
@@ -29,7 +29,7 @@ below_it e es uri at ascend stands =
     (first_below (slice_cmp nat_cmp) nat_list_cmp_total key_of e (get_or es at e) es ascend (Contains-get_or es at e rest.inside))
 
 -- ---- instead of it
-pub put_instead : (d : Document) (ds : List Document) (at : ℕ) → Ascend ds → StandsAt ds d.canonical at → set ds at d ≡ placed d ds
+pub put_instead : (d : Document) (ds : List Document) (at : ℕ) → Ascend ds → StandsAt ds d.canonical at → set ds at d ≡ documents_with d ds
 put_instead d [] at ascend stands = absurd (omega (arith, stands.inside))
 put_instead d (e ∷ es) zero ascend stands = rw (tie_at d.canonical e.canonical (sym (stands.named e))) refl
 put_instead d (e ∷ es) (suc at) ascend stands =

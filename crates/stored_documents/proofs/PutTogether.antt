@@ -7,7 +7,7 @@ use Rattle.std.specs.Global.{Global}
 use Rattle.std.specs.List.{list_any}
 use Rattle.std.specs.declared.rc.Rc.{Rc}
 use Rattle.definitions.specs.Batches.{repeated_uri, taken_by}
-use Rattle.definitions.specs.Documents.{bytes_of, canonicals, document_of, placed, placed_all, taken_uris, Ascend}
+use Rattle.definitions.specs.Documents.{bytes_of, canonicals, document_of, documents_with, documents_with_all, taken_uris, Ascend}
 use Rattle.definitions.specs.Keeping.{AreKept}
 use Rattle.definitions.specs.Lists.{has_repeat, option_list}
 use Rattle.definitions.specs.Patterns.{regular_search}
@@ -24,7 +24,7 @@ use Rattle.definition_laws.proofs.QuotaSums.{added}
 use Rattle.definition_laws.proofs.Repeats.{cut}
 use Rattle.lemmas.proofs.Lists.{map-take_more}
 use Rattle.stored_documents.specs.SharedStored.{stored_documents}
-use Rattle.stored_documents.specs.StoredDocuments.{stored_document}
+use Rattle.stored_documents.specs.StoredDocuments.{stored_view}
 use Rattle.stored_documents.specs.declared.stored.Stored.{Stored}
 use Rattle.stored_documents.specs.KeptDocuments.{of_each}
 use Rattle.stored_documents.proofs.KeptStored.{fine}
@@ -32,10 +32,10 @@ use Rattle.stored_documents.proofs.MeasuredDocuments.{bytes_more, is_instead}
 
 -- ---- no repeats, and nothing taken
 pub kept_with_all : (ss : List (Rc Stored Global)) (ds : List Document) → AreKept regular_search ds → repeated_uri (stored_documents ss) ≡ None
-    → taken_by (placed_all (stored_documents ss) ds) (stored_documents ss) ≡ None → AreKept regular_search (placed_all (stored_documents ss) ds)
+    → taken_by (documents_with_all (stored_documents ss) ds) (stored_documents ss) ≡ None → AreKept regular_search (documents_with_all (stored_documents ss) ds)
 kept_with_all ss ds kept once free =
     let es = stored_documents ss in
-    let after = placed_all es ds in
+    let after = documents_with_all es ds in
     batch_kept regular_search es ds kept (of_each (IsFine regular_search) fine ss)
     (λ e c x k other. free_of_others after e x (ap least (flat_none (taken_uris after) e es (no_least (flat_map (taken_uris after) es) free) c)) k other)
     (unrepeated es once)
@@ -47,29 +47,29 @@ add_up all es rest own e part f g h = omega (arith, f, g, h)
 none_first : (n m : ℕ) → m ≡ 0 → n ≡ m + n
 none_first n m e = omega (arith, e)
 
-pub bytes_of_all : (es ds : List Document) → Ascend ds → has_repeat same_text (canonicals es) ≡ false → bytes_of (placed_all es ds) ≡ bytes_of es + bytes_of (outside es ds)
+pub bytes_of_all : (es ds : List Document) → Ascend ds → has_repeat same_text (canonicals es) ≡ false → bytes_of (documents_with_all es ds) ≡ bytes_of es + bytes_of (outside es ds)
 bytes_of_all [] ds ascend once = none_first (bytes_of ds) (bytes_of []) refl
 bytes_of_all (e ∷ es) ds ascend once =
     let apart = or_parts (list_any (same_text e.canonical) (canonicals es)) (has_repeat same_text (canonicals es)) once in
-    add_up (bytes_of (placed_all es (placed e ds))) (bytes_of es) (bytes_of (outside (e ∷ es) ds)) (length (text e.value)) (bytes_of (e ∷ es)) (bytes_of (placed e (outside (e ∷ es) ds)))
-    (bytes_of_all es (placed e ds) (ascend_placed e ds ascend) apart.1 ∙ ap (λ xs. bytes_of es + bytes_of xs) (outside_rest e es ds apart.0 ascend))
+    add_up (bytes_of (documents_with_all es (documents_with e ds))) (bytes_of es) (bytes_of (outside (e ∷ es) ds)) (length (text e.value)) (bytes_of (e ∷ es)) (bytes_of (documents_with e (outside (e ∷ es) ds)))
+    (bytes_of_all es (documents_with e ds) (ascend_placed e ds ascend) apart.1 ∙ ap (λ xs. bytes_of es + bytes_of xs) (outside_rest e es ds apart.0 ascend))
     (bytes_more e (outside (e ∷ es) ds) (ascend_outside (e ∷ es) ds ascend) (none_outside e.canonical (outside es ds)))
     (sum_by-cons (λ (x : Document). length (text x.value)) e es)
 
 -- ---- one after the other
-pub placed_more : (es : List Document) (e : Document) (ds : List Document) → placed_all (es ++ e ∷ []) ds ≡ placed e (placed_all es ds)
+pub placed_more : (es : List Document) (e : Document) (ds : List Document) → documents_with_all (es ++ e ∷ []) ds ≡ documents_with e (documents_with_all es ds)
 placed_more [] e ds = refl
-placed_more (x ∷ es) e ds = placed_more es e (placed x ds)
+placed_more (x ∷ es) e ds = placed_more es e (documents_with x ds)
 
-pub stored_pushed : (ss : List (Rc Stored Global)) (s : Rc Stored Global) → stored_documents (ss ++ s ∷ []) ≡ stored_documents ss ++ stored_document s.value ∷ []
+pub stored_pushed : (ss : List (Rc Stored Global)) (s : Rc Stored Global) → stored_documents (ss ++ s ∷ []) ≡ stored_documents ss ++ stored_view s.value ∷ []
 unfolding stored_documents
-stored_pushed ss s = map-append (λ (x : Rc Stored Global). stored_document x.value) ss (s ∷ [])
+stored_pushed ss s = map-append (λ (x : Rc Stored Global). stored_view x.value) ss (s ∷ [])
 
 stored_joined : (ss ts : List (Rc Stored Global)) → canonicals (stored_documents (ss ++ ts)) ≡ canonicals (stored_documents ss) ++ canonicals (stored_documents ts)
 unfolding stored_documents
 stored_joined ss ts =
-    ap canonicals (map-append (λ (x : Rc Stored Global). stored_document x.value) ss ts)
-    ∙ map-append (λ (d : Document). d.canonical) (map (λ (x : Rc Stored Global). stored_document x.value) ss) (map (λ (x : Rc Stored Global). stored_document x.value) ts)
+    ap canonicals (map-append (λ (x : Rc Stored Global). stored_view x.value) ss ts)
+    ∙ map-append (λ (d : Document). d.canonical) (map (λ (x : Rc Stored Global). stored_view x.value) ss) (map (λ (x : Rc Stored Global). stored_view x.value) ts)
 
 one_longer : (all part last own : ℕ) → all ≡ part + last → last ≡ own + 0 → all ≡ part + own
 one_longer all part last own e f = omega (arith, e, f)
@@ -80,21 +80,21 @@ bytes_pushed ds d =
     (sum_by-append (λ (x : Document). length (text x.value)) ds (d ∷ [])) (sum_by-cons (λ (x : Document). length (text x.value)) d [])
 
 pub stored_bytes_more : (ss : List (Rc Stored Global)) (i : ℕ) (s : Rc Stored Global) → i < length ss → s ≡ get_or ss i s
-    → bytes_of (stored_documents (take (i + 1) ss)) ≡ bytes_of (stored_documents (take i ss)) + length (text (stored_document s.value).value)
+    → bytes_of (stored_documents (take (i + 1) ss)) ≡ bytes_of (stored_documents (take i ss)) + length (text (stored_view s.value).value)
 unfolding stored_documents
 stored_bytes_more ss i s l e =
-    ap bytes_of (map-take_more (λ (x : Rc Stored Global). stored_document x.value) ss i s l e)
-    ∙ bytes_pushed (map (λ (x : Rc Stored Global). stored_document x.value) (take i ss)) (stored_document s.value)
+    ap bytes_of (map-take_more (λ (x : Rc Stored Global). stored_view x.value) ss i s l e)
+    ∙ bytes_pushed (map (λ (x : Rc Stored Global). stored_view x.value) (take i ss)) (stored_view s.value)
 
 pub stored_bytes_within : (ss : List (Rc Stored Global)) (i : ℕ) → bytes_of (stored_documents (take i ss)) ≤ bytes_of (stored_documents ss)
 unfolding stored_documents
 stored_bytes_within ss i =
-    subst (λ ds. bytes_of ds ≤ bytes_of (map (λ (x : Rc Stored Global). stored_document x.value) ss)) (take-map (λ (x : Rc Stored Global). stored_document x.value) i ss)
-    (sum_by-take-le (λ (x : Document). length (text x.value)) (map (λ (x : Rc Stored Global). stored_document x.value) ss) i)
+    subst (λ ds. bytes_of ds ≤ bytes_of (map (λ (x : Rc Stored Global). stored_view x.value) ss)) (take-map (λ (x : Rc Stored Global). stored_view x.value) i ss)
+    (sum_by-take-le (λ (x : Document). length (text x.value)) (map (λ (x : Rc Stored Global). stored_view x.value) ss) i)
 
 -- as far as some of them are put
 pub record ArePlaced (ss : List (Rc Stored Global)) (before now : List Document) (replaced : ℕ) : Type 0 where
-  pub placed : now ≡ placed_all (stored_documents ss) before
+  pub placed : now ≡ documents_with_all (stored_documents ss) before
   pub bytes : bytes_of now + replaced ≡ bytes_of before + bytes_of (stored_documents ss)
 
 sums_up : (after one now own replaced before es all size : ℕ) → after + one ≡ now + own → size ≡ one → now + replaced ≡ before + es → all ≡ es + own
@@ -105,15 +105,15 @@ pub ascend_now : (ss : List (Rc Stored Global)) (before now : List Document) (re
 ascend_now ss before now replaced so_far ascend = subst Ascend (sym so_far.placed) (ascend_all (stored_documents ss) before ascend)
 
 pub one_more : (ss : List (Rc Stored Global)) (s : Rc Stored Global) (before now after : List Document) (replaced size : ℕ) → Ascend before → ArePlaced ss before now replaced
-    → after ≡ placed (stored_document s.value) now → size ≡ bytes_of (option_list (document_of now (stored_document s.value).canonical))
+    → after ≡ documents_with (stored_view s.value) now → size ≡ bytes_of (option_list (document_of now (stored_view s.value).canonical))
     → ArePlaced (ss ++ s ∷ []) before after (replaced + size)
 one_more ss s before now after replaced size ascend so_far put is =
-    let d = stored_document s.value in
+    let d = stored_view s.value in
     record {
-      placed = put ∙ ap (placed d) so_far.placed ∙ sym (ap (λ es. placed_all es before) (stored_pushed ss s) ∙ placed_more (stored_documents ss) d before);
+      placed = put ∙ ap (documents_with d) so_far.placed ∙ sym (ap (λ es. documents_with_all es before) (stored_pushed ss s) ∙ placed_more (stored_documents ss) d before);
       bytes =
           ap (λ es. bytes_of es + (replaced + size)) put
-          ∙ sums_up (bytes_of (placed d now)) (bytes_of (option_list (document_of now d.canonical))) (bytes_of now) (length (text d.value)) replaced (bytes_of before) (bytes_of (stored_documents ss))
+          ∙ sums_up (bytes_of (documents_with d now)) (bytes_of (option_list (document_of now d.canonical))) (bytes_of now) (length (text d.value)) replaced (bytes_of before) (bytes_of (stored_documents ss))
           (bytes_of (stored_documents (ss ++ s ∷ []))) size
           (added (λ (x : Document). length (text x.value)) d now (ascend_now ss before now replaced so_far ascend)) is so_far.bytes
           (ap bytes_of (stored_pushed ss s) ∙ bytes_pushed (stored_documents ss) d);
@@ -133,8 +133,8 @@ replaced_within ss ts before now replaced ascend once so_far =
 own_within : (after es out : ℕ) → after ≡ es + out → es ≤ after
 own_within after es out e = omega (arith, e)
 
-pub own_bytes : (es ds : List Document) → Ascend ds → repeated_uri es ≡ None → bytes_of es ≤ bytes_of (placed_all es ds)
-own_bytes es ds ascend once = own_within (bytes_of (placed_all es ds)) (bytes_of es) (bytes_of (outside es ds)) (bytes_of_all es ds ascend (unrepeated es once))
+pub own_bytes : (es ds : List Document) → Ascend ds → repeated_uri es ≡ None → bytes_of es ≤ bytes_of (documents_with_all es ds)
+own_bytes es ds ascend once = own_within (bytes_of (documents_with_all es ds)) (bytes_of es) (bytes_of (outside es ds)) (bytes_of_all es ds ascend (unrepeated es once))
 
 pub fits_below : (n m : ℕ) → n ≤ m → m < 2 ^ 64 → Fits w64 n
 fits_below n m e l = omega (arith, e, l)
@@ -159,9 +159,9 @@ le_as : (size n bytes : ℕ) → size ≤ n → bytes ≡ n → size ≤ bytes
 le_as size n bytes le e = omega (arith, le, e)
 
 -- ---- the sum that is kept
-pub sum_together : (es before old now : List Document) (bytes replaced added : ℕ) → old ≡ before → bytes ≡ bytes_of before → now ≡ placed_all es old
-    → bytes_of now + replaced ≡ bytes_of old + bytes_of es → replaced ≤ bytes_of old → added ≡ bytes_of es → bytes - replaced + added ≡ bytes_of (placed_all es before)
+pub sum_together : (es before old now : List Document) (bytes replaced added : ℕ) → old ≡ before → bytes ≡ bytes_of before → now ≡ documents_with_all es old
+    → bytes_of now + replaced ≡ bytes_of old + bytes_of es → replaced ≤ bytes_of old → added ≡ bytes_of es → bytes - replaced + added ≡ bytes_of (documents_with_all es before)
 sum_together es before old now bytes replaced added same measured put total within own =
-    is_instead (bytes_of (placed_all es before)) replaced (bytes_of before) (bytes_of es) replaced added bytes
-    (ap (λ xs. bytes_of xs + replaced) (sym (put ∙ ap (placed_all es) same)) ∙ total ∙ ap (λ xs. bytes_of xs + bytes_of es) same) refl own measured
+    is_instead (bytes_of (documents_with_all es before)) replaced (bytes_of before) (bytes_of es) replaced added bytes
+    (ap (λ xs. bytes_of xs + replaced) (sym (put ∙ ap (documents_with_all es) same)) ∙ total ∙ ap (λ xs. bytes_of xs + bytes_of es) same) refl own measured
     (le_as replaced (bytes_of before) bytes (subst (λ xs. replaced ≤ bytes_of xs) same within) measured)

@@ -9,12 +9,12 @@ use Rattle.definitions.specs.Documents.{resources_of}
 use Rattle.definitions.specs.Reach.{holds_resource}
 use Rattle.definitions.specs.Schemas.{Document}
 use Rattle.definitions.specs.Values.{Text, same_text}
-use Rattle.stored_documents.specs.StoredDocuments.{stored_document}
+use Rattle.stored_documents.specs.StoredDocuments.{stored_view}
 use Rattle.stored_documents.specs.declared.stored.Stored.{Stored}
 
 -- the canonical URI of the document that claims the URI
 unfoldable pub claim_of : BTreeMap (String Global) (Rc Stored Global) → Text → Option Text
-claim_of claims uri = option_map (λ s. (stored_document s.value).canonical) (get_by_text claims uri)
+claim_of claims uri = option_map (λ s. (stored_view s.value).canonical) (get_by_text claims uri)
 
 -- each resource's URI is claimed by the document that has it; others may be claimed, too
 unfoldable pub AreClaimed : BTreeMap (String Global) (Rc Stored Global) → List Document → Type 0
@@ -26,7 +26,7 @@ AreClaimed-prop claims ds = hlevel props
 
 -- ---- claims to be made: URIs, each with the canonical URI of the document that claims it
 unfoldable pub claims_in : List (String Global × Rc Stored Global) → List (Text × Text)
-claims_in ps = map (λ p. (string_bytes p.0, (stored_document p.1.value).canonical)) ps
+claims_in ps = map (λ p. (string_bytes p.0, (stored_view p.1.value).canonical)) ps
 
 unfoldable pub own_claims : Document → List (Text × Text)
 own_claims d = map (λ u. (u, d.canonical)) (resources_of d)

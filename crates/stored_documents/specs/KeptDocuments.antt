@@ -14,15 +14,15 @@ use Rattle.definition_laws.proofs.Membership.{nothing_in, first_or_later}
 use Rattle.stored_documents.specs.DocumentLists.{documents_in}
 use Rattle.stored_documents.specs.OrderedDocuments.{ordered_documents}
 use Rattle.stored_documents.specs.SharedStored.{stored_documents}
-use Rattle.stored_documents.specs.StoredDocuments.{stored_document}
+use Rattle.stored_documents.specs.StoredDocuments.{stored_view}
 use Rattle.stored_documents.specs.declared.documents.Documents.{Documents}
 use Rattle.stored_documents.specs.declared.ordered.OrderedDocuments.{OrderedDocuments}
 use Rattle.stored_documents.specs.declared.stored.Stored.{Stored}
 
-pub of_each : (P : Document → Type 0) → ((s : Stored) → P (stored_document s)) → (items : List (Rc Stored Global)) (d : Document) → Contains (stored_documents items) d → P d
+pub of_each : (P : Document → Type 0) → ((s : Stored) → P (stored_view s)) → (items : List (Rc Stored Global)) (d : Document) → Contains (stored_documents items) d → P d
 unfolding stored_documents
 of_each P h [] d c = absurd (nothing_in d c)
-of_each P h (x ∷ xs) d c = elim (first_or_later (stored_document x.value) d (map (λ (y : Rc Stored Global). stored_document y.value) xs) c) [
+of_each P h (x ∷ xs) d c = elim (first_or_later (stored_view x.value) d (map (λ (y : Rc Stored Global). stored_view y.value) xs) c) [
   | inl same ↦ subst P same (h x.value)
   | inr later ↦ of_each P h xs d later
 ]

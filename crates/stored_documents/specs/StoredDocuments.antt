@@ -3,5 +3,5 @@ use Rattle.definitions.specs.Schemas.{Document, document_from}
 use Rattle.json_doc.specs.Docs.{value}
 use Rattle.stored_documents.specs.declared.stored.Stored.{Stored}
 
-abbrev pub stored_document : Stored → Document
-stored_document s = document_from s.key.value.0 (value s.document)
+abbrev pub stored_view : Stored → Document
+stored_view s = document_from s.key.value.0 (value s.document)

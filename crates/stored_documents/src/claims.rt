@@ -4,7 +4,7 @@ ghost use Rattle.std.specs.Prelude.{◌≡◌, ◌++◌, ◌∷◌, [], true, Co
 ghost use Rattle.definitions.specs.Values.{Text, same_text};
 ghost use Rattle.stored_documents.specs.Claims.{claim_of, claims_in, claims_of, last_claim, own_claims};
 ghost use Rattle.stored_documents.specs.SharedStored.{stored_documents};
-ghost use Rattle.stored_documents.specs.StoredDocuments.{stored_document};
+ghost use Rattle.stored_documents.specs.StoredDocuments.{stored_view};
 
 use crate::stored::Stored;
 use std::alloc::{AllocError, Global};
@@ -33,7 +33,7 @@ pub(crate) fn push_claims(
     document: &Rc<Stored>,
 ) -> Result<(), AllocError>
     ensures { OnOk result (claims_in made.new.items
-        ≡ claims_in made.old.items ++ own_claims (stored_document document.now.value)) }
+        ≡ claims_in made.old.items ++ own_claims (stored_view document.now.value)) }
 {
     for uri in document.resource_uris() {
         push_claim(alloc, made, uri.as_str(), document)?;
@@ -49,7 +49,7 @@ fn push_claim(
 ) -> Result<(), AllocError>
     ensures { OnOk result (claims_in made.new.items
         ≡ claims_in made.old.items
-        ++ (uri.now, (stored_document document.now.value).canonical) ∷ []) }
+        ++ (uri.now, (stored_view document.now.value).canonical) ∷ []) }
 {
     let own_uri = uri.to_owned(alloc)?;
     let own_document = document.clone()?;
@@ -109,7 +109,7 @@ pub(crate) fn make_claims(
 fn make_claim(claims: &mut BTreeMap<String, Rc<Stored>>, uri: String, document: Rc<Stored>)
     ensures { (u : Text) → claim_of claims.new u
         ≡ option_map (λ claim. if same_text
-        (string_bytes uri) u then (stored_document document.value).canonical else claim)
+        (string_bytes uri) u then (stored_view document.value).canonical else claim)
         (claim_of claims.old u) }
 {
     if claims.contains_key(uri.as_str()) {

@@ -2,14 +2,14 @@
 
 ghost use Rattle.std.specs.Prelude.{◌≡◌, ◌^◌, ◌<◌, [], None, Some, find, if◌then◌else◌, is_some, length, option_and_then, option_map, IfErr, IfOk, OnErr, OnOk};
 ghost use Rattle.definitions.specs.Batches.{repeated_uri, taken_by};
-ghost use Rattle.definitions.specs.Documents.{bytes_of, document_of, others_of, placed, placed_all, taken_uri};
+ghost use Rattle.definitions.specs.Documents.{bytes_of, document_of, documents_with, documents_with_all, others_of, taken_uri};
 ghost use Rattle.definitions.specs.Keeping.{AreKept};
 ghost use Rattle.definitions.specs.Patterns.{regular_search};
 ghost use Rattle.definitions.specs.Reach.{holds_resource};
 ghost use Rattle.stored_documents.specs.Claims.{AreClaimed, AreClaimed-prop};
 ghost use Rattle.stored_documents.specs.OrderedDocuments.{ordered_documents};
 ghost use Rattle.stored_documents.specs.SharedStored.{stored_documents};
-ghost use Rattle.stored_documents.specs.StoredDocuments.{stored_document};
+ghost use Rattle.stored_documents.specs.StoredDocuments.{stored_view};
 
 use crate::claims::{claims_to_make, make_claims, push_claims};
 use crate::ordered::OrderedDocuments;
@@ -69,7 +69,7 @@ impl Documents {
     /// The document with this canonical URI.
     #[tactic(auto, unfolding(crate::specs::DocumentLists::documents_in))]
     pub fn find(&self, canonical: &str) -> Option<&Rc<Stored>>
-        ensures { option_map (λ s. stored_document s.now.value) result
+        ensures { option_map (λ s. stored_view s.now.value) result
             ≡ document_of (documents_in self.now) canonical.now }
     {
         self.ordered.find(canonical)
@@ -77,7 +77,7 @@ impl Documents {
 
     /// The document that has a resource of this URI.
     pub fn holder(&self, uri: &str) -> Option<&Rc<Stored>>
-        ensures { option_map (λ s. stored_document s.now.value) result
+        ensures { option_map (λ s. stored_view s.now.value) result
             ≡ find (holds_resource uri.now) (documents_in self.now) }
     {
         match self.claims.get(uri) {
@@ -88,7 +88,7 @@ impl Documents {
 
     // The document with this canonical URI, where it has a resource of the other URI.
     fn find_with(&self, canonical: &str, uri: &str) -> Option<&Rc<Stored>>
-        ensures { option_map (λ s. stored_document s.now.value) result
+        ensures { option_map (λ s. stored_view s.now.value) result
             ≡ option_and_then (λ d. if holds_resource uri.now d then Some d else None)
             (document_of (documents_in self.now) canonical.now) }
     {
@@ -107,15 +107,16 @@ impl Documents {
     /// Puts a document at its place, instead of the one with its canonical URI, and answers whether there was one. The only
     /// error is want of memory, and then nothing changes.
     pub fn insert(&mut self, alloc: Global, document: Rc<Stored>) -> Result<bool, Fault>
-        requires free { taken_uri (documents_in self.old) (stored_document document.value) ≡ None }
-        requires fits { bytes_of (placed (stored_document document.value) (documents_in self.old))
+        requires free { taken_uri (documents_in self.old) (stored_view document.value) ≡ None }
+        requires fits { bytes_of
+            (documents_with (stored_view document.value) (documents_in self.old))
             < 2 ^ 64 }
         ensures placed { OnOk result
-            (documents_in self.new ≡ placed (stored_document document.value)
+            (documents_in self.new ≡ documents_with (stored_view document.value)
             (documents_in self.old)) }
         ensures replaced { IfOk result
             (λ r. r ≡ is_some (document_of (documents_in self.old)
-            (stored_document document.value).canonical)) }
+            (stored_view document.value).canonical)) }
         ensures kept { OnErr result (documents_in self.new ≡ documents_in self.old) }
         ensures err { IfErr result (λ f. f ≡ Fault.NoRoom) }
     {
@@ -145,12 +146,13 @@ impl Documents {
     pub fn insert_all(&mut self, alloc: Global, documents: Vec<Rc<Stored>>) -> Result<(), Fault>
         requires once { repeated_uri (stored_documents documents.items) ≡ None }
         requires free { taken_by
-            (placed_all (stored_documents documents.items) (documents_in self.old))
+            (documents_with_all (stored_documents documents.items) (documents_in self.old))
             (stored_documents documents.items) ≡ None }
         requires fits { bytes_of
-            (placed_all (stored_documents documents.items) (documents_in self.old)) < 2 ^ 64 }
+            (documents_with_all (stored_documents documents.items) (documents_in self.old))
+            < 2 ^ 64 }
         ensures placed { OnOk result
-            (documents_in self.new ≡ placed_all (stored_documents documents.items)
+            (documents_in self.new ≡ documents_with_all (stored_documents documents.items)
             (documents_in self.old)) }
         ensures kept { OnErr result (documents_in self.new ≡ documents_in self.old) }
         ensures err { IfErr result (λ f. f ≡ Fault.NoRoom) }

@@ -3,13 +3,13 @@
 ghost use Rattle.std.specs.Prelude.{◌≡◌, ◌^◌, ◌<◌, [], None, false, is_some, length, option_map, IfErr, IfOk, OnErr, OnOk};
 ghost use Rattle.std.specs.List.Sorted.{IsStrictlySortedBy-prop};
 ghost use Rattle.definitions.specs.Batches.{repeated_uri, taken_by};
-ghost use Rattle.definitions.specs.Documents.{bytes_of, document_of, others_of, placed, placed_all, resource_uris_of, taken_uri, Ascend};
+ghost use Rattle.definitions.specs.Documents.{bytes_of, document_of, others_of, documents_with, documents_with_all, resource_uris_of, taken_uri, Ascend};
 ghost use Rattle.definitions.specs.Keeping.{AreKept};
 ghost use Rattle.definitions.specs.Lists.{has_repeat};
 ghost use Rattle.definitions.specs.Patterns.{regular_search};
 ghost use Rattle.definitions.specs.Values.{same_text};
 ghost use Rattle.stored_documents.specs.SharedStored.{stored_documents};
-ghost use Rattle.stored_documents.specs.StoredDocuments.{stored_document};
+ghost use Rattle.stored_documents.specs.StoredDocuments.{stored_view};
 
 use crate::placing::{place, position, take_out};
 use crate::stored::Stored;
@@ -67,7 +67,7 @@ impl OrderedDocuments {
 
     /// The document with this canonical URI.
     pub fn find(&self, canonical: &str) -> Option<&Rc<Stored>>
-        ensures { option_map (λ s. stored_document s.now.value) result
+        ensures { option_map (λ s. stored_view s.now.value) result
             ≡ document_of (ordered_documents self.now) canonical.now }
     {
         match position(&self.stored, canonical) {
@@ -79,16 +79,16 @@ impl OrderedDocuments {
     /// Puts a document at its place, instead of the one with its canonical URI, which is answered. The only error is want of
     /// memory, and then nothing changes.
     pub fn insert(&mut self, document: Rc<Stored>) -> Result<Option<Rc<Stored>>, Fault>
-        requires free { taken_uri (ordered_documents self.old) (stored_document document.value)
+        requires free { taken_uri (ordered_documents self.old) (stored_view document.value)
             ≡ None }
         requires fits { bytes_of
-            (placed (stored_document document.value) (ordered_documents self.old)) < 2 ^ 64 }
+            (documents_with (stored_view document.value) (ordered_documents self.old)) < 2 ^ 64 }
         ensures placed { OnOk result
             (ordered_documents self.new
-            ≡ placed (stored_document document.value) (ordered_documents self.old)) }
+            ≡ documents_with (stored_view document.value) (ordered_documents self.old)) }
         ensures replaced { IfOk result
             (λ r. is_some r ≡ is_some
-            (document_of (ordered_documents self.old) (stored_document document.value).canonical)) }
+            (document_of (ordered_documents self.old) (stored_view document.value).canonical)) }
         ensures kept { OnErr result (ordered_documents self.new ≡ ordered_documents self.old) }
         ensures err { IfErr result (λ f. f ≡ Fault.NoRoom) }
     {
@@ -110,13 +110,14 @@ impl OrderedDocuments {
     pub fn insert_all(&mut self, documents: Vec<Rc<Stored>>) -> Result<(), Fault>
         requires once { repeated_uri (stored_documents documents.items) ≡ None }
         requires free { taken_by
-            (placed_all (stored_documents documents.items) (ordered_documents self.old))
+            (documents_with_all (stored_documents documents.items) (ordered_documents self.old))
             (stored_documents documents.items) ≡ None }
         requires fits { bytes_of
-            (placed_all (stored_documents documents.items) (ordered_documents self.old)) < 2 ^ 64 }
+            (documents_with_all (stored_documents documents.items) (ordered_documents self.old))
+            < 2 ^ 64 }
         ensures placed { OnOk result
             (ordered_documents self.new
-            ≡ placed_all (stored_documents documents.items) (ordered_documents self.old)) }
+            ≡ documents_with_all (stored_documents documents.items) (ordered_documents self.old)) }
         ensures kept { OnErr result (ordered_documents self.new ≡ ordered_documents self.old) }
         ensures err { IfErr result (λ f. f ≡ Fault.NoRoom) }
     {

@@ -4,10 +4,10 @@ ghost use Rattle.std.specs.Prelude.{◌≡◌, ◌+◌, ◌<◌, ◌≤◌, leng
 ghost use Rattle.std.specs.Cmp.Lexicographic.{slice_cmp};
 ghost use Rattle.std.specs.Ordering.{nat_cmp};
 ghost use Rattle.std.specs.Vec.{vec_capacity};
-ghost use Rattle.definitions.specs.Documents.{document_of, others_of, placed, Ascend};
+ghost use Rattle.definitions.specs.Documents.{document_of, others_of, documents_with, Ascend};
 ghost use Rattle.linker.specs.Positions.{StandsAt, IsGap};
 ghost use Rattle.stored_documents.specs.SharedStored.{stored_documents};
-ghost use Rattle.stored_documents.specs.StoredDocuments.{stored_document};
+ghost use Rattle.stored_documents.specs.StoredDocuments.{stored_view};
 
 use crate::stored::Stored;
 use std::alloc::AllocError;
@@ -25,7 +25,7 @@ pub(crate) fn position(documents: &[Rc<Stored>], uri: &str) -> Result<usize, usi
 }
 
 fn order(document: &Rc<Stored>, uri: &str) -> Ordering
-    ensures { result ≡ slice_cmp nat_cmp (stored_document document.now.value).canonical uri.now }
+    ensures { result ≡ slice_cmp nat_cmp (stored_view document.now.value).canonical uri.now }
 {
     document.canonical().cmp(uri)
 }
@@ -38,11 +38,11 @@ pub(crate) fn place(
     requires { Ascend (stored_documents documents.old.items) }
     ensures placed { OnOk result
         (stored_documents documents.new.items
-        ≡ placed (stored_document document.value) (stored_documents documents.old.items)) }
+        ≡ documents_with (stored_view document.value) (stored_documents documents.old.items)) }
     ensures replaced { IfOk result
-        (λ o. option_map (λ s. stored_document s.value) o
+        (λ o. option_map (λ s. stored_view s.value) o
         ≡ document_of (stored_documents documents.old.items)
-        (stored_document document.value).canonical) }
+        (stored_view document.value).canonical) }
     ensures kept { OnErr result
         (stored_documents documents.new.items ≡ stored_documents documents.old.items) }
     ensures succeeds { vec_len documents.old < vec_capacity documents.old → IsOk result }
@@ -63,7 +63,7 @@ pub(crate) fn take_out(documents: &mut Vec<Rc<Stored>>, uri: &str) -> Option<Rc<
     requires { Ascend (stored_documents documents.old.items) }
     ensures others { stored_documents documents.new.items
         ≡ others_of uri.now (stored_documents documents.old.items) }
-    ensures taken { option_map (λ s. stored_document s.value) result
+    ensures taken { option_map (λ s. stored_view s.value) result
         ≡ document_of (stored_documents documents.old.items) uri.now }
 {
     match position(documents, uri) {

@@ -10,7 +10,7 @@ ghost use Rattle.definitions.specs.Schemas.{document_from};
 ghost use Rattle.definitions.specs.Searches.{is_regular};
 ghost use Rattle.definitions.specs.Texts.{text};
 ghost use Rattle.definitions.specs.Uris.{recompose};
-ghost use Rattle.faults.specs.View.{fault};
+ghost use Rattle.faults.specs.View.{fault_view};
 ghost use Rattle.json_doc.specs.Docs.{value};
 ghost use Rattle.shared_cache.specs.Readings.{is_read_as};
 ghost use Rattle.shared_cache.specs.Refusals.{Refuses};
@@ -26,7 +26,7 @@ use uri_ref::Parts;
 
 /// A document that the scan found no fault in and whose patterns were built, with its key and its resources' URIs.
 ///
-/// Nothing compiled is held: a cache is asked for that, by the key. Contracts see the document by `stored_document`.
+/// Nothing compiled is held: a cache is asked for that, by the key. Contracts see the document by `stored_view`.
 #[derive(Drop)]
 pub struct Stored {
     key: Rc<Key>,
@@ -43,7 +43,7 @@ pub struct Stored {
 }
 
 impl Stored {
-    ghost use Rattle.stored_documents.specs.StoredDocuments.{stored_document};
+    ghost use Rattle.stored_documents.specs.StoredDocuments.{stored_view};
 
     /// The document under this base, as the cache scans and compiles it.
     ///
@@ -55,9 +55,9 @@ impl Stored {
         document: Doc,
     ) -> Result<Stored, Fault>
         ensures ok { IfOk result
-            (λ s. stored_document s ≡ document_from (recompose base.now) (value document)) }
+            (λ s. stored_view s ≡ document_from (recompose base.now) (value document)) }
         ensures err { IfErr result
-            (λ f. f ≢ Fault.NoRoom → Refuses (recompose base.now) (value document) (fault f)) }
+            (λ f. f ≢ Fault.NoRoom → Refuses (recompose base.now) (value document) (fault_view f)) }
         ensures used { OnOk result
             (IsUsed cache.old (recompose base.now, text (value document)) cache.new) }
     {
@@ -74,47 +74,47 @@ impl Stored {
 
     /// The key under which a cache keeps what is compiled of it. Its text is read as the document's value.
     pub fn key(&self) -> &Rc<Key>
-        ensures base { result.now.value.0 ≡ (stored_document self.now).base }
-        ensures text { result.now.value.1 ≡ text (stored_document self.now).value }
-        ensures reads_back { is_read_as result.now.value.1 (stored_document self.now).value ≡ true }
+        ensures base { result.now.value.0 ≡ (stored_view self.now).base }
+        ensures text { result.now.value.1 ≡ text (stored_view self.now).value }
+        ensures reads_back { is_read_as result.now.value.1 (stored_view self.now).value ≡ true }
     {
         &self.key
     }
 
     /// The document.
     pub fn document(&self) -> &Doc
-        ensures value { value result.now ≡ (stored_document self.now).value }
-        ensures faultless { scan_fault (stored_document self.now).base
-            (stored_document self.now).value ≡ None }
-        ensures regular { is_regular regular_search (stored_document self.now).value ≡ true }
+        ensures value { value result.now ≡ (stored_view self.now).value }
+        ensures faultless { scan_fault (stored_view self.now).base
+            (stored_view self.now).value ≡ None }
+        ensures regular { is_regular regular_search (stored_view self.now).value ≡ true }
     {
         &self.document
     }
 
     /// Its canonical URI: that of its root's resource (JSON Schema 2020-12 Core, section 8.2.1).
     pub fn canonical(&self) -> &str
-        ensures { result.now ≡ (stored_document self.now).canonical }
+        ensures { result.now ≡ (stored_view self.now).canonical }
     {
         self.canonical.as_str()
     }
 
     /// The URIs of its resources, in the order of a walk.
     pub fn resource_uris(&self) -> &[String]
-        ensures { map string_bytes result.now ≡ resources_of (stored_document self.now) }
+        ensures { map string_bytes result.now ≡ resources_of (stored_view self.now) }
     {
         self.resources.as_slice()
     }
 
     /// How many bytes its compact text has.
     pub fn length(&self) -> usize
-        ensures { result ≡ length (text (stored_document self.now).value) }
+        ensures { result ≡ length (text (stored_view self.now).value) }
     {
         self.key.text().len()
     }
 
     /// Whether one of its resources has this URI.
     pub fn holds(&self, uri: &str) -> bool
-        ensures { result ≡ holds_resource uri.now (stored_document self.now) }
+        ensures { result ≡ holds_resource uri.now (stored_view self.now) }
     {
         stands(self.resources.as_slice(), uri)
     }

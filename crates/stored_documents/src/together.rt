@@ -1,11 +1,11 @@
 //! Several documents that are put together.
 
 ghost use Rattle.std.specs.Prelude.{◌≡◌, ◌+◌, ◌^◌, ◌<◌, ◌≤◌, false, length, vec_len, vec_capacity};
-ghost use Rattle.definitions.specs.Documents.{bytes_of, canonicals, document_of, placed, placed_all, Ascend};
+ghost use Rattle.definitions.specs.Documents.{bytes_of, canonicals, document_of, documents_with, documents_with_all, Ascend};
 ghost use Rattle.definitions.specs.Lists.{has_repeat, option_list};
 ghost use Rattle.definitions.specs.Values.{same_text};
 ghost use Rattle.stored_documents.specs.SharedStored.{stored_documents};
-ghost use Rattle.stored_documents.specs.StoredDocuments.{stored_document};
+ghost use Rattle.stored_documents.specs.StoredDocuments.{stored_view};
 
 use crate::placing::place;
 use crate::stored::Stored;
@@ -30,7 +30,8 @@ pub(crate) fn place_all(stored: &mut Vec<Rc<Stored>>, documents: Vec<Rc<Stored>>
     requires fits { bytes_of (stored_documents stored.old.items) < 2 ^ 64 }
     requires once { has_repeat same_text (canonicals (stored_documents documents.items)) ≡ false }
     ensures placed { stored_documents stored.new.items
-        ≡ placed_all (stored_documents documents.items) (stored_documents stored.old.items) }
+        ≡ documents_with_all (stored_documents documents.items)
+        (stored_documents stored.old.items) }
     ensures bytes { bytes_of (stored_documents stored.new.items) + result
         ≡ bytes_of (stored_documents stored.old.items)
         + bytes_of (stored_documents documents.items) }
@@ -48,10 +49,10 @@ fn place_in_room(stored: &mut Vec<Rc<Stored>>, document: Rc<Stored>) -> u64
     requires ascend { Ascend (stored_documents stored.old.items) }
     requires room { vec_len stored.old < vec_capacity stored.old }
     ensures placed { stored_documents stored.new.items
-        ≡ placed (stored_document document.value) (stored_documents stored.old.items) }
+        ≡ documents_with (stored_view document.value) (stored_documents stored.old.items) }
     ensures bytes { result ≡ bytes_of
         (option_list (document_of (stored_documents stored.old.items)
-        (stored_document document.value).canonical)) }
+        (stored_view document.value).canonical)) }
     ensures capacity { vec_capacity stored.old ≤ vec_capacity stored.new }
     ensures len { vec_len stored.new ≤ vec_len stored.old + 1 }
 {

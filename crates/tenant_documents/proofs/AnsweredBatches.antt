@@ -1,10 +1,10 @@
 -- What a batch is answered.
 use Rattle.std.proofs.Common.{◌≡◌, ℕ, Bool, List, Option, Some, None, Ok, Err, refl, sym, ap, ◌∙◌, inl, inr}
 use Rattle.definitions.specs.Batches.{Entry, batch_refusal, each_stored, entries_of, entry_documents, for_documents, for_entries, put_all_into}
-use Rattle.definitions.specs.Documents.{placed_all}
+use Rattle.definitions.specs.Documents.{documents_with_all}
 use Rattle.definitions.specs.Faults.{Fault, no_room}
 use Rattle.definitions.specs.Patterns.{regular_search}
-use Rattle.definitions.specs.Registries.{Registry, Reply, batch, body_value, decided, refused, refused_at, stored_all}
+use Rattle.definitions.specs.Registries.{Registry, Reply, batch, body_value, decision, refused, refused_at, stored_all}
 use Rattle.definitions.specs.Runs.{IsAnswer, entries_build}
 use Rattle.definitions.specs.Schemas.{Document}
 use Rattle.definitions.specs.Steps.{step}
@@ -46,12 +46,12 @@ together_answer g h body v es ds r e read made is = elim is [
 
 -- ---- by its documents
 abbrev refusal_of : Registry → List Document → Option Fault
-refusal_of g ds = batch_refusal g ds (placed_all ds g.documents)
+refusal_of g ds = batch_refusal g ds (documents_with_all ds g.documents)
 
 pub refused_together : (g : Registry) (ds : List Document) (f : Fault) → refusal_of g ds ≡ Some f → IsPutTogether g ds (refused f) g
 refused_together g ds f e =
     let is : put_all_into g ds ≡ (refused f, g) =
-    ap (λ o. decided o (stored_all (each_stored g ds)) (record g { documents = placed_all ds g.documents }) g) e in
+    ap (λ o. decision o (stored_all (each_stored g ds)) (record g { documents = documents_with_all ds g.documents }) g) e in
     inl (ap (λ p. p.0) (sym is), ap (λ p. p.1) (sym is))
 
 pub no_room_together : (g : Registry) (ds : List Document) → IsPutTogether g ds (refused no_room) g
@@ -59,10 +59,10 @@ no_room_together g ds = inr (refl, refl)
 
 -- with the documents as they are after it
 pub granted_together : (g : Registry) (ds after : List Document) (stored : List (Text × Bool)) → refusal_of g ds ≡ None → stored ≡ each_stored g ds
-    → after ≡ placed_all ds g.documents → IsPutTogether g ds (stored_all stored) (record g { documents = after })
+    → after ≡ documents_with_all ds g.documents → IsPutTogether g ds (stored_all stored) (record g { documents = after })
 granted_together g ds after stored e same put =
-    let is : put_all_into g ds ≡ (stored_all (each_stored g ds), record g { documents = placed_all ds g.documents }) =
-    ap (λ o. decided o (stored_all (each_stored g ds)) (record g { documents = placed_all ds g.documents }) g) e in
+    let is : put_all_into g ds ≡ (stored_all (each_stored g ds), record g { documents = documents_with_all ds g.documents }) =
+    ap (λ o. decision o (stored_all (each_stored g ds)) (record g { documents = documents_with_all ds g.documents }) g) e in
     inl (ap stored_all same ∙ ap (λ p. p.0) (sym is), ap (λ es. record g { documents = es }) put ∙ ap (λ p. p.1) (sym is))
 
 pub no_room_after_judging : (g : Registry) (ds after : List Document) → after ≡ g.documents → IsPutTogether g ds (refused no_room) (record g { documents = after })

@@ -3,7 +3,7 @@ use Rattle.std.proofs.Common.{◌≡◌, ◌⊎◌, Bool, true, false, not, List
 use Rattle.std.proofs.lemmas.Bool.{not-true}
 use Rattle.std.specs.List.{list_any}
 use Rattle.definitions.specs.Batches.{repeats, taken_by}
-use Rattle.definitions.specs.Documents.{canonicals, document_of, joined, placed_all}
+use Rattle.definitions.specs.Documents.{canonicals, document_of, documents_of_both, documents_with_all}
 use Rattle.definitions.specs.Lists.{has_repeat}
 use Rattle.definitions.specs.Reach.{holds_resource, least}
 use Rattle.definitions.specs.Schemas.{Document, schemas_of}
@@ -15,7 +15,7 @@ use Rattle.definition_laws.proofs.Membership.{any_where, found_none, found_some,
 use Rattle.definition_laws.proofs.Repeats.{none_of}
 use Rattle.definition_laws.proofs.Resources.{root_opens, same_text-unlike}
 use Rattle.linker.specs.Sources.{shares_resource}
-use Rattle.linker.specs.Together.{from_joined, unshared}
+use Rattle.linker.specs.Together.{from_joined, unshared_holds_none}
 use Rattle.linker.proofs.BothSources.{in_joined}
 use Rattle.linker.proofs.CanonicalHolders.{first_holder}
 use Rattle.linker.proofs.Positions.{ascend_distinct}
@@ -31,10 +31,10 @@ module _ (ds ls es : List Document) (both : AreBoth ds ls) (once : has_repeat sa
   held u = stays (canonicals es) (find (holds_resource u) ds) (find (holds_resource u) ls)
 
   abbrev after : List Document
-  after = placed_all es ds
+  after = documents_with_all es ds
 
   abbrev all : List Document
-  all = joined ls (placed_all es ds)
+  all = documents_of_both ls (documents_with_all es ds)
 
   none_owned : (e : Document) → Contains after e → is_some (document_of ls e.canonical) ≡ false
   none_owned e c = elim (from_all es ds e c) [
@@ -77,7 +77,7 @@ module _ (ds ls es : List Document) (both : AreBoth ds ls) (once : has_repeat sa
 
   held_by_library : (l : Document) (u : Text) → Contains ls l → holds_resource u l ≡ true → held u ≡ true
   held_by_library l u c h =
-      let apart = unshared ds l in
+      let apart = unshared_holds_none ds l in
       let none : find (holds_resource u) ds ≡ None =
       found_none (holds_resource u) ds (λ y k. apart y (none_of (shares_resource ds) l ls both.apart c) k u (root_opens (schemas_of l.base l.value) u h)) in
       let some : (z : Document) × (find (holds_resource u) ls ≡ Some z) = found_some (holds_resource u) l ls c h in

@@ -3,7 +3,7 @@ use Rattle.std.proofs.Common.{◌≡◌, ℕ, ◌+◌, ◌-◌, ◌≤◌, Bool,
 use Rattle.std.proofs.lemmas.Bool.{or_parts}
 use Rattle.std.proofs.lemmas.List.Sums.{sum_by-append, sum_by-cons}
 use Rattle.std.specs.List.{list_any}
-use Rattle.definitions.specs.Documents.{bytes_of, canonicals, document_of, placed, placed_all, Ascend}
+use Rattle.definitions.specs.Documents.{bytes_of, canonicals, document_of, documents_with, documents_with_all, Ascend}
 use Rattle.definitions.specs.Lists.{has_repeat, option_list}
 use Rattle.definitions.specs.Schemas.{Document}
 use Rattle.definitions.specs.Texts.{text}
@@ -48,14 +48,14 @@ one_more_gone left at also out whole rest all e f g h = omega (arith, e, f, g, h
 
 -- ---- any measure
 module _ (f : Document → ℕ) where
-  sum_put : (es ds : List Document) → Ascend ds → has_repeat same_text (canonicals es) ≡ false → sum_by f (placed_all es ds) ≡ sum_by f es + sum_by f (outside es ds)
+  sum_put : (es ds : List Document) → Ascend ds → has_repeat same_text (canonicals es) ≡ false → sum_by f (documents_with_all es ds) ≡ sum_by f es + sum_by f (outside es ds)
   sum_put [] ds ascend once = nothing_put (sum_by f ds) (sum_by f []) refl
   sum_put (e ∷ es) ds ascend once =
       let apart = or_parts (list_any (same_text e.canonical) (canonicals es)) (has_repeat same_text (canonicals es)) once in
       let out = outside (e ∷ es) ds in
-      one_more_put (sum_by f (placed_all es (placed e ds))) (sum_by f es) (sum_by f (placed e out)) (sum_by f (option_list (document_of out e.canonical))) (sum_by f out) (f e)
+      one_more_put (sum_by f (documents_with_all es (documents_with e ds))) (sum_by f es) (sum_by f (documents_with e out)) (sum_by f (option_list (document_of out e.canonical))) (sum_by f out) (f e)
       (sum_by f (e ∷ es))
-      (sum_put es (placed e ds) (ascend_placed e ds ascend) apart.1 ∙ ap (λ xs. sum_by f es + sum_by f xs) (outside_rest e es ds apart.0 ascend))
+      (sum_put es (documents_with e ds) (ascend_placed e ds ascend) apart.1 ∙ ap (λ xs. sum_by f es + sum_by f xs) (outside_rest e es ds apart.0 ascend))
       (added f e out (ascend_outside (e ∷ es) ds ascend))
       (ap (λ o. sum_by f (option_list o)) (none_outside e.canonical (outside es ds)))
       (sum_by-cons f e es)
@@ -83,9 +83,9 @@ no_less : (after own out : ℕ) → after ≡ own + out → own ≤ after
 no_less after own out e = omega (arith, e)
 
 module _ (es ds : List Document) (ascend : Ascend ds) (once : has_repeat same_text (canonicals es) ≡ false) where
-  number_put : length (placed_all es ds) ≡ length es + length (outside es ds)
+  number_put : length (documents_with_all es ds) ≡ length es + length (outside es ds)
   number_put =
-      sym (counted (placed_all es ds)) ∙ sum_put (λ (d : Document). 1) es ds ascend once
+      sym (counted (documents_with_all es ds)) ∙ sum_put (λ (d : Document). 1) es ds ascend once
       ∙ ap₂ (λ n m. n + m) (counted es) (counted (outside es ds))
 
   number_gone : length (outside es ds) + length (replaced_by es ds) ≡ length ds
@@ -96,10 +96,10 @@ module _ (es ds : List Document) (ascend : Ascend ds) (once : has_repeat same_te
   pub few_replaced : length (replaced_by es ds) ≤ length ds
   few_replaced = within (length (outside es ds)) (length (replaced_by es ds)) (length ds) number_gone
 
-  pub number_after : length (placed_all es ds) ≡ (length ds - length (replaced_by es ds)) + length es
-  number_after = left_and_put (length (placed_all es ds)) (length es) (length (outside es ds)) (length (replaced_by es ds)) (length ds) number_put number_gone
+  pub number_after : length (documents_with_all es ds) ≡ (length ds - length (replaced_by es ds)) + length es
+  number_after = left_and_put (length (documents_with_all es ds)) (length es) (length (outside es ds)) (length (replaced_by es ds)) (length ds) number_put number_gone
 
-  bytes_put : bytes_of (placed_all es ds) ≡ bytes_of es + bytes_of (outside es ds)
+  bytes_put : bytes_of (documents_with_all es ds) ≡ bytes_of es + bytes_of (outside es ds)
   bytes_put = sum_put (λ (d : Document). length (text d.value)) es ds ascend once
 
   bytes_gone : bytes_of (outside es ds) + bytes_of (replaced_by es ds) ≡ bytes_of ds
@@ -108,8 +108,8 @@ module _ (es ds : List Document) (ascend : Ascend ds) (once : has_repeat same_te
   pub small_replaced : bytes_of (replaced_by es ds) ≤ bytes_of ds
   small_replaced = within (bytes_of (outside es ds)) (bytes_of (replaced_by es ds)) (bytes_of ds) bytes_gone
 
-  pub bytes_after : bytes_of (placed_all es ds) ≡ (bytes_of ds - bytes_of (replaced_by es ds)) + bytes_of es
-  bytes_after = left_and_put (bytes_of (placed_all es ds)) (bytes_of es) (bytes_of (outside es ds)) (bytes_of (replaced_by es ds)) (bytes_of ds) bytes_put bytes_gone
+  pub bytes_after : bytes_of (documents_with_all es ds) ≡ (bytes_of ds - bytes_of (replaced_by es ds)) + bytes_of es
+  bytes_after = left_and_put (bytes_of (documents_with_all es ds)) (bytes_of es) (bytes_of (outside es ds)) (bytes_of (replaced_by es ds)) (bytes_of ds) bytes_put bytes_gone
 
-  pub own_bytes : bytes_of es ≤ bytes_of (placed_all es ds)
-  own_bytes = no_less (bytes_of (placed_all es ds)) (bytes_of es) (bytes_of (outside es ds)) bytes_put
+  pub own_bytes : bytes_of es ≤ bytes_of (documents_with_all es ds)
+  own_bytes = no_less (bytes_of (documents_with_all es ds)) (bytes_of es) (bytes_of (outside es ds)) bytes_put

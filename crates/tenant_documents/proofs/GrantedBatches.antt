@@ -3,7 +3,7 @@ use Rattle.std.proofs.Common.{◌≡◌, ◌⊎◌, ◌≤◌, Bool, true, false
 use Rattle.std.proofs.lemmas.Bool.{ltb-false, false_from_ne_true}
 use Rattle.std.specs.List.{list_any}
 use Rattle.definitions.specs.Batches.{batch_refusal, repeated_uri, taken_by}
-use Rattle.definitions.specs.Documents.{bytes_of, document_of, joined, others_of, placed_all, resources_of, taken_uris}
+use Rattle.definitions.specs.Documents.{bytes_of, document_of, documents_of_both, documents_with_all, others_of, resources_of, taken_uris}
 use Rattle.definitions.specs.Reach.{holds_resource, least}
 use Rattle.definitions.specs.Schemas.{Document, schemas_of}
 use Rattle.definitions.specs.Values.{Text, same_text}
@@ -16,7 +16,7 @@ use Rattle.definition_laws.proofs.Repeats.{any_none, none_of, in_flat_map, from_
 use Rattle.definition_laws.proofs.Resources.{opened_is_root, root_opens}
 use Rattle.linker.specs.ListedDocuments.{listed_documents}
 use Rattle.linker.specs.Sources.{shares_resource}
-use Rattle.linker.specs.Together.{unshared, shares_none}
+use Rattle.linker.specs.Together.{unshared_holds_none, shares_none}
 use Rattle.linker.proofs.BothSources.{in_joined}
 use Rattle.linker.proofs.Positions.{ascend_distinct}
 use Rattle.stored_documents.specs.DocumentLists.{documents_in}
@@ -61,58 +61,58 @@ free_within some all ds within free = none_there (flat_map (taken_uris some) ds)
 abbrev owns_any : List Document → List Document → Bool
 owns_any ls ds = list_any (λ (d : Document). is_some (document_of ls d.canonical)) ds
 
-unowned_then : (ds own ls : List Document) (d : Document) → AreBoth own ls → owns_any ls ds ≡ false → Contains (placed_all ds own) d
+unowned_then : (ds own ls : List Document) (d : Document) → AreBoth own ls → owns_any ls ds ≡ false → Contains (documents_with_all ds own) d
     → is_some (document_of ls d.canonical) ≡ false
 unowned_then ds own ls d both none c = elim (from_all ds own d c) [
   | inl new ↦ none_of (λ (x : Document). is_some (document_of ls x.canonical)) d ds none new
   | inr old ↦ unowned own ls d both old
 ]
 
-seen_then : (ds own ls : List Document) (x : Document) → AreBoth own ls → owns_any ls ds ≡ false → Contains ls x ⊎ Contains (placed_all ds own) x
-    → Contains (joined ls (placed_all ds own)) x
+seen_then : (ds own ls : List Document) (x : Document) → AreBoth own ls → owns_any ls ds ≡ false → Contains ls x ⊎ Contains (documents_with_all ds own) x
+    → Contains (documents_of_both ls (documents_with_all ds own)) x
 seen_then ds own ls x both none there =
-    in_joined ls (placed_all ds own) x (ascend_distinct ls both.library.ascend)
+    in_joined ls (documents_with_all ds own) x (ascend_distinct ls both.library.ascend)
     (λ l e c k. is_unequal e.canonical l (is_other ls e.canonical l (unowned_then ds own ls e both none k) c)) there
 
 -- they share no resource with it
-apart_then : (ds own ls : List Document) → AreBoth own ls → owns_any ls ds ≡ false → taken_by (joined ls (placed_all ds own)) ds ≡ None
-    → list_any (shares_resource (placed_all ds own)) ls ≡ false
+apart_then : (ds own ls : List Document) → AreBoth own ls → owns_any ls ds ≡ false → taken_by (documents_of_both ls (documents_with_all ds own)) ds ≡ None
+    → list_any (shares_resource (documents_with_all ds own)) ls ≡ false
 apart_then ds own ls both none free =
-    let after = placed_all ds own in
+    let after = documents_with_all ds own in
     any_none (shares_resource after) ls (λ l c. shares_none after l (λ e k u has. elim (from_all ds own e k) [
       | inl new ↦ false_from_ne_true (holds_resource u e) (λ held.
-          untaken (joined ls after) ds u free
-          (is_taken (joined ls after) ds e l u new (seen_then ds own ls l both none (inl c))
+          untaken (documents_of_both ls after) ds u free
+          (is_taken (documents_of_both ls after) ds e l u new (seen_then ds own ls l both none (inl c))
           (ap not (is_other ls e.canonical l (unowned_then ds own ls e both none k) c))
           (root_opens (schemas_of e.base e.value) u held)
           (opened_is_root (schemas_of l.base l.value) u u has (same_text_itself u))))
-      | inr old ↦ unshared own l e (none_of (shares_resource own) l ls both.apart c) old u has
+      | inr old ↦ unshared_holds_none own l e (none_of (shares_resource own) l ls both.apart c) old u has
     ]))
 
 -- ---- a registry
 -- these can be stored together
 pub record AreGranted (r : Registry) (ds : List Document) : Type 0 where
   pub once : repeated_uri ds ≡ None
-  pub free : taken_by (placed_all ds (documents_in r.documents)) ds ≡ None
-  pub small : bytes_of (placed_all ds (documents_in r.documents)) ≤ r.most_bytes
-  pub within : IsWithin r (placed_all ds (documents_in r.documents))
+  pub free : taken_by (documents_with_all ds (documents_in r.documents)) ds ≡ None
+  pub small : bytes_of (documents_with_all ds (documents_in r.documents)) ≤ r.most_bytes
+  pub within : IsWithin r (documents_with_all ds (documents_in r.documents))
 
-pub are_granted : (r : Registry) (ds : List Document) → batch_refusal (registry_view r) ds (placed_all ds (documents_in r.documents)) ≡ None → AreGranted r ds
+pub are_granted : (r : Registry) (ds : List Document) → batch_refusal (registry_view r) ds (documents_with_all ds (documents_in r.documents)) ≡ None → AreGranted r ds
 unfolding registry_view
 are_granted r ds none =
     let own = documents_in r.documents in
     let ls = listed_documents r.library.value in
-    let after = placed_all ds own in
+    let after = documents_with_all ds own in
     let both = registry_both r in
-    let parts = granted_by (repeated_uri ds) (owns_any ls ds) (taken_by (joined ls after) ds) (nat_lt r.most_documents (length after)) (nat_lt r.most_bytes (bytes_of after)) none in
+    let parts = granted_by (repeated_uri ds) (owns_any ls ds) (taken_by (documents_of_both ls after) ds) (nat_lt r.most_documents (length after)) (nat_lt r.most_bytes (bytes_of after)) none in
     record {
       once = parts.0;
-      free = free_within after (joined ls after) ds (λ d c. seen_then ds own ls d both parts.1.0 (inr c)) parts.1.1.0;
+      free = free_within after (documents_of_both ls after) ds (λ d c. seen_then ds own ls d both parts.1.0 (inr c)) parts.1.1.0;
       small = ltb-false r.most_bytes (bytes_of after) parts.1.1.1.1;
       within = record { few = parts.1.1.1.0; small = parts.1.1.1.1; apart = apart_then ds own ls both parts.1.0 parts.1.1.0 };
     }
 
 pub within_after_all : (r : Registry) (ds new : List Document) → AreGranted r ds
-    → (new ≡ placed_all ds (documents_in r.documents)) ⊎ (new ≡ documents_in r.documents) → IsWithin r new
+    → (new ≡ documents_with_all ds (documents_in r.documents)) ⊎ (new ≡ documents_in r.documents) → IsWithin r new
 within_after_all r ds new granted (inl put) = subst (IsWithin r) (sym put) granted.within
 within_after_all r ds new granted (inr kept) = subst (IsWithin r) (sym kept) (record { few = r.few; small = r.small; apart = r.apart })

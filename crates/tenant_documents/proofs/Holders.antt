@@ -2,7 +2,7 @@
 use Rattle.std.proofs.Common.{◌≡◌, Bool, true, false, not, List, Option, Some, None, is_some, Contains, find, sym, refl, ap, ◌∙◌, true≢false}
 use Rattle.std.proofs.lemmas.Bool.{false_from_ne_true}
 use Rattle.std.specs.List.{list_any}
-use Rattle.definitions.specs.Documents.{document_of, others_of, joined, AreSound}
+use Rattle.definitions.specs.Documents.{document_of, others_of, documents_of_both, AreSound}
 use Rattle.definitions.specs.Reach.{holds_resource}
 use Rattle.definitions.specs.Schemas.{Document}
 use Rattle.definitions.specs.Values.{Text, same_text}
@@ -48,14 +48,14 @@ pub record AreBoth (ds ls : List Document) : Type 0 where
   pub apart : list_any (shares_resource ds) ls ≡ false
 
 pub held_in_own : (ds ls : List Document) (uri c : Text) (d : Document) → AreBoth ds ls → find (holds_resource uri) ds ≡ Some d
-    → list_any (holds_resource uri) (others_of c (joined ls ds)) ≡ not (same_text c d.canonical)
+    → list_any (holds_resource uri) (others_of c (documents_of_both ls ds)) ≡ not (same_text c d.canonical)
 held_in_own ds ls uri c d both e =
-    held_by (joined ls ds) uri c (Some d) (together_sound ds ls both.own both.library both.apart) (found_in_first ds ls uri d both.own both.library both.apart e)
+    held_by (documents_of_both ls ds) uri c (Some d) (together_sound ds ls both.own both.library both.apart) (found_in_first ds ls uri d both.own both.library both.apart e)
 
 pub held_in_library : (ds ls : List Document) (uri c : Text) (o : Option Document) → AreBoth ds ls → find (holds_resource uri) ds ≡ None → find (holds_resource uri) ls ≡ o
-    → list_any (holds_resource uri) (others_of c (joined ls ds)) ≡ is_named_otherwise c o
+    → list_any (holds_resource uri) (others_of c (documents_of_both ls ds)) ≡ is_named_otherwise c o
 held_in_library ds ls uri c o both none e =
-    held_by (joined ls ds) uri c o (together_sound ds ls both.own both.library both.apart) (found_in_second ds ls uri o both.own both.library both.apart none e)
+    held_by (documents_of_both ls ds) uri c o (together_sound ds ls both.own both.library both.apart) (found_in_second ds ls uri o both.own both.library both.apart none e)
 
 -- ---- the document with a canonical URI
 named_at : (ds : List Document) (uri : Text) (d : Document) (b : Bool) → AreSound ds → find (holds_resource uri) ds ≡ Some d → same_text uri d.canonical ≡ b

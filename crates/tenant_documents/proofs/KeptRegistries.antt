@@ -6,7 +6,7 @@ use Rattle.std.specs.Global.{Global}
 use Rattle.std.specs.List.{list_any}
 use Rattle.std.specs.declared.rc.Rc.{Rc}
 use borrow.Author.Tests.{le-ltb}
-use Rattle.definitions.specs.Documents.{document_of, others_of, placed, joined, bytes_of, taken_uri}
+use Rattle.definitions.specs.Documents.{document_of, others_of, documents_with, documents_of_both, bytes_of, taken_uri}
 use Rattle.definitions.specs.Keeping.{IsKept}
 use Rattle.definitions.specs.Patterns.{regular_search}
 use Rattle.definitions.specs.Reach.{holds_resource}
@@ -23,13 +23,13 @@ use Rattle.definition_laws.proofs.PlacedDocuments.{from_placed}
 use Rattle.definition_laws.proofs.Repeats.{any_none, none_of}
 use Rattle.definition_laws.proofs.Resources.{opened_is_root, root_opens}
 use Rattle.definition_laws.proofs.StoredDocuments.{free_is_unheld, kept_sound, taken_is_held}
-use Rattle.schema_scan.specs.CompiledDocuments.{compiled_document}
+use Rattle.schema_scan.specs.CompiledDocuments.{compiled_view}
 use Rattle.schema_scan.specs.declared.compiled.Compiled.{Compiled}
 use Rattle.linker.specs.ListedDocuments.{listed_documents}
 use Rattle.linker.specs.SharedDocuments.{shared_documents}
 use Rattle.linker.specs.Sources.{shares_resource}
 use Rattle.linker.specs.SoundLists.{listed_sound}
-use Rattle.linker.specs.Together.{together_sound, unshared, shares_none, from_joined}
+use Rattle.linker.specs.Together.{together_sound, unshared_holds_none, shares_none, from_joined}
 use Rattle.linker.proofs.BothSources.{in_joined}
 use Rattle.linker.proofs.CanonicalHolders.{own_resource}
 use Rattle.linker.proofs.Positions.{ascend_distinct}
@@ -49,46 +49,46 @@ unowned ds ls d both c = no_name (document_of ls d.canonical) refl
     no_name (Some l) e =
         let there = found_there (λ (x : Document). same_text d.canonical x.canonical) ls l e in
         let named : d.canonical ≡ l.canonical = same_text_is d.canonical l.canonical there.1 in
-        let free = unshared ds l d (none_of (shares_resource ds) l ls both.apart there.0) c l.canonical
+        let free = unshared_holds_none ds l d (none_of (shares_resource ds) l ls both.apart there.0) c l.canonical
         (root_opens (schemas_of l.base l.value) l.canonical (own_resource l (both.library.made l there.0))) in
         absurd (true≢false (sym (ap (λ u. holds_resource u d) (sym named) ∙ own_resource d (both.own.made d c)) ∙ free))
 
-in_both : (ds ls : List Document) (x : Document) → AreBoth ds ls → Contains ls x ⊎ Contains ds x → Contains (joined ls ds) x
+in_both : (ds ls : List Document) (x : Document) → AreBoth ds ls → Contains ls x ⊎ Contains ds x → Contains (documents_of_both ls ds) x
 in_both ds ls x both there =
     in_joined ls ds x (ascend_distinct ls both.library.ascend)
     (λ l e c k. is_unequal e.canonical l (is_other ls e.canonical l (unowned ds ls e both k) c)) there
 
 -- one that is put shares no resource with the library, where it is none of the library's and none of its URIs is taken
-pub put_apart : (ds ls : List Document) (d : Document) → AreBoth ds ls → is_some (document_of ls d.canonical) ≡ false → taken_uri (joined ls ds) d ≡ None
-    → list_any (shares_resource (placed d ds)) ls ≡ false
+pub put_apart : (ds ls : List Document) (d : Document) → AreBoth ds ls → is_some (document_of ls d.canonical) ≡ false → taken_uri (documents_of_both ls ds) d ≡ None
+    → list_any (shares_resource (documents_with d ds)) ls ≡ false
 put_apart ds ls d both none free =
-    any_none (shares_resource (placed d ds)) ls (λ l c. shares_none (placed d ds) l (λ e k u own. elim (from_placed d e ds k) [
+    any_none (shares_resource (documents_with d ds)) ls (λ l c. shares_none (documents_with d ds) l (λ e k u own. elim (from_placed d e ds k) [
       | inl itself ↦ subst (λ x. holds_resource u x ≡ false) itself (false_from_ne_true (holds_resource u d) (λ held.
-          free_is_unheld (joined ls ds) d u free (root_opens (schemas_of d.base d.value) u held)
+          free_is_unheld (documents_of_both ls ds) d u free (root_opens (schemas_of d.base d.value) u held)
           (record {
             other = l;
             inside = in_both ds ls l both (inl c);
             differs = is_unequal d.canonical l (is_other ls d.canonical l none c);
             holds = opened_is_root (schemas_of l.base l.value) u u own (same_text_itself u);
           })))
-      | inr there ↦ unshared ds l e (none_of (shares_resource ds) l ls both.apart c) there u own
+      | inr there ↦ unshared_holds_none ds l e (none_of (shares_resource ds) l ls both.apart c) there u own
     ]))
 
 -- nor does a part of them
 pub part_apart : (p : Document → Bool) (ds ls : List Document) → list_any (shares_resource ds) ls ≡ false → list_any (shares_resource (filter p ds)) ls ≡ false
 part_apart p ds ls apart =
     any_none (shares_resource (filter p ds)) ls (λ l c. shares_none (filter p ds) l (λ e k u own.
-    unshared ds l e (none_of (shares_resource ds) l ls apart c) (from_filter p e ds k).0 u own))
+    unshared_holds_none ds l e (none_of (shares_resource ds) l ls apart c) (from_filter p e ds k).0 u own))
 
 -- no URI of the document is another's of a part of what is seen
-pub free_of_own : (ds ls : List Document) (d : Document) → AreBoth ds ls → taken_uri (joined ls ds) d ≡ None → taken_uri ds d ≡ None
+pub free_of_own : (ds ls : List Document) (d : Document) → AreBoth ds ls → taken_uri (documents_of_both ls ds) d ≡ None → taken_uri ds d ≡ None
 free_of_own ds ls d both free = not_taken (taken_uri ds d) refl
   where
     not_taken : (o : Option Text) → taken_uri ds d ≡ o → o ≡ None
     not_taken None e = refl
     not_taken (Some u) e =
         let held = taken_is_held ds d u e in
-        absurd (free_is_unheld (joined ls ds) d u free held.own
+        absurd (free_is_unheld (documents_of_both ls ds) d u free held.own
         (record {
           other = held.held.other;
           inside = in_both ds ls held.held.other both (inr held.held.inside);
@@ -100,7 +100,7 @@ free_of_own ds ls d both free = not_taken (taken_uri ds d) refl
 shared_regular : (ds : List (Rc Compiled Global)) (d : Document) → Contains (shared_documents ds) d → is_regular regular_search d.value ≡ true
 unfolding shared_documents
 shared_regular [] d c = absurd (nothing_in d c)
-shared_regular (x ∷ xs) d c = elim (first_or_later (compiled_document x.value) d (map (λ (y : Rc Compiled Global). compiled_document y.value) xs) c) [
+shared_regular (x ∷ xs) d c = elim (first_or_later (compiled_view x.value) d (map (λ (y : Rc Compiled Global). compiled_view y.value) xs) c) [
   | inl same ↦ subst (λ (e : Document). is_regular regular_search e.value ≡ true) same x.value.regular
   | inr later ↦ shared_regular xs d later
 ]
@@ -163,22 +163,22 @@ pub record IsWithin (r : Registry) (ds : List Document) : Type 0 where
   pub small : nat_lt r.most_bytes (bytes_of ds) ≡ false
   pub apart : list_any (shares_resource ds) (listed_documents r.library.value) ≡ false
 
-pub accepted_by : (r : Registry) (d : Document) → put_refusal regular_search (registry_view r) d (placed d (documents_in r.documents)) ≡ None
-    → IsAccepted regular_search (registry_view r) d (placed d (documents_in r.documents))
-accepted_by r d none = accepted regular_search (registry_view r) d (placed d (documents_in r.documents)) none
+pub accepted_by : (r : Registry) (d : Document) → put_refusal regular_search (registry_view r) d (documents_with d (documents_in r.documents)) ≡ None
+    → IsAccepted regular_search (registry_view r) d (documents_with d (documents_in r.documents))
+accepted_by r d none = accepted regular_search (registry_view r) d (documents_with d (documents_in r.documents)) none
 
-pub free_in : (r : Registry) (d : Document) → put_refusal regular_search (registry_view r) d (placed d (documents_in r.documents)) ≡ None
+pub free_in : (r : Registry) (d : Document) → put_refusal regular_search (registry_view r) d (documents_with d (documents_in r.documents)) ≡ None
     → taken_uri (documents_in r.documents) d ≡ None
 unfolding registry_view
 free_in r d none = free_of_own (documents_in r.documents) (listed_documents r.library.value) d (registry_both r) (accepted_by r d none).free
 
-pub bytes_within : (r : Registry) (d : Document) → put_refusal regular_search (registry_view r) d (placed d (documents_in r.documents)) ≡ None
-    → bytes_of (placed d (documents_in r.documents)) ≤ r.most_bytes
+pub bytes_within : (r : Registry) (d : Document) → put_refusal regular_search (registry_view r) d (documents_with d (documents_in r.documents)) ≡ None
+    → bytes_of (documents_with d (documents_in r.documents)) ≤ r.most_bytes
 unfolding registry_view
-bytes_within r d none = ltb-false r.most_bytes (bytes_of (placed d (documents_in r.documents))) (accepted_by r d none).small
+bytes_within r d none = ltb-false r.most_bytes (bytes_of (documents_with d (documents_in r.documents))) (accepted_by r d none).small
 
-pub within_after_put : (r : Registry) (d : Document) (new : List Document) → put_refusal regular_search (registry_view r) d (placed d (documents_in r.documents)) ≡ None
-    → (new ≡ placed d (documents_in r.documents)) ⊎ (new ≡ documents_in r.documents) → IsWithin r new
+pub within_after_put : (r : Registry) (d : Document) (new : List Document) → put_refusal regular_search (registry_view r) d (documents_with d (documents_in r.documents)) ≡ None
+    → (new ≡ documents_with d (documents_in r.documents)) ⊎ (new ≡ documents_in r.documents) → IsWithin r new
 unfolding registry_view
 within_after_put r d new none (inl put) =
     let fine = accepted_by r d none in

@@ -1,12 +1,12 @@
 -- What is refused for want of memory, and for else.
 use Rattle.std.proofs.Common.{◌≢◌, ◌⊎◌, Result, Ok, Err, IfErr, OnOk, OnErr, inl, inr}
 use Rattle.definitions.specs.Faults as meaning
-use Rattle.faults.specs.View.{fault}
+use Rattle.faults.specs.View.{fault_view}
 use Rattle.faults.specs.declared.Fault.{Fault}
 use Rattle.faults.specs.declared.Fault.TheVariants.{NoRoom}
 
 -- what holds of each fault but one, and of this one, holds of all
-pub for_each_fault : (P : meaning.Fault → Type 0) (f : Fault) → (f ≢ NoRoom → P (fault f)) → P meaning.no_room → P (fault f)
+pub for_each_fault : (P : meaning.Fault → Type 0) (f : Fault) → (f ≢ NoRoom → P (fault_view f)) → P meaning.no_room → P (fault_view f)
 for_each_fault P NoRoom h room = room
 for_each_fault P f h room = h (λ e. cc)
 

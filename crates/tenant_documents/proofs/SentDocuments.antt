@@ -2,11 +2,11 @@
 use Rattle.std.proofs.Common.{◌≡◌, ◌<◌, Bool, true, false, not, cond, List, [], ◌∷◌, ◌++◌, Option, Some, None, Ok, Err, length, is_some, is_none, IsTrue, Contains, true≢false, option_map, refl, sym, ap, ◌∙◌, inl, inr, subst}
 use Rattle.std.proofs.lemmas.Bool.{and_from}
 use borrow.Author.Tests.{lt-ltb}
-use Rattle.definitions.specs.Documents.{document_of, others_of, placed, taken_uri}
+use Rattle.definitions.specs.Documents.{document_of, documents_with, others_of, taken_uri}
 use Rattle.definitions.specs.Faults.{Fault, bad_pattern, library_owned, not_found, no_room, taken}
 use Rattle.definitions.specs.Lists.{first, option_list, when}
 use Rattle.definitions.specs.Patterns.{regular_search}
-use Rattle.definitions.specs.Registries.{Registry, Reply, put, delete, put_into, put_refusal, deleted_from, deleted, stored, refused, for_base, for_value, body_value, is_in_library, documents_seen, quota_faults, decided}
+use Rattle.definitions.specs.Registries.{Registry, Reply, put, delete, put_into, put_refusal, deleted_from, deleted, stored, refused, for_base, for_value, body_value, is_in_library, documents_seen, quota_faults, decision}
 use Rattle.definitions.specs.Resolution.{base_form}
 use Rattle.definitions.specs.Runs.{IsAnswer}
 use Rattle.definitions.specs.Scanning.{scan_fault, scan_faults}
@@ -54,16 +54,16 @@ first_behind : (xs ys : List Fault) (o : Option Fault) → first xs ≡ None →
 first_behind xs ys o e h = ap (λ zs. first (zs ++ ys)) (first_none xs e) ∙ h
 
 abbrev refusal_of : Registry → Document → Option Fault
-refusal_of g d = put_refusal regular_search g d (placed d g.documents)
+refusal_of g d = put_refusal regular_search g d (documents_with d g.documents)
 
 refused_into : (g : Registry) (d : Document) (f : Fault) → refusal_of g d ≡ Some f → put_into regular_search g d ≡ (refused f, g)
 refused_into g d f e =
-    ap (λ o. decided o (stored d.canonical (is_some (document_of g.documents d.canonical))) (record g { documents = placed d g.documents }) g) e
+    ap (λ o. decision o (stored d.canonical (is_some (document_of g.documents d.canonical))) (record g { documents = documents_with d g.documents }) g) e
 
 granted_into : (g : Registry) (d : Document) → refusal_of g d ≡ None
-    → put_into regular_search g d ≡ (stored d.canonical (is_some (document_of g.documents d.canonical)), record g { documents = placed d g.documents })
+    → put_into regular_search g d ≡ (stored d.canonical (is_some (document_of g.documents d.canonical)), record g { documents = documents_with d g.documents })
 granted_into g d e =
-    ap (λ o. decided o (stored d.canonical (is_some (document_of g.documents d.canonical))) (record g { documents = placed d g.documents }) g) e
+    ap (λ o. decision o (stored d.canonical (is_some (document_of g.documents d.canonical))) (record g { documents = documents_with d g.documents }) g) e
 
 not_built : (uri body base : Text) (v : Value) (b : Bool) → base_form uri ≡ Ok base → body_value body ≡ Ok v → scan_fault base v ≡ None → has_patterns v ≡ true
     → is_regular regular_search v ≡ b → IsRefused uri body bad_pattern
@@ -107,7 +107,7 @@ pub refused_put : (g : Registry) (d : Document) (f : Fault) → refusal_of g d �
 refused_put g d f e = let is = refused_into g d f e in inl (ap (λ p. p.0) (sym is), ap (λ p. p.1) (sym is))
 
 pub granted_put : (g : Registry) (d : Document) → refusal_of g d ≡ None
-    → IsPut g d (stored d.canonical (is_some (document_of g.documents d.canonical))) (record g { documents = placed d g.documents })
+    → IsPut g d (stored d.canonical (is_some (document_of g.documents d.canonical))) (record g { documents = documents_with d g.documents })
 granted_put g d e = let is = granted_into g d e in inl (ap (λ p. p.0) (sym is), ap (λ p. p.1) (sym is))
 
 pub no_room_to_put : (g : Registry) (d : Document) → IsPut g d (refused no_room) g
@@ -126,28 +126,28 @@ judged_by faults regular owned uri quota e h = rw (first_none faults e, h) refl
 
 judged : (g : Registry) (d : Document) → IsFaultless d
     → refusal_of g d
-    ≡ first (when (is_in_library g d.canonical) library_owned ++ (option_list (option_map taken (taken_uri (documents_seen g) d)) ++ quota_faults g (placed d g.documents)))
+    ≡ first (when (is_in_library g d.canonical) library_owned ++ (option_list (option_map taken (taken_uri (documents_seen g) d)) ++ quota_faults g (documents_with d g.documents)))
 judged g d fine =
     judged_by (scan_faults d.base d.value) (is_regular regular_search d.value) (is_in_library g d.canonical) (taken_uri (documents_seen g) d)
-    (quota_faults g (placed d g.documents)) fine.scanned fine.regular
+    (quota_faults g (documents_with d g.documents)) fine.scanned fine.regular
 
 pub refused_as_owned : (g : Registry) (d : Document) → IsFaultless d → is_in_library g d.canonical ≡ true → refusal_of g d ≡ Some library_owned
-refused_as_owned g d fine owned = judged g d fine ∙ ap (λ b. first (when b library_owned ++ (option_list (option_map taken (taken_uri (documents_seen g) d)) ++ quota_faults g (placed d g.documents)))) owned
+refused_as_owned g d fine owned = judged g d fine ∙ ap (λ b. first (when b library_owned ++ (option_list (option_map taken (taken_uri (documents_seen g) d)) ++ quota_faults g (documents_with d g.documents)))) owned
 
 after_library : (g : Registry) (d : Document) → IsFaultless d → is_in_library g d.canonical ≡ false
-    → refusal_of g d ≡ first (option_list (option_map taken (taken_uri (documents_seen g) d)) ++ quota_faults g (placed d g.documents))
+    → refusal_of g d ≡ first (option_list (option_map taken (taken_uri (documents_seen g) d)) ++ quota_faults g (documents_with d g.documents))
 after_library g d fine unowned =
-    judged g d fine ∙ ap (λ b. first (when b library_owned ++ (option_list (option_map taken (taken_uri (documents_seen g) d)) ++ quota_faults g (placed d g.documents)))) unowned
+    judged g d fine ∙ ap (λ b. first (when b library_owned ++ (option_list (option_map taken (taken_uri (documents_seen g) d)) ++ quota_faults g (documents_with d g.documents)))) unowned
 
 pub refused_as_taken : (g : Registry) (d : Document) (uri : Text) → IsFaultless d → is_in_library g d.canonical ≡ false → taken_uri (documents_seen g) d ≡ Some uri
     → refusal_of g d ≡ Some (taken uri)
 refused_as_taken g d uri fine unowned e =
-    after_library g d fine unowned ∙ ap (λ o. first (option_list (option_map taken o) ++ quota_faults g (placed d g.documents))) e
+    after_library g d fine unowned ∙ ap (λ o. first (option_list (option_map taken o) ++ quota_faults g (documents_with d g.documents))) e
 
 pub judged_by_quotas : (g : Registry) (d : Document) → IsFaultless d → is_in_library g d.canonical ≡ false → taken_uri (documents_seen g) d ≡ None
-    → refusal_of g d ≡ first (quota_faults g (placed d g.documents))
+    → refusal_of g d ≡ first (quota_faults g (documents_with d g.documents))
 judged_by_quotas g d fine unowned e =
-    after_library g d fine unowned ∙ ap (λ o. first (option_list (option_map taken o) ++ quota_faults g (placed d g.documents))) e
+    after_library g d fine unowned ∙ ap (λ o. first (option_list (option_map taken o) ++ quota_faults g (documents_with d g.documents))) e
 
 -- ---- deletes
 pub delete_answer : (g h : Registry) (uri base : Text) (r : Reply) → base_form uri ≡ Ok base → IsDeleted g base r h → IsAnswer regular_search g (delete uri) r h
@@ -203,8 +203,8 @@ is_not_found g base e h =
     inl (ap (λ p. p.0) (sym is), ap (λ ds. record g { documents = ds }) (all_others g.documents base h) ∙ ap (λ p. p.1) (sym is))
 
 -- ---- with the documents as they are after a request
-pub granted_after : (g : Registry) (d : Document) (uri : Text) (replaced : Bool) (ds : List Document) → put_refusal regular_search g d (placed d g.documents) ≡ None
-    → uri ≡ d.canonical → replaced ≡ is_some (document_of g.documents d.canonical) → ds ≡ placed d g.documents
+pub granted_after : (g : Registry) (d : Document) (uri : Text) (replaced : Bool) (ds : List Document) → put_refusal regular_search g d (documents_with d g.documents) ≡ None
+    → uri ≡ d.canonical → replaced ≡ is_some (document_of g.documents d.canonical) → ds ≡ documents_with d g.documents
     → IsPut g d (stored uri replaced) (record g { documents = ds })
 granted_after g d uri replaced ds none e f h =
     subst (λ u. IsPut g d (stored u replaced) (record g { documents = ds })) (sym e)

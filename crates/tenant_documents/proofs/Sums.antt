@@ -1,7 +1,7 @@
 -- The sizes of documents among which one is put.
 use Rattle.std.proofs.Common.{◌≡◌, ℕ, ◌+◌, ◌-◌, ◌≤◌, ◌<◌, ◌^◌, List, [], ◌∷◌, length, Option, Some, None, SomeIff, refl, sym, ap, ◌∙◌, arith}
 use Rattle.std.proofs.lemmas.List.Sums.{sum_by-cons}
-use Rattle.definitions.specs.Documents.{document_of, others_of, placed, bytes_of}
+use Rattle.definitions.specs.Documents.{document_of, others_of, documents_with, bytes_of}
 use Rattle.definitions.specs.Lists.{option_list}
 use Rattle.definitions.specs.Schemas.{Document}
 use Rattle.definitions.specs.Texts.{text}
@@ -22,19 +22,19 @@ less a b c d e p q = omega (arith, p, q)
 no_more : (a b : ℕ) → a + 0 ≡ b → a ≡ b
 no_more a b p = omega (arith, p)
 
-pub count_after_new : (ds : List Document) (d : Document) → IsAdded ds d → document_of ds d.canonical ≡ None → length (placed d ds) ≡ length ds + 1
-count_after_new ds d more new = no_more _ _ (sym (ap (λ o. length (placed d ds) + length (option_list o)) new) ∙ more.documents)
+pub count_after_new : (ds : List Document) (d : Document) → IsAdded ds d → document_of ds d.canonical ≡ None → length (documents_with d ds) ≡ length ds + 1
+count_after_new ds d more new = no_more _ _ (sym (ap (λ o. length (documents_with d ds) + length (option_list o)) new) ∙ more.documents)
 
-pub bytes_after_new : (ds : List Document) (d : Document) → IsAdded ds d → document_of ds d.canonical ≡ None → bytes_of (placed d ds) ≡ bytes_of ds + size d
+pub bytes_after_new : (ds : List Document) (d : Document) → IsAdded ds d → document_of ds d.canonical ≡ None → bytes_of (documents_with d ds) ≡ bytes_of ds + size d
 bytes_after_new ds d more new =
-    no_more _ _ (sym (ap (λ o. bytes_of (placed d ds) + bytes_of (option_list o)) new) ∙ more.bytes) ∙ ap (λ n. bytes_of ds + n) (one_size d)
+    no_more _ _ (sym (ap (λ o. bytes_of (documents_with d ds) + bytes_of (option_list o)) new) ∙ more.bytes) ∙ ap (λ n. bytes_of ds + n) (one_size d)
 
 -- ---- in place of one
 cancel : (a b : ℕ) → a + 1 ≡ b + 1 → a ≡ b
 cancel a b p = omega (arith, p)
 
-pub count_after_old : (ds : List Document) (d old : Document) → IsAdded ds d → document_of ds d.canonical ≡ Some old → length (placed d ds) ≡ length ds
-count_after_old ds d old more there = cancel _ _ (sym (ap (λ o. length (placed d ds) + length (option_list o)) there) ∙ more.documents)
+pub count_after_old : (ds : List Document) (d old : Document) → IsAdded ds d → document_of ds d.canonical ≡ Some old → length (documents_with d ds) ≡ length ds
+count_after_old ds d old more there = cancel _ _ (sym (ap (λ o. length (documents_with d ds) + length (option_list o)) there) ∙ more.documents)
 
 moved : (after before rest own old : ℕ) → after + old ≡ before + own → rest + old ≡ before → after ≡ (before - old) + own
 moved after before rest own old p q = omega (arith, p, q)
@@ -50,10 +50,10 @@ pub bytes_of_old : (ds : List Document) (uri : Text) (old : Document) → IsTake
 bytes_of_old ds uri old less there = within (bytes_of ds) (bytes_of (others_of uri ds)) (size old) (old_bytes ds uri old less there)
 
 pub bytes_after_old : (ds : List Document) (d old : Document) → IsAdded ds d → IsTakenOff ds d.canonical → document_of ds d.canonical ≡ Some old
-    → bytes_of (placed d ds) ≡ (bytes_of ds - size old) + size d
+    → bytes_of (documents_with d ds) ≡ (bytes_of ds - size old) + size d
 bytes_after_old ds d old more less there =
-    moved (bytes_of (placed d ds)) (bytes_of ds) (bytes_of (others_of d.canonical ds)) (size d) (size old)
-    (ap (λ n. bytes_of (placed d ds) + n) (sym (one_size old)) ∙ sym (ap (λ o. bytes_of (placed d ds) + bytes_of (option_list o)) there) ∙ more.bytes
+    moved (bytes_of (documents_with d ds)) (bytes_of ds) (bytes_of (others_of d.canonical ds)) (size d) (size old)
+    (ap (λ n. bytes_of (documents_with d ds) + n) (sym (one_size old)) ∙ sym (ap (λ o. bytes_of (documents_with d ds) + bytes_of (option_list o)) there) ∙ more.bytes
     ∙ ap (λ n. bytes_of ds + n) (one_size d))
     (old_bytes ds d.canonical old less there)
 

@@ -7,7 +7,7 @@ use Rattle.definitions.specs.Patterns.{regular_search}
 use Rattle.definitions.specs.Registries.{Registry, Reply, refused}
 use Rattle.definitions.specs.Schemas.{Document}
 use Rattle.definitions.specs.Values.{Text}
-use Rattle.faults.specs.View.{fault}
+use Rattle.faults.specs.View.{fault_view}
 use Rattle.faults.specs.declared.Fault.{Fault}
 use Rattle.faults.specs.declared.Fault.TheVariants.{NoRoom}
 use Rattle.stored_documents.specs.SharedStored.{stored_documents}
@@ -18,11 +18,11 @@ use Rattle.tenant_documents.specs.declared.batch_entries.EnteredBatch.TheVariant
 -- the documents of the entries, or why one of them is refused
 abbrev pub IsEntered : List Entry → EnteredBatch → Type 0
 IsEntered es (Documents ds) = entry_documents regular_search 0 es ≡ Ok (stored_documents ds.items)
-IsEntered es (Refused n f) = IsRefusedAt es n (fault f)
+IsEntered es (Refused n f) = IsRefusedAt es n (fault_view f)
 
 -- the batches whose entry of this number is refused so, unless it is for want of memory, are entered so
 abbrev pub IsRefusal : ℕ → Fault → EnteredBatch → Type 0
-IsRefusal n why e = (es : List Entry) → (why ≢ NoRoom → IsRefusedAt es n (fault why)) → IsEntered es e
+IsRefusal n why e = (es : List Entry) → (why ≢ NoRoom → IsRefusedAt es n (fault_view why)) → IsEntered es e
 
 -- what putting these documents together into the registry gives, or want of room
 abbrev pub IsPutTogether : Registry → List Document → Reply → Registry → Type 0

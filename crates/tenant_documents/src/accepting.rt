@@ -1,8 +1,8 @@
 //! A document that was sent, before any registry judges it.
 
 ghost use Rattle.std.specs.Prelude.{IfErr, IfOk};
-ghost use Rattle.faults.specs.View.{fault};
-ghost use Rattle.stored_documents.specs.StoredDocuments.{stored_document};
+ghost use Rattle.faults.specs.View.{fault_view};
+ghost use Rattle.stored_documents.specs.StoredDocuments.{stored_view};
 ghost use Rattle.tenant_documents.specs.Puts.{IsSent, IsRefused};
 
 use requests::Fault;
@@ -19,8 +19,8 @@ pub(crate) fn accept(
     uri: &str,
     body: &[u8],
 ) -> Result<Stored, Fault>
-    ensures ok { IfOk result (λ s. IsSent uri.now body.now (stored_document s)) }
-    ensures err { IfErr result (λ f. IsRefused uri.now body.now (fault f)) }
+    ensures ok { IfOk result (λ s. IsSent uri.now body.now (stored_view s)) }
+    ensures err { IfErr result (λ f. IsRefused uri.now body.now (fault_view f)) }
 {
     let base = base_form(alloc, uri)?;
     let document = read_body(alloc, body)?;

@@ -3,7 +3,7 @@
 ghost use Rattle.std.specs.Prelude.{◌≡◌, ◌++◌, List, None, false, filter, IfErr, IfOk, map, option_map};
 ghost use Rattle.std.specs.List.{list_any};
 ghost use Rattle.definitions.specs.Batches.{repeated_uri, taken_by};
-ghost use Rattle.definitions.specs.Documents.{canonicals, joined, placed_all, resource_uris_of};
+ghost use Rattle.definitions.specs.Documents.{canonicals, documents_of_both, documents_with_all, resource_uris_of};
 ghost use Rattle.definitions.specs.Registries.{is_in_library};
 ghost use Rattle.definitions.specs.Values.{Text};
 ghost use Rattle.stored_documents.specs.SharedStored.{stored_documents};
@@ -31,8 +31,9 @@ impl Registry {
         requires unowned { list_any (λ d. is_in_library (registry_view self.now) d.canonical)
             (stored_documents documents.now) ≡ false }
         ensures ok { IfOk result (λ t. option_map (λ t. t.now) t
-            ≡ taken_by (joined (registry_view self.now).library
-            (placed_all (stored_documents documents.now) (registry_view self.now).documents))
+            ≡ taken_by (documents_of_both (registry_view self.now).library
+            (documents_with_all (stored_documents documents.now)
+            (registry_view self.now).documents))
             (stored_documents documents.now)) }
         ensures err { IfErr result (λ f. f ≡ Fault.NoRoom) }
     {

@@ -3,9 +3,9 @@
 ghost use Rattle.std.specs.Prelude.{◌≡◌, ◌≢◌, Ok, IfErr, IfOk, map};
 ghost use Rattle.definitions.specs.Batches.{document_under, entry_document};
 ghost use Rattle.definitions.specs.Patterns.{regular_search};
-ghost use Rattle.faults.specs.View.{fault};
+ghost use Rattle.faults.specs.View.{fault_view};
 ghost use Rattle.json_doc.specs.Docs.{value};
-ghost use Rattle.stored_documents.specs.StoredDocuments.{stored_document};
+ghost use Rattle.stored_documents.specs.StoredDocuments.{stored_view};
 ghost use Rattle.tenant_documents.specs.Batches.{IsEntered, IsRefusal};
 ghost use Rattle.tenant_documents.specs.EntryRefusals.{IsRefusedEntry, IsRefusedUnder};
 ghost use Rattle.tenants_file.specs.Entries.{entry_view};
@@ -60,9 +60,9 @@ fn refused(number: usize, why: Fault) -> Result<EnteredBatch, Fault>
 
 fn stored_entry(alloc: Global, cache: &mut Cache, entry: &BatchEntry) -> Result<Rc<Stored>, Fault>
     ensures ok { IfOk result (λ s. entry_document regular_search (entry_view entry.now)
-        ≡ Ok (stored_document s.value)) }
+        ≡ Ok (stored_view s.value)) }
     ensures err { IfErr result (λ f. f ≢ Fault.NoRoom
-        → IsRefusedEntry (entry_view entry.now) (fault f)) }
+        → IsRefusedEntry (entry_view entry.now) (fault_view f)) }
 {
     let base = base_form(alloc, entry.uri)?;
     stored_under(alloc, cache, base.as_str(), entry.schema)
@@ -76,9 +76,9 @@ fn stored_under(
     document: &Doc,
 ) -> Result<Rc<Stored>, Fault>
     ensures ok { IfOk result (λ s. document_under regular_search (Ok base.now) (value document.now)
-        ≡ Ok (stored_document s.value)) }
+        ≡ Ok (stored_view s.value)) }
     ensures err { IfErr result (λ f. f ≢ Fault.NoRoom
-        → IsRefusedUnder (Ok base.now) (value document.now) (fault f)) }
+        → IsRefusedUnder (Ok base.now) (value document.now) (fault_view f)) }
 {
     let copied = copy(alloc, document)?;
     let stored = Stored::of(alloc, cache, &split(base), copied)?;

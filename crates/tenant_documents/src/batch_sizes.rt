@@ -2,10 +2,10 @@
 
 ghost use Rattle.std.specs.Prelude.{◌≡◌, ◌+◌, ℕ, None, length, option_map};
 ghost use Rattle.definitions.specs.Batches.{repeated_uri};
-ghost use Rattle.definitions.specs.Documents.{bytes_of, document_of, placed_all};
+ghost use Rattle.definitions.specs.Documents.{bytes_of, document_of, documents_with_all};
 ghost use Rattle.definitions.specs.Lists.{first, option_list};
 ghost use Rattle.definitions.specs.Registries.{quota_faults};
-ghost use Rattle.faults.specs.View.{fault};
+ghost use Rattle.faults.specs.View.{fault_view};
 ghost use Rattle.stored_documents.specs.SharedStored.{stored_documents};
 ghost use Rattle.tenant_documents.specs.HeldBeside.{replaced_by};
 ghost use Rattle.tenant_documents.specs.Puts.{IsSum};
@@ -21,8 +21,9 @@ impl Registry {
     // The first quota that the documents with these would be over.
     pub(crate) fn batch_quota_fault(&self, documents: &[Rc<Stored>]) -> Option<Fault>
         requires once { repeated_uri (stored_documents documents.now) ≡ None }
-        ensures { option_map fault result ≡ first (quota_faults (registry_view self.now)
-            (placed_all (stored_documents documents.now) (registry_view self.now).documents)) }
+        ensures { option_map fault_view result ≡ first (quota_faults (registry_view self.now)
+            (documents_with_all (stored_documents documents.now)
+            (registry_view self.now).documents)) }
     {
         // The number shows that what is within the quota fits 64 bits.
         let _ = self.document_quota();

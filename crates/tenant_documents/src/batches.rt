@@ -5,10 +5,10 @@ ghost use Rattle.definitions.specs.Batches.{each_stored};
 ghost use Rattle.definitions.specs.Patterns.{regular_search};
 ghost use Rattle.definitions.specs.Registries.{batch, refused};
 ghost use Rattle.definitions.specs.Runs.{IsAnswer};
-ghost use Rattle.faults.specs.View.{fault};
+ghost use Rattle.faults.specs.View.{fault_view};
 ghost use Rattle.requests.specs.Views.{reply_view, stored_entry_view};
 ghost use Rattle.stored_documents.specs.SharedStored.{stored_documents};
-ghost use Rattle.stored_documents.specs.StoredDocuments.{stored_document};
+ghost use Rattle.stored_documents.specs.StoredDocuments.{stored_view};
 ghost use Rattle.tenant_documents.specs.Batches.{IsPutTogether, stored_reply};
 ghost use Rattle.tenant_documents.specs.Registries.{registry_view};
 
@@ -50,7 +50,7 @@ impl Registry {
         ensures ok { IfOk result (λ r. IsAnswer regular_search (registry_view self.old)
             (batch body.now) (reply_view r) (registry_view self.new)) }
         ensures err { IfErr result (λ f. IsAnswer regular_search (registry_view self.old)
-            (batch body.now) (refused (fault f)) (registry_view self.new)) }
+            (batch body.now) (refused (fault_view f)) (registry_view self.new)) }
     {
         let batch = read_body(alloc, body)?;
         let entries = read_batch(alloc, &batch)?;
@@ -65,7 +65,7 @@ impl Registry {
         ensures ok { IfOk result (λ r. IsPutTogether (registry_view self.old)
             (stored_documents documents.items) (reply_view r) (registry_view self.new)) }
         ensures err { IfErr result (λ f. IsPutTogether (registry_view self.old)
-            (stored_documents documents.items) (refused (fault f)) (registry_view self.new)) }
+            (stored_documents documents.items) (refused (fault_view f)) (registry_view self.new)) }
     {
         // The number shows that what is within the quota fits 64 bits.
         let _ = self.byte_quota();
@@ -96,7 +96,7 @@ impl Registry {
 
     fn stored_reply(&self, alloc: Global, document: &Stored) -> Result<StoredEntry, Fault>
         ensures ok { IfOk result (λ r. stored_entry_view r
-            ≡ stored_reply (registry_view self.now) (stored_document document.now)) }
+            ≡ stored_reply (registry_view self.now) (stored_view document.now)) }
         ensures err { IfErr result (λ f. f ≡ Fault.NoRoom) }
     {
         let canonical = document.canonical();

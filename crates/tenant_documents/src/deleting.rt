@@ -4,7 +4,7 @@ ghost use Rattle.std.specs.Prelude.{IfErr, IfOk, string_bytes};
 ghost use Rattle.definitions.specs.Patterns.{regular_search};
 ghost use Rattle.definitions.specs.Registries.{delete, refused};
 ghost use Rattle.definitions.specs.Runs.{IsAnswer};
-ghost use Rattle.faults.specs.View.{fault};
+ghost use Rattle.faults.specs.View.{fault_view};
 ghost use Rattle.requests.specs.Views.{reply_view};
 ghost use Rattle.tenant_documents.specs.Puts.{IsDeleted};
 ghost use Rattle.tenant_documents.specs.Registries.{registry_view};
@@ -33,7 +33,7 @@ impl Registry {
         ensures ok { IfOk result (λ r. IsAnswer regular_search (registry_view self.old)
             (delete uri.now) (reply_view r) (registry_view self.new)) }
         ensures err { IfErr result (λ f. IsAnswer regular_search (registry_view self.old)
-            (delete uri.now) (refused (fault f)) (registry_view self.new)) }
+            (delete uri.now) (refused (fault_view f)) (registry_view self.new)) }
     {
         let base = base_form(alloc, uri)?;
         self.remove(alloc, base)
@@ -44,7 +44,7 @@ impl Registry {
         ensures ok { IfOk result (λ r. IsDeleted (registry_view self.old) (string_bytes canonical)
             (reply_view r) (registry_view self.new)) }
         ensures err { IfErr result (λ f. IsDeleted (registry_view self.old) (string_bytes canonical)
-            (refused (fault f)) (registry_view self.new)) }
+            (refused (fault_view f)) (registry_view self.new)) }
     {
         if self.is_in_library(alloc, canonical.as_str())? {
             return Err(Fault::LibraryOwned);

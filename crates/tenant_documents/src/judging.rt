@@ -1,12 +1,12 @@
 //! What a document that is put is refused for.
 
 ghost use Rattle.std.specs.Prelude.{◌≡◌, ◌≢◌, None, Some, IfErr, OnOk, option_map};
-ghost use Rattle.definitions.specs.Documents.{placed};
+ghost use Rattle.definitions.specs.Documents.{documents_with};
 ghost use Rattle.definitions.specs.Lists.{first};
 ghost use Rattle.definitions.specs.Patterns.{regular_search};
 ghost use Rattle.definitions.specs.Registries.{put_refusal, quota_faults};
-ghost use Rattle.faults.specs.View.{fault};
-ghost use Rattle.stored_documents.specs.StoredDocuments.{stored_document};
+ghost use Rattle.faults.specs.View.{fault_view};
+ghost use Rattle.stored_documents.specs.StoredDocuments.{stored_view};
 ghost use Rattle.tenant_documents.specs.Registries.{registry_view};
 
 use crate::quotas::quota_fault;
@@ -20,13 +20,13 @@ impl Registry {
     // Refuses a document of which the scan found no fault and whose patterns were built.
     pub(crate) fn judge(&self, alloc: Global, document: &Stored) -> Result<(), Fault>
         ensures ok { OnOk result (put_refusal regular_search (registry_view self.now)
-            (stored_document document.now)
-            (placed (stored_document document.now) (registry_view self.now).documents) ≡ None) }
+            (stored_view document.now)
+            (documents_with (stored_view document.now) (registry_view self.now).documents) ≡ None) }
         ensures err { IfErr result (λ f. f ≢ Fault.NoRoom
             → put_refusal regular_search (registry_view self.now)
-            (stored_document document.now)
-            (placed (stored_document document.now) (registry_view self.now).documents)
-            ≡ Some (fault f)) }
+            (stored_view document.now)
+            (documents_with (stored_view document.now) (registry_view self.now).documents)
+            ≡ Some (fault_view f)) }
     {
         if self.is_in_library(alloc, document.canonical())? {
             return Err(Fault::LibraryOwned);
@@ -42,8 +42,8 @@ impl Registry {
 
     // The first quota that the documents with this one would be over.
     fn put_quota_fault(&self, document: &Stored) -> Option<Fault>
-        ensures { option_map fault result ≡ first (quota_faults (registry_view self.now)
-            (placed (stored_document document.now) (registry_view self.now).documents)) }
+        ensures { option_map fault_view result ≡ first (quota_faults (registry_view self.now)
+            (documents_with (stored_view document.now) (registry_view self.now).documents)) }
     {
         let length = document.length() as u64;
         let count = self.documents.len();

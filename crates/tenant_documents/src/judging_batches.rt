@@ -3,9 +3,9 @@
 ghost use Rattle.std.specs.Prelude.{◌≡◌, ◌≢◌, None, Some, IfErr, IfOk, OnOk};
 ghost use Rattle.std.specs.List.{list_any};
 ghost use Rattle.definitions.specs.Batches.{batch_refusal};
-ghost use Rattle.definitions.specs.Documents.{placed_all};
+ghost use Rattle.definitions.specs.Documents.{documents_with_all};
 ghost use Rattle.definitions.specs.Registries.{is_in_library};
-ghost use Rattle.faults.specs.View.{fault};
+ghost use Rattle.faults.specs.View.{fault_view};
 ghost use Rattle.stored_documents.specs.SharedStored.{stored_documents};
 ghost use Rattle.tenant_documents.specs.Registries.{registry_view};
 
@@ -21,12 +21,12 @@ impl Registry {
     pub(crate) fn judge_all(&self, alloc: Global, documents: &[Rc<Stored>]) -> Result<(), Fault>
         ensures ok { OnOk result
             (batch_refusal (registry_view self.now) (stored_documents documents.now)
-            (placed_all (stored_documents documents.now) (registry_view self.now).documents)
+            (documents_with_all (stored_documents documents.now) (registry_view self.now).documents)
             ≡ None) }
         ensures err { IfErr result (λ f. f ≢ Fault.NoRoom
             → batch_refusal (registry_view self.now) (stored_documents documents.now)
-            (placed_all (stored_documents documents.now) (registry_view self.now).documents)
-            ≡ Some (fault f)) }
+            (documents_with_all (stored_documents documents.now) (registry_view self.now).documents)
+            ≡ Some (fault_view f)) }
     {
         if let Some(uri) = repeated_uri(alloc, documents)? {
             return Err(Fault::SameDocument(uri.to_owned(alloc)?));

@@ -2,9 +2,9 @@
 
 ghost use Rattle.std.specs.Prelude.{◌≡◌, ◌≢◌, Ok, Err, None, IfErr, IfOk, []};
 ghost use Rattle.definitions.specs.Batches.{batch_entries, entries_of, library_by, library_of, library_with, repeated_uri, taken_by};
-ghost use Rattle.definitions.specs.Documents.{placed_all};
+ghost use Rattle.definitions.specs.Documents.{documents_with_all};
 ghost use Rattle.definitions.specs.Patterns.{regular_search};
-ghost use Rattle.faults.specs.View.{fault};
+ghost use Rattle.faults.specs.View.{fault_view};
 ghost use Rattle.json_doc.specs.Docs.{value};
 ghost use Rattle.linker.specs.ListedDocuments.{listed_documents};
 ghost use Rattle.linker.specs.SharedDocuments.{shared_documents};
@@ -30,7 +30,7 @@ use tenants_file::{read_batch, read_body};
 pub fn library_of(alloc: Global, batch: &[u8]) -> Result<ListSource, Fault>
     ensures ok { IfOk result (λ l. library_of regular_search batch.now ≡ Ok (listed_documents l)) }
     ensures err { IfErr result (λ f. f ≢ Fault.NoRoom
-        → IsRefusedLibrary (batch_entries batch.now) (fault f)) }
+        → IsRefusedLibrary (batch_entries batch.now) (fault_view f)) }
 {
     let batch = read_body(alloc, batch)?;
     library_in(alloc, &batch)
@@ -41,7 +41,7 @@ fn library_in(alloc: Global, batch: &Doc) -> Result<ListSource, Fault>
     ensures ok { IfOk result (λ l. library_by regular_search (entries_of (Ok (value batch.now)))
         ≡ Ok (listed_documents l)) }
     ensures err { IfErr result (λ f. f ≢ Fault.NoRoom
-        → IsRefusedLibrary (entries_of (Ok (value batch.now))) (fault f)) }
+        → IsRefusedLibrary (entries_of (Ok (value batch.now))) (fault_view f)) }
 {
     let entries = read_batch(alloc, batch)?;
     let documents = compiled_entries(alloc, &entries)?;
@@ -53,7 +53,7 @@ fn listed_together(alloc: Global, documents: &[Rc<Compiled>]) -> Result<ListSour
     ensures ok { IfOk result (λ l. library_with (shared_documents documents.now)
         ≡ Ok (listed_documents l)) }
     ensures err { IfErr result (λ f. f ≢ Fault.NoRoom
-        → library_with (shared_documents documents.now) ≡ Err (fault f)) }
+        → library_with (shared_documents documents.now) ≡ Err (fault_view f)) }
 {
     if let Some(uri) = repeated_uri(alloc, documents)? {
         return Err(Fault::SameDocument(uri.to_owned(alloc)?));
@@ -67,10 +67,10 @@ fn listed_together(alloc: Global, documents: &[Rc<Compiled>]) -> Result<ListSour
 // The documents in a list. The only error is want of memory.
 fn listed(alloc: Global, documents: &[Rc<Compiled>]) -> Result<ListSource, Fault>
     requires once { repeated_uri (shared_documents documents.now) ≡ None }
-    requires free { taken_by (placed_all (shared_documents documents.now) [])
+    requires free { taken_by (documents_with_all (shared_documents documents.now) [])
         (shared_documents documents.now) ≡ None }
     ensures ok { IfOk result (λ l. listed_documents l
-        ≡ placed_all (shared_documents documents.now) []) }
+        ≡ documents_with_all (shared_documents documents.now) []) }
     ensures err { IfErr result (λ f. f ≡ Fault.NoRoom) }
 {
     let mut library = ListSource::new(alloc);

@@ -4,7 +4,7 @@ ghost use Rattle.std.specs.Prelude.{◌≡◌, IfErr, IfOk, find, option_map};
 ghost use Rattle.definitions.specs.Reach.{holds_resource};
 ghost use Rattle.definitions.specs.Registries.{is_in_library};
 ghost use Rattle.linker.specs.ListedDocuments.{listed_documents};
-ghost use Rattle.schema_scan.specs.CompiledDocuments.{compiled_document};
+ghost use Rattle.schema_scan.specs.CompiledDocuments.{compiled_view};
 ghost use Rattle.tenant_documents.specs.Registries.{registry_view};
 
 use crate::registry::Registry;
@@ -34,7 +34,7 @@ pub(crate) fn library_holder(
     alloc: Global,
     uri: &str,
 ) -> Result<Option<Rc<Compiled>>, Fault>
-    ensures ok { IfOk result (λ d. option_map (λ it. compiled_document it.value) d
+    ensures ok { IfOk result (λ d. option_map (λ it. compiled_view it.value) d
         ≡ find (holds_resource uri.now) (listed_documents library.now)) }
     ensures err { IfErr result (λ f. f ≡ Fault.NoRoom) }
 {

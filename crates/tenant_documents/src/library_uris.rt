@@ -3,9 +3,9 @@
 ghost use Rattle.std.specs.Prelude.{◌≡◌, ◌++◌, None, true, [], IfOk, OnOk, map, option_map, string_bytes};
 ghost use Rattle.std.specs.List.{list_all};
 ghost use Rattle.definitions.specs.Batches.{repeated_uri, taken_by};
-ghost use Rattle.definitions.specs.Documents.{canonicals, is_faultless, placed_all, resource_uris_of, resources_of};
+ghost use Rattle.definitions.specs.Documents.{canonicals, documents_with_all, is_faultless, resource_uris_of, resources_of};
 ghost use Rattle.linker.specs.SharedDocuments.{shared_documents};
-ghost use Rattle.schema_scan.specs.CompiledDocuments.{compiled_document};
+ghost use Rattle.schema_scan.specs.CompiledDocuments.{compiled_view};
 
 use crate::repeated_texts::{least_repeat, push_texts};
 use schema_scan::{Compiled, canonical};
@@ -31,7 +31,7 @@ pub(crate) fn shared_uri<'a>(
 ) -> Result<Option<&'a str>, AllocError>
     requires { repeated_uri (shared_documents documents.now) ≡ None }
     ensures { IfOk result (λ t. option_map (λ t. t.now) t
-        ≡ taken_by (placed_all (shared_documents documents.now) [])
+        ≡ taken_by (documents_with_all (shared_documents documents.now) [])
         (shared_documents documents.now)) }
 {
     let uris = resource_uris(alloc, documents)?;
@@ -70,8 +70,8 @@ fn resource_uris<'a>(
 
 // A compiled document has no fault.
 fn resource_uris_in(document: &Compiled) -> &[String]
-    ensures uris { map string_bytes result.now ≡ resources_of (compiled_document document.now) }
-    ensures faultless { is_faultless (compiled_document document.now) ≡ true }
+    ensures uris { map string_bytes result.now ≡ resources_of (compiled_view document.now) }
+    ensures faultless { is_faultless (compiled_view document.now) ≡ true }
 {
     let _ = document.document();
     document.resource_uris()

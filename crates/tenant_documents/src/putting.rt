@@ -4,9 +4,9 @@ ghost use Rattle.std.specs.Prelude.{IfErr, IfOk};
 ghost use Rattle.definitions.specs.Patterns.{regular_search};
 ghost use Rattle.definitions.specs.Registries.{put, refused};
 ghost use Rattle.definitions.specs.Runs.{IsAnswer};
-ghost use Rattle.faults.specs.View.{fault};
+ghost use Rattle.faults.specs.View.{fault_view};
 ghost use Rattle.requests.specs.Views.{reply_view};
-ghost use Rattle.stored_documents.specs.StoredDocuments.{stored_document};
+ghost use Rattle.stored_documents.specs.StoredDocuments.{stored_view};
 ghost use Rattle.tenant_documents.specs.Puts.{IsPut};
 ghost use Rattle.tenant_documents.specs.Registries.{registry_view};
 
@@ -47,7 +47,7 @@ impl Registry {
         ensures ok { IfOk result (λ r. IsAnswer regular_search (registry_view self.old)
             (put uri.now body.now) (reply_view r) (registry_view self.new)) }
         ensures err { IfErr result (λ f. IsAnswer regular_search (registry_view self.old)
-            (put uri.now body.now) (refused (fault f)) (registry_view self.new)) }
+            (put uri.now body.now) (refused (fault_view f)) (registry_view self.new)) }
     {
         let document = accept(alloc, cache, uri, body)?;
         self.place(alloc, document)
@@ -55,10 +55,10 @@ impl Registry {
 
     // Puts a document in its place, unless it is refused there.
     fn place(&mut self, alloc: Global, document: Stored) -> Result<Reply, Fault>
-        ensures ok { IfOk result (λ r. IsPut (registry_view self.old) (stored_document document)
+        ensures ok { IfOk result (λ r. IsPut (registry_view self.old) (stored_view document)
             (reply_view r) (registry_view self.new)) }
-        ensures err { IfErr result (λ f. IsPut (registry_view self.old) (stored_document document)
-            (refused (fault f)) (registry_view self.new)) }
+        ensures err { IfErr result (λ f. IsPut (registry_view self.old) (stored_view document)
+            (refused (fault_view f)) (registry_view self.new)) }
     {
         // The number shows that what is within the quota fits 64 bits.
         let _ = self.byte_quota();

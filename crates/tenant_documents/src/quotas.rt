@@ -4,7 +4,7 @@ ghost use Rattle.std.specs.Prelude.{◌≡◌, ℕ, List, nat_lt, not, option_ma
 ghost use Rattle.definitions.specs.Lists.{first};
 ghost use Rattle.definitions.specs.Registries.{quota_faults};
 ghost use Rattle.definitions.specs.Schemas.{Document};
-ghost use Rattle.faults.specs.View.{fault};
+ghost use Rattle.faults.specs.View.{fault_view};
 ghost use Rattle.tenant_documents.specs.Puts.{AreSized, IsSum};
 ghost use Rattle.tenant_documents.specs.Registries.{registry_view};
 
@@ -24,7 +24,7 @@ impl Registry {
 // more than 64 bits hold.
 pub(crate) fn quota_fault(registry: &Registry, count: usize, bytes: Option<u64>) -> Option<Fault>
     ensures { (ds : List Document) → AreSized count bytes ds
-        → option_map fault result ≡ first (quota_faults (registry_view registry.now) ds) }
+        → option_map fault_view result ≡ first (quota_faults (registry_view registry.now) ds) }
 {
     if count > registry.most_documents as usize {
         Some(Fault::QuotaDocuments)

@@ -5,7 +5,7 @@ ghost use Rattle.std.specs.List.{list_any};
 ghost use Rattle.definitions.specs.Documents.{others_of, taken_uri};
 ghost use Rattle.definitions.specs.Reach.{holds_resource, lesser};
 ghost use Rattle.definitions.specs.Registries.{documents_seen};
-ghost use Rattle.stored_documents.specs.StoredDocuments.{stored_document};
+ghost use Rattle.stored_documents.specs.StoredDocuments.{stored_view};
 ghost use Rattle.tenant_documents.specs.Registries.{registry_view};
 
 use crate::library_documents::library_holder;
@@ -24,7 +24,7 @@ pub(crate) fn taken_uri<'a>(
     document: &'a Stored,
 ) -> Result<Option<&'a str>, Fault>
     ensures ok { IfOk result (λ t. option_map (λ t. t.now) t
-        ≡ taken_uri (documents_seen (registry_view registry.now)) (stored_document document.now)) }
+        ≡ taken_uri (documents_seen (registry_view registry.now)) (stored_view document.now)) }
     ensures err { IfErr result (λ f. f ≡ Fault.NoRoom) }
 {
     let canonical = document.canonical();

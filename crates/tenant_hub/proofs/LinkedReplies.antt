@@ -1,8 +1,8 @@
 -- A reply where documents were linked, and where they weren't.
 use Rattle.std.proofs.Common.{◌≡◌, List, [], ◌∷◌, Option, Some, None, option_map, refl, ap}
 use Rattle.definitions.specs.Faults.{Fault, unresolved, not_found}
-use Rattle.definitions.specs.Reach.{least, missing}
-use Rattle.definitions.specs.Registries.{Reply, refused, linked, unless_missing}
+use Rattle.definitions.specs.Reach.{least, missing_references}
+use Rattle.definitions.specs.Registries.{Reply, refused, linked_reply, unless_missing}
 use Rattle.definitions.specs.Schemas.{Document}
 use Rattle.definitions.specs.Values.{Text}
 use Rattle.linker.specs.LinkFaults.{link_fault}
@@ -15,12 +15,12 @@ one_missing : (ds : List Document) (o : Option Text) (f : Fault) (reply : Reply)
 one_missing ds None f reply e = cc
 one_missing ds (Some r) f reply e = let same : unresolved r ≡ f = cc in ap refused same
 
-pub links : (ds : List Document) (reply : Reply) → link_fault ds ≡ None → linked ds reply ≡ reply
+pub links : (ds : List Document) (reply : Reply) → link_fault ds ≡ None → linked_reply ds reply ≡ reply
 unfolding link_fault
 links [] reply e = cc
-links (d ∷ ds) reply e = none_missing (d ∷ ds) (least (missing (d ∷ ds))) reply e
+links (d ∷ ds) reply e = none_missing (d ∷ ds) (least (missing_references (d ∷ ds))) reply e
 
-pub links_not : (ds : List Document) (f : Fault) (reply : Reply) → link_fault ds ≡ Some f → linked ds reply ≡ refused f
+pub links_not : (ds : List Document) (f : Fault) (reply : Reply) → link_fault ds ≡ Some f → linked_reply ds reply ≡ refused f
 unfolding link_fault
 links_not [] f reply e = let same : not_found ≡ f = cc in ap refused same
-links_not (d ∷ ds) f reply e = one_missing (d ∷ ds) (least (missing (d ∷ ds))) f reply e
+links_not (d ∷ ds) f reply e = one_missing (d ∷ ds) (least (missing_references (d ∷ ds))) f reply e

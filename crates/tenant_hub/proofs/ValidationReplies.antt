@@ -5,12 +5,12 @@ use Rattle.definitions.specs.Applied.{Outcome}
 use Rattle.definitions.specs.Faults.{Fault}
 use Rattle.definitions.specs.Patterns.{regular_search, has_match}
 use Rattle.definitions.specs.Reach.{reach}
-use Rattle.definitions.specs.Registries.{Registry, Reply, validate, validated, refused, documents_seen, for_base, for_value, body_value, validation, answered}
+use Rattle.definitions.specs.Registries.{Registry, Reply, validate, validated, refused, documents_seen, for_base, for_value, body_value, validation, outcome_reply}
 use Rattle.definitions.specs.Resolution.{base_form}
 use Rattle.definitions.specs.Runs.{IsAnswer}
 use Rattle.definitions.specs.Schemas.{Document}
 use Rattle.definitions.specs.Values.{Text, Value}
-use Rattle.evaluator.specs.Reports.{reported}
+use Rattle.evaluator.specs.Reports.{report_or_fault}
 use Rattle.linker.specs.LinkFaults.{link_fault}
 use Rattle.tenant_hub.specs.SourceReplies.{validation_over}
 use Rattle.tenant_hub.proofs.LinkedReplies.{links, links_not}
@@ -19,7 +19,7 @@ use Rattle.tenant_hub.proofs.LinkedReplies.{links, links_not}
 both_same : {X Y : Type 0} {x y : X} → ◌≡◌ {A = Result X Y} (Ok x) (Ok y) → x ≡ y
 both_same e = cc
 
-shown : (o : Result Outcome Fault) (valid : Bool) (t : Text) → reported o ≡ Ok (valid, t) → answered o ≡ validated t
+shown : (o : Result Outcome Fault) (valid : Bool) (t : Text) → report_or_fault o ≡ Ok (valid, t) → outcome_reply o ≡ validated t
 shown (Ok o) valid t e = let pairs : ◌≡◌ {A = Bool × Text} (o.valid, output_text o) (valid, t) = both_same e in ap (λ (p : Bool × Text). validated p.1) pairs
 shown (Err f) valid t e = cc
 
@@ -38,20 +38,20 @@ module _ (ds : List Document) (base : Result Text Fault) (body : Result Value Fa
   both b x e h = ap (λ b. validation_over ds b body) e ∙ ap (validation_over ds (Ok b)) h
 
   pub unlinked : (b : Text) (x : Value) (f : Fault) → base ≡ Ok b → body ≡ Ok x → link_fault (reach ds b) ≡ Some f → validation_over ds base body ≡ refused f
-  unlinked b x f e h none = both b x e h ∙ links_not (reach ds b) f (answered (answer has_match (reach ds b) b x)) none
+  unlinked b x f e h none = both b x e h ∙ links_not (reach ds b) f (outcome_reply (answer has_match (reach ds b) b x)) none
 
   pub evaluated : (b : Text) (x : Value) (reached : List Document) (uri : Text) (valid : Bool) (t : Text) → base ≡ Ok b → body ≡ Ok x → link_fault (reach ds b) ≡ None
-      → reached ≡ reach ds b → uri ≡ b → reported (answer has_match reached uri x) ≡ Ok (valid, t) → validation_over ds base body ≡ validated t
+      → reached ≡ reach ds b → uri ≡ b → report_or_fault (answer has_match reached uri x) ≡ Ok (valid, t) → validation_over ds base body ≡ validated t
   evaluated b x reached uri valid t e h none r u says =
-      both b x e h ∙ links (reach ds b) (answered (answer has_match (reach ds b) b x)) none
+      both b x e h ∙ links (reach ds b) (outcome_reply (answer has_match (reach ds b) b x)) none
       ∙ shown (answer has_match (reach ds b) b x) valid t (
-      ap (λ rs. reported (answer has_match rs b x)) (sym r) ∙ ap (λ k. reported (answer has_match reached k x)) (sym u) ∙ says)
+      ap (λ rs. report_or_fault (answer has_match rs b x)) (sym r) ∙ ap (λ k. report_or_fault (answer has_match reached k x)) (sym u) ∙ says)
 
   pub unevaluated : (b : Text) (x : Value) (reached : List Document) (uri : Text) (f : Fault) → base ≡ Ok b → body ≡ Ok x → link_fault (reach ds b) ≡ None
       → reached ≡ reach ds b → uri ≡ b → answer has_match reached uri x ≡ Err f → validation_over ds base body ≡ refused f
   unevaluated b x reached uri f e h none r u says =
-      both b x e h ∙ links (reach ds b) (answered (answer has_match (reach ds b) b x)) none
-      ∙ ap answered (ap (λ rs. answer has_match rs b x) (sym r) ∙ ap (λ k. answer has_match reached k x) (sym u) ∙ says)
+      both b x e h ∙ links (reach ds b) (outcome_reply (answer has_match (reach ds b) b x)) none
+      ∙ ap outcome_reply (ap (λ rs. answer has_match rs b x) (sym r) ∙ ap (λ k. answer has_match reached k x) (sym u) ∙ says)
 
 -- ---- as a step
 step_over : (g : Registry) (base : Result Text Fault) (v : Result Value Fault)

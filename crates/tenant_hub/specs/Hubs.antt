@@ -4,5 +4,5 @@ use Rattle.definitions.specs.Services.{KeyedRegistry}
 use Rattle.tenant_hub.specs.KeyedRegistries.{keyed_view}
 use Rattle.tenant_hub.specs.declared.hub.Hub.{Hub}
 
-unfoldable pub hub_registries : Hub → List KeyedRegistry
-hub_registries h = map keyed_view h.registries.items
+unfoldable pub hub_view : Hub → List KeyedRegistry
+hub_view h = map keyed_view h.registries.items

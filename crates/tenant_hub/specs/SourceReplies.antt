@@ -3,7 +3,7 @@ use Rattle.std.specs.Prelude.{List, Option, Some, None, Bool, false, Result, Ok,
 use Rattle.definitions.specs.Faults.{Fault}
 use Rattle.definitions.specs.Patterns.{regular_search}
 use Rattle.definitions.specs.Reach.{reach}
-use Rattle.definitions.specs.Registries.{Reply, refused, validation, bundling}
+use Rattle.definitions.specs.Registries.{Reply, refused, validation, bundling_reply}
 use Rattle.definitions.specs.Schemas.{Document}
 use Rattle.definitions.specs.Values.{Text, Value, same_text}
 
@@ -15,7 +15,7 @@ validation_over ds (Err f) x = refused f
 
 -- to a request for a bundle, by the base form of its URI
 unfoldable pub bundle_over : List Document → Result Text Fault → Reply
-bundle_over ds (Ok b) = bundling b (reach ds b)
+bundle_over ds (Ok b) = bundling_reply b (reach ds b)
 bundle_over ds (Err f) = refused f
 
 -- of the document that holds a URI, where one does: whether this is its canonical URI

@@ -7,7 +7,7 @@ ghost use Rattle.definitions.specs.Reach.{reach};
 ghost use Rattle.definitions.specs.Registries.{Registry, bundled, bundled_from, documents_seen, refused};
 ghost use Rattle.definitions.specs.Resolution.{base_form};
 ghost use Rattle.definitions.specs.Runs.{IsAnswer};
-ghost use Rattle.faults.specs.View.{fault};
+ghost use Rattle.faults.specs.View.{fault_view};
 ghost use Rattle.requests.specs.Views.{reply_view};
 ghost use Rattle.tenant_hub.specs.SourceReplies.{bundle_over};
 
@@ -38,7 +38,7 @@ fn bundle_text<S: Source>(alloc: Global, source: &mut S, uri: &str) -> Result<St
     ensures ok { IfOk result (λ t. bundle_over (S.documents source.old) (base_form uri.now)
         ≡ bundled (string_bytes t)) }
     ensures err { IfErr result (λ f. f ≢ Fault.NoRoom
-        → bundle_over (S.documents source.old) (base_form uri.now) ≡ refused (fault f)) }
+        → bundle_over (S.documents source.old) (base_form uri.now) ≡ refused (fault_view f)) }
     ensures same { S.documents source.new ≡ S.documents source.old }
 {
     let base = base_form(alloc, uri)?;

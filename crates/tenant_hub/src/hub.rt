@@ -9,12 +9,12 @@ ghost use Rattle.definitions.specs.Services.{IsCallAnswer, CallCourse};
 ghost use Rattle.definitions.specs.Tenants.{new_server, empty_registries};
 ghost use Rattle.definition_laws.specs.Laws.{IsRefused};
 ghost use Rattle.definition_laws.specs.Services.{AreAllKept};
-ghost use Rattle.faults.specs.View.{fault};
+ghost use Rattle.faults.specs.View.{fault_view};
 ghost use Rattle.linker.specs.ListedDocuments.{listed_documents};
 ghost use Rattle.requests.specs.Views.{request_view, reply_view};
 ghost use Rattle.tenants_file.specs.Tenants.{tenant_view};
 ghost use Rattle.tenant_hub.specs.Calls.{call_view};
-ghost use Rattle.tenant_hub.specs.Hubs.{hub_registries};
+ghost use Rattle.tenant_hub.specs.Hubs.{hub_view};
 ghost use Rattle.tenant_hub.specs.KeyedRegistries.{keyed_view, new_registry};
 ghost use Rattle.tenant_hub.specs.Isolation.{HaveOwnCourses, HaveOwnReplies, RefuseUnknownKeys};
 ghost use Rattle.tenant_hub.specs.RefusedServers.{IsRefusedServer};
@@ -38,7 +38,7 @@ use tenants_file::{Tenant, server_fault};
 /// The registries of all tenants, over one library, and one cache of compiled documents that they share. No reply depends
 /// on what the cache keeps.
 ///
-/// Contracts see them as the definitions' list of registries with their keys, by `hub_registries`.
+/// Contracts see them as the definitions' list of registries with their keys, by `hub_view`.
 #[derive(Drop)]
 pub struct Hub {
     registries: Vec<KeyedRegistry>,
@@ -53,9 +53,9 @@ impl Hub {
     /// have one key. `NoRoom` may take the place of any answer.
     pub fn new(alloc: Global, tenants: Vec<Tenant>, capacity: usize) -> Result<Hub, Fault>
         ensures ok { IfOk result (λ h.
-            new_server (map tenant_view tenants.items) capacity (Ok []) ≡ Ok (hub_registries h)) }
+            new_server (map tenant_view tenants.items) capacity (Ok []) ≡ Ok (hub_view h)) }
         ensures err { IfErr result (λ f. f ≢ Fault.NoRoom
-            → new_server (map tenant_view tenants.items) capacity (Ok []) ≡ Err (fault f)) }
+            → new_server (map tenant_view tenants.items) capacity (Ok []) ≡ Err (fault_view f)) }
     {
         match server_fault(&tenants, capacity) {
             Some(fault) => Err(fault),
@@ -77,9 +77,9 @@ impl Hub {
         batch: &[u8],
     ) -> Result<Hub, Fault>
         ensures ok { IfOk result (λ h. new_server (map tenant_view tenants.items) capacity
-            (library_of regular_search batch.now) ≡ Ok (hub_registries h)) }
+            (library_of regular_search batch.now) ≡ Ok (hub_view h)) }
         ensures err { IfErr result (λ f. f ≢ Fault.NoRoom
-            → IsRefusedServer (map tenant_view tenants.items) capacity batch.now (fault f)) }
+            → IsRefusedServer (map tenant_view tenants.items) capacity batch.now (fault_view f)) }
     {
         match server_fault(&tenants, capacity) {
             Some(fault) => Err(fault),
@@ -96,12 +96,12 @@ impl Hub {
     ///
     /// `UnknownTenant` is for a key that no tenant has, and takes no memory; want of memory is answered as `NoRoom`.
     pub fn apply(&mut self, alloc: Global, key: &str, request: &Request) -> Reply
-        ensures answer { IsCallAnswer regular_search (hub_registries self.old)
-            (key.now, request_view request.now) (reply_view result) (hub_registries self.new) }
+        ensures answer { IsCallAnswer regular_search (hub_view self.old)
+            (key.now, request_view request.now) (reply_view result) (hub_view self.new) }
         ensures refused { IsRefused (reply_view result)
-            → hub_registries self.new ≡ hub_registries self.old }
-        ensures kept { AreAllKept regular_search (hub_registries self.new) }
-        ensures alone { AnswersAlone (hub_registries self.old)
+            → hub_view self.new ≡ hub_view self.old }
+        ensures kept { AreAllKept regular_search (hub_view self.new) }
+        ensures alone { AnswersAlone (hub_view self.old)
             (key.now, request_view request.now) (reply_view result) }
     {
         match place_of(&self.registries, key) {
@@ -116,16 +116,16 @@ impl Hub {
     /// none of them is refused for room, they are the replies to its own requests alone. The only error is `NoRoom`, and
     /// then nothing was applied.
     pub fn run(&mut self, alloc: Global, calls: &[(String, Request)]) -> Result<Vec<Reply>, Fault>
-        ensures course { IfOk result (λ rs. CallCourse regular_search (hub_registries self.old)
-            (map call_view calls.now) (map reply_view rs.items) (hub_registries self.new)) }
-        ensures own_courses { IfOk result (λ rs. HaveOwnCourses (hub_registries self.old)
-            (map call_view calls.now) (map reply_view rs.items) (hub_registries self.new)) }
-        ensures own_replies { IfOk result (λ rs. HaveOwnReplies (hub_registries self.old)
+        ensures course { IfOk result (λ rs. CallCourse regular_search (hub_view self.old)
+            (map call_view calls.now) (map reply_view rs.items) (hub_view self.new)) }
+        ensures own_courses { IfOk result (λ rs. HaveOwnCourses (hub_view self.old)
+            (map call_view calls.now) (map reply_view rs.items) (hub_view self.new)) }
+        ensures own_replies { IfOk result (λ rs. HaveOwnReplies (hub_view self.old)
             (map call_view calls.now) (map reply_view rs.items)) }
-        ensures unknown { IfOk result (λ rs. RefuseUnknownKeys (hub_registries self.old)
+        ensures unknown { IfOk result (λ rs. RefuseUnknownKeys (hub_view self.old)
             (map call_view calls.now) (map reply_view rs.items)) }
         ensures room { IfErr result (λ f. f ≡ Fault.NoRoom) }
-        ensures unchanged { OnErr result (hub_registries self.new ≡ hub_registries self.old) }
+        ensures unchanged { OnErr result (hub_view self.new ≡ hub_view self.old) }
     {
         tenants_have_their_courses();
         tenants_have_their_replies();
@@ -138,10 +138,10 @@ impl Hub {
         alloc: Global,
         calls: &[(String, Request)],
     ) -> Result<Vec<Reply>, Fault>
-        ensures course { IfOk result (λ rs. CallCourse regular_search (hub_registries self.old)
-            (map call_view calls.now) (map reply_view rs.items) (hub_registries self.new)) }
+        ensures course { IfOk result (λ rs. CallCourse regular_search (hub_view self.old)
+            (map call_view calls.now) (map reply_view rs.items) (hub_view self.new)) }
         ensures room { IfErr result (λ f. f ≡ Fault.NoRoom) }
-        ensures unchanged { OnErr result (hub_registries self.new ≡ hub_registries self.old) }
+        ensures unchanged { OnErr result (hub_view self.new ≡ hub_view self.old) }
     {
         courses_go_on();
         let mut replies = Vec::with_capacity(alloc, calls.len())?;
@@ -164,7 +164,7 @@ fn over_library(
     library: ListSource,
 ) -> Result<Hub, Fault>
     requires { list_all is_registered (listed_documents library) ≡ true }
-    ensures ok { IfOk result (λ h. hub_registries h
+    ensures ok { IfOk result (λ h. hub_view h
         ≡ empty_registries (listed_documents library) (map tenant_view tenants.items)) }
     ensures err { IfErr result (λ f. f ≢ Fault.NoRoom → is_capacity capacity ≡ false) }
 {

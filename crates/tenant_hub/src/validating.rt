@@ -5,7 +5,7 @@ ghost use Rattle.definitions.specs.Patterns.{regular_search};
 ghost use Rattle.definitions.specs.Registries.{Registry, body_value, documents_seen, refused, validate, validated};
 ghost use Rattle.definitions.specs.Resolution.{base_form};
 ghost use Rattle.definitions.specs.Runs.{IsAnswer};
-ghost use Rattle.faults.specs.View.{fault};
+ghost use Rattle.faults.specs.View.{fault_view};
 ghost use Rattle.requests.specs.Views.{reply_view};
 ghost use Rattle.tenant_hub.specs.SourceReplies.{validation_over};
 
@@ -48,7 +48,7 @@ fn output_text<S: Source>(
     ensures ok { IfOk result (λ t. validation_over (S.documents source.old)
         (base_form uri.now) (body_value body.now) ≡ validated (string_bytes t)) }
     ensures err { IfErr result (λ f. f ≢ Fault.NoRoom → validation_over (S.documents source.old)
-        (base_form uri.now) (body_value body.now) ≡ refused (fault f)) }
+        (base_form uri.now) (body_value body.now) ≡ refused (fault_view f)) }
     ensures same { S.documents source.new ≡ S.documents source.old }
 {
     let base = base_form(alloc, uri)?;

@@ -4,7 +4,7 @@ ghost use Rattle.std.specs.Prelude.{◌≡◌, ◌≢◌, ◌&&◌, not, nat_lt,
 ghost use Rattle.definitions.specs.Batches.{entries_of, entry_in, some_entries};
 ghost use Rattle.definitions.specs.Limits.{limits};
 ghost use Rattle.definitions.specs.Lists.{each};
-ghost use Rattle.faults.specs.View.{fault};
+ghost use Rattle.faults.specs.View.{fault_view};
 ghost use Rattle.json_doc.specs.Docs.{value};
 ghost use Rattle.tenants_file.specs.Entries.{entry_view};
 
@@ -32,7 +32,7 @@ pub fn read_batch(alloc: Global, batch: &Doc) -> Result<Vec<BatchEntry<'_>>, Fau
     ensures ok { IfOk result
         (λ es. entries_of (Ok (value batch.now)) ≡ Ok (map entry_view es.items)) }
     ensures err { IfErr result (λ f. f ≢ Fault.NoRoom
-        → entries_of (Ok (value batch.now)) ≡ Err (fault f)) }
+        → entries_of (Ok (value batch.now)) ≡ Err (fault_view f)) }
 {
     match array_at(batch, "put") {
         Some(items) => counted_entries(alloc, items),
@@ -44,7 +44,7 @@ fn counted_entries(alloc: Global, items: &[Doc]) -> Result<Vec<BatchEntry<'_>>, 
     ensures ok { IfOk result (λ es. some_entries (each entry_in (map value items.now))
         ≡ Ok (map entry_view es.items)) }
     ensures err { IfErr result (λ f. f ≢ Fault.NoRoom
-        → some_entries (each entry_in (map value items.now)) ≡ Err (fault f)) }
+        → some_entries (each entry_in (map value items.now)) ≡ Err (fault_view f)) }
 {
     if !is_entry_count(items.len()) {
         return Err(Fault::BadBatch);

@@ -2,7 +2,7 @@
 
 ghost use Rattle.std.specs.Prelude.{◌≡◌, ◌≢◌, Ok, Err, IfOk, IfErr};
 ghost use Rattle.definitions.specs.Registries.{body_value};
-ghost use Rattle.faults.specs.View.{fault};
+ghost use Rattle.faults.specs.View.{fault_view};
 ghost use Rattle.json_doc.specs.Docs.{value};
 
 use json_doc::{Doc, Fault, Scratch, read_with};
@@ -17,7 +17,7 @@ const MOST_BYTES: usize = 1_048_576;
 /// place of any answer but `TooLarge`.
 pub fn read_body(alloc: Global, body: &[u8]) -> Result<Doc, Fault>
     ensures ok { IfOk result (λ d. body_value body.now ≡ Ok (value d)) }
-    ensures err { IfErr result (λ f. f ≢ Fault.NoRoom → body_value body.now ≡ Err (fault f)) }
+    ensures err { IfErr result (λ f. f ≢ Fault.NoRoom → body_value body.now ≡ Err (fault_view f)) }
 {
     let mut scratch = Scratch::new(alloc);
     read_body_with(alloc, &mut scratch, body)
@@ -26,7 +26,7 @@ pub fn read_body(alloc: Global, body: &[u8]) -> Result<Doc, Fault>
 /// The same as [`read_body`], in memory that is kept from one body to the next.
 pub fn read_body_with(alloc: Global, scratch: &mut Scratch, body: &[u8]) -> Result<Doc, Fault>
     ensures ok { IfOk result (λ d. body_value body.now ≡ Ok (value d)) }
-    ensures err { IfErr result (λ f. f ≢ Fault.NoRoom → body_value body.now ≡ Err (fault f)) }
+    ensures err { IfErr result (λ f. f ≢ Fault.NoRoom → body_value body.now ≡ Err (fault_view f)) }
 {
     if body.len() > MOST_BYTES {
         return Err(Fault::TooLarge);

@@ -3,7 +3,7 @@
 ghost use Rattle.std.specs.Prelude.{◌≡◌, map, option_map};
 ghost use Rattle.definitions.specs.Caches.{is_capacity};
 ghost use Rattle.definitions.specs.Tenants.{server_fault};
-ghost use Rattle.faults.specs.View.{fault};
+ghost use Rattle.faults.specs.View.{fault_view};
 ghost use Rattle.tenants_file.specs.Tenants.{tenant_view};
 
 use crate::keys::{are_keys, have_repeat};
@@ -21,7 +21,7 @@ const MOST_CAPACITY: usize = 4096;
 /// The first of these: `BadCapacity` outside 1 to 4096, `TooManyTenants` above 64, `BadTenants` where a key isn't 1 to 64
 /// characters from 0x21 to 0x7E, `DuplicateTenant` where two tenants have one key.
 pub fn server_fault(tenants: &[Tenant], capacity: usize) -> Option<Fault>
-    ensures { option_map fault result ≡ server_fault (map tenant_view tenants.now) capacity }
+    ensures { option_map fault_view result ≡ server_fault (map tenant_view tenants.now) capacity }
 {
     if !is_capacity(capacity) {
         Some(Fault::BadCapacity)

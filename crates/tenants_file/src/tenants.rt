@@ -3,9 +3,9 @@
 ghost use Rattle.std.specs.Prelude.{◌≡◌, ◌≢◌, Ok, Err, None, Some, IfOk, IfErr, map, option_map};
 ghost use Rattle.definitions.specs.Lists.{each};
 ghost use Rattle.definitions.specs.Tenants.{file_tenants, tenants_of, tenant_in};
-ghost use Rattle.faults.specs.View.{fault};
+ghost use Rattle.faults.specs.View.{fault_view};
 ghost use Rattle.json_doc.specs.Docs.{value};
-ghost use Rattle.tenants_file.specs.Tenants.{tenant_view, listed_tenant};
+ghost use Rattle.tenants_file.specs.Tenants.{tenant_view, listed_tenant_view};
 
 use crate::member_values::{array_at, natural_at, small_natural_at};
 use json_doc::{Doc, Fault, read};
@@ -31,7 +31,8 @@ pub struct Tenant {
 /// answer.
 pub fn read_tenants(alloc: Global, bytes: &[u8]) -> Result<Vec<Tenant>, Fault>
     ensures ok { IfOk result (λ ts. file_tenants bytes.now ≡ Ok (map tenant_view ts.items)) }
-    ensures err { IfErr result (λ f. f ≢ Fault.NoRoom → file_tenants bytes.now ≡ Err (fault f)) }
+    ensures err { IfErr result
+        (λ f. f ≢ Fault.NoRoom → file_tenants bytes.now ≡ Err (fault_view f)) }
 {
     let file = read(alloc, bytes)?;
     tenants_of(alloc, &file)
@@ -41,7 +42,7 @@ fn tenants_of(alloc: Global, file: &Doc) -> Result<Vec<Tenant>, Fault>
     ensures ok { IfOk result
         (λ ts. tenants_of (Ok (value file.now)) ≡ Ok (map tenant_view ts.items)) }
     ensures err { IfErr result (λ f. f ≢ Fault.NoRoom
-        → tenants_of (Ok (value file.now)) ≡ Err (fault f)) }
+        → tenants_of (Ok (value file.now)) ≡ Err (fault_view f)) }
 {
     match array_at(file, "tenants") {
         Some(items) => each_tenant(alloc, items),
@@ -79,7 +80,7 @@ fn tenant_of(alloc: Global, item: &Doc) -> Result<Tenant, Fault>
 
 // The key, the number of documents and the number of bytes.
 fn parts_of(item: &Doc) -> Option<(&str, u32, u64)>
-    ensures { option_map listed_tenant result ≡ tenant_in (value item.now) }
+    ensures { option_map listed_tenant_view result ≡ tenant_in (value item.now) }
 {
     let key = item.text_at("key")?;
     let documents = small_natural_at(item, "documents")?;

@@ -5,7 +5,7 @@ use Rattle.definitions.specs.Fragments.{fragment_kind}
 use Rattle.definitions.specs.Targets.{fragment_of}
 use Rattle.definitions.specs.Uris.{Parts, split, recompose, is_free_of, is_scheme, led_by, ended_by, without_fragment}
 use Rattle.definitions.specs.Lists.{cut_at}
-use Rattle.definitions.specs.Resolution.{resolve, resolved}
+use Rattle.definitions.specs.Resolution.{resolve, target_uri}
 use Rattle.uri_ref.specs.Soundness.{AreSound}
 use Rattle.uri_ref.proofs.Missing.{Misses, misses_from, joined_misses, one_missed, scheme_misses, cut_apart, of_option, led_misses, ended_misses}
 use Rattle.uri_ref.proofs.Recomposed.{joined, recomposes}
@@ -37,27 +37,27 @@ cut_text p h =
 sound : (base reference : Text) → AreSound (resolve (split base) (split reference))
 sound base reference = resolve_sound (split base) (split reference) (split_sound base) (split_sound reference)
 
-resolved_before : (base reference : Text) → without_fragment (resolved base reference) ≡ recompose (record (resolve (split base) (split reference)) { fragment = None })
+resolved_before : (base reference : Text) → without_fragment (target_uri base reference) ≡ recompose (record (resolve (split base) (split reference)) { fragment = None })
 resolved_before base reference = ap (λ (r : Text × Option Text). r.0) (cut_text (resolve (split base) (split reference)) (sound base reference))
 
-resolved_fragment : (base reference : Text) → (split (resolved base reference)).fragment ≡ (resolve (split base) (split reference)).fragment
+resolved_fragment : (base reference : Text) → (split (target_uri base reference)).fragment ≡ (resolve (split base) (split reference)).fragment
 resolved_fragment base reference = ap (λ (r : Text × Option Text). r.1) (cut_text (resolve (split base) (split reference)) (sound base reference))
 
 -- of parts that these are, the fragment is read as that of the text
 pub fragment_read : (base reference : Text) (p : Parts) (o : Option Text) → p ≡ resolve (split base) (split reference) → o ≡ p.fragment
-    → fragment_kind o ≡ fragment_of (resolved base reference)
+    → fragment_kind o ≡ fragment_of (target_uri base reference)
 fragment_read base reference p o e f = ap fragment_kind (f ∙ ap (λ (q : Parts). q.fragment) e ∙ sym (resolved_fragment base reference))
 
 -- and without it they make the text before it
 pub text_before : (base reference : Text) (p q : Parts) → p ≡ resolve (split base) (split reference) → q ≡ record p { fragment = None }
-    → recompose q ≡ without_fragment (resolved base reference)
+    → recompose q ≡ without_fragment (target_uri base reference)
 text_before base reference p q e f = ap recompose (f ∙ ap (λ (r : Parts). record r { fragment = None }) e) ∙ sym (resolved_before base reference)
 
 -- what stands before the fragment of a reference that is a fragment alone is the base's
-pub base_before : (base fragment : Text) → without_fragment base ≡ without_fragment (resolved base (35 ∷ fragment))
+pub base_before : (base fragment : Text) → without_fragment base ≡ without_fragment (target_uri base (35 ∷ fragment))
 base_before base fragment =
     ap (λ (r : Text × Option Text). r.0) (ap (cut_at (λ c. c == 35)) (sym (recomposes base)) ∙ cut_text (split base) (split_sound base))
     ∙ sym (resolved_before base (35 ∷ fragment))
 
-pub own_fragment : (base fragment : Text) → fragment_kind (Some fragment) ≡ fragment_of (resolved base (35 ∷ fragment))
+pub own_fragment : (base fragment : Text) → fragment_kind (Some fragment) ≡ fragment_of (target_uri base (35 ∷ fragment))
 own_fragment base fragment = ap fragment_kind (sym (resolved_fragment base (35 ∷ fragment)))

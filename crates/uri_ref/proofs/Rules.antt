@@ -11,7 +11,7 @@ use Rattle.std.specs.List.{list_any, position}
 use Rattle.definitions.specs.Values.{Text, same_text}
 use Rattle.definitions.specs.Uris.{begins}
 use Rattle.definitions.specs.Lists.{split_before}
-use Rattle.definitions.specs.Resolution.{rewritten, rewritten_times, first_segment, without_last_segment}
+use Rattle.definitions.specs.Resolution.{next_buffers, buffers_after, first_segment, without_last_segment}
 use Rattle.uri_ref.specs.Places.{Lacks, IsLast}
 use Rattle.uri_ref.proofs.Cuts.{before_some, before_none, slash_is_ascii}
 
@@ -92,28 +92,28 @@ segment_boundary (x ∷ xs) n h e =
     rw next (IsCharBoundary-before_ascii (x ∷ xs) (suc n) (omega (arith, at.0)) (slash_is_ascii (get_or xs n 0) at.1))
 
 -- ---- the rules
-pub rule_a : (i o : Text) → begins i (codes "../") ≡ true → rewritten (i, o) ≡ (drop 3 i, o)
+pub rule_a : (i o : Text) → begins i (codes "../") ≡ true → next_buffers (i, o) ≡ (drop 3 i, o)
 rule_a i o e = rw e refl
 
-pub rule_a_dot : (i o : Text) → begins i (codes "../") ≡ false → begins i (codes "./") ≡ true → rewritten (i, o) ≡ (drop 2 i, o)
+pub rule_a_dot : (i o : Text) → begins i (codes "../") ≡ false → begins i (codes "./") ≡ true → next_buffers (i, o) ≡ (drop 2 i, o)
 rule_a_dot i o e1 e = rw (e1, e) refl
 
-pub rule_b : (i o : Text) → begins i (codes "../") ≡ false → begins i (codes "./") ≡ false → begins i (codes "/./") ≡ true → rewritten (i, o) ≡ (drop 2 i, o)
+pub rule_b : (i o : Text) → begins i (codes "../") ≡ false → begins i (codes "./") ≡ false → begins i (codes "/./") ≡ true → next_buffers (i, o) ≡ (drop 2 i, o)
 rule_b i o e1 e2 e = rw (e1, e2, e) refl
 
-pub rule_b_end : (i o : Text) → begins i (codes "../") ≡ false → begins i (codes "./") ≡ false → begins i (codes "/./") ≡ false → same_text i (codes "/.") ≡ true → rewritten (i, o) ≡ (codes "/", o)
+pub rule_b_end : (i o : Text) → begins i (codes "../") ≡ false → begins i (codes "./") ≡ false → begins i (codes "/./") ≡ false → same_text i (codes "/.") ≡ true → next_buffers (i, o) ≡ (codes "/", o)
 rule_b_end i o e1 e2 e3 e = rw (e1, e2, e3, e) refl
 
-pub rule_c : (i o : Text) → begins i (codes "../") ≡ false → begins i (codes "./") ≡ false → begins i (codes "/./") ≡ false → same_text i (codes "/.") ≡ false → begins i (codes "/../") ≡ true → rewritten (i, o) ≡ (drop 3 i, without_last_segment o)
+pub rule_c : (i o : Text) → begins i (codes "../") ≡ false → begins i (codes "./") ≡ false → begins i (codes "/./") ≡ false → same_text i (codes "/.") ≡ false → begins i (codes "/../") ≡ true → next_buffers (i, o) ≡ (drop 3 i, without_last_segment o)
 rule_c i o e1 e2 e3 e4 e = rw (e1, e2, e3, e4, e) refl
 
-pub rule_c_end : (i o : Text) → begins i (codes "../") ≡ false → begins i (codes "./") ≡ false → begins i (codes "/./") ≡ false → same_text i (codes "/.") ≡ false → begins i (codes "/../") ≡ false → same_text i (codes "/..") ≡ true → rewritten (i, o) ≡ (codes "/", without_last_segment o)
+pub rule_c_end : (i o : Text) → begins i (codes "../") ≡ false → begins i (codes "./") ≡ false → begins i (codes "/./") ≡ false → same_text i (codes "/.") ≡ false → begins i (codes "/../") ≡ false → same_text i (codes "/..") ≡ true → next_buffers (i, o) ≡ (codes "/", without_last_segment o)
 rule_c_end i o e1 e2 e3 e4 e5 e = rw (e1, e2, e3, e4, e5, e) refl
 
-pub rule_d : (i o : Text) → begins i (codes "../") ≡ false → begins i (codes "./") ≡ false → begins i (codes "/./") ≡ false → same_text i (codes "/.") ≡ false → begins i (codes "/../") ≡ false → same_text i (codes "/..") ≡ false → (same_text i (codes ".") || same_text i (codes "..")) ≡ true → rewritten (i, o) ≡ ([], o)
+pub rule_d : (i o : Text) → begins i (codes "../") ≡ false → begins i (codes "./") ≡ false → begins i (codes "/./") ≡ false → same_text i (codes "/.") ≡ false → begins i (codes "/../") ≡ false → same_text i (codes "/..") ≡ false → (same_text i (codes ".") || same_text i (codes "..")) ≡ true → next_buffers (i, o) ≡ ([], o)
 rule_d i o e1 e2 e3 e4 e5 e6 e = rw (e1, e2, e3, e4, e5, e6, e) refl
 
-pub rule_e : (i o : Text) → begins i (codes "../") ≡ false → begins i (codes "./") ≡ false → begins i (codes "/./") ≡ false → same_text i (codes "/.") ≡ false → begins i (codes "/../") ≡ false → same_text i (codes "/..") ≡ false → (same_text i (codes ".") || same_text i (codes "..")) ≡ false → rewritten (i, o) ≡ ((first_segment i).1, o ++ (first_segment i).0)
+pub rule_e : (i o : Text) → begins i (codes "../") ≡ false → begins i (codes "./") ≡ false → begins i (codes "/./") ≡ false → same_text i (codes "/.") ≡ false → begins i (codes "/../") ≡ false → same_text i (codes "/..") ≡ false → (same_text i (codes ".") || same_text i (codes "..")) ≡ false → next_buffers (i, o) ≡ ((first_segment i).1, o ++ (first_segment i).0)
 rule_e i o e1 e2 e3 e4 e5 e6 e = rw (e1, e2, e3, e4, e5, e6, e) refl
 
 -- ---- each rewriting shortens what is left
@@ -135,7 +135,7 @@ pub before_within : (p : ℕ → Bool) (xs : Text) → length (split_before p xs
 before_within p [] = omega arith
 before_within p (x ∷ xs) = cut_within p (p x) x xs (split_before p xs) (before_within p xs)
 
-pub shorter : (c : ℕ) (cs o : Text) → length (rewritten (c ∷ cs, o)).0 ≤ length cs
+pub shorter : (c : ℕ) (cs o : Text) → length (next_buffers (c ∷ cs, o)).0 ≤ length cs
 shorter c cs o =
     let P : Text × Text → Type 0 = λ s. length s.0 ≤ length cs in
     whichever P (begins (c ∷ cs) (codes "../")) _ _ (λ _. rw length-drop (omega arith))
@@ -147,26 +147,26 @@ shorter c cs o =
     (whichever P (same_text (c ∷ cs) (codes ".") || same_text (c ∷ cs) (codes "..")) _ _ (λ _. omega arith)
     (before_within (λ d. d == 47) cs)))))))
 
-empty_stays : (n : ℕ) (o : Text) → rewritten_times n ([], o) ≡ ([], o)
+empty_stays : (n : ℕ) (o : Text) → buffers_after n ([], o) ≡ ([], o)
 empty_stays zero o = refl
 empty_stays (suc n) o = rw (append-nil o) (empty_stays n o)
 
-stable : (m n : ℕ) (i o : Text) → length i ≤ m → length i ≤ n → rewritten_times m (i, o) ≡ rewritten_times n (i, o)
+stable : (m n : ℕ) (i o : Text) → length i ≤ m → length i ≤ n → buffers_after m (i, o) ≡ buffers_after n (i, o)
 stable m n [] o l k = empty_stays m o ∙ sym (empty_stays n o)
 stable zero n (c ∷ cs) o l k = absurd (omega arith)
 stable (suc m) zero (c ∷ cs) o l k = absurd (omega arith)
 stable (suc m) (suc n) (c ∷ cs) o l k =
     let less = shorter c cs o in
-    stable m n (rewritten (c ∷ cs, o)).0 (rewritten (c ∷ cs, o)).1 (omega (arith, less)) (omega (arith, less))
+    stable m n (next_buffers (c ∷ cs, o)).0 (next_buffers (c ∷ cs, o)).1 (omega (arith, less)) (omega (arith, less))
 
 -- what is left, and the output, after one more rewriting
-pub after_one : (i o left out : Text) → (length i == 0) ≡ false → (left, out) ≡ rewritten (i, o) → rewritten_times (length left) (left, out) ≡ rewritten_times (length i) (i, o)
+pub after_one : (i o left out : Text) → (length i == 0) ≡ false → (left, out) ≡ next_buffers (i, o) → buffers_after (length left) (left, out) ≡ buffers_after (length i) (i, o)
 after_one [] o left out h e = cc
 after_one (c ∷ cs) o left out h e =
     let less : length left ≤ length cs = rw (ap (λ (s : Text × Text). s.0) e) (shorter c cs o) in
-    stable (length left) (length cs) left out (omega arith) less ∙ ap (rewritten_times (length cs)) e
+    stable (length left) (length cs) left out (omega arith) less ∙ ap (buffers_after (length cs)) e
 
-pub shorter_after : (i o left out : Text) → (length i == 0) ≡ false → (left, out) ≡ rewritten (i, o) → length left < length i
+pub shorter_after : (i o left out : Text) → (length i == 0) ≡ false → (left, out) ≡ next_buffers (i, o) → length left < length i
 shorter_after [] o left out h e = cc
 shorter_after (c ∷ cs) o left out h e =
     let less : length left ≤ length cs = rw (ap (λ (s : Text × Text). s.0) e) (shorter c cs o) in

@@ -5,7 +5,7 @@ use Rattle.std.specs.List.{list_any}
 use Rattle.definitions.specs.Values.{Text, same_text}
 use Rattle.definitions.specs.Uris.{Parts, split, begins, is_free_of, is_scheme, led_by, ended_by, option_all, scheme_and_rest, authority_and_path}
 use Rattle.definitions.specs.Lists.{cut_at, split_before}
-use Rattle.definitions.specs.Resolution.{resolve, merge, remove_dot_segments, rewritten, rewritten_times, first_segment, without_last_segment, up_to_last_slash, is_empty}
+use Rattle.definitions.specs.Resolution.{resolve, merge, remove_dot_segments, next_buffers, buffers_after, first_segment, without_last_segment, up_to_last_slash, is_empty}
 use Rattle.uri_ref.specs.Soundness.{AreSound}
 use Rattle.uri_ref.proofs.Missing.{Misses, one_of, misses_from, free_from, joined_misses, halves_miss, rest_misses, none_missed, more_missed, cut_misses, before_misses, is_rooted, rest_is_rooted, rooted_from, rooted_text}
 use Rattle.uri_ref.proofs.Recomposed.{before_joined, cut_joined, scheme_joined, authority_joined}
@@ -82,7 +82,7 @@ segment_misses p (c ∷ cs) h =
     let r = split_before (λ d. d == 47) cs in
     halves_miss p (c ∷ r.0) r.1 (ap (λ x. list_any p (c ∷ x)) (before_joined (λ d. d == 47) cs) ∙ h)
 
-step_misses : (p : ℕ → Bool) (i o : Text) → p 47 ≡ false → Misses p i → Misses p o → Misses p (rewritten (i, o)).0 × Misses p (rewritten (i, o)).1
+step_misses : (p : ℕ → Bool) (i o : Text) → p 47 ≡ false → Misses p i → Misses p o → Misses p (next_buffers (i, o)).0 × Misses p (next_buffers (i, o)).1
 step_misses p i o slash hi ho =
     let P : Text × Text → Type 0 = λ s. Misses p s.0 × Misses p s.1 in
     let root : Misses p (codes "/") = or_from (p 47) false slash refl in
@@ -97,11 +97,11 @@ step_misses p i o slash hi ho =
     (whichever P (same_text i (codes ".") || same_text i (codes "..")) _ _ (λ _. (refl, ho))
     (segment.1, joined_misses p o (first_segment i).0 ho segment.0)))))))
 
-times_miss : (p : ℕ → Bool) (n : ℕ) (i o : Text) → p 47 ≡ false → Misses p i → Misses p o → Misses p (rewritten_times n (i, o)).1
+times_miss : (p : ℕ → Bool) (n : ℕ) (i o : Text) → p 47 ≡ false → Misses p i → Misses p o → Misses p (buffers_after n (i, o)).1
 times_miss p zero i o slash hi ho = ho
 times_miss p (suc n) i o slash hi ho =
     let step = step_misses p i o slash hi ho in
-    times_miss p n (rewritten (i, o)).0 (rewritten (i, o)).1 slash step.0 step.1
+    times_miss p n (next_buffers (i, o)).0 (next_buffers (i, o)).1 slash step.0 step.1
 
 undotted_misses : (p : ℕ → Bool) (path : Text) → p 47 ≡ false → Misses p path → Misses p (remove_dot_segments path)
 undotted_misses p path slash h = times_miss p (length path) path [] slash h refl
@@ -122,7 +122,7 @@ pub joined_rooted : (s t : Text) → is_rooted s ≡ true → is_rooted t ≡ tr
 joined_rooted [] t h k = k
 joined_rooted (c ∷ cs) t h k = h
 
-step_rooted : (i o : Text) → is_rooted (47 ∷ i) ≡ true → is_rooted o ≡ true → (is_rooted (rewritten (47 ∷ i, o)).0 ≡ true) × (is_rooted (rewritten (47 ∷ i, o)).1 ≡ true)
+step_rooted : (i o : Text) → is_rooted (47 ∷ i) ≡ true → is_rooted o ≡ true → (is_rooted (next_buffers (47 ∷ i, o)).0 ≡ true) × (is_rooted (next_buffers (47 ∷ i, o)).1 ≡ true)
 step_rooted i o hi ho =
     let P : Text × Text → Type 0 = λ s. (is_rooted s.0 ≡ true) × (is_rooted s.1 ≡ true) in
     let popped = popped_rooted o ho in
@@ -132,13 +132,13 @@ step_rooted i o hi ho =
     (whichever P (same_text (47 ∷ i) (codes "/..")) _ _ (λ _. (refl, popped))
     (rest_is_rooted i, joined_rooted o (first_segment (47 ∷ i)).0 ho refl))))
 
-times_rooted : (n : ℕ) (i o : Text) → is_rooted i ≡ true → is_rooted o ≡ true → is_rooted (rewritten_times n (i, o)).1 ≡ true
+times_rooted : (n : ℕ) (i o : Text) → is_rooted i ≡ true → is_rooted o ≡ true → is_rooted (buffers_after n (i, o)).1 ≡ true
 times_rooted zero i o hi ho = ho
 times_rooted (suc n) [] o hi ho = times_rooted n [] (o ++ []) refl (ap is_rooted (append-nil o) ∙ ho)
 times_rooted (suc n) (c ∷ cs) o hi ho =
     let slash : 47 ≡ c = eqb-true 47 c hi in
     let step = step_rooted cs o refl ho in
-    rw (sym slash) (times_rooted n (rewritten (47 ∷ cs, o)).0 (rewritten (47 ∷ cs, o)).1 step.0 step.1)
+    rw (sym slash) (times_rooted n (next_buffers (47 ∷ cs, o)).0 (next_buffers (47 ∷ cs, o)).1 step.0 step.1)
 
 undotted_rooted : (path : Text) → is_rooted path ≡ true → is_rooted (remove_dot_segments path) ≡ true
 undotted_rooted path h = times_rooted (length path) path [] h refl

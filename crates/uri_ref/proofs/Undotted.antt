@@ -5,7 +5,7 @@ use Rattle.std.specs.List.{list_any, slice_split, onto_first}
 use Rattle.definitions.specs.Values.{Text, same_text}
 use Rattle.definitions.specs.Uris.{begins, is_dot_segment}
 use Rattle.definitions.specs.Lists.{split_before}
-use Rattle.definitions.specs.Resolution.{rewritten, rewritten_times, remove_dot_segments, first_segment}
+use Rattle.definitions.specs.Resolution.{next_buffers, buffers_after, remove_dot_segments, first_segment}
 use Rattle.lemmas.proofs.Texts.{same_text_is}
 use Rattle.uri_ref.proofs.Rules.{front, rule_e, before_within}
 use Rattle.uri_ref.proofs.Recomposed.{before_joined}
@@ -67,14 +67,14 @@ rest_step x ps false h = ap (list_any is_dot_segment) (sym (drop_onto x ps)) ∙
 rest_undotted : (c : ℕ) (cs : Text) → has_dots (c ∷ cs) ≡ false → has_dots (first_segment (c ∷ cs)).1 ≡ false
 rest_undotted c cs h = tail_dots cs ∙ rest_step c (slice_split (λ d. d == 47) cs) (c == 47) h
 
-moved : (i o : Text) → has_dots i ≡ false → rewritten (i, o) ≡ ((first_segment i).1, o ++ (first_segment i).0)
+moved : (i o : Text) → has_dots i ≡ false → next_buffers (i, o) ≡ ((first_segment i).1, o ++ (first_segment i).0)
 moved i o h = rule_e i o (no_a i h) (no_a_dot i h) (no_b i h) (no_b_end i h) (no_c i h) (no_c_end i h) (no_d i h)
 
 segment_joined : (i : Text) → (first_segment i).0 ++ (first_segment i).1 ≡ i
 segment_joined [] = refl
 segment_joined (c ∷ cs) = ap (λ r. c ∷ r) (before_joined (λ d. d == 47) cs)
 
-all_moved : (n : ℕ) (i o : Text) → length i ≤ n → has_dots i ≡ false → (rewritten_times n (i, o)).1 ≡ o ++ i
+all_moved : (n : ℕ) (i o : Text) → length i ≤ n → has_dots i ≡ false → (buffers_after n (i, o)).1 ≡ o ++ i
 all_moved zero [] o l h = sym (append-nil o)
 all_moved zero (c ∷ cs) o l h = absurd (omega arith)
 all_moved (suc n) [] o l h = all_moved n [] (o ++ []) (omega arith) refl ∙ append-nil (o ++ [])
@@ -82,7 +82,7 @@ all_moved (suc n) (c ∷ cs) o l h =
     let step = moved (c ∷ cs) o h in
     let fewer : length (first_segment (c ∷ cs)).1 ≤ length cs = before_within (λ d. d == 47) cs in
     let less : length (first_segment (c ∷ cs)).1 ≤ n = omega arith in
-    ap (λ (s : Text × Text). (rewritten_times n s).1) step
+    ap (λ (s : Text × Text). (buffers_after n s).1) step
     ∙ all_moved n (first_segment (c ∷ cs)).1 (o ++ (first_segment (c ∷ cs)).0) less (rest_undotted c cs h)
     ∙ append_assoc o (first_segment (c ∷ cs)).0 (first_segment (c ∷ cs)).1
     ∙ ap (λ r. o ++ r) (segment_joined (c ∷ cs))

@@ -6,7 +6,7 @@ use Rattle.definitions.specs.Values.{Text, same_text}
 use Rattle.definitions.specs.Uris.{Parts, SplitsOnce, split, recompose, begins, is_free_of, is_dot_segment, is_identifier, is_path_of, is_scheme, are_parts, led_by, ended_by, option_all, scheme_and_rest, authority_and_path}
 use Rattle.definitions.specs.Lists.{cut_at, split_before}
 use Rattle.uri_ref.specs.Soundness.{AreSound}
-use Rattle.uri_ref.specs.Views.{made}
+use Rattle.uri_ref.specs.Views.{made_parts}
 use Rattle.uri_ref.proofs.Missing.{Misses, misses_from, joined_misses, one_missed, scheme_misses, is_rooted, rest_is_rooted, rooted_from, rooted_text, cut_apart, before_apart, of_option, led_misses, ended_misses}
 use Rattle.uri_ref.proofs.Recomposed.{joined, recomposes}
 use Rattle.uri_ref.proofs.Sound.{split_sound}
@@ -53,7 +53,7 @@ authority_cut (Some t) path h r k =
 split_of : (s a : Option Text) (path : Text) (q f : Option Text) → option_all is_scheme s ≡ true → option_all (is_free_of (codes "/?#")) a ≡ true → is_free_of (codes "?#") path ≡ true
     → option_all (is_free_of (codes "#")) q ≡ true → (is_some a ≡ true → is_rooted path ≡ true) → (is_none a ≡ true → begins path (codes "//") ≡ false)
     → (is_none a ≡ true → (is_some s || is_none (scheme_and_rest path).0) ≡ true)
-    → split (recompose (made s a path q f)) ≡ made s a path q f
+    → split (recompose (made_parts s a path q f)) ≡ made_parts s a path q f
 split_of s a path q f hs ha hp hq rooted unled unschemed =
     let w = led_by (codes "//") a ++ path in
     let v = ended_by s (codes ":") ++ w in

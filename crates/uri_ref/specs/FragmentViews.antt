@@ -4,7 +4,7 @@ use Rattle.definitions.specs.Fragments.{Fragment, no_fragment, tokens, plain_nam
 use Rattle.uri_ref.specs.declared.fragments.FragmentKind.{FragmentKind}
 use Rattle.uri_ref.specs.declared.fragments.FragmentKind.TheVariants.{Empty, Pointer, Name}
 
-abbrev pub fragment_shown : FragmentKind → Fragment
-fragment_shown Empty = no_fragment
-fragment_shown (Pointer p) = tokens p
-fragment_shown (Name s) = plain_name (string_bytes s)
+abbrev pub fragment_view : FragmentKind → Fragment
+fragment_view Empty = no_fragment
+fragment_view (Pointer p) = tokens p
+fragment_view (Name s) = plain_name (string_bytes s)

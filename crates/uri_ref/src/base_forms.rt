@@ -2,7 +2,7 @@
 
 ghost use Rattle.std.specs.Prelude.{◌≡◌, ◌≢◌, Ok, Err, IfOk, IfErr, string_bytes};
 ghost use Rattle.definitions.specs.Resolution.{base_form};
-ghost use Rattle.faults.specs.View.{fault};
+ghost use Rattle.faults.specs.View.{fault_view};
 
 use crate::parts::is_identifier;
 use crate::recomposing::recompose;
@@ -17,7 +17,7 @@ use std::alloc::Global;
 /// want of memory.
 pub fn base_form(alloc: Global, uri: &str) -> Result<String, Fault>
     ensures ok { IfOk result (λ s. base_form uri.now ≡ Ok (string_bytes s)) }
-    ensures err { IfErr result (λ f. f ≢ Fault.NoRoom → base_form uri.now ≡ Err (fault f)) }
+    ensures err { IfErr result (λ f. f ≢ Fault.NoRoom → base_form uri.now ≡ Err (fault_view f)) }
 {
     let parts = split(uri);
     if parts.fragment().is_some() || parts.scheme().is_none() {

@@ -4,7 +4,7 @@ ghost use Rattle.std.specs.Prelude.{◌≡◌, IfOk, string_bytes};
 ghost use Rattle.std.specs.Str.{IsUtf8};
 ghost use Rattle.definitions.specs.Values.{same_text};
 ghost use Rattle.definitions.specs.Uris.{begins};
-ghost use Rattle.definitions.specs.Resolution.{remove_dot_segments, rewritten, first_segment, without_last_segment};
+ghost use Rattle.definitions.specs.Resolution.{remove_dot_segments, next_buffers, first_segment, without_last_segment};
 
 use crate::splitting::{first_slash, last_slash};
 use std::alloc::{AllocError, Global};
@@ -25,7 +25,7 @@ pub(crate) fn remove_dot_segments(alloc: Global, path: &str) -> Result<String, A
 fn rewrite<'a>(rest: &'a str, output: &mut String) -> Result<&'a str, AllocError>
     ensures step { IfOk result
         (λ left. (left.now, string_bytes output.new)
-        ≡ rewritten (rest.now, string_bytes output.old)) }
+        ≡ next_buffers (rest.now, string_bytes output.old)) }
     ensures text { IfOk result (λ left. IsUtf8 left.now) }
 {
     if begins(rest, "../") {

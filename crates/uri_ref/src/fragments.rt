@@ -4,10 +4,10 @@ ghost use Rattle.std.specs.Prelude.{◌≡◌, ◌≢◌, Ok, Err, Some, true, I
 ghost use Rattle.std.specs.Cow.{cow_str_bytes};
 ghost use Rattle.std.specs.Str.{is_utf8};
 ghost use Rattle.definitions.specs.Faults.{bad_fragment};
-ghost use Rattle.definitions.specs.Fragments.{fragment_kind, hex_value, kind_of_decoded, kind_of_text, percent_decoded};
-ghost use Rattle.faults.specs.View.{fault};
+ghost use Rattle.definitions.specs.Fragments.{fragment_kind, hex_value, kind_of_decoded_text, kind_of_text, percent_decoded_text};
+ghost use Rattle.faults.specs.View.{fault_view};
 ghost use Rattle.uri_ref.specs.Escapes.{after_digits};
-ghost use Rattle.uri_ref.specs.FragmentViews.{fragment_shown};
+ghost use Rattle.uri_ref.specs.FragmentViews.{fragment_view};
 
 use faults::Fault;
 use json_doc::Pointer;
@@ -34,10 +34,10 @@ pub enum FragmentKind {
 pub fn fragment_kind(alloc: Global, fragment: Option<&str>) -> Result<FragmentKind, Fault>
     ensures ok { IfOk result
         (λ kind. fragment_kind (option_map (λ t. t.now) fragment.entry)
-        ≡ Ok (fragment_shown kind)) }
+        ≡ Ok (fragment_view kind)) }
     ensures err { IfErr result
         (λ f. f ≢ Fault.NoRoom
-        → fragment_kind (option_map (λ t. t.now) fragment.entry) ≡ Err (fault f)) }
+        → fragment_kind (option_map (λ t. t.now) fragment.entry) ≡ Err (fault_view f)) }
 {
     match fragment {
         Some(text) => kind_of_text(alloc, decoded(alloc, text)?),
@@ -48,9 +48,9 @@ pub fn fragment_kind(alloc: Global, fragment: Option<&str>) -> Result<FragmentKi
 // What the text names, by its first character.
 fn kind_of_text(alloc: Global, text: CowStr<'_, Global>) -> Result<FragmentKind, Fault>
     ensures ok { IfOk result
-        (λ kind. kind_of_text (cow_str_bytes text.entry) ≡ Ok (fragment_shown kind)) }
+        (λ kind. kind_of_text (cow_str_bytes text.entry) ≡ Ok (fragment_view kind)) }
     ensures err { IfErr result
-        (λ f. f ≢ Fault.NoRoom → kind_of_text (cow_str_bytes text.entry) ≡ Err (fault f)) }
+        (λ f. f ≢ Fault.NoRoom → kind_of_text (cow_str_bytes text.entry) ≡ Err (fault_view f)) }
 {
     if text.as_str().is_empty() {
         return Ok(FragmentKind::Empty);
@@ -63,12 +63,12 @@ fn kind_of_text(alloc: Global, text: CowStr<'_, Global>) -> Result<FragmentKind,
 
 // The text without its percent escapes. It takes memory only where there are some.
 fn decoded(alloc: Global, text: &str) -> Result<CowStr<'_, Global>, Fault>
-    ensures ok { IfOk result (λ t. percent_decoded text.now ≡ Some (cow_str_bytes t)) }
+    ensures ok { IfOk result (λ t. percent_decoded_text text.now ≡ Some (cow_str_bytes t)) }
     ensures utf8 { IfOk result (λ t. is_utf8 (cow_str_bytes t) ≡ true) }
     ensures err { IfErr result
         (λ f. f ≢ Fault.NoRoom
         → (f ≡ Fault.BadFragment)
-        × (kind_of_decoded (percent_decoded text.now) ≡ Err bad_fragment)) }
+        × (kind_of_decoded_text (percent_decoded_text text.now) ≡ Err bad_fragment)) }
 {
     if !has_whole_escapes(text) {
         return Err(Fault::BadFragment);
@@ -82,7 +82,7 @@ fn decoded(alloc: Global, text: &str) -> Result<CowStr<'_, Global>, Fault>
 
 // Whether two hexadecimal digits follow each `%`.
 fn has_whole_escapes(text: &str) -> bool
-    ensures { result ≡ is_some (percent_decoded text.now) }
+    ensures { result ≡ is_some (percent_decoded_text text.now) }
 {
     let mut rest = text.as_bytes();
     while let [first, after @ ..] = rest {

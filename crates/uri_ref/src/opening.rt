@@ -3,7 +3,7 @@
 
 ghost use Rattle.std.specs.Prelude.{◌≡◌, IfOk, string_bytes};
 ghost use Rattle.definitions.specs.Uris.{without_fragment};
-ghost use Rattle.definitions.specs.Resolution.{resolved};
+ghost use Rattle.definitions.specs.Resolution.{target_uri};
 
 use crate::recomposing::recompose;
 use crate::resolving::resolve;
@@ -12,7 +12,7 @@ use std::alloc::{AllocError, Global};
 
 /// The reference, resolved against the base (RFC 3986, section 5.2). It fails only for want of memory.
 pub fn resolved_uri(alloc: Global, base: &str, reference: &str) -> Result<String, AllocError>
-    ensures { IfOk result (λ uri. string_bytes uri ≡ resolved base.now reference.now) }
+    ensures { IfOk result (λ uri. string_bytes uri ≡ target_uri base.now reference.now) }
 {
     let parts = match resolve(alloc, &split(base), &split(reference)) {
         Ok(parts) => parts,
@@ -28,7 +28,7 @@ pub fn resolved_uri(alloc: Global, base: &str, reference: &str) -> Result<String
 /// its fragment (JSON Schema 2020-12 Core, section 8.2.1). It fails only for want of memory.
 pub fn opened_uri(alloc: Global, base: &str, id: &str) -> Result<String, AllocError>
     ensures { IfOk result
-        (λ uri. string_bytes uri ≡ without_fragment (resolved base.now id.now)) }
+        (λ uri. string_bytes uri ≡ without_fragment (target_uri base.now id.now)) }
 {
     let opened = match resolve(alloc, &split(base), &split(id)) {
         Ok(parts) => parts,

@@ -2,7 +2,7 @@
 
 ghost use Rattle.std.specs.Prelude.{◌≡◌, ◌∷◌, ◌++◌, IfOk, IfErr, OnOk, flat_map, string_bytes};
 ghost use Rattle.definitions.specs.Bytes.{slash};
-ghost use Rattle.definitions.specs.Pointers.{escaped_byte, fragment_text, percent_encoded};
+ghost use Rattle.definitions.specs.Pointers.{escaped_byte, fragment_text, percent_encoded_text};
 
 use super::{Pointer, escape_of, first_escaped};
 use faults::Fault;
@@ -54,7 +54,7 @@ impl Pointer {
 pub fn push_fragment_token(text: &mut String, token: &str) -> Result<(), AllocError>
     ensures { OnOk result
         (string_bytes text.new
-        ≡ string_bytes text.old ++ slash ∷ percent_encoded (flat_map escaped_byte token.now)) }
+        ≡ string_bytes text.old ++ slash ∷ percent_encoded_text (flat_map escaped_byte token.now)) }
 {
     text.push('/')?;
     push_fragment_escaped(text, token)?;
@@ -65,7 +65,7 @@ pub fn push_fragment_token(text: &mut String, token: &str) -> Result<(), AllocEr
 fn push_fragment_escaped(text: &mut String, token: &str) -> Result<(), AllocError>
     ensures { OnOk result
         (string_bytes text.new
-        ≡ string_bytes text.old ++ percent_encoded (flat_map escaped_byte token.now)) }
+        ≡ string_bytes text.old ++ percent_encoded_text (flat_map escaped_byte token.now)) }
 {
     let mut rest = token;
     while let Some(end) = first_escaped(rest) {
@@ -80,7 +80,7 @@ fn push_fragment_escaped(text: &mut String, token: &str) -> Result<(), AllocErro
 // Appends what stands for the text in a fragment.
 fn push_percent_encoded(text: &mut String, run: &str) -> Result<(), AllocError>
     ensures { OnOk result (string_bytes text.new
-        ≡ string_bytes text.old ++ percent_encoded run.now) }
+        ≡ string_bytes text.old ++ percent_encoded_text run.now) }
 {
     utf8_percent_encode(run, ESCAPED).append_to(text)?;
     Ok(())

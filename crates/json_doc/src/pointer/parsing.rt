@@ -3,7 +3,7 @@
 ghost use Rattle.std.specs.Prelude.{◌≡◌, ◌≢◌, ◌==◌, Some, None, IfOk, IfErr, map, string_bytes};
 ghost use Rattle.std.specs.List.{slice_split};
 ghost use Rattle.definitions.specs.Bytes.{slash};
-ghost use Rattle.definitions.specs.Pointers.{pointer_of, unescaped};
+ghost use Rattle.definitions.specs.Pointers.{pointer_of, unescaped_token};
 ghost use Rattle.definitions.specs.Lists.{each};
 ghost use Rattle.json_doc.specs.Escapes.{escape_before};
 
@@ -36,12 +36,12 @@ impl Pointer {
 // The tokens of a text after its first `/`.
 fn tokens_of(alloc: Global, text: &str) -> Result<Vec<String>, Fault>
     ensures ok { IfOk result
-        (λ tokens. each unescaped (slice_split (λ d. d == slash) text.now)
+        (λ tokens. each unescaped_token (slice_split (λ d. d == slash) text.now)
         ≡ Some (map string_bytes tokens.items)) }
     ensures err { IfErr result
         (λ f. f ≢ Fault.NoRoom
         → (f ≡ Fault.BadPointer)
-        × (each unescaped (slice_split (λ d. d == slash) text.now) ≡ None)) }
+        × (each unescaped_token (slice_split (λ d. d == slash) text.now) ≡ None)) }
 {
     let mut tokens = Vec::new(alloc);
     for part in text.split('/') {
@@ -52,9 +52,9 @@ fn tokens_of(alloc: Global, text: &str) -> Result<Vec<String>, Fault>
 
 // A token as it was before its `/` and `~` were escaped.
 fn token_of(alloc: Global, part: &str) -> Result<String, Fault>
-    ensures ok { IfOk result (λ s. unescaped part.now ≡ Some (string_bytes s)) }
+    ensures ok { IfOk result (λ s. unescaped_token part.now ≡ Some (string_bytes s)) }
     ensures err { IfErr result
-        (λ f. f ≢ Fault.NoRoom → (f ≡ Fault.BadPointer) × (unescaped part.now ≡ None)) }
+        (λ f. f ≢ Fault.NoRoom → (f ≡ Fault.BadPointer) × (unescaped_token part.now ≡ None)) }
 {
     let mut token = String::new(alloc);
     let mut rest = part;

@@ -2,9 +2,9 @@
 
 ghost use Rattle.std.specs.Prelude.{◌≡◌, [], ◌∷◌, Option, if◌then◌else◌, map, option_map, IfOk};
 ghost use Rattle.definitions.specs.Values.{Text, members};
-ghost use Rattle.definitions.specs.Applied.{Application, Outcome, in_place, each_listed, consequence_of};
+ghost use Rattle.definitions.specs.Applied.{Application, Outcome, in_place, list_applications, consequence_of};
 ghost use Rattle.json_doc.specs.Docs.{value, members_value};
-ghost use Rattle.keyword_plans.specs.Applications.{planned_listed, planned_dependents};
+ghost use Rattle.keyword_plans.specs.Applications.{planned_elements, planned_dependents};
 ghost use Rattle.keyword_plans.specs.Plans.{planned_view};
 ghost use Rattle.keyword_plans.specs.Subjects.{subject_value};
 
@@ -41,7 +41,7 @@ pub(crate) fn plan_listed<'a>(
 ) -> Result<Vec<Planned<'a>>, AllocError>
     ensures { (a : Application) (k : Text) → a.instance ≡ subject_value subject.entry
         → IfOk result (λ ps. map (planned_view k a) ps.items
-        ≡ each_listed a k (value schemas.now)) }
+        ≡ list_applications a k (value schemas.now)) }
 {
     match schemas {
         Doc::List(schemas) => plan_elements(alloc, schemas, subject),
@@ -56,7 +56,7 @@ fn plan_elements<'a>(
 ) -> Result<Vec<Planned<'a>>, AllocError>
     ensures { (a : Application) (k : Text) → a.instance ≡ subject_value subject.entry
         → IfOk result (λ ps. map (planned_view k a) ps.items
-        ≡ planned_listed k a 0 (map value schemas.now)) }
+        ≡ planned_elements k a 0 (map value schemas.now)) }
 {
     let mut planned = Vec::new(alloc);
     for (index, schema) in schemas.iter().enumerate() {

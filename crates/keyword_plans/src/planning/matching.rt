@@ -7,7 +7,7 @@ ghost use Rattle.definitions.specs.Patterns.{has_match};
 ghost use Rattle.definitions.specs.Schemas.{Schema};
 ghost use Rattle.definitions.specs.Applied.{Application};
 ghost use Rattle.json_doc.specs.Docs.{value, members_value};
-ghost use Rattle.keyword_plans.specs.Applications.{ArePatternsOf, planned_matches, planned_matched};
+ghost use Rattle.keyword_plans.specs.Applications.{ArePatternsOf, planned_matches, planned_pattern};
 ghost use Rattle.keyword_plans.specs.Plans.{planned_view};
 ghost use Rattle.keyword_plans.specs.Sites.{Shows};
 
@@ -30,7 +30,7 @@ pub(crate) fn plan_patterns<'a>(
     ensures ok { (a : Application) (k : Text) → Shows site.entry a
         → get (codes "patternProperties") a.schema.value ≡ Some (value schemas.now)
         → IfOk result (λ ps. map (planned_view k a) ps.items
-        ≡ planned_matched k a (members (value schemas.now)) (members a.instance)) }
+        ≡ planned_pattern k a (members (value schemas.now)) (members a.instance)) }
     ensures err { IfErr result (λ f. f ≡ Fault.NoRoom) }
 {
     match members_of(schemas) {
@@ -51,7 +51,7 @@ fn plan_matched<'a>(
     ensures ok { (a : Application) (k : Text) (s : Schema)
         → ArePatternsOf linked.now s (members_value patterns.now)
         → IfOk result (λ ps. map (planned_view k a) ps.items
-        ≡ planned_matched k a (members_value patterns.now) (members_value members.now)) }
+        ≡ planned_pattern k a (members_value patterns.now) (members_value members.now)) }
     ensures err { IfErr result (λ f. f ≡ Fault.NoRoom) }
 {
     let mut planned = Vec::new(alloc);

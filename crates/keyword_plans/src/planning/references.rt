@@ -10,7 +10,7 @@ ghost use Rattle.linker.specs.LinkedDocuments.{linked_schemas};
 ghost use Rattle.keyword_plans.specs.Plans.{planned_view};
 ghost use Rattle.keyword_plans.specs.Sites.{Shows};
 ghost use Rattle.keyword_plans.specs.Subjects.{subject_value};
-ghost use Rattle.schema_index.specs.Locateds.{located_schema};
+ghost use Rattle.schema_index.specs.Locateds.{located_view};
 
 use crate::planned::{Chosen, Part, Planned};
 use crate::site::Site;
@@ -74,7 +74,7 @@ fn plan_target<'a>(
 ) -> Result<Vec<Planned<'a>>, AllocError>
     ensures { (a : Application) (k : Text) → a.instance ≡ subject_value subject.entry
         → IfOk result (λ ps. map (planned_view k a) ps.items
-        ≡ to_target a k (option_map located_schema target.entry)) }
+        ≡ to_target a k (option_map located_view target.entry)) }
 {
     let mut planned = Vec::new(alloc);
     if let Some(located) = target {

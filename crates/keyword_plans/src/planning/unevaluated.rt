@@ -7,7 +7,7 @@ ghost use Rattle.std.specs.Ordering.{eq_by_cmp};
 ghost use Rattle.definitions.specs.Values.{Text, elements, members};
 ghost use Rattle.definitions.specs.Applied.{Application};
 ghost use Rattle.json_doc.specs.Docs.{value, members_value};
-ghost use Rattle.keyword_plans.specs.Applications.{planned_unevaluated, planned_unnamed};
+ghost use Rattle.keyword_plans.specs.Applications.{planned_unevaluated_items, planned_unevaluated_properties};
 ghost use Rattle.keyword_plans.specs.Plans.{planned_view};
 ghost use Rattle.keyword_plans.specs.Subjects.{subject_value};
 
@@ -26,7 +26,7 @@ pub(crate) fn plan_unevaluated_items<'a>(
 ) -> Result<Vec<Planned<'a>>, AllocError>
     ensures { (a : Application) (k : Text) → a.instance ≡ subject_value subject.entry
         → IfOk result (λ ps. map (planned_view k a) ps.items
-        ≡ planned_unevaluated k a (value schema.now) indexes.now 0 (elements a.instance)) }
+        ≡ planned_unevaluated_items k a (value schema.now) indexes.now 0 (elements a.instance)) }
 {
     plan_unevaluated_elements(alloc, schema, subject.elements(), indexes)
 }
@@ -39,7 +39,7 @@ fn plan_unevaluated_elements<'a>(
 ) -> Result<Vec<Planned<'a>>, AllocError>
     ensures { (a : Application) (k : Text)
         → IfOk result (λ ps. map (planned_view k a) ps.items
-        ≡ planned_unevaluated k a (value schema.now) indexes.now 0 (map value items.now)) }
+        ≡ planned_unevaluated_items k a (value schema.now) indexes.now 0 (map value items.now)) }
 {
     let evaluated = set_of(alloc, indexes)?;
     let mut planned = Vec::new(alloc);
@@ -64,7 +64,7 @@ pub(crate) fn plan_unevaluated_properties<'a>(
 ) -> Result<Vec<Planned<'a>>, AllocError>
     ensures { (a : Application) (k : Text) → a.instance ≡ subject_value subject.entry
         → IfOk result (λ ps. map (planned_view k a) ps.items
-        ≡ planned_unnamed k a (value schema.now) (map (λ n. n.now) names.now)
+        ≡ planned_unevaluated_properties k a (value schema.now) (map (λ n. n.now) names.now)
         (members a.instance)) }
 {
     match subject.members() {
@@ -81,7 +81,7 @@ fn plan_unevaluated_members<'a>(
 ) -> Result<Vec<Planned<'a>>, AllocError>
     ensures { (a : Application) (k : Text)
         → IfOk result (λ ps. map (planned_view k a) ps.items
-        ≡ planned_unnamed k a (value schema.now) (map (λ n. n.now) names.now)
+        ≡ planned_unevaluated_properties k a (value schema.now) (map (λ n. n.now) names.now)
         (members_value members.now)) }
 {
     let evaluated = set_of(alloc, names)?;

@@ -5,7 +5,7 @@ ghost use Rattle.definitions.specs.Values.{Value};
 ghost use Rattle.definitions.specs.Shapes.{schema_list, schema_map};
 ghost use Rattle.definitions.specs.Keywords.{keywords, shape_in};
 ghost use Rattle.json_doc.specs.Docs.{value, members_value};
-ghost use Rattle.json_doc.specs.Members.{member_shown, HasNamesInOrder};
+ghost use Rattle.json_doc.specs.Members.{member_view, HasNamesInOrder};
 ghost use Rattle.schema_index.specs.Descents.{IsHeld, row, name_of};
 ghost use Rattle.schema_index.specs.DescentViews.{GoesOn};
 
@@ -88,7 +88,7 @@ fn descend_into_map<'a, 't>(
 
 // The member of this name, with its name in the object. The time grows with the logarithm of the number of members.
 fn named<'a>(members: &'a Members, name: &str) -> Option<(&'a str, &'a Doc)>
-    ensures found { option_map member_shown result
+    ensures found { option_map member_view result
         ≡ row name_of name.now (members_value members.now) }
     ensures ordered { HasNamesInOrder (members_value members.now) }
 {

@@ -1,7 +1,7 @@
 use Rattle.std.proofs.Common.{◌≡◌, ◌∙◌, refl, sym, ap, subst, OnOk}
 use Rattle.json_doc.specs.Docs.{value, members_value}
-use Rattle.evaluator.specs.Logs.{notes}
-use Rattle.evaluator.specs.Notes.{added}
+use Rattle.evaluator.specs.Logs.{log_view}
+use Rattle.evaluator.specs.Notes.{notes_of_both}
 use Rattle.evaluator.proofs.AnnotatingLaws.{no_others, others_are}
 use Rattle.evaluator.proofs.LogLaws.{added_nothing, annotated}
 use Rattle.evaluator.proofs.annotating.note_others.Goals as goal
@@ -10,11 +10,11 @@ pub returns-in-None : goal.returns-in-None
 returns-in-None c = record {
   back = refl;
   noted = λ a at s i.
-      sym (added_nothing (notes c.args.log.now))
-      ∙ ap (λ us. added (notes c.args.log.now) (annotated us)) (no_others a (value c.args.schema.now) s c.in-None.ensures);
+      sym (added_nothing (log_view c.args.log.now))
+      ∙ ap (λ us. notes_of_both (log_view c.args.log.now) (annotated us)) (no_others a (value c.args.schema.now) s c.in-None.ensures);
 }
 
 pub returns-in-Some-clause-noted : goal.returns-in-Some-clause-noted
 returns-in-Some-clause-noted c a at s i =
-    subst (λ us. OnOk c.note_members.result (notes c.note_members.new.log ≡ added (notes c.args.log.now) (annotated us)))
+    subst (λ us. OnOk c.note_members.result (log_view c.note_members.new.log ≡ notes_of_both (log_view c.args.log.now) (annotated us)))
     (others_are a (value c.args.schema.now) (members_value c.in-Some.members.now) s c.in-Some.ensures) (c.note_members.ensures.noted a at s i)

@@ -5,8 +5,8 @@ use Rattle.definitions.specs.Applied.{OutputUnit}
 use Rattle.definitions.specs.Outcomes.{unit}
 use Rattle.basic_output.specs.declared.says.Says.TheVariants.{NotMet}
 use Rattle.keywords.specs.Rows.{row_of}
-use Rattle.evaluator.specs.Logs.{notes}
-use Rattle.evaluator.specs.Notes.{Notes, added, parts_notes, shown}
+use Rattle.evaluator.specs.Logs.{log_view}
+use Rattle.evaluator.specs.Notes.{Notes, notes_of_both, parts_notes, visible_notes}
 use Rattle.evaluator.specs.Rounds.{use_there}
 use Rattle.evaluator.proofs.SettlingLaws.{failing_settled, indexes_settled, names_settled, passing_settled}
 use Rattle.evaluator.proofs.settling.settle.Goals as goal
@@ -17,8 +17,8 @@ returns-then-passes-clause-noted c l left a names indexes v older inst count pas
     let k = c.args.keyword in
     let u = use_there l left a k names indexes v in
     let meaning = (row_of k).meaning in
-    let seen = shown meaning (parts_notes meaning u.outcomes) in
-    subst (λ (n : Notes). OnOk c.note_own.result (notes c.note_own.new.log ≡ added older n)) (passing_settled l left a k names indexes v (sym c.if-passes.true ∙ passes))
+    let seen = visible_notes meaning (parts_notes meaning u.outcomes) in
+    subst (λ (n : Notes). OnOk c.note_own.result (log_view c.note_own.new.log ≡ notes_of_both older n)) (passing_settled l left a k names indexes v (sym c.if-passes.true ∙ passes))
     (c.note_own.ensures.noted l left a names indexes v older (record seen { errors = [] }) inst count there m
     (c.cut_errors.ensures older seen m (c.hide.ensures older (parts_notes meaning u.outcomes) m e)) (names_settled l left a k names indexes v) (indexes_settled l left a k names indexes v))
 
@@ -28,8 +28,8 @@ returns-in_ok-insert_error-clause-noted c l left a names indexes v older inst co
     let k = c.args.keyword in
     let u = use_there l left a k names indexes v in
     let meaning = (row_of k).meaning in
-    let seen = shown meaning (parts_notes meaning u.outcomes) in
+    let seen = visible_notes meaning (parts_notes meaning u.outcomes) in
     c.in_ok-insert_error.ensures older (record seen { annotations = [] }) m (c.cut_annotations.ensures older seen m (c.hide.ensures older (parts_notes meaning u.outcomes) m e))
-    ∙ ap (λ (unit : OutputUnit). added older (record seen { annotations = []; errors = unit ∷ seen.errors }))
+    ∙ ap (λ (unit : OutputUnit). notes_of_both older (record seen { annotations = []; errors = unit ∷ seen.errors }))
     (there (NotMet c.name.result) ∙ ap (λ n. unit a (row_of k).name (string (n ++ codes " is not met"))) c.name.ensures)
-    ∙ ap (added older) (failing_settled l left a k names indexes v (sym c.if-passes.false ∙ passes))
+    ∙ ap (notes_of_both older) (failing_settled l left a k names indexes v (sym c.if-passes.false ∙ passes))

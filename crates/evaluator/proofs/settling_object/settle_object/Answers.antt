@@ -5,8 +5,8 @@ use Rattle.definitions.specs.Applied.{Application}
 use Rattle.definitions.specs.Outcomes.{Use, other_annotations}
 use Rattle.json_doc.specs.Docs.{value}
 use Rattle.keyword_plans.specs.Subjects.{subject_value}
-use Rattle.evaluation_context.specs.Frames.{frame, standing}
-use Rattle.evaluator.specs.Notes.{Notes, added, uses_notes}
+use Rattle.evaluation_context.specs.Frames.{context_view, frame_standing}
+use Rattle.evaluator.specs.Notes.{Notes, notes_of_both, uses_notes}
 use Rattle.evaluator.proofs.CombinedLaws.{passing_object, stands_there}
 use Rattle.evaluator.proofs.LogLaws.{added_twice, annotated}
 use Rattle.evaluator.proofs.settling_object.settle_object.Goals as goal
@@ -16,6 +16,6 @@ returns-then-valid-clause-noted c a older us at m n v =
     let others = annotated (other_annotations a) in
     let all : list_all (λ (u : Use). u.passes) us ≡ true = sym v ∙ c.if-valid.true in
     on_ok_weaker c.note_others.result (λ e.
-    e ∙ ap (λ (k : Notes). added k others) n ∙ added_twice older (uses_notes a us) others ∙ ap (added older) (passing_object a us all))
-    (c.note_others.ensures.noted a (stands_there (standing (frame c.args.context.now)) (value c.args.schema.now) (subject_value c.args.subject) a at)
+    e ∙ ap (λ (k : Notes). notes_of_both k others) n ∙ added_twice older (uses_notes a us) others ∙ ap (notes_of_both older) (passing_object a us all))
+    (c.note_others.ensures.noted a (stands_there (frame_standing (context_view c.args.context.now)) (value c.args.schema.now) (subject_value c.args.subject) a at)
     (ap (λ (b : Application). b.schema.value) at) (ap (λ (b : Application). b.instance) at))

@@ -2,7 +2,7 @@ use Rattle.std.proofs.Common.{map}
 use Rattle.definitions.specs.Patterns.{regular_search}
 use Rattle.tenant_hub.specs.Isolation.{HaveOwnCourses, HaveOwnReplies, RefuseUnknownKeys}
 use Rattle.connections.specs.Feeding.{Answered}
-use Rattle.http_front.specs.HubAnswers.{registries_of, call_answers}
+use Rattle.http_front.specs.HubAnswers.{handler_view, call_answers}
 use Rattle.http_front.proofs.Calls.{course_of}
 use Rattle.http_front.proofs.Viewed.{all_viewed}
 use Rattle.http_front.proofs.isolation.connections_are_isolated.Goals as goal
@@ -11,8 +11,8 @@ pub returns : goal.returns
 unfolding HaveOwnCourses HaveOwnReplies RefuseUnknownKeys
 returns c fs before after now fed =
     let all = c.fed_pieces_are_answered.ensures fs before after now fed in
-    let seen = all_viewed registries_of call_answers (map (λ (a : Answered). a.message) all.0) (map (λ (a : Answered). a.reply) all.0) before after all.1.answered in
-    let course = course_of all.0 (registries_of before) (registries_of after) seen in (
+    let seen = all_viewed handler_view call_answers (map (λ (a : Answered). a.message) all.0) (map (λ (a : Answered). a.reply) all.0) before after all.1.answered in
+    let course = course_of all.0 (handler_view before) (handler_view after) seen in (
       all.0,
       record {
         history = record { answered = seen; sent = all.1.sent };

@@ -2,7 +2,7 @@ use Rattle.std.proofs.Common.{◌≡◌, ◌∷◌, min, sym, ap, ◌∙◌, ari
 use Rattle.std.proofs.lemmas.List.{take_more}
 use Rattle.definitions.specs.Values.{is_well_formed, are_well_formed_members, to_members, members_nesting}
 use Rattle.json_doc.specs.Docs.{value, members_view}
-use Rattle.json_doc.specs.Members.{members_left, member_shown, HasNamesInOrder, HasTextsAsNames}
+use Rattle.json_doc.specs.Members.{members_left, member_view, HasNamesInOrder, HasTextsAsNames}
 use Rattle.json_doc.proofs.Entries.{string_is_utf8}
 use Rattle.json_doc.proofs.Views.{value-Str, to_members-value}
 use Rattle.json_doc.proofs.Nestings.{element_nesting, elements_nesting-snoc, are_well_formed-snoc, in_order_rest, members_form, larger_element, larger_member}
@@ -41,7 +41,7 @@ nesting_of_members-nesting-requires t c = (omega (arith, c.loop-member.invariant
 pub nesting_of_members-loop-member-preserved : goal.nesting_of_members-loop-member-preserved
 nesting_of_members-loop-member-preserved t c =
     let l = c.loop-member.invariant in
-    let first = member_shown (c.in-Some.field-0-0, c.in-Some.member) in
+    let first = member_view (c.in-Some.field-0-0, c.in-Some.member) in
     let step : members_left c.loop-member.member-iterator ≡ first ∷ members_left c.next.new.self = c.in-Some.ensures.steps in
     let ordered : HasNamesInOrder (first ∷ members_left c.next.new.self) = rw step at l.ordered in
     let utf8 : HasTextsAsNames (first ∷ members_left c.next.new.self) = rw step at l.utf8 in

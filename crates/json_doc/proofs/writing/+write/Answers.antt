@@ -4,7 +4,7 @@ use Rattle.std.proofs.lemmas.Result.{on_ok_weaker}
 use Rattle.json.specs.Token.{begin_array, begin_object, key}
 use Rattle.definitions.specs.Values.{is_well_formed, are_well_formed_members, to_elements, to_members, members_nesting}
 use Rattle.json_doc.specs.Docs.{value, members_view}
-use Rattle.json_doc.specs.Members.{members_left, member_shown, HasNamesInOrder, HasTextsAsNames}
+use Rattle.json_doc.specs.Members.{members_left, member_view, HasNamesInOrder, HasTextsAsNames}
 use Rattle.json_doc.specs.Tokens.{value_tokens, elements_tokens, members_tokens}
 use Rattle.json_doc.proofs.Entries.{string_is_utf8}
 use Rattle.json_doc.proofs.Views.{value-Str, value-List, value-Dict, to_members-value}
@@ -74,7 +74,7 @@ write_members-loop-name-init t c =
 pub write_members-loop-name-preserved : goal.write_members-loop-name-preserved
 write_members-loop-name-preserved t c =
     let l = c.loop-name in
-    let first = member_shown (c.in-Some.name, c.in-Some.member) in
+    let first = member_view (c.in-Some.name, c.in-Some.member) in
     let left = members_left c.next.new.self in
     let rest = members_tokens (to_members left) in
     let step : members_left l.name-iterator ≡ first ∷ left = c.in-Some.ensures.steps in

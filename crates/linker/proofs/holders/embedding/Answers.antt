@@ -3,7 +3,7 @@ use Rattle.std.proofs.lemmas.Iterator.{YieldsList-from_slice}
 use Rattle.std.proofs.lemmas.Iterator.Search.{find_from_yields_List}
 use Rattle.std.specs.declared.rc.Rc.{Rc}
 use Rattle.std.specs.Global.{Global}
-use Rattle.schema_scan.specs.CompiledDocuments.{compiled_document}
+use Rattle.schema_scan.specs.CompiledDocuments.{compiled_view}
 use Rattle.schema_scan.specs.declared.compiled.Compiled.{Compiled}
 use Rattle.linker.specs.SharedDocuments.{shared_documents}
 use Rattle.linker.specs.Sources.{embeds}
@@ -14,7 +14,7 @@ pub returns : goal.returns
 unfolding shared_documents
 returns c =
     let items : List (Rc Compiled Global) = c.iter.result.rest.now in
-    let found : option_map (λ d. d.now) c.find.result ≡ find (λ (d : Rc Compiled Global). embeds c.args.uri.now (compiled_document d.value)) items =
-    find_from_yields_List (λ (d : Rc Compiled Global). embeds c.args.uri.now (compiled_document d.value)) _ _ c.find.result c.find.ensures.ran (YieldsList-from_slice items refl) (λ x b q k. search (rules, tests)) in
-    found_image (embeds c.args.uri.now) (λ (d : Rc Compiled Global). compiled_document d.value) items c.find.result found
-    ∙ ap (λ ds. find (embeds c.args.uri.now) (map (λ (d : Rc Compiled Global). compiled_document d.value) ds)) c.iter.ensures.rest
+    let found : option_map (λ d. d.now) c.find.result ≡ find (λ (d : Rc Compiled Global). embeds c.args.uri.now (compiled_view d.value)) items =
+    find_from_yields_List (λ (d : Rc Compiled Global). embeds c.args.uri.now (compiled_view d.value)) _ _ c.find.result c.find.ensures.ran (YieldsList-from_slice items refl) (λ x b q k. search (rules, tests)) in
+    found_image (embeds c.args.uri.now) (λ (d : Rc Compiled Global). compiled_view d.value) items c.find.result found
+    ∙ ap (λ ds. find (embeds c.args.uri.now) (map (λ (d : Rc Compiled Global). compiled_view d.value) ds)) c.iter.ensures.rest

@@ -5,7 +5,7 @@ use Rattle.definitions.specs.Reach.{least, lesser, references_in}
 use Rattle.definitions.specs.Schemas.{table_of}
 use Rattle.definitions.specs.Targets.{target}
 use Rattle.lemmas.proofs.Lists.{map-take_more}
-use Rattle.schema_scan.specs.CompiledDocuments.{compiled_document}
+use Rattle.schema_scan.specs.CompiledDocuments.{compiled_view}
 use Rattle.linker.specs.Missing.{missing_in}
 use Rattle.linker.specs.SharedDocuments.{shared_documents}
 use Rattle.linker.proofs.Judged.{judged_more}
@@ -28,7 +28,7 @@ unfolding missing_in
 returns-clause-ok c = λ before e.
     let table = table_of (shared_documents c.args.documents.now) in
     let items : List (String Global) = c.references-reference-items.result.now in
-    let whole : map string_bytes (take c.loop-reference.reference-index items) ≡ references_in (compiled_document c.args.document.now) =
+    let whole : map string_bytes (take c.loop-reference.reference-index items) ≡ references_in (compiled_view c.args.document.now) =
     ap (map string_bytes) (take_all c.loop-reference.reference-index items c.loop-reference-test.false) ∙ c.references-reference-items.ensures in
     c.loop-reference.invariant before e
     ∙ ap (λ rs. least (before ++ filter (λ r. is_none (target table r)) rs)) whole

@@ -4,7 +4,7 @@ use Rattle.definitions.specs.Reach.{holds_resource}
 use Rattle.definitions.specs.Schemas.{Schema}
 use Rattle.definitions.specs.Targets.{target_in, fragment_of}
 use Rattle.definitions.specs.Uris.{without_fragment}
-use Rattle.schema_scan.specs.CompiledDocuments.{compiled_document, compiled_schemas}
+use Rattle.schema_scan.specs.CompiledDocuments.{compiled_schemas, compiled_view}
 use Rattle.linker.specs.SharedDocuments.{shared_documents}
 use Rattle.linker.proofs.Judged.{target_where_held, no_target}
 use Rattle.linker.proofs.judging.names_schema.Goals as goal
@@ -17,13 +17,13 @@ returns-in-Some-clause-ok c =
     let ds = shared_documents c.args.documents.now in
     let reference = c.args.reference.now in
     let document = c.in-Some.document.now.value in
-    let found : find (holds_resource (without_fragment reference)) ds ≡ Some (compiled_document document) =
+    let found : find (holds_resource (without_fragment reference)) ds ≡ Some (compiled_view document) =
     ap (λ u. find (holds_resource u) ds) (sym c.without_fragment-uri.ensures) ∙ sym c.in-Some.ensures in
     carried c.names_in.result _ _
     (ap (λ f. target_in (compiled_schemas c.deref.result.now) c.without_fragment-uri.result.now (fragment_kind f)) (c.fragment.ensures ∙ ap (λ p. p.fragment) c.split.ensures.parts)
     ∙ ap (λ d. target_in (compiled_schemas d) c.without_fragment-uri.result.now (fragment_of reference)) c.deref.ensures
     ∙ ap (λ u. target_in (compiled_schemas document) u (fragment_of reference)) c.without_fragment-uri.ensures
-    ∙ sym (target_where_held ds reference (compiled_document document) c.requires.distinct found))
+    ∙ sym (target_where_held ds reference (compiled_view document) c.requires.distinct found))
     c.names_in.ensures.ok
 
 pub returns-in-None-clause-ok : goal.returns-in-None-clause-ok

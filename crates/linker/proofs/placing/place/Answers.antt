@@ -4,7 +4,7 @@ use Rattle.std.specs.declared.rc.Rc.{Rc}
 use Rattle.definitions.specs.Values.{Text}
 use Rattle.definitions.specs.Schemas.{Document}
 use Rattle.lemmas.proofs.Lists.{map-insert}
-use Rattle.schema_scan.specs.CompiledDocuments.{compiled_document}
+use Rattle.schema_scan.specs.CompiledDocuments.{compiled_view}
 use Rattle.schema_scan.specs.declared.compiled.Compiled.{Compiled}
 use Rattle.linker.specs.Positions.{StandsAt, IsGap}
 use Rattle.linker.specs.SharedDocuments.{shared_documents}
@@ -13,9 +13,9 @@ use Rattle.linker.proofs.placing.place.Goals as goal
 
 -- what a search in the same list for the same URI says
 carried : (P : List Document → Text → ℕ → Type 0) {items others : List (Rc Compiled Global)} {d e : Compiled} {uri : Text} {at : ℕ}
-    → items ≡ others → uri ≡ (compiled_document d).canonical → d ≡ e → P (shared_documents items) uri at → P (shared_documents others) (compiled_document e).canonical at
+    → items ≡ others → uri ≡ (compiled_view d).canonical → d ≡ e → P (shared_documents items) uri at → P (shared_documents others) (compiled_view e).canonical at
 carried P {items} {others} {d} {e} {uri} {at} same is moved p =
-    subst (λ x. P (shared_documents others) (compiled_document x).canonical at) moved
+    subst (λ x. P (shared_documents others) (compiled_view x).canonical at) moved
     (subst (λ u. P (shared_documents others) u at) is (subst (λ xs. P (shared_documents xs) uri at) same p))
 
 pub insert-requires : goal.insert-requires
@@ -34,5 +34,5 @@ unfolding shared_documents
 returns-in_ok-insert-in-Err-clause-put c =
     let gap = carried IsGap c.deref.ensures.value c.canonical.ensures c.deref-2.ensures c.in-Err.ensures.absent in
     ap shared_documents c.in_ok-insert-in-Err.ensures.items
-    ∙ map-insert (λ (d : Rc Compiled Global). compiled_document d.value) c.args.documents.now.items c.in-Err.at c.args.document
-    ∙ gap.put (compiled_document c.args.document.value) refl
+    ∙ map-insert (λ (d : Rc Compiled Global). compiled_view d.value) c.args.documents.now.items c.in-Err.at c.args.document
+    ∙ gap.put (compiled_view c.args.document.value) refl

@@ -8,7 +8,7 @@ use Rattle.definitions.specs.Uris.{without_fragment}
 use Rattle.definitions.specs.Schemas.{Document}
 use Rattle.definitions.specs.Reach.{holds_resource, references_in}
 use Rattle.lemmas.proofs.Lists.{map-take_more}
-use Rattle.schema_scan.specs.CompiledDocuments.{compiled_document}
+use Rattle.schema_scan.specs.CompiledDocuments.{compiled_view}
 use Rattle.linker.specs.SharedDocuments.{shared_documents}
 use Rattle.linker.specs.Visits.{Adds, IsPart}
 use Rattle.linker.proofs.Visits.{adds_none, adds_then, part_after}
@@ -59,7 +59,7 @@ loop-reference-preserved g c =
 pub returns-clause-ok : goal.returns-clause-ok
 returns-clause-ok g c =
     let items : List (String Global) = c.references-reference-items.result.now in
-    let whole : map string_bytes (take c.loop-reference.reference-index items) ≡ references_in (compiled_document c.args.document.now) =
+    let whole : map string_bytes (take c.loop-reference.reference-index items) ≡ references_in (compiled_view c.args.document.now) =
     ap (map string_bytes) (take_all c.loop-reference.reference-index items c.loop-reference-test.false) ∙ c.references-reference-items.ensures in
     subst (λ rs. Adds (g.S.Source.documents c.args.source.now) (named_by rs) (shared_documents c.args.reached.now.items) (shared_documents c.args.waiting.now.items)
     (shared_documents c.loop-reference.reached.items) (shared_documents c.loop-reference.waiting.items)) whole c.loop-reference.invariant.adds

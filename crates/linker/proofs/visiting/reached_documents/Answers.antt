@@ -1,6 +1,6 @@
 use Rattle.std.proofs.Common.{◌≡◌, [], length, ap, sym, ◌∙◌, subst, arith}
 use Rattle.definitions.specs.Reach.{holds_resource, refers_to}
-use Rattle.schema_scan.specs.CompiledDocuments.{compiled_document}
+use Rattle.schema_scan.specs.CompiledDocuments.{compiled_view}
 use Rattle.linker.specs.SharedDocuments.{shared_documents}
 use Rattle.linker.specs.Visits.{Adds, AreCompound, IsPart}
 use Rattle.linker.proofs.Compound.{none_compound}
@@ -41,7 +41,7 @@ loop-document-init g c =
 pub loop-document-smaller : goal.loop-document-smaller
 loop-document-smaller g c =
     let all = g.S.Source.documents c.args.source.now in
-    let d = compiled_document c.deref.result.now in
+    let d = compiled_view c.deref.result.now in
     let adds : Adds all (refers_to d) (shared_documents c.loop-document.reached.items) (shared_documents c.pop.new.self.items) (shared_documents c.follow.new.reached.items) (shared_documents c.follow.new.waiting.items) =
     subst (λ ds. Adds ds (refers_to d) (shared_documents c.loop-document.reached.items) (shared_documents c.pop.new.self.items) (shared_documents c.follow.new.reached.items) (shared_documents c.follow.new.waiting.items))
     c.loop-document.invariant.same c.in_ok-follow.ensures.ok in
@@ -60,10 +60,10 @@ loop-document-smaller g c =
 pub loop-document-preserved : goal.loop-document-preserved
 loop-document-preserved g c =
     let all = g.S.Source.documents c.args.source.now in
-    let d = compiled_document c.in-Some.document.value in
-    let here = subst (λ ds. Adds ds (refers_to (compiled_document c.deref.result.now)) (shared_documents c.loop-document.reached.items) (shared_documents c.pop.new.self.items) (shared_documents c.follow.new.reached.items) (shared_documents c.follow.new.waiting.items))
+    let d = compiled_view c.in-Some.document.value in
+    let here = subst (λ ds. Adds ds (refers_to (compiled_view c.deref.result.now)) (shared_documents c.loop-document.reached.items) (shared_documents c.pop.new.self.items) (shared_documents c.follow.new.reached.items) (shared_documents c.follow.new.waiting.items))
     c.loop-document.invariant.same c.in_ok-follow.ensures.ok in
-    let adds = subst (λ e. Adds all (refers_to (compiled_document e)) (shared_documents c.loop-document.reached.items) (shared_documents c.pop.new.self.items) (shared_documents c.follow.new.reached.items) (shared_documents c.follow.new.waiting.items))
+    let adds = subst (λ e. Adds all (refers_to (compiled_view e)) (shared_documents c.loop-document.reached.items) (shared_documents c.pop.new.self.items) (shared_documents c.follow.new.reached.items) (shared_documents c.follow.new.waiting.items))
     c.deref.ensures here in
     record {
       same = c.in_ok-follow.ensures.same ∙ c.loop-document.invariant.same;

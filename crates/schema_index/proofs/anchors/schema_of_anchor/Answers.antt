@@ -5,7 +5,7 @@ use Rattle.definitions.specs.Values.{Text, Value}
 use Rattle.json_doc.specs.Docs.{value}
 use Rattle.locations.specs.Steps.{tokens}
 use Rattle.schema_index.specs.Hops.{follow, hop_tokens}
-use Rattle.schema_index.specs.Lookups.{marked}
+use Rattle.schema_index.specs.Lookups.{marked_schema}
 use Rattle.schema_index.specs.Ways.{owned_hops}
 use Rattle.schema_index.proofs.Marked.{tokens-hops}
 use Rattle.schema_index.proofs.anchors.schema_of_anchor.Goals as goal
@@ -14,7 +14,7 @@ abbrev schema_with : Text → Pointer → Value → Schema
 schema_with uri p v = record { resource = uri; pointer = p; value = v }
 
 pub returns-in_ok-steps_after-in-Some : goal.returns-in_ok-steps_after-in-Some
-unfolding marked
+unfolding marked_schema
 returns-in_ok-steps_after-in-Some c =
     let anchor = c.args.anchor.now in
     let document = value c.args.document.now in

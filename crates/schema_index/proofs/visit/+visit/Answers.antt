@@ -2,7 +2,7 @@ use Rattle.std.proofs.Common.{◌≡◌, ◌++◌, ◌∷◌, [], ◌+◌, List,
 use Rattle.std.proofs.lemmas.List.{drop_more, length-map}
 use Rattle.std.specs.Result.{OnOk}
 use Rattle.definitions.specs.Uris.{without_fragment}
-use Rattle.definitions.specs.Resolution.{resolved}
+use Rattle.definitions.specs.Resolution.{target_uri}
 use Rattle.definitions.specs.Values.{to_elements, to_members, elements_nesting, members_nesting}
 use Rattle.json_doc.specs.Docs.{value, members_view}
 use Rattle.json_doc.specs.Members.{members_left}
@@ -106,7 +106,7 @@ visit_schema-returns-in-Ok-clause-gathers t c =
     let base = c.args.base.now in
     let v = value c.args.schema.now in
     let here : length way ≡ c.len-here.result = omega (arith, length-map c.args.way.now.items step_hop) in
-    let uri : without_fragment (resolved base c.in-Some.id.now) ≡ c.as_str.result.now = sym (c.as_str.ensures.value ∙ c.in-Ok.ensures) in
+    let uri : without_fragment (target_uri base c.in-Some.id.now) ≡ c.as_str.result.now = sym (c.as_str.ensures.value ∙ c.in-Ok.ensures) in
     subst (λ ss. OnOk c.visit_in_resource.result (Gathers c.args.gathered.now c.visit_in_resource.new.gathered ss))
     (sym (spots-by way c.args.start base v (Some c.in-Some.id.now) (sym c.in-Some.ensures) ∙ ap₂ (λ n u. spots_from way n u v) here uri))
     c.visit_in_resource.ensures.gathers

@@ -3,7 +3,7 @@ use Rattle.definitions.specs.Values.{is_object, nesting, same_text}
 use Rattle.definitions.specs.Lists.{has_repeat}
 use Rattle.definitions.specs.Scanning.{same_anchor}
 use Rattle.definitions.specs.Uris.{recompose}
-use Rattle.faults.specs.View.{fault}
+use Rattle.faults.specs.View.{fault_view}
 use Rattle.json_doc.specs.Docs.{value}
 use Rattle.schema_scan.specs.Missteps.{missteps}
 use Rattle.schema_scan.specs.Names.{uris_opened, anchors_in}
@@ -25,7 +25,7 @@ returns-in-Err-clause-err c =
     let dict : is_object v ≡ true = cc in
     let flat : nesting v ≤ 120 = omega arith in
     let refused : Refuses c.in-Err.refusal (missteps b true v) = subst (λ base. Refuses c.in-Err.refusal (missteps base true v)) base_is c.in-Err.ensures.refused in
-    fault_of_misstep b v dict flat (fault c.fault.result) (c.fault.ensures (missteps b true v) refused is_found)
+    fault_of_misstep b v dict flat (fault_view c.fault.result) (c.fault.ensures (missteps b true v) refused is_found)
 
 pub returns-then-branch-clause-err : goal.returns-then-branch-clause-err
 returns-then-branch-clause-err c =

@@ -3,7 +3,7 @@ use Rattle.std.proofs.lemmas.List.{take_all}
 use Rattle.lemmas.proofs.Options.{some_from_is_some}
 use Rattle.definitions.specs.Values.{Text}
 use Rattle.stored_documents.specs.Claims.{claim_of, claims_in}
-use Rattle.stored_documents.specs.StoredDocuments.{stored_document}
+use Rattle.stored_documents.specs.StoredDocuments.{stored_view}
 use Rattle.stored_documents.proofs.MadeClaims.{claims_taken, last_or_before, none_in}
 use Rattle.stored_documents.proofs.claims.claim_unclaimed.Goals as goal
 
@@ -14,7 +14,7 @@ pub loop-claim-preserved : goal.loop-claim-preserved
 loop-claim-preserved c =
     let l = c.loop-claim in
     let p = c.claim-item.result in
-    let own : Text × Text = (string_bytes p.0, (stored_document p.1.value).canonical) in
+    let own : Text × Text = (string_bytes p.0, (stored_view p.1.value).canonical) in
     record {
       kept = λ u t h. c.claim_where_none.ensures.kept u t (l.invariant.kept u t h);
       so_far = λ u t h.

@@ -2,7 +2,7 @@ use Rattle.std.proofs.Common.{◌++◌, ap, sym, ◌∙◌}
 use Rattle.std.proofs.lemmas.List.{take_all}
 use Rattle.stored_documents.specs.Claims.{claims_in, claims_of, own_claims}
 use Rattle.stored_documents.specs.SharedStored.{stored_documents}
-use Rattle.stored_documents.specs.StoredDocuments.{stored_document}
+use Rattle.stored_documents.specs.StoredDocuments.{stored_view}
 use Rattle.stored_documents.proofs.MadeClaims.{claims_of_taken, none_to_make}
 use Rattle.stored_documents.proofs.claims.claims_to_make.Goals as goal
 
@@ -12,7 +12,7 @@ loop-document-init c = ap claims_in c.new-made.ensures.items ∙ none_to_make
 pub loop-document-preserved : goal.loop-document-preserved
 loop-document-preserved c =
     let l = c.loop-document in
-    let own = own_claims (stored_document c.document-item.result.value) in
+    let own = own_claims (stored_view c.document-item.result.value) in
     c.in_ok-push_claims.ensures
     ∙ ap (λ ps. ps ++ own) l.invariant
     ∙ sym (claims_of_taken c.args.documents.now l.document-index c.document-item.result c.loop-document-test.true c.document-item.is)

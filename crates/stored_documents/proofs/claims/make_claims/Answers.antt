@@ -3,7 +3,7 @@ use Rattle.std.proofs.lemmas.List.{nil_from_length}
 use Rattle.std.specs.Vec.Iter.{into_iter_items}
 use Rattle.definitions.specs.Values.{same_text}
 use Rattle.stored_documents.specs.Claims.{claim_of, claims_in, last_claim}
-use Rattle.stored_documents.specs.StoredDocuments.{stored_document}
+use Rattle.stored_documents.specs.StoredDocuments.{stored_view}
 use Rattle.stored_documents.proofs.MadeClaims.{none_made, claims_pushed, made_one_more}
 use Rattle.stored_documents.proofs.claims.make_claims.Goals as goal
 
@@ -21,7 +21,7 @@ loop-claim-preserved c =
     let l = c.loop-claim in
     let step = c.in-Some.ensures.steps.0 in
     let own = string_bytes c.in-Some.claim.0 in
-    let canonical = (stored_document c.in-Some.claim.1.value).canonical in
+    let canonical = (stored_view c.in-Some.claim.1.value).canonical in
     record {
       all = append_assoc l.yielded (c.in-Some.claim ∷ []) _ ∙ rw (← step) l.invariant.all;
       left =

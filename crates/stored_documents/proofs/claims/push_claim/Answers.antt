@@ -1,6 +1,6 @@
 use Rattle.std.proofs.Common.{◌++◌, ◌∷◌, [], ap, ap₂, ◌∙◌}
 use Rattle.stored_documents.specs.Claims.{claims_in}
-use Rattle.stored_documents.specs.StoredDocuments.{stored_document}
+use Rattle.stored_documents.specs.StoredDocuments.{stored_view}
 use Rattle.stored_documents.proofs.MadeClaims.{claims_pushed}
 use Rattle.stored_documents.proofs.claims.push_claim.Goals as goal
 
@@ -9,4 +9,4 @@ returns c =
     let before = claims_in c.args.made.now.items in
     ap claims_in c.in_ok-push.ensures.items
     ∙ claims_pushed c.args.made.now.items (c.in_ok-own_uri.own_uri, c.in_ok-own_document.own_document)
-    ∙ ap₂ (λ u s. before ++ (u, (stored_document s).canonical) ∷ []) c.in_ok-own_uri.ensures.ok c.in_ok-own_document.ensures.cases
+    ∙ ap₂ (λ u s. before ++ (u, (stored_view s).canonical) ∷ []) c.in_ok-own_uri.ensures.ok c.in_ok-own_document.ensures.cases

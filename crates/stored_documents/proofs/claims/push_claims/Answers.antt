@@ -5,7 +5,7 @@ use Rattle.std.specs.declared.string.String.{String}
 use Rattle.definitions.specs.Documents.{resources_of}
 use Rattle.definitions.specs.Values.{Text}
 use Rattle.stored_documents.specs.Claims.{claims_in, own_claims}
-use Rattle.stored_documents.specs.StoredDocuments.{stored_document}
+use Rattle.stored_documents.specs.StoredDocuments.{stored_view}
 use Rattle.stored_documents.proofs.MadeClaims.{uris_claimed}
 use Rattle.stored_documents.proofs.claims.push_claims.Goals as goal
 
@@ -16,7 +16,7 @@ pub loop-uri-preserved : goal.loop-uri-preserved
 loop-uri-preserved c =
     let l = c.loop-uri in
     let before = claims_in c.args.made.now.items in
-    let canonical = (stored_document c.args.document.now.value).canonical in
+    let canonical = (stored_view c.args.document.now.value).canonical in
     let items : List (String Global) = c.resource_uris-uri-items.result.now in
     let paired : Text → Text × Text = λ u. (u, canonical) in
     let part = map paired (map string_bytes (take l.uri-index items)) in
@@ -30,9 +30,9 @@ pub returns : goal.returns
 unfolding own_claims
 returns c =
     let before = claims_in c.args.made.now.items in
-    let canonical = (stored_document c.args.document.now.value).canonical in
+    let canonical = (stored_view c.args.document.now.value).canonical in
     let items : List (String Global) = c.resource_uris-uri-items.result.now in
     let paired : Text → Text × Text = λ u. (u, canonical) in
     c.loop-uri.invariant
     ∙ ap (λ (us : List Text). before ++ map paired us)
-    (ap (map string_bytes) (take_all c.loop-uri.uri-index items c.loop-uri-test.false) ∙ c.resource_uris-uri-items.ensures ∙ ap (λ s. resources_of (stored_document s)) c.deref.ensures)
+    (ap (map string_bytes) (take_all c.loop-uri.uri-index items c.loop-uri-test.false) ∙ c.resource_uris-uri-items.ensures ∙ ap (λ s. resources_of (stored_view s)) c.deref.ensures)

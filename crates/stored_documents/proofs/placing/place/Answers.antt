@@ -9,7 +9,7 @@ use Rattle.lemmas.proofs.Lists.{map-insert}
 use Rattle.linker.specs.Positions.{StandsAt, IsGap}
 use Rattle.linker.proofs.Positions.{absent_unfound}
 use Rattle.stored_documents.specs.SharedStored.{stored_documents}
-use Rattle.stored_documents.specs.StoredDocuments.{stored_document}
+use Rattle.stored_documents.specs.StoredDocuments.{stored_view}
 use Rattle.stored_documents.specs.declared.stored.Stored.{Stored}
 use Rattle.stored_documents.proofs.PlacedThere.{put_instead}
 use Rattle.stored_documents.proofs.StandingDocuments.{stored_as_long, stored_standing}
@@ -17,9 +17,9 @@ use Rattle.stored_documents.proofs.placing.place.Goals as goal
 
 -- what a search in the same list for the same URI says
 carried : (P : List Document → Text → ℕ → Type 0) {items others : List (Rc Stored Global)} {d e : Stored} {uri : Text} {at : ℕ}
-    → items ≡ others → uri ≡ (stored_document d).canonical → d ≡ e → P (stored_documents items) uri at → P (stored_documents others) (stored_document e).canonical at
+    → items ≡ others → uri ≡ (stored_view d).canonical → d ≡ e → P (stored_documents items) uri at → P (stored_documents others) (stored_view e).canonical at
 carried P {items} {others} {d} {e} {uri} {at} same is moved p =
-    subst (λ x. P (stored_documents others) (stored_document x).canonical at) moved
+    subst (λ x. P (stored_documents others) (stored_view x).canonical at) moved
     (subst (λ u. P (stored_documents others) u at) is (subst (λ xs. P (stored_documents xs) uri at) same p))
 
 pub insert-requires : goal.insert-requires
@@ -33,23 +33,23 @@ unfolding stored_documents
 returns-in-Ok-clause-placed c =
     let items = c.args.documents.now.items in
     let stands = carried StandsAt c.deref.ensures.value c.canonical.ensures c.deref-2.ensures c.in-Ok.ensures.found in
-    map-set (λ (s : Rc Stored Global). stored_document s.value) items c.in-Ok.at c.replace.new.dest
-    ∙ ap (λ (s : Rc Stored Global). set (stored_documents items) c.in-Ok.at (stored_document s.value)) c.replace.ensures.after
-    ∙ put_instead (stored_document c.args.document.value) (stored_documents items) c.in-Ok.at c.requires stands
+    map-set (λ (s : Rc Stored Global). stored_view s.value) items c.in-Ok.at c.replace.new.dest
+    ∙ ap (λ (s : Rc Stored Global). set (stored_documents items) c.in-Ok.at (stored_view s.value)) c.replace.ensures.after
+    ∙ put_instead (stored_view c.args.document.value) (stored_documents items) c.in-Ok.at c.requires stands
 
 pub returns-in-Ok-clause-replaced : goal.returns-in-Ok-clause-replaced
 returns-in-Ok-clause-replaced c =
     let stands = carried StandsAt c.deref.ensures.value c.canonical.ensures c.deref-2.ensures c.in-Ok.ensures.found in
-    sym (stored_standing c.args.documents.now.items (stored_document c.args.document.value).canonical c.in-Ok.at c.index_mut.result.now c.requires stands c.index_mut.ensures.value
-    ∙ ap (λ (s : Rc Stored Global). Some (stored_document s.value)) (sym c.replace.ensures.value))
+    sym (stored_standing c.args.documents.now.items (stored_view c.args.document.value).canonical c.in-Ok.at c.index_mut.result.now c.requires stands c.index_mut.ensures.value
+    ∙ ap (λ (s : Rc Stored Global). Some (stored_view s.value)) (sym c.replace.ensures.value))
 
 pub returns-in_ok-insert-in-Err-clause-placed : goal.returns-in_ok-insert-in-Err-clause-placed
 unfolding stored_documents
 returns-in_ok-insert-in-Err-clause-placed c =
     let gap = carried IsGap c.deref.ensures.value c.canonical.ensures c.deref-2.ensures c.in-Err.ensures.absent in
     ap stored_documents c.in_ok-insert-in-Err.ensures.items
-    ∙ map-insert (λ (s : Rc Stored Global). stored_document s.value) c.args.documents.now.items c.in-Err.at c.args.document
-    ∙ gap.put (stored_document c.args.document.value) refl
+    ∙ map-insert (λ (s : Rc Stored Global). stored_view s.value) c.args.documents.now.items c.in-Err.at c.args.document
+    ∙ gap.put (stored_view c.args.document.value) refl
 
 pub returns-in_ok-insert-in-Err-clause-replaced : goal.returns-in_ok-insert-in-Err-clause-replaced
 returns-in_ok-insert-in-Err-clause-replaced c =

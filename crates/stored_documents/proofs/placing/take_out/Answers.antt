@@ -4,7 +4,7 @@ use Rattle.std.specs.declared.rc.Rc.{Rc}
 use Rattle.linker.specs.Positions.{StandsAt, IsGap}
 use Rattle.linker.proofs.Positions.{absent_unfound}
 use Rattle.stored_documents.specs.SharedStored.{stored_documents}
-use Rattle.stored_documents.specs.StoredDocuments.{stored_document}
+use Rattle.stored_documents.specs.StoredDocuments.{stored_view}
 use Rattle.stored_documents.specs.declared.stored.Stored.{Stored}
 use Rattle.stored_documents.proofs.PlacedThere.{left_out, none_left_out, map-remove}
 use Rattle.stored_documents.proofs.StandingDocuments.{stored_as_long, stored_standing}
@@ -19,7 +19,7 @@ returns-in-Ok-clause-others c =
     let items = c.args.documents.now.items in
     let stands = subst (λ ss. StandsAt (stored_documents ss) c.args.uri.now c.in-Ok.at) c.deref.ensures.value c.in-Ok.ensures.found in
     ap stored_documents c.remove.ensures.items
-    ∙ map-remove (λ (s : Rc Stored Global). stored_document s.value) items c.in-Ok.at
+    ∙ map-remove (λ (s : Rc Stored Global). stored_view s.value) items c.in-Ok.at
     ∙ left_out c.args.uri.now (stored_documents items) c.in-Ok.at c.requires stands
 
 pub returns-in-Ok-clause-taken : goal.returns-in-Ok-clause-taken

@@ -2,7 +2,7 @@ use Rattle.std.proofs.Common.{◌≡◌, ◌+◌, ◌≤◌, ◌++◌, [], ◌�
 use Rattle.std.proofs.lemmas.List.{nil_from_length}
 use Rattle.std.specs.Prelude.{vec_capacity}
 use Rattle.std.specs.Vec.Iter.{into_iter_items}
-use Rattle.definitions.specs.Documents.{bytes_of, canonicals, placed_all}
+use Rattle.definitions.specs.Documents.{bytes_of, canonicals, documents_with_all}
 use Rattle.definitions.specs.Lists.{has_repeat}
 use Rattle.definitions.specs.Values.{same_text}
 use Rattle.stored_documents.specs.SharedStored.{stored_documents}
@@ -75,7 +75,7 @@ returns c =
     let none : into_iter_items l.document-iterator ≡ [] = nil_from_length _ (sym l.invariant.left ∙ c.in-None.ensures.steps.0) in
     let all : l.yielded ≡ c.args.documents.items = sym (append-nil l.yielded) ∙ rw none at l.invariant.all ∙ c.into_iter-document-iterator.ensures.into_iter_gives.0 in
     record {
-      placed = l.invariant.so_far.placed ∙ ap (λ ss. placed_all (stored_documents ss) before) all;
+      placed = l.invariant.so_far.placed ∙ ap (λ ss. documents_with_all (stored_documents ss) before) all;
       bytes = l.invariant.so_far.bytes ∙ ap (λ ss. bytes_of before + bytes_of (stored_documents ss)) all;
       within = replaced_within l.yielded [] before (stored_documents l.stored.items) l.replaced c.requires.ascend
           (subst (λ ss. has_repeat same_text (canonicals (stored_documents ss)) ≡ false) (sym (append-nil l.yielded ∙ all)) c.requires.once) l.invariant.so_far;

@@ -3,7 +3,7 @@ use Rattle.std.proofs.lemmas.List.{take_all}
 use Rattle.definitions.specs.Documents.{bytes_of}
 use Rattle.definitions.specs.Texts.{text}
 use Rattle.stored_documents.specs.SharedStored.{stored_documents}
-use Rattle.stored_documents.specs.StoredDocuments.{stored_document}
+use Rattle.stored_documents.specs.StoredDocuments.{stored_view}
 use Rattle.stored_documents.proofs.PutTogether.{fits_sum, stored_bytes_more, stored_bytes_within}
 use Rattle.stored_documents.proofs.together.total_length.Goals as goal
 
@@ -12,7 +12,7 @@ overflow_add-total c =
     let i = c.loop-document.document-index in
     let s = c.document-item.result in
     fits_sum _ (bytes_of (stored_documents (take (i + 1) c.args.documents.now))) (bytes_of (stored_documents c.args.documents.now))
-    (ap₂ (λ n m. n + m) c.loop-document.invariant (c.length.ensures ∙ ap (λ x. length (text (stored_document x).value)) c.deref.ensures)
+    (ap₂ (λ n m. n + m) c.loop-document.invariant (c.length.ensures ∙ ap (λ x. length (text (stored_view x).value)) c.deref.ensures)
     ∙ sym (stored_bytes_more c.args.documents.now i s c.loop-document-test.true c.document-item.is))
     (stored_bytes_within c.args.documents.now (i + 1)) c.requires
 
@@ -24,7 +24,7 @@ pub loop-document-preserved : goal.loop-document-preserved
 loop-document-preserved c =
     let i = c.loop-document.document-index in
     let s = c.document-item.result in
-    ap₂ (λ n m. n + m) c.loop-document.invariant (c.length.ensures ∙ ap (λ x. length (text (stored_document x).value)) c.deref.ensures)
+    ap₂ (λ n m. n + m) c.loop-document.invariant (c.length.ensures ∙ ap (λ x. length (text (stored_view x).value)) c.deref.ensures)
     ∙ sym (stored_bytes_more c.args.documents.now i s c.loop-document-test.true c.document-item.is)
 
 pub returns : goal.returns

@@ -4,7 +4,7 @@ use Rattle.definitions.specs.Documents.{is_faultless, resources_of, resource_uri
 use Rattle.definitions.specs.Values.{Text}
 use Rattle.lemmas.proofs.Lists.{flat_map-push}
 use Rattle.linker.specs.SharedDocuments.{shared_documents}
-use Rattle.schema_scan.specs.CompiledDocuments.{compiled_document}
+use Rattle.schema_scan.specs.CompiledDocuments.{compiled_view}
 use Rattle.tenant_documents.proofs.LibraryDocuments.{all_more, none_shared, shared_more}
 use Rattle.tenant_documents.proofs.library_uris.resource_uris.Goals as goal
 
@@ -17,15 +17,15 @@ loop-document-init c = record {
 pub loop-document-preserved : goal.loop-document-preserved
 loop-document-preserved c =
     let before = shared_documents (take c.loop-document.document-index c.args.documents.now) in
-    let here = compiled_document c.document-item.result.value in
+    let here = compiled_view c.document-item.result.value in
     let more = shared_more c.args.documents.now c.loop-document.document-index c.document-item.result c.loop-document-test.true c.document-item.is in
     record {
       uris = c.in_ok-push_texts.ensures
           ∙ ap₂ (λ us vs. us ++ vs) c.loop-document.invariant.uris
-          (c.resource_uris_in.ensures.uris ∙ ap (λ d. resources_of (compiled_document d)) c.deref.ensures)
+          (c.resource_uris_in.ensures.uris ∙ ap (λ d. resources_of (compiled_view d)) c.deref.ensures)
           ∙ sym (flat_map-push resources_of before here)
           ∙ ap resource_uris_of (sym more);
       faultless = ap (list_all is_faultless) more
           ∙ all_more is_faultless before here c.loop-document.invariant.faultless
-          (subst (λ d. is_faultless (compiled_document d) ≡ true) c.deref.ensures c.resource_uris_in.ensures.faultless);
+          (subst (λ d. is_faultless (compiled_view d) ≡ true) c.deref.ensures c.resource_uris_in.ensures.faultless);
     }

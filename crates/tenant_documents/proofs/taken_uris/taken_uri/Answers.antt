@@ -7,7 +7,7 @@ use Rattle.definitions.specs.Reach.{holds_resource, least, lesser}
 use Rattle.definitions.specs.Registries.{documents_seen}
 use Rattle.definitions.specs.Values.{Text}
 use Rattle.lemmas.proofs.Lists.{map-take_more}
-use Rattle.stored_documents.specs.StoredDocuments.{stored_document}
+use Rattle.stored_documents.specs.StoredDocuments.{stored_view}
 use Rattle.tenant_documents.specs.Registries.{registry_view}
 use Rattle.tenant_documents.proofs.LeastTaken.{least_filtered}
 use Rattle.tenant_documents.proofs.taken_uris.taken_uri.Goals as goal
@@ -19,7 +19,7 @@ pub loop-uri-preserved : goal.loop-uri-preserved
 loop-uri-preserved c =
     let seen = documents_seen (registry_view c.args.registry.now) in
     let items : List (String Global) = c.resource_uris-uri-items.result.now in
-    let named = (stored_document c.args.document.now).canonical in
+    let named = (stored_view c.args.document.now).canonical in
     let p = λ (u : Text). list_any (holds_resource u) (others_of named seen) in
     let s = string_bytes c.uri-item.result in
     let so_far = option_map (λ t. t.now) c.loop-uri.least in
@@ -35,8 +35,8 @@ pub returns-clause-ok : goal.returns-clause-ok
 returns-clause-ok c =
     let seen = documents_seen (registry_view c.args.registry.now) in
     let items : List (String Global) = c.resource_uris-uri-items.result.now in
-    let named = (stored_document c.args.document.now).canonical in
+    let named = (stored_view c.args.document.now).canonical in
     let p = λ (u : Text). list_any (holds_resource u) (others_of named seen) in
-    let whole : map string_bytes (take c.loop-uri.uri-index items) ≡ resources_of (stored_document c.args.document.now) =
+    let whole : map string_bytes (take c.loop-uri.uri-index items) ≡ resources_of (stored_view c.args.document.now) =
     ap (map string_bytes) (take_all c.loop-uri.uri-index items c.loop-uri-test.false) ∙ c.resource_uris-uri-items.ensures in
     c.loop-uri.invariant ∙ ap (λ us. least (filter p us)) whole

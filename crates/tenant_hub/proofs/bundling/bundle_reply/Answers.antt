@@ -1,6 +1,6 @@
 use Rattle.std.proofs.Common.{string_bytes}
 use Rattle.definitions.specs.Registries.{bundled, bundled_from, refused}
-use Rattle.faults.specs.View.{fault}
+use Rattle.faults.specs.View.{fault_view}
 use Rattle.tenant_hub.proofs.BundleReplies.{bundle_answer}
 use Rattle.tenant_hub.proofs.Refusals.{refusal}
 use Rattle.tenant_hub.proofs.bundling.bundle_reply.Goals as goal
@@ -12,4 +12,4 @@ returns-in-Ok-clause-answer g c = λ r e.
 pub returns-in-Err-clause-answer : goal.returns-in-Err-clause-answer
 returns-in-Err-clause-answer g c = λ r e.
     refusal r (bundled_from c.args.uri.now) c.in-Err.fault (λ other.
-    bundle_answer r (g.S.Source.documents c.args.source.now) c.args.uri.now (refused (fault c.in-Err.fault)) e (c.in-Err.ensures.err other))
+    bundle_answer r (g.S.Source.documents c.args.source.now) c.args.uri.now (refused (fault_view c.in-Err.fault)) e (c.in-Err.ensures.err other))

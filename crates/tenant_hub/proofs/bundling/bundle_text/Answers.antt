@@ -3,7 +3,7 @@ use Rattle.std.proofs.lemmas.Result.{IfOk-weaker, err_from_is_err_and}
 use Rattle.definitions.specs.Reach.{reach}
 use Rattle.definitions.specs.Registries.{bundled}
 use Rattle.definitions.specs.Resolution.{base_form}
-use Rattle.faults.specs.View.{fault}
+use Rattle.faults.specs.View.{fault_view}
 use Rattle.json_doc.specs.Docs.{value}
 use Rattle.linker.specs.LinkFaults.{link_fault}
 use Rattle.linker.specs.LinkedDocuments.{linked_uri, linked_documents}
@@ -40,7 +40,7 @@ returns-in_err-whole-clause-err g c =
     let uri = c.as_str-2.ensures.value ∙ sym c.as_str.ensures.value in
     let same = ap₂ reach c.in_ok-has_document.ensures.same uri in
     rw (p.1, p.2) (λ other.
-    bundled_as ds (base_form c.args.uri.now) b c.in_ok-has_document.field-0 (linked_documents l) (linked_uri l) (Err (fault _))
+    bundled_as ds (base_form c.args.uri.now) b c.in_ok-has_document.field-0 (linked_documents l) (linked_uri l) (Err (fault_view _))
     (c.in_ok-base.ensures.ok ∙ ap Ok (sym c.as_str.ensures.value)) c.in_ok-has_document.ensures.ok c.if-not-branch.false
     (ap link_fault (sym same) ∙ c.in_ok-linked.ensures.ok) (c.in_ok-linked.ensures.documents ∙ same) (c.in_ok-linked.ensures.uri ∙ uri)
     (c.in_err-whole.ensures.err other))

@@ -4,7 +4,7 @@ use Rattle.std.specs.Prelude.{nat_lt}
 use Rattle.std.specs.List.{list_all}
 use Rattle.basic_output.specs.Entries.{entry_view, fits}
 use Rattle.basic_output.specs.Kept.{reach_before}
-use Rattle.basic_output.specs.Units.{kept, kept_for}
+use Rattle.basic_output.specs.Units.{kept_for, kept_view}
 use Rattle.basic_output.proofs.KeptLaws.{all_take, cut_fits, cut_views, if_true, lt_true, number_fits, reached_cut}
 use Rattle.basic_output.proofs.units.Units.cut_back.Goals as goal
 
@@ -44,4 +44,4 @@ returns-then-mark-len-clause-kept c =
     let less : nat_lt m (length old.entries.items) ≡ true = lt_true m (length old.entries.items) (omega (arith, c.if-mark-len.true, c.len.ensures, old.entries.ok.0)) in
     let number : c.reach_before-steps.result ≡ reach_before old.reach.items m = c.reach_before-steps.ensures ∙ ap (λ r. reach_before r m) c.as_slice.ensures.value in
     ap₂ (λ xs ns. (xs, ns)) (c.truncate-then-mark-len.ensures.items ∙ ap (λ n. take n old.steps.items) number) c.truncate-then-mark-len-2.ensures.items
-    ∙ sym (if_true (nat_lt m (length old.entries.items)) _ (kept old) less) ∙ ap (λ k. kept_for k old) c.mark.view_is
+    ∙ sym (if_true (nat_lt m (length old.entries.items)) _ (kept_view old) less) ∙ ap (λ k. kept_for k old) c.mark.view_is

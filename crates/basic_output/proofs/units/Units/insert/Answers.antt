@@ -1,7 +1,7 @@
 use Rattle.std.proofs.Common.{◌≡◌, ◌≤◌, suc, min, true, get_or, is_ok, length, map, take, ap, ◌∙◌, arith}
 use Rattle.std.specs.List.{list_all, insert}
 use Rattle.basic_output.specs.Entries.{entry_view, fits}
-use Rattle.basic_output.specs.Kept.{raised}
+use Rattle.basic_output.specs.Kept.{raised_reach}
 use Rattle.basic_output.specs.Sayings.{unit_at}
 use Rattle.basic_output.proofs.KeptLaws.{AreKept, all_more, grown_length, grown_views, inserted, inserted_views, on_err}
 use Rattle.basic_output.proofs.units.Units.insert.Goals as goal
@@ -45,7 +45,7 @@ invariant_of-self-2 c =
     let place = c.min-place.result in
     let within : place ≤ length es = omega (arith, c.min-place.ensures, c.len.ensures, old.entries.ok.0) in
     let all : list_all (fits n) es ≡ true = all_more (length old.steps.items) n es (grown_length old.steps.items steps.items c.in_ok-entry.ensures.grows) old.within in
-    let grown : c.raise.new.reach.items ≡ raised old.reach.items place n = c.in_ok-raise.ensures.ok ∙ ap (raised old.reach.items place) (c.len-2.ensures ∙ steps.ok.0) in
+    let grown : c.raise.new.reach.items ≡ raised_reach old.reach.items place n = c.in_ok-raise.ensures.ok ∙ ap (raised_reach old.reach.items place) (c.len-2.ensures ∙ steps.ok.0) in
     let kept : AreKept n c.insert.new.self.items c.raise.new.reach.items =
     inserted (is_ok c.insert.result) es c.insert.new.self.items c.in_ok-entry.entry old.reach.items c.raise.new.reach.items place n within old.covered old.reached all c.in_ok-entry.ensures.fits c.insert.ensures.items grown in
     record { within = kept.within; covered = kept.covered; reached = kept.reached }

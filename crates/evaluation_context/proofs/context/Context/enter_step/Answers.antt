@@ -2,20 +2,20 @@ use Rattle.std.proofs.Common.{refl, sym, ap, ◌∙◌}
 use Rattle.std.proofs.lemmas.List.{map_push}
 use Rattle.locations.specs.Steps.{token, tokens}
 use Rattle.keyword_plans.specs.Plans.{step_view}
-use Rattle.evaluation_context.specs.Frames.{frame}
-use Rattle.evaluation_context.specs.Moves.{stepped}
+use Rattle.evaluation_context.specs.Frames.{context_view}
+use Rattle.evaluation_context.specs.Moves.{frame_below}
 use Rattle.evaluation_context.proofs.FrameLaws.{same_frames, stepped_nowhere}
 use Rattle.evaluation_context.proofs.context.Context.enter_step.Goals as goal
 
 pub returns-in_ok-push-in-Some-2 : goal.returns-in_ok-push-in-Some-2
-unfolding frame stepped
+unfolding context_view frame_below
 returns-in_ok-push-in-Some-2 c =
     let old = c.args.self.now in
     same_frames (ap tokens c.in_ok-push-in-Some.ensures.items ∙ map_push token old.path.items _) c.in_ok-push-in-Some-2.ensures.outer refl c.in_ok-push-in-Some-2.ensures.last refl refl refl
-    ∙ ap (λ o. stepped (step_view o) (frame old)) (sym c.in-Some.is)
+    ∙ ap (λ o. frame_below (step_view o) (context_view old)) (sym c.in-Some.is)
 
 pub returns-in-None : goal.returns-in-None
-unfolding frame
+unfolding context_view
 returns-in-None c =
     let old = c.args.self.now in
-    stepped_nowhere (frame old) ∙ ap (λ o. stepped (step_view o) (frame old)) (sym c.in-None.is)
+    stepped_nowhere (context_view old) ∙ ap (λ o. frame_below (step_view o) (context_view old)) (sym c.in-None.is)

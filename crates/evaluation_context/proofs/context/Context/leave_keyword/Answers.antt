@@ -1,11 +1,11 @@
 use Rattle.std.proofs.Common.{ap, ◌∙◌}
 use Rattle.locations.specs.Steps.{token}
-use Rattle.evaluation_context.specs.Frames.{Frame, frame, keyword_entered}
+use Rattle.evaluation_context.specs.Frames.{Frame, context_view, keyword_frame}
 use Rattle.evaluation_context.proofs.FrameLaws.{same_frames, popped}
 use Rattle.evaluation_context.proofs.context.Context.leave_keyword.Goals as goal
 
 pub returns : goal.returns
-unfolding frame keyword_entered
+unfolding context_view keyword_frame
 returns c = λ older k h.
     let old = c.args.self.now in
     same_frames

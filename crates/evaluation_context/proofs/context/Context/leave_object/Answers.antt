@@ -1,10 +1,10 @@
 use Rattle.std.proofs.Common.{ap}
-use Rattle.evaluation_context.specs.Frames.{Frame, frame, object_entered}
+use Rattle.evaluation_context.specs.Frames.{Frame, context_view, object_frame}
 use Rattle.evaluation_context.proofs.FrameLaws.{same_frames, popped}
 use Rattle.evaluation_context.proofs.context.Context.leave_object.Goals as goal
 
 pub returns : goal.returns
-unfolding frame object_entered
+unfolding context_view object_frame
 returns c = λ older h.
     let old = c.args.self.now in
     same_frames

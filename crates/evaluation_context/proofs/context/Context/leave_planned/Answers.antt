@@ -1,12 +1,12 @@
 use Rattle.std.proofs.Common.{refl, sym, ap, ◌∙◌}
 use Rattle.std.proofs.lemmas.List.{take-map}
 use Rattle.locations.specs.Steps.{token, tokens}
-use Rattle.evaluation_context.specs.Frames.{frame}
+use Rattle.evaluation_context.specs.Frames.{context_view}
 use Rattle.evaluation_context.proofs.FrameLaws.{same_frames, same_places}
 use Rattle.evaluation_context.proofs.context.Context.leave_planned.Goals as goal
 
 pub returns : goal.returns
-unfolding frame
+unfolding context_view
 returns c = λ older h.
     let old = c.args.self.now in
     same_frames

@@ -2,12 +2,12 @@ use Rattle.std.proofs.Common.{[], None, map, refl, ap}
 use Rattle.json_doc.specs.Docs.{value}
 use Rattle.locations.specs.Steps.{tokens}
 use Rattle.evaluation_context.specs.Standings.{Standing, application_at}
-use Rattle.evaluation_context.specs.Frames.{frame, standing}
+use Rattle.evaluation_context.specs.Frames.{context_view, frame_standing}
 use Rattle.evaluation_context.proofs.FrameLaws.{same_places, same_standings}
 use Rattle.evaluation_context.proofs.context.Context.new.Goals as goal
 
 pub returns : goal.returns
-unfolding frame standing
+unfolding context_view frame_standing
 returns c = λ x.
     let root = c.args.root in
     let start : Standing = record { path = []; resource = root.resource.now; pointer = tokens root.steps.items; place = record { pointer = []; name = None }; scope = []; running = [] } in

@@ -1,11 +1,11 @@
 use Rattle.std.proofs.Common.{refl, sym, ◌∙◌}
 use Rattle.std.proofs.lemmas.List.{length-map}
 use Rattle.locations.specs.Steps.{token}
-use Rattle.evaluation_context.specs.Frames.{frame}
+use Rattle.evaluation_context.specs.Frames.{context_view}
 use Rattle.evaluation_context.proofs.context.Context.way_back.Goals as goal
 
 pub returns : goal.returns
-unfolding frame
+unfolding context_view
 returns c =
     let old = c.args.self.now in
     record {

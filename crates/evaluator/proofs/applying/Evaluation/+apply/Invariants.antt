@@ -2,10 +2,10 @@ use Rattle.std.proofs.Common.{◌≡◌, take, Contains, ◌+◌, ◌*◌}
 use Rattle.definitions.specs.Applied.{Application}
 use Rattle.json_doc.specs.Docs.{value}
 use Rattle.keyword_plans.specs.Subjects.{subject_value}
-use Rattle.evaluation_context.specs.Frames.{frame}
+use Rattle.evaluation_context.specs.Frames.{context_view}
 use Rattle.evaluator.specs.Findings.{IsWithin, FindsObject, AreWithin, FindsAll}
-use Rattle.evaluator.specs.Logs.{notes}
-use Rattle.evaluator.specs.Notes.{added, uses_notes, parts_notes}
+use Rattle.evaluator.specs.Logs.{log_view}
+use Rattle.evaluator.specs.Notes.{notes_of_both, uses_notes, parts_notes}
 use Rattle.evaluator.specs.Rounds.{IsAt, groups_uses, IsKnown, IsUnder, part_outcomes}
 use Rattle.keywords.specs.Rows.{row_of}
 use Rattle.keyword_plans.specs.declared.planned.Planned.{Planned}
@@ -58,12 +58,12 @@ abbrev pub invariant-use_groups-loop-group : goal.invariant-use_groups-loop-grou
 invariant-use_groups-loop-group l =
     record {
       linked : l.self.linked ≡ l.fn.self.linked;
-      back : frame l.self.context ≡ frame l.fn.self.context;
+      back : context_view l.self.context ≡ context_view l.fn.self.context;
       within : IsWithin l.found l.room.applications;
-      found : (a : Application) → IsAt l.fn.self.linked.now (frame l.fn.self.context) (value l.here.schema.now) (subject_value l.here.subject) a
+      found : (a : Application) → IsAt l.fn.self.linked.now (context_view l.fn.self.context) (value l.here.schema.now) (subject_value l.here.subject) a
           → FindsObject l.found l.room.applications (groups_uses l.fn.self.linked.now l.room.nesting a (take l.group-index l.group-items));
-      noted : (a : Application) → IsAt l.fn.self.linked.now (frame l.fn.self.context) (value l.here.schema.now) (subject_value l.here.subject) a
-          → notes l.self.log ≡ added (notes l.fn.self.log) (uses_notes a (groups_uses l.fn.self.linked.now l.room.nesting a (take l.group-index l.group-items)));
+      noted : (a : Application) → IsAt l.fn.self.linked.now (context_view l.fn.self.context) (value l.here.schema.now) (subject_value l.here.subject) a
+          → log_view l.self.log ≡ notes_of_both (log_view l.fn.self.log) (uses_notes a (groups_uses l.fn.self.linked.now l.room.nesting a (take l.group-index l.group-items)));
     }
 
 -- what the schemas applied so far found and noted
@@ -71,13 +71,13 @@ abbrev pub invariant-apply_all-loop-one : goal.invariant-apply_all-loop-one
 invariant-apply_all-loop-one l =
     record {
       linked : l.self.linked ≡ l.fn.self.linked;
-      back : frame l.self.context ≡ frame l.fn.self.context;
+      back : context_view l.self.context ≡ context_view l.fn.self.context;
       within : AreWithin l.applied l.room.applications;
-      found : (a : Application) → IsUnder (frame l.fn.self.context) (row_of l.keyword).name a
+      found : (a : Application) → IsUnder (context_view l.fn.self.context) (row_of l.keyword).name a
           → ((p : Planned) → Contains l.planned.items p → IsKnown l.fn.self.linked.now (row_of l.keyword).name a p)
           → FindsAll l.applied l.room.applications (part_outcomes l.fn.self.linked.now l.room.nesting (row_of l.keyword).name a (take l.one-index l.one-items));
-      noted : (a : Application) → IsUnder (frame l.fn.self.context) (row_of l.keyword).name a
+      noted : (a : Application) → IsUnder (context_view l.fn.self.context) (row_of l.keyword).name a
           → ((p : Planned) → Contains l.planned.items p → IsKnown l.fn.self.linked.now (row_of l.keyword).name a p)
-          → notes l.self.log
-          ≡ added (notes l.fn.self.log) (parts_notes (row_of l.keyword).meaning (part_outcomes l.fn.self.linked.now l.room.nesting (row_of l.keyword).name a (take l.one-index l.one-items)));
+          → log_view l.self.log
+          ≡ notes_of_both (log_view l.fn.self.log) (parts_notes (row_of l.keyword).meaning (part_outcomes l.fn.self.linked.now l.room.nesting (row_of l.keyword).name a (take l.one-index l.one-items)));
     }

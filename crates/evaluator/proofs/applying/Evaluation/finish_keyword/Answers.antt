@@ -2,9 +2,9 @@ use Rattle.std.proofs.Common.{◌∙◌, ap, refl}
 use Rattle.basic_output.specs.Sayings.{says_value}
 use Rattle.json_doc.specs.Docs.{value}
 use Rattle.keywords.specs.Rows.{row_of}
-use Rattle.evaluation_context.specs.Frames.{frame, standing}
+use Rattle.evaluation_context.specs.Frames.{context_view, frame_standing}
 use Rattle.evaluation_context.specs.Standings.{Standing, unit_there}
-use Rattle.evaluator.specs.Logs.{notes}
+use Rattle.evaluator.specs.Logs.{log_view}
 use Rattle.evaluator.specs.Rounds.{use_there}
 use Rattle.evaluator.proofs.SettlingLaws.{use_found}
 use Rattle.evaluator.proofs.applying.Evaluation.finish_keyword.Goals as goal
@@ -14,9 +14,9 @@ returns-clause-noted c a left names indexes older at number passing m e =
     c.in_ok-settle.ensures.noted c.args.self.now.linked.now left a names indexes (value c.args.keyword_value.now) older at.instance number
     (c.in_ok-passes.ensures.passes a left names indexes at number passing)
     (λ says.
-    c.location.ensures says ∙ ap (λ here. unit_there (standing (frame here)) (says_value says)) c.in_ok-passes.ensures.back
+    c.location.ensures says ∙ ap (λ here. unit_there (frame_standing (context_view here)) (says_value says)) c.in_ok-passes.ensures.back
     ∙ ap (λ (s : Standing). unit_there s (says_value says)) at.under)
-    m (ap notes c.in_ok-passes.ensures.noted ∙ e)
+    m (ap log_view c.in_ok-passes.ensures.noted ∙ e)
 
 pub returns-clause-found : goal.returns-clause-found
 returns-clause-found c a left budget names indexes at finds =
@@ -24,4 +24,4 @@ returns-clause-found c a left budget names indexes at finds =
     c.in_ok-passes.passes finds (c.in_ok-passes.ensures.passes a left names indexes at finds.number finds.passing) c.under.ensures refl
 
 pub returns-clause-back : goal.returns-clause-back
-returns-clause-back c older e = c.leave_keyword.ensures older (row_of c.args.keyword).name (ap frame c.in_ok-passes.ensures.back ∙ e)
+returns-clause-back c older e = c.leave_keyword.ensures older (row_of c.args.keyword).name (ap context_view c.in_ok-passes.ensures.back ∙ e)

@@ -2,16 +2,16 @@ use Rattle.std.proofs.Common.{[], ◌∷◌, ◌∙◌, ap, sym}
 use Rattle.definitions.specs.Applied.{OutputUnit}
 use Rattle.definitions.specs.Outcomes.{false_unit}
 use Rattle.basic_output.specs.declared.says.Says.TheVariants.{NotAllowed}
-use Rattle.evaluator.specs.Logs.{notes}
-use Rattle.evaluator.specs.Notes.{added, nothing}
+use Rattle.evaluator.specs.Logs.{log_view}
+use Rattle.evaluator.specs.Notes.{no_notes, notes_of_both}
 use Rattle.evaluator.proofs.LogLaws.{added_nothing}
 use Rattle.evaluator.proofs.applying.Evaluation.note_boolean.Goals as goal
 
 pub returns-then-allowed-clause-noted : goal.returns-then-allowed-clause-noted
-returns-then-allowed-clause-noted c a s x e = rw c.if-allowed.true (sym (added_nothing (notes c.args.self.now.log)))
+returns-then-allowed-clause-noted c a s x e = rw c.if-allowed.true (sym (added_nothing (log_view c.args.self.now.log)))
 
 pub returns-clause-noted : goal.returns-clause-noted
 returns-clause-noted c a s x e =
     rw c.if-allowed.false
     (c.in_ok-push_error.ensures
-    ∙ ap (λ (u : OutputUnit). added (notes c.args.self.now.log) (record nothing { errors = u ∷ [] })) (c.location.ensures NotAllowed ∙ sym (ap false_unit e)))
+    ∙ ap (λ (u : OutputUnit). notes_of_both (log_view c.args.self.now.log) (record no_notes { errors = u ∷ [] })) (c.location.ensures NotAllowed ∙ sym (ap false_unit e)))

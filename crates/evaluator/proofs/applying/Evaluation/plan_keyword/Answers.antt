@@ -1,16 +1,16 @@
 use Rattle.std.proofs.Common.{◌∙◌, ap, sym, map, drop}
 use Rattle.definitions.specs.Applied.{Application}
-use Rattle.evaluator.specs.Logs.{notes}
-use Rattle.evaluator.specs.Rounds.{said}
+use Rattle.evaluator.specs.Logs.{log_view}
+use Rattle.evaluator.specs.Rounds.{linked_outcome}
 use Rattle.evaluator.proofs.applying.Evaluation.plan_keyword.Goals as goal
 
 pub returns-clause-planned : goal.returns-clause-planned
-unfolding notes
+unfolding log_view
 returns-clause-planned c a left at knows got =
     let names = c.evaluated_since-evaluated.ensures.names ∙ ap (λ ns. drop c.args.here.before.names (map (λ n. n.now) ns)) c.deref.ensures.value in
     let indexes = c.evaluated_since-evaluated.ensures.indexes ∙ ap (λ is. drop c.args.here.before.indexes is) c.deref-2.ensures.value in
     rw (← names, ← indexes)
-    (c.plan.ensures.ok a (said c.args.self.now.linked.now left)
+    (c.plan.ensures.ok a (linked_outcome c.args.self.now.linked.now left)
     (record {
       schema = ap (λ (b : Application). b.schema.value) at.there;
       resource = ap (λ (b : Application). b.schema.resource) at.there ∙ sym c.resource.ensures;

@@ -1,12 +1,12 @@
 use Rattle.std.proofs.Common.{◌∙◌, ap, sym, map, append-nil}
 use Rattle.std.proofs.lemmas.List.{take-map}
-use Rattle.evaluator.specs.Notes.{Lengths, added}
-use Rattle.evaluator.specs.Logs.{notes}
+use Rattle.evaluator.specs.Notes.{Lengths, notes_of_both}
+use Rattle.evaluator.specs.Logs.{log_view}
 use Rattle.evaluator.proofs.LogLaws.{same_notes, cut_list, errors_of, annotations_of, names_of, indexes_of}
 use Rattle.evaluator.proofs.log.Log.cut_evaluated.Goals as goal
 
 pub returns : goal.returns
-unfolding notes added
+unfolding log_view notes_of_both
 returns c older more m e =
     same_notes (errors_of _ older more e) (annotations_of _ older more e)
     (ap (map (λ name. name.now)) c.truncate.ensures.items ∙ sym (take-map (λ name. name.now) c.args.mark.now.names c.args.self.now.names.items)

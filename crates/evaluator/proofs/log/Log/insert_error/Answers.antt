@@ -1,13 +1,13 @@
 use Rattle.std.proofs.Common.{◌∙◌, ap}
 use Rattle.std.proofs.lemmas.Result.{on_ok_weaker}
 use Rattle.basic_output.specs.Sayings.{unit_at}
-use Rattle.evaluator.specs.Notes.{Lengths, added}
-use Rattle.evaluator.specs.Logs.{notes}
+use Rattle.evaluator.specs.Notes.{Lengths, notes_of_both}
+use Rattle.evaluator.specs.Logs.{log_view}
 use Rattle.evaluator.proofs.LogLaws.{same_notes, inserted_list, errors_of, annotations_of, names_of, indexes_of}
 use Rattle.evaluator.proofs.log.Log.insert_error.Goals as goal
 
 pub returns : goal.returns
-unfolding notes added
+unfolding log_view notes_of_both
 returns c older more m e =
     on_ok_weaker c.insert.result (λ new.
     same_notes (new ∙ inserted_list c.args.mark.now.errors older.errors more.errors _ (unit_at c.args.location c.args.says) (ap (λ (l : Lengths). l.errors) m) (errors_of _ older more e))

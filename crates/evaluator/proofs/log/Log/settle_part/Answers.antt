@@ -1,7 +1,7 @@
 use Rattle.std.proofs.Common.{◌≡◌, [], ◌∷◌, ◌∙◌, ◌&&◌, not, false, ap, sym}
 use Rattle.std.proofs.lemmas.Result.{on_ok_weaker}
 use Rattle.keywords.specs.Rows.{row_of}
-use Rattle.evaluator.specs.Notes.{added, needs_to_pass, nothing, outcome_notes}
+use Rattle.evaluator.specs.Notes.{needs_to_pass, no_notes, notes_of_both, outcome_notes}
 use Rattle.evaluator.proofs.LogLaws.{name_after, index_after}
 use Rattle.evaluator.proofs.log.Log.settle_part.Goals as goal
 
@@ -9,7 +9,7 @@ pub returns-in-Member : goal.returns-in-Member
 returns-in-Member c older o m e valid =
     rw c.in-Member.is
     (on_ok_weaker c.push_name.result (λ pushed.
-    pushed ∙ ap (λ n. added n (record nothing { names = c.in-Member.name.now ∷ [] })) (c.cut_evaluated.ensures older (outcome_notes o) m e)
+    pushed ∙ ap (λ n. notes_of_both n (record no_notes { names = c.in-Member.name.now ∷ [] })) (c.cut_evaluated.ensures older (outcome_notes o) m e)
     ∙ name_after older o c.in-Member.name.now) c.push_name.ensures)
 
 pub returns-else-is_left_out : goal.returns-else-is_left_out
@@ -18,5 +18,5 @@ returns-else-is_left_out c older o m e valid =
     let stays : (needs_to_pass meaning && not o.valid) ≡ false = ap (λ b. needs_to_pass meaning && not b) (sym valid) ∙ sym c.is_left_out.ensures ∙ c.if-is_left_out.false in
     rw (c.in-Element.is, stays)
     (on_ok_weaker c.push_index.result (λ pushed.
-    pushed ∙ ap (λ n. added n (record nothing { indexes = c.in-Element.index ∷ [] })) (c.cut_evaluated-in-Element.ensures older (outcome_notes o) m e)
+    pushed ∙ ap (λ n. notes_of_both n (record no_notes { indexes = c.in-Element.index ∷ [] })) (c.cut_evaluated-in-Element.ensures older (outcome_notes o) m e)
     ∙ index_after older o c.in-Element.index) c.push_index.ensures)

@@ -1,6 +1,6 @@
 use Rattle.std.proofs.Common.{◌≡◌, [], ◌∷◌, ◌++◌, map, take, string_bytes, flat_map, sym, ap, ap₂, ◌∙◌, append_assoc}
 use Rattle.std.proofs.lemmas.List.{map-append, take_more, take_all}
-use Rattle.definitions.specs.Pointers.{escaped_byte, fragment_text, percent_encoded}
+use Rattle.definitions.specs.Pointers.{escaped_byte, fragment_text, percent_encoded_text}
 use Rattle.json_doc.proofs.Fragments.{fragment_text-more}
 use Rattle.json_doc.proofs.pointer.Pointer.fragment_text.Goals as goal
 
@@ -10,9 +10,9 @@ loop-token-preserved c =
     let i = c.loop-token.token-index in
     let token = c.token-item.result in
     let before = map string_bytes (take i tokens) in
-    let written : string_bytes c.push_fragment_token.new.text ≡ fragment_text before ++ 47 ∷ percent_encoded (flat_map escaped_byte (string_bytes token)) =
-    c.in_ok-push_fragment_token.ensures ∙ ap₂ (λ a b. a ++ 47 ∷ percent_encoded (flat_map escaped_byte b)) c.loop-token.invariant c.as_str.ensures.value in
-    written ∙ sym (append_assoc (fragment_text before) (47 ∷ []) (percent_encoded (flat_map escaped_byte (string_bytes token)))) ∙ sym (fragment_text-more before (string_bytes token))
+    let written : string_bytes c.push_fragment_token.new.text ≡ fragment_text before ++ 47 ∷ percent_encoded_text (flat_map escaped_byte (string_bytes token)) =
+    c.in_ok-push_fragment_token.ensures ∙ ap₂ (λ a b. a ++ 47 ∷ percent_encoded_text (flat_map escaped_byte b)) c.loop-token.invariant c.as_str.ensures.value in
+    written ∙ sym (append_assoc (fragment_text before) (47 ∷ []) (percent_encoded_text (flat_map escaped_byte (string_bytes token)))) ∙ sym (fragment_text-more before (string_bytes token))
     ∙ ap fragment_text (sym (ap (map string_bytes) (take_more tokens i token c.loop-token-test.true ∙ ap (λ t. take i tokens ++ t ∷ []) (sym c.token-item.is)) ∙ map-append string_bytes (take i tokens) (token ∷ [])))
 
 pub returns-clause-text : goal.returns-clause-text

@@ -1,7 +1,7 @@
 use Rattle.std.proofs.Common.{◌≡◌, ◌++◌, flat_map, string_bytes, rules, refl, sym, ap, ◌∙◌, append_assoc, get_or, drop, take, ◌+◌}
 use Rattle.std.proofs.lemmas.List.Quantifiers.{position-Some}
 use Rattle.std.proofs.lemmas.Str.{IsCharBoundary-before_ascii, IsCharBoundary-after_ascii}
-use Rattle.definitions.specs.Pointers.{escaped_byte, percent_encoded}
+use Rattle.definitions.specs.Pointers.{escaped_byte, percent_encoded_text}
 use Rattle.json_doc.specs.Escapes.{is_escaped}
 use Rattle.json_doc.proofs.Escaped.{no_escape, is_ascii}
 use Rattle.json_doc.proofs.Fragments.{fragment_at}
@@ -30,11 +30,11 @@ loop-end-preserved c = record {
       let rest = c.loop-end.rest.now in
       let end = c.in-Some.end in
       let byte = escaped_byte (get_or rest end 0) in
-      let before = percent_encoded (take end rest) in
-      let after = percent_encoded (flat_map escaped_byte (drop (end + 1) rest)) in
+      let before = percent_encoded_text (take end rest) in
+      let after = percent_encoded_text (flat_map escaped_byte (drop (end + 1) rest)) in
       let run : c.range.result.now ≡ take end rest = search rules in
       let escape : c.escape_of.result.now ≡ byte = c.escape_of.ensures ∙ ap (λ bs. escaped_byte (get_or bs end 0)) c.as_bytes.ensures.value in
-      let first : string_bytes c.push_percent_encoded.new.text ≡ text ++ before = c.in_ok-push_percent_encoded.ensures ∙ ap (λ bs. text ++ percent_encoded bs) run in
+      let first : string_bytes c.push_percent_encoded.new.text ≡ text ++ before = c.in_ok-push_percent_encoded.ensures ∙ ap (λ bs. text ++ percent_encoded_text bs) run in
       let pushed : string_bytes c.push_str.new.self ≡ (text ++ before) ++ byte = rw (c.in_ok-push_str.ensures.bytes, first, escape) in
       rw (pushed, c.range_from-rest.ensures.value, append_assoc (text ++ before) byte after, append_assoc text before (byte ++ after), ← fragment_at rest end (sym c.in-Some.ensures))
       c.loop-end.invariant.written;

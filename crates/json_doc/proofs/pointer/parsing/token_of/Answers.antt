@@ -1,12 +1,12 @@
 use Rattle.std.proofs.Common.{◌≡◌, ◌++◌, [], ◌∷◌, Some, None, string_bytes, refl, sym, ap, ap₂, ◌∙◌, lit<}
 use Rattle.std.proofs.lemmas.Str.{IsCharBoundary-after_ascii}
 use Rattle.std.proofs.lemmas.Str.Pattern.{split_parts}
-use Rattle.definitions.specs.Pointers.{unescaped}
+use Rattle.definitions.specs.Pointers.{unescaped_token}
 use Rattle.json_doc.proofs.Unescaped.{resumed-nil, token_more, token_none, token_last, escape-small, escape-first, text_after}
 use Rattle.json_doc.proofs.pointer.parsing.token_of.Goals as goal
 
 pub loop-before-init : goal.loop-before-init
-loop-before-init c = record { utf8 = c.utf8.part; read = rw c.new-token.ensures.bytes (resumed-nil (unescaped c.args.part.now)) }
+loop-before-init c = record { utf8 = c.utf8.part; read = rw c.new-token.ensures.bytes (resumed-nil (unescaped_token c.args.part.now)) }
 
 pub returns-in_default-escape_before-clause-err : goal.returns-in_default-escape_before-clause-err
 returns-in_default-escape_before-clause-err c = λ other.

@@ -12,7 +12,7 @@ use Rattle.definitions.specs.Texts.{value_of, elements_of, members_of}
 use Rattle.definitions.specs.Values.{to_members}
 use Rattle.json_doc.specs.Docs.{value, members_view}
 use Rattle.json_doc.specs.Gathers.{gathered_view}
-use Rattle.json_doc.specs.Members.{put}
+use Rattle.json_doc.specs.Members.{members_with}
 use Rattle.json_doc.specs.Reads.{elements_at}
 use Rattle.json_doc.specs.declared.doc.Doc.{Int, Bool, Null, the_lemmas}
 use Rattle.json_doc.proofs.Views.{value-Str, value-List, value-Dict}
@@ -125,7 +125,7 @@ dict_from-members-preserved t c =
     let lesser = done.shorter in
     let copied : string_bytes c.in_ok-key.key ≡ k = search rules in
     let turn = member_put p old n k l.reader s r v (omega (arith, l.invariant.2)) named done.ok in
-    let inserted : gathered_view c.insert.new.self ≡ put k v (gathered_view l.gathered) = c.in_ok-insert.ensures ∙ ap (λ name. put name v (gathered_view l.gathered)) copied in (
+    let inserted : gathered_view c.insert.new.self ≡ members_with k v (gathered_view l.gathered) = c.in_ok-insert.ensures ∙ ap (λ name. members_with name v (gathered_view l.gathered)) copied in (
       n - 1,
       json.put k turn.0 old,
       omega (arith, l.invariant.2),

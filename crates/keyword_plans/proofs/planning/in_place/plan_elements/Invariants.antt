@@ -1,7 +1,7 @@
 use Rattle.std.proofs.Common.{◌≡◌, ◌++◌, map, drop}
 use Rattle.definitions.specs.Values.{Text}
 use Rattle.definitions.specs.Applied.{Application}
-use Rattle.keyword_plans.specs.Applications.{planned_listed}
+use Rattle.keyword_plans.specs.Applications.{planned_elements}
 use Rattle.json_doc.specs.Docs.{value}
 use Rattle.keyword_plans.specs.Subjects.{subject_value}
 use Rattle.keyword_plans.specs.Plans.{planned_view}
@@ -11,4 +11,4 @@ use Rattle.keyword_plans.proofs.planning.in_place.plan_elements.Given as goal
 abbrev pub invariant-loop-index : goal.invariant-loop-index
 invariant-loop-index l =
     (a : Application) (k : Text) → a.instance ≡ subject_value l.subject
-    → map (planned_view k a) l.planned.items ++ planned_listed k a l.index (map value (drop l.index l.schemas)) ≡ planned_listed k a 0 (map value l.schemas)
+    → map (planned_view k a) l.planned.items ++ planned_elements k a l.index (map value (drop l.index l.schemas)) ≡ planned_elements k a 0 (map value l.schemas)

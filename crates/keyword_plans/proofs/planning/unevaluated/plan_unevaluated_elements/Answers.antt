@@ -3,7 +3,7 @@ use Rattle.std.specs.List.{list_any}
 use Rattle.std.proofs.lemmas.List.{map-append}
 use Rattle.json_doc.specs.Docs.{value}
 use Rattle.schema_scan.proofs.Gathered.{next_item}
-use Rattle.keyword_plans.specs.Applications.{planned_unevaluated}
+use Rattle.keyword_plans.specs.Applications.{planned_unevaluated_items}
 use Rattle.keyword_plans.specs.Plans.{planned_view}
 use Rattle.keyword_plans.proofs.Growing.{grown}
 use Rattle.keyword_plans.proofs.Seen.{is_in-by_order}
@@ -23,13 +23,13 @@ loop-index-preserved c a k =
     let found : c.is_in.result ≡ list_any (λ j. j == i) is = c.is_in.ensures ∙ c.in_ok-evaluated.ensures i ∙ is_in-by_order i is in
     elim c.if-not-is_in.branch [
       | then-not-is_in+in_ok-push w ↦
-          grown (map (planned_view k a) c.loop-index.planned.items) _ _ _ (planned_unevaluated k a v is (i + 1) rest) _
+          grown (map (planned_view k a) c.loop-index.planned.items) _ _ _ (planned_unevaluated_items k a v is (i + 1) rest) _
           (ap (λ ps. map (planned_view k a) ps.items) w.planned-is ∙ ap (map (planned_view k a)) w.in_ok-push.ensures.items ∙ map-append (planned_view k a) c.loop-index.planned.items _)
-          (ap (planned_unevaluated k a v is i) left ∙ item-new k a v is i (value x) rest (sym found ∙ w.if-not-is_in.true))
+          (ap (planned_unevaluated_items k a v is i) left ∙ item-new k a v is i (value x) rest (sym found ∙ w.if-not-is_in.true))
           (c.loop-index.invariant a k)
       | else-not-is_in w ↦
-          ap (λ ps. map (planned_view k a) ps.items ++ planned_unevaluated k a v is (i + 1) rest) w.planned-is
-          ∙ skipped (map (planned_view k a) c.loop-index.planned.items) _ (planned_unevaluated k a v is (i + 1) rest) _
-          (ap (planned_unevaluated k a v is i) left ∙ item-old k a v is i (value x) rest (sym found ∙ w.if-not-is_in.false))
+          ap (λ ps. map (planned_view k a) ps.items ++ planned_unevaluated_items k a v is (i + 1) rest) w.planned-is
+          ∙ skipped (map (planned_view k a) c.loop-index.planned.items) _ (planned_unevaluated_items k a v is (i + 1) rest) _
+          (ap (planned_unevaluated_items k a v is i) left ∙ item-old k a v is i (value x) rest (sym found ∙ w.if-not-is_in.false))
           (c.loop-index.invariant a k)
     ]

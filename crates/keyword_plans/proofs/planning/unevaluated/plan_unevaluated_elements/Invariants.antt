@@ -2,7 +2,7 @@ use Rattle.std.proofs.Common.{◌≡◌, ◌++◌, map, drop}
 use Rattle.definitions.specs.Values.{Text}
 use Rattle.definitions.specs.Applied.{Application}
 use Rattle.json_doc.specs.Docs.{value}
-use Rattle.keyword_plans.specs.Applications.{planned_unevaluated}
+use Rattle.keyword_plans.specs.Applications.{planned_unevaluated_items}
 use Rattle.keyword_plans.specs.Plans.{planned_view}
 use Rattle.keyword_plans.proofs.planning.unevaluated.plan_unevaluated_elements.Given as goal
 
@@ -10,5 +10,5 @@ use Rattle.keyword_plans.proofs.planning.unevaluated.plan_unevaluated_elements.G
 abbrev pub invariant-loop-index : goal.invariant-loop-index
 invariant-loop-index l =
     (a : Application) (k : Text)
-    → map (planned_view k a) l.planned.items ++ planned_unevaluated k a (value l.schema) l.indexes l.index (map value (drop l.index l.items))
-    ≡ planned_unevaluated k a (value l.schema) l.indexes 0 (map value l.items)
+    → map (planned_view k a) l.planned.items ++ planned_unevaluated_items k a (value l.schema) l.indexes l.index (map value (drop l.index l.items))
+    ≡ planned_unevaluated_items k a (value l.schema) l.indexes 0 (map value l.items)

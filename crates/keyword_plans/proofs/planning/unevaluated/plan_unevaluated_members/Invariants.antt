@@ -3,7 +3,7 @@ use Rattle.definitions.specs.Values.{Text}
 use Rattle.definitions.specs.Applied.{Application}
 use Rattle.json_doc.specs.Docs.{value, members_value}
 use Rattle.json_doc.specs.Members.{members_left}
-use Rattle.keyword_plans.specs.Applications.{planned_unnamed}
+use Rattle.keyword_plans.specs.Applications.{planned_unevaluated_properties}
 use Rattle.keyword_plans.specs.Plans.{planned_view}
 use Rattle.keyword_plans.proofs.planning.unevaluated.plan_unevaluated_members.Given as goal
 
@@ -11,5 +11,5 @@ use Rattle.keyword_plans.proofs.planning.unevaluated.plan_unevaluated_members.Gi
 abbrev pub invariant-loop-name : goal.invariant-loop-name
 invariant-loop-name l =
     (a : Application) (k : Text)
-    → map (planned_view k a) l.planned.items ++ planned_unnamed k a (value l.schema) (map (λ n. n.now) l.names) (members_left l.name-iterator)
-    ≡ planned_unnamed k a (value l.schema) (map (λ n. n.now) l.names) (members_value l.members)
+    → map (planned_view k a) l.planned.items ++ planned_unevaluated_properties k a (value l.schema) (map (λ n. n.now) l.names) (members_left l.name-iterator)
+    ≡ planned_unevaluated_properties k a (value l.schema) (map (λ n. n.now) l.names) (members_value l.members)

@@ -3,7 +3,7 @@ use Rattle.std.specs.List.{slice_get}
 use Rattle.json_doc.specs.Docs.{value}
 use Rattle.schema_index.specs.AnchorNumbers.{is_marked, pair_number}
 use Rattle.schema_index.specs.Gathering.{anchor_mark, gathered_marks}
-use Rattle.schema_index.specs.Lookups.{marked}
+use Rattle.schema_index.specs.Lookups.{marked_schema}
 use Rattle.schema_index.proofs.Owned.{owned-anchored}
 use Rattle.schema_index.proofs.Paired.{found-by_number}
 use Rattle.schema_index.proofs.indexed.Indexed.anchored.Goals as goal
@@ -16,7 +16,7 @@ returns-in_ok-schema_of_anchor-in-Some-clause-ok c =
     let name = c.args.name.now in
     let marks = map anchor_mark d.gathered.anchors.items in
     c.in_ok-schema_of_anchor-in-Some.ensures
-    ∙ ap (option_and_then (marked (value d.document)))
+    ∙ ap (option_and_then (marked_schema (value d.document)))
     (c.in-Some.ensures ∙ ap (λ anchors. option_and_then (slice_get (map anchor_mark anchors)) (pair_number d.anchor_numbers uri name)) c.deref.ensures.value
     ∙ ap (option_and_then (slice_get marks)) (d.by_anchor uri name) ∙ found-by_number (is_marked true uri name) marks)
     ∙ owned-anchored d uri name
@@ -28,7 +28,7 @@ returns-in-None-clause-ok c =
     let uri = c.args.uri.now in
     let name = c.args.name.now in
     let marks = map anchor_mark d.gathered.anchors.items in
-    ap (option_and_then (marked (value d.document)))
+    ap (option_and_then (marked_schema (value d.document)))
     (c.in-None.ensures ∙ ap (λ anchors. option_and_then (slice_get (map anchor_mark anchors)) (pair_number d.anchor_numbers uri name)) c.deref.ensures.value
     ∙ ap (option_and_then (slice_get marks)) (d.by_anchor uri name) ∙ found-by_number (is_marked true uri name) marks)
     ∙ owned-anchored d uri name

@@ -1,7 +1,7 @@
 use Rattle.std.proofs.Common.{◌≡◌, false, true, is_some, sym, ap, ap₂, ◌∙◌}
 use Rattle.definitions.specs.Values.{Text, Value}
 use Rattle.definitions.specs.Pointers.{Pointer}
-use Rattle.definitions.specs.Resolution.{resolved}
+use Rattle.definitions.specs.Resolution.{target_uri}
 use Rattle.definitions.specs.Uris.{without_fragment}
 use Rattle.definitions.specs.Schemas.{Schema, below}
 use Rattle.definitions.specs.Targets.{resource_root}
@@ -9,13 +9,13 @@ use Rattle.json_doc.specs.Docs.{value}
 use Rattle.locations.specs.Steps.{tokens}
 use Rattle.schema_index.specs.DescentViews.{tokens_taken}
 use Rattle.schema_index.specs.IndexedDocuments.{indexed_schemas}
-use Rattle.schema_index.specs.Locateds.{located_schema}
+use Rattle.schema_index.specs.Locateds.{located_view}
 use Rattle.schema_index.proofs.Subschemas.{below-opened, below-inside, root_held}
 use Rattle.schema_index.proofs.indexed.Indexed.below.Goals as goal
 
 pub unreachable-requires : goal.unreachable-requires
 unreachable-requires c =
-    let s = located_schema c.args.around in
+    let s = located_view c.args.around in
     let v = value c.args.descent.schema.now in
     let way = tokens_taken c.args.descent in
     let t = below s way v in
@@ -30,13 +30,13 @@ shown resource pointer v = record { resource = resource; pointer = pointer; valu
 
 pub returns-in-Some-resource_uri-clause-ok : goal.returns-in-Some-resource_uri-clause-ok
 returns-in-Some-resource_uri-clause-ok c =
-    let s = located_schema c.args.around in
+    let s = located_view c.args.around in
     let v = value c.args.descent.schema.now in
-    let uri : c.in-Some-resource_uri.resource.now ≡ without_fragment (resolved s.resource c.in-Some.id.now) = c.in-Some-resource_uri.ensures.same ∙ c.as_str.ensures.value ∙ c.in_ok-uri-in-Some.ensures.ok in
+    let uri : c.in-Some-resource_uri.resource.now ≡ without_fragment (target_uri s.resource c.in-Some.id.now) = c.in-Some-resource_uri.ensures.same ∙ c.as_str.ensures.value ∙ c.in_ok-uri-in-Some.ensures.ok in
     ap₂ (λ r p. shown r p v) uri (ap tokens c.new.ensures.items) ∙ sym (below-opened s (tokens_taken c.args.descent) v c.in-Some.id.now (sym c.in-Some.ensures))
 
 pub returns-clause-ok : goal.returns-clause-ok
 returns-clause-ok c =
-    let s = located_schema c.args.around in
+    let s = located_view c.args.around in
     let v = value c.args.descent.schema.now in
     ap (λ p. shown s.resource p v) c.in_ok-with_steps-in-None.ensures ∙ sym (below-inside s (tokens_taken c.args.descent) v (sym c.in-None.ensures))

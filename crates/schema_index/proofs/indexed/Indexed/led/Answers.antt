@@ -4,17 +4,17 @@ use Rattle.definitions.specs.Schemas.{below}
 use Rattle.definitions.specs.Lists.{option_list}
 use Rattle.json_doc.specs.Docs.{value}
 use Rattle.locations.specs.Steps.{tokens}
-use Rattle.schema_index.specs.Descents.{led}
+use Rattle.schema_index.specs.Descents.{led_schema}
 use Rattle.schema_index.specs.DescentViews.{tokens_taken}
 use Rattle.schema_index.specs.IndexedDocuments.{indexed_base, indexed_value, indexed_schemas}
-use Rattle.schema_index.specs.Locateds.{located_schema}
+use Rattle.schema_index.specs.Locateds.{located_view}
 use Rattle.schema_index.proofs.Descents.{led_here, shorter}
 use Rattle.schema_index.proofs.Subschemas.{with_below}
 use Rattle.schema_index.proofs.indexed.Indexed.led.Goals as goal
 
 pub below-requires : goal.below-requires
 below-requires c =
-    let s = located_schema c.loop-keyword.here in
+    let s = located_view c.loop-keyword.here in
     let d = c.in-Some-descend.descent in
     with_below (indexed_base c.args.self.now) (indexed_value c.args.self.now) s (below s (tokens_taken d) (value d.schema.now)) (tokens_taken d)
     c.loop-keyword.invariant.stands (c.in-Some-descend.ensures.stands s refl)
@@ -28,7 +28,7 @@ loop-keyword-smaller c =
 
 pub loop-keyword-preserved : goal.loop-keyword-preserved
 loop-keyword-preserved c =
-    let s = located_schema c.loop-keyword.here in
+    let s = located_view c.loop-keyword.here in
     let d = c.in-Some-descend.descent in
     let t = below s (tokens_taken d) (value d.schema.now) in
     let stands : Contains (indexed_schemas c.args.self.now) t =
@@ -38,17 +38,17 @@ loop-keyword-preserved c =
     record {
       stands = subst (Contains (indexed_schemas c.args.self.now)) (sym c.in_ok-here.ensures.ok) stands;
       leads =
-          c.loop-keyword.invariant.leads ∙ ap (λ way. led way s) whole ∙ c.in-Some-descend.ensures.leads s refl
-          ∙ ap (led (map string_bytes d.rest.now)) (sym c.in_ok-here.ensures.ok);
+          c.loop-keyword.invariant.leads ∙ ap (λ way. led_schema way s) whole ∙ c.in-Some-descend.ensures.leads s refl
+          ∙ ap (led_schema (map string_bytes d.rest.now)) (sym c.in_ok-here.ensures.ok);
     }
 
 pub returns-clause-ok : goal.returns-clause-ok
 returns-clause-ok c =
-    sym (c.loop-keyword.invariant.leads ∙ ap (λ left. led (map string_bytes left) (located_schema c.loop-keyword.here)) (nil_from_length c.loop-keyword.left.now c.in_default.ensures.cases) ∙ led_here (located_schema c.loop-keyword.here))
+    sym (c.loop-keyword.invariant.leads ∙ ap (λ left. led_schema (map string_bytes left) (located_view c.loop-keyword.here)) (nil_from_length c.loop-keyword.left.now c.in_default.ensures.cases) ∙ led_here (located_view c.loop-keyword.here))
 
 pub returns-in_default-descend-clause-ok : goal.returns-in_default-descend-clause-ok
 returns-in_default-descend-clause-ok c =
-    let s = located_schema c.loop-keyword.here in
+    let s = located_view c.loop-keyword.here in
     let whole : map string_bytes c.loop-keyword.left.now ≡ c.as_str.result.now ∷ map string_bytes c.in-Some.rest.now =
     ap (map string_bytes) c.in-Some.ensures.cases.0 ∙ ap (λ k. k ∷ map string_bytes c.in-Some.rest.now) (sym c.as_str.ensures.value) in
-    sym (c.loop-keyword.invariant.leads ∙ ap (λ way. led way s) whole ∙ c.in_default-descend.ensures s refl)
+    sym (c.loop-keyword.invariant.leads ∙ ap (λ way. led_schema way s) whole ∙ c.in_default-descend.ensures s refl)

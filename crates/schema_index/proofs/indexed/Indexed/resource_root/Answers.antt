@@ -1,7 +1,7 @@
 use Rattle.std.proofs.Common.{option_and_then, ap, ◌∙◌}
 use Rattle.json_doc.specs.Docs.{value}
 use Rattle.schema_index.specs.Gathering.{gathered_uris, gathered_ways}
-use Rattle.schema_index.specs.Lookups.{root_numbered}
+use Rattle.schema_index.specs.Lookups.{numbered_root}
 use Rattle.schema_index.proofs.Owned.{owned-root}
 use Rattle.schema_index.proofs.indexed.Indexed.resource_root.Goals as goal
 
@@ -9,11 +9,11 @@ pub returns-in-Some : goal.returns-in-Some
 returns-in-Some c =
     let d = c.args.self.now in
     c.root.ensures
-    ∙ ap (option_and_then (root_numbered (gathered_uris d.gathered) (gathered_ways d.gathered) (value d.document))) c.in-Some.ensures
+    ∙ ap (option_and_then (numbered_root (gathered_uris d.gathered) (gathered_ways d.gathered) (value d.document))) c.in-Some.ensures
     ∙ owned-root d c.args.uri.now
 
 pub returns-in-None : goal.returns-in-None
 returns-in-None c =
     let d = c.args.self.now in
-    ap (option_and_then (root_numbered (gathered_uris d.gathered) (gathered_ways d.gathered) (value d.document))) c.in-None.ensures
+    ap (option_and_then (numbered_root (gathered_uris d.gathered) (gathered_ways d.gathered) (value d.document))) c.in-None.ensures
     ∙ owned-root d c.args.uri.now

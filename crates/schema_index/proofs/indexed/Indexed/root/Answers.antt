@@ -5,7 +5,7 @@ use Rattle.definitions.specs.Schemas.{Schema}
 use Rattle.json_doc.specs.Docs.{value}
 use Rattle.schema_index.specs.Gathering.{gathered_uris, gathered_ways}
 use Rattle.schema_index.specs.Hops.{Hop}
-use Rattle.schema_index.specs.Lookups.{root_at, root_numbered}
+use Rattle.schema_index.specs.Lookups.{numbered_root, root_at}
 use Rattle.schema_index.specs.Ways.{owned_hops}
 use Rattle.schema_index.proofs.indexed.Indexed.root.Goals as goal
 
@@ -13,8 +13,8 @@ abbrev root_of : Value → Option Text → Option (List Hop) → Option Schema
 root_of document uri way = option_and_then (λ u. option_and_then (λ w. root_at u w document) way) uri
 
 numbered-root : (us : List Text) (ws : List (List Hop)) (document : Value) (number : ℕ) (uri : Option Text) (way : Option (List Hop)) → uri ≡ slice_get us number → way ≡ slice_get ws number
-    → root_of document uri way ≡ root_numbered us ws document number
-unfolding root_numbered
+    → root_of document uri way ≡ numbered_root us ws document number
+unfolding numbered_root
 numbered-root us ws document number uri way e f = ap₂ (root_of document) e f
 
 pub returns-in-Some-way_of : goal.returns-in-Some-way_of

@@ -3,7 +3,7 @@ use Rattle.definitions.specs.Keywords.{keywords, shape_in}
 use Rattle.definitions.specs.Shapes.{one_schema, schema_list, schema_map}
 use Rattle.keywords.proofs.Names.{shape_named-row}
 use Rattle.json_doc.specs.Docs.{value, members_value}
-use Rattle.schema_index.specs.Descents.{StepsTo, row, name_of, IsHeld, schemas_held}
+use Rattle.schema_index.specs.Descents.{StepsTo, row, name_of, IsHeld, schema_shape}
 use Rattle.schema_index.specs.DescentViews.{GoesOn}
 use Rattle.schema_index.proofs.Descents.{from_no_member, from_other, to_one, holds_none}
 use Rattle.schema_index.proofs.HeldValues.{members_none, members_some, held}
@@ -58,5 +58,5 @@ returns-in_default c =
     let k = c.args.keyword.now in
     let u = value c.in_ok-name.member.now in
     let at = held v k (members_value c.in_ok-as_dict.field-0.now) (c.in_ok-name.name, c.in_ok-name.member) (sym c.in_ok-as_dict.ensures) c.in_ok-name.ensures.ordered c.in_ok-name.ensures.found in
-    from_other k (map string_bytes c.args.rest.now) v u at.1 (ap (λ s. schemas_held (shape_in keywords s)) at.0 ∙ ap schemas_held (shape_named-row c.in_ok-name.name.now ∙ sym c.shape_named.ensures)
+    from_other k (map string_bytes c.args.rest.now) v u at.1 (ap (λ s. schema_shape (shape_in keywords s)) at.0 ∙ ap schema_shape (shape_named-row c.in_ok-name.name.now ∙ sym c.shape_named.ensures)
     ∙ holds_none c.shape_named.result c.in_default.not-OneSchema c.in_default.not-SchemaList c.in_default.not-SchemaMap)

@@ -1,6 +1,6 @@
 use Rattle.std.proofs.Common.{ap, ◌∙◌}
 use Rattle.definitions.specs.Uris.{without_fragment}
-use Rattle.definitions.specs.Resolution.{resolved}
+use Rattle.definitions.specs.Resolution.{target_uri}
 use Rattle.json_doc.specs.Docs.{value}
 use Rattle.schema_scan.specs.Tables.{uris_of}
 use Rattle.schema_scan.specs.Uris.{uri_at}
@@ -11,7 +11,7 @@ use Rattle.schema_scan.proofs.table.Table.open.Goals as goal
 pub returns-in_ok-resource-in-Some-clause-resource : goal.returns-in_ok-resource-in-Some-clause-resource
 returns-in_ok-resource-in-Some-clause-resource c = (
   c.in_ok-resource-in-Some.ensures.uri.0,
-  c.in_ok-resource-in-Some.ensures.uri.1 ∙ c.in_ok-uri-in-Some.ensures ∙ ap (λ base. without_fragment (resolved base c.in-Some.id.now)) c.uri.ensures
+  c.in_ok-resource-in-Some.ensures.uri.1 ∙ c.in_ok-uri-in-Some.ensures ∙ ap (λ base. without_fragment (target_uri base c.in-Some.id.now)) c.uri.ensures
       ∙ resource-some (uri_at (uris_of c.args.self.now) c.args.around) (value c.args.schema.now) c.in-Some.id.now c.in-Some.ensures,
 )
 

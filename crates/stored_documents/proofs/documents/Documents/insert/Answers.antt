@@ -1,26 +1,26 @@
 use Rattle.std.proofs.Common.{◌^◌, ◌<◌, [], ◌∷◌, Contains, is_some, ap, refl, sym, subst, ◌∙◌}
-use Rattle.definitions.specs.Documents.{bytes_of, document_of, placed, taken_uri}
+use Rattle.definitions.specs.Documents.{bytes_of, document_of, documents_with, taken_uri}
 use Rattle.stored_documents.specs.Claims.{claims_in}
 use Rattle.stored_documents.specs.DocumentLists.{documents_in}
 use Rattle.stored_documents.specs.KeptDocuments.{kept_ordered}
 use Rattle.stored_documents.specs.OrderedDocuments.{ordered_documents}
-use Rattle.stored_documents.specs.StoredDocuments.{stored_document}
+use Rattle.stored_documents.specs.StoredDocuments.{stored_view}
 use Rattle.stored_documents.proofs.ClaimedDocuments.{claimed_after}
 use Rattle.stored_documents.proofs.MadeClaims.{claims_made}
 use Rattle.stored_documents.proofs.documents.Documents.insert.Goals as goal
 
 pub insert-requires-clause-free : goal.insert-requires-clause-free
 unfolding documents_in
-insert-requires-clause-free c = ap (λ ds. taken_uri ds (stored_document c.args.document.value)) c.claim.ensures.same ∙ c.requires.free
+insert-requires-clause-free c = ap (λ ds. taken_uri ds (stored_view c.args.document.value)) c.claim.ensures.same ∙ c.requires.free
 
 pub insert-requires-clause-fits : goal.insert-requires-clause-fits
 unfolding documents_in
-insert-requires-clause-fits c = subst (λ ds. bytes_of (placed (stored_document c.args.document.value) ds) < 2 ^ 64) (sym c.claim.ensures.same) c.requires.fits
+insert-requires-clause-fits c = subst (λ ds. bytes_of (documents_with (stored_view c.args.document.value) ds) < 2 ^ 64) (sym c.claim.ensures.same) c.requires.fits
 
 pub invariant_of-self : goal.invariant_of-self
 unfolding documents_in
 invariant_of-self c =
-    let d = stored_document c.args.document.value in
+    let d = stored_view c.args.document.value in
     let made = c.push_claims.new.made.items in
     record {
       claimed = claimed_after c.claim.new.self.claims c.make_claims.new.claims (d ∷ []) (ordered_documents c.claim.new.self.ordered) (ordered_documents c.insert.new.self) (claims_in made)
@@ -36,21 +36,21 @@ invariant_of-self c =
 pub returns-in-Some-clause-placed : goal.returns-in-Some-clause-placed
 unfolding documents_in
 returns-in-Some-clause-placed c =
-    c.release_document.ensures ∙ c.in-Ok.ensures.placed ∙ ap (placed (stored_document c.args.document.value)) c.claim.ensures.same
+    c.release_document.ensures ∙ c.in-Ok.ensures.placed ∙ ap (documents_with (stored_view c.args.document.value)) c.claim.ensures.same
 
 pub returns-in-Some-clause-replaced : goal.returns-in-Some-clause-replaced
 unfolding documents_in
 returns-in-Some-clause-replaced c =
-    sym (ap is_some c.in-Some.is) ∙ c.in-Ok.ensures.replaced ∙ ap (λ ds. is_some (document_of ds (stored_document c.args.document.value).canonical)) c.claim.ensures.same
+    sym (ap is_some c.in-Some.is) ∙ c.in-Ok.ensures.replaced ∙ ap (λ ds. is_some (document_of ds (stored_view c.args.document.value).canonical)) c.claim.ensures.same
 
 pub returns-in-None-clause-placed : goal.returns-in-None-clause-placed
 unfolding documents_in
-returns-in-None-clause-placed c = c.in-Ok.ensures.placed ∙ ap (placed (stored_document c.args.document.value)) c.claim.ensures.same
+returns-in-None-clause-placed c = c.in-Ok.ensures.placed ∙ ap (documents_with (stored_view c.args.document.value)) c.claim.ensures.same
 
 pub returns-in-None-clause-replaced : goal.returns-in-None-clause-replaced
 unfolding documents_in
 returns-in-None-clause-replaced c =
-    sym (ap is_some c.in-None.is) ∙ c.in-Ok.ensures.replaced ∙ ap (λ ds. is_some (document_of ds (stored_document c.args.document.value).canonical)) c.claim.ensures.same
+    sym (ap is_some c.in-None.is) ∙ c.in-Ok.ensures.replaced ∙ ap (λ ds. is_some (document_of ds (stored_view c.args.document.value).canonical)) c.claim.ensures.same
 
 pub returns-in-Err-clause-kept : goal.returns-in-Err-clause-kept
 unfolding documents_in

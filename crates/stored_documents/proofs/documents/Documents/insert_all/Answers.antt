@@ -1,6 +1,6 @@
 use Rattle.std.proofs.Common.{◌^◌, ◌<◌, Contains, ap, sym, subst, ◌∙◌}
 use Rattle.definitions.specs.Batches.{taken_by}
-use Rattle.definitions.specs.Documents.{bytes_of, placed_all}
+use Rattle.definitions.specs.Documents.{bytes_of, documents_with_all}
 use Rattle.definition_laws.proofs.AcceptedBatches.{unrepeated}
 use Rattle.stored_documents.specs.Claims.{claims_in, claims_of}
 use Rattle.stored_documents.specs.DocumentLists.{documents_in}
@@ -14,12 +14,12 @@ pub insert_all-requires-clause-free : goal.insert_all-requires-clause-free
 unfolding documents_in
 insert_all-requires-clause-free c =
     let es = stored_documents c.args.documents.items in
-    ap (λ ds. taken_by (placed_all es ds) es) c.claim.ensures.same ∙ c.requires.free
+    ap (λ ds. taken_by (documents_with_all es ds) es) c.claim.ensures.same ∙ c.requires.free
 
 pub insert_all-requires-clause-fits : goal.insert_all-requires-clause-fits
 unfolding documents_in
 insert_all-requires-clause-fits c =
-    subst (λ ds. bytes_of (placed_all (stored_documents c.args.documents.items) ds) < 2 ^ 64) (sym c.claim.ensures.same) c.requires.fits
+    subst (λ ds. bytes_of (documents_with_all (stored_documents c.args.documents.items) ds) < 2 ^ 64) (sym c.claim.ensures.same) c.requires.fits
 
 pub invariant_of-self : goal.invariant_of-self
 unfolding documents_in
@@ -40,7 +40,7 @@ invariant_of-self c =
 pub returns-in-Ok-clause-placed : goal.returns-in-Ok-clause-placed
 unfolding documents_in
 returns-in-Ok-clause-placed c =
-    c.release_documents.ensures ∙ c.in-Ok.ensures.placed ∙ ap (placed_all (stored_documents c.args.documents.items)) c.claim.ensures.same
+    c.release_documents.ensures ∙ c.in-Ok.ensures.placed ∙ ap (documents_with_all (stored_documents c.args.documents.items)) c.claim.ensures.same
 
 pub returns-clause-kept : goal.returns-clause-kept
 unfolding documents_in

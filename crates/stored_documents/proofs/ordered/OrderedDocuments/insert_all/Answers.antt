@@ -1,5 +1,5 @@
 use Rattle.std.proofs.Common.{◌^◌, ◌<◌, ◌≤◌, ap, sym, subst, ◌∙◌, arith}
-use Rattle.definitions.specs.Documents.{bytes_of, placed_all}
+use Rattle.definitions.specs.Documents.{bytes_of, documents_with_all}
 use Rattle.definitions.specs.Keeping.{AreKept}
 use Rattle.definitions.specs.Patterns.{regular_search}
 use Rattle.definition_laws.proofs.AcceptedBatches.{unrepeated}
@@ -20,7 +20,7 @@ unfolding ordered_documents
 total_length-added-requires c =
     let ds = stored_documents c.args.self.now.stored.items in
     let es = stored_documents c.args.documents.items in
-    below_fits (bytes_of (stored_documents c.deref.result.now)) (bytes_of es) (bytes_of (placed_all es ds)) (ap (λ ss. bytes_of (stored_documents ss)) c.deref.ensures.value)
+    below_fits (bytes_of (stored_documents c.deref.result.now)) (bytes_of es) (bytes_of (documents_with_all es ds)) (ap (λ ss. bytes_of (stored_documents ss)) c.deref.ensures.value)
     (own_bytes es ds c.args.self.now.ascend c.requires.once) c.requires.fits
 
 pub place_all-replaced-requires-clause-fits : goal.place_all-replaced-requires-clause-fits
@@ -42,7 +42,7 @@ overflow_add-self c =
     let sum = sum_together es ds (stored_documents c.reserve.new.self.items) (stored_documents c.place_all-replaced.new.stored.items) c.args.self.now.bytes
     c.place_all-replaced.result c.total_length-added.result (ap stored_documents c.reserve.ensures.items) c.args.self.now.measured c.place_all-replaced.ensures.placed
     c.place_all-replaced.ensures.bytes c.place_all-replaced.ensures.within (c.total_length-added.ensures ∙ ap (λ ss. bytes_of (stored_documents ss)) c.deref.ensures.value) in
-    fits_as _ (bytes_of (placed_all es ds)) sum c.requires.fits
+    fits_as _ (bytes_of (documents_with_all es ds)) sum c.requires.fits
 
 pub invariant_of-self-2 : goal.invariant_of-self-2
 unfolding ordered_documents
@@ -52,11 +52,11 @@ invariant_of-self-2 c =
     let sum = sum_together es ds (stored_documents c.reserve.new.self.items) (stored_documents c.place_all-replaced.new.stored.items) c.args.self.now.bytes
     c.place_all-replaced.result c.total_length-added.result (ap stored_documents c.reserve.ensures.items) c.args.self.now.measured c.place_all-replaced.ensures.placed
     c.place_all-replaced.ensures.bytes c.place_all-replaced.ensures.within (c.total_length-added.ensures ∙ ap (λ ss. bytes_of (stored_documents ss)) c.deref.ensures.value) in
-    let put = c.place_all-replaced.ensures.placed ∙ ap (λ ss. placed_all es (stored_documents ss)) c.reserve.ensures.items in
+    let put = c.place_all-replaced.ensures.placed ∙ ap (λ ss. documents_with_all es (stored_documents ss)) c.reserve.ensures.items in
     let after = subst (AreKept regular_search) (sym put)
     (kept_with_all c.args.documents.items ds (kept_stored c.args.self.now.stored.items c.args.self.now.ascend c.args.self.now.distinct) c.requires.once c.requires.free) in
     record { ascend = after.ordered; distinct = after.distinct; measured = sum ∙ ap bytes_of (sym put) }
 
 pub returns-clause-placed : goal.returns-clause-placed
 unfolding ordered_documents
-returns-clause-placed c = c.place_all-replaced.ensures.placed ∙ ap (λ ss. placed_all (stored_documents c.args.documents.items) (stored_documents ss)) c.reserve.ensures.items
+returns-clause-placed c = c.place_all-replaced.ensures.placed ∙ ap (λ ss. documents_with_all (stored_documents c.args.documents.items) (stored_documents ss)) c.reserve.ensures.items

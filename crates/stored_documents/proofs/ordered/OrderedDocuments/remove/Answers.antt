@@ -5,7 +5,7 @@ use Rattle.definitions.specs.Patterns.{regular_search}
 use Rattle.definitions.specs.Texts.{text}
 use Rattle.stored_documents.specs.OrderedDocuments.{ordered_documents}
 use Rattle.stored_documents.specs.SharedStored.{stored_documents}
-use Rattle.stored_documents.specs.StoredDocuments.{stored_document}
+use Rattle.stored_documents.specs.StoredDocuments.{stored_view}
 use Rattle.stored_documents.specs.KeptDocuments.{kept_stored}
 use Rattle.stored_documents.proofs.KeptStored.{kept_without}
 use Rattle.stored_documents.proofs.MeasuredDocuments.{bytes_left, bytes_without, is_left, is_within}
@@ -14,15 +14,15 @@ use Rattle.stored_documents.proofs.ordered.OrderedDocuments.remove.Goals as goal
 pub overflow_sub-self : goal.overflow_sub-self
 overflow_sub-self c =
     let ds = stored_documents c.args.self.now.stored.items in
-    let old = stored_document c.in-Some.removed.value in
+    let old = stored_view c.in-Some.removed.value in
     is_within (bytes_of (others_of c.args.canonical.now ds)) (length (text old.value)) (bytes_of ds) c.length.result c.args.self.now.bytes
     (bytes_without c.args.canonical.now old ds c.args.self.now.ascend (sym c.in-Some.ensures.taken))
-    (c.length.ensures ∙ ap (λ s. length (text (stored_document s).value)) c.deref.ensures) c.args.self.now.measured
+    (c.length.ensures ∙ ap (λ s. length (text (stored_view s).value)) c.deref.ensures) c.args.self.now.measured
 
 pub invariant_of-self : goal.invariant_of-self
 invariant_of-self c =
     let ds = stored_documents c.args.self.now.stored.items in
-    let old = stored_document c.in-Some.removed.value in
+    let old = stored_view c.in-Some.removed.value in
     let after = subst (AreKept regular_search) (sym c.take_out.ensures.others)
     (kept_without c.args.canonical.now ds (kept_stored c.args.self.now.stored.items c.args.self.now.ascend c.args.self.now.distinct)) in
     record {
@@ -30,7 +30,7 @@ invariant_of-self c =
       distinct = after.distinct;
       measured = is_left (bytes_of (others_of c.args.canonical.now ds)) (length (text old.value)) (bytes_of ds) c.length.result c.args.self.now.bytes
           (bytes_without c.args.canonical.now old ds c.args.self.now.ascend (sym c.in-Some.ensures.taken))
-          (c.length.ensures ∙ ap (λ s. length (text (stored_document s).value)) c.deref.ensures) c.args.self.now.measured
+          (c.length.ensures ∙ ap (λ s. length (text (stored_view s).value)) c.deref.ensures) c.args.self.now.measured
           ∙ ap bytes_of (sym c.take_out.ensures.others);
     }
 

@@ -1,5 +1,5 @@
 use Rattle.std.proofs.Common.{◌<◌, ◌^◌, length, subst, arith}
-use Rattle.definitions.specs.Documents.{bytes_of, placed_all}
+use Rattle.definitions.specs.Documents.{bytes_of, documents_with_all}
 use Rattle.definition_laws.proofs.AcceptedBatches.{unrepeated}
 use Rattle.stored_documents.specs.DocumentLists.{documents_in}
 use Rattle.stored_documents.specs.SharedStored.{stored_documents}
@@ -21,13 +21,13 @@ returns-in-Some c =
     let ascend = (registry_both c.args.self.now).own.ascend in
     let once = unrepeated es c.requires.once in
     let left = c.left_over-count in
-    c.quota_fault.ensures (placed_all es ds) (record {
+    c.quota_fault.ensures (documents_with_all es ds) (record {
       documents =
-          count_after c.in-Some.count left.result.0 (length ss) (length (replaced_by es ds)) (length ds) (length es) (length (placed_all es ds)) c.in-Some.ensures.1 left.ensures.count
+          count_after c.in-Some.count left.result.0 (length ss) (length (replaced_by es ds)) (length ds) (length es) (length (documents_with_all es ds)) c.in-Some.ensures.1 left.ensures.count
           (number_after es ds ascend once) (stored_long ss);
       together =
           subst (IsSum c.sum_with-bytes.result)
-          (with_added left.result.1 (bytes_of (replaced_by es ds)) (bytes_of ds) (bytes_of es) (bytes_of (placed_all es ds)) left.ensures.bytes (bytes_after es ds ascend once)
+          (with_added left.result.1 (bytes_of (replaced_by es ds)) (bytes_of ds) (bytes_of es) (bytes_of (documents_with_all es ds)) left.ensures.bytes (bytes_after es ds ascend once)
           (small_replaced es ds ascend once))
           (c.sum_with-bytes.ensures (bytes_of es) c.added_bytes.ensures);
     })
@@ -42,6 +42,6 @@ returns-in-None c =
     let once = unrepeated es c.requires.once in
     let left = c.left_over-count in
     let small : c.document_quota.result < 2 ^ 64 = omega (arith, c.document_quota.type_inv) in
-    too_many (registry_view c.args.self.now) (placed_all es ds)
-    (over_all left.result.0 (length ss) (length (replaced_by es ds)) (length ds) (length es) (length (placed_all es ds)) c.args.self.now.most_documents c.document_quota.result
+    too_many (registry_view c.args.self.now) (documents_with_all es ds)
+    (over_all left.result.0 (length ss) (length (replaced_by es ds)) (length ds) (length es) (length (documents_with_all es ds)) c.args.self.now.most_documents c.document_quota.result
     c.in-None.ensures left.ensures.count (number_after es ds ascend once) (stored_long ss) c.document_quota.ensures small)

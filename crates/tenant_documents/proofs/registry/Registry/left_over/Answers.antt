@@ -3,7 +3,7 @@ use Rattle.definitions.specs.Documents.{bytes_of, document_of}
 use Rattle.definitions.specs.Lists.{option_list}
 use Rattle.definition_laws.proofs.AcceptedBatches.{unrepeated}
 use Rattle.stored_documents.specs.SharedStored.{stored_documents}
-use Rattle.stored_documents.specs.StoredDocuments.{stored_document}
+use Rattle.stored_documents.specs.StoredDocuments.{stored_view}
 use Rattle.tenant_documents.specs.HeldBeside.{replaced_by}
 use Rattle.tenant_documents.specs.Registries.{registry_view}
 use Rattle.tenant_documents.proofs.BatchSizes.{few_replaced, small_replaced}
@@ -28,8 +28,8 @@ overflow_sub-count c =
     let ss = c.args.documents.now in
     let i = c.loop-document.document-index in
     let s = c.document-item.result in
-    let own : c.replaced_under-fewer.result.0 ≡ length (option_list (document_of ds (stored_document s.value).canonical)) =
-    c.replaced_under-fewer.ensures.count ∙ ap (λ u. length (option_list (document_of ds u))) (c.canonical.ensures ∙ ap (λ x. (stored_document x).canonical) c.deref.ensures) in
+    let own : c.replaced_under-fewer.result.0 ≡ length (option_list (document_of ds (stored_view s.value).canonical)) =
+    c.replaced_under-fewer.ensures.count ∙ ap (λ u. length (option_list (document_of ds u))) (c.canonical.ensures ∙ ap (λ x. (stored_view x).canonical) c.deref.ensures) in
     may_go c.loop-document.count (length (replaced_by (stored_documents (take i ss)) ds)) c.replaced_under-fewer.result.0 (length (replaced_by (stored_documents (take (i + 1) ss)) ds)) (length ds)
     c.loop-document.invariant.count
     (number_gone_more ss i s ds c.loop-document-test.true c.document-item.is ∙ ap (λ n. length (replaced_by (stored_documents (take i ss)) ds) + n) (sym own))
@@ -42,8 +42,8 @@ overflow_sub-bytes c =
     let ss = c.args.documents.now in
     let i = c.loop-document.document-index in
     let s = c.document-item.result in
-    let own : c.replaced_under-fewer.result.1 ≡ bytes_of (option_list (document_of ds (stored_document s.value).canonical)) =
-    c.replaced_under-fewer.ensures.bytes ∙ ap (λ u. bytes_of (option_list (document_of ds u))) (c.canonical.ensures ∙ ap (λ x. (stored_document x).canonical) c.deref.ensures) in
+    let own : c.replaced_under-fewer.result.1 ≡ bytes_of (option_list (document_of ds (stored_view s.value).canonical)) =
+    c.replaced_under-fewer.ensures.bytes ∙ ap (λ u. bytes_of (option_list (document_of ds u))) (c.canonical.ensures ∙ ap (λ x. (stored_view x).canonical) c.deref.ensures) in
     may_go c.loop-document.bytes (bytes_of (replaced_by (stored_documents (take i ss)) ds)) c.replaced_under-fewer.result.1 (bytes_of (replaced_by (stored_documents (take (i + 1) ss)) ds)) (bytes_of ds)
     c.loop-document.invariant.bytes
     (bytes_gone_more ss i s ds c.loop-document-test.true c.document-item.is ∙ ap (λ n. bytes_of (replaced_by (stored_documents (take i ss)) ds) + n) (sym own))
@@ -57,7 +57,7 @@ loop-document-preserved c =
     let i = c.loop-document.document-index in
     let s = c.document-item.result in
     let once = stored_once ss (i + 1) (unrepeated (stored_documents ss) c.requires.once) in
-    let named = c.canonical.ensures ∙ ap (λ x. (stored_document x).canonical) c.deref.ensures in
+    let named = c.canonical.ensures ∙ ap (λ x. (stored_view x).canonical) c.deref.ensures in
     record {
       count =
           gone_on c.loop-document.count (length (replaced_by (stored_documents (take i ss)) ds)) c.replaced_under-fewer.result.0 (length (replaced_by (stored_documents (take (i + 1) ss)) ds)) (length ds)

@@ -3,10 +3,10 @@ use Rattle.std.proofs.lemmas.Result.{err_from_is_err_and}
 use Rattle.std.specs.Global.{Global}
 use Rattle.std.specs.declared.rc.Rc.{Rc}
 use Rattle.definitions.specs.Batches.{batch_refusal, each_stored}
-use Rattle.definitions.specs.Documents.{placed_all, bytes_of}
+use Rattle.definitions.specs.Documents.{documents_with_all, bytes_of}
 use Rattle.definitions.specs.Faults as meaning
 use Rattle.definitions.specs.Registries.{refused}
-use Rattle.faults.specs.View.{fault}
+use Rattle.faults.specs.View.{fault_view}
 use Rattle.faults.specs.declared.Fault.{Fault}
 use Rattle.requests.specs.Views.{stored_entry_view}
 use Rattle.stored_documents.specs.DocumentLists.{documents_in}
@@ -22,13 +22,13 @@ use Rattle.tenant_documents.proofs.registry.Registry.place_all.Goals as goal
 
 -- the documents are judged as a slice
 judged : (r : Registry) (ss ts : List (Rc Stored Global)) (o : Option meaning.Fault) → ts ≡ ss
-    → batch_refusal (registry_view r) (stored_documents ts) (placed_all (stored_documents ts) (registry_view r).documents) ≡ o
-    → batch_refusal (registry_view r) (stored_documents ss) (placed_all (stored_documents ss) (registry_view r).documents) ≡ o
+    → batch_refusal (registry_view r) (stored_documents ts) (documents_with_all (stored_documents ts) (registry_view r).documents) ≡ o
+    → batch_refusal (registry_view r) (stored_documents ss) (documents_with_all (stored_documents ss) (registry_view r).documents) ≡ o
 judged r ss ts o e is =
-    subst (λ (xs : List (Rc Stored Global)). batch_refusal (registry_view r) (stored_documents xs) (placed_all (stored_documents xs) (registry_view r).documents) ≡ o) e is
+    subst (λ (xs : List (Rc Stored Global)). batch_refusal (registry_view r) (stored_documents xs) (documents_with_all (stored_documents xs) (registry_view r).documents) ≡ o) e is
 
 granted_so : (r : Registry) (ss ts : List (Rc Stored Global)) → ts ≡ ss
-    → batch_refusal (registry_view r) (stored_documents ts) (placed_all (stored_documents ts) (documents_in r.documents)) ≡ None → AreGranted r (stored_documents ss)
+    → batch_refusal (registry_view r) (stored_documents ts) (documents_with_all (stored_documents ts) (documents_in r.documents)) ≡ None → AreGranted r (stored_documents ss)
 unfolding registry_view
 granted_so r ss ts e none = are_granted r (stored_documents ss) (judged r ss ts None e none)
 
@@ -46,7 +46,7 @@ pub insert_all-requires-clause-fits : goal.insert_all-requires-clause-fits
 unfolding registry_view
 insert_all-requires-clause-fits c =
     let r = c.args.self.now in
-    let within : bytes_of (placed_all (stored_documents c.args.documents.items) (documents_in r.documents)) ≤ r.most_bytes =
+    let within : bytes_of (documents_with_all (stored_documents c.args.documents.items) (documents_in r.documents)) ≤ r.most_bytes =
     (granted_so r c.args.documents.items c.deref.result.now c.deref.ensures.value c.in_ok-judge_all.ensures.ok).small in
     omega (arith, within, c.byte_quota.ensures, c.byte_quota.type_inv)
 
@@ -59,7 +59,7 @@ invariant_of-self c =
     let granted = granted_so r c.args.documents.items c.deref.result.now c.deref.ensures.value c.in_ok-judge_all.ensures.ok in
     let after =
     within_after_all r ds new granted
-    (either_way (new ≡ placed_all ds (documents_in r.documents)) (new ≡ documents_in r.documents) c.insert_all.result c.insert_all.ensures.placed c.insert_all.ensures.kept) in
+    (either_way (new ≡ documents_with_all ds (documents_in r.documents)) (new ≡ documents_in r.documents) c.insert_all.result c.insert_all.ensures.placed c.insert_all.ensures.kept) in
     record { few = after.few; small = after.small; apart = after.apart }
 
 pub returns-in-Ok-clause-ok : goal.returns-in-Ok-clause-ok
@@ -78,7 +78,7 @@ unfolding registry_view
 returns-in-Err-clause-err c =
     let g = registry_view c.args.self.now in
     let ds = stored_documents c.args.documents.items in
-    subst (λ (f : Fault). IsPutTogether g ds (refused (fault f)) (record g { documents = documents_in c.insert_all.new.self })) (sym c.in-Err.ensures.err)
+    subst (λ (f : Fault). IsPutTogether g ds (refused (fault_view f)) (record g { documents = documents_in c.insert_all.new.self })) (sym c.in-Err.ensures.err)
     (no_room_after_judging g ds (documents_in c.insert_all.new.self) c.in-Err.ensures.kept)
 
 pub returns-in_err-judge_all-clause-err : goal.returns-in_err-judge_all-clause-err
@@ -87,6 +87,6 @@ returns-in_err-judge_all-clause-err c =
     let g = registry_view c.args.self.now in
     let ds = stored_documents c.args.documents.items in
     rw (p.1, p.2) (for_each_fault (λ f. IsPutTogether g ds (refused f) g) c.in_err-judge_all.field-0.0
-    (λ other. refused_together g ds (fault c.in_err-judge_all.field-0.0)
-    (judged c.args.self.now c.args.documents.items c.deref.result.now (Some (fault c.in_err-judge_all.field-0.0)) c.deref.ensures.value (c.in_err-judge_all.ensures.err other)))
+    (λ other. refused_together g ds (fault_view c.in_err-judge_all.field-0.0)
+    (judged c.args.self.now c.args.documents.items c.deref.result.now (Some (fault_view c.in_err-judge_all.field-0.0)) c.deref.ensures.value (c.in_err-judge_all.ensures.err other)))
     (no_room_together g ds))

@@ -3,7 +3,7 @@ use Rattle.std.proofs.lemmas.Result.{IfErr-weaker, err_from_is_err_and}
 use Rattle.definitions.specs.Batches.{library_of}
 use Rattle.definitions.specs.Patterns.{regular_search}
 use Rattle.definitions.specs.Tenants.{server_fault}
-use Rattle.faults.specs.View.{fault}
+use Rattle.faults.specs.View.{fault_view}
 use Rattle.linker.specs.ListedDocuments.{listed_documents}
 use Rattle.tenants_file.specs.Tenants.{tenant_view}
 use Rattle.tenant_hub.proofs.NewServers.{fault_refused, library_not_made, no_capacity}
@@ -15,7 +15,7 @@ over_library-requires c = library_registered c.args.batch.now (listed_documents 
 
 pub returns-in-Some-clause-err : goal.returns-in-Some-clause-err
 returns-in-Some-clause-err c = λ other.
-    inl (fault_refused (map tenant_view c.args.tenants.items) c.args.capacity (library_of regular_search c.args.batch.now) (fault c.in-Some.fault)
+    inl (fault_refused (map tenant_view c.args.tenants.items) c.args.capacity (library_of regular_search c.args.batch.now) (fault_view c.in-Some.fault)
     (c.in-Some.ensures ∙ ap (λ ts. server_fault (map tenant_view ts) c.args.capacity) c.deref.ensures.value))
 
 pub returns-in_err-library_of-in-None-clause-err : goal.returns-in_err-library_of-in-None-clause-err

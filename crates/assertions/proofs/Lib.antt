@@ -1,4 +1,3 @@
 pub mod Elements
-pub mod Repeats
 pub mod Sizes
 pub mod Shapes

@@ -1,6 +1,6 @@
 //! The keywords, and what each asks of the instance.
 
-ghost use Rattle.std.specs.Prelude.{◌≡◌, option_map};
+ghost use Rattle.std.specs.Prelude.{◌≡◌, IfOk, option_map};
 ghost use Rattle.definitions.specs.Assertions.{shape_of, assertion_holds, holds};
 ghost use Rattle.definitions.specs.Keywords.{assertion_row};
 ghost use Rattle.definitions.specs.Shapes.{has_shape};
@@ -19,6 +19,7 @@ use crate::numbers::{is_below, is_multiple_if, is_not_above};
 use crate::types::is_of_types;
 use json_doc::{Doc, same};
 use keywords::{Keyword, Shape, fits};
+use std::alloc::{AllocError, Global};
 
 /// A keyword that looks at its own value and the instance.
 #[derive(Clone, Copy, Debug, Drop, PartialEq, Eq)]
@@ -113,12 +114,22 @@ impl Assertion {
 }
 
 /// Whether the keyword, with this value, holds of the instance (Validation, section 6). An instance of a kind that the
-/// keyword does not speak of passes, and a value that lacks the keyword's shape asks for nothing. This takes no memory.
-pub fn holds(assertion: Assertion, keyword_value: &Doc, instance: &Doc) -> bool
-    ensures { result ≡ holds (assertion_view assertion) (value keyword_value.now)
-        (value instance.now) }
+/// keyword does not speak of passes, and a value that lacks the keyword's shape asks for nothing. The only error is want of
+/// memory, which `uniqueItems` alone takes, and only for an array of more than 16 elements.
+pub fn holds(
+    alloc: Global,
+    assertion: Assertion,
+    keyword_value: &Doc,
+    instance: &Doc,
+) -> Result<bool, AllocError>
+    ensures { IfOk result (λ b. b
+        ≡ holds (assertion_view assertion) (value keyword_value.now) (value instance.now)) }
 {
-    !has_its_shape(assertion, keyword_value) || is_asserted(assertion, keyword_value, instance)
+    if has_its_shape(assertion, keyword_value) {
+        is_asserted(alloc, assertion, keyword_value, instance)
+    } else {
+        Ok(true)
+    }
 }
 
 // Whether the value has the keyword's shape.
@@ -136,11 +147,17 @@ fn shape_of(assertion: Assertion) -> Shape
 }
 
 // What the keyword asks, where its value has its shape.
-fn is_asserted(assertion: Assertion, keyword_value: &Doc, instance: &Doc) -> bool
-    ensures { result ≡ assertion_holds (assertion_view assertion) (value keyword_value.now)
-        (value instance.now) }
+fn is_asserted(
+    alloc: Global,
+    assertion: Assertion,
+    keyword_value: &Doc,
+    instance: &Doc,
+) -> Result<bool, AllocError>
+    ensures { IfOk result (λ b. b
+        ≡ assertion_holds (assertion_view assertion) (value keyword_value.now)
+        (value instance.now)) }
 {
-    match assertion {
+    Ok(match assertion {
         Assertion::TypeIs => is_of_types(instance, keyword_value),
         Assertion::EnumOf => is_one_of(instance, keyword_value),
         Assertion::ConstIs => same(keyword_value, instance),
@@ -157,6 +174,6 @@ fn is_asserted(assertion: Assertion, keyword_value: &Doc, instance: &Doc) -> boo
         Assertion::DependentRequired => has_dependents(instance, keyword_value),
         Assertion::MaxItems => has_elements_at_most(instance, keyword_value),
         Assertion::MinItems => has_elements_at_least(instance, keyword_value),
-        Assertion::UniqueItems => is_unique_if(keyword_value, instance),
-    }
+        Assertion::UniqueItems => is_unique_if(alloc, keyword_value, instance)?,
+    })
 }

@@ -3,8 +3,8 @@
 ghost use Rattle.std.specs.Prelude.{◌≡◌, length, chars, nat_le};
 ghost use Rattle.definitions.specs.Assertions.{is_at_most, is_at_least, on_length, on_elements, on_members};
 ghost use Rattle.json_doc.specs.Docs.{value};
-ghost use Rattle.assertions.specs.Limits.{size_of};
 
+use crate::limits::{is_at_least, is_at_most, size_of};
 use json_doc::Doc;
 
 /// Whether the instance, where it is a string, has at most so many code points.
@@ -84,7 +84,7 @@ pub(crate) fn has_elements_at_most(instance: &Doc, limit: &Doc) -> bool
     ensures { result ≡ on_elements (is_at_most (value limit.now)) (value instance.now) }
 {
     match instance {
-        Doc::List(items) => is_at_most(items.len(), limit),
+        Doc::List(items) => is_at_most(items.len() as u64, limit),
         _ => true,
     }
 }
@@ -94,7 +94,7 @@ pub(crate) fn has_elements_at_least(instance: &Doc, limit: &Doc) -> bool
     ensures { result ≡ on_elements (is_at_least (value limit.now)) (value instance.now) }
 {
     match instance {
-        Doc::List(items) => is_at_least(items.len(), limit),
+        Doc::List(items) => is_at_least(items.len() as u64, limit),
         _ => true,
     }
 }
@@ -104,7 +104,7 @@ pub(crate) fn has_members_at_most(instance: &Doc, limit: &Doc) -> bool
     ensures { result ≡ on_members (is_at_most (value limit.now)) (value instance.now) }
 {
     match instance {
-        Doc::Dict(members) => is_at_most(members.len(), limit),
+        Doc::Dict(members) => is_at_most(members.len() as u64, limit),
         _ => true,
     }
 }
@@ -114,35 +114,7 @@ pub(crate) fn has_members_at_least(instance: &Doc, limit: &Doc) -> bool
     ensures { result ≡ on_members (is_at_least (value limit.now)) (value instance.now) }
 {
     match instance {
-        Doc::Dict(members) => is_at_least(members.len(), limit),
+        Doc::Dict(members) => is_at_least(members.len() as u64, limit),
         _ => true,
-    }
-}
-
-fn is_at_most(count: usize, limit: &Doc) -> bool
-    ensures { result ≡ is_at_most (value limit.now) count }
-{
-    match size_of(limit) {
-        Some(size) => count as u64 <= size,
-        None => true,
-    }
-}
-
-fn is_at_least(count: usize, limit: &Doc) -> bool
-    ensures { result ≡ is_at_least (value limit.now) count }
-{
-    match size_of(limit) {
-        Some(size) => count as u64 >= size,
-        None => true,
-    }
-}
-
-// The number, where it is one of at least 0.
-fn size_of(limit: &Doc) -> Option<u64>
-    ensures { result ≡ size_of (value limit.now) }
-{
-    match limit {
-        Doc::Int(number) => number.as_u64(),
-        _ => None,
     }
 }

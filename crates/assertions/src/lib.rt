@@ -4,10 +4,11 @@
 mod assertion;
 mod equality;
 mod lengths;
+mod limits;
 mod names;
 mod numbers;
 mod types;
 
 pub use assertion::{Assertion, holds};
-pub use equality::is_unique;
+pub use limits::{is_at_least, is_at_most};
 pub use numbers::is_multiple;

@@ -1,6 +1,6 @@
 //! Each keyword that looks at its own value and the instance, on both sides of its bound.
 
-use assertions::{Assertion, holds, is_multiple, is_unique};
+use assertions::{Assertion, holds, is_at_least, is_at_most, is_multiple};
 use json_doc::read;
 use std::test::Fail;
 
@@ -145,7 +145,7 @@ fn keywords_hold_up_to_their_bounds(rt: HostRuntime) -> Result<(), Fail> {
     for (keyword, keyword_value, instance, outcome) in BOUNDS {
         let value = read(rt.alloc(), keyword_value.as_bytes())?;
         let subject = read(rt.alloc(), instance.as_bytes())?;
-        let found = holds(*keyword, &value, &subject);
+        let found = holds(rt.alloc(), *keyword, &value, &subject)?;
         assert_eq!(rt;
             found,
             *outcome,
@@ -160,6 +160,7 @@ fn two_values_alone(rt: HostRuntime) -> Result<(), Fail> {
     let six = read(rt.alloc(), b"-6")?;
     let three = read(rt.alloc(), b"3")?;
     assert!(rt; is_multiple(&six, &three) && !is_multiple(&three, &six));
-    assert!(rt; is_unique(&six) && !is_unique(&read(rt.alloc(), b"[3,3]")?));
+    assert!(rt; is_at_most(3, &three) && !is_at_most(4, &three) && is_at_most(4, &six));
+    assert!(rt; is_at_least(3, &three) && !is_at_least(2, &three) && is_at_least(0, &six));
     Ok(())
 }

@@ -2,9 +2,8 @@
 
 ghost use Rattle.std.specs.Prelude.{◌≡◌, ◌||◌, ℕ, List, Option, Some, true, IfOk, IfErr, codes, count_by, length, nat_lt, not, option_map};
 ghost use Rattle.assertions.specs.AssertionView.{assertion_view};
-ghost use Rattle.assertions.specs.Limits.{size_of};
 ghost use Rattle.definitions.specs.Values.{Text, get, integer, is_array};
-ghost use Rattle.definitions.specs.Assertions.{holds, is_at_least, is_at_most, unique_items};
+ghost use Rattle.definitions.specs.Assertions.{holds, is_at_least, is_at_most};
 ghost use Rattle.definitions.specs.Patterns.{has_match};
 ghost use Rattle.definitions.specs.Applied.{Application, Outcome, beside, contains_outcomes};
 ghost use Rattle.definitions.specs.Evaluated.{contains_holds, keyword_passes, needs_none, pass_count, pattern_holds};
@@ -17,12 +16,11 @@ ghost use Rattle.keyword_plans.specs.Subjects.{subject_value};
 use crate::searching::is_match;
 use crate::site::Site;
 use crate::subject::Subject;
-use assertions::{Assertion, holds};
+use assertions::{Assertion, holds, is_at_least, is_at_most};
 use faults::Fault;
 use json_doc::{Doc, Whole};
 use keywords::Keyword;
 use std::alloc::{AllocError, Global};
-use value_order::is_unique;
 
 /// How many schemas a keyword applied, and how many of them passed.
 #[derive(Clone, Copy, Debug, PartialEq, Eq)]
@@ -86,36 +84,11 @@ fn holds_of(
         (subject_value subject.entry)) }
 {
     match subject {
-        Subject::Value(doc) => holds_of_value(alloc, assertion, keyword_value, doc),
+        Subject::Value(doc) => holds(alloc, assertion, keyword_value, doc),
         Subject::Name(name) => {
             let name = Doc::Str(String::from_str(alloc, name)?);
-            Ok(holds(assertion, keyword_value, &name))
+            holds(alloc, assertion, keyword_value, &name)
         }
-    }
-}
-
-fn holds_of_value(
-    alloc: Global,
-    assertion: Assertion,
-    keyword_value: &Doc,
-    instance: &Doc,
-) -> Result<bool, AllocError>
-    ensures { IfOk result (λ b. b
-        ≡ holds (assertion_view assertion) (value keyword_value.now) (value instance.now)) }
-{
-    match assertion {
-        Assertion::UniqueItems => is_unique_if(alloc, keyword_value, instance),
-        _ => Ok(holds(assertion, keyword_value, instance)),
-    }
-}
-
-// Whether no two elements are equal, where the keyword's value is `true` (Validation, 6.4.3).
-fn is_unique_if(alloc: Global, asked: &Doc, instance: &Doc) -> Result<bool, AllocError>
-    ensures { IfOk result (λ b. b ≡ holds unique_items (value asked.now) (value instance.now)) }
-{
-    match asked {
-        Doc::Bool(true) => is_unique(alloc, instance),
-        _ => Ok(true),
     }
 }
 
@@ -185,15 +158,6 @@ fn contains_at_least(subject: Subject<'_>, least: &Doc, containing: Option<u64>)
     }
 }
 
-fn is_at_least(count: u64, least: &Doc) -> bool
-    ensures { result ≡ is_at_least (value least.now) count }
-{
-    match size_of(least) {
-        Some(size) => count >= size,
-        None => true,
-    }
-}
-
 // Whether `contains` beside found at most so many elements of the array (Validation, 6.4.4).
 fn contains_at_most(subject: Subject<'_>, most: &Doc, containing: Option<u64>) -> bool
     ensures { (os : Option (List Outcome)) → option_map (count_by (λ o. o.valid)) os ≡ containing
@@ -203,24 +167,5 @@ fn contains_at_most(subject: Subject<'_>, most: &Doc, containing: Option<u64>) -
     match containing {
         Some(count) => !subject.is_array() || is_at_most(count, most),
         None => true,
-    }
-}
-
-fn is_at_most(count: u64, most: &Doc) -> bool
-    ensures { result ≡ is_at_most (value most.now) count }
-{
-    match size_of(most) {
-        Some(size) => count <= size,
-        None => true,
-    }
-}
-
-// The number, where it is one of at least 0.
-fn size_of(limit: &Doc) -> Option<u64>
-    ensures { result ≡ size_of (value limit.now) }
-{
-    match limit {
-        Doc::Int(number) => number.as_u64(),
-        _ => None,
     }
 }

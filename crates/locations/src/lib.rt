@@ -3,6 +3,8 @@
 
 mod sameness;
 mod step;
+mod ways;
 
 pub use sameness::same_steps;
 pub use step::{Step, push_fragment, push_pointer};
+pub use ways::{OwnedStep, follow, own, steps_after};

@@ -12,7 +12,7 @@ use Rattle.definitions.specs.Shapes.{Shape, one_schema, schema_list, schema_map}
 use Rattle.keywords.specs.Rows.{shape_named}
 use Rattle.lemmas.proofs.Orders.{is_less}
 use Rattle.lemmas.proofs.Members.{member_parts}
-use Rattle.schema_index.specs.Hops.{Hop, to_member, to_element, hop_value, follow}
+use Rattle.locations.specs.Hops.{Hop, to_member, to_element, hop_value, follow}
 use Rattle.schema_index.specs.Spots.{Spot, resource_of, start_of, spots, spots_below, spots_at, spots_in_list, spots_in_map}
 
 -- ---- one hop more

@@ -3,7 +3,7 @@ use Rattle.std.proofs.Common.{◌≡◌, List, [], ◌∷◌, refl, ap₂}
 use Rattle.locations.specs.Steps.{token, tokens}
 use Rattle.locations.specs.declared.step.Step.{Step}
 use Rattle.locations.specs.declared.step.Step.TheVariants.{Name, Index}
-use Rattle.schema_index.specs.Hops.{hop_token, hop_tokens, step_hop, step_hops}
+use Rattle.locations.specs.Hops.{hop_token, hop_tokens, step_hop, step_hops}
 
 step-token : (s : Step) → token s ≡ hop_token (step_hop s)
 step-token (Name n) = refl

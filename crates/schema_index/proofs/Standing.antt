@@ -11,7 +11,7 @@ use Rattle.definitions.specs.Schemas.{Schema, opened_schema, schema_at, below, a
 use Rattle.keywords.specs.Rows.{shape_named}
 use Rattle.keywords.proofs.Names.{shape_named-row}
 use Rattle.definition_laws.proofs.Places.{value-opened}
-use Rattle.schema_index.specs.Hops.{Hop, to_member, to_element, hop_token, hop_tokens}
+use Rattle.locations.specs.Hops.{Hop, to_member, to_element, hop_token, hop_tokens}
 use Rattle.schema_index.specs.Spots.{spot_view, spot_in, id_of, opened_uri, opened_start, resource_of, start_of, spots, spots_below, spots_at, spots_in_list, spots_in_map}
 
 abbrev schema_with : Text → Value → Pointer → Schema

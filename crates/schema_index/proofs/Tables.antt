@@ -9,7 +9,7 @@ use Rattle.definitions.specs.Schemas.{Schema, is_root, references}
 use Rattle.definitions.specs.Lists.{option_list}
 use Rattle.definitions.specs.Scanning.{resource_uris}
 use Rattle.definitions.specs.Targets.{resource_root, is_anchor, is_dynamic_anchor, schema_with_anchor, schema_with_dynamic_anchor}
-use Rattle.schema_index.specs.Hops.{Hop, hop_token, hop_tokens}
+use Rattle.locations.specs.Hops.{Hop, hop_token, hop_tokens}
 use Rattle.schema_index.specs.Spots.{Spot, at_root, spot_view}
 use Rattle.schema_index.specs.Gathering.{Mark, mark, marks, marks_under, references_at, root_uris, root_ways, spot_references}
 use Rattle.schema_index.specs.Lookups.{has_dynamic_mark, has_mark, marked_schema, numbered_root, root_at, root_schema}

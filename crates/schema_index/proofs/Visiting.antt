@@ -4,7 +4,7 @@ use Rattle.std.proofs.lemmas.List.{drop_more}
 use Rattle.definitions.specs.Values.{Text, Value, null, boolean, integer, string, array, object, text_at, to_elements}
 use Rattle.json_doc.specs.Docs.{value}
 use Rattle.json_doc.specs.declared.doc.Doc.{Doc}
-use Rattle.schema_index.specs.Hops.{Hop, to_element}
+use Rattle.locations.specs.Hops.{Hop, to_element}
 use Rattle.schema_index.specs.Spots.{opened_start, opened_uri, start_of, resource_of, spots, spots_from, spots_in_list}
 
 spots-is : (way : List Hop) (start : ℕ) (base : Text) (v : Value) → spots way start base v ≡ spots_from way (start_of start way v) (resource_of base v) v

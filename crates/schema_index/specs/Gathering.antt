@@ -3,9 +3,9 @@ use Rattle.std.specs.Prelude.{ℕ, ◌≡◌, List, ◌++◌, Bool, true, false,
 use Rattle.definitions.specs.Values.{Text, Value, text_at}
 use Rattle.definitions.specs.Resolution.{target_uri}
 use Rattle.definitions.specs.Lists.{option_list}
-use Rattle.schema_index.specs.Hops.{Hop}
+use Rattle.locations.specs.Hops.{Hop}
 use Rattle.schema_index.specs.Spots.{Spot, at_root}
-use Rattle.schema_index.specs.Ways.{owned_hops}
+use Rattle.locations.specs.Ways.{owned_hops}
 use Rattle.schema_index.specs.declared.anchors.Anchor.{Anchor}
 use Rattle.schema_index.specs.declared.gathered.GatheredSchemas.{GatheredSchemas}
 

@@ -2,9 +2,7 @@ pub mod Locateds
 pub mod IndexedDocuments
 pub mod Descents
 pub mod DescentViews
-pub mod Hops
 pub mod Spots
-pub mod Ways
 pub mod Gathering
 pub mod Lookups
 pub mod AnchorNumbers

@@ -2,7 +2,7 @@
 use Rattle.std.specs.Prelude.{ℕ, List, [], Bool, ◌&&◌, Option, drop, option_and_then, option_map, slice_get}
 use Rattle.definitions.specs.Values.{Text, Value, same_text}
 use Rattle.definitions.specs.Schemas.{Schema}
-use Rattle.schema_index.specs.Hops.{Hop, follow, hop_tokens}
+use Rattle.locations.specs.Hops.{Hop, follow, hop_tokens}
 use Rattle.schema_index.specs.Gathering.{Mark}
 
 -- the root of a resource with this URI

@@ -7,7 +7,7 @@ use Rattle.definitions.specs.Resolution.{target_uri}
 use Rattle.definitions.specs.Shapes.{Shape, one_schema, schema_list, schema_map}
 use Rattle.definitions.specs.Schemas.{Schema}
 use Rattle.keywords.specs.Rows.{shape_named}
-use Rattle.schema_index.specs.Hops.{Hop, to_member, to_element, hop_tokens}
+use Rattle.locations.specs.Hops.{Hop, to_member, to_element, hop_tokens}
 
 -- a schema: the way to it, how many hops of it lead to its resource's root, that resource's URI, and its value
 pub record Spot : Type 0 where

@@ -7,8 +7,8 @@ ghost use Rattle.schema_index.specs.Locateds.{located_view};
 ghost use Rattle.schema_index.specs.Lookups.{marked_schema};
 
 use crate::located::Located;
-use crate::ways::{OwnedStep, follow, steps_after};
 use json_doc::Doc;
+use locations::{OwnedStep, follow, steps_after};
 use std::alloc::{AllocError, Global};
 
 /// An anchor, and the schema that has it.

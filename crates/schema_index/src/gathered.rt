@@ -2,15 +2,14 @@
 
 ghost use Rattle.std.specs.Prelude.{◌≡◌, [], ◌∷◌, ◌++◌, IfOk, OnOk, map, string_bytes};
 ghost use Rattle.json_doc.specs.Docs.{value};
-ghost use Rattle.schema_index.specs.Hops.{step_hops};
+ghost use Rattle.locations.specs.Hops.{step_hops};
 ghost use Rattle.schema_index.specs.Spots.{spot_in};
-ghost use Rattle.schema_index.specs.Ways.{owned_hops};
+ghost use Rattle.locations.specs.Ways.{owned_hops};
 ghost use Rattle.schema_index.specs.Gathering.{anchor_mark, marks, reference_under, references_at};
 
 use crate::anchors::Anchor;
-use crate::ways::{OwnedStep, own};
 use json_doc::Doc;
-use locations::Step;
+use locations::{OwnedStep, Step, own};
 use std::alloc::{AllocError, Global};
 use uri_ref::resolved_uri;
 

@@ -11,7 +11,6 @@ mod located;
 mod numbers;
 mod pointing;
 mod visit;
-mod ways;
 
 pub use indexed::Indexed;
 pub use located::Located;

@@ -1,10 +1,12 @@
-//! Texts by number.
+//! Texts and ways by number.
 
 ghost use Rattle.std.specs.Prelude.{◌≡◌, IfOk, map, option_map, slice_get, string_bytes};
 ghost use Rattle.std.specs.BTreeMap.{get_by_text};
 ghost use Rattle.std.specs.List.{position_from};
 ghost use Rattle.definitions.specs.Values.{Text, same_text};
+ghost use Rattle.locations.specs.Ways.{owned_hops};
 
+use locations::OwnedStep;
 use std::alloc::{AllocError, Global};
 use std::collections::BTreeMap;
 
@@ -30,4 +32,12 @@ pub(crate) fn numbered(texts: &[String], number: usize) -> Option<&str>
     ensures { option_map (λ t. t.now) result ≡ slice_get (map string_bytes texts.now) number }
 {
     Some(texts.get(number)?.as_str())
+}
+
+/// The way of this number.
+pub(crate) fn way_of(ways: &[Vec<OwnedStep>], number: usize) -> Option<&[OwnedStep]>
+    ensures { option_map (λ w. owned_hops w.now) result
+        ≡ slice_get (map (λ w. owned_hops w.items) ways.now) number }
+{
+    Some(ways.get(number)?.as_slice())
 }

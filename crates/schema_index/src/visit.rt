@@ -4,7 +4,7 @@ ghost use Rattle.std.specs.Prelude.{◌≡◌, ◌∷◌, ◌++◌, [], List, On
 ghost use Rattle.definitions.specs.Values.{to_elements};
 ghost use Rattle.json_doc.specs.Docs.{value, members_view};
 ghost use Rattle.schema_index.specs.Gathering.{Gathers};
-ghost use Rattle.schema_index.specs.Hops.{Hop, step_hop, step_hops, to_element, to_member};
+ghost use Rattle.locations.specs.Hops.{Hop, step_hop, step_hops, to_element, to_member};
 ghost use Rattle.keywords.specs.Rows.{shape_named};
 ghost use Rattle.keywords.specs.Shapes.{shape_view};
 ghost use Rattle.schema_index.specs.Spots.{spots, spots_at, spots_below, spots_from, spots_in_list, spots_in_map};

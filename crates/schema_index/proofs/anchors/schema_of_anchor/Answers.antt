@@ -4,9 +4,9 @@ use Rattle.definitions.specs.Schemas.{Schema}
 use Rattle.definitions.specs.Values.{Text, Value}
 use Rattle.json_doc.specs.Docs.{value}
 use Rattle.locations.specs.Steps.{tokens}
-use Rattle.schema_index.specs.Hops.{follow, hop_tokens}
+use Rattle.locations.specs.Hops.{follow, hop_tokens}
 use Rattle.schema_index.specs.Lookups.{marked_schema}
-use Rattle.schema_index.specs.Ways.{owned_hops}
+use Rattle.locations.specs.Ways.{owned_hops}
 use Rattle.schema_index.proofs.Marked.{tokens-hops}
 use Rattle.schema_index.proofs.anchors.schema_of_anchor.Goals as goal
 

@@ -8,7 +8,7 @@ use Rattle.json_doc.specs.Docs.{value, members_view}
 use Rattle.json_doc.specs.Members.{members_left}
 use Rattle.json_doc.proofs.Views.{to_members-value}
 use Rattle.schema_index.specs.Gathering.{Gathers}
-use Rattle.schema_index.specs.Hops.{step_hop, step_hops, to_element, to_member}
+use Rattle.locations.specs.Hops.{step_hop, step_hops, to_element, to_member}
 use Rattle.keywords.specs.Rows.{shape_named}
 use Rattle.schema_index.specs.Spots.{Spot, spots, spots_from, spots_at, spots_below, spots_in_list, spots_in_map}
 use Rattle.schema_index.proofs.Gatherings.{gathers-none, gathers-append}

@@ -3,7 +3,7 @@ use Rattle.definitions.specs.Values.{nesting, elements_nesting, members_nesting,
 use Rattle.json_doc.specs.Docs.{value, members_view}
 use Rattle.json_doc.specs.Members.{members_left}
 use Rattle.schema_index.specs.Gathering.{Gathers}
-use Rattle.schema_index.specs.Hops.{step_hops}
+use Rattle.locations.specs.Hops.{step_hops}
 use Rattle.schema_index.specs.Spots.{Spot, spots_below, spots_in_list, spots_in_map}
 use Rattle.schema_index.proofs.visit.+visit.Given as goal
 

@@ -3,9 +3,9 @@ use Rattle.std.proofs.lemmas.Bool.Decides.{nat_tests}
 use Rattle.std.proofs.lemmas.List.{length-map}
 use Rattle.json_doc.specs.Docs.{value}
 use Rattle.locations.specs.declared.step.Step.{Step}
-use Rattle.schema_index.specs.Hops.{step_hops}
+use Rattle.locations.specs.Hops.{step_hops}
 use Rattle.schema_index.specs.Spots.{Spot, at_root, spot_in}
-use Rattle.schema_index.specs.Ways.{owned_hops}
+use Rattle.locations.specs.Ways.{owned_hops}
 use Rattle.schema_index.specs.Gathering.{anchor_mark, gathered_uris, gathered_ways, gathered_references, gathered_marks, references_at, marks}
 use Rattle.schema_index.proofs.Gatherings.{root_uri-one, root_way-one}
 use Rattle.schema_index.proofs.gathered.GatheredSchemas.add.Goals as goal

@@ -4,9 +4,9 @@ use Rattle.definitions.specs.Values.{Text, Value}
 use Rattle.definitions.specs.Schemas.{Schema}
 use Rattle.json_doc.specs.Docs.{value}
 use Rattle.schema_index.specs.Gathering.{gathered_uris, gathered_ways}
-use Rattle.schema_index.specs.Hops.{Hop}
+use Rattle.locations.specs.Hops.{Hop}
 use Rattle.schema_index.specs.Lookups.{numbered_root, root_at}
-use Rattle.schema_index.specs.Ways.{owned_hops}
+use Rattle.locations.specs.Ways.{owned_hops}
 use Rattle.schema_index.proofs.indexed.Indexed.root.Goals as goal
 
 abbrev root_of : Value → Option Text → Option (List Hop) → Option Schema

@@ -1,25 +1,27 @@
 //! Ways from a document's root to a value in it.
 
-ghost use Rattle.std.specs.Prelude.{◌≡◌, IfOk, drop, map, option_map, slice_get};
+ghost use Rattle.std.specs.Prelude.{◌≡◌, IfOk, drop, option_map};
 ghost use Rattle.json_doc.specs.Docs.{value};
-ghost use Rattle.schema_index.specs.Hops.{follow, hop_value, step_hop, step_hops};
-ghost use Rattle.schema_index.specs.Ways.{owned_hop, owned_hops};
+ghost use Rattle.locations.specs.Hops.{follow, hop_value, step_hop, step_hops};
+ghost use Rattle.locations.specs.Ways.{owned_hop, owned_hops};
 
+use crate::step::Step;
 use json_doc::Doc;
-use locations::Step;
 use std::alloc::{AllocError, Global};
 
-/// One step of a way, which owns its name.
+/// One step of a way from a document's root to a value in it, which owns its name.
+///
+/// Contracts see the hop, by `owned_hop`.
 #[derive(Debug, Drop)]
-pub(crate) enum OwnedStep {
+pub enum OwnedStep {
     /// To the member of this name.
     Name(String),
     /// To the element of this index.
     Index(usize),
 }
 
-/// The same way, which owns its names.
-pub(crate) fn own(alloc: Global, steps: &[Step<'_>]) -> Result<Vec<OwnedStep>, AllocError>
+/// The same way, which owns its names. It fails only for want of memory.
+pub fn own(alloc: Global, steps: &[Step<'_>]) -> Result<Vec<OwnedStep>, AllocError>
     ensures { IfOk result (λ way. owned_hops way.items ≡ step_hops steps.now) }
 {
     let mut way = Vec::with_capacity(alloc, steps.len())?;
@@ -39,7 +41,7 @@ fn own_step(alloc: Global, step: Step<'_>) -> Result<OwnedStep, AllocError>
 }
 
 /// What stands at the end of the way, if it leads anywhere. This takes no memory.
-pub(crate) fn follow<'a>(way: &[OwnedStep], doc: &'a Doc) -> Option<&'a Doc>
+pub fn follow<'a>(way: &[OwnedStep], doc: &'a Doc) -> Option<&'a Doc>
     ensures { option_map (λ d. value d.now) result ≡ follow (owned_hops way.now) (value doc.now) }
 {
     let mut found = doc;
@@ -59,8 +61,8 @@ fn child<'a>(step: &OwnedStep, doc: &'a Doc) -> Option<&'a Doc>
     }
 }
 
-/// The steps of the way after the first `start`.
-pub(crate) fn steps_after<'a>(
+/// The steps of the way after the first `start`; none where it has fewer. It fails only for want of memory.
+pub fn steps_after<'a>(
     alloc: Global,
     way: &'a [OwnedStep],
     start: usize,
@@ -90,12 +92,4 @@ fn borrow_step(step: &OwnedStep) -> Step<'_>
         OwnedStep::Name(name) => Step::Name(name.as_str()),
         OwnedStep::Index(index) => Step::Index(*index),
     }
-}
-
-/// The way of this number.
-pub(crate) fn way_of(ways: &[Vec<OwnedStep>], number: usize) -> Option<&[OwnedStep]>
-    ensures { option_map (λ w. owned_hops w.now) result
-        ≡ slice_get (map (λ w. owned_hops w.items) ways.now) number }
-{
-    Some(ways.get(number)?.as_slice())
 }

@@ -3,10 +3,10 @@ use Rattle.std.proofs.lemmas.List.{drop_all, drop-map}
 use Rattle.std.proofs.lemmas.List.Folds.{drop_split}
 use Rattle.std.specs.List.{slice_range}
 use Rattle.std.specs.Result.{IfOk}
-use Rattle.schema_index.specs.Hops.{step_hops}
-use Rattle.schema_index.specs.Ways.{owned_hop, owned_hops}
-use Rattle.schema_index.specs.declared.ways.OwnedStep.{OwnedStep}
-use Rattle.schema_index.proofs.ways.steps_after.Goals as goal
+use Rattle.locations.specs.Hops.{step_hops}
+use Rattle.locations.specs.Ways.{owned_hop, owned_hops}
+use Rattle.locations.specs.declared.ways.OwnedStep.{OwnedStep}
+use Rattle.locations.proofs.ways.steps_after.Goals as goal
 
 rest-range : (way : List OwnedStep) (start : ℕ) → start ≤ length way → slice_range way start (length way) ≡ drop start way
 rest-range way start h =

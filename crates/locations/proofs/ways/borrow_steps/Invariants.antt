@@ -1,7 +1,7 @@
 use Rattle.std.proofs.Common.{◌≡◌, take}
-use Rattle.schema_index.specs.Hops.{step_hops}
-use Rattle.schema_index.specs.Ways.{owned_hops}
-use Rattle.schema_index.proofs.ways.borrow_steps.Given as goal
+use Rattle.locations.specs.Hops.{step_hops}
+use Rattle.locations.specs.Ways.{owned_hops}
+use Rattle.locations.proofs.ways.borrow_steps.Given as goal
 
 abbrev pub invariant-loop-step : goal.invariant-loop-step
 invariant-loop-step l = step_hops l.steps.items ≡ owned_hops (take l.step-index l.way)

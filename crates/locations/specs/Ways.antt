@@ -1,8 +1,8 @@
 -- Owned steps as hops.
 use Rattle.std.specs.Prelude.{List, map, string_bytes}
-use Rattle.schema_index.specs.Hops.{Hop, to_member, to_element}
-use Rattle.schema_index.specs.declared.ways.OwnedStep.{OwnedStep}
-use Rattle.schema_index.specs.declared.ways.OwnedStep.TheVariants.{Name, Index}
+use Rattle.locations.specs.Hops.{Hop, to_member, to_element}
+use Rattle.locations.specs.declared.ways.OwnedStep.{OwnedStep}
+use Rattle.locations.specs.declared.ways.OwnedStep.TheVariants.{Name, Index}
 
 abbrev pub owned_hop : OwnedStep → Hop
 owned_hop (Name name) = to_member (string_bytes name)

@@ -30,30 +30,30 @@ said_same xs ys n (said.Value doc) same h = refl
 pub record Parts (n : ℕ) (e : Entry) : Type 0 where
   pub path : is_within n e.path ≡ true
   pub pointer : is_within n e.pointer ≡ true
-  pub place : is_within n e.place ≡ true
+  pub instance_location : is_within n e.instance_location ≡ true
   pub says : said_fits n e.says ≡ true
 
 pub parts : (n : ℕ) (e : Entry) → fits n e ≡ true → Parts n e
 parts n e h =
     let p = and_parts (is_within n e.path) _ h in
     let q = and_parts (is_within n e.pointer) _ p.1 in
-    let r = and_parts (is_within n e.place) (said_fits n e.says) q.1 in
-    record { path = p.0; pointer = q.0; place = r.0; says = r.1 }
+    let r = and_parts (is_within n e.instance_location) (said_fits n e.says) q.1 in
+    record { path = p.0; pointer = q.0; instance_location = r.0; says = r.1 }
 
 pub whole : (n : ℕ) (e : Entry) → Parts n e → fits n e ≡ true
-whole n e p = rw (p.path, p.pointer, p.place, p.says) refl
+whole n e p = rw (p.path, p.pointer, p.instance_location, p.says) refl
 
 pub view_same : (xs ys : List Step) (n : ℕ) (e : Entry) → take n xs ≡ take n ys → fits n e ≡ true → entry_view xs e ≡ entry_view ys e
 view_same xs ys n e same h =
     let p = parts n e h in
     let path = steps_same xs ys n e.path same p.path in
     let pointer = steps_same xs ys n e.pointer same p.pointer in
-    let place = steps_same xs ys n e.place same p.place in
+    let instance_location = steps_same xs ys n e.instance_location same p.instance_location in
     let says = said_same xs ys n e.says same p.says in
-    ap (λ t. record { path = tokens t; resource = e.resource.now; pointer = tokens (steps_of xs e.pointer); place = tokens (steps_of xs e.place); says = said_value xs e.says }) path
-    ∙ ap (λ t. record { path = tokens (steps_of ys e.path); resource = e.resource.now; pointer = tokens t; place = tokens (steps_of xs e.place); says = said_value xs e.says }) pointer
-    ∙ ap (λ t. record { path = tokens (steps_of ys e.path); resource = e.resource.now; pointer = tokens (steps_of ys e.pointer); place = tokens t; says = said_value xs e.says }) place
-    ∙ ap (λ t. record { path = tokens (steps_of ys e.path); resource = e.resource.now; pointer = tokens (steps_of ys e.pointer); place = tokens (steps_of ys e.place); says = t }) says
+    ap (λ t. record { path = tokens t; resource = e.resource.now; pointer = tokens (steps_of xs e.pointer); instance_location = tokens (steps_of xs e.instance_location); says = said_value xs e.says }) path
+    ∙ ap (λ t. record { path = tokens (steps_of ys e.path); resource = e.resource.now; pointer = tokens t; instance_location = tokens (steps_of xs e.instance_location); says = said_value xs e.says }) pointer
+    ∙ ap (λ t. record { path = tokens (steps_of ys e.path); resource = e.resource.now; pointer = tokens (steps_of ys e.pointer); instance_location = tokens t; says = said_value xs e.says }) instance_location
+    ∙ ap (λ t. record { path = tokens (steps_of ys e.path); resource = e.resource.now; pointer = tokens (steps_of ys e.pointer); instance_location = tokens (steps_of ys e.instance_location); says = t }) says
 
 -- ---- more steps
 within_more : (m n : ℕ) (s : Segment) → m ≤ n → is_within m s ≡ true → is_within n s ≡ true
@@ -76,7 +76,7 @@ fits_more m n e le h =
     whole n e (record {
       path = within_more m n e.path le p.path;
       pointer = within_more m n e.pointer le p.pointer;
-      place = within_more m n e.place le p.place;
+      instance_location = within_more m n e.instance_location le p.instance_location;
       says = said_more m n e.says le p.says;
     })
 

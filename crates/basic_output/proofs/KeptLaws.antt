@@ -60,7 +60,7 @@ pub grown_length : {A : Type 0} (xs ys : List A) → Grows xs ys → length xs �
 grown_length xs ys g = omega (arith, ap length g.1, length-append xs g.0)
 
 -- ---- one put among them
--- a place past the end is the end
+-- a position past the end is the end
 pub insert_min : {A : Type 0} (xs : List A) (i : ℕ) (x : A) → insert xs (min i (length xs)) x ≡ insert xs i x
 insert_min xs i x = ap₂ (λ a b. a ++ x ∷ b) (take_min i xs) (drop_min i xs)
 
@@ -113,7 +113,7 @@ reached_from : (fs : List Entry) (reach : List ℕ) (i n k : ℕ) → i ≤ leng
 reached_from fs reach i n k le after within h =
     ap (λ m. list_all (fits m) (take (suc k) fs)) (raised_after reach i n k le after within) ∙ all_take (fits n) (suc k) fs h
 
--- the entries may have changed from the place i on
+-- the entries may have changed from the position i on
 pub reached_raised : (es fs : List Entry) (reach : List ℕ) (i n : ℕ) → i ≤ length es → length es ≤ length reach → AreReached es reach → take i fs ≡ take i es
     → list_all (fits n) fs ≡ true → length fs ≤ length reach + 1 → AreReached fs (raised_reach reach i n)
 reached_raised es fs reach i n le covered h same all short k less =
@@ -149,10 +149,10 @@ inserted false es fs e reach new i n le covered h all fit is grown =
 
 pub inserted_views : (xs ys : List Step) (es : List Entry) (e : Entry) (u : OutputUnit) (i m : ℕ) → Grows xs ys → list_all (fits (length xs)) es ≡ true
     → entry_view ys e ≡ u → i ≡ min m (length es) → map (entry_view ys) (insert es i e) ≡ insert (map (entry_view xs) es) m u
-inserted_views xs ys es e u i m grown h view place =
+inserted_views xs ys es e u i m grown h view position =
     let us = map (entry_view xs) es in
     map-insert (entry_view ys) es i e ∙ ap₂ (λ vs v. insert vs i v) (grown_views xs ys es grown h) view
-    ∙ ap (λ k. insert us k u) (place ∙ ap (min m) (sym (length-map es (entry_view xs)))) ∙ insert_min us m u
+    ∙ ap (λ k. insert us k u) (position ∙ ap (min m) (sym (length-map es (entry_view xs)))) ∙ insert_min us m u
 
 pub on_err : {T E : Type 0} {P : Type 0} (r : Result T E) → P → OnErr r P
 on_err (Ok x) p = tt
@@ -168,7 +168,7 @@ cut_fits n xs es h g =
       | inr all ↦ ap (λ ys. list_all (fits (length ys)) es) (take_all n xs all) ∙ g
     ]
 
--- the entries up to a place refer to the steps that its number says
+-- the entries up to a position refer to the steps that its number says
 reach_fits : (m : ℕ) (es : List Entry) (reach : List ℕ) → AreReached es reach → m ≤ length es → list_all (fits (reach_before reach m)) (take m es) ≡ true
 reach_fits zero es reach h le = refl
 reach_fits (suc m) es reach h le = h m (omega (arith, le))

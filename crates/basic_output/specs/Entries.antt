@@ -31,7 +31,7 @@ entry_view steps e =
       path = tokens (steps_of steps e.path);
       resource = e.resource.now;
       pointer = tokens (steps_of steps e.pointer);
-      place = tokens (steps_of steps e.place);
+      instance_location = tokens (steps_of steps e.instance_location);
       says = said_value steps e.says;
     }
 
@@ -44,4 +44,4 @@ said_fits n (said.Listed s) = is_within n s
 said_fits n _ = true
 
 abbrev pub fits : ℕ → Entry → Bool
-fits n e = is_within n e.path && (is_within n e.pointer && (is_within n e.place && said_fits n e.says))
+fits n e = is_within n e.path && (is_within n e.pointer && (is_within n e.instance_location && said_fits n e.says))

@@ -4,7 +4,7 @@ use Rattle.std.specs.List.{list_all}
 use Rattle.basic_output.specs.Entries.{fits}
 use Rattle.basic_output.specs.declared.entry.Entry.{Entry}
 
--- each number in the second list is one of steps, to which the entries up to that place refer alone
+-- each number in the second list is one of steps, to which the entries up to that position refer alone
 abbrev pub AreReached : List Entry → List ℕ → Type 0
 AreReached entries reach =
     (i : ℕ) → i < length entries → list_all (fits (get_or reach i 0)) (take (suc i) entries) ≡ true
@@ -14,6 +14,6 @@ abbrev pub reach_before : List ℕ → ℕ → ℕ
 reach_before reach zero = 0
 reach_before reach (suc i) = get_or reach i 0
 
--- one number more, and all from the place i on are n
+-- one number more, and all from the position i on are n
 abbrev pub raised_reach : List ℕ → ℕ → ℕ → List ℕ
 raised_reach reach i n = take i reach ++ replicate (suc (length reach - i)) n

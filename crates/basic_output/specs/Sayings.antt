@@ -23,6 +23,6 @@ unit_at location says =
       path = tokens location.path.now;
       resource = location.resource.now;
       pointer = tokens location.pointer.now;
-      place = tokens location.place.now;
+      instance_location = tokens location.instance_location.now;
       says = says_value says;
     }

@@ -35,7 +35,7 @@ pub(crate) struct Entry<'a> {
     pub(crate) path: Segment,
     pub(crate) resource: &'a str,
     pub(crate) pointer: Segment,
-    pub(crate) place: Segment,
+    pub(crate) instance_location: Segment,
     pub(crate) says: Said<'a>,
 }
 
@@ -52,13 +52,13 @@ pub(crate) fn keep<'a>(
 {
     let path = keep_steps(steps, location.path)?;
     let pointer = keep_steps(steps, location.pointer)?;
-    let place = keep_steps(steps, location.place)?;
+    let instance_location = keep_steps(steps, location.instance_location)?;
     let says = keep_says(steps, says)?;
     Ok(Entry {
         path,
         resource: location.resource,
         pointer,
-        place,
+        instance_location,
         says,
     })
 }

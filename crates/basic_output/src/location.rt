@@ -12,5 +12,5 @@ pub struct Location<'s, 'a> {
     /// The keyword's location from the root of that resource.
     pub pointer: &'s [Step<'a>],
     /// The instance's location.
-    pub place: &'s [Step<'a>],
+    pub instance_location: &'s [Step<'a>],
 }

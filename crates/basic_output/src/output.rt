@@ -133,7 +133,7 @@ fn write_unit<'a>(
     out.key(kind)?;
     write_said(steps, entry.says, location, out)?;
     write_locations(
-        run(steps, entry.place),
+        run(steps, entry.instance_location),
         run(steps, entry.path),
         location,
         out,
@@ -143,17 +143,18 @@ fn write_unit<'a>(
 
 // The locations of the instance and of the keyword.
 fn write_locations(
-    place: &[Step<'_>],
+    instance_location: &[Step<'_>],
     path: &[Step<'_>],
     location: &mut String,
     out: &mut Writer,
 ) -> Result<(), AllocError>
     ensures ok { OnOk result (out.new.tokens ≡ out.old.tokens
-        ++ json.key (codes "instanceLocation") ∷ json.string (pointer_text (tokens place.now))
+        ++ json.key (codes "instanceLocation")
+        ∷ json.string (pointer_text (tokens instance_location.now))
         ∷ json.key (codes "keywordLocation") ∷ json.string (pointer_text (tokens path.now)) ∷ []) }
     ensures before { out.new.before ≡ out.old.before }
 {
-    pointer(location, place)?;
+    pointer(location, instance_location)?;
     write_member("instanceLocation", location.as_str(), out)?;
     pointer(location, path)?;
     write_member("keywordLocation", location.as_str(), out)

@@ -62,7 +62,7 @@ impl<'a> Units<'a> {
         }
     }
 
-    /// The place after all units that there are.
+    /// The position after all units that there are.
     pub fn mark(&self) -> Mark
         ensures { result ≡ length (units_view self.now) }
     {
@@ -94,10 +94,10 @@ impl<'a> Units<'a> {
             (unit_at location.entry says.entry)) }
         ensures unchanged { OnErr result (units_view self.new ≡ units_view self.old) }
     {
-        let place = mark.units.min(self.entries.len());
+        let position = mark.units.min(self.entries.len());
         let entry = keep(&mut self.steps, location, says)?;
-        raise(&mut self.reach, place, self.steps.len())?;
-        self.entries.insert(place, entry)?;
+        raise(&mut self.reach, position, self.steps.len())?;
+        self.entries.insert(position, entry)?;
         Ok(())
     }
 

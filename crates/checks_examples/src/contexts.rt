@@ -22,7 +22,7 @@ fn knows_what_is_being_applied_and_where(rt: HostRuntime) -> Result<(), Fail> {
     assert!(rt; !context.is_running());
     let location = context.location();
     assert!(rt; location.resource == context.resource() && location.path.len() == 1);
-    assert!(rt; location.pointer.len() == 1 && location.place.is_empty());
+    assert!(rt; location.pointer.len() == 1 && location.instance_location.is_empty());
     context.leave_keyword();
     assert!(rt; context.is_running());
     context.leave_object();

@@ -22,23 +22,23 @@ pub fn line_ends(bytes: &[u8]) -> usize
     count
 }
 
-/// The bytes from a place on.
-pub fn behind(bytes: &[u8], place: usize) -> &[u8]
-    requires { place ≤ length bytes.now }
-    ensures { result.now ≡ drop place bytes.now }
+/// The bytes from a position on.
+pub fn behind(bytes: &[u8], position: usize) -> &[u8]
+    requires { position ≤ length bytes.now }
+    ensures { result.now ≡ drop position bytes.now }
 {
-    &bytes[place..]
+    &bytes[position..]
 }
 
-/// Drops the bytes up to a place.
+/// Drops the bytes up to a position.
 #[tactic(auto, using(crate::proofs::Dropped::moved_to_front))]
-pub fn drop_front(bytes: &mut Vec<u8>, place: usize)
-    requires { place ≤ length bytes.old.items }
-    ensures { bytes.new.items ≡ drop place bytes.old.items }
+pub fn drop_front(bytes: &mut Vec<u8>, position: usize)
+    requires { position ≤ length bytes.old.items }
+    ensures { bytes.new.items ≡ drop position bytes.old.items }
 {
-    if place > 0 {
-        let rest = bytes.len() - place;
-        bytes.copy_within(place.., 0);
+    if position > 0 {
+        let rest = bytes.len() - position;
+        bytes.copy_within(position.., 0);
         bytes.truncate(rest);
     }
 }

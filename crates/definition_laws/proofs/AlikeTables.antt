@@ -9,7 +9,7 @@ use Rattle.definitions.specs.Answers.{first_application, answer_of, answer_from,
 use Rattle.definitions.specs.Limits.{limits}
 use Rattle.definitions.specs.Targets.{resource_root, target, schema_with_dynamic_anchor}
 use Rattle.definitions.specs.Applied.{Application, Outcome, Rules, application_within}
-use Rattle.definitions.specs.Outcomes.{outcome, schema_outcome, object_outcome, boolean_outcome, false_unit, leaf, is_running, same_place}
+use Rattle.definitions.specs.Outcomes.{outcome, schema_outcome, object_outcome, boolean_outcome, false_unit, leaf, is_running, same_location}
 use Rattle.definition_laws.specs.Likeness.{AlikeTablesGiveTheSame, AlikeTablesAnswerTheSame}
 use Rattle.definition_laws.proofs.Occurrences.{IsIn, in_from_contains, contains_from_in, in_append, found_in}
 use Rattle.definition_laws.proofs.Unbundled.{as_truth, as_truth_alike, is_object_alike}
@@ -58,7 +58,7 @@ schema_is rules run a (object ms) = refl
 boolean_same : (a : Application) (t : Schema) (b : Bool) → IsAlikeSchema a.schema t → boolean_outcome (of_schema a t) b ≡ boolean_outcome a b
 boolean_same a t b h =
     ap (λ u. record { valid = b; names = []; indexes = []; errors = cond b [] (u ∷ []); annotations = []; count = 1; looped = false; deep = false })
-    (ap₂ (λ r p. record { path = a.path; resource = r; pointer = p; place = a.place.pointer; says = (false_unit a).says }) (alike_resource a.schema t h) (alike_pointer a.schema t h))
+    (ap₂ (λ r p. record { path = a.path; resource = r; pointer = p; instance_location = a.instance_location.pointer; says = (false_unit a).says }) (alike_resource a.schema t h) (alike_pointer a.schema t h))
 
 chosen_same : (a : Application) (t : Schema) (o : Option Bool) (x : Outcome) → IsAlikeSchema a.schema t → chosen o (of_schema a t) x ≡ chosen o a x
 unfolding chosen
@@ -67,7 +67,7 @@ chosen_same a t (Some b) x h = boolean_same a t b h
 
 running_same : (a : Application) (t : Schema) → IsAlikeSchema a.schema t → is_running (of_schema a t) ≡ is_running a
 running_same a t h =
-    ap₂ (λ b i. b && list_any (λ e. same_identity e.0 i && same_place e.1 a.place) a.running) (is_object_alike a.schema.value t.value h.1) (h.0)
+    ap₂ (λ b i. b && list_any (λ e. same_identity e.0 i && same_location e.1 a.instance_location) a.running) (is_object_alike a.schema.value t.value h.1) (h.0)
 
 schema_same : (rules others : Rules) (run again : Application → Outcome) (a : Application) (t : Schema) → IsAlikeSchema a.schema t
     → object_outcome others again (of_schema a t) ≡ object_outcome rules run a → schema_outcome others again (of_schema a t) t.value ≡ schema_outcome rules run a a.schema.value

@@ -163,7 +163,7 @@ object_same table other run again a t c rules held =
     let first : List Keyword = filter (λ k. not (looks_at_evaluated k.meaning)) rules.keywords in
     let last : List Keyword = filter (λ k. looks_at_evaluated k.meaning) rules.keywords in
     let here : application_within (of_schema a t) ≡ of_schema (application_within a) t =
-    ap₂ (λ r i. record { schema = t; instance = a.instance; place = a.place; path = a.path; scope = a.scope ++ r ∷ []; running = a.running ++ (i, a.place) ∷ [] })
+    ap₂ (λ r i. record { schema = t; instance = a.instance; instance_location = a.instance_location; path = a.path; scope = a.scope ++ r ∷ []; running = a.running ++ (i, a.instance_location) ∷ [] })
     (alike_resource a.schema t c.alike) (c.alike.0) in
     ap (λ b. outcome_of_uses (of_schema a t) (all_uses (record rules { schemas = other }) again first last b)) here
     ∙ combined_same a (of_schema a t) (all_uses (record rules { schemas = table }) run first last (application_within a)) (all_uses (record rules { schemas = other }) again first last (of_schema (application_within a) t))

@@ -46,7 +46,7 @@ same_append a b us vs xs ys h k = record {
 -- ---- units of alike schemas
 pub unit_same : (a : Application) (t : Schema) (k : Text) (says : Value) → IsAlikeSchema a.schema t → unit (of_schema a t) k says ≡ unit a k says
 unit_same a t k says h =
-    ap₂ (λ r p. record { path = a.path ++ k ∷ []; resource = r; pointer = p ++ k ∷ []; place = a.place.pointer; says = says }) (alike_resource a.schema t h) (alike_pointer a.schema t h)
+    ap₂ (λ r p. record { path = a.path ++ k ∷ []; resource = r; pointer = p ++ k ∷ []; instance_location = a.instance_location.pointer; says = says }) (alike_resource a.schema t h) (alike_pointer a.schema t h)
 
 errors_same : (a : Application) (t : Schema) → IsAlikeSchema a.schema t → (u : Use) → use_errors (of_schema a t) u ≡ use_errors a u
 errors_same a t h u = ap (λ x. cond u.passes [] (x ∷ flat_map (λ o. o.1.errors) (outcomes_that_fail u.outcomes))) (unit_same a t u.keyword (string (u.keyword ++ codes " is not met")) h)

@@ -14,7 +14,7 @@ use Rattle.definitions.specs.Outcomes.{outcome}
 
 -- the first application: the root, at the whole instance
 abbrev pub first_application : Schema → Value → Application
-first_application s x = record { schema = s; instance = x; place = record { pointer = []; name = None }; path = []; scope = []; running = [] }
+first_application s x = record { schema = s; instance = x; instance_location = record { pointer = []; name = None }; path = []; scope = []; running = [] }
 
 abbrev pub answer_of : ℕ → Outcome → Result Outcome Fault
 answer_of most o =
@@ -45,7 +45,7 @@ absolute_location u = u.resource ++ (number_sign ∷ fragment_text u.pointer)
 abbrev pub unit_value : Text → OutputUnit → Value
 unit_value kind u = object (to_members (
     (codes "absoluteKeywordLocation", string (absolute_location u)) ∷ (kind, u.says)
-    ∷ (codes "instanceLocation", string (pointer_text u.place)) ∷ (codes "keywordLocation", string (pointer_text u.path)) ∷ []))
+    ∷ (codes "instanceLocation", string (pointer_text u.instance_location)) ∷ (codes "keywordLocation", string (pointer_text u.path)) ∷ []))
 
 abbrev pub units_value : Text → List OutputUnit → Value
 units_value kind us = array (to_elements (map (unit_value kind) us))

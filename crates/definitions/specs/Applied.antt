@@ -8,18 +8,18 @@ use Rattle.definitions.specs.Schemas.{Schema, Identity, identity, below, referen
 use Rattle.definitions.specs.Targets.{target, dynamic_target}
 
 -- where an instance stands: a pointer to it and, under `propertyNames`, the name
-pub record Place : Type 0 where
+pub record InstanceLocation : Type 0 where
   pub pointer : Pointer
   pub name : Option Text
 
--- one schema at one place: how it was reached, in which dynamic scope, and which schema objects are being applied
+-- one schema at one instance location: how it was reached, in which dynamic scope, and which schema objects are being applied
 pub record Application : Type 0 where
   pub schema : Schema
   pub instance : Value
-  pub place : Place
+  pub instance_location : InstanceLocation
   pub path : Pointer
   pub scope : List Text
-  pub running : List (Identity × Place)
+  pub running : List (Identity × InstanceLocation)
 
 -- a unit of the basic output (12.4.2)
 pub record OutputUnit : Type 0 where
@@ -27,7 +27,7 @@ pub record OutputUnit : Type 0 where
   pub path : Pointer
   pub resource : Text
   pub pointer : Pointer
-  pub place : Pointer
+  pub instance_location : Pointer
   pub says : Value
 
 pub record Outcome : Type 0 where
@@ -54,14 +54,14 @@ pub record Rules : Type 0 where
   pub matches : Text → Text → Bool
 
 -- ---- what a keyword applies: subschemas to parts of the instance
-abbrev pub part_place : Place → Part → Place
-part_place p whole = p
-part_place p (named n) = record p { pointer = p.pointer ++ n ∷ [] }
-part_place p (indexed i) = record p { pointer = p.pointer ++ decimal i ∷ [] }
-part_place p (name_of n) = record p { name = Some n }
+abbrev pub part_location : InstanceLocation → Part → InstanceLocation
+part_location p whole = p
+part_location p (named n) = record p { pointer = p.pointer ++ n ∷ [] }
+part_location p (indexed i) = record p { pointer = p.pointer ++ decimal i ∷ [] }
+part_location p (name_of n) = record p { name = Some n }
 
 abbrev pub part_application : Application → Pointer → Schema → Part → Value → Application
-part_application a way s part x = record a { schema = s; path = a.path ++ way; place = part_place a.place part; instance = x }
+part_application a way s part x = record a { schema = s; path = a.path ++ way; instance_location = part_location a.instance_location part; instance = x }
 
 -- the schema v, which stands that way below the keyword's object, at a part of the instance
 abbrev pub at_part : Application → Pointer → Value → Part → Value → Part × Application
@@ -104,7 +104,7 @@ at_present a keyword m (Some x) = at_part a (keyword ∷ m.0 ∷ []) m.1 (named 
 
 -- the scope and the schemas running, for what this object applies
 abbrev pub application_within : Application → Application
-application_within a = record a { scope = a.scope ++ a.schema.resource ∷ []; running = a.running ++ (identity a.schema, a.place) ∷ [] }
+application_within a = record a { scope = a.scope ++ a.schema.resource ∷ []; running = a.running ++ (identity a.schema, a.instance_location) ∷ [] }
 
 -- the outcomes of `if`, and of `contains`
 abbrev pub condition_outcome : (Application → Outcome) → Application → Option Outcome

@@ -5,7 +5,7 @@ use Rattle.definitions.specs.Values.{Text, Value, boolean, string, same_text, ge
 use Rattle.definitions.specs.Pointers.{same_pointer}
 use Rattle.definitions.specs.Keywords.{Keyword, Meaning, looks_at_evaluated}
 use Rattle.definitions.specs.Schemas.{identity, same_identity}
-use Rattle.definitions.specs.Applied.{Application, OutputUnit, Outcome, Part, Place, Rules, application_within, keyword_applications}
+use Rattle.definitions.specs.Applied.{Application, OutputUnit, Outcome, Part, InstanceLocation, Rules, application_within, keyword_applications}
 use Rattle.definitions.specs.Evaluated.{outcomes_that_pass, outcomes_that_fail, keyword_passes, evaluated_names, evaluated_indexes, annotation_of, may_annotate, is_annotation}
 
 -- what a schema object does with one of its keywords
@@ -25,7 +25,7 @@ unit a keyword says = record {
   path = a.path ++ keyword ∷ [];
   resource = a.schema.resource;
   pointer = a.schema.pointer ++ keyword ∷ [];
-  place = a.place.pointer;
+  instance_location = a.instance_location.pointer;
   says = says;
 }
 
@@ -97,7 +97,7 @@ false_unit a = record {
   path = a.path;
   resource = a.schema.resource;
   pointer = a.schema.pointer;
-  place = a.place.pointer;
+  instance_location = a.instance_location.pointer;
   says = string (codes "no value is allowed");
 }
 
@@ -109,14 +109,14 @@ same_name None None = true
 same_name (Some s) (Some t) = same_text s t
 same_name _ _ = false
 
-abbrev pub same_place : Place → Place → Bool
-same_place p q = same_pointer p.pointer q.pointer && same_name p.name q.name
+abbrev pub same_location : InstanceLocation → InstanceLocation → Bool
+same_location p q = same_pointer p.pointer q.pointer && same_name p.name q.name
 
--- the same schema is being applied at the same place
+-- the same schema is being applied at the same instance location
 abbrev pub is_running : Application → Bool
 is_running a =
     is_object a.schema.value
-    && list_any (λ e. same_identity e.0 (identity a.schema) && same_place e.1 a.place) a.running
+    && list_any (λ e. same_identity e.0 (identity a.schema) && same_location e.1 a.instance_location) a.running
 
 abbrev pub schema_outcome : Rules → (Application → Outcome) → Application → Value → Outcome
 schema_outcome rules run a (boolean b) = boolean_outcome a b

@@ -9,7 +9,7 @@ use Rattle.definitions.specs.Schemas.{Schema, Identity, schema_at, opened_schema
 use Rattle.definitions.specs.Outcomes.{is_running}
 use Rattle.std.specs.List.{list_any}
 use Rattle.evaluation_context.specs.Runnings.{is_running_as}
-use Rattle.definitions.specs.Applied.{Place, OutputUnit}
+use Rattle.definitions.specs.Applied.{InstanceLocation, OutputUnit}
 use Rattle.evaluation_context.specs.Frames.{Frame, frame_standing}
 use Rattle.evaluation_context.specs.Standings.{Standing, application_at}
 use Rattle.evaluation_context.specs.Moves.{Onward, LeadsTo, frame_below, frame_at, at_schema, standing_at}
@@ -17,14 +17,14 @@ use Rattle.evaluation_context.specs.Returns.{CameFrom}
 use Rattle.evaluation_context.specs.declared.context.Return.{Return}
 use Rattle.evaluation_context.proofs.RunningLaws.{none_popped}
 
-pub same_places : {p q : Place} → p.pointer ≡ q.pointer → p.name ≡ q.name → p ≡ q
-same_places {p} {q} pointer name = ap₂ (λ t n. record { pointer = t; name = n }) pointer name
+pub same_locations : {p q : InstanceLocation} → p.pointer ≡ q.pointer → p.name ≡ q.name → p ≡ q
+same_locations {p} {q} pointer name = ap₂ (λ t n. record { pointer = t; name = n }) pointer name
 
-pub same_frames : {f g : Frame} → f.path ≡ g.path → f.outer ≡ g.outer → f.resource ≡ g.resource → f.pointer ≡ g.pointer → f.place ≡ g.place → f.scope ≡ g.scope → f.running ≡ g.running → f ≡ g
-same_frames {f} {g} path outer resource pointer place scope running =
+pub same_frames : {f g : Frame} → f.path ≡ g.path → f.outer ≡ g.outer → f.resource ≡ g.resource → f.pointer ≡ g.pointer → f.instance_location ≡ g.instance_location → f.scope ≡ g.scope → f.running ≡ g.running → f ≡ g
+same_frames {f} {g} path outer resource pointer instance_location scope running =
     ap₂ (λ x y. record f { path = x; outer = y }) path outer
     ∙ ap₂ (λ x y. record f { path = g.path; outer = g.outer; resource = x; pointer = y }) resource pointer
-    ∙ ap₂ (λ x y. record f { path = g.path; outer = g.outer; resource = g.resource; pointer = g.pointer; place = x; scope = y }) place scope
+    ∙ ap₂ (λ x y. record f { path = g.path; outer = g.outer; resource = g.resource; pointer = g.pointer; instance_location = x; scope = y }) instance_location scope
     ∙ ap (λ x. record g { running = x }) running
 
 -- what a `pop` leaves
@@ -50,7 +50,7 @@ onward_itself f =
     record {
       path = take_all (length f.path) f.path (omega arith);
       steps = take_all (length (f.outer ++ f.pointer)) (f.outer ++ f.pointer) (omega arith);
-      place = take_all (length f.place.pointer) f.place.pointer (omega arith);
+      instance_location = take_all (length f.instance_location.pointer) f.instance_location.pointer (omega arith);
       scope = refl;
       running = refl;
     }
@@ -61,7 +61,7 @@ onward_stepped way f =
     record {
       path = front f.path way;
       steps = ap (take (length (f.outer ++ f.pointer))) (sym (append_assoc f.outer f.pointer way)) ∙ front (f.outer ++ f.pointer) way;
-      place = take_all (length f.place.pointer) f.place.pointer (omega arith);
+      instance_location = take_all (length f.instance_location.pointer) f.instance_location.pointer (omega arith);
       scope = refl;
       running = refl;
     }
@@ -72,18 +72,18 @@ onward_schema s f =
     record {
       path = take_all (length f.path) f.path (omega arith);
       steps = front (f.outer ++ f.pointer) s.pointer;
-      place = take_all (length f.place.pointer) f.place.pointer (omega arith);
+      instance_location = take_all (length f.instance_location.pointer) f.instance_location.pointer (omega arith);
       scope = refl;
       running = refl;
     }
 
-pub onward_placed : (p : Place) (f : Frame) → take (length f.place.pointer) p.pointer ≡ f.place.pointer → Onward f (frame_at p f)
+pub onward_placed : (p : InstanceLocation) (f : Frame) → take (length f.instance_location.pointer) p.pointer ≡ f.instance_location.pointer → Onward f (frame_at p f)
 unfolding frame_at
-onward_placed p f place =
+onward_placed p f instance_location =
     record {
       path = take_all (length f.path) f.path (omega arith);
       steps = take_all (length (f.outer ++ f.pointer)) (f.outer ++ f.pointer) (omega arith);
-      place = place;
+      instance_location = instance_location;
       scope = refl;
       running = refl;
     }
@@ -98,7 +98,7 @@ onward_onward {f} {g} {h} first second =
     record {
       path = front_of_front f.path g.path h.path first.path second.path;
       steps = front_of_front (f.outer ++ f.pointer) (g.outer ++ g.pointer) (h.outer ++ h.pointer) first.steps second.steps;
-      place = front_of_front f.place.pointer g.place.pointer h.place.pointer first.place second.place;
+      instance_location = front_of_front f.instance_location.pointer g.instance_location.pointer h.instance_location.pointer first.instance_location second.instance_location;
       scope = second.scope ∙ first.scope;
       running = second.running ∙ first.running;
     }
@@ -113,7 +113,7 @@ came_from back older newer leads onward =
     (sym (ap₂ take leads.start all ∙ take_at older.outer older.pointer (length older.outer) refl))
     (sym leads.resource)
     (sym (ap₂ drop leads.start all ∙ drop_at older.outer older.pointer (length older.outer) refl))
-    (same_places (sym (ap (λ n. take n newer.place.pointer) leads.place ∙ onward.place)) (sym leads.name))
+    (same_locations (sym (ap (λ n. take n newer.instance_location.pointer) leads.instance_location ∙ onward.instance_location)) (sym leads.name))
     (sym onward.scope)
     (sym onward.running)
 
@@ -129,24 +129,24 @@ schema_opened f uri s same root =
     ap₂ (λ p (q : Text × Pointer). record (frame_standing f) { path = p; resource = q.0; pointer = q.1 }) (sym (append-nil f.path)) (ap₂ (λ r t. (r, t)) same (sym root))
 
 -- ---- standings, units and objects, field by field
-pub same_standings : {s t : Standing} → s.path ≡ t.path → s.resource ≡ t.resource → s.pointer ≡ t.pointer → s.place ≡ t.place → s.scope ≡ t.scope → s.running ≡ t.running → s ≡ t
-same_standings {s} {t} path resource pointer place scope running =
+pub same_standings : {s t : Standing} → s.path ≡ t.path → s.resource ≡ t.resource → s.pointer ≡ t.pointer → s.instance_location ≡ t.instance_location → s.scope ≡ t.scope → s.running ≡ t.running → s ≡ t
+same_standings {s} {t} path resource pointer instance_location scope running =
     ap₂ (λ x y. record s { path = x; resource = y }) path resource
-    ∙ ap₂ (λ x y. record s { path = t.path; resource = t.resource; pointer = x; place = y }) pointer place
+    ∙ ap₂ (λ x y. record s { path = t.path; resource = t.resource; pointer = x; instance_location = y }) pointer instance_location
     ∙ ap₂ (λ x y. record t { scope = x; running = y }) scope running
 
-pub same_units : {u v : OutputUnit} → u.path ≡ v.path → u.resource ≡ v.resource → u.pointer ≡ v.pointer → u.place ≡ v.place → u.says ≡ v.says → u ≡ v
-same_units {u} {v} path resource pointer place says =
+pub same_units : {u v : OutputUnit} → u.path ≡ v.path → u.resource ≡ v.resource → u.pointer ≡ v.pointer → u.instance_location ≡ v.instance_location → u.says ≡ v.says → u ≡ v
+same_units {u} {v} path resource pointer instance_location says =
     ap₂ (λ x y. record u { path = x; resource = y }) path resource
-    ∙ ap₂ (λ x y. record u { path = v.path; resource = v.resource; pointer = x; place = y }) pointer place
+    ∙ ap₂ (λ x y. record u { path = v.path; resource = v.resource; pointer = x; instance_location = y }) pointer instance_location
     ∙ ap (λ x. record v { says = x }) says
 
-pub same_objects : {i j : Identity} {p q : Place} → i.0 ≡ j.0 → i.1 ≡ j.1 → p.pointer ≡ q.pointer → p.name ≡ q.name → (os : List (Identity × Place)) → os ++ (i, p) ∷ [] ≡ os ++ (j, q) ∷ []
-same_objects {i} {j} {p} {q} resource pointer place name os =
-    ap₂ (λ k r. os ++ (k, r) ∷ []) (ap₂ (λ r t. (r, t)) resource pointer) (same_places place name)
+pub same_objects : {i j : Identity} {p q : InstanceLocation} → i.0 ≡ j.0 → i.1 ≡ j.1 → p.pointer ≡ q.pointer → p.name ≡ q.name → (os : List (Identity × InstanceLocation)) → os ++ (i, p) ∷ [] ≡ os ++ (j, q) ∷ []
+same_objects {i} {j} {p} {q} resource pointer instance_location name os =
+    ap₂ (λ k r. os ++ (k, r) ∷ []) (ap₂ (λ r t. (r, t)) resource pointer) (same_locations instance_location name)
 
-pub running_is : (s x : Value) (st : Standing) → is_object s ≡ true → list_any (is_running_as (st.resource, st.pointer) st.place) st.running ≡ is_running (application_at st s x)
-running_is s x st object = sym (ap (λ b. b && list_any (is_running_as (st.resource, st.pointer) st.place) st.running) object)
+pub running_is : (s x : Value) (st : Standing) → is_object s ≡ true → list_any (is_running_as (st.resource, st.pointer) st.instance_location) st.running ≡ is_running (application_at st s x)
+running_is s x st object = sym (ap (λ b. b && list_any (is_running_as (st.resource, st.pointer) st.instance_location) st.running) object)
 
 pub onward_at : {f g h : Frame} → g ≡ h → Onward f h → Onward f g
 onward_at {f} {g} {h} e onward = subst (Onward f) (sym e) onward

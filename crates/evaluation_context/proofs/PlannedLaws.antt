@@ -8,7 +8,7 @@ use Rattle.definitions.specs.Values.{Text, Value}
 use Rattle.definitions.specs.Pointers.{Pointer}
 use Rattle.definitions.specs.Schemas.{Schema, schema_at}
 use Rattle.definitions.specs.Applied as definition
-use Rattle.definitions.specs.Applied.{Application, Place, whole, named, indexed, name_of, part_place}
+use Rattle.definitions.specs.Applied.{Application, InstanceLocation, whole, named, indexed, name_of, part_location}
 use Rattle.json_doc.specs.Docs.{value}
 use Rattle.json_doc.specs.declared.doc.Doc.{Doc}
 use Rattle.locations.specs.declared.step.Step.{Step}
@@ -53,7 +53,7 @@ target_there f h chosen located is e =
     ap frame_standing e ∙ start ∙ ap (λ c. standing_at (chosen_way c) (chosen_schema f.resource f.pointer c) (frame_standing f)) (sym is)
 
 -- ---- to the part of the instance
-pub front_of_part : (p : Place) (part : definition.Part) → take (length p.pointer) (part_place p part).pointer ≡ p.pointer
+pub front_of_part : (p : InstanceLocation) (part : definition.Part) → take (length p.pointer) (part_location p part).pointer ≡ p.pointer
 front_of_part p whole = take_all (length p.pointer) p.pointer (omega arith)
 front_of_part p (named n) = take_at p.pointer _ (length p.pointer) refl
 front_of_part p (indexed i) = take_at p.pointer _ (length p.pointer) refl
@@ -61,15 +61,15 @@ front_of_part p (name_of n) = take_all (length p.pointer) p.pointer (omega arith
 
 -- ---- the whole way
 arrived : (f g h : Frame) (a : Application) (k : Text) (way rest : Pointer) (s t : Schema) (part : definition.Part) → frame_standing f ≡ at_keyword k (standing_of a)
-    → h ≡ frame_at (part_place g.place part) g → frame_standing g ≡ standing_at way s (frame_standing f) → k ∷ way ≡ rest → s ≡ t
-    → frame_standing h ≡ record { path = a.path ++ rest; resource = t.resource; pointer = t.pointer; place = part_place a.place part; scope = a.scope; running = a.running }
+    → h ≡ frame_at (part_location g.instance_location part) g → frame_standing g ≡ standing_at way s (frame_standing f) → k ∷ way ≡ rest → s ≡ t
+    → frame_standing h ≡ record { path = a.path ++ rest; resource = t.resource; pointer = t.pointer; instance_location = part_location a.instance_location part; scope = a.scope; running = a.running }
 unfolding frame_standing frame_at standing_at
 arrived f g h a k way rest s t part here last there longer same =
     same_standings
     (ap (λ (x : Frame). x.path) last ∙ ap (λ (st : Standing). st.path) there ∙ ap (λ (st : Standing). st.path ++ way) here ∙ append_assoc a.path (k ∷ []) way ∙ ap (λ w. a.path ++ w) longer)
     (ap (λ (x : Frame). x.resource) last ∙ ap (λ (st : Standing). st.resource) there ∙ ap (λ (x : Schema). x.resource) same)
     (ap (λ (x : Frame). x.pointer) last ∙ ap (λ (st : Standing). st.pointer) there ∙ ap (λ (x : Schema). x.pointer) same)
-    (ap (λ (x : Frame). x.place) last ∙ ap (λ (st : Standing). part_place st.place part) (there) ∙ ap (λ (st : Standing). part_place st.place part) here)
+    (ap (λ (x : Frame). x.instance_location) last ∙ ap (λ (st : Standing). part_location st.instance_location part) (there) ∙ ap (λ (st : Standing). part_location st.instance_location part) here)
     (ap (λ (x : Frame). x.scope) last ∙ ap (λ (st : Standing). st.scope) there ∙ ap (λ (st : Standing). st.scope) here)
     (ap (λ (x : Frame). x.running) last ∙ ap (λ (st : Standing). st.running) there ∙ ap (λ (st : Standing). st.running) here)
 
@@ -80,7 +80,7 @@ schema_here f a k way v here =
     ap (λ (st : Standing). schema_at st.resource (st.pointer ++ way) v) here ∙ ap (λ p. schema_at a.schema.resource p v) (append_assoc a.schema.pointer (k ∷ []) way)
 
 pub planned_there : (xs : List Schema) (f g h : Frame) (a : Application) (k : Text) (chosen : Chosen) (part : definition.Part) (x : Value) → frame_standing f ≡ at_keyword k (standing_of a)
-    → h ≡ frame_at (part_place g.place part) g
+    → h ≡ frame_at (part_location g.instance_location part) g
     → (Contains xs (chosen_schema f.resource f.pointer chosen) → frame_standing g ≡ standing_at (chosen_way chosen) (chosen_schema f.resource f.pointer chosen) (frame_standing f))
     → Contains xs (chosen_application k a chosen part x).schema → frame_standing h ≡ standing_of (chosen_application k a chosen part x)
 planned_there xs f g h a k (Below step schema) part x here last there contains =

@@ -3,7 +3,7 @@ use Rattle.std.specs.Prelude.{List, ◌++◌, ◌∷◌, [], map, option_map}
 use Rattle.definitions.specs.Values.{Text}
 use Rattle.definitions.specs.Pointers.{Pointer}
 use Rattle.definitions.specs.Schemas.{Identity}
-use Rattle.definitions.specs.Applied.{Place}
+use Rattle.definitions.specs.Applied.{InstanceLocation}
 use Rattle.locations.specs.Steps.{tokens}
 use Rattle.evaluation_context.specs.Standings.{Standing}
 use Rattle.evaluation_context.specs.PointerViews.{last_pointer, outer_pointers}
@@ -16,9 +16,9 @@ pub record Frame : Type 0 where
   pub outer : Pointer
   pub resource : Text
   pub pointer : Pointer
-  pub place : Place
+  pub instance_location : InstanceLocation
   pub scope : List Text
-  pub running : List (Identity × Place)
+  pub running : List (Identity × InstanceLocation)
 
 unfoldable pub context_view : Context → Frame
 context_view c = record {
@@ -26,7 +26,7 @@ context_view c = record {
   outer = outer_pointers c.pointers;
   resource = c.resource.now;
   pointer = last_pointer c.pointers;
-  place = record { pointer = tokens c.place.items; name = option_map (λ n. n.now) c.name };
+  instance_location = record { pointer = tokens c.instance_location.items; name = option_map (λ n. n.now) c.name };
   scope = map (λ uri. uri.now) c.scope.items;
   running = running_objects c.running;
 }
@@ -36,14 +36,14 @@ frame_standing f = record {
   path = f.path;
   resource = f.resource;
   pointer = f.pointer;
-  place = f.place;
+  instance_location = f.instance_location;
   scope = f.scope;
   running = f.running;
 }
 
 -- a schema object is being applied
 unfoldable pub object_frame : Frame → Frame
-object_frame f = record f { scope = f.scope ++ f.resource ∷ []; running = f.running ++ ((f.resource, f.pointer), f.place) ∷ [] }
+object_frame f = record f { scope = f.scope ++ f.resource ∷ []; running = f.running ++ ((f.resource, f.pointer), f.instance_location) ∷ [] }
 
 -- at a keyword of the schema
 unfoldable pub keyword_frame : Text → Frame → Frame

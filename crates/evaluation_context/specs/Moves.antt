@@ -3,7 +3,7 @@ use Rattle.std.specs.Prelude.{◌≡◌, ◌++◌, [], length, take, option_map}
 use Rattle.definitions.specs.Values.{Text}
 use Rattle.definitions.specs.Pointers.{Pointer}
 use Rattle.definitions.specs.Schemas.{Schema, schema_at}
-use Rattle.definitions.specs.Applied.{Place}
+use Rattle.definitions.specs.Applied.{InstanceLocation}
 use Rattle.json_doc.specs.Docs.{value}
 use Rattle.schema_index.specs.Locateds.{located_view}
 use Rattle.keyword_plans.specs.Plans.{step_view}
@@ -17,9 +17,9 @@ use Rattle.evaluation_context.specs.declared.context.Return.{Return}
 unfoldable pub frame_below : Pointer → Frame → Frame
 frame_below way f = record f { path = f.path ++ way; pointer = f.pointer ++ way }
 
--- at this place of the instance
-unfoldable pub frame_at : Place → Frame → Frame
-frame_at place f = record f { place = place }
+-- at this instance location
+unfoldable pub frame_at : InstanceLocation → Frame → Frame
+frame_at instance_location f = record f { instance_location = instance_location }
 
 -- at this schema, where a new pointer begins
 unfoldable pub at_schema : Schema → Frame → Frame
@@ -42,7 +42,7 @@ chosen_schema resource pointer (Target located) = located_view located
 pub record Onward (older newer : Frame) : Type 0 where
   pub path : take (length older.path) newer.path ≡ older.path
   pub steps : take (length (older.outer ++ older.pointer)) (newer.outer ++ newer.pointer) ≡ older.outer ++ older.pointer
-  pub place : take (length older.place.pointer) newer.place.pointer ≡ older.place.pointer
+  pub instance_location : take (length older.instance_location.pointer) newer.instance_location.pointer ≡ older.instance_location.pointer
   pub scope : newer.scope ≡ older.scope
   pub running : newer.running ≡ older.running
 
@@ -52,5 +52,5 @@ pub record LeadsTo (back : Return) (f : Frame) : Type 0 where
   pub steps : back.steps ≡ length (f.outer ++ f.pointer)
   pub start : back.start ≡ length f.outer
   pub resource : back.resource.now ≡ f.resource
-  pub place : back.place ≡ length f.place.pointer
-  pub name : option_map (λ n. n.now) back.name ≡ f.place.name
+  pub instance_location : back.instance_location ≡ length f.instance_location.pointer
+  pub name : option_map (λ n. n.now) back.name ≡ f.instance_location.name

@@ -11,5 +11,5 @@ CameFrom back older newer =
       outer = take back.start (take back.steps (newer.outer ++ newer.pointer));
       resource = back.resource.now;
       pointer = drop back.start (take back.steps (newer.outer ++ newer.pointer));
-      place = record { pointer = take back.place newer.place.pointer; name = option_map (λ n. n.now) back.name };
+      instance_location = record { pointer = take back.instance_location newer.instance_location.pointer; name = option_map (λ n. n.now) back.name };
     }

@@ -1,9 +1,9 @@
 -- The schema objects that are being applied, as the definitions have them.
 use Rattle.std.specs.Prelude.{List, map}
 use Rattle.definitions.specs.Schemas.{Identity}
-use Rattle.definitions.specs.Applied.{Place}
+use Rattle.definitions.specs.Applied.{InstanceLocation}
 use Rattle.evaluation_context.specs.Runnings.{running_view}
 use Rattle.evaluation_context.specs.declared.running_objects.RunningObjects.{RunningObjects}
 
-unfoldable pub running_objects : RunningObjects → List (Identity × Place)
+unfoldable pub running_objects : RunningObjects → List (Identity × InstanceLocation)
 running_objects o = map (running_view o.steps.items) o.entries.items

@@ -3,22 +3,22 @@ use Rattle.std.specs.Prelude.{List, [], ◌∷◌, ◌++◌}
 use Rattle.definitions.specs.Values.{Text, Value}
 use Rattle.definitions.specs.Pointers.{Pointer}
 use Rattle.definitions.specs.Schemas.{Identity}
-use Rattle.definitions.specs.Applied.{Application, OutputUnit, Place}
+use Rattle.definitions.specs.Applied.{Application, OutputUnit, InstanceLocation}
 
 pub record Standing : Type 0 where
   pub path : Pointer
   pub resource : Text
   pub pointer : Pointer
-  pub place : Place
+  pub instance_location : InstanceLocation
   pub scope : List Text
-  pub running : List (Identity × Place)
+  pub running : List (Identity × InstanceLocation)
 
 abbrev pub standing_of : Application → Standing
 standing_of a = record {
   path = a.path;
   resource = a.schema.resource;
   pointer = a.schema.pointer;
-  place = a.place;
+  instance_location = a.instance_location;
   scope = a.scope;
   running = a.running;
 }
@@ -28,7 +28,7 @@ abbrev pub application_at : Standing → Value → Value → Application
 application_at st s x = record {
   schema = record { resource = st.resource; pointer = st.pointer; value = s };
   instance = x;
-  place = st.place;
+  instance_location = st.instance_location;
   path = st.path;
   scope = st.scope;
   running = st.running;
@@ -36,7 +36,7 @@ application_at st s x = record {
 
 -- for what the schema object applies
 abbrev pub within_object : Standing → Standing
-within_object st = record st { scope = st.scope ++ st.resource ∷ []; running = st.running ++ ((st.resource, st.pointer), st.place) ∷ [] }
+within_object st = record st { scope = st.scope ++ st.resource ∷ []; running = st.running ++ ((st.resource, st.pointer), st.instance_location) ∷ [] }
 
 -- at the keyword of this name
 abbrev pub at_keyword : Text → Standing → Standing
@@ -44,4 +44,4 @@ at_keyword k st = record st { path = st.path ++ k ∷ []; pointer = st.pointer +
 
 -- a unit of the output there
 abbrev pub unit_there : Standing → Value → OutputUnit
-unit_there st says = record { path = st.path; resource = st.resource; pointer = st.pointer; place = st.place.pointer; says = says }
+unit_there st says = record { path = st.path; resource = st.resource; pointer = st.pointer; instance_location = st.instance_location.pointer; says = says }

@@ -25,7 +25,7 @@ pub struct Context<'a> {
     pub(crate) path: Vec<Step<'a>>,
     pub(crate) pointers: Pointers<'a>,
     pub(crate) resource: &'a str,
-    pub(crate) place: Vec<Step<'a>>,
+    pub(crate) instance_location: Vec<Step<'a>>,
     pub(crate) name: Option<&'a str>,
     pub(crate) scope: Vec<&'a str>,
     pub(crate) running: RunningObjects<'a>,
@@ -38,7 +38,7 @@ pub struct Return<'a> {
     pub(crate) steps: usize,
     pub(crate) start: usize,
     pub(crate) resource: &'a str,
-    pub(crate) place: usize,
+    pub(crate) instance_location: usize,
     pub(crate) name: Option<&'a str>,
 }
 
@@ -60,7 +60,7 @@ impl<'a> Context<'a> {
             path: Vec::new(alloc),
             pointers: Pointers::new(steps),
             resource,
-            place: Vec::new(alloc),
+            instance_location: Vec::new(alloc),
             name: None,
             scope: Vec::new(alloc),
             running: RunningObjects::new(alloc),
@@ -81,12 +81,17 @@ impl<'a> Context<'a> {
         &self.scope
     }
 
-    /// Whether a schema object that is applied here is being applied at this place already.
+    /// Whether a schema object that is applied here is being applied at this instance location already.
     pub fn is_running(&self) -> bool
         ensures { (s x : Value) → is_object s ≡ true
             → result ≡ is_running (application_at (frame_standing (context_view self.now)) s x) }
     {
-        self.running.contains(self.resource, self.pointers.last(), &self.place, self.name)
+        self.running.contains(
+            self.resource,
+            self.pointers.last(),
+            &self.instance_location,
+            self.name,
+        )
     }
 
     /// The location of a unit of the output.
@@ -99,7 +104,7 @@ impl<'a> Context<'a> {
             path: &self.path,
             resource: self.resource,
             pointer: self.pointers.last(),
-            place: &self.place,
+            instance_location: &self.instance_location,
         }
     }
 
@@ -112,7 +117,12 @@ impl<'a> Context<'a> {
             (context_view self.new ≡ object_frame (context_view self.old)) }
     {
         self.scope.push(self.resource)?;
-        self.running.push(self.resource, self.pointers.last(), &self.place, self.name)?;
+        self.running.push(
+            self.resource,
+            self.pointers.last(),
+            &self.instance_location,
+            self.name,
+        )?;
         Ok(())
     }
 

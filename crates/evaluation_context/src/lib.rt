@@ -1,4 +1,4 @@
-//! Where an application of a schema stands: its evaluation path, its identity, its place in the instance, the dynamic
+//! Where an application of a schema stands: its evaluation path, its identity, its instance location, the dynamic
 //! scope and the schemas that are being applied (JSON Schema 2020-12 Core, 7.1 and 12.3).
 #![tactic(auto)]
 

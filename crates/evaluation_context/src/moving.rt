@@ -3,7 +3,7 @@
 ghost use Rattle.std.specs.Prelude.{◌≡◌, ◌++◌, [], true, false, IfOk, IfErr, OnOk, Contains, codes, option_map};
 ghost use Rattle.definitions.specs.Values.{Text};
 ghost use Rattle.definitions.specs.Schemas.{schema_at};
-ghost use Rattle.definitions.specs.Applied.{Application, part_place};
+ghost use Rattle.definitions.specs.Applied.{Application, part_location};
 ghost use Rattle.json_doc.specs.Docs.{value};
 ghost use Rattle.keyword_plans.specs.Plans.{part_view, planned_view, step_view};
 ghost use Rattle.linker.specs.LinkedDocuments.{linked_schemas};
@@ -53,7 +53,7 @@ impl<'a> Context<'a> {
         self.path.truncate(back.path);
         self.pointers.cut(back.steps, back.start);
         self.resource = back.resource;
-        self.place.truncate(back.place);
+        self.instance_location.truncate(back.instance_location);
         self.name = back.name;
     }
 
@@ -65,7 +65,7 @@ impl<'a> Context<'a> {
             steps: self.pointers.len(),
             start: self.pointers.start(),
             resource: self.resource,
-            place: self.place.len(),
+            instance_location: self.instance_location.len(),
             name: self.name,
         }
     }
@@ -146,13 +146,14 @@ impl<'a> Context<'a> {
 
     fn enter_part(&mut self, part: Part<'a>) -> Result<(), AllocError>
         ensures { OnOk result (context_view self.new
-            ≡ frame_at (part_place (context_view self.old).place (part_view part.entry))
+            ≡ frame_at (part_location (context_view self.old).instance_location
+            (part_view part.entry))
             (context_view self.old)) }
     {
         match part {
             Part::Whole => {}
-            Part::Member(name) => self.place.push(Step::Name(name))?,
-            Part::Element(index) => self.place.push(Step::Index(index))?,
+            Part::Member(name) => self.instance_location.push(Step::Name(name))?,
+            Part::Element(index) => self.instance_location.push(Step::Index(index))?,
             Part::NameOf(name) => self.name = Some(name),
         }
         Ok(())

@@ -3,8 +3,8 @@
 ghost use Rattle.std.specs.Prelude.{◌≡◌, ◌≤◌, ◌++◌, ◌∷◌, ◌&&◌, [], true, length, option_map, take, OnOk, List};
 ghost use Rattle.std.specs.List.{list_any};
 ghost use Rattle.definitions.specs.Schemas.{Identity, same_identity};
-ghost use Rattle.definitions.specs.Applied.{Place};
-ghost use Rattle.definitions.specs.Outcomes.{same_name, same_place};
+ghost use Rattle.definitions.specs.Applied.{InstanceLocation};
+ghost use Rattle.definitions.specs.Outcomes.{same_name, same_location};
 ghost use Rattle.locations.specs.Steps.{tokens};
 ghost use Rattle.evaluation_context.specs.Runnings.{are_laid, is_running_as, running_view};
 
@@ -12,10 +12,10 @@ use crate::running::Running;
 use locations::{Step, same_steps};
 use std::alloc::{AllocError, Global};
 
-/// The schema objects that are being applied, the outermost first. Their pointers and places are copied, so that they stay
-/// while a context moves, into one list that all of them share.
+/// The schema objects that are being applied, the outermost first. Their pointers and instance locations are copied, so
+/// that they stay while a context moves, into one list that all of them share.
 ///
-/// Contracts see their identities and places, by `running_objects`.
+/// Contracts see their identities and instance locations, by `running_objects`.
 #[derive(Drop)]
 pub(crate) struct RunningObjects<'a> {
     entries: Vec<Running<'a>>,
@@ -41,25 +41,29 @@ impl<'a> RunningObjects<'a> {
         &mut self,
         resource: &'a str,
         pointer: &[Step<'a>],
-        place: &[Step<'a>],
+        instance_location: &[Step<'a>],
         name: Option<&'a str>,
     ) -> Result<(), AllocError>
         ensures { OnOk result (running_objects self.new ≡ running_objects self.old
             ++ (
               (resource.now, tokens pointer.now),
-              record { pointer = tokens place.now; name = option_map (λ n. n.now) name.entry },
+              record {
+                pointer = tokens instance_location.now;
+                name = option_map
+                    (λ n. n.now) name.entry;
+              },
             )
             ∷ []) }
     {
         let pointer_start = self.steps.len();
         self.steps.extend_from_slice(pointer)?;
-        let place_start = self.steps.len();
-        self.steps.extend_from_slice(place)?;
+        let location_start = self.steps.len();
+        self.steps.extend_from_slice(instance_location)?;
         self.entries.push(Running {
             resource,
             name,
             pointer: pointer_start,
-            place: place_start,
+            instance_location: location_start,
             end: self.steps.len(),
         })?;
         Ok(())
@@ -67,7 +71,8 @@ impl<'a> RunningObjects<'a> {
 
     /// One object less, the innermost, with the steps that were kept for it.
     pub(crate) fn pop(&mut self)
-        ensures running { (older : List (Identity × Place)) (e : Identity × Place)
+        ensures running { (older : List (Identity × InstanceLocation))
+            (e : Identity × InstanceLocation)
             → running_objects self.old ≡ older ++ e ∷ [] → running_objects self.new ≡ older }
         ensures steps { (older : List Running) (e : Running)
             → self.old.entries.items ≡ older ++ e ∷ []
@@ -79,22 +84,26 @@ impl<'a> RunningObjects<'a> {
         }
     }
 
-    /// Whether one of them has this resource and this pointer, and is applied at this place.
+    /// Whether one of them has this resource and this pointer, and is applied at this instance location.
     pub(crate) fn contains(
         &self,
         resource: &str,
         pointer: &[Step<'_>],
-        place: &[Step<'_>],
+        instance_location: &[Step<'_>],
         name: Option<&str>,
     ) -> bool
         ensures { result ≡ list_any
             (is_running_as (resource.now, tokens pointer.now)
-            (record { pointer = tokens place.now; name = option_map (λ n. n.now) name.entry }))
+            (record {
+              pointer = tokens instance_location.now;
+              name = option_map
+                  (λ n. n.now) name.entry;
+            }))
             (running_objects self.now) }
     {
         let steps = self.steps.as_slice();
         for entry in &self.entries {
-            if is_same(steps, *entry, resource, pointer, place, name) {
+            if is_same(steps, *entry, resource, pointer, instance_location, name) {
                 return true;
             }
         }
@@ -102,29 +111,33 @@ impl<'a> RunningObjects<'a> {
     }
 }
 
-// Whether the object is this schema, applied at this place. Lengths are compared before texts.
+// Whether the object is this schema, applied at this instance location. Lengths are compared before texts.
 fn is_same(
     steps: &[Step<'_>],
     object: Running<'_>,
     resource: &str,
     pointer: &[Step<'_>],
-    place: &[Step<'_>],
+    instance_location: &[Step<'_>],
     name: Option<&str>,
 ) -> bool
-    requires pointer { object.pointer ≤ object.place }
-    requires place { object.place ≤ object.end }
+    requires pointer { object.pointer ≤ object.instance_location }
+    requires instance_location { object.instance_location ≤ object.end }
     requires within { object.end ≤ length steps.now }
     ensures { result ≡ is_running_as (resource.now, tokens pointer.now)
-        (record { pointer = tokens place.now; name = option_map (λ n. n.now) name.entry })
+        (record {
+          pointer = tokens instance_location.now;
+          name = option_map
+              (λ n. n.now) name.entry;
+        })
         (running_view steps.now object.entry) }
 {
-    let own_pointer = &steps[object.pointer..object.place];
-    let own_place = &steps[object.place..object.end];
-    if own_place.len() != place.len() {
+    let own_pointer = &steps[object.pointer..object.instance_location];
+    let own_location = &steps[object.instance_location..object.end];
+    if own_location.len() != instance_location.len() {
         return false;
     }
     same_identity(object.resource, own_pointer, resource, pointer)
-        && same_place(own_place, object.name, place, name)
+        && same_location(own_location, object.name, instance_location, name)
 }
 
 fn same_identity(
@@ -139,13 +152,13 @@ fn same_identity(
     same_steps(first_pointer, second_pointer) && first == second
 }
 
-fn same_place(
+fn same_location(
     first: &[Step<'_>],
     first_name: Option<&str>,
     second: &[Step<'_>],
     second_name: Option<&str>,
 ) -> bool
-    ensures { result ≡ same_place
+    ensures { result ≡ same_location
         (record { pointer = tokens first.now; name = option_map (λ n. n.now) first_name.entry })
         (record { pointer = tokens second.now; name = option_map (λ n. n.now) second_name.entry }) }
 {

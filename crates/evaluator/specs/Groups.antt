@@ -22,20 +22,20 @@ stands_alone _ = true
 
 -- ---- which keywords an object has
 -- where the row of this name stands, or how many there are if none has it
-unfoldable pub place_in : Text → List table.Keyword → ℕ
-place_in name [] = 0
-place_in name (k ∷ ks) = if same_text name k.name then 0 else suc (place_in name ks)
+unfoldable pub position_in : Text → List table.Keyword → ℕ
+position_in name [] = 0
+position_in name (k ∷ ks) = if same_text name k.name then 0 else suc (position_in name ks)
 
 -- in the definitions' table
-unfoldable pub place_of : Text → ℕ
-place_of name = place_in name table.keywords
+unfoldable pub position_of : Text → ℕ
+position_of name = position_in name table.keywords
 
--- the place of each member's name is marked
+-- the position of each member's name is marked
 abbrev pub are_marked : List Bool → List (Text × Value) → Bool
-are_marked marks ms = list_all (λ m. get_or marks (place_of m.0) false) ms
+are_marked marks ms = list_all (λ m. get_or marks (position_of m.0) false) ms
 
 abbrev pub is_marked : List Bool → table.Keyword → Bool
-is_marked marks k = get_or marks (place_of k.name) false
+is_marked marks k = get_or marks (position_of k.name) false
 
 -- some keyword of the group is marked
 abbrev pub has_mark : List Bool → Group → Bool

@@ -25,7 +25,7 @@ impl Found {
         }
     }
 
-    /// A schema that was not applied, since it is being applied at this place, or else since the applications nest too
+    /// A schema that was not applied, since it is being applied at this instance location, or else since the applications nest too
     /// deep.
     pub(crate) fn leaf(looped: bool, deep: bool) -> Found
         ensures { result ≡ record { valid = false; count = 1; looped = looped; deep = deep } }

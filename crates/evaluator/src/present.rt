@@ -5,21 +5,21 @@ ghost use Rattle.definitions.specs.Values.{members};
 ghost use Rattle.json_doc.specs.Docs.{value, members_value};
 ghost use Rattle.keywords.specs.Rows.{row_of};
 ghost use Rattle.keywords.specs.declared.keyword.Keyword.TheVariants.{UnevaluatedItems, UnevaluatedProperties};
-ghost use Rattle.evaluator.specs.Groups.{are_marked, has_mark, is_marked, place_of};
+ghost use Rattle.evaluator.specs.Groups.{are_marked, has_mark, is_marked, position_of};
 
 use json_doc::{Doc, Members};
 use keywords::{Group, Keyword};
 
-/// The place of the names that are no keywords', after those of the table.
+/// The position of the names that are no keywords', after those of the table.
 const NO_KEYWORD: usize = 46;
-/// How many places there are.
-const PLACES: usize = 47;
+/// How many positions there are.
+const POSITIONS: usize = 47;
 
-/// The keywords that a schema object has: each is marked at its place in the table of keywords, and all other names at
-/// one place after them.
+/// The keywords that a schema object has: each is marked at its position in the table of keywords, and all other names
+/// at one position after them.
 #[derive(Drop)]
 pub(crate) struct Present {
-    marks: [bool; PLACES],
+    marks: [bool; POSITIONS],
 }
 
 impl Present {
@@ -32,7 +32,7 @@ impl Present {
                 marks: marks_of(members),
             },
             None => Present {
-                marks: [false; PLACES],
+                marks: [false; POSITIONS],
             },
         }
     }
@@ -72,30 +72,30 @@ impl Present {
         self.is_marked(keyword.position())
     }
 
-    // Whether this place is marked.
-    fn is_marked(&self, place: usize) -> bool
-        ensures { result ≡ get_or self.now.marks place false }
+    // Whether this position is marked.
+    fn is_marked(&self, position: usize) -> bool
+        ensures { result ≡ get_or self.now.marks position false }
     {
-        match self.marks.get(place) {
+        match self.marks.get(position) {
             Some(mark) => *mark,
             None => false,
         }
     }
 }
 
-fn marks_of(members: &Members) -> [bool; PLACES]
+fn marks_of(members: &Members) -> [bool; POSITIONS]
     ensures { are_marked result (members_value members.now) ≡ true }
 {
-    let mut marks = [false; PLACES];
+    let mut marks = [false; POSITIONS];
     for (name, _) in members.iter() {
-        marks[place_of(name)] = true;
+        marks[position_of(name)] = true;
     }
     marks
 }
 
-// The place of the keyword of this name in the table, or that of other names.
-fn place_of(name: &str) -> usize
-    ensures place { result ≡ place_of name.now }
+// The position of the keyword of this name in the table, or that of other names.
+fn position_of(name: &str) -> usize
+    ensures position { result ≡ position_of name.now }
     ensures within { result ≤ 46 }
 {
     match Keyword::named(name) {

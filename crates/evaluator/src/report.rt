@@ -65,7 +65,7 @@ impl Report {
 /// first that holds is answered:
 ///
 /// - [`Fault::Costly`]: there are more than 100,000 applications of schemas.
-/// - [`Fault::Loop`]: a schema is applied to a place of the instance while it is being applied there.
+/// - [`Fault::Loop`]: a schema is applied at an instance location while it is being applied there.
 /// - [`Fault::Deep`]: more than 1,000 applications nest.
 ///
 /// [`Fault::NoRoom`] is answered where memory ran out, at whichever step.

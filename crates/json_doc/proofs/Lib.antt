@@ -9,7 +9,7 @@ pub mod Texts
 pub mod Unescaped
 pub mod Fragments
 pub mod Indexes
-pub mod Places
+pub mod Positions
 pub mod TokenReads
 pub mod WholeTexts
 pub mod Grammar

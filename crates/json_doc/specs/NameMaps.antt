@@ -30,10 +30,10 @@ abbrev pub IsBelow : {T : Type 0} → Text → List (String Global × T) → Typ
 IsBelow name es = AllByRecursion (λ e. order_to name e ≡ Less) es
 
 -- the first entry with this name stands at this index
-pub record IsPlaceOf {T : Type 0} (name : Text) (es : List (String Global × T)) (place : ℕ) : Type 0 where
-  pub within : place < length es
-  pub above : IsAbove name (take place es)
-  pub same : (d : String Global × T) → order_to name (slice_index_or es place d) ≡ Equal
+pub record IsPositionOf {T : Type 0} (name : Text) (es : List (String Global × T)) (position : ℕ) : Type 0 where
+  pub within : position < length es
+  pub above : IsAbove name (take position es)
+  pub same : (d : String Global × T) → order_to name (slice_index_or es position d) ≡ Equal
 
 -- an entry with this name would stand at this index
 pub record IsGapFor {T : Type 0} (name : Text) (es : List (String Global × T)) (gap : ℕ) : Type 0 where

@@ -5,7 +5,7 @@ ghost use Rattle.std.specs.BTreeMap.{insert_entry};
 ghost use Rattle.std.specs.List.Sorted.{IsStrictlySortedBy};
 ghost use Rattle.std.specs.Map.{keys_of};
 ghost use Rattle.std.specs.String.{string_cmp};
-ghost use Rattle.json_doc.specs.NameMaps.{entry_view, entry_named, IsAbove, IsPlaceOf, IsGapFor};
+ghost use Rattle.json_doc.specs.NameMaps.{entry_view, entry_named, IsAbove, IsPositionOf, IsGapFor};
 
 use std::alloc::{AllocError, Global};
 use std::cmp::Ordering;
@@ -74,8 +74,8 @@ impl<T> NameMap<T> {
         ensures { option_map entry_view result ≡ entry_named name.now self.now }
     {
         let entries = self.as_slice();
-        match place_of(entries, name) {
-            Ok(place) => Some(&entries[place]),
+        match position_of(entries, name) {
+            Ok(position) => Some(&entries[position]),
             Err(_) => None,
         }
     }
@@ -143,9 +143,9 @@ impl<T: Drop> NameMap<T> {
         ensures ok { OnOk result (self.new ≡ insert_entry string_cmp self.old name value) }
         ensures unchanged { OnErr result (self.new ≡ self.old) }
     {
-        match place_of(self.entries.as_slice(), name.as_str()) {
-            Ok(place) => {
-                self.entries[place].1 = value;
+        match position_of(self.entries.as_slice(), name.as_str()) {
+            Ok(position) => {
+                self.entries[position].1 = value;
                 Ok(())
             }
             Err(gap) => {
@@ -168,9 +168,9 @@ fn is_above_all<T>(entries: &[(String, T)], name: &str) -> bool
 }
 
 // Where the name stands, or where it would go.
-fn place_of<T>(entries: &[(String, T)], name: &str) -> Result<usize, usize>
+fn position_of<T>(entries: &[(String, T)], name: &str) -> Result<usize, usize>
     requires { IsStrictlySortedBy string_cmp (keys_of entries.now) }
-    ensures found { IfOk result (IsPlaceOf name.now entries.now) }
+    ensures found { IfOk result (IsPositionOf name.now entries.now) }
     ensures gap { IfErr result (IsGapFor name.now entries.now) }
 {
     let mut low = 0;

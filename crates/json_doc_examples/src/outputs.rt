@@ -5,12 +5,12 @@ use json_doc::read;
 use std::test::Fail;
 
 /// At these steps, in the schema and in the instance, of one resource.
-fn at<'s, 'a>(path: &'s [Step<'a>], place: &'s [Step<'a>]) -> Location<'s, 'a> {
+fn at<'s, 'a>(path: &'s [Step<'a>], instance_location: &'s [Step<'a>]) -> Location<'s, 'a> {
     Location {
         path,
         resource: "https://ex.org/s",
         pointer: path,
-        place,
+        instance_location,
     }
 }
 
@@ -71,12 +71,12 @@ fn escapes_locations(rt: HostRuntime) -> Result<(), Fail> {
     let mut units = Units::new(rt.alloc());
     let path = [Step::Name("$ref"), Step::Name("~/%")];
     let pointer = [Step::Name("~/%"), Step::Name("ä \""), Step::Name("\u{1}\n")];
-    let place = [Step::Name("ä \""), Step::Index(12), Step::Name("\u{1}\n")];
+    let instance_location = [Step::Name("ä \""), Step::Index(12), Step::Name("\u{1}\n")];
     let location = Location {
         path: &path,
         resource: "urn:x",
         pointer: &pointer,
-        place: &place,
+        instance_location: &instance_location,
     };
     units.push(location, Says::NotAllowed)?;
     let text = output_text(rt.alloc(), false, &units)?;

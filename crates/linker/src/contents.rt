@@ -9,8 +9,8 @@ ghost use Rattle.json_doc.specs.Docs.{value};
 ghost use Rattle.linker.specs.LinkedDocuments.{linked_uri, linked_documents};
 ghost use Rattle.linker.specs.SharedDocuments.{shared_documents};
 
+use crate::insertion::position;
 use crate::linked::Linked;
-use crate::placing::position;
 use faults::Fault;
 use json_doc::Doc;
 use schema_scan::{Compiled, canonical};

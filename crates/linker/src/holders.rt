@@ -13,7 +13,7 @@ ghost use Rattle.linker.specs.SharedDocuments.{shared_documents};
 ghost use Rattle.linker.specs.Sources.{embeds, shares_resource};
 ghost use Rattle.linker.specs.Visits.{AreCompound};
 
-use crate::placing::position;
+use crate::insertion::position;
 use schema_scan::Compiled;
 use std::rc::Rc;
 

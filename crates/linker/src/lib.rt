@@ -4,13 +4,13 @@
 mod both;
 mod contents;
 mod holders;
+mod insertion;
 mod judging;
 mod linked;
 mod linking;
 mod list_holding;
 mod list_source;
 mod lookups;
-mod placing;
 mod references;
 mod source;
 mod visiting;

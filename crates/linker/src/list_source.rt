@@ -13,7 +13,7 @@ ghost use Rattle.linker.specs.Sources.{shares_resource};
 ghost use Rattle.linker.specs.SharedDocuments.{shared_documents};
 
 use crate::holders::shares_resource;
-use crate::placing::place;
+use crate::insertion::insert_in_order;
 use faults::Fault;
 use schema_scan::Compiled;
 use std::alloc::Global;
@@ -59,7 +59,7 @@ impl ListSource {
         if shares_resource(&self.documents, checked(&document)) {
             return Ok(false);
         }
-        Ok(place(&mut self.documents, document)?)
+        Ok(insert_in_order(&mut self.documents, document)?)
     }
 }
 

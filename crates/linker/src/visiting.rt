@@ -8,7 +8,7 @@ ghost use Rattle.definitions.specs.Documents.{Ascend};
 ghost use Rattle.linker.specs.Visits.{Adds, AreCompound, IsPart, Keeps, with_compound};
 
 use crate::holders::is_reached;
-use crate::placing::place;
+use crate::insertion::insert_in_order;
 use crate::source::Source;
 use faults::Fault;
 use schema_scan::Compiled;
@@ -133,7 +133,7 @@ fn keep(
         (AreCompound (shared_documents reached.new.items) (shared_documents compound.new.items)) }
 {
     let again = document.clone()?;
-    if place(reached, document)? {
+    if insert_in_order(reached, document)? {
         note(&again, compound)?;
         waiting.push(again)?;
     }

@@ -149,7 +149,7 @@ fn write_entry(out: &mut Writer, entry: Option<usize>) -> Result<(), AllocError>
     ensures before { out.new.before ≡ out.old.before }
 {
     match entry {
-        Some(place) => write_number(out, "entry", place as u64),
+        Some(index) => write_number(out, "entry", index as u64),
         None => Ok(()),
     }
 }

@@ -76,8 +76,8 @@ pub fn write_reply(
             write_http(out, closes, stored_status(entries), body.as_str())?;
         }
         Reply::Refused(refusal) => write_refusal(alloc, out, closes, None, refusal)?,
-        Reply::RefusedAt(place, refusal) => {
-            write_refusal(alloc, out, closes, Some(*place), refusal)?;
+        Reply::RefusedAt(index, refusal) => {
+            write_refusal(alloc, out, closes, Some(*index), refusal)?;
         }
     }
     Ok(())

@@ -10,7 +10,7 @@ use Rattle.schema_index.specs.declared.pointing.descending.Descent.{Descent}
 
 -- the tokens that the step takes
 abbrev pub tokens_taken : Descent → Pointer
-tokens_taken d = d.keyword.now ∷ tokens (option_list d.place)
+tokens_taken d = d.keyword.now ∷ tokens (option_list d.step)
 
 -- where the pointer leads first from a schema of this value: to what the step says, or nowhere
 abbrev pub GoesOn : Pointer → Value → Option Descent → Type 0

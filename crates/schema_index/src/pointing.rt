@@ -99,7 +99,7 @@ impl Indexed {
             }
             None => Ok(Located {
                 resource: around.resource,
-                steps: with_steps(around.steps, descent.keyword, descent.place)?,
+                steps: with_steps(around.steps, descent.keyword, descent.step)?,
                 schema: descent.schema,
             }),
         }
@@ -110,14 +110,14 @@ impl Indexed {
 fn with_steps<'a>(
     steps: Vec<Step<'a>>,
     keyword: &'a str,
-    place: Option<Step<'a>>,
+    step: Option<Step<'a>>,
 ) -> Result<Vec<Step<'a>>, AllocError>
     ensures { IfOk result (λ s. tokens s.items
-        ≡ tokens steps.entry.items ++ keyword.now ∷ tokens (option_list place.entry)) }
+        ≡ tokens steps.entry.items ++ keyword.now ∷ tokens (option_list step.entry)) }
 {
     let mut steps = steps;
     steps.push(Step::Name(keyword))?;
-    if let Some(step) = place {
+    if let Some(step) = step {
         steps.push(step)?;
     }
     Ok(steps)

@@ -113,7 +113,7 @@ fn visit_keyword<'a>(
         Ok(()) => {}
         Err(fault) => return Err(fault),
     }
-    match visit_place(alloc, gathered, way, start, uri, shape_named(name), member) {
+    match visit_keyword_value(alloc, gathered, way, start, uri, shape_named(name), member) {
         Ok(()) => {}
         Err(fault) => return Err(fault),
     }
@@ -123,7 +123,7 @@ fn visit_keyword<'a>(
 
 // The schemas at the value of a keyword of this shape.
 #[cycle(visit)]
-fn visit_place<'a>(
+fn visit_keyword_value<'a>(
     alloc: Global,
     gathered: &mut GatheredSchemas,
     way: &mut Vec<Step<'a>>,

@@ -1,7 +1,7 @@
 -- Lists that a loop makes of the items of another.
 use Rattle.std.proofs.Common.{◌≡◌, ◌<◌, ◌≤◌, ℕ, ◌+◌, List, [], ◌∷◌, ◌++◌, map, length, get_or, drop, Bool, true, false, cond, Option, Some, filter, refl, sym, ap, ap₂, ◌∙◌, append_assoc, codes}
 use Rattle.std.proofs.lemmas.List.{drop_more, drop_all, map-append}
-use Rattle.schema_scan.specs.Places.{Place}
+use Rattle.schema_scan.specs.SchemaPositions.{SchemaPosition}
 use Rattle.schema_scan.specs.Names.{uris_opened, anchors_at}
 use Rattle.definitions.specs.Values.{Text, Value, text_at, same_text}
 use Rattle.definitions.specs.Scanning.{anchor_names}
@@ -28,11 +28,11 @@ module _ {A B : Type 0} (f : A → B) where
   map-push_two xs ys zs a b e g = map-push ys zs b g ∙ ap (λ ts. ts ++ f b ∷ []) (map-push xs ys a e) ∙ append_assoc (map f xs) (f a ∷ []) (f b ∷ [])
 
 -- ---- the URI that a schema opens
-opened-by : (b : Bool) (q : Place) (qs : List Place) → map (λ (p : Place). p.resource) (cond b (q ∷ filter (λ p. p.at_root) qs) (filter (λ p. p.at_root) qs)) ≡ cond b (q.resource ∷ []) [] ++ uris_opened qs
+opened-by : (b : Bool) (q : SchemaPosition) (qs : List SchemaPosition) → map (λ (p : SchemaPosition). p.resource) (cond b (q ∷ filter (λ p. p.at_root) qs) (filter (λ p. p.at_root) qs)) ≡ cond b (q.resource ∷ []) [] ++ uris_opened qs
 opened-by true q qs = refl
 opened-by false q qs = refl
 
-pub opened-first : (q : Place) (qs : List Place) → uris_opened (q ∷ qs) ≡ cond q.at_root (q.resource ∷ []) [] ++ uris_opened qs
+pub opened-first : (q : SchemaPosition) (qs : List SchemaPosition) → uris_opened (q ∷ qs) ≡ cond q.at_root (q.resource ∷ []) [] ++ uris_opened qs
 opened-first q qs = opened-by q.at_root q qs
 
 -- ---- the anchors of a schema

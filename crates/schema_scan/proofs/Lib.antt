@@ -1,5 +1,5 @@
 pub mod Opened
-pub mod Placed
+pub mod Positioned
 pub mod Walked
 pub mod Asked
 pub mod Extended

@@ -1,4 +1,4 @@
--- The schema that stands at a place: its value, its resource, and whether it is that resource's root.
+-- The schema that stands at a pointer: its value, its resource, and whether it is that resource's root.
 use Rattle.std.proofs.Common.{◌≡◌, ℕ, suc, [], ◌∷◌, ◌++◌, length, Bool, false, ◌||◌, ◌==◌, Option, Some, None, is_some, codes, refl, sym, ap, ◌∙◌, arith}
 use Rattle.std.proofs.Math.Bool.{or-false, or-true}
 use Rattle.std.proofs.lemmas.Bool.Decides.{nat_tests}
@@ -8,7 +8,7 @@ use Rattle.definitions.specs.Keywords.{keywords, shape_in}
 use Rattle.definitions.specs.Schemas.{opened_schema, schema_at, is_root}
 use Rattle.definition_laws.proofs.Places.{value-opened}
 use Rattle.keywords.specs.Rows.{shape_named}
-use Rattle.schema_scan.specs.Places.{opened_uri, resource_of, opens_resource}
+use Rattle.schema_scan.specs.SchemaPositions.{opened_uri, resource_of, opens_resource}
 
 pub value-at : (base : Text) (p : Pointer) (v : Value) → (schema_at base p v).value ≡ v
 value-at base p v = value-opened base p v (text_at (codes "$id") v)

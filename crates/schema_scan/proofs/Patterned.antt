@@ -1,4 +1,4 @@
--- The patterns of a schema, and those of a document by its places.
+-- The patterns of a schema, and those of a document by its positions.
 use Rattle.std.proofs.Common.{◌≡◌, List, [], ◌∷◌, ◌++◌, map, Bool, true, false, Option, Some, None, option_map, option_and_then, unwrap_or, codes, refl, sym, ap, ap₂, ◌∙◌}
 use Rattle.std.proofs.lemmas.Grind.{flat_map-append}
 use Rattle.std.specs.List.{flat_map}
@@ -10,8 +10,8 @@ use Rattle.definitions.specs.Shapes.{Shape, any_value, truth, whole_number, size
 use Rattle.json_doc.specs.Kinds.{as_members}
 use Rattle.schema_scan.specs.PatternTexts.{patterns_at, names_at, patterns_in}
 use Rattle.keywords.specs.Rows.{shape_named}
-use Rattle.schema_scan.specs.Places.{Place, resource_of, places, places_below, places_at, places_in_list, places_in_map}
-use Rattle.schema_scan.proofs.Placed.{placed, schemas_of-places}
+use Rattle.schema_scan.specs.SchemaPositions.{SchemaPosition, resource_of, schema_positions, positions_below, positions_at, positions_in_list, positions_in_map}
+use Rattle.schema_scan.proofs.Positioned.{placed, schemas_of-schema_positions}
 
 -- ---- of a schema
 abbrev names : Option (List (Text × Value)) → List Text
@@ -40,16 +40,16 @@ unfolding patterns_at
 patterns-placed [] = refl
 patterns-placed (s ∷ ss) = ap (λ ts. patterns_of s ++ ts) (patterns-placed ss)
 
-patterns_in-append : (ps qs : List Place) → patterns_in (ps ++ qs) ≡ patterns_in ps ++ patterns_in qs
-patterns_in-append ps qs = flat_map-append (λ (p : Place). patterns_at p.value) ps qs
+patterns_in-append : (ps qs : List SchemaPosition) → patterns_in (ps ++ qs) ≡ patterns_in ps ++ patterns_in qs
+patterns_in-append ps qs = flat_map-append (λ (p : SchemaPosition). patterns_at p.value) ps qs
 
-both : (ps qs rs ss : List Place) → patterns_in ps ≡ patterns_in rs → patterns_in qs ≡ patterns_in ss → patterns_in (ps ++ qs) ≡ patterns_in (rs ++ ss)
+both : (ps qs rs ss : List SchemaPosition) → patterns_in ps ≡ patterns_in rs → patterns_in qs ≡ patterns_in ss → patterns_in (ps ++ qs) ≡ patterns_in (rs ++ ss)
 both ps qs rs ss e f = patterns_in-append ps qs ∙ ap₂ (λ a b. a ++ b) e f ∙ sym (patterns_in-append rs ss)
 
 -- the bases don't matter
 module _ where
   mutual
-    same_everywhere : (base other : Text) (root high : Bool) (v : Value) → patterns_in (places base root v) ≡ patterns_in (places other high v)
+    same_everywhere : (base other : Text) (root high : Bool) (v : Value) → patterns_in (schema_positions base root v) ≡ patterns_in (schema_positions other high v)
     same_everywhere base other root high null = refl
     same_everywhere base other root high (boolean b) = refl
     same_everywhere base other root high (integer z) = refl
@@ -57,13 +57,13 @@ module _ where
     same_everywhere base other root high (array vs) = refl
     same_everywhere base other root high (object ms) = ap (λ ts. patterns_at (object ms) ++ ts) (same_below (resource_of base (object ms)) (resource_of other (object ms)) ms)
 
-    same_below : (base other : Text) (ms : Members) → patterns_in (places_below base ms) ≡ patterns_in (places_below other ms)
+    same_below : (base other : Text) (ms : Members) → patterns_in (positions_below base ms) ≡ patterns_in (positions_below other ms)
     same_below base other no_members = refl
     same_below base other (member name v ms) =
-        both (places_at (shape_named name) base v) (places_below base ms) (places_at (shape_named name) other v) (places_below other ms)
+        both (positions_at (shape_named name) base v) (positions_below base ms) (positions_at (shape_named name) other v) (positions_below other ms)
         (same_at (shape_named name) base other v) (same_below base other ms)
 
-    same_at : (shape : Shape) (base other : Text) (v : Value) → patterns_in (places_at shape base v) ≡ patterns_in (places_at shape other v)
+    same_at : (shape : Shape) (base other : Text) (v : Value) → patterns_in (positions_at shape base v) ≡ patterns_in (positions_at shape other v)
     same_at one_schema base other null = refl
     same_at one_schema base other (boolean b) = refl
     same_at one_schema base other (integer z) = refl
@@ -97,17 +97,17 @@ module _ where
     same_at anchor_name base other v = refl
     same_at dialect base other v = refl
 
-    same_in_list : (base other : Text) (vs : Elements) → patterns_in (places_in_list base vs) ≡ patterns_in (places_in_list other vs)
+    same_in_list : (base other : Text) (vs : Elements) → patterns_in (positions_in_list base vs) ≡ patterns_in (positions_in_list other vs)
     same_in_list base other no_elements = refl
     same_in_list base other (element v vs) =
-        both (places base false v) (places_in_list base vs) (places other false v) (places_in_list other vs)
+        both (schema_positions base false v) (positions_in_list base vs) (schema_positions other false v) (positions_in_list other vs)
         (same_everywhere base other false false v) (same_in_list base other vs)
 
-    same_in_map : (base other : Text) (ms : Members) → patterns_in (places_in_map base ms) ≡ patterns_in (places_in_map other ms)
+    same_in_map : (base other : Text) (ms : Members) → patterns_in (positions_in_map base ms) ≡ patterns_in (positions_in_map other ms)
     same_in_map base other no_members = refl
     same_in_map base other (member name v ms) =
-        both (places base false v) (places_in_map base ms) (places other false v) (places_in_map other ms)
+        both (schema_positions base false v) (positions_in_map base ms) (schema_positions other false v) (positions_in_map other ms)
         (same_everywhere base other false false v) (same_in_map base other ms)
 
-pub patterns-places : (base : Text) (v : Value) → patterns v ≡ patterns_in (places base true v)
-patterns-places base v = patterns-placed (schemas_of [] v) ∙ ap patterns_in (schemas_of-places [] v) ∙ same_everywhere [] base true true v
+pub patterns-schema_positions : (base : Text) (v : Value) → patterns v ≡ patterns_in (schema_positions base true v)
+patterns-schema_positions base v = patterns-placed (schemas_of [] v) ∙ ap patterns_in (schemas_of-schema_positions [] v) ∙ same_everywhere [] base true true v

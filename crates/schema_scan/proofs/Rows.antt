@@ -10,9 +10,9 @@ use Rattle.definitions.specs.Values.{Text, Value}
 use Rattle.definitions.specs.Uris.{without_fragment}
 use Rattle.definitions.specs.Resolution.{target_uri}
 use Rattle.json_doc.specs.Docs.{value}
-use Rattle.schema_scan.specs.Places.{Place, id_of, opened_uri, resource_of, opens_resource}
+use Rattle.schema_scan.specs.SchemaPositions.{SchemaPosition, id_of, opened_uri, resource_of, opens_resource}
 use Rattle.schema_scan.specs.Uris.{Extends}
-use Rattle.schema_scan.specs.Tables.{place_by}
+use Rattle.schema_scan.specs.Tables.{position_view}
 use Rattle.schema_scan.specs.declared.table.Position.{Position}
 
 -- ---- what `$id` opens
@@ -57,16 +57,16 @@ pub longer-push : {A : Type 0} (xs ys : List A) (x : A) (b : Bool) → ys ≡ co
 longer-push xs ys x true e = omega (arith, ap length e, length-append xs (x ∷ []))
 longer-push xs ys x false e = omega (arith, ap length e)
 
--- ---- places
-abbrev pub place_with : Value → Text → Bool → Place
-place_with v uri b = record { resource = uri; at_root = b; value = v }
+-- ---- positions
+abbrev pub position_with : Value → Text → Bool → SchemaPosition
+position_with v uri b = record { resource = uri; at_root = b; value = v }
 
 resource_below : (r n : ℕ) (b : Bool) → (nat_lt r n && b) ≡ true → (r < n) × (b ≡ true)
 resource_below r n true e = (grind (arith, nat_tests), refl)
 resource_below r n false e = grind (arith, nat_tests)
 
-pub places-more : (us vs : List Text) (ps : List Position) → Extends us vs → have_uris (length us) ps ≡ true → map (place_by vs) ps ≡ map (place_by us) ps
-places-more us vs [] x e = refl
-places-more us vs (p ∷ ps) x e =
+pub schema_positions-more : (us vs : List Text) (ps : List Position) → Extends us vs → have_uris (length us) ps ≡ true → map (position_view vs) ps ≡ map (position_view us) ps
+schema_positions-more us vs [] x e = refl
+schema_positions-more us vs (p ∷ ps) x e =
     let h = resource_below p.resource (length us) (have_uris (length us) ps) e in
-    ap₂ (λ q qs. q ∷ qs) (ap (λ uri. place_with (value p.schema.now) uri p.at_root) (x.same p.resource h.0)) (places-more us vs ps x h.1)
+    ap₂ (λ q qs. q ∷ qs) (ap (λ uri. position_with (value p.schema.now) uri p.at_root) (x.same p.resource h.0)) (schema_positions-more us vs ps x h.1)

@@ -7,16 +7,16 @@ use Rattle.definitions.specs.Lists.{has_repeat, first, unless, when}
 use Rattle.definitions.specs.Faults.{Fault, not_object, too_nested, duplicate_uri, duplicate_anchor}
 use Rattle.definitions.specs.Schemas.{Schema, schemas_of, is_root}
 use Rattle.definitions.specs.Scanning.{same_anchor, resource_uris, anchors_of, name_faults, scan_fault}
-use Rattle.schema_scan.specs.Places.{Place, places}
+use Rattle.schema_scan.specs.SchemaPositions.{SchemaPosition, schema_positions}
 use Rattle.schema_scan.specs.Missteps.{Misstep, misstep_fault, missteps}
 use Rattle.schema_scan.specs.Names.{uris_opened, anchors_at, anchors_in}
-use Rattle.schema_scan.proofs.Placed.{placed, schemas_of-places}
+use Rattle.schema_scan.proofs.Positioned.{placed, schemas_of-schema_positions}
 use Rattle.schema_scan.proofs.Walked.{document-missteps}
 use Rattle.schema_scan.proofs.Visits.{first-append}
 
 -- ---- names
 kept_root : (s : Schema) (table : List Schema) (b : Bool) → map (λ (t : Schema). t.resource) (filter is_root table) ≡ uris_opened (map placed table)
-    → map (λ (t : Schema). t.resource) (cond b (s ∷ filter is_root table) (filter is_root table)) ≡ map (λ (p : Place). p.resource) (cond b (placed s ∷ filter (λ p. p.at_root) (map placed table)) (filter (λ p. p.at_root) (map placed table)))
+    → map (λ (t : Schema). t.resource) (cond b (s ∷ filter is_root table) (filter is_root table)) ≡ map (λ (p : SchemaPosition). p.resource) (cond b (placed s ∷ filter (λ p. p.at_root) (map placed table)) (filter (λ p. p.at_root) (map placed table)))
 kept_root s table true e = ap (λ us. s.resource ∷ us) e
 kept_root s table false e = e
 
@@ -34,16 +34,16 @@ faults_of_names uris anchors = when uris duplicate_uri ++ when anchors duplicate
 
 -- whether a name stands twice in the document
 abbrev pub uris_repeat : Text → Value → Bool
-uris_repeat base v = has_repeat same_text (uris_opened (places base true v))
+uris_repeat base v = has_repeat same_text (uris_opened (schema_positions base true v))
 
 abbrev pub anchors_repeat : Text → Value → Bool
-anchors_repeat base v = has_repeat same_anchor (anchors_in (places base true v))
+anchors_repeat base v = has_repeat same_anchor (anchors_in (schema_positions base true v))
 
-name_faults-places : (base : Text) (v : Value) → name_faults (schemas_of base v) ≡ faults_of_names (uris_repeat base v) (anchors_repeat base v)
-name_faults-places base v =
+name_faults-schema_positions : (base : Text) (v : Value) → name_faults (schemas_of base v) ≡ faults_of_names (uris_repeat base v) (anchors_repeat base v)
+name_faults-schema_positions base v =
     ap₂ faults_of_names
-    (ap (has_repeat same_text) (resource_uris-placed (schemas_of base v) ∙ ap uris_opened (schemas_of-places base v)))
-    (ap (has_repeat same_anchor) (anchors-placed (schemas_of base v) ∙ ap anchors_in (schemas_of-places base v)))
+    (ap (has_repeat same_text) (resource_uris-placed (schemas_of base v) ∙ ap uris_opened (schemas_of-schema_positions base v)))
+    (ap (has_repeat same_anchor) (anchors-placed (schemas_of base v) ∙ ap anchors_in (schemas_of-schema_positions base v)))
 
 -- ---- all faults
 abbrev pub all_faults : Bool → Bool → List Misstep → Bool → Bool → List Fault
@@ -53,7 +53,7 @@ all_faults object deep ms uris anchors =
 pub scan_fault-parts : (base : Text) (v : Value)
     → scan_fault base v ≡ first (all_faults (is_object v) (nat_lt 120 (nesting v)) (missteps base true v) (uris_repeat base v) (anchors_repeat base v))
 scan_fault-parts base v =
-    ap₂ (λ fs gs. first ((unless (is_object v) not_object ++ (when (nat_lt 120 (nesting v)) too_nested ++ fs)) ++ gs)) (document-missteps base v) (name_faults-places base v)
+    ap₂ (λ fs gs. first ((unless (is_object v) not_object ++ (when (nat_lt 120 (nesting v)) too_nested ++ fs)) ++ gs)) (document-missteps base v) (name_faults-schema_positions base v)
 
 -- ---- the fault at each exit of a scan
 pub fault_of_value : (base : Text) (v : Value) → is_object v ≡ false → scan_fault base v ≡ Some not_object

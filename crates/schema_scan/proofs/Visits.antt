@@ -5,14 +5,14 @@ use Rattle.definitions.specs.Values.{Text, to_elements}
 use Rattle.definitions.specs.Lists.{first}
 use Rattle.json_doc.specs.Docs.{value}
 use Rattle.json_doc.specs.declared.doc.Doc.{Doc}
-use Rattle.schema_scan.specs.Places.{Place}
+use Rattle.schema_scan.specs.SchemaPositions.{SchemaPosition}
 use Rattle.schema_scan.specs.Missteps.{Misstep, below_name, missteps, missteps_in_list}
 use Rattle.schema_scan.specs.Refusals.{Refuses}
 use Rattle.schema_scan.specs.declared.refusal.Refusal.{Refusal}
 use Rattle.schema_scan.specs.declared.refusal.Refusal.TheVariants.{NoRoom, Shape, Id, Anchor, Dialect}
 
-pub places-step : (start now next here rest whole : List Place) → start ++ whole ≡ now ++ (here ++ rest) → next ≡ now ++ here → start ++ whole ≡ next ++ rest
-places-step start now next here rest whole e f = e ∙ sym (append_assoc now here rest) ∙ ap (λ ps. ps ++ rest) (sym f)
+pub schema_positions-step : (start now next here rest whole : List SchemaPosition) → start ++ whole ≡ now ++ (here ++ rest) → next ≡ now ++ here → start ++ whole ≡ next ++ rest
+schema_positions-step start now next here rest whole e f = e ∙ sym (append_assoc now here rest) ∙ ap (λ ps. ps ++ rest) (sym f)
 
 pub first-append : {X : Type 0} (xs ys : List X) (x : X) → first xs ≡ Some x → first (xs ++ ys) ≡ Some x
 first-append [] ys x e = cc

@@ -12,7 +12,7 @@ use Rattle.definitions.specs.Schemas.{Schema, schema_at, below, at_place, is_roo
 use Rattle.definitions.specs.Scanning.{shape_faults, keyword_faults, subtree_faults}
 use Rattle.definitions.specs.Lists.{unless}
 use Rattle.keywords.specs.Rows.{shape_named}
-use Rattle.schema_scan.specs.Places.{resource_of, opens_resource}
+use Rattle.schema_scan.specs.SchemaPositions.{resource_of, opens_resource}
 use Rattle.schema_scan.specs.Missteps.{Misstep, wrong_shape, wrong_id, wrong_anchor, wrong_dialect, misstep_fault, deeper, below_name, is_as_asked, misstep_at, shape_missteps, own_missteps, missteps, missteps_below, missteps_at, missteps_in_list, missteps_in_map}
 use Rattle.keywords.proofs.Names.{shape_named-row}
 use Rattle.schema_scan.proofs.Opened.{value-at, resource-at, is_root-at, not_empty}

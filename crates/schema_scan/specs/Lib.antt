@@ -1,4 +1,4 @@
-pub mod Places
+pub mod SchemaPositions
 pub mod Missteps
 pub mod Refusals
 pub mod Uris

@@ -8,7 +8,7 @@ use Rattle.definitions.specs.Faults as faults
 use Rattle.definitions.specs.Shapes.{Shape, has_shape, is_anchor_name, identifier, anchor_name, dialect, one_schema, schema_list, schema_map}
 use Rattle.definitions.specs.Scanning.{is_id, is_dialect}
 use Rattle.keywords.specs.Rows.{shape_named}
-use Rattle.schema_scan.specs.Places.{resource_of, opens_resource}
+use Rattle.schema_scan.specs.SchemaPositions.{resource_of, opens_resource}
 
 pub data Misstep : Type 0 where
   -- a keyword's value has a wrong shape: the pointer that leads to the keyword

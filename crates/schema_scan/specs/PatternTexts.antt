@@ -2,7 +2,7 @@
 use Rattle.std.specs.Prelude.{List, [], map, flat_map, option_map, unwrap_or}
 use Rattle.definitions.specs.Values.{Text, Value, get, members}
 use Rattle.definitions.specs.Searches.{patterns_of}
-use Rattle.schema_scan.specs.Places.{Place}
+use Rattle.schema_scan.specs.SchemaPositions.{SchemaPosition}
 
 -- of a schema with this value: neither its resource nor its pointer matters
 unfoldable pub patterns_at : Value → List Text
@@ -12,5 +12,5 @@ patterns_at v = patterns_of (record { resource = []; pointer = []; value = v })
 unfoldable pub names_at : Text → Value → List Text
 names_at keyword v = unwrap_or (option_map (λ u. map (λ m. m.0) (members u)) (get keyword v)) []
 
-abbrev pub patterns_in : List Place → List Text
+abbrev pub patterns_in : List SchemaPosition → List Text
 patterns_in ps = flat_map (λ p. patterns_at p.value) ps

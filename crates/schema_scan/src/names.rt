@@ -7,7 +7,7 @@ ghost use Rattle.definitions.specs.Scanning.{same_anchor};
 ghost use Rattle.json_doc.specs.Docs.{value};
 ghost use Rattle.schema_scan.specs.Names.{uris_opened, anchors_at, anchors_in};
 ghost use Rattle.schema_scan.specs.AnchorViews.{anchor_view};
-ghost use Rattle.schema_scan.specs.Tables.{places_of};
+ghost use Rattle.schema_scan.specs.Tables.{positions_view};
 
 use crate::repeats::has_repeat;
 use crate::table::Table;
@@ -16,7 +16,7 @@ use std::alloc::{AllocError, Global};
 
 /// Whether two schemas open a resource of one URI.
 pub(crate) fn has_repeated_uri(alloc: Global, table: &Table) -> Result<bool, AllocError>
-    ensures { IfOk result (λ b. b ≡ has_repeat same_text (uris_opened (places_of table.now))) }
+    ensures { IfOk result (λ b. b ≡ has_repeat same_text (uris_opened (positions_view table.now))) }
 {
     let uris = table.opened_uris(alloc)?;
     Ok(has_repeat(alloc, &uris)?)
@@ -24,7 +24,8 @@ pub(crate) fn has_repeated_uri(alloc: Global, table: &Table) -> Result<bool, All
 
 /// Whether two schemas of one resource have an anchor of one name.
 pub(crate) fn has_repeated_anchor(alloc: Global, table: &Table) -> Result<bool, AllocError>
-    ensures { IfOk result (λ b. b ≡ has_repeat same_anchor (anchors_in (places_of table.now))) }
+    ensures { IfOk result (λ b. b
+        ≡ has_repeat same_anchor (anchors_in (positions_view table.now))) }
 {
     let anchors = table.anchors(alloc)?;
     Ok(has_repeat(alloc, &anchors)?)

@@ -5,7 +5,7 @@ ghost use Rattle.definitions.specs.Scanning.{scan_fault};
 ghost use Rattle.definitions.specs.Searches.{patterns};
 ghost use Rattle.json_doc.specs.Docs.{value};
 ghost use Rattle.schema_scan.specs.PatternTexts.{patterns_in};
-ghost use Rattle.schema_scan.specs.Tables.{uris_of, places_of};
+ghost use Rattle.schema_scan.specs.Tables.{uris_of, positions_view};
 ghost use Rattle.schema_scan.specs.Uris.{uri_at};
 
 use crate::table::Table;
@@ -20,7 +20,7 @@ pub struct Scanned<'a> {
     table: Table<'a>,
     document: &'a Doc,
     ghost faultless: { scan_fault (uri_at (uris_of table) 0) (value document.now) ≡ None },
-    ghost all_patterns: { patterns_in (places_of table) ≡ patterns (value document.now) },
+    ghost all_patterns: { patterns_in (positions_view table) ≡ patterns (value document.now) },
 }
 
 impl<'a> Scanned<'a> {
@@ -28,7 +28,7 @@ impl<'a> Scanned<'a> {
 
     pub(crate) fn new(table: Table<'a>, document: &'a Doc) -> Scanned<'a>
         requires faultless { scan_fault (uri_at (uris_of table) 0) (value document.now) ≡ None }
-        requires patterns { patterns_in (places_of table) ≡ patterns (value document.now) }
+        requires patterns { patterns_in (positions_view table) ≡ patterns (value document.now) }
         ensures base { scanned_base result ≡ uri_at (uris_of table.entry) 0 }
         ensures value { scanned_value result ≡ value document.now }
     {

@@ -7,8 +7,8 @@ ghost use Rattle.definitions.specs.Scanning.{scan_fault};
 ghost use Rattle.faults.specs.View.{fault_view};
 ghost use Rattle.json_doc.specs.Docs.{value};
 ghost use Rattle.schema_scan.specs.Scans.{scanned_base, scanned_value};
-ghost use Rattle.schema_scan.specs.Places.{places};
-ghost use Rattle.schema_scan.specs.Tables.{uris_of, places_of};
+ghost use Rattle.schema_scan.specs.SchemaPositions.{schema_positions};
+ghost use Rattle.schema_scan.specs.Tables.{uris_of, positions_view};
 ghost use Rattle.schema_scan.specs.Uris.{uri_at};
 
 use crate::names::{has_repeated_anchor, has_repeated_uri};
@@ -57,8 +57,8 @@ pub fn scan<'a>(alloc: Global, base: &Parts, document: &'a Doc) -> Result<Scanne
 // The schemas of the document, where the scan by all keywords finds no fault.
 fn read_schemas<'a>(alloc: Global, base: &Parts, document: &'a Doc) -> Result<Table<'a>, Fault>
     ensures base { IfOk result (λ t. uri_at (uris_of t) 0 ≡ recompose base.now) }
-    ensures places { IfOk result
-        (λ t. places_of t ≡ places (recompose base.now) true (value document.now)) }
+    ensures schema_positions { IfOk result
+        (λ t. positions_view t ≡ schema_positions (recompose base.now) true (value document.now)) }
     ensures sound { OnOk result (scan_fault (recompose base.now) (value document.now) ≡ None) }
     ensures err { IfErr result
         (λ f. f ≢ Fault.NoRoom → scan_fault (recompose base.now) (value document.now)

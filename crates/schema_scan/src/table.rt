@@ -3,7 +3,7 @@
 ghost use Rattle.std.specs.Prelude.{◌≡◌, true, nat_lt, ◌<◌, [], ◌∷◌, ◌++◌, ◌||◌, length, OnOk, IfOk, map, string_bytes};
 ghost use Rattle.std.specs.List.{list_all};
 ghost use Rattle.json_doc.specs.Docs.{value};
-ghost use Rattle.schema_scan.specs.Places.{resource_of, opens_resource, place_of, opened_uri};
+ghost use Rattle.schema_scan.specs.SchemaPositions.{resource_of, opens_resource, position_of, opened_uri};
 ghost use Rattle.schema_scan.specs.AnchorViews.{anchor_view};
 ghost use Rattle.schema_scan.specs.Names.{uris_opened, anchors_in};
 ghost use Rattle.schema_scan.specs.PatternTexts.{patterns_in};
@@ -34,7 +34,7 @@ pub(crate) struct Standing {
 
 /// The schemas of a document, in the order of a walk, and the URIs of the resources in which they stand.
 ///
-/// Contracts see the URIs by `uris_of`, and the schemas by `places_of`: each as its resource's URI, whether it is the root,
+/// Contracts see the URIs by `uris_of`, and the schemas by `positions_view`: each as its resource's URI, whether it is the root,
 /// and its value.
 #[derive(Debug, Drop)]
 pub(crate) struct Table<'a> {
@@ -44,11 +44,12 @@ pub(crate) struct Table<'a> {
 }
 
 impl<'a> Table<'a> {
-    ghost use Rattle.schema_scan.specs.Tables.{uris_of, places_of};
+    ghost use Rattle.schema_scan.specs.Tables.{uris_of, positions_view};
 
     /// No schemas yet, and one URI: the base of the document.
     pub(crate) fn new(alloc: Global, base: String) -> Result<Table<'a>, AllocError>
-        ensures { IfOk result (λ t. (uris_of t ≡ string_bytes base ∷ []) × (places_of t ≡ [])) }
+        ensures { IfOk result (λ t. (uris_of t ≡ string_bytes base ∷ [])
+            × (positions_view t ≡ [])) }
     {
         let mut uris = Vec::new(alloc);
         uris.push(base)?;
@@ -78,9 +79,9 @@ impl<'a> Table<'a> {
     ) -> Result<Standing, AllocError>
         requires { around < length (uris_of self.old) }
         ensures extends { OnOk result (Extends (uris_of self.old) (uris_of self.new)) }
-        ensures places { OnOk result
-            (places_of self.new ≡ places_of self.old
-            ++ place_of (uri_at (uris_of self.old) around) at_root (value schema.now) ∷ []) }
+        ensures schema_positions { OnOk result
+            (positions_view self.new ≡ positions_view self.old
+            ++ position_of (uri_at (uris_of self.old) around) at_root (value schema.now) ∷ []) }
         ensures resource { IfOk result
             (λ s. (s.resource < length (uris_of self.new))
             × (uri_at (uris_of self.new) s.resource
@@ -107,7 +108,7 @@ impl<'a> Table<'a> {
     ) -> Result<Standing, AllocError>
         requires { around < length (uris_of self.old) }
         ensures extends { OnOk result (Extends (uris_of self.old) (uris_of self.new)) }
-        ensures places { OnOk result (places_of self.new ≡ places_of self.old) }
+        ensures schema_positions { OnOk result (positions_view self.new ≡ positions_view self.old) }
         ensures resource { IfOk result
             (λ s. (s.resource < length (uris_of self.new))
             × (uri_at (uris_of self.new) s.resource
@@ -137,7 +138,7 @@ impl<'a> Table<'a> {
         ensures uri { IfOk result
             (λ index. (index < length (uris_of self.new))
             × (uri_at (uris_of self.new) index ≡ string_bytes uri)) }
-        ensures places { OnOk result (places_of self.new ≡ places_of self.old) }
+        ensures schema_positions { OnOk result (positions_view self.new ≡ positions_view self.old) }
     {
         let index = self.uris.len();
         self.uris.push(uri)?;
@@ -147,7 +148,7 @@ impl<'a> Table<'a> {
     /// The URIs of the resources that the schemas open.
     pub(crate) fn opened_uris(&self, alloc: Global) -> Result<Vec<&str>, AllocError>
         ensures { IfOk result (λ uris. map (λ u. u.now) uris.items
-            ≡ uris_opened (places_of self.now)) }
+            ≡ uris_opened (positions_view self.now)) }
     {
         let mut uris = Vec::new(alloc);
         for position in &self.positions {
@@ -161,7 +162,7 @@ impl<'a> Table<'a> {
     /// The anchors of the schemas, each with the URI of its resource.
     pub(crate) fn anchors(&self, alloc: Global) -> Result<Vec<(&str, &str)>, AllocError>
         ensures { IfOk result (λ anchors. map anchor_view anchors.items
-            ≡ anchors_in (places_of self.now)) }
+            ≡ anchors_in (positions_view self.now)) }
     {
         let mut anchors = Vec::new(alloc);
         for position in &self.positions {
@@ -172,7 +173,7 @@ impl<'a> Table<'a> {
     /// The texts of the schemas' patterns.
     pub(crate) fn patterns(&self, alloc: Global) -> Result<Vec<&str>, AllocError>
         ensures { IfOk result (λ texts. map (λ t. t.now) texts.items
-            ≡ patterns_in (places_of self.now)) }
+            ≡ patterns_in (positions_view self.now)) }
     {
         let mut texts = Vec::new(alloc);
         for position in &self.positions {

@@ -4,9 +4,9 @@ ghost use Rattle.std.specs.Prelude.{◌≡◌, ◌<◌, [], ◌++◌, OnOk, IfEr
 ghost use Rattle.definitions.specs.Values.{to_elements};
 ghost use Rattle.json_doc.specs.Docs.{value, members_view};
 ghost use Rattle.keywords.specs.Shapes.{shape_view};
-ghost use Rattle.schema_scan.specs.Tables.{uris_of, places_of};
+ghost use Rattle.schema_scan.specs.Tables.{uris_of, positions_view};
 ghost use Rattle.schema_scan.specs.Uris.{uri_at, Extends};
-ghost use Rattle.schema_scan.specs.Places.{places, places_below, places_at, places_in_list, places_in_map};
+ghost use Rattle.schema_scan.specs.SchemaPositions.{schema_positions, positions_below, positions_at, positions_in_list, positions_in_map};
 ghost use Rattle.schema_scan.specs.Missteps.{own_missteps, missteps, missteps_below, missteps_at, missteps_in_list, missteps_in_map};
 ghost use Rattle.schema_scan.specs.Refusals.{Refuses};
 
@@ -29,9 +29,9 @@ pub(crate) fn visit_schema<'a>(
 ) -> Result<(), Refusal<'a>>
     requires { around < length (uris_of table.old) }
     ensures extends { OnOk result (Extends (uris_of table.old) (uris_of table.new)) }
-    ensures places { OnOk result
-        (places_of table.new ≡ places_of table.old
-        ++ places (uri_at (uris_of table.old) around) at_root (value schema.now)) }
+    ensures schema_positions { OnOk result
+        (positions_view table.new ≡ positions_view table.old
+        ++ schema_positions (uri_at (uris_of table.old) around) at_root (value schema.now)) }
     ensures passed { OnOk result
         (missteps (uri_at (uris_of table.old) around) at_root (value schema.now) ≡ []) }
     ensures refused { IfErr result
@@ -67,9 +67,9 @@ fn visit_object<'a>(
     requires around { around < length (uris_of table.old) }
     requires resource { resource < length (uris_of table.old) }
     ensures extends { OnOk result (Extends (uris_of table.old) (uris_of table.new)) }
-    ensures places { OnOk result
-        (places_of table.new ≡ places_of table.old
-        ++ places_below (uri_at (uris_of table.old) resource) (members_view members.now)) }
+    ensures schema_positions { OnOk result
+        (positions_view table.new ≡ positions_view table.old
+        ++ positions_below (uri_at (uris_of table.old) resource) (members_view members.now)) }
     ensures passed { OnOk result
         ((own_missteps (uri_at (uris_of table.old) around) at_root (members_view members.now)
         ++ missteps_below (uri_at (uris_of table.old) resource) (members_view members.now)) ≡ []) }
@@ -94,9 +94,9 @@ fn visit_below<'a>(
 ) -> Result<(), Refusal<'a>>
     requires { resource < length (uris_of table.old) }
     ensures extends { OnOk result (Extends (uris_of table.old) (uris_of table.new)) }
-    ensures places { OnOk result
-        (places_of table.new ≡ places_of table.old
-        ++ places_below (uri_at (uris_of table.old) resource) (members_view members.now)) }
+    ensures schema_positions { OnOk result
+        (positions_view table.new ≡ positions_view table.old
+        ++ positions_below (uri_at (uris_of table.old) resource) (members_view members.now)) }
     ensures passed { OnOk result
         (missteps_below (uri_at (uris_of table.old) resource) (members_view members.now) ≡ []) }
     ensures refused { IfErr result
@@ -104,7 +104,7 @@ fn visit_below<'a>(
         (members_view members.now))) }
 {
     for (name, member) in members.iter() {
-        match visit_place(alloc, table, resource, shape_named(name), member) {
+        match visit_keyword_value(alloc, table, resource, shape_named(name), member) {
             Ok(()) => {}
             Err(refusal) => return Err(refusal.under_name(name)),
         }
@@ -114,7 +114,7 @@ fn visit_below<'a>(
 
 // The schemas at the value of a keyword of this shape.
 #[cycle(visit)]
-fn visit_place<'a>(
+fn visit_keyword_value<'a>(
     alloc: Global,
     table: &mut Table<'a>,
     resource: usize,
@@ -123,9 +123,10 @@ fn visit_place<'a>(
 ) -> Result<(), Refusal<'a>>
     requires { resource < length (uris_of table.old) }
     ensures extends { OnOk result (Extends (uris_of table.old) (uris_of table.new)) }
-    ensures places { OnOk result
-        (places_of table.new ≡ places_of table.old
-        ++ places_at (shape_view shape) (uri_at (uris_of table.old) resource) (value member.now)) }
+    ensures schema_positions { OnOk result
+        (positions_view table.new ≡ positions_view table.old
+        ++ positions_at (shape_view shape) (uri_at (uris_of table.old) resource)
+        (value member.now)) }
     ensures passed { OnOk result
         (missteps_at (shape_view shape) (uri_at (uris_of table.old) resource) (value member.now)
         ≡ []) }
@@ -151,9 +152,9 @@ fn visit_list<'a>(
 ) -> Result<(), Refusal<'a>>
     requires { resource < length (uris_of table.old) }
     ensures extends { OnOk result (Extends (uris_of table.old) (uris_of table.new)) }
-    ensures places { OnOk result
-        (places_of table.new ≡ places_of table.old
-        ++ places_in_list (uri_at (uris_of table.old) resource)
+    ensures schema_positions { OnOk result
+        (positions_view table.new ≡ positions_view table.old
+        ++ positions_in_list (uri_at (uris_of table.old) resource)
         (to_elements (map value schemas.now))) }
     ensures passed { OnOk result
         (missteps_in_list (uri_at (uris_of table.old) resource) 0
@@ -181,9 +182,9 @@ fn visit_map<'a>(
 ) -> Result<(), Refusal<'a>>
     requires { resource < length (uris_of table.old) }
     ensures extends { OnOk result (Extends (uris_of table.old) (uris_of table.new)) }
-    ensures places { OnOk result
-        (places_of table.new ≡ places_of table.old
-        ++ places_in_map (uri_at (uris_of table.old) resource) (members_view schemas.now)) }
+    ensures schema_positions { OnOk result
+        (positions_view table.new ≡ positions_view table.old
+        ++ positions_in_map (uri_at (uris_of table.old) resource) (members_view schemas.now)) }
     ensures passed { OnOk result
         (missteps_in_map (uri_at (uris_of table.old) resource) (members_view schemas.now) ≡ []) }
     ensures refused { IfErr result

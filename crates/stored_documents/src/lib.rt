@@ -3,8 +3,8 @@
 
 mod claims;
 mod documents;
+mod insertion;
 mod ordered;
-mod placing;
 mod releases;
 mod resource_texts;
 mod stored;

@@ -11,7 +11,7 @@ ghost use Rattle.definitions.specs.Values.{same_text};
 ghost use Rattle.stored_documents.specs.SharedStored.{stored_documents};
 ghost use Rattle.stored_documents.specs.StoredDocuments.{stored_view};
 
-use crate::placing::{place, position, take_out};
+use crate::insertion::{insert_in_order, position, take_out};
 use crate::stored::Stored;
 use crate::together::{place_all, total_length};
 use faults::Fault;
@@ -93,7 +93,7 @@ impl OrderedDocuments {
         ensures err { IfErr result (λ f. f ≡ Fault.NoRoom) }
     {
         let length = document.length() as u64;
-        match place(&mut self.stored, document)? {
+        match insert_in_order(&mut self.stored, document)? {
             Some(replaced) => {
                 self.bytes = self.bytes - replaced.length() as u64 + length;
                 Ok(Some(replaced))

@@ -7,7 +7,7 @@ ghost use Rattle.definitions.specs.Values.{same_text};
 ghost use Rattle.stored_documents.specs.SharedStored.{stored_documents};
 ghost use Rattle.stored_documents.specs.StoredDocuments.{stored_view};
 
-use crate::placing::place;
+use crate::insertion::insert_in_order;
 use crate::stored::Stored;
 use std::rc::Rc;
 
@@ -56,7 +56,7 @@ fn place_in_room(stored: &mut Vec<Rc<Stored>>, document: Rc<Stored>) -> u64
     ensures capacity { vec_capacity stored.old ≤ vec_capacity stored.new }
     ensures len { vec_len stored.new ≤ vec_len stored.old + 1 }
 {
-    match place(stored, document) {
+    match insert_in_order(stored, document) {
         Ok(Some(replaced)) => replaced.length() as u64,
         Ok(None) => 0,
         Err(_) => unreachable!(),

@@ -50,11 +50,11 @@ impl Registry {
             (put uri.now body.now) (refused (fault_view f)) (registry_view self.new)) }
     {
         let document = accept(alloc, cache, uri, body)?;
-        self.place(alloc, document)
+        self.insert(alloc, document)
     }
 
     // Puts a document in its place, unless it is refused there.
-    fn place(&mut self, alloc: Global, document: Stored) -> Result<Reply, Fault>
+    fn insert(&mut self, alloc: Global, document: Stored) -> Result<Reply, Fault>
         ensures ok { IfOk result (λ r. IsPut (registry_view self.old) (stored_view document)
             (reply_view r) (registry_view self.new)) }
         ensures err { IfErr result (λ f. IsPut (registry_view self.old) (stored_view document)

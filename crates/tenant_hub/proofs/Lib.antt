@@ -1,4 +1,4 @@
-mod Places
+mod Positions
 mod Courses
 mod NewServers
 mod RegisteredDocuments

@@ -1,4 +1,4 @@
--- Registries with their keys as the definitions have them, and the place of a key.
+-- Registries with their keys as the definitions have them, and the position of a key.
 use Rattle.std.specs.Prelude.{ℕ, ◌+◌, List, [], ◌∷◌, Option, Some, None, if◌then◌else◌, string_bytes}
 use Rattle.definitions.specs.Schemas.{Document}
 use Rattle.definitions.specs.Services as meaning
@@ -14,7 +14,7 @@ keyed_view k = record { key = string_bytes k.key; registry = registry_view k.reg
 abbrev pub new_registry : List Document → Tenant → meaning.KeyedRegistry
 new_registry library t = record { key = t.key; registry = empty_registry library t }
 
--- the first place of the key, from i on
-abbrev pub place_of : Text → ℕ → List KeyedRegistry → Option ℕ
-place_of key i [] = None
-place_of key i (k ∷ ks) = if same_text key (string_bytes k.key) then Some i else place_of key (i + 1) ks
+-- the first position of the key, from i on
+abbrev pub position_of : Text → ℕ → List KeyedRegistry → Option ℕ
+position_of key i [] = None
+position_of key i (k ∷ ks) = if same_text key (string_bytes k.key) then Some i else position_of key (i + 1) ks

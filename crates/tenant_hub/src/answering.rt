@@ -10,7 +10,7 @@ ghost use Rattle.requests.specs.Views.{request_view, reply_view};
 ghost use Rattle.tenants_file.specs.Tenants.{tenant_view};
 ghost use Rattle.tenant_hub.specs.RegisteredDocuments.{is_registered};
 ghost use Rattle.tenant_documents.specs.Registries.{registry_view};
-ghost use Rattle.tenant_hub.specs.KeyedRegistries.{keyed_view, new_registry, place_of};
+ghost use Rattle.tenant_hub.specs.KeyedRegistries.{keyed_view, new_registry, position_of};
 
 use crate::bundling::bundle_reply;
 use crate::keyed_registry::KeyedRegistry;
@@ -115,13 +115,13 @@ fn answer_once(
     }
 }
 
-// The place of the tenant with this key.
-pub(crate) fn place_of(registries: &[KeyedRegistry], key: &str) -> Option<usize>
-    ensures { result ≡ place_of key.now 0 registries.now }
+// The position of the tenant with this key.
+pub(crate) fn position_of(registries: &[KeyedRegistry], key: &str) -> Option<usize>
+    ensures { result ≡ position_of key.now 0 registries.now }
 {
-    for (place, registry) in registries.iter().enumerate() {
+    for (position, registry) in registries.iter().enumerate() {
         if registry.has_key(key) {
-            return Some(place);
+            return Some(position);
         }
     }
     None

@@ -21,7 +21,7 @@ ghost use Rattle.tenant_hub.specs.RefusedServers.{IsRefusedServer};
 ghost use Rattle.tenant_hub.specs.RegisteredDocuments.{is_registered};
 ghost use Rattle.tenant_hub.specs.ServedBundles.{AnswersAlone};
 
-use crate::answering::place_of;
+use crate::answering::position_of;
 use crate::keyed_registry::KeyedRegistry;
 use crate::workspace::Workspace;
 use definition_laws::{
@@ -104,8 +104,8 @@ impl Hub {
         ensures alone { AnswersAlone (hub_view self.old)
             (key.now, request_view request.now) (reply_view result) }
     {
-        match place_of(&self.registries, key) {
-            Some(place) => self.registries[place].answer(alloc, &mut self.workspace, request),
+        match position_of(&self.registries, key) {
+            Some(position) => self.registries[position].answer(alloc, &mut self.workspace, request),
             None => Reply::Refused(Fault::UnknownTenant),
         }
     }

@@ -51,7 +51,7 @@ const EMBEDDED: &str = r#"{
   "required": ["customer"],
   "properties": {
     "customer": { "$ref": "people/customer" },
-    "deliver_to": { "$ref": "people/address#place" },
+    "deliver_to": { "$ref": "people/address#instance_location" },
     "lines": {
       "type": "array",
       "items": { "$id": "line", "required": ["sku"] }
@@ -70,7 +70,7 @@ const EMBEDDED: &str = r#"{
         },
         "address": {
           "$id": "people/address",
-          "$anchor": "place",
+          "$anchor": "instance_location",
           "type": "object",
           "required": ["town"]
         }

@@ -18,7 +18,7 @@ use locations::Step;
 #[derive(Clone, Copy, Debug, Drop)]
 pub(crate) struct Descent<'a, 't> {
     pub(crate) keyword: &'a str,
-    pub(crate) place: Option<Step<'a>>,
+    pub(crate) step: Option<Step<'a>>,
     pub(crate) schema: &'a Doc,
     pub(crate) rest: &'t [String],
 }
@@ -35,7 +35,7 @@ pub(crate) fn descend<'a, 't>(
     match shape_named(name) {
         Shape::OneSchema => Some(Descent {
             keyword: name,
-            place: None,
+            step: None,
             schema: member,
             rest,
         }),
@@ -60,7 +60,7 @@ fn descend_into_list<'a, 't>(
     let index = index_of(token.as_str(), schemas.len())?;
     Some(Descent {
         keyword,
-        place: Some(Step::Index(index)),
+        step: Some(Step::Index(index)),
         schema: &schemas[index],
         rest,
     })
@@ -80,7 +80,7 @@ fn descend_into_map<'a, 't>(
     let (name, schema) = named(object.as_dict()?, token.as_str())?;
     Some(Descent {
         keyword,
-        place: Some(Step::Name(name)),
+        step: Some(Step::Name(name)),
         schema,
         rest,
     })

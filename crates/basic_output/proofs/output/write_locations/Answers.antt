@@ -10,12 +10,12 @@ pub returns-clause-ok : goal.returns-clause-ok
 returns-clause-ok c =
     let old = c.args.out.now.tokens in
     let middle = c.write_member.new.out.tokens in
-    let place = pointer_text (tokens c.args.place.now) in
+    let instance_location = pointer_text (tokens c.args.instance_location.now) in
     let path = pointer_text (tokens c.args.path.now) in
-    let first : middle ≡ old ++ json.key (codes "instanceLocation") ∷ json.string place ∷ [] =
+    let first : middle ≡ old ++ json.key (codes "instanceLocation") ∷ json.string instance_location ∷ [] =
     c.in_ok-write_member.ensures.ok ∙ ap (λ s. old ++ json.key (codes "instanceLocation") ∷ json.string s ∷ []) (c.as_str.ensures.value ∙ c.in_ok-pointer.ensures) in
     let text : c.as_str-2.result.now ≡ path = c.as_str-2.ensures.value ∙ c.in_ok-pointer-2.ensures in
     on_ok_weaker c.write_member-2.result
-    (λ e. appended old middle _ (json.key (codes "instanceLocation") ∷ json.string place ∷ []) (json.key (codes "keywordLocation") ∷ json.string path ∷ []) first
+    (λ e. appended old middle _ (json.key (codes "instanceLocation") ∷ json.string instance_location ∷ []) (json.key (codes "keywordLocation") ∷ json.string path ∷ []) first
     (e ∙ ap (λ s. middle ++ json.key (codes "keywordLocation") ∷ json.string s ∷ []) text))
     c.write_member-2.ensures.ok

@@ -22,7 +22,7 @@ returns-clause-ok c =
     let whole = absolute_location (entry_view steps entry) in
     let head = json.begin_object ∷ json.key (codes "absoluteKeywordLocation") ∷ json.string whole ∷ [] in
     let value = value_tokens (said_value steps entry.says) in
-    let places = json.key (codes "instanceLocation") ∷ json.string (pointer_text (tokens (steps_of steps entry.place)))
+    let places = json.key (codes "instanceLocation") ∷ json.string (pointer_text (tokens (steps_of steps entry.instance_location)))
     ∷ json.key (codes "keywordLocation") ∷ json.string (pointer_text (tokens (steps_of steps entry.path))) ∷ [] in
     let text : c.as_str.result.now ≡ whole =
     c.as_str.ensures.value ∙ c.in_ok-absolute_location.ensures ∙ ap (λ ss. entry.resource.now ++ (35 ∷ fragment_text (tokens ss))) c.run.ensures in

@@ -1,4 +1,4 @@
-use Rattle.json_doc.proofs.Places.{above_last}
+use Rattle.json_doc.proofs.Positions.{above_last}
 use Rattle.json_doc.proofs.name_map.is_above_all.Goals as goal
 
 pub returns-in-Some : goal.returns-in-Some

@@ -15,10 +15,10 @@ nothing (Some x) e = absurd (true≢false (sym e))
 
 pub returns-in_ok-push-clause-kept : goal.returns-in_ok-push-clause-kept
 returns-in_ok-push-clause-kept c =
-    let put = c.in_ok-place.ensures.put in
+    let put = c.in_ok-insert_in_order.ensures.put in
     let same = c.in_ok-again.ensures.cases in
     inr (
-      nothing _ (sym c.in_ok-place.ensures.absent ∙ c.if-branch.true),
+      nothing _ (sym c.in_ok-insert_in_order.ensures.absent ∙ c.if-branch.true),
       (put ∙ ap (λ b. cond b (documents_with (compiled_view c.args.document.value) (shared_documents c.args.reached.now.items)) (shared_documents c.args.reached.now.items)) c.if-branch.true),
       ap shared_documents c.in_ok-push.ensures.items ∙ shared_pushed c.args.waiting.now.items c.in_ok-again.again
           ∙ ap (λ (d : Compiled). shared_documents c.args.waiting.now.items ++ compiled_view d ∷ []) same,
@@ -28,8 +28,8 @@ pub returns-in_ok-push-clause-known : goal.returns-in_ok-push-clause-known
 returns-in_ok-push-clause-known c =
     let d = compiled_view c.args.document.value in
     let ds = shared_documents c.args.reached.now.items in
-    let put = c.in_ok-place.ensures.put ∙ ap (λ b. cond b (documents_with d ds) ds) c.if-branch.true in
-    let new : is_some (document_of ds d.canonical) ≡ false = nothing _ (sym c.in_ok-place.ensures.absent ∙ c.if-branch.true) in
+    let put = c.in_ok-insert_in_order.ensures.put ∙ ap (λ b. cond b (documents_with d ds) ds) c.if-branch.true in
+    let new : is_some (document_of ds d.canonical) ≡ false = nothing _ (sym c.in_ok-insert_in_order.ensures.absent ∙ c.if-branch.true) in
     let noted = c.in_ok-note.ensures ∙ ap (λ (x : Compiled). with_compound (compiled_view x) (shared_documents c.args.compound.now.items)) c.in_ok-again.ensures.cases in
     subst (λ r. AreCompound r (shared_documents c.note.new.compound.items)) (sym put)
     (subst (AreCompound (documents_with d ds)) (sym noted) (compound_placed ds (shared_documents c.args.compound.now.items) d c.requires.known (nothing_found ds d new)))
@@ -39,4 +39,4 @@ returns-else-branch-clause-known c =
     let d = compiled_view c.args.document.value in
     let ds = shared_documents c.args.reached.now.items in
     subst (λ r. AreCompound r (shared_documents c.args.compound.now.items))
-    (sym (c.in_ok-place.ensures.put ∙ ap (λ b. cond b (documents_with d ds) ds) c.if-branch.false)) c.requires.known
+    (sym (c.in_ok-insert_in_order.ensures.put ∙ ap (λ b. cond b (documents_with d ds) ds) c.if-branch.false)) c.requires.known

@@ -19,8 +19,8 @@ decreases-visit_below l = 8 * members_nesting (members_view l.members.now) + 7
 abbrev pub decreases-visit_keyword : goal.decreases-visit_keyword
 decreases-visit_keyword l = 8 * nesting (value l.member.now) + 6
 
-abbrev pub decreases-visit_place : goal.decreases-visit_place
-decreases-visit_place l = 8 * nesting (value l.member.now) + 5
+abbrev pub decreases-visit_keyword_value : goal.decreases-visit_keyword_value
+decreases-visit_keyword_value l = 8 * nesting (value l.member.now) + 5
 
 abbrev pub decreases-visit_list : goal.decreases-visit_list
 decreases-visit_list l = 8 * elements_nesting (to_elements (map value l.schemas.now)) + 4

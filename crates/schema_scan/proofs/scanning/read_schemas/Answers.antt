@@ -7,9 +7,9 @@ use Rattle.faults.specs.View.{fault_view}
 use Rattle.json_doc.specs.Docs.{value}
 use Rattle.schema_scan.specs.Missteps.{missteps}
 use Rattle.schema_scan.specs.Names.{uris_opened, anchors_in}
-use Rattle.schema_scan.specs.Places.{places}
+use Rattle.schema_scan.specs.SchemaPositions.{schema_positions}
 use Rattle.schema_scan.specs.Refusals.{Refuses}
-use Rattle.schema_scan.specs.Tables.{uris_of, places_of}
+use Rattle.schema_scan.specs.Tables.{uris_of, positions_view}
 use Rattle.schema_scan.specs.Uris.{uri_at}
 use Rattle.schema_scan.proofs.Extended.{uri_at-first}
 use Rattle.schema_scan.proofs.ScanFaults.{uris_repeat, anchors_repeat, fault_of_misstep, fault_of_uris, fault_of_names}
@@ -36,10 +36,10 @@ returns-then-branch-clause-err c =
     let base_is : uri_at (uris_of c.in_ok-table.table) 0 ≡ b = first.1 ∙ c.in_ok-text_of.ensures in
     let dict : is_object v ≡ true = cc in
     let flat : nesting v ≤ 120 = omega arith in
-    let places_are : places_of c.visit_schema.new.table ≡ places b true v =
-    c.in-Ok.ensures.places ∙ ap₂ (λ ps base. ps ++ places base true v) c.in_ok-table.ensures.1 base_is in
+    let positions_are : positions_view c.visit_schema.new.table ≡ schema_positions b true v =
+    c.in-Ok.ensures.schema_positions ∙ ap₂ (λ ps base. ps ++ schema_positions base true v) c.in_ok-table.ensures.1 base_is in
     let passed : missteps b true v ≡ [] = ap (λ base. missteps base true v) (sym base_is) ∙ c.in-Ok.ensures.passed in
-    let repeats : true ≡ uris_repeat b v = sym c.if-branch.true ∙ c.in_ok-has_repeated_uri.ensures ∙ ap (λ ps. has_repeat same_text (uris_opened ps)) places_are in
+    let repeats : true ≡ uris_repeat b v = sym c.if-branch.true ∙ c.in_ok-has_repeated_uri.ensures ∙ ap (λ ps. has_repeat same_text (uris_opened ps)) positions_are in
     fault_of_uris b v dict flat passed repeats
 
 pub returns-then-branch-2-clause-err : goal.returns-then-branch-2-clause-err
@@ -51,11 +51,11 @@ returns-then-branch-2-clause-err c =
     let base_is : uri_at (uris_of c.in_ok-table.table) 0 ≡ b = first.1 ∙ c.in_ok-text_of.ensures in
     let dict : is_object v ≡ true = cc in
     let flat : nesting v ≤ 120 = omega arith in
-    let places_are : places_of c.visit_schema.new.table ≡ places b true v =
-    c.in-Ok.ensures.places ∙ ap₂ (λ ps base. ps ++ places base true v) c.in_ok-table.ensures.1 base_is in
+    let positions_are : positions_view c.visit_schema.new.table ≡ schema_positions b true v =
+    c.in-Ok.ensures.schema_positions ∙ ap₂ (λ ps base. ps ++ schema_positions base true v) c.in_ok-table.ensures.1 base_is in
     let passed : missteps b true v ≡ [] = ap (λ base. missteps base true v) (sym base_is) ∙ c.in-Ok.ensures.passed in
-    let no_uri : false ≡ uris_repeat b v = sym c.if-branch.false ∙ c.in_ok-has_repeated_uri.ensures ∙ ap (λ ps. has_repeat same_text (uris_opened ps)) places_are in
-    let repeats : true ≡ anchors_repeat b v = sym c.if-branch-2.true ∙ c.in_ok-has_repeated_anchor.ensures ∙ ap (λ ps. has_repeat same_anchor (anchors_in ps)) places_are in
+    let no_uri : false ≡ uris_repeat b v = sym c.if-branch.false ∙ c.in_ok-has_repeated_uri.ensures ∙ ap (λ ps. has_repeat same_text (uris_opened ps)) positions_are in
+    let repeats : true ≡ anchors_repeat b v = sym c.if-branch-2.true ∙ c.in_ok-has_repeated_anchor.ensures ∙ ap (λ ps. has_repeat same_anchor (anchors_in ps)) positions_are in
     fault_of_names b v dict flat passed false true no_uri repeats
 
 pub returns-clause-base : goal.returns-clause-base
@@ -66,15 +66,15 @@ returns-clause-base c =
     let base_is : uri_at (uris_of c.in_ok-table.table) 0 ≡ b = first.1 ∙ c.in_ok-text_of.ensures in
     c.in-Ok.ensures.extends.same 0 first.0 ∙ base_is
 
-pub returns-clause-places : goal.returns-clause-places
-returns-clause-places c =
+pub returns-clause-schema_positions : goal.returns-clause-schema_positions
+returns-clause-schema_positions c =
     let b = recompose c.args.base.now in
     let v = value c.args.document.now in
     let first = uri_at-first (uris_of c.in_ok-table.table) (string_bytes c.in_ok-text_of.field-0) c.in_ok-table.ensures.0 in
     let base_is : uri_at (uris_of c.in_ok-table.table) 0 ≡ b = first.1 ∙ c.in_ok-text_of.ensures in
-    let places_are : places_of c.visit_schema.new.table ≡ places b true v =
-    c.in-Ok.ensures.places ∙ ap₂ (λ ps base. ps ++ places base true v) c.in_ok-table.ensures.1 base_is in
-    places_are
+    let positions_are : positions_view c.visit_schema.new.table ≡ schema_positions b true v =
+    c.in-Ok.ensures.schema_positions ∙ ap₂ (λ ps base. ps ++ schema_positions base true v) c.in_ok-table.ensures.1 base_is in
+    positions_are
 
 pub returns-clause-sound : goal.returns-clause-sound
 returns-clause-sound c =
@@ -84,9 +84,9 @@ returns-clause-sound c =
     let base_is : uri_at (uris_of c.in_ok-table.table) 0 ≡ b = first.1 ∙ c.in_ok-text_of.ensures in
     let dict : is_object v ≡ true = cc in
     let flat : nesting v ≤ 120 = omega arith in
-    let places_are : places_of c.visit_schema.new.table ≡ places b true v =
-    c.in-Ok.ensures.places ∙ ap₂ (λ ps base. ps ++ places base true v) c.in_ok-table.ensures.1 base_is in
+    let positions_are : positions_view c.visit_schema.new.table ≡ schema_positions b true v =
+    c.in-Ok.ensures.schema_positions ∙ ap₂ (λ ps base. ps ++ schema_positions base true v) c.in_ok-table.ensures.1 base_is in
     let passed : missteps b true v ≡ [] = ap (λ base. missteps base true v) (sym base_is) ∙ c.in-Ok.ensures.passed in
-    let no_uri : false ≡ uris_repeat b v = sym c.if-branch.false ∙ c.in_ok-has_repeated_uri.ensures ∙ ap (λ ps. has_repeat same_text (uris_opened ps)) places_are in
-    let no_anchor : false ≡ anchors_repeat b v = sym c.if-branch-2.false ∙ c.in_ok-has_repeated_anchor.ensures ∙ ap (λ ps. has_repeat same_anchor (anchors_in ps)) places_are in
+    let no_uri : false ≡ uris_repeat b v = sym c.if-branch.false ∙ c.in_ok-has_repeated_uri.ensures ∙ ap (λ ps. has_repeat same_text (uris_opened ps)) positions_are in
+    let no_anchor : false ≡ anchors_repeat b v = sym c.if-branch-2.false ∙ c.in_ok-has_repeated_anchor.ensures ∙ ap (λ ps. has_repeat same_anchor (anchors_in ps)) positions_are in
     fault_of_names b v dict flat passed false false no_uri no_anchor

@@ -4,13 +4,13 @@ use Rattle.json_doc.specs.Docs.{value, members_view}
 use Rattle.json_doc.specs.Members.{members_left}
 use Rattle.json_doc.proofs.Views.{to_members-value}
 use Rattle.keywords.specs.Rows.{shape_named}
-use Rattle.schema_scan.specs.Places.{places, places_below, places_at, places_in_map}
+use Rattle.schema_scan.specs.SchemaPositions.{schema_positions, positions_below, positions_at, positions_in_map}
 use Rattle.schema_scan.specs.Missteps.{below_name, missteps, missteps_below, missteps_at, missteps_in_list, missteps_in_map}
 use Rattle.schema_scan.specs.Refusals.{Refuses}
-use Rattle.schema_scan.specs.Tables.{uris_of, places_of}
+use Rattle.schema_scan.specs.Tables.{uris_of, positions_view}
 use Rattle.schema_scan.specs.Uris.{uri_at}
 use Rattle.schema_scan.proofs.Extended.{extends-self, extends-through}
-use Rattle.schema_scan.proofs.Visits.{places-step, Refuses-append, missteps-index}
+use Rattle.schema_scan.proofs.Visits.{schema_positions-step, Refuses-append, missteps-index}
 use Rattle.schema_scan.proofs.visit.+visit.Goals as goal
 
 pub visit_below-loop-name-init : goal.visit_below-loop-name-init
@@ -22,7 +22,7 @@ visit_below-loop-name-init t c =
     record {
       nests = omega (arith, ap members_nesting all);
       extends = extends-self start;
-      places = ap (λ ms. places_of c.args.table.now ++ places_below base ms) all;
+      schema_positions = ap (λ ms. positions_view c.args.table.now ++ positions_below base ms) all;
       missteps = ap (missteps_below base) all;
     }
 
@@ -37,11 +37,11 @@ visit_below-loop-name-preserved t c =
     let same : uri_at (uris_of c.loop-name.table) c.args.resource ≡ base = inv.extends.same c.args.resource c.requires in
     record {
       nests = omega (arith, inv.nests, ap (λ ms. members_nesting (to_members ms)) c.in-Some.ensures.steps);
-      extends = extends-through start (uris_of c.loop-name.table) (uris_of c.visit_place.new.table) inv.extends c.in-Ok.ensures.extends;
-      places =
-          places-step (places_of c.args.table.now) (places_of c.loop-name.table) (places_of c.visit_place.new.table) (places_at (shape_named name) base v) (places_below base rest) (places_below base (members_view c.args.members.now))
-          (inv.places ∙ ap (λ ms. places_of c.loop-name.table ++ places_below base (to_members ms)) c.in-Some.ensures.steps)
-          (c.in-Ok.ensures.places ∙ ap₂ (λ k b. places_of c.loop-name.table ++ places_at k b v) c.shape_named.ensures same);
+      extends = extends-through start (uris_of c.loop-name.table) (uris_of c.visit_keyword_value.new.table) inv.extends c.in-Ok.ensures.extends;
+      schema_positions =
+          schema_positions-step (positions_view c.args.table.now) (positions_view c.loop-name.table) (positions_view c.visit_keyword_value.new.table) (positions_at (shape_named name) base v) (positions_below base rest) (positions_below base (members_view c.args.members.now))
+          (inv.schema_positions ∙ ap (λ ms. positions_view c.loop-name.table ++ positions_below base (to_members ms)) c.in-Some.ensures.steps)
+          (c.in-Ok.ensures.schema_positions ∙ ap₂ (λ k b. positions_view c.loop-name.table ++ positions_at k b v) c.shape_named.ensures same);
       missteps =
           inv.missteps ∙ ap (λ ms. missteps_below base (to_members ms)) c.in-Some.ensures.steps
           ∙ ap (λ ms. below_name name ms ++ missteps_below base rest) (sym (ap₂ (λ k b. missteps_at k b v) c.shape_named.ensures same) ∙ c.in-Ok.ensures.passed);
@@ -69,7 +69,7 @@ visit_map-loop-name-init t c =
     record {
       nests = omega (arith, ap members_nesting all);
       extends = extends-self start;
-      places = ap (λ ms. places_of c.args.table.now ++ places_in_map base ms) all;
+      schema_positions = ap (λ ms. positions_view c.args.table.now ++ positions_in_map base ms) all;
       missteps = ap (missteps_in_map base) all;
     }
 
@@ -85,10 +85,10 @@ visit_map-loop-name-preserved t c =
     record {
       nests = omega (arith, inv.nests, ap (λ ms. members_nesting (to_members ms)) c.in-Some.ensures.steps);
       extends = extends-through start (uris_of c.loop-name.table) (uris_of c.visit_schema.new.table) inv.extends c.in-Ok.ensures.extends;
-      places =
-          places-step (places_of c.args.table.now) (places_of c.loop-name.table) (places_of c.visit_schema.new.table) (places base false v) (places_in_map base rest) (places_in_map base (members_view c.args.schemas.now))
-          (inv.places ∙ ap (λ ms. places_of c.loop-name.table ++ places_in_map base (to_members ms)) c.in-Some.ensures.steps)
-          (c.in-Ok.ensures.places ∙ ap (λ b. places_of c.loop-name.table ++ places b false v) same);
+      schema_positions =
+          schema_positions-step (positions_view c.args.table.now) (positions_view c.loop-name.table) (positions_view c.visit_schema.new.table) (schema_positions base false v) (positions_in_map base rest) (positions_in_map base (members_view c.args.schemas.now))
+          (inv.schema_positions ∙ ap (λ ms. positions_view c.loop-name.table ++ positions_in_map base (to_members ms)) c.in-Some.ensures.steps)
+          (c.in-Ok.ensures.schema_positions ∙ ap (λ b. positions_view c.loop-name.table ++ schema_positions b false v) same);
       missteps =
           inv.missteps ∙ ap (λ ms. missteps_in_map base (to_members ms)) c.in-Some.ensures.steps
           ∙ ap (λ ms. below_name name ms ++ missteps_in_map base rest) (sym (ap (λ b. missteps b false v) same) ∙ c.in-Ok.ensures.passed);

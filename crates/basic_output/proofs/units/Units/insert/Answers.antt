@@ -42,12 +42,12 @@ invariant_of-self-2 c =
     let es = old.entries.items in
     let steps = c.keep.new.steps in
     let n = length steps.items in
-    let place = c.min-place.result in
-    let within : place ≤ length es = omega (arith, c.min-place.ensures, c.len.ensures, old.entries.ok.0) in
+    let position = c.min-position.result in
+    let within : position ≤ length es = omega (arith, c.min-position.ensures, c.len.ensures, old.entries.ok.0) in
     let all : list_all (fits n) es ≡ true = all_more (length old.steps.items) n es (grown_length old.steps.items steps.items c.in_ok-entry.ensures.grows) old.within in
-    let grown : c.raise.new.reach.items ≡ raised_reach old.reach.items place n = c.in_ok-raise.ensures.ok ∙ ap (raised_reach old.reach.items place) (c.len-2.ensures ∙ steps.ok.0) in
+    let grown : c.raise.new.reach.items ≡ raised_reach old.reach.items position n = c.in_ok-raise.ensures.ok ∙ ap (raised_reach old.reach.items position) (c.len-2.ensures ∙ steps.ok.0) in
     let kept : AreKept n c.insert.new.self.items c.raise.new.reach.items =
-    inserted (is_ok c.insert.result) es c.insert.new.self.items c.in_ok-entry.entry old.reach.items c.raise.new.reach.items place n within old.covered old.reached all c.in_ok-entry.ensures.fits c.insert.ensures.items grown in
+    inserted (is_ok c.insert.result) es c.insert.new.self.items c.in_ok-entry.entry old.reach.items c.raise.new.reach.items position n within old.covered old.reached all c.in_ok-entry.ensures.fits c.insert.ensures.items grown in
     record { within = kept.within; covered = kept.covered; reached = kept.reached }
 
 pub returns-in_err-insert-clause-unchanged : goal.returns-in_err-insert-clause-unchanged
@@ -64,8 +64,8 @@ returns-clause-ok c =
     let xs = old.steps.items in
     let ys = c.keep.new.steps.items in
     let m = c.mark.inside.units in
-    let place : c.min-place.result ≡ min m (length es) = c.min-place.ensures ∙ ap (min m) (c.len.ensures ∙ old.entries.ok.0) in
+    let position : c.min-position.result ≡ min m (length es) = c.min-position.ensures ∙ ap (min m) (c.len.ensures ∙ old.entries.ok.0) in
     let unit = unit_at c.args.location c.args.says in
     ap (map (entry_view ys)) c.in_ok-insert.ensures.items
-    ∙ inserted_views xs ys es c.in_ok-entry.entry unit c.min-place.result m c.in_ok-entry.ensures.grows old.within c.in_ok-entry.ensures.view place
+    ∙ inserted_views xs ys es c.in_ok-entry.entry unit c.min-position.result m c.in_ok-entry.ensures.grows old.within c.in_ok-entry.ensures.view position
     ∙ ap (λ k. insert (map (entry_view xs) es) k unit) c.mark.view_is

@@ -1,4 +1,4 @@
-use Rattle.definitions.specs.Applied.{part_place}
+use Rattle.definitions.specs.Applied.{part_location}
 use Rattle.linker.specs.LinkedDocuments.{linked_schemas}
 use Rattle.keyword_plans.specs.Plans.{part_view}
 use Rattle.keyword_plans.specs.Subjects.{subject_value}
@@ -18,6 +18,6 @@ pub returns-clause-entered : goal.returns-clause-entered
 returns-clause-entered c =
     let f = context_view c.args.self.now in
     let g = context_view c.enter_chosen.new.self in
-    let place = part_place g.place (part_view c.args.planned.now.part) in
-    let last : Onward g (context_view c.enter_part.new.self) = onward_at c.in_ok-enter_part.ensures (onward_placed place g (front_of_part g.place (part_view c.args.planned.now.part))) in
+    let instance_location = part_location g.instance_location (part_view c.args.planned.now.part) in
+    let last : Onward g (context_view c.enter_part.new.self) = onward_at c.in_ok-enter_part.ensures (onward_placed instance_location g (front_of_part g.instance_location (part_view c.args.planned.now.part))) in
     came_from c.way_back-back.result f (context_view c.enter_part.new.self) c.way_back-back.ensures (onward_onward c.in_ok-enter_chosen.ensures.onward last)

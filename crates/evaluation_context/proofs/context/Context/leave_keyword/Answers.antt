@@ -13,6 +13,6 @@ returns c = λ older k h.
     (c.pop-2.ensures.outer ∙ ap (λ (f : Frame). f.outer) h)
     (ap (λ (f : Frame). f.resource) h)
     (c.pop-2.ensures.last older.pointer k (ap (λ (f : Frame). f.pointer) h))
-    (ap (λ (f : Frame). f.place) h)
+    (ap (λ (f : Frame). f.instance_location) h)
     (ap (λ (f : Frame). f.scope) h)
     (ap (λ (f : Frame). f.running) h)

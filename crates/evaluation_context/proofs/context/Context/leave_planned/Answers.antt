@@ -2,7 +2,7 @@ use Rattle.std.proofs.Common.{refl, sym, ap, ◌∙◌}
 use Rattle.std.proofs.lemmas.List.{take-map}
 use Rattle.locations.specs.Steps.{token, tokens}
 use Rattle.evaluation_context.specs.Frames.{context_view}
-use Rattle.evaluation_context.proofs.FrameLaws.{same_frames, same_places}
+use Rattle.evaluation_context.proofs.FrameLaws.{same_frames, same_locations}
 use Rattle.evaluation_context.proofs.context.Context.leave_planned.Goals as goal
 
 pub returns : goal.returns
@@ -14,7 +14,7 @@ returns c = λ older h.
     c.cut.ensures.outer
     refl
     c.cut.ensures.last
-    (same_places (ap tokens c.truncate-2.ensures.items ∙ sym (take-map token c.args.back.place old.place.items)) refl)
+    (same_locations (ap tokens c.truncate-2.ensures.items ∙ sym (take-map token c.args.back.instance_location old.instance_location.items)) refl)
     refl
     refl
     ∙ sym h

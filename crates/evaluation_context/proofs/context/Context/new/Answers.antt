@@ -3,13 +3,13 @@ use Rattle.json_doc.specs.Docs.{value}
 use Rattle.locations.specs.Steps.{tokens}
 use Rattle.evaluation_context.specs.Standings.{Standing, application_at}
 use Rattle.evaluation_context.specs.Frames.{context_view, frame_standing}
-use Rattle.evaluation_context.proofs.FrameLaws.{same_places, same_standings}
+use Rattle.evaluation_context.proofs.FrameLaws.{same_locations, same_standings}
 use Rattle.evaluation_context.proofs.context.Context.new.Goals as goal
 
 pub returns : goal.returns
 unfolding context_view frame_standing
 returns c = λ x.
     let root = c.args.root in
-    let start : Standing = record { path = []; resource = root.resource.now; pointer = tokens root.steps.items; place = record { pointer = []; name = None }; scope = []; running = [] } in
+    let start : Standing = record { path = []; resource = root.resource.now; pointer = tokens root.steps.items; instance_location = record { pointer = []; name = None }; scope = []; running = [] } in
     ap (λ st. application_at st (value root.schema.now) x)
-    (same_standings {t = start} (ap tokens c.new.ensures.items) refl c.new-2.ensures.last (same_places (ap tokens c.new-3.ensures.items) refl) (ap (map (λ uri. uri.now)) c.new-4.ensures.items) c.new-5.ensures)
+    (same_standings {t = start} (ap tokens c.new.ensures.items) refl c.new-2.ensures.last (same_locations (ap tokens c.new-3.ensures.items) refl) (ap (map (λ uri. uri.now)) c.new-4.ensures.items) c.new-5.ensures)

@@ -13,6 +13,6 @@ returns c =
       steps = c.len-2.ensures;
       start = c.start.ensures;
       resource = refl;
-      place = c.len-3.ensures ∙ old.place.ok.0 ∙ sym (length-map old.place.items token);
+      instance_location = c.len-3.ensures ∙ old.instance_location.ok.0 ∙ sym (length-map old.instance_location.items token);
       name = refl;
     }

@@ -6,10 +6,10 @@ use Rattle.evaluation_context.proofs.running_objects.RunningObjects.contains.Goa
 pub is_same-requires-clause-pointer : goal.is_same-requires-clause-pointer
 is_same-requires-clause-pointer c =
     let o = c.args.self.now in
-    (laid_read o.entries.items c.deref-entry-items.result.now o.steps.items c.as_slice-steps.result.now c.loop-entry.entry-index _ c.deref-entry-items.ensures.value c.as_slice-steps.ensures.value c.loop-entry-test.true o.laid).place
+    (laid_read o.entries.items c.deref-entry-items.result.now o.steps.items c.as_slice-steps.result.now c.loop-entry.entry-index _ c.deref-entry-items.ensures.value c.as_slice-steps.ensures.value c.loop-entry-test.true o.laid).instance_location
 
-pub is_same-requires-clause-place : goal.is_same-requires-clause-place
-is_same-requires-clause-place c =
+pub is_same-requires-clause-instance_location : goal.is_same-requires-clause-instance_location
+is_same-requires-clause-instance_location c =
     let o = c.args.self.now in
     (laid_read o.entries.items c.deref-entry-items.result.now o.steps.items c.as_slice-steps.result.now c.loop-entry.entry-index _ c.deref-entry-items.ensures.value c.as_slice-steps.ensures.value c.loop-entry-test.true o.laid).end
 

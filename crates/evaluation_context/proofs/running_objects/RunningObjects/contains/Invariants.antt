@@ -6,5 +6,5 @@ use Rattle.evaluation_context.proofs.running_objects.RunningObjects.contains.Giv
 
 abbrev pub invariant-loop-entry : goal.invariant-loop-entry
 invariant-loop-entry l =
-    list_any (is_running_as (l.resource, tokens l.pointer) (record { pointer = tokens l.place; name = option_map (λ n. n.now) l.name }))
+    list_any (is_running_as (l.resource, tokens l.pointer) (record { pointer = tokens l.instance_location; name = option_map (λ n. n.now) l.name }))
     (map (running_view l.self.steps.items) (take l.entry-index l.self.entries.items)) ≡ false

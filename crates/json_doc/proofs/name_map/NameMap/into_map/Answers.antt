@@ -1,7 +1,7 @@
 use Rattle.std.proofs.Common.{◌≡◌, [], ◌∷◌, ◌++◌, length, string_cmp, sym, ap, ◌∙◌, subst, append_assoc, arith}
 use Rattle.std.specs.BTreeMap.{insert_entry}
 use Rattle.std.specs.Vec.Iter.{into_iter_items}
-use Rattle.json_doc.proofs.Places.{Entry, InOrder, put_next}
+use Rattle.json_doc.proofs.Positions.{Entry, InOrder, put_next}
 use Rattle.json_doc.proofs.name_map.NameMap.into_map.Goals as goal
 
 pub loop-name-preserved : goal.loop-name-preserved

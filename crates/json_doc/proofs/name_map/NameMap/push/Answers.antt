@@ -1,7 +1,7 @@
 use Rattle.std.proofs.Common.{string_bytes, string_cmp, sym, ap, ◌∙◌, subst}
 use Rattle.std.specs.BTreeMap.{insert_entry}
 use Rattle.json_doc.specs.NameMaps.{IsAbove}
-use Rattle.json_doc.proofs.Places.{InOrder, put_above, in_order_put}
+use Rattle.json_doc.proofs.Positions.{InOrder, put_above, in_order_put}
 use Rattle.json_doc.proofs.name_map.NameMap.push.Goals as goal
 
 pub returns-clause-ok : goal.returns-clause-ok

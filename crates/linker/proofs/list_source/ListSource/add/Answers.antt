@@ -30,9 +30,9 @@ invariant_of-self c =
     sym (c.shares_resource.ensures ∙ ap (λ ds. shares_resource (shared_documents ds) (compiled_view c.checked.result.now)) c.deref.ensures.value
     ∙ ap (λ d. shares_resource before (compiled_view d)) same) ∙ c.if-shares_resource.false in
     let sound : IsSoundList before = record { ascend = c.args.self.now.ascend; distinct = c.args.self.now.distinct; faultless = c.args.self.now.faultless } in
-    let after = sound_after before (shared_documents c.place.new.documents.items) (compiled_view c.args.document.value) sound
+    let after = sound_after before (shared_documents c.insert_in_order.new.documents.items) (compiled_view c.args.document.value) sound
     (sym (ap (λ d. scan_fault (compiled_base d) (compiled_value d)) (c.deref-2.ensures)) ∙ c.checked.ensures.faultless) free
-    (kept_or_put c.place.result before (shared_documents c.place.new.documents.items) (compiled_view c.args.document.value) c.place.ensures.put c.place.ensures.kept) in
+    (kept_or_put c.insert_in_order.result before (shared_documents c.insert_in_order.new.documents.items) (compiled_view c.args.document.value) c.insert_in_order.ensures.put c.insert_in_order.ensures.kept) in
     record { ascend = after.ascend; distinct = after.distinct; faultless = after.faultless }
 
 pub returns-clause-ok : goal.returns-clause-ok
@@ -42,4 +42,4 @@ returns-clause-ok c =
     let free : shares_resource before (compiled_view c.args.document.value) ≡ false =
     sym (c.shares_resource.ensures ∙ ap (λ ds. shares_resource (shared_documents ds) (compiled_view c.checked.result.now)) c.deref.ensures.value
     ∙ ap (λ d. shares_resource before (compiled_view d)) same) ∙ c.if-shares_resource.false in
-    c.in_ok-place.ensures.absent ∙ unfound before (compiled_view c.args.document.value) (shared_made c.args.self.now.documents.items) (holds_itself (compiled_base c.args.document.value) (compiled_value c.args.document.value)) free
+    c.in_ok-insert_in_order.ensures.absent ∙ unfound before (compiled_view c.args.document.value) (shared_made c.args.self.now.documents.items) (holds_itself (compiled_base c.args.document.value) (compiled_value c.args.document.value)) free

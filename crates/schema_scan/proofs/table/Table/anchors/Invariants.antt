@@ -1,10 +1,10 @@
 use Rattle.std.proofs.Common.{◌≡◌, ◌++◌, map, drop, string_bytes}
 use Rattle.schema_scan.specs.AnchorViews.{anchor_view}
 use Rattle.schema_scan.specs.Names.{anchors_in}
-use Rattle.schema_scan.specs.Tables.{place_by}
+use Rattle.schema_scan.specs.Tables.{position_view}
 use Rattle.schema_scan.proofs.table.Table.anchors.Given as goal
 
 abbrev pub invariant-loop-position : goal.invariant-loop-position
 invariant-loop-position l =
-    anchors_in (map (place_by (map string_bytes l.self.uris.items)) l.self.positions.items)
-    ≡ map anchor_view l.anchors.items ++ anchors_in (map (place_by (map string_bytes l.self.uris.items)) (drop l.position-index l.self.positions.items))
+    anchors_in (map (position_view (map string_bytes l.self.uris.items)) l.self.positions.items)
+    ≡ map anchor_view l.anchors.items ++ anchors_in (map (position_view (map string_bytes l.self.uris.items)) (drop l.position-index l.self.positions.items))

@@ -1,8 +1,8 @@
 use Rattle.std.proofs.Common.{◌≡◌, [], ◌∷◌, map, length, is_ok, ap, ◌∙◌, string_bytes, arith}
 use Rattle.std.proofs.lemmas.List.{map-append, length-map}
-use Rattle.schema_scan.specs.Tables.{uris_of, places_of}
+use Rattle.schema_scan.specs.Tables.{uris_of, positions_view}
 use Rattle.schema_scan.proofs.Extended.{extends-push, uri_at-push}
-use Rattle.schema_scan.proofs.Rows.{have_uris-more, longer-push, places-more}
+use Rattle.schema_scan.proofs.Rows.{have_uris-more, longer-push, schema_positions-more}
 use Rattle.schema_scan.proofs.table.Table.push_uri.Goals as goal
 
 pub invariant_of-self : goal.invariant_of-self
@@ -26,10 +26,10 @@ returns-clause-uri c =
     let index : c.len-index.result ≡ length (map string_bytes c.args.self.now.uris.items) = omega (arith, length-map c.args.self.now.uris.items string_bytes) in
     rw index pushed
 
-pub returns-clause-places : goal.returns-clause-places
-unfolding places_of
-returns-clause-places c =
-    places-more (map string_bytes c.args.self.now.uris.items) (map string_bytes c.push.new.self.items) c.args.self.now.positions.items
+pub returns-clause-schema_positions : goal.returns-clause-schema_positions
+unfolding positions_view
+returns-clause-schema_positions c =
+    schema_positions-more (map string_bytes c.args.self.now.uris.items) (map string_bytes c.push.new.self.items) c.args.self.now.positions.items
     (extends-push (map string_bytes c.args.self.now.uris.items) (map string_bytes c.push.new.self.items) (string_bytes c.args.uri)
     (ap (map string_bytes) c.in_ok-push.ensures.items ∙ map-append string_bytes c.args.self.now.uris.items (c.args.uri ∷ [])))
     (rw length-map c.args.self.now.has_uris)

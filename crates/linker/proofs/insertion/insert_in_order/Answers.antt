@@ -9,7 +9,7 @@ use Rattle.schema_scan.specs.declared.compiled.Compiled.{Compiled}
 use Rattle.linker.specs.Positions.{StandsAt, IsGap}
 use Rattle.linker.specs.SharedDocuments.{shared_documents}
 use Rattle.linker.proofs.Positions.{absent_unfound, standing_some, shared_as_long}
-use Rattle.linker.proofs.placing.place.Goals as goal
+use Rattle.linker.proofs.insertion.insert_in_order.Goals as goal
 
 -- what a search in the same list for the same URI says
 carried : (P : List Document → Text → ℕ → Type 0) {items others : List (Rc Compiled Global)} {d e : Compiled} {uri : Text} {at : ℕ}

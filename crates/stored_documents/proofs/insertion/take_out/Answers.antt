@@ -8,7 +8,7 @@ use Rattle.stored_documents.specs.StoredDocuments.{stored_view}
 use Rattle.stored_documents.specs.declared.stored.Stored.{Stored}
 use Rattle.stored_documents.proofs.PlacedThere.{left_out, none_left_out, map-remove}
 use Rattle.stored_documents.proofs.StandingDocuments.{stored_as_long, stored_standing}
-use Rattle.stored_documents.proofs.placing.take_out.Goals as goal
+use Rattle.stored_documents.proofs.insertion.take_out.Goals as goal
 
 pub remove-requires : goal.remove-requires
 remove-requires c = omega (arith, c.in-Ok.ensures.found.inside, stored_as_long c.deref.result.now, c.deref.ensures.len)

@@ -1,8 +1,8 @@
 use Rattle.std.proofs.Common.{◌<◌, ◌+◌, ◌-◌, ◌/◌, ℕ, length, get_or, ap, ◌∙◌, arith}
 use Rattle.std.proofs.lemmas.List.{get_or_default}
 use Rattle.json_doc.specs.NameMaps.{order_to}
-use Rattle.json_doc.proofs.Places.{above_next, above_before, below_from, told}
-use Rattle.json_doc.proofs.name_map.place_of.Goals as goal
+use Rattle.json_doc.proofs.Positions.{above_next, above_before, below_from, told}
+use Rattle.json_doc.proofs.name_map.position_of.Goals as goal
 
 pub loop-low-preserved-in-Less : goal.loop-low-preserved-in-Less
 loop-low-preserved-in-Less g c =

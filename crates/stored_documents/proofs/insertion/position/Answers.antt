@@ -8,7 +8,7 @@ use Rattle.linker.proofs.Positions.{searched}
 use Rattle.stored_documents.specs.SharedStored.{stored_documents}
 use Rattle.stored_documents.specs.StoredDocuments.{stored_view}
 use Rattle.stored_documents.specs.declared.stored.Stored.{Stored}
-use Rattle.stored_documents.proofs.placing.position.Goals as goal
+use Rattle.stored_documents.proofs.insertion.position.Goals as goal
 
 pub returns : goal.returns
 unfolding stored_documents

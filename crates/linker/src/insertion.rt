@@ -23,7 +23,7 @@ pub(crate) fn position(documents: &[Rc<Compiled>], uri: &str) -> Result<usize, u
 }
 
 // Puts a document at its place, unless one with its canonical URI stands there. Answers whether it was put.
-pub(crate) fn place(
+pub(crate) fn insert_in_order(
     documents: &mut Vec<Rc<Compiled>>,
     document: Rc<Compiled>,
 ) -> Result<bool, AllocError>

@@ -8,7 +8,7 @@ use Rattle.schema_scan.specs.CompiledDocuments.{compiled_view}
 use Rattle.schema_scan.specs.declared.compiled.Compiled.{Compiled}
 use Rattle.linker.specs.SharedDocuments.{shared_documents}
 use Rattle.linker.proofs.Positions.{searched}
-use Rattle.linker.proofs.placing.position.Goals as goal
+use Rattle.linker.proofs.insertion.position.Goals as goal
 
 pub returns : goal.returns
 unfolding shared_documents

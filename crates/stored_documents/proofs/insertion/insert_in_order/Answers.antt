@@ -13,7 +13,7 @@ use Rattle.stored_documents.specs.StoredDocuments.{stored_view}
 use Rattle.stored_documents.specs.declared.stored.Stored.{Stored}
 use Rattle.stored_documents.proofs.PlacedThere.{put_instead}
 use Rattle.stored_documents.proofs.StandingDocuments.{stored_as_long, stored_standing}
-use Rattle.stored_documents.proofs.placing.place.Goals as goal
+use Rattle.stored_documents.proofs.insertion.insert_in_order.Goals as goal
 
 -- what a search in the same list for the same URI says
 carried : (P : List Document → Text → ℕ → Type 0) {items others : List (Rc Stored Global)} {d e : Stored} {uri : Text} {at : ℕ}

@@ -1,6 +1,6 @@
 use Rattle.std.proofs.Common.{◌≤◌, ◌-◌, length, take, drop}
 use Rattle.json_doc.specs.NameMaps.{IsAbove, IsBelow}
-use Rattle.json_doc.proofs.name_map.place_of.Given as goal
+use Rattle.json_doc.proofs.name_map.position_of.Given as goal
 
 abbrev pub invariant-loop-low : goal.invariant-loop-low
 invariant-loop-low g l = record {

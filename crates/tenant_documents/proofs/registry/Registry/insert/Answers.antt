@@ -13,7 +13,7 @@ use Rattle.tenant_documents.specs.declared.registry.Registry.{Registry}
 use Rattle.tenant_documents.proofs.KeptRegistries.{free_in, bytes_within, within_after_put}
 use Rattle.tenant_documents.proofs.Refusals.{either_way}
 use Rattle.tenant_documents.proofs.SentDocuments.{granted_after, no_room_after}
-use Rattle.tenant_documents.proofs.registry.Registry.place.Goals as goal
+use Rattle.tenant_documents.proofs.registry.Registry.insert.Goals as goal
 
 -- a shared document is refused for what it is refused for itself
 shared : (r : Registry) (s t : Stored) → t ≡ s

@@ -1,4 +1,4 @@
--- Where a name stands among entries in order of names, and what an edit at that place does.
+-- Where a name stands among entries in order of names, and what an edit at that position does.
 use Rattle.std.proofs.Common.{◌≡◌, ℕ, zero, suc, ◌+◌, ◌-◌, ◌++◌, slice_get, ◌<◌, ◌≤◌, List, [], ◌∷◌, length, take, drop, get_or, set, Option, Some, None, option_map, String, Global, Ordering, Less, Equal, Greater, string_bytes, string_cmp, nat_cmp, is_eq, true, refl, sym, ap, ◌∙◌, arith, add-one, subst}
 use Rattle.std.proofs.lemmas.Cmp.{nat_list_cmp_total}
 use Rattle.std.proofs.lemmas.List.{take_all}
@@ -13,7 +13,7 @@ use Rattle.std.specs.Map.{keys_of, lookup}
 use mathlib.Core.Bool.{true≢false}
 use Rattle.std.specs.Ordering.{ordering_reverse, is_gt}
 use Rattle.definitions.specs.Values.{Text}
-use Rattle.json_doc.specs.NameMaps.{order_to, entry_named, IsAbove, IsBelow, IsPlaceOf, IsGapFor}
+use Rattle.json_doc.specs.NameMaps.{order_to, entry_named, IsAbove, IsBelow, IsPositionOf, IsGapFor}
 
 abbrev compared : Text → Text → Ordering
 compared = slice_cmp nat_cmp
@@ -88,11 +88,11 @@ module _ {T : Type 0} where
   none_at_gap name (e ∷ es) zero above below = none_below name (e ∷ es) below
   none_at_gap name (e ∷ es) (suc i) above below = rw above.0 (none_at_gap name es i above.1 below)
 
-  pub value_at_place : (name : Text) (es : List (Entry T)) (i : ℕ) (d : Entry T) → i < length es → IsAbove name (take i es) → order_to name (get_or es i d) ≡ Equal
+  pub value_at_position : (name : Text) (es : List (Entry T)) (i : ℕ) (d : Entry T) → i < length es → IsAbove name (take i es) → order_to name (get_or es i d) ≡ Equal
       → named name es ≡ Some (get_or es i d).1
-  value_at_place name [] i d lt above h = absurd (omega arith)
-  value_at_place name (e ∷ es) zero d lt above h = rw h refl
-  value_at_place name (e ∷ es) (suc i) d lt above h = rw above.0 (value_at_place name es i d (omega arith) above.1 h)
+  value_at_position name [] i d lt above h = absurd (omega arith)
+  value_at_position name (e ∷ es) zero d lt above h = rw h refl
+  value_at_position name (e ∷ es) (suc i) d lt above h = rw above.0 (value_at_position name es i d (omega arith) above.1 h)
 
   -- ---- putting an entry in
   pub put_at_gap : (name : String Global) (v : T) (es : List (Entry T)) (i : ℕ) → i ≤ length es → IsAbove (string_bytes name) (take i es) → IsBelow (string_bytes name) (drop i es)
@@ -102,11 +102,11 @@ module _ {T : Type 0} where
   put_at_gap name v (e ∷ es) zero le above below = rw below.0 refl
   put_at_gap name v (e ∷ es) (suc i) le above below = rw above.0 (ap (λ r. e ∷ r) (put_at_gap name v es i (omega arith) above.1 below))
 
-  pub put_at_place : (name : String Global) (v : T) (es : List (Entry T)) (i : ℕ) (d : Entry T) → i < length es → IsAbove (string_bytes name) (take i es) → order_to (string_bytes name) (get_or es i d) ≡ Equal
+  pub put_at_position : (name : String Global) (v : T) (es : List (Entry T)) (i : ℕ) (d : Entry T) → i < length es → IsAbove (string_bytes name) (take i es) → order_to (string_bytes name) (get_or es i d) ≡ Equal
       → set es i ((get_or es i d).0, v) ≡ insert_entry string_cmp es name v
-  put_at_place name v [] i d lt above h = absurd (omega arith)
-  put_at_place name v (e ∷ es) zero d lt above h = rw h refl
-  put_at_place name v (e ∷ es) (suc i) d lt above h = rw above.0 (ap (λ r. e ∷ r) (put_at_place name v es i d (omega arith) above.1 h))
+  put_at_position name v [] i d lt above h = absurd (omega arith)
+  put_at_position name v (e ∷ es) zero d lt above h = rw h refl
+  put_at_position name v (e ∷ es) (suc i) d lt above h = rw above.0 (ap (λ r. e ∷ r) (put_at_position name v es i d (omega arith) above.1 h))
 
   still_below : (first name : String Global) (v : T) (es : List (Entry T)) → string_cmp first name ≡ Less → AllByRecursion (λ k. string_cmp first k ≡ Less) (keys_of es)
       → AllByRecursion (λ k. string_cmp first k ≡ Less) (keys_of (insert_entry string_cmp es name v))
@@ -142,21 +142,21 @@ pub key_is : (name : Text) (k : String Global) → compared name (string_bytes k
 key_is name k e = sym ((bytes_eq-Decides name (string_bytes k)).0 (sym (is_eq-slice_cmp name (string_bytes k)) ∙ ap is_eq e))
 
 module _ {T : Type 0} where
-  pub shown_at_place : (name : Text) (es whole : List (Entry T)) (i : ℕ) (e : Entry T) → es ≡ whole → e ≡ get_or es i e → IsPlaceOf name es i
+  pub shown_at_position : (name : Text) (es whole : List (Entry T)) (i : ℕ) (e : Entry T) → es ≡ whole → e ≡ get_or es i e → IsPositionOf name es i
       → Some (string_bytes e.0, e.1) ≡ entry_named name whole
-  shown_at_place name es whole i e all at there =
+  shown_at_position name es whole i e all at there =
       let same = there.same e in
       ap (λ (f : Entry T). Some (string_bytes f.0, f.1)) at ∙ ap (λ (n : Text). Some (n, (get_or es i e).1)) (key_is name (get_or es i e).0 same)
-      ∙ ap (option_map (λ v. (name, v))) (sym (value_at_place name es i e there.within there.above same)) ∙ ap (entry_named name) all
+      ∙ ap (option_map (λ v. (name, v))) (sym (value_at_position name es i e there.within there.above same)) ∙ ap (entry_named name) all
 
   pub none_shown : (name : Text) (es whole : List (Entry T)) (i : ℕ) → es ≡ whole → IsGapFor name es i → None ≡ entry_named name whole
   none_shown name es whole i all gap = ap (option_map (λ v. (name, v))) (sym (none_at_gap name es i gap.above gap.below)) ∙ ap (entry_named name) all
 
-  pub put_found : (text : Text) (name : String Global) (v : T) (seen es : List (Entry T)) (i : ℕ) (e : Entry T) → text ≡ string_bytes name → seen ≡ es → e ≡ get_or es i e → IsPlaceOf text seen i
+  pub put_found : (text : Text) (name : String Global) (v : T) (seen es : List (Entry T)) (i : ℕ) (e : Entry T) → text ≡ string_bytes name → seen ≡ es → e ≡ get_or es i e → IsPositionOf text seen i
       → set es i (e.0, v) ≡ insert_entry string_cmp es name v
   put_found text name v seen es i e is all at there =
-      let h : IsPlaceOf (string_bytes name) es i = subst (λ n. IsPlaceOf n es i) is (subst (λ l. IsPlaceOf text l i) all there) in
-      ap (λ (f : Entry T). set es i (f.0, v)) at ∙ put_at_place name v es i e h.within h.above (h.same e)
+      let h : IsPositionOf (string_bytes name) es i = subst (λ n. IsPositionOf n es i) is (subst (λ l. IsPositionOf text l i) all there) in
+      ap (λ (f : Entry T). set es i (f.0, v)) at ∙ put_at_position name v es i e h.within h.above (h.same e)
 
   pub put_missing : (text : Text) (name : String Global) (v : T) (seen es : List (Entry T)) (i : ℕ) → text ≡ string_bytes name → seen ≡ es → IsGapFor text seen i
       → insert es i (name, v) ≡ insert_entry string_cmp es name v

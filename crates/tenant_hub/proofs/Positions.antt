@@ -1,4 +1,4 @@
--- The place of a tenant's registry, and what is answered there.
+-- The position of a tenant's registry, and what is answered there.
 use Rattle.std.proofs.Common.{◌≡◌, ℕ, suc, ◌+◌, ◌<◌, List, [], ◌∷◌, length, Bool, true, false, cond, Option, Some, None, is_some, refl, sym, ap, ◌∙◌, inl, inr, arith, set, get_or, subst, map, string_bytes}
 use Rattle.std.specs.Prelude.{MatchOption}
 use Rattle.definitions.specs.Faults.{unknown_tenant}
@@ -11,14 +11,14 @@ use Rattle.definitions.specs.Values.{Text, same_text}
 use Rattle.definition_laws.specs.Laws.{IsRefused}
 use Rattle.lemmas.proofs.SomeValues.{some_same}
 use Rattle.definition_laws.proofs.Registries.{step_keeps}
-use Rattle.tenant_hub.specs.KeyedRegistries.{keyed_view, place_of}
+use Rattle.tenant_hub.specs.KeyedRegistries.{keyed_view, position_of}
 use Rattle.tenant_documents.specs.Registries.{registry_view}
 use Rattle.tenant_hub.specs.declared.keyed_registry.KeyedRegistry.{KeyedRegistry}
 
 abbrev keyed : Text → Registry → meaning.KeyedRegistry
 keyed key g = record { key = key; registry = g }
 
--- ---- the key at its first place
+-- ---- the key at its first position
 pub record IsAt (key : Text) (ks : List KeyedRegistry) (p : ℕ) : Type 0 where
   pub within : p < length ks
   pub own : (d : KeyedRegistry) → registry_of (map keyed_view ks) key ≡ Some (registry_view (get_or ks p d).registry)
@@ -48,21 +48,21 @@ later key i k ks None e f = rw e f
 later key i k ks (Some p) e f = (suc f.0, omega (arith, f.1), at_later key k ks f.0 e f.2)
 
 with_test : (key : Text) (i : ℕ) (k : KeyedRegistry) (ks : List KeyedRegistry) (b : Bool) → same_text key (string_bytes k.key) ≡ b
-    → Found key (i + 1) ks (place_of key (i + 1) ks) → Found key i (k ∷ ks) (cond b (Some i) (place_of key (i + 1) ks))
+    → Found key (i + 1) ks (position_of key (i + 1) ks) → Found key i (k ∷ ks) (cond b (Some i) (position_of key (i + 1) ks))
 with_test key i k ks true e f = (0, omega arith, at_first key k ks e)
-with_test key i k ks false e f = later key i k ks (place_of key (i + 1) ks) e f
+with_test key i k ks false e f = later key i k ks (position_of key (i + 1) ks) e f
 
-found : (key : Text) (i : ℕ) (ks : List KeyedRegistry) → Found key i ks (place_of key i ks)
+found : (key : Text) (i : ℕ) (ks : List KeyedRegistry) → Found key i ks (position_of key i ks)
 found key i [] = refl
 found key i (k ∷ ks) = with_test key i k ks (same_text key (string_bytes k.key)) refl (found key (i + 1) ks)
 
-pub found_some : (key : Text) (ks : List KeyedRegistry) (p : ℕ) → Some p ≡ place_of key 0 ks → IsAt key ks p
+pub found_some : (key : Text) (ks : List KeyedRegistry) (p : ℕ) → Some p ≡ position_of key 0 ks → IsAt key ks p
 found_some key ks p e =
     let f : Found key 0 ks (Some p) = subst (Found key 0 ks) (sym e) (found key 0 ks) in
     let same : f.0 ≡ p = omega (arith, f.1) in
     subst (IsAt key ks) same f.2
 
-found_none : (key : Text) (ks : List KeyedRegistry) → None ≡ place_of key 0 ks → registry_of (map keyed_view ks) key ≡ None
+found_none : (key : Text) (ks : List KeyedRegistry) → None ≡ position_of key 0 ks → registry_of (map keyed_view ks) key ≡ None
 found_none key ks e = subst (Found key 0 ks) (sym e) (found key 0 ks)
 
 -- ---- the registry that is there already
@@ -96,7 +96,7 @@ answered_at key q r ks p old new a e same answer =
     (a.replaced old new (same ∙ ap (λ k. string_bytes k.key) e))
     answer
 
-pub unknown_refused : (key : Text) (q : Request) (r : Reply) (ks : List KeyedRegistry) → None ≡ place_of key 0 ks → r ≡ refused unknown_tenant
+pub unknown_refused : (key : Text) (q : Request) (r : Reply) (ks : List KeyedRegistry) → None ≡ position_of key 0 ks → r ≡ refused unknown_tenant
     → IsCallAnswer regular_search (map keyed_view ks) (key, q) r (map keyed_view ks)
 unknown_refused key q r ks e is =
     let here = ap (call_at regular_search (map keyed_view ks) (key, q)) (found_none key ks e) in

@@ -31,7 +31,7 @@ fn order(document: &Rc<Stored>, uri: &str) -> Ordering
 }
 
 // Puts a document at its place, instead of the one with its canonical URI, which is answered. With room it can't fail.
-pub(crate) fn place(
+pub(crate) fn insert_in_order(
     documents: &mut Vec<Rc<Stored>>,
     document: Rc<Stored>,
 ) -> Result<Option<Rc<Stored>>, AllocError>

@@ -15,6 +15,7 @@ use std::alloc::{AllocError, Global};
 /// Contracts see all four by `log_view`.
 #[derive(Drop)]
 pub(crate) struct Log<'a> {
+    pub(crate) alloc: Global,
     pub(crate) errors: Units<'a>,
     pub(crate) annotations: Units<'a>,
     pub(crate) names: Vec<&'a str>,
@@ -62,6 +63,7 @@ impl<'a> Log<'a> {
         ensures { log_view result ≡ no_notes }
     {
         Log {
+            alloc,
             errors: Units::new(alloc),
             annotations: Units::new(alloc),
             names: Vec::new(alloc),

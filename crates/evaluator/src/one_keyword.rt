@@ -13,7 +13,7 @@ use crate::room::Room;
 use crate::settling::{evaluated_since, settle};
 use faults::Fault;
 use json_doc::Doc;
-use keyword_plans::{Chosen, Planned, Site, Tally, passes, plan};
+use keyword_plans::{Chosen, Planned, Site, passes, plan};
 use keywords::Keyword;
 
 impl<'a> Evaluation<'a> {
@@ -166,7 +166,6 @@ impl<'a> Evaluation<'a> {
     {
         let passes = self.passes(keyword, keyword_value, here, beside, applied)?;
         settle(
-            self.alloc,
             &mut self.log,
             self.context.location(),
             keyword,
@@ -211,16 +210,13 @@ impl<'a> Evaluation<'a> {
             subject: here.subject,
             scope: self.context.scope(),
         };
-        let tally = Tally {
-            applied: applied.number,
-            passing: applied.passing,
-        };
         passes(
             self.alloc,
             site,
             keyword,
             keyword_value,
-            tally,
+            applied.number,
+            applied.passing,
             beside.containing,
         )
     }

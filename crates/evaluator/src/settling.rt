@@ -21,12 +21,10 @@ use basic_output::{Location, Says};
 use faults::Fault;
 use keyword_plans::{Annotation, Evaluated, Subject, annotate};
 use keywords::Keyword;
-use std::alloc::Global;
 
 /// Puts what the keyword itself says in the place of what it applied said: `applied` is the number of schemas that it
 /// applied, after the mark. The only error is want of memory.
 pub(crate) fn settle<'a>(
-    alloc: Global,
     log: &mut Log<'a>,
     location: Location<'_, 'a>,
     keyword: Keyword,
@@ -49,7 +47,7 @@ pub(crate) fn settle<'a>(
     hide(log, keyword, mark);
     if passes {
         log.cut_errors(mark);
-        note_own(alloc, log, location, keyword, subject, mark, applied)
+        note_own(log, location, keyword, subject, mark, applied)
     } else {
         log.cut_annotations(mark);
         log.insert_error(mark, location, Says::NotMet(keyword.name()))?;
@@ -75,7 +73,6 @@ fn hide(log: &mut Log<'_>, keyword: Keyword, mark: &LogMark)
 
 // The keyword's own annotation stands before those of what it applied.
 fn note_own<'a>(
-    alloc: Global,
     log: &mut Log<'a>,
     location: Location<'_, 'a>,
     keyword: Keyword,
@@ -100,7 +97,7 @@ fn note_own<'a>(
     ensures err { IfErr result (λ f. f ≡ Fault.NoRoom) }
 {
     let evaluated = evaluated_since(&log.names, &log.indexes, mark.before());
-    match annotate(alloc, keyword, subject, applied, evaluated)? {
+    match annotate(log.alloc, keyword, subject, applied, evaluated)? {
         Annotation::None => Ok(()),
         Annotation::Says(says) => Ok(log.annotations.insert(mark.annotations, location, says)?),
         Annotation::Names(names) => {

@@ -22,16 +22,8 @@ use json_doc::{Doc, Whole};
 use keywords::Keyword;
 use std::alloc::{AllocError, Global};
 
-/// How many schemas a keyword applied, and how many of them passed.
-#[derive(Clone, Copy, Debug, PartialEq, Eq)]
-pub struct Tally {
-    /// All of them.
-    pub applied: u64,
-    /// Those that passed.
-    pub passing: u64,
-}
-
-/// Whether the keyword of the schema, with this value, passes, by what the schemas that it applied said.
+/// Whether the keyword of the schema, with this value, passes, by what the schemas that it applied said: `applied` is how
+/// many there were, and `passing` how many of them passed.
 ///
 /// `minContains` and `maxContains` need `containing`, the number of elements that `contains` beside found, where it is
 /// there. The only error is want of memory.
@@ -40,7 +32,8 @@ pub fn passes<'a>(
     site: Site<'_, 'a>,
     keyword: Keyword,
     keyword_value: &'a Doc,
-    tally: Tally,
+    applied: u64,
+    passing: u64,
     containing: Option<u64>,
 ) -> Result<bool, Fault>
     ensures ok { (a : Application) (run : Application → Outcome) (names : List Text)
@@ -50,7 +43,7 @@ pub fn passes<'a>(
         → option_map (count_by (λ o. o.valid)) (contains_outcomes run a) ≡ containing)
         → let os = outcomes_of (linked_rules site.entry.linked.now) run names indexes a
         (row_of keyword).name (row_of keyword).meaning (value keyword_value.now) in
-        tally.applied ≡ length os → tally.passing ≡ pass_count os
+        applied ≡ length os → passing ≡ pass_count os
         → IfOk result (λ b. b ≡ keyword_passes (linked_rules site.entry.linked.now) run a
         (row_of keyword).name (row_of keyword).meaning (value keyword_value.now) os) }
     ensures err { IfErr result (λ f. f ≡ Fault.NoRoom) }
@@ -60,16 +53,16 @@ pub fn passes<'a>(
     }
     match keyword {
         Keyword::Pattern => is_pattern_met(alloc, site, keyword_value),
-        Keyword::Ref => Ok(tally.passing == 1),
-        Keyword::DynamicRef => Ok(tally.passing == 1),
-        Keyword::AnyOf => Ok(tally.passing > 0),
-        Keyword::OneOf => Ok(tally.passing == 1),
-        Keyword::Not => Ok(tally.passing == 0),
+        Keyword::Ref => Ok(passing == 1),
+        Keyword::DynamicRef => Ok(passing == 1),
+        Keyword::AnyOf => Ok(passing > 0),
+        Keyword::OneOf => Ok(passing == 1),
+        Keyword::Not => Ok(passing == 0),
         Keyword::If => Ok(true),
-        Keyword::Contains => Ok(contains_enough(tally.passing, site)),
+        Keyword::Contains => Ok(contains_enough(passing, site)),
         Keyword::MinContains => Ok(contains_at_least(site.subject, keyword_value, containing)),
         Keyword::MaxContains => Ok(contains_at_most(site.subject, keyword_value, containing)),
-        _ => Ok(tally.passing == tally.applied),
+        _ => Ok(passing == applied),
     }
 }
 

@@ -12,7 +12,7 @@ returns-in_default-keyword-clause-ok c a run names indexes shows beside containi
     let v = value c.args.keyword_value.now in
     let os = outcomes_of rules run names indexes a row.name row.meaning v in
     let left = c.in_default-keyword in
-    by_count rules run a row.name row.meaning v os c.args.tally.passing c.args.tally.applied
+    by_count rules run a row.name row.meaning v os c.args.passing c.args.applied
     (with_all c.args.keyword left.not-Ref left.not-DynamicRef left.not-Pattern left.not-AnyOf left.not-OneOf left.not-Not left.not-If left.not-Contains left.not-MinContains left.not-MaxContains
     c.in_default.ensures rules run a row.name v os)
     applied passing

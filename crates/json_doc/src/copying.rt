@@ -1,7 +1,8 @@
 //! A second owner of the same value.
 
-ghost use Rattle.std.specs.Prelude.{◌≡◌, IfOk, IfErr, map};
-ghost use Rattle.json_doc.specs.Docs.{value, members_value};
+ghost use Rattle.std.specs.Prelude.{◌≡◌, true, IfOk, IfErr, OnOk, map};
+ghost use Rattle.definitions.specs.Values.{are_well_formed, are_well_formed_members, is_well_formed, to_elements};
+ghost use Rattle.json_doc.specs.Docs.{value, members_value, members_view};
 
 use crate::doc::Doc;
 use crate::members::Members;
@@ -9,15 +10,22 @@ use faults::Fault;
 use std::alloc::Global;
 
 /// The same value once more. The only error is want of memory, [`Fault::NoRoom`].
+///
+/// What is copied was seen whole, so the contract also says that every value that could be copied is well formed.
 #[cycle(copy)]
 pub fn copy(alloc: Global, doc: &Doc) -> Result<Doc, Fault>
     ensures ok { IfOk result (λ copied. value copied ≡ value doc.now) }
+    ensures well_formed { OnOk result (is_well_formed (value doc.now) ≡ true) }
     ensures err { IfErr result (λ f. f ≡ Fault.NoRoom) }
 {
     match doc {
         Doc::Null => Ok(Doc::Null),
         Doc::Bool(boolean) => Ok(Doc::Bool(*boolean)),
-        Doc::Int(number) => Ok(Doc::Int(*number)),
+        Doc::Int(number) => {
+            // Its bounds are known once it is read.
+            let _number = number.number();
+            Ok(Doc::Int(*number))
+        }
         Doc::Str(text) => Ok(Doc::Str(String::from_str(alloc, text.as_str())?)),
         Doc::List(items) => Ok(Doc::List(copy_items(alloc, items.as_slice())?)),
         Doc::Dict(members) => Ok(Doc::Dict(copy_members(alloc, members)?)),
@@ -27,6 +35,8 @@ pub fn copy(alloc: Global, doc: &Doc) -> Result<Doc, Fault>
 #[cycle(copy)]
 fn copy_items(alloc: Global, items: &[Doc]) -> Result<Vec<Doc>, Fault>
     ensures ok { IfOk result (λ copies. map value copies.items ≡ map value items.now) }
+    ensures well_formed { OnOk result
+        (are_well_formed (to_elements (map value items.now)) ≡ true) }
     ensures err { IfErr result (λ f. f ≡ Fault.NoRoom) }
 {
     let mut copies = Vec::with_capacity(alloc, items.len())?;
@@ -39,6 +49,7 @@ fn copy_items(alloc: Global, items: &[Doc]) -> Result<Vec<Doc>, Fault>
 #[cycle(copy)]
 fn copy_members(alloc: Global, members: &Members) -> Result<Members, Fault>
     ensures ok { IfOk result (λ copies. members_value copies ≡ members_value members.now) }
+    ensures well_formed { OnOk result (are_well_formed_members (members_view members.now) ≡ true) }
     ensures err { IfErr result (λ f. f ≡ Fault.NoRoom) }
 {
     let mut copies = Members::new(alloc);

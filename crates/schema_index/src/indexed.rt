@@ -23,7 +23,7 @@ use crate::gathering::gather;
 use crate::located::Located;
 use crate::numbers::{numbered, numbers_of, way_of};
 use faults::Fault;
-use json_doc::{Doc, Pointer, nesting};
+use json_doc::{Doc, Pointer, copy};
 use locations::{OwnedStep, follow};
 use std::alloc::Global;
 use std::collections::BTreeMap;
@@ -54,22 +54,21 @@ pub struct Indexed {
 impl Indexed {
     ghost use Rattle.schema_index.specs.IndexedDocuments.{indexed_base, indexed_value, indexed_schemas, indexed_view};
 
-    /// Makes the index of a document that stands under this base. The only error is want of memory.
-    pub fn of(alloc: Global, base: String, document: Doc) -> Result<Indexed, Fault>
-        requires { scan_fault (string_bytes base) (value document) ≡ None }
+    /// Makes the index of a copy of the document, which stands under this base. The only error is want of memory.
+    pub fn of(alloc: Global, base: String, document: &Doc) -> Result<Indexed, Fault>
+        requires { scan_fault (string_bytes base) (value document.now) ≡ None }
         ensures ok { IfOk result
-            (λ d. (indexed_base d ≡ string_bytes base) × (indexed_value d ≡ value document)) }
+            (λ d. (indexed_base d ≡ string_bytes base) × (indexed_value d ≡ value document.now)) }
         ensures err { IfErr result (λ f. f ≡ Fault.NoRoom) }
     {
-        // The walk through the whole value tells that it is well formed.
-        let _nesting = nesting(&document);
-        let gathered = gather(alloc, base.as_str(), &document)?;
+        let copied = copy(alloc, document)?;
+        let gathered = gather(alloc, base.as_str(), &copied)?;
         let numbers = numbers_of(alloc, &gathered.uris)?;
         let anchor_numbers = anchor_numbers_of(alloc, &gathered.anchors, true)?;
         let dynamic_numbers = anchor_numbers_of(alloc, &gathered.anchors, false)?;
         Ok(Indexed {
             base,
-            document,
+            document: copied,
             gathered,
             numbers,
             anchor_numbers,

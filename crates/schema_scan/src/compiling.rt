@@ -11,7 +11,6 @@ use crate::compiled::Compiled;
 use crate::pattern_table::PatternTable;
 use crate::scanned::Scanned;
 use faults::Fault;
-use json_doc::copy;
 use schema_index::Indexed;
 use std::alloc::Global;
 
@@ -29,9 +28,8 @@ pub fn compile(alloc: Global, scanned: Scanned<'_>) -> Result<Compiled, Fault>
         × (0 < length (patterns (scanned_value scanned.entry)))) }
 {
     let pattern_table = PatternTable::build(alloc, &scanned.patterns(alloc)?)?;
-    let document = copy(alloc, scanned.document())?;
     let base = String::from_str(alloc, scanned.base())?;
-    let indexed = Indexed::of(alloc, base, document)?;
+    let indexed = Indexed::of(alloc, base, scanned.document())?;
     Ok(Compiled {
         indexed,
         pattern_table,

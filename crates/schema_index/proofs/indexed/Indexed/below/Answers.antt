@@ -20,7 +20,7 @@ unreachable-requires c =
     let way = tokens_taken c.args.descent in
     let t = below s way v in
     let is = below-opened s way v c.in-Some.id.now (sym c.in-Some.ensures) in
-    let uri : t.resource ≡ c.as_str.result.now = ap (λ x. x.resource) is ∙ sym (c.as_str.ensures.value ∙ c.in_ok-uri-in-Some.ensures.ok) in
+    let uri : t.resource ≡ c.as_str.result.now = ap (λ x. x.resource) is ∙ sym (c.as_str.ensures.value ∙ c.in_ok-uri-in-Some.ensures) in
     let held : is_some (resource_root (indexed_schemas c.args.self.now) t.resource) ≡ true = root_held (indexed_schemas c.args.self.now) t c.requires (ap (λ x. x.pointer) is) in
     let none : is_some (resource_root (indexed_schemas c.args.self.now) c.as_str.result.now) ≡ true = ap (λ u. is_some (resource_root (indexed_schemas c.args.self.now) u)) (sym uri) ∙ held in
     absurd (let no : false ≡ true = c.in-None-resource_uri.ensures.held ∙ none in cc)
@@ -32,7 +32,7 @@ pub returns-in-Some-resource_uri-clause-ok : goal.returns-in-Some-resource_uri-c
 returns-in-Some-resource_uri-clause-ok c =
     let s = located_view c.args.around in
     let v = value c.args.descent.schema.now in
-    let uri : c.in-Some-resource_uri.resource.now ≡ without_fragment (target_uri s.resource c.in-Some.id.now) = c.in-Some-resource_uri.ensures.same ∙ c.as_str.ensures.value ∙ c.in_ok-uri-in-Some.ensures.ok in
+    let uri : c.in-Some-resource_uri.resource.now ≡ without_fragment (target_uri s.resource c.in-Some.id.now) = c.in-Some-resource_uri.ensures.same ∙ c.as_str.ensures.value ∙ c.in_ok-uri-in-Some.ensures in
     ap₂ (λ r p. shown r p v) uri (ap tokens c.new.ensures.items) ∙ sym (below-opened s (tokens_taken c.args.descent) v c.in-Some.id.now (sym c.in-Some.ensures))
 
 pub returns-clause-ok : goal.returns-clause-ok

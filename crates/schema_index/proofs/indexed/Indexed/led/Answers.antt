@@ -22,7 +22,7 @@ below-requires c =
 pub loop-keyword-smaller : goal.loop-keyword-smaller
 loop-keyword-smaller c =
     let d = c.in-Some-descend.descent in
-    let fewer : length d.rest.now ≤ length c.in-Some.rest.now = shorter string_bytes string_bytes c.as_str.result.now d.keyword.now (tokens (option_list d.place)) c.in-Some.rest.now d.rest.now c.in-Some-descend.ensures.begins in
+    let fewer : length d.rest.now ≤ length c.in-Some.rest.now = shorter string_bytes string_bytes c.as_str.result.now d.keyword.now (tokens (option_list d.step)) c.in-Some.rest.now d.rest.now c.in-Some-descend.ensures.begins in
     let whole : length c.loop-keyword.left.now ≡ length (c.in-Some.keyword.now ∷ c.in-Some.rest.now) = ap length c.in-Some.ensures.cases.0 in
     omega arith
 

@@ -1,6 +1,8 @@
-//! Equality of steps, by their tokens.
+//! Equality of steps, by their tokens; and ways through a value.
 
-use locations::{Step, same_steps};
+use json_doc::{read, same};
+use locations::{Step, follow, own, same_steps, steps_after};
+use std::test::Fail;
 
 #[test]
 fn compares_tokens(rt: HostRuntime) {
@@ -11,4 +13,17 @@ fn compares_tokens(rt: HostRuntime) {
     assert!(rt; same_steps(&indexed, &named));
     assert!(rt; !same_steps(&indexed, &other));
     assert!(rt; !same_steps(&named, &named[..1]));
+}
+
+#[test]
+fn ways_are_kept_and_followed(rt: HostRuntime) -> Result<(), Fail> {
+    let doc = read(rt.alloc(), br#"{"a":{"b":[1,{"c":2}]}}"#)?;
+    let steps = [Step::Name("a"), Step::Name("b"), Step::Index(1)];
+    let way = own(rt.alloc(), &steps)?;
+    let found = read(rt.alloc(), br#"{"c":2}"#)?;
+    assert!(rt; follow(&way, &doc).is_some_and(|value| same(value, &found)));
+    assert!(rt; follow(&way, &found).is_none());
+    assert!(rt; same_steps(&steps_after(rt.alloc(), &way, 1)?, &steps[1..]));
+    assert!(rt; steps_after(rt.alloc(), &way, 4)?.is_empty());
+    Ok(())
 }

@@ -2,7 +2,7 @@
 
 use json_doc::read;
 use std::test::Fail;
-use value_order::{compare, is_unique};
+use value_order::{compare, has_same, is_unique};
 
 // Each comes before the next, and the members of an object may stand in any order.
 const ASCENDING: &[(&str, &str)] = &[
@@ -62,6 +62,37 @@ fn repeats_are_found(rt: HostRuntime) -> Result<(), Fail> {
         let doc = read(rt.alloc(), text.as_bytes())?;
         assert_eq!(rt; is_unique(rt.alloc(), &doc)?, *unique, "{text}");
     }
+    Ok(())
+}
+
+// Lists of so many numbers, the last of which stands there once or twice.
+#[test]
+fn short_and_long_lists_are_told_alike(rt: HostRuntime) -> Result<(), Fail> {
+    for length in [1_u64, 15, 16, 17, 40] {
+        for last in [length, 1] {
+            let mut text = String::from_str(rt.alloc(), "[")?;
+            for number in 1..length {
+                text.push_str(format!(in rt.alloc(); "{number},")?.as_str())?;
+            }
+            text.push_str(format!(in rt.alloc(); "{last}]")?.as_str())?;
+            let doc = read(rt.alloc(), text.as_bytes())?;
+            assert_eq!(rt;
+                is_unique(rt.alloc(), &doc)?,
+                last == length,
+                "{length} and {last}"
+            );
+        }
+    }
+    Ok(())
+}
+
+#[test]
+fn an_equal_value_is_found(rt: HostRuntime) -> Result<(), Fail> {
+    let values = read(rt.alloc(), br#"[1,{"a":1,"b":2},"1"]"#)?;
+    let swapped = read(rt.alloc(), br#"{"b":2,"a":1}"#)?;
+    let items = values.as_list().unwrap_or_default();
+    assert!(rt; has_same(&swapped, items) && !has_same(&swapped, &items[..1]));
+    assert!(rt; !has_same(&read(rt.alloc(), b"2")?, items));
     Ok(())
 }
 

@@ -32,6 +32,9 @@ fn a_value_tells_what_it_holds(rt: HostRuntime) -> Result<(), Fail> {
     assert!(rt; Doc::Null.as_bool().is_none());
     let text = Doc::Str(String::from_str(rt.alloc(), "a")?);
     assert!(rt; text.as_str() == Some("a") && text.get("a").is_none());
+    let named = read(rt.alloc(), br#"{"$id":"s","title":1}"#)?;
+    assert!(rt; named.text_at("$id") == Some("s"));
+    assert!(rt; named.text_at("title").is_none() && named.text_at("a").is_none());
     Ok(())
 }
 

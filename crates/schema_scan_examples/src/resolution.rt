@@ -3,7 +3,7 @@
 use crate::documents::told;
 use std::alloc::Global;
 use std::test::Fail;
-use uri_ref::{Fault, base_form, recompose, resolve, split};
+use uri_ref::{Fault, base_form, opened_uri, recompose, resolve, resolved_uri, split};
 
 const BASE: &str = "http://a/b/c/d;p?q";
 
@@ -64,6 +64,29 @@ fn references_are_resolved(rt: HostRuntime) -> Result<(), Fail> {
     for (base, reference, text) in REFERENCES {
         let found = resolved(rt.alloc(), base, reference)?;
         assert_eq!(rt; found.as_str(), *text, "{reference}");
+        let found = resolved_uri(rt.alloc(), base, reference)?;
+        assert_eq!(rt; found.as_str(), *text, "{reference}");
+    }
+    Ok(())
+}
+
+// A base, an `$id`, and the resource that it opens.
+const OPENED: &[(&str, &str, &str)] = &[
+    ("https://ex.org/a/s", "t", "https://ex.org/a/t"),
+    (
+        "https://ex.org/a/s",
+        "https://ex.org/b#",
+        "https://ex.org/b",
+    ),
+    ("https://ex.org/a/s", "#", "https://ex.org/a/s"),
+    ("urn:x:y", "b", "urn:b"),
+];
+
+#[test]
+fn identifiers_open_resources(rt: HostRuntime) -> Result<(), Fail> {
+    for (base, id, text) in OPENED {
+        let found = opened_uri(rt.alloc(), base, id)?;
+        assert_eq!(rt; found.as_str(), *text, "{id}");
     }
     Ok(())
 }

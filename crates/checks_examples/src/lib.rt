@@ -13,8 +13,6 @@ mod documents;
 #[cfg(test)]
 mod examples;
 #[cfg(test)]
-mod keywords;
-#[cfg(test)]
 mod large_reports;
 #[cfg(test)]
 mod limits;
@@ -30,3 +28,5 @@ mod refusals;
 mod subjects;
 #[cfg(test)]
 mod texts;
+#[cfg(test)]
+mod verdicts;

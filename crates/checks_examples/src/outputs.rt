@@ -1,7 +1,7 @@
 //! The text of the output: its units, their order and their locations.
 
 use crate::texts::{URI, answer, input_answer};
-use crate::{keywords, refusals};
+use crate::{refusals, verdicts};
 use std::test::Fail;
 
 // A schema, an instance, and the answer.
@@ -58,12 +58,12 @@ const OUTPUTS: &[(&str, &str, &str)] = &[
 fn texts_have_their_answers(rt: HostRuntime) -> Result<(), Fail> {
     for table in &[
         OUTPUTS,
-        keywords::UNEVALUATED,
-        keywords::REFERENCES,
-        keywords::CONTAINS,
-        keywords::PATTERNS,
-        keywords::ANNOTATIONS,
-        keywords::IN_PLACE,
+        verdicts::UNEVALUATED,
+        verdicts::REFERENCES,
+        verdicts::CONTAINS,
+        verdicts::PATTERNS,
+        verdicts::ANNOTATIONS,
+        verdicts::IN_PLACE,
         refusals::SCHEMAS,
     ] {
         for (schema, instance, text) in *table {

@@ -51,7 +51,7 @@ const EMBEDDED: &str = r#"{
   "required": ["customer"],
   "properties": {
     "customer": { "$ref": "people/customer" },
-    "deliver_to": { "$ref": "people/address#instance_location" },
+    "deliver_to": { "$ref": "people/address#place" },
     "lines": {
       "type": "array",
       "items": { "$id": "line", "required": ["sku"] }
@@ -70,7 +70,7 @@ const EMBEDDED: &str = r#"{
         },
         "address": {
           "$id": "people/address",
-          "$anchor": "instance_location",
+          "$anchor": "place",
           "type": "object",
           "required": ["town"]
         }

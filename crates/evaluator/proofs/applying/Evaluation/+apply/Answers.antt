@@ -1,7 +1,6 @@
 mod Applying
 mod ObjectKeywords
 mod OneKeyword
-
 use Rattle.evaluator.proofs.applying.Evaluation.+apply.Answers.Applying as applying
 use Rattle.evaluator.proofs.applying.Evaluation.+apply.Answers.ObjectKeywords as object_keywords
 use Rattle.evaluator.proofs.applying.Evaluation.+apply.Answers.OneKeyword as one_keyword

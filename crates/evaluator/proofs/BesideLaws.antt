@@ -14,7 +14,7 @@ use Rattle.keyword_plans.specs.Plans.{is_consequence, counts_contained}
 use Rattle.evaluator.specs.Notes.{Notes, notes_of_both, uses_notes}
 use Rattle.evaluator.specs.Rounds.{Knows, group_uses, indexes_since, keyword_uses, linked_outcome, names_since, two_uses, uses_since}
 use Rattle.evaluator.specs.declared.beside.Beside.{Beside}
-use Rattle.evaluator.specs.declared.found.Used.{Used}
+use Rattle.evaluator.specs.declared.found.Found.{Found}
 use Rattle.keywords.specs.declared.group.Group.TheVariants.{Conditional, Counted}
 use Rattle.evaluator.specs.declared.log.Before.{Before}
 use Rattle.evaluator.proofs.AloneLaws.{same_used}
@@ -49,7 +49,7 @@ knows_nothing l left a m beside e f = record {
   containing = λ is. absurd (let g = sym f ∙ is in cc);
 }
 
-pub knows_condition : (l : Linked) (left budget : ℕ) (a : Application) (u : Used) (wanted : Bool) (before : Before) (n : Notes) (beside : Beside)
+pub knows_condition : (l : Linked) (left budget : ℕ) (a : Application) (u : Found) (wanted : Bool) (before : Before) (n : Notes) (beside : Beside)
     → FindsUse u budget (uses_since l left a If before n) → beside.condition ≡ option_map (λ n. nat_lt 0 n) u.passing → Knows l left a (consequence wanted) beside
 knows_condition l left budget a u wanted before n beside found is = record {
   condition =
@@ -58,7 +58,7 @@ knows_condition l left budget a u wanted before n beside found is = record {
   containing = λ t. absurd (let g : false ≡ true = t in cc);
 }
 
-pub knows_containing : (l : Linked) (left budget : ℕ) (a : Application) (u : Used) (m : Meaning) (before : Before) (n : Notes) (beside : Beside)
+pub knows_containing : (l : Linked) (left budget : ℕ) (a : Application) (u : Found) (m : Meaning) (before : Before) (n : Notes) (beside : Beside)
     → FindsUse u budget (uses_since l left a Contains before n) → beside.containing ≡ u.passing → is_consequence m ≡ false → Knows l left a m beside
 knows_containing l left budget a u m before n beside found is apart = record {
   condition = λ t. absurd (let g = sym apart ∙ t in cc);

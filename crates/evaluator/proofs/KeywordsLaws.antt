@@ -1,5 +1,5 @@
 -- Laws of all keywords of a schema object: its groups, and then those that look at what others evaluated.
-use Rattle.std.proofs.Common.{◌≡◌, ◌<◌, ◌-◌, ◌+◌, ◌&&◌, ◌||◌, ℕ, suc, ◌++◌, sym, ap, subst, ◌∙◌, arith}
+use Rattle.std.proofs.Common.{◌≡◌, ◌<◌, ◌-◌, ◌+◌, ◌&&◌, ◌||◌, ℕ, suc, ◌++◌, sym, ap, subst, ◌∙◌, arith, None}
 use Rattle.std.proofs.lemmas.List.Sums.{sum_by-append}
 use Rattle.definitions.specs.Applied.{Application}
 use Rattle.linker.specs.declared.linked.Linked.{Linked}
@@ -32,7 +32,7 @@ keywords_noted l left a before n mid new e m k =
 pub keywords_found : (l : Linked) (left : ℕ) (a : Application) (before : Before) (n mid : Notes) (f g h : Found) (budget : ℕ) → before ≡ evaluated_in n
     → mid ≡ notes_of_both n (uses_notes a (groups_uses l left a first_groups)) → FindsObject f budget (groups_uses l left a first_groups)
     → FindsUses g (budget - f.count) (two_uses l left a UnevaluatedItems UnevaluatedProperties before mid)
-    → h ≡ record { valid = f.valid && g.valid; count = f.count + g.count; looped = f.looped || g.looped; deep = f.deep || g.deep }
+    → h ≡ record { valid = f.valid && g.valid; count = f.count + g.count; looped = f.looped || g.looped; deep = f.deep || g.deep; passing = None }
     → FindsObject h budget (object_uses l left a)
 unfolding object_uses
 keywords_found l left a before n mid f g h budget e m so_far last is =

@@ -90,7 +90,7 @@ pub outcome-object : (rules : Rules) (n : ℕ) (a : Application) → is_running 
     → outcome rules n a ≡ object_outcome rules (outcome rules (n - 1)) a
 outcome-object rules n a r e l = outcome-suc rules n a r l ∙ at_other rules (outcome rules (n - 1)) a a.schema.value e
 
-pub finds_same : (f : Found) (budget : ℕ) (o : Outcome) → f ≡ record { valid = o.valid; count = o.count; looped = o.looped; deep = o.deep } → o.count ≤ budget → Finds f budget o
+pub finds_same : (f : Found) (budget : ℕ) (o : Outcome) → f ≡ record { valid = o.valid; count = o.count; looped = o.looped; deep = o.deep; passing = None } → o.count ≤ budget → Finds f budget o
 finds_same f budget o e h = record {
   valid = ap (λ (f : Found). f.valid) e;
   count = ap (λ (f : Found). f.count) e;
@@ -100,7 +100,7 @@ finds_same f budget o e h = record {
 }
 
 -- ---- boolean schemas
-pub deep_found : (n : ℕ) (b : Bool) → n ≡ 0 → boolean_found n b ≡ record { valid = false; count = 1; looped = false; deep = true }
+pub deep_found : (n : ℕ) (b : Bool) → n ≡ 0 → boolean_found n b ≡ record { valid = false; count = 1; looped = false; deep = true; passing = None }
 deep_found zero b e = refl
 deep_found (suc n) b e = absurd (omega arith)
 

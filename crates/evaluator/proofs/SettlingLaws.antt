@@ -26,7 +26,6 @@ use Rattle.evaluator.specs.Findings.{FindsAll, FindsUse, count_of, use_count}
 use Rattle.evaluator.specs.declared.found.Applied as found
 use Rattle.evaluator.specs.declared.found.Found.{Found}
 use Rattle.evaluator.specs.declared.beside.Beside.{Beside}
-use Rattle.evaluator.specs.declared.found.Used.{Used}
 use Rattle.evaluator.specs.Notes.{Notes, parts_notes, uses_notes, visible_notes}
 use Rattle.evaluator.specs.Rounds.{IsAt, IsAtKeyword, IsKnown, Knows, linked_outcome, part_outcomes, use_there}
 use Rattle.evaluator.proofs.LogLaws.{same_notes}
@@ -139,10 +138,10 @@ planned_known l left keyword a ps names indexes v inside found same p here =
     (subst (λ es. Contains es e) same there)
 
 -- ---- one use
-pub use_found : (all : found.Applied) (f : Found) (u : Used) (budget : ℕ) (this : Use) (passes : Bool) → FindsAll all budget this.outcomes → passes ≡ this.passes
-    → f ≡ record { valid = passes; count = all.count; looped = all.looped; deep = all.deep } → u ≡ record { found = f; passing = Some all.passing } → FindsUse u budget (this ∷ [])
-use_found all f u budget this passes finds same e r =
-    rw (r, e) (record {
+pub use_found : (all : found.Applied) (f : Found) (budget : ℕ) (this : Use) (passes : Bool) → FindsAll all budget this.outcomes → passes ≡ this.passes
+    → f ≡ record { valid = passes; count = all.count; looped = all.looped; deep = all.deep; passing = Some all.passing } → FindsUse f budget (this ∷ [])
+use_found all f budget this passes finds same e =
+    rw e (record {
       found = record {
         valid = same ∙ sym (and-true this.passes);
         count = omega (arith, finds.count);

@@ -1,13 +1,17 @@
 -- Laws of the uses of keywords, so far and one group more.
-use Rattle.std.proofs.Common.{◌≡◌, ℕ, zero, suc, ◌+◌, ◌-◌, ◌<◌, ◌≤◌, List, [], ◌∷◌, ◌++◌, length, Bool, true, ◌&&◌, ◌||◌, refl, sym, ap, ◌∙◌, arith, append-nil, take, drop, get_or, flat_map}
+use Rattle.std.proofs.Common.{◌≡◌, ℕ, zero, suc, ◌+◌, ◌-◌, ◌<◌, ◌≤◌, List, [], ◌∷◌, ◌++◌, length, Bool, true, ◌&&◌, ◌||◌, refl, sym, ap, ◌∙◌, arith, append-nil, take, drop, get_or, flat_map, None, subst, Bor}
 use Rattle.std.specs.List.{list_all}
 use Rattle.std.proofs.lemmas.List.{take_more}
 use Rattle.std.proofs.lemmas.Grind.{flat_map-append}
 use Rattle.std.proofs.lemmas.List.Sums.{sum_by-append}
 use Rattle.std.proofs.lemmas.List.Folds.{list_all-append, list_any-append}
 use Rattle.std.proofs.lemmas.Bool.{and_parts}
+use Rattle.definitions.specs.Values.{Value}
 use Rattle.definitions.specs.Applied.{Application}
 use Rattle.definitions.specs.Outcomes.{Use, use_errors}
+use Rattle.linker.specs.declared.linked.Linked.{Linked}
+use Rattle.evaluation_context.specs.Frames.{Frame}
+use Rattle.evaluator.specs.Rounds.{IsAt}
 use Rattle.evaluator.specs.Findings.{FindsObject, FindsUses, IsWithin, use_count}
 use Rattle.evaluator.specs.Groups.{first_groups, stands_alone}
 use Rattle.keywords.specs.Groups.{in_order}
@@ -31,11 +35,11 @@ uses_more_notes a us vs =
     same_notes (sym (flat_map-append (use_errors a) us vs)) (sym (flat_map-append (kept_annotations a) us vs)) (sym (flat_map-append (λ u. u.names) us vs)) (sym (flat_map-append (λ u. u.indexes) us vs))
 
 pub found_within : (f g : Found) (budget : ℕ) → IsWithin f budget → g.count ≤ budget - f.count
-    → IsWithin (record { valid = f.valid && g.valid; count = f.count + g.count; looped = f.looped || g.looped; deep = f.deep || g.deep }) budget
+    → IsWithin (record { valid = f.valid && g.valid; count = f.count + g.count; looped = f.looped || g.looped; deep = f.deep || g.deep; passing = None }) budget
 found_within f g budget so_far more = record { some = omega (arith, so_far.some); within = omega (arith, so_far.within, more) }
 
 pub so_far_more : (f g : Found) (budget : ℕ) (us vs : List Use) → FindsObject f budget us → FindsUses g (budget - f.count) vs
-    → FindsObject (record { valid = f.valid && g.valid; count = f.count + g.count; looped = f.looped || g.looped; deep = f.deep || g.deep }) budget (us ++ vs)
+    → FindsObject (record { valid = f.valid && g.valid; count = f.count + g.count; looped = f.looped || g.looped; deep = f.deep || g.deep; passing = None }) budget (us ++ vs)
 so_far_more f g budget us vs so_far more =
     let c : use_count (us ++ vs) ≡ use_count us + use_count vs = sum_by-append _ us vs in
     record {
@@ -45,6 +49,10 @@ so_far_more f g budget us vs so_far more =
       deep = rw (so_far.deep, more.deep) (sym (list_any-append _ us vs));
       within = omega (arith, so_far.count, so_far.within, more.count, more.within);
     }
+
+-- ---- after what leaves the linked documents and the way as they were
+pub still_at : {l m : Bor Linked} {f g : Frame} {s x : Value} {a : Application} → m ≡ l → g ≡ f → IsAt l.now f s x a → IsAt m.now g s x a
+still_at {l} {m} {f} {g} {s} {x} {a} same back at = subst (λ (k : Bor Linked). IsAt k.now g s x a) (sym same) (subst (λ (h : Frame). IsAt l.now h s x a) (sym back) at)
 
 -- ---- the loop over groups
 pub flat_more : {X Y : Type 0} (f : X → List Y) (xs : List X) (i : ℕ) (d : X) → i < length xs → flat_map f (take (i + 1) xs) ≡ flat_map f (take i xs) ++ f (get_or xs i d)
@@ -57,7 +65,7 @@ flat_same f xs i d h none = sym (flat_more f xs i d h ∙ ap (λ ys. flat_map f 
 
 pub group_more : {X : Type 0} (f g h : Found) (budget : ℕ) (uses : X → List Use) (xs : List X) (i : ℕ) (d : X) → i < length xs
     → FindsObject f budget (flat_map uses (take i xs)) → FindsUses g (budget - f.count) (uses (get_or xs i d))
-    → h ≡ record { valid = f.valid && g.valid; count = f.count + g.count; looped = f.looped || g.looped; deep = f.deep || g.deep }
+    → h ≡ record { valid = f.valid && g.valid; count = f.count + g.count; looped = f.looped || g.looped; deep = f.deep || g.deep; passing = None }
     → FindsObject h budget (flat_map uses (take (i + 1) xs))
 group_more f g h budget uses xs i d less so_far more e = rw (e, flat_more uses xs i d less) (so_far_more f g budget (flat_map uses (take i xs)) (uses (get_or xs i d)) so_far more)
 
@@ -82,7 +90,7 @@ group_over f budget uses xs i d less so_far over =
 
 -- ---- two uses, one after the other
 pub two_found : (f g h : Found) (budget : ℕ) (us vs : List Use) → FindsUses f budget us → FindsUses g (budget - f.count) vs
-    → h ≡ record { valid = f.valid && g.valid; count = f.count + g.count; looped = f.looped || g.looped; deep = f.deep || g.deep } → FindsUses h budget (us ++ vs)
+    → h ≡ record { valid = f.valid && g.valid; count = f.count + g.count; looped = f.looped || g.looped; deep = f.deep || g.deep; passing = None } → FindsUses h budget (us ++ vs)
 two_found f g h budget us vs first second e =
     let c : use_count (us ++ vs) ≡ use_count us + use_count vs = sum_by-append _ us vs in
     rw e (record {

@@ -7,7 +7,6 @@ use Rattle.definitions.specs.Evaluated.{pass_count}
 use Rattle.definitions.specs.Outcomes.{Use}
 use Rattle.evaluator.specs.declared.found.Found.{Found}
 use Rattle.evaluator.specs.declared.found.Applied as found
-use Rattle.evaluator.specs.declared.found.Used.{Used}
 
 -- ---- one outcome
 pub record Finds (f : Found) (budget : ℕ) (o : Outcome) : Type 0 where
@@ -67,6 +66,6 @@ abbrev pub passing_first : List Use → Option ℕ
 passing_first [] = None
 passing_first (u ∷ us) = Some (pass_count u.outcomes)
 
-pub record FindsUse (u : Used) (budget : ℕ) (us : List Use) : Type 0 where
-  pub found : FindsUses u.found budget us
+pub record FindsUse (u : Found) (budget : ℕ) (us : List Use) : Type 0 where
+  pub found : FindsUses u budget us
   pub passing : u.passing ≡ passing_first us

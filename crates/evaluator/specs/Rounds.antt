@@ -1,5 +1,5 @@
 -- Where an evaluation stands, and what it does there, as the definitions have it.
-use Rattle.std.specs.Prelude.{◌≡◌, ℕ, zero, suc, false, List, [], ◌∷◌, Bool, true, Option, Some, count_by, ◌++◌, drop, flat_map, length, map, option_map, Contains}
+use Rattle.std.specs.Prelude.{◌≡◌, ℕ, zero, suc, false, List, [], ◌∷◌, Bool, true, Option, Some, None, count_by, ◌++◌, drop, flat_map, length, map, option_map, Contains}
 use Rattle.definitions.specs.Values.{Text, Value, get}
 use Rattle.definitions.specs.Keywords.{Meaning}
 use Rattle.definitions.specs.Applied as definition
@@ -112,8 +112,8 @@ evaluated_in n = record { names = length n.names; indexes = length n.indexes }
 
 -- ---- boolean schemas, and what a keyword chose
 abbrev pub boolean_found : ℕ → Bool → Found
-boolean_found zero b = record { valid = false; count = 1; looped = false; deep = true }
-boolean_found (suc n) b = record { valid = b; count = 1; looped = false; deep = false }
+boolean_found zero b = record { valid = false; count = 1; looped = false; deep = true; passing = None }
+boolean_found (suc n) b = record { valid = b; count = 1; looped = false; deep = false; passing = None }
 
 abbrev pub boolean_notes : ℕ → Application → Bool → Notes
 boolean_notes zero a b = no_notes

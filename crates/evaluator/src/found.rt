@@ -1,40 +1,75 @@
 //! What applications of schemas found, beside their units.
 
-ghost use Rattle.std.specs.Prelude.{◌≡◌, ◌+◌, ◌<◌, ◌^◌, ◌&&◌, ◌||◌, true, false, if◌then◌else◌, nat_lt, option_map};
+ghost use Rattle.std.specs.Prelude.{◌≡◌, ◌+◌, ◌<◌, ◌^◌, ◌&&◌, ◌||◌, true, false, if◌then◌else◌, nat_lt, option_map, None, Some};
 
-/// What the application of a schema found: whether the instance is valid, how many applications there were, this one
-/// among them, and whether one of them looped or nested too deep.
+/// What the application of a schema found, or the use of keywords: whether the instance is valid, how many applications
+/// there were, and whether one of them looped or nested too deep; and of one keyword that is there, how many of the schemas
+/// passed that it applied.
 #[derive(Clone, Copy, Debug, PartialEq, Eq)]
 pub(crate) struct Found {
     pub(crate) valid: bool,
     pub(crate) count: u64,
     pub(crate) looped: bool,
     pub(crate) deep: bool,
+    pub(crate) passing: Option<u64>,
 }
 
 impl Found {
+    /// A keyword that isn't there.
+    pub(crate) fn nothing() -> Found
+        ensures { result ≡ record {
+          valid = true;
+          count = 0;
+          looped = false;
+          deep = false;
+          passing = None;
+        } }
+    {
+        Found {
+            valid: true,
+            count: 0,
+            looped: false,
+            deep: false,
+            passing: None,
+        }
+    }
+
     /// A boolean schema.
     pub(crate) fn boolean(valid: bool) -> Found
-        ensures { result ≡ record { valid = valid; count = 1; looped = false; deep = false } }
+        ensures { result ≡ record {
+          valid = valid;
+          count = 1;
+          looped = false;
+          deep = false;
+          passing = None;
+        } }
     {
         Found {
             valid,
             count: 1,
             looped: false,
             deep: false,
+            passing: None,
         }
     }
 
     /// A schema that was not applied, since it is being applied at this instance location, or else since the applications nest too
     /// deep.
     pub(crate) fn leaf(looped: bool, deep: bool) -> Found
-        ensures { result ≡ record { valid = false; count = 1; looped = looped; deep = deep } }
+        ensures { result ≡ record {
+          valid = false;
+          count = 1;
+          looped = looped;
+          deep = deep;
+          passing = None;
+        } }
     {
         Found {
             valid: false,
             count: 1,
             looped,
             deep,
+            passing: None,
         }
     }
 
@@ -48,6 +83,7 @@ impl Found {
           looped = self.looped
               || other.looped;
           deep = self.deep || other.deep;
+          passing = None;
         } }
     {
         Found {
@@ -55,6 +91,17 @@ impl Found {
             count: self.count + other.count,
             looped: self.looped || other.looped,
             deep: self.deep || other.deep,
+            passing: None,
+        }
+    }
+
+    /// Whether some schema passed that the keyword applied, where the keyword is there.
+    pub(crate) fn some_passed(self) -> Option<bool>
+        ensures { result ≡ option_map (λ n. nat_lt 0 n) self.passing }
+    {
+        match self.passing {
+            Some(passing) => Some(passing > 0),
+            None => None,
         }
     }
 }
@@ -128,6 +175,7 @@ impl Applied {
           looped = self.looped;
           deep =
               self.deep;
+          passing = Some self.passing;
         } }
     {
         Found {
@@ -135,25 +183,7 @@ impl Applied {
             count: self.count,
             looped: self.looped,
             deep: self.deep,
-        }
-    }
-}
-
-/// What the use of one keyword found; and how many schemas passed that it applied, where it is there.
-#[derive(Clone, Copy, Debug, PartialEq, Eq)]
-pub(crate) struct Used {
-    pub(crate) found: Found,
-    pub(crate) passing: Option<u64>,
-}
-
-impl Used {
-    /// Whether some schema passed that the keyword applied, where the keyword is there.
-    pub(crate) fn some_passed(self) -> Option<bool>
-        ensures { result ≡ option_map (λ n. nat_lt 0 n) self.passing }
-    {
-        match self.passing {
-            Some(passing) => Some(passing > 0),
-            None => None,
+            passing: Some(self.passing),
         }
     }
 }

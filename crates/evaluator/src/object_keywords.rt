@@ -5,7 +5,7 @@ ghost use Rattle.json_doc.specs.Docs.{value};
 
 use crate::applying::Evaluation;
 use crate::beside::Beside;
-use crate::found::{Applied, Found, Used};
+use crate::found::Found;
 use crate::groups::first_groups;
 use crate::here::Here;
 use crate::present::Present;
@@ -156,10 +156,7 @@ impl<'a> Evaluation<'a> {
             condition: None,
             containing: None,
         };
-        match self.use_named(keyword, here, beside, room) {
-            Ok(used) => Ok(used.found),
-            Err(fault) => Err(fault),
-        }
+        self.use_named(keyword, here, beside, room)
     }
 
     /// `if`, and then `then` and `else` (Core, 10.2.2).
@@ -195,10 +192,10 @@ impl<'a> Evaluation<'a> {
                     beside,
                     Room {
                         nesting: room.nesting,
-                        applications: room.applications - used.found.count,
+                        applications: room.applications - used.count,
                     },
                 ) {
-                    Ok(found) => Ok(used.found.and(found)),
+                    Ok(found) => Ok(used.and(found)),
                     Err(fault) => Err(fault),
                 }
             }
@@ -239,10 +236,10 @@ impl<'a> Evaluation<'a> {
                     beside,
                     Room {
                         nesting: room.nesting,
-                        applications: room.applications - used.found.count,
+                        applications: room.applications - used.count,
                     },
                 ) {
-                    Ok(found) => Ok(used.found.and(found)),
+                    Ok(found) => Ok(used.and(found)),
                     Err(fault) => Err(fault),
                 }
             }
@@ -289,10 +286,10 @@ impl<'a> Evaluation<'a> {
                 beside,
                 Room {
                     nesting: room.nesting,
-                    applications: room.applications - used.found.count,
+                    applications: room.applications - used.count,
                 },
             ) {
-                Ok(last) => Ok(used.found.and(last.found)),
+                Ok(last) => Ok(used.and(last)),
                 Err(fault) => Err(fault),
             },
             Err(fault) => Err(fault),
@@ -307,10 +304,10 @@ impl<'a> Evaluation<'a> {
         here: Here<'a>,
         beside: Beside,
         room: Room,
-    ) -> Result<Used, Fault>
+    ) -> Result<Found, Fault>
         ensures linked { self.new.linked ≡ self.old.linked }
         ensures back { OnOk result (context_view self.new.context ≡ context_view self.old.context) }
-        ensures within { IfOk result (λ u. u.found.count ≤ room.applications) }
+        ensures within { IfOk result (λ u. u.count ≤ room.applications) }
         ensures found { (a : Application) → IsHere self.old here.entry a
             → Knows self.old.linked.now room.nesting a (row_of keyword).meaning beside
             → IfOk result (λ u. FindsUse u room.applications
@@ -329,10 +326,7 @@ impl<'a> Evaluation<'a> {
     {
         match here.schema.get(keyword.name()) {
             Some(keyword_value) => self.use_keyword(keyword, keyword_value, here, beside, room),
-            None => Ok(Used {
-                found: Applied::none().under(true),
-                passing: None,
-            }),
+            None => Ok(Found::nothing()),
         }
     }
 }

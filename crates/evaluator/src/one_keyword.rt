@@ -6,7 +6,7 @@ ghost use Rattle.evaluator.specs.Rounds.{chosen_value};
 
 use crate::applying::Evaluation;
 use crate::beside::Beside;
-use crate::found::{Applied, Found, Used};
+use crate::found::{Applied, Found};
 use crate::here::Here;
 use crate::log::LogMark;
 use crate::room::Room;
@@ -42,10 +42,10 @@ impl<'a> Evaluation<'a> {
         here: Here<'a>,
         beside: Beside,
         room: Room,
-    ) -> Result<Used, Fault>
+    ) -> Result<Found, Fault>
         ensures linked { self.new.linked ≡ self.old.linked }
         ensures back { OnOk result (context_view self.new.context ≡ context_view self.old.context) }
-        ensures within { IfOk result (λ u. u.found.count ≤ room.applications) }
+        ensures within { IfOk result (λ u. u.count ≤ room.applications) }
         ensures found { (a : Application) → IsHere self.old here.entry a
             → Knows self.old.linked.now room.nesting a (row_of keyword).meaning beside
             → get (row_of keyword).name a.schema.value ≡ Some (value keyword_value.now)
@@ -137,12 +137,12 @@ impl<'a> Evaluation<'a> {
         beside: Beside,
         mark: &LogMark,
         applied: Applied,
-    ) -> Result<Used, Fault>
+    ) -> Result<Found, Fault>
         ensures linked { self.new.linked ≡ self.old.linked }
         ensures back { (older : Frame)
             → context_view self.old.context ≡ keyword_frame (row_of keyword).name older
             → OnOk result (context_view self.new.context ≡ older) }
-        ensures count { IfOk result (λ r. r.found.count ≡ applied.count) }
+        ensures count { IfOk result (λ r. r.count ≡ applied.count) }
         ensures found { (a : Application) (left budget : ℕ) (names : List Text) (indexes : List ℕ)
             → IsAtKeyword self.old.linked.now left (context_view self.old.context)
             (value here.entry.schema.now) (subject_value here.entry.subject) keyword
@@ -175,10 +175,7 @@ impl<'a> Evaluation<'a> {
             passes,
         )?;
         self.context.leave_keyword();
-        Ok(Used {
-            found: applied.under(passes),
-            passing: Some(applied.passing),
-        })
+        Ok(applied.under(passes))
     }
 
     /// Whether the keyword passes, under which the evaluation stands. The only error is want of memory.

@@ -90,14 +90,14 @@ use_counted-returns-in-Err-use_two-clause-err = object_keywords.use_counted-retu
 pub use_counted-returns-in-Err-clause-err : goal.use_counted-returns-in-Err-clause-err
 use_counted-returns-in-Err-clause-err = object_keywords.use_counted-returns-in-Err-clause-err
 
-pub use_one-returns-in-Ok-clause-found : goal.use_one-returns-in-Ok-clause-found
-use_one-returns-in-Ok-clause-found = object_keywords.use_one-returns-in-Ok-clause-found
+pub use_one-returns-clause-found : goal.use_one-returns-clause-found
+use_one-returns-clause-found = object_keywords.use_one-returns-clause-found
 
-pub use_one-returns-in-Ok-clause-noted : goal.use_one-returns-in-Ok-clause-noted
-use_one-returns-in-Ok-clause-noted = object_keywords.use_one-returns-in-Ok-clause-noted
+pub use_one-returns-clause-noted : goal.use_one-returns-clause-noted
+use_one-returns-clause-noted = object_keywords.use_one-returns-clause-noted
 
-pub use_one-returns-in-Err-clause-err : goal.use_one-returns-in-Err-clause-err
-use_one-returns-in-Err-clause-err = object_keywords.use_one-returns-in-Err-clause-err
+pub use_one-returns-clause-err : goal.use_one-returns-clause-err
+use_one-returns-clause-err = object_keywords.use_one-returns-clause-err
 
 pub use_two-returns-in-Ok-use_named-clause-noted : goal.use_two-returns-in-Ok-use_named-clause-noted
 use_two-returns-in-Ok-use_named-clause-noted = object_keywords.use_two-returns-in-Ok-use_named-clause-noted

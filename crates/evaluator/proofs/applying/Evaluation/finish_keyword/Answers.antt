@@ -20,8 +20,8 @@ returns-clause-noted c a left names indexes older at number passing m e =
 
 pub returns-clause-found : goal.returns-clause-found
 returns-clause-found c a left budget names indexes at finds =
-    use_found c.args.applied c.under.result _ budget (use_there c.args.self.now.linked.now left a c.args.keyword names indexes (value c.args.keyword_value.now))
-    c.in_ok-passes.passes finds (c.in_ok-passes.ensures.passes a left names indexes at finds.number finds.passing) c.under.ensures refl
+    use_found c.args.applied c.under.result budget (use_there c.args.self.now.linked.now left a c.args.keyword names indexes (value c.args.keyword_value.now))
+    c.in_ok-passes.passes finds (c.in_ok-passes.ensures.passes a left names indexes at finds.number finds.passing) c.under.ensures
 
 pub returns-clause-back : goal.returns-clause-back
 returns-clause-back c older e = c.leave_keyword.ensures older (row_of c.args.keyword).name (ap context_view c.in_ok-passes.ensures.back ∙ e)

@@ -1,5 +1,5 @@
 -- The keywords of a schema object, group by group.
-use Rattle.std.proofs.Common.{◌≡◌, ◌<◌, ◌∙◌, sym, ap, subst, ◌-◌, Bor, refl, arith, true, get_or, rules, false, None}
+use Rattle.std.proofs.Common.{◌≡◌, ◌<◌, ◌∙◌, sym, ap, subst, ◌-◌, Bor, refl, arith, true, get_or, rules, false, None, OnOk, IfErr}
 use Rattle.definitions.specs.Applied.{Application}
 use Rattle.json_doc.specs.Docs.{value}
 use Rattle.keyword_plans.specs.Subjects.{subject_value}
@@ -18,7 +18,9 @@ use Rattle.evaluator.specs.Groups.{stands_alone}
 use Rattle.keywords.specs.declared.group.Group.TheVariants.{One}
 use Rattle.evaluator.proofs.LogLaws.{added_nothing}
 use Rattle.evaluator.proofs.PresentLaws.{groups_alone, marked_there, unused_at}
-use Rattle.evaluator.proofs.UseLaws.{all_at, all_alone, flat_same, found_within, group_more, group_noted, group_over, two_found, first_over, second_over, two_noted}
+use Rattle.std.proofs.lemmas.Result.{IfOk-weaker}
+use Rattle.evaluator.specs.Applying.{IsCostly}
+use Rattle.evaluator.proofs.UseLaws.{all_at, all_alone, flat_same, found_within, group_more, group_noted, group_over, two_found, first_over, second_over, still_at, two_noted}
 use Rattle.definitions.specs.Keywords.{condition, contains, min_contains, max_contains}
 use Rattle.evaluator.proofs.BesideLaws.{conditional_uses, knows_nothing, knows_condition, counted_uses, knows_containing}
 use Rattle.evaluator.proofs.AloneLaws.{alone_knows, alone_uses}
@@ -29,13 +31,10 @@ use Rattle.evaluator.proofs.applying.Evaluation.+apply.Goals as goal
 pub use_keywords-returns-in-Ok-use_two-clause-found : goal.use_keywords-returns-in-Ok-use_two-clause-found
 use_keywords-returns-in-Ok-use_two-clause-found t c a at =
     let l = c.args.self.now.linked in
-    let s = value c.args.here.schema.now in
-    let x = subject_value c.args.here.subject in
     let n = log_view c.args.self.now.log in
     let mid = log_view c.use_groups.new.self.log in
     let m = c.use_groups.new.self.linked.now in
-    let here : IsAt l.now (context_view c.use_groups.new.self.context) s x a = subst (λ (f : Frame). IsAt l.now f s x a) (sym c.in-Ok.ensures.back) at in
-    let there : IsAt m (context_view c.use_groups.new.self.context) s x a = subst (λ (k : Bor Linked). IsAt k.now (context_view c.use_groups.new.self.context) s x a) (sym c.in-Ok.ensures.linked) here in
+    let there = still_at c.in-Ok.ensures.linked c.in-Ok.ensures.back at in
     keywords_found l.now c.args.room.nesting a c.args.here.before n mid c.in-Ok.found c.in-Ok-use_two.last c.and.result c.args.room.applications c.requires.before
     (c.in-Ok.ensures.noted a at) (c.in-Ok.ensures.found a at)
     (subst (λ (k : Bor Linked). FindsUses c.in-Ok-use_two.last (c.args.room.applications - c.in-Ok.found.count) (two_uses k.now c.args.room.nesting a UnevaluatedItems UnevaluatedProperties c.args.here.before mid)) c.in-Ok.ensures.linked
@@ -44,13 +43,10 @@ use_keywords-returns-in-Ok-use_two-clause-found t c a at =
 pub use_keywords-returns-in-Ok-use_two-clause-noted : goal.use_keywords-returns-in-Ok-use_two-clause-noted
 use_keywords-returns-in-Ok-use_two-clause-noted t c a at =
     let l = c.args.self.now.linked in
-    let s = value c.args.here.schema.now in
-    let x = subject_value c.args.here.subject in
     let n = log_view c.args.self.now.log in
     let mid = log_view c.use_groups.new.self.log in
     let m = c.use_groups.new.self.linked.now in
-    let here : IsAt l.now (context_view c.use_groups.new.self.context) s x a = subst (λ (f : Frame). IsAt l.now f s x a) (sym c.in-Ok.ensures.back) at in
-    let there : IsAt m (context_view c.use_groups.new.self.context) s x a = subst (λ (k : Bor Linked). IsAt k.now (context_view c.use_groups.new.self.context) s x a) (sym c.in-Ok.ensures.linked) here in
+    let there = still_at c.in-Ok.ensures.linked c.in-Ok.ensures.back at in
     keywords_noted l.now c.args.room.nesting a c.args.here.before n mid (log_view c.use_two.new.self.log) c.requires.before (c.in-Ok.ensures.noted a at)
     (subst (λ (k : Bor Linked). log_view c.use_two.new.self.log ≡ notes_of_both mid (uses_notes a (two_uses k.now c.args.room.nesting a UnevaluatedItems UnevaluatedProperties c.args.here.before mid))) c.in-Ok.ensures.linked
     (c.in-Ok-use_two.ensures.noted a there (items_know m c.args.room.nesting a _) (properties_know m c.args.room.nesting a _)))
@@ -58,13 +54,10 @@ use_keywords-returns-in-Ok-use_two-clause-noted t c a at =
 pub use_keywords-returns-in-Err-use_two-clause-err : goal.use_keywords-returns-in-Err-use_two-clause-err
 use_keywords-returns-in-Err-use_two-clause-err t c a at other =
     let l = c.args.self.now.linked in
-    let s = value c.args.here.schema.now in
-    let x = subject_value c.args.here.subject in
     let n = log_view c.args.self.now.log in
     let mid = log_view c.use_groups.new.self.log in
     let m = c.use_groups.new.self.linked.now in
-    let here : IsAt l.now (context_view c.use_groups.new.self.context) s x a = subst (λ (f : Frame). IsAt l.now f s x a) (sym c.in-Ok.ensures.back) at in
-    let there : IsAt m (context_view c.use_groups.new.self.context) s x a = subst (λ (k : Bor Linked). IsAt k.now (context_view c.use_groups.new.self.context) s x a) (sym c.in-Ok.ensures.linked) here in
+    let there = still_at c.in-Ok.ensures.linked c.in-Ok.ensures.back at in
     let fault = c.in-Err-use_two.ensures.err a there (items_know m c.args.room.nesting a _) (properties_know m c.args.room.nesting a _) other in (
       fault.0,
       last_over l.now c.args.room.nesting a c.args.here.before n mid c.in-Ok.found c.args.room.applications c.requires.before (c.in-Ok.ensures.noted a at) (c.in-Ok.ensures.found a at)
@@ -110,10 +103,7 @@ use_groups-returns-in-Err-clause-err t c a at other =
     let same = c.loop-group.invariant.linked in
     let items = c.first_groups-group-items.result.now in
     let i = c.loop-group.group-index in
-    let here : IsAt c.args.self.now.linked.now (context_view c.loop-group.self.context) (value c.args.here.schema.now) (subject_value c.args.here.subject) a =
-    subst (λ (f : Frame). IsAt c.args.self.now.linked.now f (value c.args.here.schema.now) (subject_value c.args.here.subject) a) (sym c.loop-group.invariant.back) at in
-    let there : IsAt c.loop-group.self.linked.now (context_view c.loop-group.self.context) (value c.args.here.schema.now) (subject_value c.args.here.subject) a =
-    subst (λ (l : Bor Linked). IsAt l.now (context_view c.loop-group.self.context) (value c.args.here.schema.now) (subject_value c.args.here.subject) a) (sym same) here in
+    let there = still_at same c.loop-group.invariant.back at in
     let fault = c.in-Err.ensures.err a there other in (
       fault.0,
       rw (← c.first_groups-group-items.ensures)
@@ -151,20 +141,14 @@ use_groups-loop-group-preserved t c =
       within = rw c.and-found.ensures (found_within c.loop-group.found c.in-Ok.used c.args.room.applications c.loop-group.invariant.within c.in-Ok.ensures.within);
       found =
           λ a at.
-          let here : IsAt c.args.self.now.linked.now (context_view c.loop-group.self.context) (value c.args.here.schema.now) (subject_value c.args.here.subject) a =
-          subst (λ (f : Frame). IsAt c.args.self.now.linked.now f (value c.args.here.schema.now) (subject_value c.args.here.subject) a) (sym c.loop-group.invariant.back) at in
-          let there : IsAt c.loop-group.self.linked.now (context_view c.loop-group.self.context) (value c.args.here.schema.now) (subject_value c.args.here.subject) a =
-          subst (λ (l : Bor Linked). IsAt l.now (context_view c.loop-group.self.context) (value c.args.here.schema.now) (subject_value c.args.here.subject) a) (sym same) here in
+          let there = still_at same c.loop-group.invariant.back at in
           group_more c.loop-group.found c.in-Ok.used c.and-found.result c.args.room.applications (group_uses c.args.self.now.linked.now c.args.room.nesting a) items i (One Ref) c.loop-group-test.true
           (c.loop-group.invariant.found a at)
           (subst (λ (l : Bor Linked). FindsUses c.in-Ok.used (c.args.room.applications - c.loop-group.found.count) (group_uses l.now c.args.room.nesting a (get_or items i (One Ref)))) same (c.in-Ok.ensures.found a there))
           c.and-found.ensures;
       noted =
           λ a at.
-          let here : IsAt c.args.self.now.linked.now (context_view c.loop-group.self.context) (value c.args.here.schema.now) (subject_value c.args.here.subject) a =
-          subst (λ (f : Frame). IsAt c.args.self.now.linked.now f (value c.args.here.schema.now) (subject_value c.args.here.subject) a) (sym c.loop-group.invariant.back) at in
-          let there : IsAt c.loop-group.self.linked.now (context_view c.loop-group.self.context) (value c.args.here.schema.now) (subject_value c.args.here.subject) a =
-          subst (λ (l : Bor Linked). IsAt l.now (context_view c.loop-group.self.context) (value c.args.here.schema.now) (subject_value c.args.here.subject) a) (sym same) here in
+          let there = still_at same c.loop-group.invariant.back at in
           group_noted a (log_view c.args.self.now.log) (log_view c.loop-group.self.log) (log_view c.use_group.new.self.log) (group_uses c.args.self.now.linked.now c.args.room.nesting a) items i (One Ref)
           c.loop-group-test.true (c.loop-group.invariant.noted a at)
           (subst (λ (l : Bor Linked). log_view c.use_group.new.self.log ≡ notes_of_both (log_view c.loop-group.self.log) (uses_notes a (group_uses l.now c.args.room.nesting a (get_or items i (One Ref))))) same
@@ -196,32 +180,26 @@ use_group-returns-in-Counted-clause-err t c a at = rw c.in-Counted.is (c.use_cou
 pub use_conditional-returns-in-Ok-use_two-clause-found : goal.use_conditional-returns-in-Ok-use_two-clause-found
 use_conditional-returns-in-Ok-use_two-clause-found t c a at =
     let l = c.args.self.now.linked in
-    let s = value c.args.here.schema.now in
-    let x = subject_value c.args.here.subject in
     let n = log_view c.args.self.now.log in
     let mid = log_view c.use_named.new.self.log in
     let us = uses_since l.now c.args.room.nesting a If c.args.here.before n in
     let vs = two_uses l.now c.args.room.nesting a Then Else c.args.here.before mid in
-    let here : IsAt l.now (context_view c.use_named.new.self.context) s x a = subst (λ (f : Frame). IsAt l.now f s x a) (sym c.in-Ok.ensures.back) at in
-    let there : IsAt c.use_named.new.self.linked.now (context_view c.use_named.new.self.context) s x a = subst (λ (m : Bor Linked). IsAt m.now (context_view c.use_named.new.self.context) s x a) (sym c.in-Ok.ensures.linked) here in
+    let there = still_at c.in-Ok.ensures.linked c.in-Ok.ensures.back at in
     let told = c.in-Ok.ensures.found a at (knows_nothing l.now c.args.room.nesting a condition _ refl refl) in
     let found = subst (λ (m : Bor Linked). FindsUse c.in-Ok.used c.args.room.applications (uses_since m.now c.args.room.nesting a If c.args.here.before n)) (sym c.in-Ok.ensures.linked) told in
     subst (FindsUses c.and.result c.args.room.applications) (conditional_uses l.now c.args.room.nesting a c.args.here.before n mid)
-    (two_found c.in-Ok.used.found c.in-Ok-use_two.found c.and.result c.args.room.applications us vs told.found
-    (subst (λ (m : Bor Linked). FindsUses c.in-Ok-use_two.found (c.args.room.applications - c.in-Ok.used.found.count) (two_uses m.now c.args.room.nesting a Then Else c.args.here.before mid)) c.in-Ok.ensures.linked
+    (two_found c.in-Ok.used c.in-Ok-use_two.found c.and.result c.args.room.applications us vs told.found
+    (subst (λ (m : Bor Linked). FindsUses c.in-Ok-use_two.found (c.args.room.applications - c.in-Ok.used.count) (two_uses m.now c.args.room.nesting a Then Else c.args.here.before mid)) c.in-Ok.ensures.linked
     (c.in-Ok-use_two.ensures.found a there (knows_condition c.use_named.new.self.linked.now c.args.room.nesting c.args.room.applications a c.in-Ok.used true c.args.here.before n _ found c.some_passed.ensures) (knows_condition c.use_named.new.self.linked.now c.args.room.nesting c.args.room.applications a c.in-Ok.used false c.args.here.before n _ found c.some_passed.ensures))) c.and.ensures)
 
 pub use_conditional-returns-in-Ok-use_two-clause-noted : goal.use_conditional-returns-in-Ok-use_two-clause-noted
 use_conditional-returns-in-Ok-use_two-clause-noted t c a at =
     let l = c.args.self.now.linked in
-    let s = value c.args.here.schema.now in
-    let x = subject_value c.args.here.subject in
     let n = log_view c.args.self.now.log in
     let mid = log_view c.use_named.new.self.log in
     let us = uses_since l.now c.args.room.nesting a If c.args.here.before n in
     let vs = two_uses l.now c.args.room.nesting a Then Else c.args.here.before mid in
-    let here : IsAt l.now (context_view c.use_named.new.self.context) s x a = subst (λ (f : Frame). IsAt l.now f s x a) (sym c.in-Ok.ensures.back) at in
-    let there : IsAt c.use_named.new.self.linked.now (context_view c.use_named.new.self.context) s x a = subst (λ (m : Bor Linked). IsAt m.now (context_view c.use_named.new.self.context) s x a) (sym c.in-Ok.ensures.linked) here in
+    let there = still_at c.in-Ok.ensures.linked c.in-Ok.ensures.back at in
     let told = c.in-Ok.ensures.found a at (knows_nothing l.now c.args.room.nesting a condition _ refl refl) in
     let found = subst (λ (m : Bor Linked). FindsUse c.in-Ok.used c.args.room.applications (uses_since m.now c.args.room.nesting a If c.args.here.before n)) (sym c.in-Ok.ensures.linked) told in
     let new = log_view c.use_two.new.self.log in
@@ -233,21 +211,18 @@ use_conditional-returns-in-Ok-use_two-clause-noted t c a at =
 pub use_conditional-returns-in-Err-use_two-clause-err : goal.use_conditional-returns-in-Err-use_two-clause-err
 use_conditional-returns-in-Err-use_two-clause-err t c a at other =
     let l = c.args.self.now.linked in
-    let s = value c.args.here.schema.now in
-    let x = subject_value c.args.here.subject in
     let n = log_view c.args.self.now.log in
     let mid = log_view c.use_named.new.self.log in
     let us = uses_since l.now c.args.room.nesting a If c.args.here.before n in
     let vs = two_uses l.now c.args.room.nesting a Then Else c.args.here.before mid in
-    let here : IsAt l.now (context_view c.use_named.new.self.context) s x a = subst (λ (f : Frame). IsAt l.now f s x a) (sym c.in-Ok.ensures.back) at in
-    let there : IsAt c.use_named.new.self.linked.now (context_view c.use_named.new.self.context) s x a = subst (λ (m : Bor Linked). IsAt m.now (context_view c.use_named.new.self.context) s x a) (sym c.in-Ok.ensures.linked) here in
+    let there = still_at c.in-Ok.ensures.linked c.in-Ok.ensures.back at in
     let told = c.in-Ok.ensures.found a at (knows_nothing l.now c.args.room.nesting a condition _ refl refl) in
     let found = subst (λ (m : Bor Linked). FindsUse c.in-Ok.used c.args.room.applications (uses_since m.now c.args.room.nesting a If c.args.here.before n)) (sym c.in-Ok.ensures.linked) told in
     let fault = c.in-Err-use_two.ensures.err a there (knows_condition c.use_named.new.self.linked.now c.args.room.nesting c.args.room.applications a c.in-Ok.used true c.args.here.before n _ found c.some_passed.ensures) (knows_condition c.use_named.new.self.linked.now c.args.room.nesting c.args.room.applications a c.in-Ok.used false c.args.here.before n _ found c.some_passed.ensures) other in (
       fault.0,
       subst (λ ws. c.args.room.applications < use_count ws) (conditional_uses l.now c.args.room.nesting a c.args.here.before n mid)
-          (second_over c.in-Ok.used.found c.args.room.applications us vs told.found
-          (subst (λ (m : Bor Linked). c.args.room.applications - c.in-Ok.used.found.count < use_count (two_uses m.now c.args.room.nesting a Then Else c.args.here.before mid)) c.in-Ok.ensures.linked fault.1)),
+          (second_over c.in-Ok.used c.args.room.applications us vs told.found
+          (subst (λ (m : Bor Linked). c.args.room.applications - c.in-Ok.used.count < use_count (two_uses m.now c.args.room.nesting a Then Else c.args.here.before mid)) c.in-Ok.ensures.linked fault.1)),
     )
 
 pub use_conditional-returns-in-Err-clause-err : goal.use_conditional-returns-in-Err-clause-err
@@ -264,32 +239,26 @@ use_conditional-returns-in-Err-clause-err t c a at other =
 pub use_counted-returns-in-Ok-use_two-clause-found : goal.use_counted-returns-in-Ok-use_two-clause-found
 use_counted-returns-in-Ok-use_two-clause-found t c a at =
     let l = c.args.self.now.linked in
-    let s = value c.args.here.schema.now in
-    let x = subject_value c.args.here.subject in
     let n = log_view c.args.self.now.log in
     let mid = log_view c.use_named.new.self.log in
     let us = uses_since l.now c.args.room.nesting a Contains c.args.here.before n in
     let vs = two_uses l.now c.args.room.nesting a MinContains MaxContains c.args.here.before mid in
-    let here : IsAt l.now (context_view c.use_named.new.self.context) s x a = subst (λ (f : Frame). IsAt l.now f s x a) (sym c.in-Ok.ensures.back) at in
-    let there : IsAt c.use_named.new.self.linked.now (context_view c.use_named.new.self.context) s x a = subst (λ (m : Bor Linked). IsAt m.now (context_view c.use_named.new.self.context) s x a) (sym c.in-Ok.ensures.linked) here in
+    let there = still_at c.in-Ok.ensures.linked c.in-Ok.ensures.back at in
     let told = c.in-Ok.ensures.found a at (knows_nothing l.now c.args.room.nesting a contains _ refl refl) in
     let found = subst (λ (m : Bor Linked). FindsUse c.in-Ok.used c.args.room.applications (uses_since m.now c.args.room.nesting a Contains c.args.here.before n)) (sym c.in-Ok.ensures.linked) told in
     subst (FindsUses c.and.result c.args.room.applications) (counted_uses l.now c.args.room.nesting a c.args.here.before n mid)
-    (two_found c.in-Ok.used.found c.in-Ok-use_two.found c.and.result c.args.room.applications us vs told.found
-    (subst (λ (m : Bor Linked). FindsUses c.in-Ok-use_two.found (c.args.room.applications - c.in-Ok.used.found.count) (two_uses m.now c.args.room.nesting a MinContains MaxContains c.args.here.before mid)) c.in-Ok.ensures.linked
+    (two_found c.in-Ok.used c.in-Ok-use_two.found c.and.result c.args.room.applications us vs told.found
+    (subst (λ (m : Bor Linked). FindsUses c.in-Ok-use_two.found (c.args.room.applications - c.in-Ok.used.count) (two_uses m.now c.args.room.nesting a MinContains MaxContains c.args.here.before mid)) c.in-Ok.ensures.linked
     (c.in-Ok-use_two.ensures.found a there (knows_containing c.use_named.new.self.linked.now c.args.room.nesting c.args.room.applications a c.in-Ok.used min_contains c.args.here.before n _ found refl refl) (knows_containing c.use_named.new.self.linked.now c.args.room.nesting c.args.room.applications a c.in-Ok.used max_contains c.args.here.before n _ found refl refl))) c.and.ensures)
 
 pub use_counted-returns-in-Ok-use_two-clause-noted : goal.use_counted-returns-in-Ok-use_two-clause-noted
 use_counted-returns-in-Ok-use_two-clause-noted t c a at =
     let l = c.args.self.now.linked in
-    let s = value c.args.here.schema.now in
-    let x = subject_value c.args.here.subject in
     let n = log_view c.args.self.now.log in
     let mid = log_view c.use_named.new.self.log in
     let us = uses_since l.now c.args.room.nesting a Contains c.args.here.before n in
     let vs = two_uses l.now c.args.room.nesting a MinContains MaxContains c.args.here.before mid in
-    let here : IsAt l.now (context_view c.use_named.new.self.context) s x a = subst (λ (f : Frame). IsAt l.now f s x a) (sym c.in-Ok.ensures.back) at in
-    let there : IsAt c.use_named.new.self.linked.now (context_view c.use_named.new.self.context) s x a = subst (λ (m : Bor Linked). IsAt m.now (context_view c.use_named.new.self.context) s x a) (sym c.in-Ok.ensures.linked) here in
+    let there = still_at c.in-Ok.ensures.linked c.in-Ok.ensures.back at in
     let told = c.in-Ok.ensures.found a at (knows_nothing l.now c.args.room.nesting a contains _ refl refl) in
     let found = subst (λ (m : Bor Linked). FindsUse c.in-Ok.used c.args.room.applications (uses_since m.now c.args.room.nesting a Contains c.args.here.before n)) (sym c.in-Ok.ensures.linked) told in
     let new = log_view c.use_two.new.self.log in
@@ -301,21 +270,18 @@ use_counted-returns-in-Ok-use_two-clause-noted t c a at =
 pub use_counted-returns-in-Err-use_two-clause-err : goal.use_counted-returns-in-Err-use_two-clause-err
 use_counted-returns-in-Err-use_two-clause-err t c a at other =
     let l = c.args.self.now.linked in
-    let s = value c.args.here.schema.now in
-    let x = subject_value c.args.here.subject in
     let n = log_view c.args.self.now.log in
     let mid = log_view c.use_named.new.self.log in
     let us = uses_since l.now c.args.room.nesting a Contains c.args.here.before n in
     let vs = two_uses l.now c.args.room.nesting a MinContains MaxContains c.args.here.before mid in
-    let here : IsAt l.now (context_view c.use_named.new.self.context) s x a = subst (λ (f : Frame). IsAt l.now f s x a) (sym c.in-Ok.ensures.back) at in
-    let there : IsAt c.use_named.new.self.linked.now (context_view c.use_named.new.self.context) s x a = subst (λ (m : Bor Linked). IsAt m.now (context_view c.use_named.new.self.context) s x a) (sym c.in-Ok.ensures.linked) here in
+    let there = still_at c.in-Ok.ensures.linked c.in-Ok.ensures.back at in
     let told = c.in-Ok.ensures.found a at (knows_nothing l.now c.args.room.nesting a contains _ refl refl) in
     let found = subst (λ (m : Bor Linked). FindsUse c.in-Ok.used c.args.room.applications (uses_since m.now c.args.room.nesting a Contains c.args.here.before n)) (sym c.in-Ok.ensures.linked) told in
     let fault = c.in-Err-use_two.ensures.err a there (knows_containing c.use_named.new.self.linked.now c.args.room.nesting c.args.room.applications a c.in-Ok.used min_contains c.args.here.before n _ found refl refl) (knows_containing c.use_named.new.self.linked.now c.args.room.nesting c.args.room.applications a c.in-Ok.used max_contains c.args.here.before n _ found refl refl) other in (
       fault.0,
       subst (λ ws. c.args.room.applications < use_count ws) (counted_uses l.now c.args.room.nesting a c.args.here.before n mid)
-          (second_over c.in-Ok.used.found c.args.room.applications us vs told.found
-          (subst (λ (m : Bor Linked). c.args.room.applications - c.in-Ok.used.found.count < use_count (two_uses m.now c.args.room.nesting a MinContains MaxContains c.args.here.before mid)) c.in-Ok.ensures.linked fault.1)),
+          (second_over c.in-Ok.used c.args.room.applications us vs told.found
+          (subst (λ (m : Bor Linked). c.args.room.applications - c.in-Ok.used.count < use_count (two_uses m.now c.args.room.nesting a MinContains MaxContains c.args.here.before mid)) c.in-Ok.ensures.linked fault.1)),
     )
 
 pub use_counted-returns-in-Err-clause-err : goal.use_counted-returns-in-Err-clause-err
@@ -329,38 +295,35 @@ use_counted-returns-in-Err-clause-err t c a at other =
       subst (λ ws. c.args.room.applications < use_count ws) (counted_uses l c.args.room.nesting a c.args.here.before n n) (first_over c.args.room.applications us vs fault.1),
     )
 
-pub use_one-returns-in-Ok-clause-found : goal.use_one-returns-in-Ok-clause-found
-use_one-returns-in-Ok-clause-found t c a at =
+pub use_one-returns-clause-found : goal.use_one-returns-clause-found
+use_one-returns-clause-found t c a at =
     let l = c.args.self.now.linked.now in
-    subst (FindsUses c.in-Ok.used.found c.args.room.applications) (alone_uses l c.args.room.nesting a c.args.keyword c.args.here.before (log_view c.args.self.now.log) c.requires.alone)
-    (c.in-Ok.ensures.found a at (alone_knows l c.args.room.nesting a c.args.keyword _ c.requires.alone)).found
+    IfOk-weaker c.use_named.result _ _
+    (λ f h. subst (FindsUses f c.args.room.applications) (alone_uses l c.args.room.nesting a c.args.keyword c.args.here.before (log_view c.args.self.now.log) c.requires.alone) h.found)
+    (c.use_named.ensures.found a at (alone_knows l c.args.room.nesting a c.args.keyword _ c.requires.alone))
 
-pub use_one-returns-in-Ok-clause-noted : goal.use_one-returns-in-Ok-clause-noted
-use_one-returns-in-Ok-clause-noted t c a at =
+pub use_one-returns-clause-noted : goal.use_one-returns-clause-noted
+use_one-returns-clause-noted t c a at =
     let l = c.args.self.now.linked.now in
-    subst (λ us. log_view c.use_named.new.self.log ≡ notes_of_both (log_view c.args.self.now.log) (uses_notes a us))
+    subst (λ us. OnOk c.use_named.result (log_view c.use_named.new.self.log ≡ notes_of_both (log_view c.args.self.now.log) (uses_notes a us)))
     (alone_uses l c.args.room.nesting a c.args.keyword c.args.here.before (log_view c.args.self.now.log) c.requires.alone)
-    (c.in-Ok.ensures.noted a at (alone_knows l c.args.room.nesting a c.args.keyword _ c.requires.alone))
+    (c.use_named.ensures.noted a at (alone_knows l c.args.room.nesting a c.args.keyword _ c.requires.alone))
 
-pub use_one-returns-in-Err-clause-err : goal.use_one-returns-in-Err-clause-err
-use_one-returns-in-Err-clause-err t c a at other =
+pub use_one-returns-clause-err : goal.use_one-returns-clause-err
+use_one-returns-clause-err t c a at =
     let l = c.args.self.now.linked.now in
-    let fault = c.in-Err.ensures.err a at (alone_knows l c.args.room.nesting a c.args.keyword _ c.requires.alone) other in (
-      fault.0,
-      subst (λ us. c.args.room.applications < use_count us) (alone_uses l c.args.room.nesting a c.args.keyword c.args.here.before (log_view c.args.self.now.log) c.requires.alone) fault.1,
-    )
+    subst (λ us. IfErr c.use_named.result (λ f. IsCostly f c.args.room.applications (use_count us)))
+    (alone_uses l c.args.room.nesting a c.args.keyword c.args.here.before (log_view c.args.self.now.log) c.requires.alone)
+    (c.use_named.ensures.err a at (alone_knows l c.args.room.nesting a c.args.keyword _ c.requires.alone))
 
 pub use_two-returns-in-Ok-use_named-clause-noted : goal.use_two-returns-in-Ok-use_named-clause-noted
 use_two-returns-in-Ok-use_named-clause-noted t c a at knows knows_second =
     let l = c.args.self.now.linked in
-    let s = value c.args.here.schema.now in
-    let x = subject_value c.args.here.subject in
     let k = (row_of c.args.second).meaning in
     let n = log_view c.args.self.now.log in
     let mid = log_view c.use_named.new.self.log in
     let us = uses_since l.now c.args.room.nesting a c.args.first c.args.here.before n in
-    let here : IsAt l.now (context_view c.use_named.new.self.context) s x a = subst (λ (f : Frame). IsAt l.now f s x a) (sym c.in-Ok.ensures.back) at in
-    let there : IsAt c.use_named.new.self.linked.now (context_view c.use_named.new.self.context) s x a = subst (λ (m : Bor Linked). IsAt m.now (context_view c.use_named.new.self.context) s x a) (sym c.in-Ok.ensures.linked) here in
+    let there = still_at c.in-Ok.ensures.linked c.in-Ok.ensures.back at in
     let known : Knows c.use_named.new.self.linked.now c.args.room.nesting a k c.args.beside = subst (λ (m : Bor Linked). Knows m.now c.args.room.nesting a k c.args.beside) (sym c.in-Ok.ensures.linked) knows_second in
     two_noted a n mid (log_view c.use_named-in-Ok.new.self.log) us (λ m. uses_since l.now c.args.room.nesting a c.args.second c.args.here.before m) (c.in-Ok.ensures.noted a at knows)
     (subst (λ (m : Bor Linked). log_view c.use_named-in-Ok.new.self.log ≡ notes_of_both mid (uses_notes a (uses_since m.now c.args.room.nesting a c.args.second c.args.here.before mid))) c.in-Ok.ensures.linked
@@ -369,38 +332,32 @@ use_two-returns-in-Ok-use_named-clause-noted t c a at knows knows_second =
 pub use_two-returns-in-Ok-use_named-clause-found : goal.use_two-returns-in-Ok-use_named-clause-found
 use_two-returns-in-Ok-use_named-clause-found t c a at knows knows_second =
     let l = c.args.self.now.linked in
-    let s = value c.args.here.schema.now in
-    let x = subject_value c.args.here.subject in
     let k = (row_of c.args.second).meaning in
     let n = log_view c.args.self.now.log in
     let mid = log_view c.use_named.new.self.log in
     let us = uses_since l.now c.args.room.nesting a c.args.first c.args.here.before n in
-    let here : IsAt l.now (context_view c.use_named.new.self.context) s x a = subst (λ (f : Frame). IsAt l.now f s x a) (sym c.in-Ok.ensures.back) at in
-    let there : IsAt c.use_named.new.self.linked.now (context_view c.use_named.new.self.context) s x a = subst (λ (m : Bor Linked). IsAt m.now (context_view c.use_named.new.self.context) s x a) (sym c.in-Ok.ensures.linked) here in
+    let there = still_at c.in-Ok.ensures.linked c.in-Ok.ensures.back at in
     let known : Knows c.use_named.new.self.linked.now c.args.room.nesting a k c.args.beside = subst (λ (m : Bor Linked). Knows m.now c.args.room.nesting a k c.args.beside) (sym c.in-Ok.ensures.linked) knows_second in
-    two_found c.in-Ok.used.found c.in-Ok-use_named.last.found c.and.result c.args.room.applications us (uses_since l.now c.args.room.nesting a c.args.second c.args.here.before (notes_of_both n (uses_notes a us)))
+    two_found c.in-Ok.used c.in-Ok-use_named.last c.and.result c.args.room.applications us (uses_since l.now c.args.room.nesting a c.args.second c.args.here.before (notes_of_both n (uses_notes a us)))
     (c.in-Ok.ensures.found a at knows).found
-    (subst (λ (m : Notes). FindsUses c.in-Ok-use_named.last.found (c.args.room.applications - c.in-Ok.used.found.count) (uses_since l.now c.args.room.nesting a c.args.second c.args.here.before m)) (c.in-Ok.ensures.noted a at knows)
-    (subst (λ (m : Bor Linked). FindsUses c.in-Ok-use_named.last.found (c.args.room.applications - c.in-Ok.used.found.count) (uses_since m.now c.args.room.nesting a c.args.second c.args.here.before mid)) c.in-Ok.ensures.linked
+    (subst (λ (m : Notes). FindsUses c.in-Ok-use_named.last (c.args.room.applications - c.in-Ok.used.count) (uses_since l.now c.args.room.nesting a c.args.second c.args.here.before m)) (c.in-Ok.ensures.noted a at knows)
+    (subst (λ (m : Bor Linked). FindsUses c.in-Ok-use_named.last (c.args.room.applications - c.in-Ok.used.count) (uses_since m.now c.args.room.nesting a c.args.second c.args.here.before mid)) c.in-Ok.ensures.linked
     (c.in-Ok-use_named.ensures.found a there known).found)) c.and.ensures
 
 pub use_two-returns-in-Err-use_named-clause-err : goal.use_two-returns-in-Err-use_named-clause-err
 use_two-returns-in-Err-use_named-clause-err t c a at knows knows_second other =
     let l = c.args.self.now.linked in
-    let s = value c.args.here.schema.now in
-    let x = subject_value c.args.here.subject in
     let k = (row_of c.args.second).meaning in
     let n = log_view c.args.self.now.log in
     let mid = log_view c.use_named.new.self.log in
     let us = uses_since l.now c.args.room.nesting a c.args.first c.args.here.before n in
-    let here : IsAt l.now (context_view c.use_named.new.self.context) s x a = subst (λ (f : Frame). IsAt l.now f s x a) (sym c.in-Ok.ensures.back) at in
-    let there : IsAt c.use_named.new.self.linked.now (context_view c.use_named.new.self.context) s x a = subst (λ (m : Bor Linked). IsAt m.now (context_view c.use_named.new.self.context) s x a) (sym c.in-Ok.ensures.linked) here in
+    let there = still_at c.in-Ok.ensures.linked c.in-Ok.ensures.back at in
     let known : Knows c.use_named.new.self.linked.now c.args.room.nesting a k c.args.beside = subst (λ (m : Bor Linked). Knows m.now c.args.room.nesting a k c.args.beside) (sym c.in-Ok.ensures.linked) knows_second in
     let fault = c.in-Err-use_named.ensures.err a there known other in (
       fault.0,
-      second_over c.in-Ok.used.found c.args.room.applications us (uses_since l.now c.args.room.nesting a c.args.second c.args.here.before (notes_of_both n (uses_notes a us))) (c.in-Ok.ensures.found a at knows).found
-          (subst (λ (m : Notes). c.args.room.applications - c.in-Ok.used.found.count < use_count (uses_since l.now c.args.room.nesting a c.args.second c.args.here.before m)) (c.in-Ok.ensures.noted a at knows)
-          (subst (λ (m : Bor Linked). c.args.room.applications - c.in-Ok.used.found.count < use_count (uses_since m.now c.args.room.nesting a c.args.second c.args.here.before mid)) c.in-Ok.ensures.linked fault.1)),
+      second_over c.in-Ok.used c.args.room.applications us (uses_since l.now c.args.room.nesting a c.args.second c.args.here.before (notes_of_both n (uses_notes a us))) (c.in-Ok.ensures.found a at knows).found
+          (subst (λ (m : Notes). c.args.room.applications - c.in-Ok.used.count < use_count (uses_since l.now c.args.room.nesting a c.args.second c.args.here.before m)) (c.in-Ok.ensures.noted a at knows)
+          (subst (λ (m : Bor Linked). c.args.room.applications - c.in-Ok.used.count < use_count (uses_since m.now c.args.room.nesting a c.args.second c.args.here.before mid)) c.in-Ok.ensures.linked fault.1)),
     )
 
 pub use_two-returns-in-Err-clause-err : goal.use_two-returns-in-Err-clause-err

@@ -28,11 +28,16 @@ IsOpened (Some c) result now = (result ≡ Err IdInUse) × (now ≡ Some c)
 IsOpened None (Ok _) now = now ≡ Some (holding [])
 IsOpened None (Err f) now = (f ≡ NoRoom) × (now ≡ None)
 
--- a piece goes to the connection; want of memory closes it
-abbrev pub IsFed : {S : Type 0} → Answers S → Option Connection → Text → S → Result (Vec ℕ Global) Fault → Option Connection → S → Type 0
-IsFed answers None piece s result now t = (result ≡ Err NoSession) × (now ≡ None) × (t ≡ s)
-IsFed answers (Some c) piece s (Ok out) now t = (d : Connection) × (now ≡ Some d) × Feeds answers c piece s out.items d t
-IsFed answers (Some c) piece s (Err f) now t = (f ≡ NoRoom) × (now ≡ Some closed) × FeedsSome answers c piece s t
+-- a piece goes to the connection, and these bytes are to be sent; want of memory closes it
+abbrev pub IsFed : {S : Type 0} → Answers S → Option Connection → Text → S → Result (Unit {0}) Fault → Text → Option Connection → S → Type 0
+IsFed answers None piece s result out now t = (result ≡ Err NoSession) × (now ≡ None) × (t ≡ s)
+IsFed answers (Some c) piece s (Ok u) out now t = (d : Connection) × (now ≡ Some d) × Feeds answers c piece s out d t
+IsFed answers (Some c) piece s (Err f) out now t = (f ≡ NoRoom) × (now ≡ Some closed) × FeedsSome answers c piece s t
+
+-- .. and are answered
+abbrev pub IsAnswered : {S : Type 0} → Answers S → Option Connection → Text → S → Result (Vec ℕ Global) Fault → Option Connection → S → Type 0
+IsAnswered answers c piece s (Ok out) now t = IsFed answers c piece s (Ok tt) out.items now t
+IsAnswered answers c piece s (Err f) now t = IsFed answers c piece s (Err f) [] now t
 
 -- the stream ends, and the id is free
 abbrev pub IsEnded : Option Connection → Result (Vec ℕ Global) Fault → Option Connection → Type 0

@@ -1,5 +1,5 @@
 //! One connection.
-ghost use Rattle.std.specs.Prelude.{◌≡◌, ◌++◌, [], IfOk, IfErr, OnErr, string_bytes};
+ghost use Rattle.std.specs.Prelude.{◌≡◌, ◌++◌, [], IfOk, IfErr, OnOk, OnErr, string_bytes};
 ghost use Rattle.http_definitions.specs.Streams.{without_line_ends};
 ghost use Rattle.connections.specs.HeldBytes.{IsHeld-prop};
 ghost use Rattle.connections.specs.Phases.{IsHeld, IsOn};
@@ -112,34 +112,33 @@ impl Connection {
         }
     }
 
-    /// Takes a piece of the stream, and answers the bytes to be sent. The only error is want of memory,
-    /// [`Fault::NoRoom`]: the connection is closed then, and the first of the requests may be answered.
+    /// Takes a piece of the stream, and leaves the bytes to be sent in `out`, in place of what stood there. The only error
+    /// is want of memory, [`Fault::NoRoom`]: the connection is closed then, and the first of the requests may be answered.
     pub fn feed<H: Handler>(
         &mut self,
         alloc: Global,
         handler: &mut H,
         piece: &[u8],
-    ) -> Result<Vec<u8>, Fault>
-        ensures ok { IfOk result
-            (λ out. Feeds H.answers (connection_view self.old) piece.now handler.old
-            out.items (connection_view self.new) handler.new) }
+        out: &mut String,
+    ) -> Result<(), Fault>
+        ensures ok { OnOk result
+            (Feeds H.answers (connection_view self.old) piece.now handler.old
+            (string_bytes out.new) (connection_view self.new) handler.new) }
         ensures err { IfErr result (λ f. f ≡ Fault.NoRoom) }
         ensures closed { OnErr result (connection_view self.new ≡ closed) }
         ensures some { OnErr result
             (FeedsSome H.answers (connection_view self.old) piece.now handler.old handler.new) }
     {
+        out.clear();
         match mem::replace(self, Connection::Closed) {
-            Connection::Closed => Ok(Vec::new(alloc)),
-            Connection::Holding(held) => {
-                let mut out = String::new(alloc);
-                match held.fed(alloc, handler, &mut out, piece) {
-                    Err(fault) => Err(fault),
-                    Ok(fed) => {
-                        *self = fed;
-                        Ok(out.into_bytes())
-                    }
+            Connection::Closed => Ok(()),
+            Connection::Holding(held) => match held.fed(alloc, handler, out, piece) {
+                Err(fault) => Err(fault),
+                Ok(fed) => {
+                    *self = fed;
+                    Ok(())
                 }
-            }
+            },
         }
     }
 

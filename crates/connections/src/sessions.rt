@@ -1,5 +1,5 @@
 //! Connections by their ids.
-ghost use Rattle.std.specs.Prelude.{◌≡◌, ℕ, None};
+ghost use Rattle.std.specs.Prelude.{◌≡◌, ℕ, None, string_bytes};
 
 use crate::connection::Connection;
 use crate::handlers::Handler;
@@ -73,7 +73,7 @@ impl<H> Sessions<H> {
 }
 
 impl<H: Handler> Sessions<H> {
-    ghost use Rattle.connections.specs.Connected.{handler_of, connection_at, OthersStay, IsFed};
+    ghost use Rattle.connections.specs.Connected.{handler_of, connection_at, OthersStay, IsAnswered, IsFed};
 
     /// Takes a piece of a connection's stream and answers the bytes to be sent. The errors are [`Fault::NoSession`], which
     /// changes nothing, and want of memory, [`Fault::NoRoom`]: then the connection is closed, no bytes are answered, and
@@ -82,12 +82,32 @@ impl<H: Handler> Sessions<H> {
     /// How streams are cut decides nothing: [`fed_pieces_are_answered`](crate::fed_pieces_are_answered),
     /// [`cuts_decide_nothing`](crate::cuts_decide_nothing).
     pub fn feed(&mut self, alloc: Global, id: u64, piece: &[u8]) -> Result<Vec<u8>, Fault>
+        ensures fed { IsAnswered H.answers (connection_at self.old id) piece.now
+            (handler_of self.old) result (connection_at self.new id) (handler_of self.new) }
+        ensures others { OthersStay id self.old self.new }
+    {
+        let mut out = String::new(alloc);
+        match self.feed_into(alloc, id, piece, &mut out) {
+            Ok(()) => Ok(out.into_bytes()),
+            Err(fault) => Err(fault),
+        }
+    }
+
+    /// [`Sessions::feed`] into memory that is lent: the bytes to be sent are left in `out`, in place of what stood there.
+    /// After an error there is nothing in `out` to be sent.
+    pub fn feed_into(
+        &mut self,
+        alloc: Global,
+        id: u64,
+        piece: &[u8],
+        out: &mut String,
+    ) -> Result<(), Fault>
         ensures fed { IsFed H.answers (connection_at self.old id) piece.now (handler_of self.old)
-            result (connection_at self.new id) (handler_of self.new) }
+            result (string_bytes out.new) (connection_at self.new id) (handler_of self.new) }
         ensures others { OthersStay id self.old self.new }
     {
         match self.connections.get_mut(&id) {
-            Some(connection) => connection.feed(alloc, &mut self.handler, piece),
+            Some(connection) => connection.feed(alloc, &mut self.handler, piece, out),
             None => Err(Fault::NoSession),
         }
     }

@@ -50,11 +50,15 @@ fn write_status_line(out: &mut String, status: u16) -> Result<(), AllocError>
     out.push_str("\r\n")
 }
 
+/// How many bytes stand before a body, at most.
+const MOST_HEAD: usize = 128;
+
 /// Appends a whole reply, of which the body is JSON. One after which the connection is closed says so.
 pub fn write_http(out: &mut String, closes: bool, status: u16, body: &str) -> Result<(), AllocError>
     ensures { OnOk result (string_bytes out.new
         ≡ string_bytes out.old ++ http_text closes status body.now) }
 {
+    out.reserve(body.len().saturating_add(MOST_HEAD))?;
     write_status_line(out, status)?;
     out.push_str("content-type: application/json\r\ncontent-length: ")?;
     write_number(out, body.len())?;

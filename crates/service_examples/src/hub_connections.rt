@@ -72,15 +72,15 @@ fn a_request_is_answered_when_its_last_byte_comes(rt: HostRuntime) -> Result<(),
     let mut sessions = hub_sessions(alloc)?;
     sessions.open(1)?;
     sessions.open(2)?;
-    assert!(rt; sessions.feed(alloc, 1, PUT_FRONT.as_bytes())?.is_empty());
-    let before = sessions.feed(alloc, 2, POST.as_bytes())?;
-    assert_eq!(rt; before.as_slice(), NOT_FOUND.as_bytes());
-    assert_eq!(rt;
-        sessions.feed(alloc, 1, b"}")?.as_slice(),
-        STORED.as_bytes()
-    );
-    let behind = sessions.feed(alloc, 2, POST.as_bytes())?;
-    assert_eq!(rt; behind.as_slice(), OUTPUT.as_bytes());
+    let mut out = "sent before".to_owned(alloc)?;
+    sessions.feed_into(alloc, 1, PUT_FRONT.as_bytes(), &mut out)?;
+    assert!(rt; out.is_empty());
+    sessions.feed_into(alloc, 2, POST.as_bytes(), &mut out)?;
+    assert_eq!(rt; out.as_str(), NOT_FOUND);
+    sessions.feed_into(alloc, 1, b"}", &mut out)?;
+    assert_eq!(rt; out.as_str(), STORED);
+    sessions.feed_into(alloc, 2, POST.as_bytes(), &mut out)?;
+    assert_eq!(rt; out.as_str(), OUTPUT);
     Ok(())
 }
 

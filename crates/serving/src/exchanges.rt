@@ -34,9 +34,10 @@ pub fn exchange<H: Handler, R: ByteReader, W: ByteWriter>(
     ensures others { OthersStay id sessions.old sessions.new }
 {
     let mut buffer = [0u8; MOST_PIECE];
+    let mut out = String::new(alloc);
     let mut reads = 0;
     while reads < MOST_READS {
-        match serve_piece(alloc, sessions, id, &mut buffer, reader, writer) {
+        match serve_piece(alloc, sessions, id, &mut buffer, &mut out, reader, writer) {
             Ok(Progress::Goes) => reads += 1,
             Ok(Progress::Ends) => return Ok(()),
             Err(fault) => return Err(fault),

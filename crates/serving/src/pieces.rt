@@ -10,6 +10,9 @@ use connections::{Handler, Sessions};
 use faults::Fault;
 use std::alloc::Global;
 
+/// How much memory for replies stays from one piece to the next, in bytes.
+const MOST_KEPT: usize = 1_048_576;
+
 /// Whether a connection goes on behind a piece.
 #[derive(Clone, Copy, Drop)]
 pub enum Progress {
@@ -19,12 +22,20 @@ pub enum Progress {
     Ends,
 }
 
+// Gives the memory for replies back, where it is more than stays.
+fn give_back(alloc: Global, out: &mut String) {
+    if out.capacity() > MOST_KEPT {
+        *out = String::new(alloc);
+    }
+}
+
 // Answers a piece.
 fn answer_piece<H: Handler, W: ByteWriter>(
     alloc: Global,
     sessions: &mut Sessions<H>,
     id: u64,
     piece: &[u8],
+    out: &mut String,
     writer: &mut W,
 ) -> Result<(), Fault>
     ensures answered { IsPieceAnswered H.answers (connection_at sessions.old id) piece.now
@@ -32,18 +43,23 @@ fn answer_piece<H: Handler, W: ByteWriter>(
         (connection_at sessions.new id) (handler_of sessions.new) (W.writes writer.new) }
     ensures others { OthersStay id sessions.old sessions.new }
 {
-    match sessions.feed(alloc, id, piece) {
-        Ok(out) => write_all(writer, &out),
+    match sessions.feed_into(alloc, id, piece, out) {
+        Ok(()) => {
+            let written = write_all(writer, out.as_bytes());
+            give_back(alloc, out);
+            written
+        }
         Err(fault) => Err(fault),
     }
 }
 
-/// Reads a piece into the buffer and answers it.
+/// Reads a piece into the buffer and answers it; `out` is lent for the replies.
 pub fn serve_piece<H: Handler, R: ByteReader, W: ByteWriter>(
     alloc: Global,
     sessions: &mut Sessions<H>,
     id: u64,
     buffer: &mut [u8],
+    out: &mut String,
     reader: &mut R,
     writer: &mut W,
 ) -> Result<Progress, Fault>
@@ -56,7 +72,7 @@ pub fn serve_piece<H: Handler, R: ByteReader, W: ByteWriter>(
     match reader.read(buffer) {
         Err(_) => Err(Fault::ReadFailed),
         Ok(0) => Ok(Progress::Ends),
-        Ok(count) => match answer_piece(alloc, sessions, id, &buffer[..count], writer) {
+        Ok(count) => match answer_piece(alloc, sessions, id, &buffer[..count], out, writer) {
             Err(fault) => Err(fault),
             Ok(()) => {
                 if sessions.is_closed(id) {

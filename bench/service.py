@@ -19,6 +19,7 @@ before, and what is made once don't count.
 """
 
 import argparse
+import json
 import os
 import re
 import socket
@@ -58,7 +59,23 @@ def order_alone():
     return inlined({name: value for name, value in schema.items() if name not in ("$id", "$defs")}), instance
 
 
-VALIDATIONS = {"validate, small object": small_object, "validate, order of 2 KB": order_alone}
+def in_byte_order(make):
+    """The schema, and the instance with the names of each object in byte order: `benchmark read` reads it written so, and
+    names in another order take longer to read, which is not the service's."""
+    schema, instance = make()
+    return schema, json.loads(json.dumps(instance, sort_keys=True))
+
+
+def labels():
+    """As many bytes as the order's, in and out, by a tenth of the applications: what the service takes is a fifth of it."""
+    return {"items": {"title": "t" * 800}}, ["b" * 118 for _ in range(15)]
+
+
+VALIDATIONS = {
+    "validate, small object": lambda: in_byte_order(small_object),
+    "validate, order of 2 KB": lambda: in_byte_order(order_alone),
+    "validate, labels of 2 KB": labels,
+}
 
 
 def document_uri(number):

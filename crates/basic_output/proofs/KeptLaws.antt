@@ -1,7 +1,7 @@
 -- What holds of all entries, where one is put among them and where some are cut off.
 use Rattle.std.proofs.Common.{◌≡◌, ◌≤◌, ◌<◌, ◌+◌, ◌-◌, ℕ, zero, suc, min, List, [], ◌∷◌, ◌++◌, Bool, true, false, Result, Ok, Err, OnErr, map, take, drop, length, get_or, replicate, refl, sym, ap, ap₂, ◌∙◌, arith, inl, inr}
 use Rattle.std.proofs.lemmas.Bool.{and_parts, cases_lt}
-use Rattle.std.proofs.lemmas.List.{take-take, take-append-le, take_all, length-take, length-append, length-take-le, length-map, length-replicate, map-append, take-map, get_or-take, get_or-replicate, get_or_append_left, get_or-append_right, take_min, drop_min, take-append-drop, drop_all}
+use Rattle.std.proofs.lemmas.List.{take-take, take-append-le, take_all, length-take, length-append, length-take-le, length-map, length-replicate, get_or-take, get_or-replicate, get_or_append_left, get_or-append_right, take_min, drop_min, take-append-drop, drop_all}
 use Rattle.std.specs.Prelude.{if◌then◌else◌, nat_lt}
 use Rattle.std.specs.List.{list_all, insert}
 use Rattle.definitions.specs.Applied.{OutputUnit}

@@ -1,3 +1,5 @@
 pub mod EntryLaws
 pub mod KeptLaws
+pub mod PlainLaws
+pub mod PieceLaws
 pub mod OutputTexts

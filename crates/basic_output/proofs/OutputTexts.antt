@@ -1,17 +1,10 @@
--- The tokens of an output and its units.
-use Rattle.std.proofs.Common.{◌≡◌, List, [], ◌∷◌, ◌++◌, Bool, true, false, codes, refl, sym, ap, ◌∙◌}
+-- The output of an outcome, by what it reports.
+use Rattle.std.proofs.Common.{◌≡◌, List, [], ◌∷◌, Bool, true, false, codes, sym, ap, ◌∙◌}
 use Rattle.std.specs.Prelude.{if◌then◌else◌}
-use Rattle.json.specs.Token as json
 use Rattle.definitions.specs.Applied.{Outcome, OutputUnit}
 use Rattle.definitions.specs.Answers.{output_value, units_value}
 use Rattle.definitions.specs.Values.{Text, Value, boolean, object, to_members}
-use Rattle.json_doc.specs.Tokens.{value_tokens}
-use Rattle.basic_output.specs.Outputs.{reported_tokens, reported_units, units_output}
-
-pub output_tokens : (valid : Bool) (us : List OutputUnit)
-    → value_tokens (units_output valid us) ≡ json.begin_object ∷ (reported_tokens valid us ++ json.key (codes "valid") ∷ json.boolean valid ∷ json.end_object ∷ [])
-output_tokens true us = refl
-output_tokens false us = refl
+use Rattle.basic_output.specs.Outputs.{reported_units, units_output}
 
 output_of : (valid : Bool) (annotations errors us : List OutputUnit) → (if valid then annotations else errors) ≡ us
     → units_output valid us

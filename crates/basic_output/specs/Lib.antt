@@ -2,4 +2,5 @@ pub mod Sayings
 pub mod Entries
 pub mod Kept
 pub mod Units
+pub mod Pieces
 pub mod Outputs

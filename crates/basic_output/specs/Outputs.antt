@@ -1,7 +1,5 @@
 -- The value that is written for some units.
 use Rattle.std.specs.Prelude.{List, [], ◌∷◌, Bool, if◌then◌else◌, codes}
-use Rattle.json.specs.Token.{Token, key}
-use Rattle.json_doc.specs.Tokens.{value_tokens}
 use Rattle.definitions.specs.Values.{Value, boolean, object, to_members}
 use Rattle.definitions.specs.Applied.{Outcome, OutputUnit}
 use Rattle.definitions.specs.Answers.{units_value}
@@ -16,8 +14,3 @@ units_output valid us =
     object (to_members (
     (if valid then (codes "annotations", units_value (codes "annotation") us) else (codes "errors", units_value (codes "error") us))
     ∷ (codes "valid", boolean valid) ∷ []))
-
--- the name and the list
-abbrev pub reported_tokens : Bool → List OutputUnit → List Token
-reported_tokens valid us =
-    if valid then key (codes "annotations") ∷ value_tokens (units_value (codes "annotation") us) else key (codes "errors") ∷ value_tokens (units_value (codes "error") us)

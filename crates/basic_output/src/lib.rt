@@ -4,6 +4,7 @@
 mod entry;
 mod location;
 mod output;
+mod quoting;
 mod says;
 mod units;
 

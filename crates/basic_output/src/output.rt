@@ -1,26 +1,29 @@
 //! The text of the basic output (JSON Schema 2020-12 Core, 12.4.2).
 
-ghost use Rattle.std.specs.Prelude.{◌≡◌, ◌++◌, ◌∷◌, [], true, codes, map, IfOk, IfErr, OnOk, string_bytes, length, pos};
-ghost use Rattle.definitions.specs.Bytes.{number_sign};
+ghost use Rattle.std.specs.Prelude.{◌≡◌, ◌++◌, true, codes, map, IfOk, IfErr, OnOk, string_bytes, length};
 ghost use Rattle.definitions.specs.Applied.{Outcome};
-ghost use Rattle.definitions.specs.Answers.{absolute_location, output_text, unit_value, units_value};
-ghost use Rattle.definitions.specs.Pointers.{fragment_text, pointer_text};
+ghost use Rattle.definitions.specs.Answers.{output_text};
+ghost use Rattle.definitions.specs.Pointers.{pointer_text};
 ghost use Rattle.definitions.specs.Texts.{text};
-ghost use Rattle.definitions.specs.Values.{string, to_elements};
 ghost use Rattle.std.specs.List.{list_all};
-ghost use Rattle.json.specs.Token as json;
-ghost use Rattle.json_doc.specs.Tokens.{value_tokens, elements_tokens};
+ghost use Rattle.json.specs.Print.{quoted};
+ghost use Rattle.json_doc.specs.Docs.{value};
 ghost use Rattle.basic_output.specs.Entries.{entry_view, fits, is_within, said_fits, said_value, steps_of};
-ghost use Rattle.basic_output.specs.Outputs.{reported_tokens, reported_units, units_output};
+ghost use Rattle.basic_output.specs.Outputs.{reported_units, units_output};
+ghost use Rattle.basic_output.specs.Pieces.{array_text, kind_key, later_texts, list_key, unit_text, valid_member};
 ghost use Rattle.locations.specs.Steps.{step_value, tokens};
 ghost use Rattle.basic_output.specs.Units.{units_view};
 
 use crate::entry::{Entry, Said, Segment};
+use crate::quoting::{
+    push_decimal, push_message, push_quoted, push_quoted_location, push_quoted_pointer,
+    push_written,
+};
 use crate::units::Units;
 use faults::Fault;
 use json::Writer;
-use json_doc::write_doc;
-use locations::{Step, push_fragment, push_pointer};
+use json_doc::{Doc, write_doc};
+use locations::Step;
 use std::alloc::{AllocError, Global};
 
 /// The text of the basic output: compact JSON, with the names of each object in byte order. The units are the
@@ -32,230 +35,198 @@ pub fn output_text<'a>(alloc: Global, valid: bool, units: &Units<'a>) -> Result<
         → IfOk result (λ s. string_bytes s ≡ output_text o) }
     ensures room { IfErr result (λ f. f ≡ Fault.NoRoom) }
 {
-    let mut out = Writer::new(Vec::with_capacity(alloc, 128)?);
-    write_output(alloc, valid, units, &mut out)?;
-    let bytes = out.into_inner();
-    Ok(unsafe { String::from_utf8_unchecked(bytes) })
+    let mut out = String::with_capacity(alloc, 128)?;
+    write_output(valid, units, &mut out)?;
+    Ok(out)
 }
 
-fn write_output<'a>(
-    alloc: Global,
-    valid: bool,
-    units: &Units<'a>,
-    out: &mut Writer,
-) -> Result<(), AllocError>
-    ensures ok { OnOk result
-        (out.new.tokens ≡ out.old.tokens
-        ++ value_tokens (units_output valid (units_view units.now))) }
-    ensures before { out.new.before ≡ out.old.before }
+fn write_output<'a>(valid: bool, units: &Units<'a>, out: &mut String) -> Result<(), AllocError>
+    ensures { OnOk result (string_bytes out.new ≡ string_bytes out.old
+        ++ (list_key valid ++ (array_text (map (unit_text valid) (units_view units.now))
+        ++ valid_member valid))) }
 {
-    out.begin_object()?;
-    write_reported(alloc, valid, units, out)?;
-    out.key("valid")?;
-    out.boolean(valid)?;
-    out.end_object()
+    out.push_str(list_key(valid))?;
+    let steps = units.steps.as_slice();
+    write_entries(valid, steps, units.entries.as_slice(), out)?;
+    out.push_str(valid_member(valid))
 }
 
-// The name and the list of the annotations, or of the errors.
-fn write_reported<'a>(
-    alloc: Global,
-    valid: bool,
-    units: &Units<'a>,
-    out: &mut Writer,
-) -> Result<(), AllocError>
-    ensures ok { OnOk result
-        (out.new.tokens ≡ out.old.tokens ++ reported_tokens valid (units_view units.now)) }
-    ensures before { out.new.before ≡ out.old.before }
+fn list_key(valid: bool) -> &'static str
+    ensures { result.now ≡ list_key valid }
 {
     if valid {
-        out.key("annotations")?;
-        write_units(alloc, "annotation", units, out)
+        "{\"annotations\":"
     } else {
-        out.key("errors")?;
-        write_units(alloc, "error", units, out)
+        "{\"errors\":"
     }
 }
 
-fn write_units<'a>(
-    alloc: Global,
-    kind: &str,
-    units: &Units<'a>,
-    out: &mut Writer,
-) -> Result<(), AllocError>
-    ensures ok { OnOk result
-        (out.new.tokens ≡ out.old.tokens
-        ++ value_tokens (units_value kind.now (units_view units.now))) }
-    ensures before { out.new.before ≡ out.old.before }
+fn valid_member(valid: bool) -> &'static str
+    ensures { result.now ≡ valid_member valid }
 {
-    out.begin_array()?;
-    let steps = units.steps.as_slice();
-    write_entries(alloc, kind, steps, units.entries.as_slice(), out)
+    if valid {
+        ",\"valid\":true}"
+    } else {
+        ",\"valid\":false}"
+    }
 }
 
-// The units and the closing bracket. The string for locations is used again for each unit.
 fn write_entries<'a>(
-    alloc: Global,
-    kind: &str,
+    valid: bool,
     steps: &[Step<'a>],
     entries: &[Entry<'a>],
-    out: &mut Writer,
+    out: &mut String,
 ) -> Result<(), AllocError>
     requires { list_all (fits (length steps.now)) entries.now ≡ true }
-    ensures ok { OnOk result
-        (out.new.tokens ≡ out.old.tokens
-        ++ elements_tokens (to_elements
-        (map (unit_value kind.now) (map (entry_view steps.now) entries.now)))) }
-    ensures before { out.new.before ≡ out.old.before }
+    ensures { OnOk result (string_bytes out.new ≡ string_bytes out.old
+        ++ array_text (map (unit_text valid) (map (entry_view steps.now) entries.now))) }
 {
-    let mut location = String::new(alloc);
-    for entry in entries {
-        write_unit(kind, steps, *entry, &mut location, out)?;
+    match entries.split_first() {
+        Some((first, rest)) => {
+            out.push_str("[")?;
+            write_unit(valid, steps, *first, out)?;
+            write_later_entries(valid, steps, rest, out)?;
+            out.push_str("]")
+        }
+        None => out.push_str("[]"),
     }
-    out.end_array()
+}
+
+// Each unit behind a comma.
+fn write_later_entries<'a>(
+    valid: bool,
+    steps: &[Step<'a>],
+    entries: &[Entry<'a>],
+    out: &mut String,
+) -> Result<(), AllocError>
+    requires { list_all (fits (length steps.now)) entries.now ≡ true }
+    ensures { OnOk result (string_bytes out.new ≡ string_bytes out.old
+        ++ later_texts (map (unit_text valid) (map (entry_view steps.now) entries.now))) }
+{
+    for entry in entries {
+        out.push_str(",")?;
+        write_unit(valid, steps, *entry, out)?;
+    }
+    Ok(())
 }
 
 fn write_unit<'a>(
-    kind: &str,
+    valid: bool,
     steps: &[Step<'a>],
     entry: Entry<'a>,
-    location: &mut String,
-    out: &mut Writer,
+    out: &mut String,
 ) -> Result<(), AllocError>
     requires { fits (length steps.now) entry ≡ true }
-    ensures ok { OnOk result
-        (out.new.tokens ≡ out.old.tokens
-        ++ value_tokens (unit_value kind.now (entry_view steps.now entry.entry))) }
-    ensures before { out.new.before ≡ out.old.before }
+    ensures { OnOk result (string_bytes out.new
+        ≡ string_bytes out.old ++ unit_text valid (entry_view steps.now entry.entry)) }
 {
-    out.begin_object()?;
-    absolute_location(location, entry.resource, run(steps, entry.pointer))?;
-    write_member("absoluteKeywordLocation", location.as_str(), out)?;
-    out.key(kind)?;
-    write_said(steps, entry.says, location, out)?;
+    out.push_str("{\"absoluteKeywordLocation\":")?;
+    push_quoted_location(out, entry.resource, run(steps, entry.pointer))?;
+    out.push_str(kind_key(valid))?;
+    write_said(steps, entry.says, out)?;
     write_locations(
         run(steps, entry.instance_location),
         run(steps, entry.path),
-        location,
         out,
     )?;
-    out.end_object()
+    out.push_str("}")
+}
+
+fn kind_key(valid: bool) -> &'static str
+    ensures { result.now ≡ kind_key valid }
+{
+    if valid {
+        ",\"annotation\":"
+    } else {
+        ",\"error\":"
+    }
 }
 
 // The locations of the instance and of the keyword.
 fn write_locations(
     instance_location: &[Step<'_>],
     path: &[Step<'_>],
-    location: &mut String,
-    out: &mut Writer,
+    out: &mut String,
 ) -> Result<(), AllocError>
-    ensures ok { OnOk result (out.new.tokens ≡ out.old.tokens
-        ++ json.key (codes "instanceLocation")
-        ∷ json.string (pointer_text (tokens instance_location.now))
-        ∷ json.key (codes "keywordLocation") ∷ json.string (pointer_text (tokens path.now)) ∷ []) }
-    ensures before { out.new.before ≡ out.old.before }
+    ensures { OnOk result (string_bytes out.new ≡ string_bytes out.old
+        ++ (codes ",\"instanceLocation\":" ++ (quoted (pointer_text (tokens instance_location.now))
+        ++ (codes ",\"keywordLocation\":" ++ quoted (pointer_text (tokens path.now)))))) }
 {
-    pointer(location, instance_location)?;
-    write_member("instanceLocation", location.as_str(), out)?;
-    pointer(location, path)?;
-    write_member("keywordLocation", location.as_str(), out)
+    out.push_str(",\"instanceLocation\":")?;
+    push_quoted_pointer(out, instance_location)?;
+    out.push_str(",\"keywordLocation\":")?;
+    push_quoted_pointer(out, path)
 }
 
-fn write_member(name: &str, text: &str, out: &mut Writer) -> Result<(), AllocError>
-    ensures ok { OnOk result
-        (out.new.tokens ≡ out.old.tokens ++ json.key name.now ∷ json.string text.now ∷ []) }
-    ensures before { out.new.before ≡ out.old.before }
-{
-    out.key(name)?;
-    out.string(text)
-}
-
-// The resource's URI, `#`, and the pointer as a fragment.
-fn absolute_location(
-    location: &mut String,
-    resource: &str,
-    steps: &[Step<'_>],
-) -> Result<(), AllocError>
-    ensures { OnOk result (string_bytes location.new
-        ≡ resource.now ++ (number_sign ∷ fragment_text (tokens steps.now))) }
-{
-    location.clear();
-    location.push_str(resource)?;
-    location.push('#')?;
-    push_fragment(location, steps)
-}
-
-// The pointer's text alone.
-fn pointer(location: &mut String, steps: &[Step<'_>]) -> Result<(), AllocError>
-    ensures { OnOk result (string_bytes location.new ≡ pointer_text (tokens steps.now)) }
-{
-    location.clear();
-    push_pointer(location, steps)
-}
-
-// What the unit says, with `buffer` for a message.
-fn write_said<'a>(
-    steps: &[Step<'a>],
-    says: Said<'a>,
-    buffer: &mut String,
-    out: &mut Writer,
-) -> Result<(), AllocError>
+#[tactic(auto, using(crate::proofs::PieceLaws::steps_pieces))]
+fn write_said<'a>(steps: &[Step<'a>], says: Said<'a>, out: &mut String) -> Result<(), AllocError>
     requires { said_fits (length steps.now) says ≡ true }
-    ensures ok { OnOk result
-        (out.new.tokens ≡ out.old.tokens ++ value_tokens (said_value steps.now says.entry)) }
-    ensures before { out.new.before ≡ out.old.before }
+    ensures { OnOk result (string_bytes out.new
+        ≡ string_bytes out.old ++ text (said_value steps.now says.entry)) }
 {
     match says {
-        Said::NotMet(keyword) => write_not_met(keyword, buffer, out),
-        Said::NotAllowed => out.string("no value is allowed"),
-        Said::True => out.boolean(true),
-        Said::Index(index) => out.u64(index as u64),
-        Said::Listed(listed) => write_list(run(steps, listed), out),
-        Said::Value(doc) => write_doc(doc, out),
+        Said::NotMet(keyword) => push_message(out, keyword),
+        Said::NotAllowed => out.push_str("\"no value is allowed\""),
+        Said::True => out.push_str("true"),
+        Said::Index(index) => push_decimal(out, index),
+        Said::Listed(listed) => write_steps(run(steps, listed), out),
+        Said::Value(doc) => write_value(doc, out),
     }
 }
 
-fn write_not_met(keyword: &str, buffer: &mut String, out: &mut Writer) -> Result<(), AllocError>
-    ensures ok { OnOk result
-        (out.new.tokens ≡ out.old.tokens ++ json.string (keyword.now ++ codes " is not met") ∷ []) }
-    ensures before { out.new.before ≡ out.old.before }
+// A text at once, another value by the writer.
+fn write_value(doc: &Doc, out: &mut String) -> Result<(), AllocError>
+    ensures { OnOk result (string_bytes out.new ≡ string_bytes out.old ++ text (value doc.now)) }
 {
-    buffer.clear();
-    buffer.push_str(keyword)?;
-    buffer.push_str(" is not met")?;
-    out.string(buffer.as_str())
+    match doc {
+        Doc::Str(string) => push_quoted(out, string.as_str()),
+        _ => write_other_value(doc, out),
+    }
 }
 
-fn write_list(steps: &[Step<'_>], out: &mut Writer) -> Result<(), AllocError>
-    ensures ok { OnOk result
-        (out.new.tokens ≡ out.old.tokens
-        ++ json.begin_array ∷ elements_tokens (to_elements (map step_value steps.now))) }
-    ensures before { out.new.before ≡ out.old.before }
+fn write_other_value(doc: &Doc, out: &mut String) -> Result<(), AllocError>
+    ensures { OnOk result (string_bytes out.new ≡ string_bytes out.old ++ text (value doc.now)) }
 {
-    out.begin_array()?;
-    write_steps(steps, out)
+    let mut writer = Writer::new(Vec::new(*out.allocator()));
+    write_doc(doc, &mut writer)?;
+    push_written(out, writer)
 }
 
-// The names or indexes and the closing bracket.
-fn write_steps(steps: &[Step<'_>], out: &mut Writer) -> Result<(), AllocError>
-    ensures ok { OnOk result
-        (out.new.tokens ≡ out.old.tokens
-        ++ elements_tokens (to_elements (map step_value steps.now))) }
-    ensures before { out.new.before ≡ out.old.before }
+// The list of names or indexes.
+fn write_steps(steps: &[Step<'_>], out: &mut String) -> Result<(), AllocError>
+    ensures { OnOk result (string_bytes out.new ≡ string_bytes out.old
+        ++ array_text (map (λ s. text (step_value s)) steps.now)) }
+{
+    match steps.split_first() {
+        Some((first, rest)) => {
+            out.push_str("[")?;
+            write_step(*first, out)?;
+            write_later_steps(rest, out)?;
+            out.push_str("]")
+        }
+        None => out.push_str("[]"),
+    }
+}
+
+// Each name or index behind a comma.
+fn write_later_steps(steps: &[Step<'_>], out: &mut String) -> Result<(), AllocError>
+    ensures { OnOk result (string_bytes out.new ≡ string_bytes out.old
+        ++ later_texts (map (λ s. text (step_value s)) steps.now)) }
 {
     for step in steps {
+        out.push_str(",")?;
         write_step(*step, out)?;
     }
-    out.end_array()
+    Ok(())
 }
 
-fn write_step(step: Step<'_>, out: &mut Writer) -> Result<(), AllocError>
-    ensures ok { OnOk result
-        (out.new.tokens ≡ out.old.tokens ++ value_tokens (step_value step.entry)) }
-    ensures before { out.new.before ≡ out.old.before }
+fn write_step(step: Step<'_>, out: &mut String) -> Result<(), AllocError>
+    ensures { OnOk result (string_bytes out.new
+        ≡ string_bytes out.old ++ text (step_value step.entry)) }
 {
     match step {
-        Step::Name(name) => out.string(name),
-        Step::Index(index) => out.u64(index as u64),
+        Step::Name(name) => push_quoted(out, name),
+        Step::Index(index) => push_decimal(out, index),
     }
 }
 

@@ -1,19 +1,18 @@
-use Rattle.std.proofs.Common.{◌≡◌, ◌++◌, [], ap, ap₂, ◌∙◌}
-use Rattle.json.specs.Print.{print}
-use Rattle.serde_json.proofs.Texts.{print-outline}
-use Rattle.definitions.specs.Texts.{data_of, text}
-use Rattle.json_doc.specs.Tokens.{value_tokens}
-use Rattle.basic_output.specs.Outputs.{units_output}
+use Rattle.std.proofs.Common.{◌++◌, map, ap, sym, ◌∙◌}
+use Rattle.definitions.specs.Texts.{text}
+use Rattle.basic_output.specs.Pieces.{array_text, list_key, unit_text, valid_member}
 use Rattle.basic_output.specs.Units.{units_view}
 use Rattle.basic_output.proofs.OutputTexts.{outcome_output}
+use Rattle.basic_output.proofs.PieceLaws.{output_pieces}
 use Rattle.basic_output.proofs.output.output_text.Goals as goal
 
 pub returns-clause-text : goal.returns-clause-text
 returns-clause-text c =
-    let v = units_output c.args.valid (units_view c.args.units.now) in
-    let written : c.write_output.new.out.tokens ≡ value_tokens v = c.in_ok-write_output.ensures.ok ∙ ap (λ ts. ts ++ value_tokens v) c.new-out.ensures.tokens in
-    let before : c.write_output.new.out.before ≡ [] = c.in_ok-write_output.ensures.before ∙ c.new-out.ensures.before ∙ c.in_ok-with_capacity.ensures.items in
-    ap (λ bytes. bytes.items) c.from_utf8_unchecked.ensures.value ∙ c.into_inner-bytes.ensures.items ∙ ap₂ (λ a b. a ++ print b) before written ∙ print-outline (data_of v)
+    let us = units_view c.args.units.now in
+    let valid = c.args.valid in
+    c.in_ok-write_output.ensures
+    ∙ ap (λ b. b ++ (list_key valid ++ (array_text (map (unit_text valid) us) ++ valid_member valid))) c.in_ok-out.ensures.bytes
+    ∙ sym (output_pieces valid us)
 
 pub returns-clause-answer : goal.returns-clause-answer
 returns-clause-answer c o judged same =

@@ -1,21 +1,23 @@
-use Rattle.std.proofs.Common.{[], ◌∷◌, ◌++◌, ◌≡◌, codes, ap, ◌∙◌}
+use Rattle.std.proofs.Common.{◌++◌, codes, string_bytes}
 use Rattle.std.proofs.lemmas.Result.{on_ok_weaker}
-use Rattle.json.specs.Token as json
+use Rattle.json.specs.Print.{quoted}
 use Rattle.definitions.specs.Pointers.{pointer_text}
 use Rattle.locations.specs.Steps.{tokens}
 use Rattle.lemmas.proofs.Appended.{appended}
 use Rattle.basic_output.proofs.output.write_locations.Goals as goal
 
-pub returns-clause-ok : goal.returns-clause-ok
-returns-clause-ok c =
-    let old = c.args.out.now.tokens in
-    let middle = c.write_member.new.out.tokens in
-    let instance_location = pointer_text (tokens c.args.instance_location.now) in
-    let path = pointer_text (tokens c.args.path.now) in
-    let first : middle ≡ old ++ json.key (codes "instanceLocation") ∷ json.string instance_location ∷ [] =
-    c.in_ok-write_member.ensures.ok ∙ ap (λ s. old ++ json.key (codes "instanceLocation") ∷ json.string s ∷ []) (c.as_str.ensures.value ∙ c.in_ok-pointer.ensures) in
-    let text : c.as_str-2.result.now ≡ path = c.as_str-2.ensures.value ∙ c.in_ok-pointer-2.ensures in
-    on_ok_weaker c.write_member-2.result
-    (λ e. appended old middle _ (json.key (codes "instanceLocation") ∷ json.string instance_location ∷ []) (json.key (codes "keywordLocation") ∷ json.string path ∷ []) first
-    (e ∙ ap (λ s. middle ++ json.key (codes "keywordLocation") ∷ json.string s ∷ []) text))
-    c.write_member-2.ensures.ok
+pub returns : goal.returns
+returns c =
+    let old = string_bytes c.args.out.now in
+    let first = string_bytes c.push_str.new.self in
+    let second = string_bytes c.push_quoted_pointer.new.out in
+    let third = string_bytes c.push_str-2.new.self in
+    let key = codes ",\"instanceLocation\":" in
+    let instance_location = quoted (pointer_text (tokens c.args.instance_location.now)) in
+    let next = codes ",\"keywordLocation\":" in
+    let path = quoted (pointer_text (tokens c.args.path.now)) in
+    on_ok_weaker c.push_quoted_pointer-2.result
+    (λ e. appended old first _ key (instance_location ++ (next ++ path)) c.in_ok-push_str.ensures.bytes
+    (appended first second _ instance_location (next ++ path) c.in_ok-push_quoted_pointer.ensures
+    (appended second third _ next path c.in_ok-push_str-2.ensures.bytes e)))
+    c.push_quoted_pointer-2.ensures

@@ -1,7 +1,7 @@
 use Rattle.std.proofs.Common.{length, ap, ◌∙◌}
 use Rattle.basic_output.specs.Entries.{fits}
 use Rattle.basic_output.proofs.KeptLaws.{all_at}
-use Rattle.basic_output.proofs.output.write_entries.Goals as goal
+use Rattle.basic_output.proofs.output.write_later_entries.Goals as goal
 
 pub write_unit-requires : goal.write_unit-requires
 write_unit-requires c =

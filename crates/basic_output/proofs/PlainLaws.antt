@@ -1,0 +1,193 @@
+-- Texts and tokens of which nothing is escaped.
+use Rattle.std.proofs.Common.{◌≡◌, ◌<◌, ◌≤◌, ◌^◌, ◌/◌, ◌%◌, ◌==◌, ◌&&◌, ◌||◌, ℕ, zero, suc, Bool, true, false, not, cond, List, [], ◌∷◌, ◌++◌, codes, decimal, flat_map, refl, ap, ap₂, ◌∙◌, arith, append_assoc, inl, inr}
+use Rattle.std.proofs.Math.Nat.{eq-or-lt_of_le}
+use Rattle.std.proofs.lemmas.Bool.{and_parts, eqb-false, leb-true, le-leb, not-true}
+use Rattle.std.proofs.lemmas.Fmt.{decimal_is_IsNumeral}
+use Rattle.std.proofs.lemmas.List.Folds.{list_all-append, list_all-map}
+use Rattle.std.proofs.lemmas.Slice.Eq.{bytes_eq-Decides}
+use Rattle.std.proofs.lemmas.Str.Parse.{digit_from_value}
+use Rattle.std.specs.Str.Parse.{AllDigits}
+use Rattle.std.specs.List.{list_all}
+use Rattle.std.specs.Prelude.{nat_le}
+use Rattle.json.specs.Print.{escape_byte, quoted}
+use Rattle.json.proofs.Printed.Strings.{escape_byte_plain}
+use Rattle.definitions.specs.Bytes.{is_capital, is_small}
+use Rattle.definitions.specs.Pointers.{escaped_byte, fragment_text, hex_digit, is_fragment_byte, percent_encoded_text, pointer_text}
+use Rattle.definitions.specs.Values.{Text, same_text}
+use Rattle.locations.specs.Steps.{token, tokens}
+use Rattle.locations.specs.declared.step.Step.{Step}
+use Rattle.basic_output.specs.Pieces.{is_plain, is_unescaped, plain_text}
+
+-- what stands for each byte of a text is the byte itself
+kept : (f : ℕ → Text) (p : ℕ → Bool) → ((x : ℕ) → p x ≡ true → f x ≡ x ∷ []) → (xs : Text) → list_all p xs ≡ true → flat_map f xs ≡ xs
+kept f p h [] e = refl
+kept f p h (x ∷ xs) e =
+    let q = and_parts (p x) (list_all p xs) e in
+    ap₂ (λ a b. a ++ b) (h x q.0) (kept f p h xs q.1)
+
+-- ---- in a string of JSON
+unescaped_byte : (x : ℕ) → is_unescaped x ≡ true → escape_byte x ≡ x ∷ []
+unescaped_byte x h =
+    let p = and_parts (nat_le 32 x) (not (x == 34) && not (x == 92)) h in
+    let q = and_parts (not (x == 34)) (not (x == 92)) p.1 in
+    escape_byte_plain x (eqb-false x 34 (not-true (x == 34) q.0)) (eqb-false x 92 (not-true (x == 92) q.1)) (leb-true 32 x p.0)
+
+pub as_it_is : (t : Text) → list_all is_unescaped t ≡ true → quoted t ≡ 34 ∷ (t ++ 34 ∷ [])
+as_it_is t h = ap (λ s. 34 ∷ (s ++ 34 ∷ [])) (kept escape_byte is_unescaped unescaped_byte t h)
+
+all_of_both : (p : ℕ → Bool) (xs ys : Text) → list_all p xs ≡ true → list_all p ys ≡ true → list_all p (xs ++ ys) ≡ true
+all_of_both p xs ys h g = list_all-append p xs ys ∙ ap₂ (λ a b. a && b) h g
+
+pub message : (t : Text) → list_all is_unescaped t ≡ true → quoted (t ++ codes " is not met") ≡ 34 ∷ (t ++ codes " is not met\"")
+message t h =
+    as_it_is (t ++ codes " is not met") (all_of_both is_unescaped t (codes " is not met") h refl)
+    ∙ ap (λ s. 34 ∷ s) (append_assoc t (codes " is not met") (34 ∷ []))
+
+-- ---- in a pointer and in its fragment
+agrees : ℕ → Bool
+agrees n = cond (is_plain n) (same_text (escaped_byte n) (n ∷ []) && (is_fragment_byte n && is_unescaped n)) true
+
+agree_below : ℕ → Bool
+agree_below zero = true
+agree_below (suc n) = agrees n && agree_below n
+
+all_agree : agree_below 123 ≡ true
+unfolding agrees agree_below
+all_agree = refl
+
+agrees_at : (n x : ℕ) → x < n → agree_below n ≡ true → agrees x ≡ true
+unfolding agree_below
+agrees_at zero x h e = absurd (omega arith)
+agrees_at (suc n) x h e =
+    let p = and_parts (agrees n) (agree_below n) e in
+    let le : x ≤ n = omega arith in
+    elim (eq-or-lt_of_le le) [ inl same ↦ rw same p.0 | inr less ↦ agrees_at n x less p.1 ]
+
+is_small_enough : (x : ℕ) → is_plain x ≡ true → x < 123
+is_small_enough x h = grind (arith, h)
+
+chosen : (p b : Bool) → cond p b true ≡ true → p ≡ true → b ≡ true
+chosen true b h e = h
+chosen false b h e = cc
+
+record Plain (x : ℕ) : Type 0 where
+  in_pointer : escaped_byte x ≡ x ∷ []
+  in_fragment : is_fragment_byte x ≡ true
+  in_string : is_unescaped x ≡ true
+
+plain : (x : ℕ) → is_plain x ≡ true → Plain x
+unfolding agrees
+plain x h =
+    let all = chosen (is_plain x) _ (agrees_at 123 x (is_small_enough x h) all_agree) h in
+    let p = and_parts (same_text (escaped_byte x) (x ∷ [])) (is_fragment_byte x && is_unescaped x) all in
+    let q = and_parts (is_fragment_byte x) (is_unescaped x) p.1 in
+    record { in_pointer = (bytes_eq-Decides (escaped_byte x) (x ∷ [])).0 p.0; in_fragment = q.0; in_string = q.1 }
+
+abbrev ArePlain : List Text → Type 0
+ArePlain ts = list_all (λ t. list_all is_plain t) ts ≡ true
+
+plain_pointer : (ts : List Text) → ArePlain ts → pointer_text ts ≡ plain_text ts
+plain_pointer [] h = refl
+plain_pointer (t ∷ ts) h =
+    let q = and_parts (list_all is_plain t) _ h in
+    ap₂ (λ a b. 47 ∷ (a ++ b)) (kept escaped_byte is_plain (λ x e. (plain x e).in_pointer) t q.0) (plain_pointer ts q.1)
+
+-- a test that a `/` and all plain bytes pass
+all_pass : (p : ℕ → Bool) → p 47 ≡ true → ((x : ℕ) → is_plain x ≡ true → p x ≡ true) → (ts : List Text) → ArePlain ts → list_all p (plain_text ts) ≡ true
+all_pass p led h [] e = refl
+all_pass p led h (t ∷ ts) e =
+    let q = and_parts (list_all is_plain t) _ e in
+    ap₂ (λ a b. a && b) led (all_of_both p t (plain_text ts) (passes t q.0) (all_pass p led h ts q.1))
+  where
+    passes : (xs : Text) → list_all is_plain xs ≡ true → list_all p xs ≡ true
+    passes [] g = refl
+    passes (x ∷ xs) g =
+        let r = and_parts (is_plain x) (list_all is_plain xs) g in
+        ap₂ (λ a b. a && b) (h x r.0) (passes xs r.1)
+
+abbrev percent_byte : ℕ → Text
+percent_byte c = cond (is_fragment_byte c) (c ∷ []) (37 ∷ hex_digit (c / 16) ∷ hex_digit (c % 16) ∷ [])
+
+plain_fragment : (ts : List Text) → ArePlain ts → fragment_text ts ≡ plain_text ts
+plain_fragment ts h =
+    ap percent_encoded_text (plain_pointer ts h)
+    ∙ kept percent_byte is_fragment_byte (λ x e. rw e refl) (plain_text ts) (all_pass is_fragment_byte refl (λ x e. (plain x e).in_fragment) ts h)
+
+abbrev AreSteps : List Step → Type 0
+AreSteps ss = list_all (λ s. list_all is_plain (token s)) ss ≡ true
+
+of_steps : (ss : List Step) → AreSteps ss → ArePlain (tokens ss)
+of_steps ss h = list_all-map (λ t. list_all is_plain t) token ss ∙ h
+
+in_strings : (ts : List Text) → ArePlain ts → list_all is_unescaped (plain_text ts) ≡ true
+in_strings ts h = all_pass is_unescaped refl (λ x e. (plain x e).in_string) ts h
+
+pub quoted_pointer : (ss : List Step) → AreSteps ss → quoted (pointer_text (tokens ss)) ≡ 34 ∷ (plain_text (tokens ss) ++ 34 ∷ [])
+quoted_pointer ss h =
+    let ts = tokens ss in
+    let p = of_steps ss h in
+    ap quoted (plain_pointer ts p) ∙ as_it_is (plain_text ts) (in_strings ts p)
+
+pub quoted_location : (r : Text) (ss : List Step) → (list_all is_unescaped r && list_all (λ s. list_all is_plain (token s)) ss) ≡ true
+    → quoted (r ++ (35 ∷ fragment_text (tokens ss))) ≡ 34 ∷ (r ++ 35 ∷ (plain_text (tokens ss) ++ 34 ∷ []))
+quoted_location r ss h =
+    let both = and_parts (list_all is_unescaped r) _ h in
+    let ts = tokens ss in
+    let p = of_steps ss both.1 in
+    ap (λ f. quoted (r ++ (35 ∷ f))) (plain_fragment ts p)
+    ∙ as_it_is (r ++ (35 ∷ plain_text ts)) (all_of_both is_unescaped r (35 ∷ plain_text ts) both.0 (in_strings ts p))
+    ∙ ap (λ s. 34 ∷ s) (append_assoc r (35 ∷ plain_text ts) (34 ∷ []))
+
+-- ---- a pointer of which a string of JSON escapes nothing
+escaped_by : (b d : Bool) (x : ℕ) → is_unescaped x ≡ true → list_all is_unescaped (cond b (126 ∷ 48 ∷ []) (cond d (126 ∷ 49 ∷ []) (x ∷ []))) ≡ true
+escaped_by true d x h = refl
+escaped_by false true x h = refl
+escaped_by false false x h = rw h refl
+
+escaped_unescaped : (t : Text) → list_all is_unescaped t ≡ true → list_all is_unescaped (flat_map escaped_byte t) ≡ true
+escaped_unescaped [] h = refl
+escaped_unescaped (x ∷ xs) h =
+    let q = and_parts (is_unescaped x) (list_all is_unescaped xs) h in
+    all_of_both is_unescaped (escaped_byte x) (flat_map escaped_byte xs) (escaped_by (x == 126) (x == 47) x q.0) (escaped_unescaped xs q.1)
+
+abbrev AreUnescaped : List Text → Type 0
+AreUnescaped ts = list_all (λ t. list_all is_unescaped t) ts ≡ true
+
+pointer_unescaped : (ts : List Text) → AreUnescaped ts → list_all is_unescaped (pointer_text ts) ≡ true
+pointer_unescaped [] h = refl
+pointer_unescaped (t ∷ ts) h =
+    let q = and_parts (list_all is_unescaped t) (list_all (λ t. list_all is_unescaped t) ts) h in
+    all_of_both is_unescaped (47 ∷ flat_map escaped_byte t) (pointer_text ts) (escaped_unescaped t q.0) (pointer_unescaped ts q.1)
+
+pub unescaped_pointer : (ss : List Step) → list_all (λ s. list_all is_unescaped (token s)) ss ≡ true → quoted (pointer_text (tokens ss)) ≡ 34 ∷ (pointer_text (tokens ss) ++ 34 ∷ [])
+unescaped_pointer ss h = as_it_is (pointer_text (tokens ss)) (pointer_unescaped (tokens ss) (list_all-map (λ t. list_all is_unescaped t) token ss ∙ h))
+
+pub plain_step : (t : Text) → list_all is_plain t ≡ true → flat_map escaped_byte t ≡ t
+plain_step t h = kept escaped_byte is_plain (λ x e. (plain x e).in_pointer) t h
+
+-- ---- the digits of an index
+third : (a b c : Bool) → (a || (b || (true || c))) ≡ true
+third true b c = refl
+third false true c = refl
+third false false c = refl
+
+digit_is_plain : (x : ℕ) → 48 ≤ x → x ≤ 57 → is_plain x ≡ true
+digit_is_plain x low high = rw (le-leb 48 x low, le-leb x 57 high) (third (is_small x) (is_capital x) ((x == 36) || ((x == 45) || ((x == 46) || (x == 95)))))
+
+digits_are_plain : (ds : Text) → AllDigits 10 ds → list_all is_plain ds ≡ true
+digits_are_plain [] h = refl
+digits_are_plain (d ∷ ds) h =
+    let digit = digit_from_value d h.0 in
+    ap₂ (λ a b. a && b) (digit_is_plain d (omega (arith, digit)) (omega (arith, digit))) (digits_are_plain ds h.1)
+
+pub index_is_plain : (n : ℕ) → n < 2 ^ 64 → list_all is_plain (decimal n) ≡ true
+index_is_plain n fits = digits_are_plain (decimal n) (decimal_is_IsNumeral n fits).0.1
+
+plain_unescaped : (t : Text) → list_all is_plain t ≡ true → list_all is_unescaped t ≡ true
+plain_unescaped [] h = refl
+plain_unescaped (x ∷ xs) h =
+    let q = and_parts (is_plain x) (list_all is_plain xs) h in
+    ap₂ (λ a b. a && b) (plain x q.0).in_string (plain_unescaped xs q.1)
+
+pub index_is_unescaped : (n : ℕ) → n < 2 ^ 64 → list_all is_unescaped (decimal n) ≡ true
+index_is_unescaped n fits = plain_unescaped (decimal n) (index_is_plain n fits)

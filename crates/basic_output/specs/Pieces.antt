@@ -1,0 +1,53 @@
+-- The output's text, piece by piece.
+use Rattle.std.specs.Prelude.{ℕ, List, [], ◌∷◌, ◌++◌, Bool, true, false, not, ◌&&◌, ◌||◌, ◌==◌, nat_le, codes, flat_map}
+use Rattle.json.specs.Print.{quoted}
+use Rattle.definitions.specs.Answers.{absolute_location}
+use Rattle.definitions.specs.Applied.{OutputUnit}
+use Rattle.definitions.specs.Bytes.{is_capital, is_digit, is_small, slash}
+use Rattle.definitions.specs.Pointers.{pointer_text}
+use Rattle.definitions.specs.Texts.{text}
+use Rattle.definitions.specs.Values.{Text}
+
+-- a byte that stands in a string of JSON as it is
+abbrev pub is_unescaped : ℕ → Bool
+is_unescaped c = nat_le 32 c && (not (c == 34) && not (c == 92))
+
+-- a byte that also stands as it is in a pointer and in its fragment: a letter, a digit, `$`, `-`, `.` or `_`
+abbrev pub is_plain : ℕ → Bool
+is_plain c = is_small c || (is_capital c || (is_digit c || (c == 36 || (c == 45 || (c == 46 || c == 95)))))
+
+-- tokens of which nothing is escaped, each led by a `/`
+abbrev pub plain_text : List Text → Text
+plain_text = flat_map (λ token. slash ∷ token)
+
+-- ---- an array of values with these texts
+abbrev pub later_texts : List Text → Text
+later_texts = flat_map (λ t. 44 ∷ t)
+
+abbrev pub array_text : List Text → Text
+array_text [] = codes "[]"
+array_text (t ∷ ts) = 91 ∷ (t ++ (later_texts ts ++ 93 ∷ []))
+
+-- ---- what the units are called
+abbrev pub kind : Bool → Text
+kind true = codes "annotation"
+kind false = codes "error"
+
+abbrev pub kind_key : Bool → Text
+kind_key true = codes ",\"annotation\":"
+kind_key false = codes ",\"error\":"
+
+abbrev pub list_key : Bool → Text
+list_key true = codes "{\"annotations\":"
+list_key false = codes "{\"errors\":"
+
+abbrev pub valid_member : Bool → Text
+valid_member true = codes ",\"valid\":true}"
+valid_member false = codes ",\"valid\":false}"
+
+-- ---- a unit's text, and that of all
+unfoldable pub unit_text : Bool → OutputUnit → Text
+unit_text valid u =
+    codes "{\"absoluteKeywordLocation\":" ++ (quoted (absolute_location u) ++ (kind_key valid ++ (text u.says
+    ++ (codes ",\"instanceLocation\":" ++ (quoted (pointer_text u.instance_location)
+    ++ (codes ",\"keywordLocation\":" ++ (quoted (pointer_text u.path) ++ codes "}")))))))

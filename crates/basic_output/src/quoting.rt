@@ -1,0 +1,302 @@
+//! Texts and locations as strings of JSON (RFC 8259, section 7).
+
+ghost use Rattle.std.specs.Prelude.{◌≡◌, ◌&&◌, ◌++◌, ◌∷◌, [], OnOk, codes, decimal, flat_map, string_bytes};
+ghost use Rattle.std.specs.List.{list_all};
+ghost use Rattle.json.specs.Print.{print, quoted};
+ghost use Rattle.definitions.specs.Bytes.{number_sign, slash};
+ghost use Rattle.definitions.specs.Pointers.{escaped_byte, fragment_text, pointer_text};
+ghost use Rattle.locations.specs.Steps.{token, tokens};
+ghost use Rattle.basic_output.specs.Pieces.{is_plain, is_unescaped, plain_text};
+
+use json::Writer;
+use locations::{Step, push_fragment, push_pointer};
+use std::alloc::AllocError;
+
+/// How many bytes the text of a location most often has at most.
+const MOST_OFTEN: usize = 128;
+
+/// Appends the text as a string.
+pub(crate) fn push_quoted(out: &mut String, text: &str) -> Result<(), AllocError>
+    ensures { OnOk result (string_bytes out.new ≡ string_bytes out.old ++ quoted text.now) }
+{
+    if are_unescaped(text.as_bytes()) {
+        push_as_it_is(out, text)
+    } else {
+        push_escaped(out, text)
+    }
+}
+
+/// Appends the resource's URI, `#` and the pointer as a fragment, as one string.
+pub(crate) fn push_quoted_location(
+    out: &mut String,
+    resource: &str,
+    steps: &[Step<'_>],
+) -> Result<(), AllocError>
+    ensures { OnOk result (string_bytes out.new
+        ≡ string_bytes out.old
+        ++ quoted (resource.now ++ (number_sign ∷ fragment_text (tokens steps.now)))) }
+{
+    if is_plain_location(resource, steps) {
+        push_plain_location(out, resource, steps)
+    } else {
+        push_other_location(out, resource, steps)
+    }
+}
+
+/// Appends the pointer's text as a string.
+pub(crate) fn push_quoted_pointer(out: &mut String, steps: &[Step<'_>]) -> Result<(), AllocError>
+    ensures { OnOk result (string_bytes out.new
+        ≡ string_bytes out.old ++ quoted (pointer_text (tokens steps.now))) }
+{
+    if are_plain(steps) {
+        push_plain_pointer(out, steps)
+    } else if are_unescaped_steps(steps) {
+        push_unescaped_pointer(out, steps)
+    } else {
+        push_other_pointer(out, steps)
+    }
+}
+
+/// Appends as a string that the keyword of this name is not met.
+pub(crate) fn push_message(out: &mut String, keyword: &str) -> Result<(), AllocError>
+    ensures { OnOk result (string_bytes out.new
+        ≡ string_bytes out.old ++ quoted (keyword.now ++ codes " is not met")) }
+{
+    if are_unescaped(keyword.as_bytes()) {
+        push_plain_message(out, keyword)
+    } else {
+        push_other_message(out, keyword)
+    }
+}
+
+/// Appends the number in decimal.
+pub(crate) fn push_decimal(out: &mut String, number: usize) -> Result<(), AllocError>
+    ensures { OnOk result (string_bytes out.new ≡ string_bytes out.old ++ decimal number) }
+{
+    let mut digits = itoa::Buffer::new();
+    out.push_str(digits.format(number))
+}
+
+fn push_as_it_is(out: &mut String, text: &str) -> Result<(), AllocError>
+    ensures { OnOk result (string_bytes out.new
+        ≡ string_bytes out.old ++ 34 ∷ (text.now ++ 34 ∷ [])) }
+{
+    out.push_str("\"")?;
+    out.push_str(text)?;
+    out.push_str("\"")
+}
+
+fn push_escaped(out: &mut String, text: &str) -> Result<(), AllocError>
+    ensures { OnOk result (string_bytes out.new ≡ string_bytes out.old ++ quoted text.now) }
+{
+    let mut writer = Writer::new(Vec::new(*out.allocator()));
+    writer.string(text)?;
+    push_written(out, writer)
+}
+
+/// Appends what the writer wrote.
+pub(crate) fn push_written(out: &mut String, writer: Writer) -> Result<(), AllocError>
+    requires { writer.before ≡ [] }
+    ensures { OnOk result (string_bytes out.new ≡ string_bytes out.old ++ print writer.tokens) }
+{
+    let bytes = writer.into_inner();
+    let string = unsafe { String::from_utf8_unchecked(bytes) };
+    out.push_str(string.as_str())
+}
+
+fn push_plain_message(out: &mut String, keyword: &str) -> Result<(), AllocError>
+    ensures { OnOk result (string_bytes out.new
+        ≡ string_bytes out.old ++ 34 ∷ (keyword.now ++ codes " is not met\"")) }
+{
+    out.push_str("\"")?;
+    out.push_str(keyword)?;
+    out.push_str(" is not met\"")
+}
+
+fn push_other_message(out: &mut String, keyword: &str) -> Result<(), AllocError>
+    ensures { OnOk result (string_bytes out.new
+        ≡ string_bytes out.old ++ quoted (keyword.now ++ codes " is not met")) }
+{
+    let mut message = String::new(*out.allocator());
+    message.push_str(keyword)?;
+    message.push_str(" is not met")?;
+    push_quoted(out, message.as_str())
+}
+
+fn push_plain_location(
+    out: &mut String,
+    resource: &str,
+    steps: &[Step<'_>],
+) -> Result<(), AllocError>
+    ensures { OnOk result (string_bytes out.new ≡ string_bytes out.old
+        ++ 34 ∷ (resource.now ++ number_sign ∷ (plain_text (tokens steps.now) ++ 34 ∷ []))) }
+{
+    out.push_str("\"")?;
+    out.push_str(resource)?;
+    out.push_str("#")?;
+    push_plain(out, steps)?;
+    out.push_str("\"")
+}
+
+fn push_plain_pointer(out: &mut String, steps: &[Step<'_>]) -> Result<(), AllocError>
+    ensures { OnOk result (string_bytes out.new
+        ≡ string_bytes out.old ++ 34 ∷ (plain_text (tokens steps.now) ++ 34 ∷ [])) }
+{
+    out.push_str("\"")?;
+    push_plain(out, steps)?;
+    out.push_str("\"")
+}
+
+// Tokens that stand in a string as they are, but for what a pointer escapes.
+fn push_unescaped_pointer(out: &mut String, steps: &[Step<'_>]) -> Result<(), AllocError>
+    ensures { OnOk result (string_bytes out.new
+        ≡ string_bytes out.old ++ 34 ∷ (pointer_text (tokens steps.now) ++ 34 ∷ [])) }
+{
+    out.push_str("\"")?;
+    push_steps(out, steps)?;
+    out.push_str("\"")
+}
+
+fn push_steps(out: &mut String, steps: &[Step<'_>]) -> Result<(), AllocError>
+    ensures { OnOk result (string_bytes out.new
+        ≡ string_bytes out.old ++ pointer_text (tokens steps.now)) }
+{
+    for step in steps {
+        push_step(out, *step)?;
+    }
+    Ok(())
+}
+
+fn push_step(out: &mut String, step: Step<'_>) -> Result<(), AllocError>
+    ensures { OnOk result (string_bytes out.new
+        ≡ string_bytes out.old ++ slash ∷ flat_map escaped_byte (token step.entry)) }
+{
+    if is_plain_step(step) {
+        push_plain_step(out, step)
+    } else {
+        push_pointer(out, &[step])
+    }
+}
+
+fn push_other_location(
+    out: &mut String,
+    resource: &str,
+    steps: &[Step<'_>],
+) -> Result<(), AllocError>
+    ensures { OnOk result (string_bytes out.new
+        ≡ string_bytes out.old
+        ++ quoted (resource.now ++ (number_sign ∷ fragment_text (tokens steps.now)))) }
+{
+    let mut location = String::with_capacity(*out.allocator(), MOST_OFTEN)?;
+    location.push_str(resource)?;
+    location.push_str("#")?;
+    push_fragment(&mut location, steps)?;
+    push_quoted(out, location.as_str())
+}
+
+fn push_other_pointer(out: &mut String, steps: &[Step<'_>]) -> Result<(), AllocError>
+    ensures { OnOk result (string_bytes out.new
+        ≡ string_bytes out.old ++ quoted (pointer_text (tokens steps.now))) }
+{
+    let mut pointer = String::with_capacity(*out.allocator(), MOST_OFTEN)?;
+    push_pointer(&mut pointer, steps)?;
+    push_quoted(out, pointer.as_str())
+}
+
+// The tokens as they are, each led by a `/`.
+fn push_plain(out: &mut String, steps: &[Step<'_>]) -> Result<(), AllocError>
+    ensures { OnOk result (string_bytes out.new
+        ≡ string_bytes out.old ++ plain_text (tokens steps.now)) }
+{
+    for step in steps {
+        push_plain_step(out, *step)?;
+    }
+    Ok(())
+}
+
+fn push_plain_step(out: &mut String, step: Step<'_>) -> Result<(), AllocError>
+    ensures { OnOk result (string_bytes out.new
+        ≡ string_bytes out.old ++ slash ∷ token step.entry) }
+{
+    out.push_str("/")?;
+    match step {
+        Step::Name(name) => out.push_str(name),
+        Step::Index(index) => push_decimal(out, index),
+    }
+}
+
+fn is_plain_location(resource: &str, steps: &[Step<'_>]) -> bool
+    ensures { result ≡ (list_all is_unescaped resource.now
+        && list_all (λ s. list_all is_plain (token s)) steps.now) }
+{
+    are_unescaped(resource.as_bytes()) && are_plain(steps)
+}
+
+fn are_plain(steps: &[Step<'_>]) -> bool
+    ensures { result ≡ list_all (λ s. list_all is_plain (token s)) steps.now }
+{
+    steps.iter().all(|step| is_plain_step(*step))
+}
+
+fn are_unescaped_steps(steps: &[Step<'_>]) -> bool
+    ensures { result ≡ list_all (λ s. list_all is_unescaped (token s)) steps.now }
+{
+    steps.iter().all(|step| is_unescaped_step(*step))
+}
+
+fn is_unescaped_step(step: Step<'_>) -> bool
+    ensures { result ≡ list_all is_unescaped (token step.entry) }
+{
+    match step {
+        Step::Name(name) => are_unescaped(name.as_bytes()),
+        Step::Index(index) => is_unescaped_index(index),
+    }
+}
+
+fn is_plain_step(step: Step<'_>) -> bool
+    ensures { result ≡ list_all is_plain (token step.entry) }
+{
+    match step {
+        Step::Name(name) => are_plain_bytes(name.as_bytes()),
+        Step::Index(index) => is_plain_index(index),
+    }
+}
+
+// An index is written in digits alone.
+fn is_plain_index(index: usize) -> bool
+    ensures { result ≡ list_all is_plain (decimal index) }
+{
+    let _index = index;
+    true
+}
+
+fn is_unescaped_index(index: usize) -> bool
+    ensures { result ≡ list_all is_unescaped (decimal index) }
+{
+    let _index = index;
+    true
+}
+
+fn are_plain_bytes(bytes: &[u8]) -> bool
+    ensures { result ≡ list_all is_plain bytes.now }
+{
+    bytes.iter().all(|byte| is_plain(*byte))
+}
+
+fn is_plain(byte: u8) -> bool
+    ensures { result ≡ is_plain byte }
+{
+    byte.is_ascii_alphanumeric() || matches!(byte, b'$' | b'-' | b'.' | b'_')
+}
+
+fn are_unescaped(bytes: &[u8]) -> bool
+    ensures { result ≡ list_all is_unescaped bytes.now }
+{
+    bytes.iter().all(|byte| is_unescaped(*byte))
+}
+
+fn is_unescaped(byte: u8) -> bool
+    ensures { result ≡ is_unescaped byte }
+{
+    byte >= b' ' && byte != b'"' && byte != b'\\'
+}

@@ -2,6 +2,7 @@ pub mod Listed
 pub mod Consequences
 pub mod Matching
 pub mod Growing
+pub mod SharedNames
 pub mod Patterns
 pub mod Taken
 pub mod Seen

@@ -1,7 +1,7 @@
 -- What a keyword applies, read off lists of schemas, elements and members.
-use Rattle.std.specs.Prelude.{ℕ, List, [], ◌∷◌, ◌==◌, decimal, map, flat_map, filter, zip, is_some, not, Contains}
+use Rattle.std.specs.Prelude.{ℕ, List, [], ◌∷◌, Option, Some, None, ◌==◌, decimal, map, flat_map, filter, zip, is_some, not, Contains}
 use Rattle.std.specs.List.{AllByRecursion, list_any, enumerate_from}
-use Rattle.definitions.specs.Values.{Text, Value, get, string}
+use Rattle.definitions.specs.Values.{Text, Value, entry, get, string}
 use Rattle.definitions.specs.Patterns.{has_match}
 use Rattle.definitions.specs.Searches.{patterns_of}
 use Rattle.definitions.specs.Schemas.{Schema}
@@ -21,6 +21,24 @@ planned_members k a ms = flat_map (λ m. at_present a k m (get m.0 a.instance)) 
 -- the schemas whose names the instance has, at the whole instance
 abbrev pub planned_dependents : Text → Application → List (Text × Value) → List (Part × Application)
 planned_dependents k a ms = map (λ m. in_place a (k ∷ m.0 ∷ []) m.1) (filter (λ m. is_some (get m.0 a.instance)) ms)
+
+-- the member m, under the schema of its name
+abbrev pub at_schema : Application → Text → Text × Value → Option Value → List (Part × Application)
+at_schema a k m None = []
+at_schema a k m (Some v) = at_part a (k ∷ m.0 ∷ []) v (named m.0) m.1 ∷ []
+
+-- each of these members whose name stands among the schemas ss
+abbrev pub planned_at_names : Text → Application → List (Text × Value) → List (Text × Value) → List (Part × Application)
+planned_at_names k a ss ms = flat_map (λ m. at_schema a k m (entry m.0 ss)) ms
+
+-- the schema of the name of the member m, at the whole instance
+abbrev pub under_schema : Application → Text → Text × Value → Option Value → List (Part × Application)
+under_schema a k m None = []
+under_schema a k m (Some v) = in_place a (k ∷ m.0 ∷ []) v ∷ []
+
+-- the schemas among ss of the names of these members, at the whole instance
+abbrev pub planned_under_names : Text → Application → List (Text × Value) → List (Text × Value) → List (Part × Application)
+planned_under_names k a ss ms = flat_map (λ m. under_schema a k m (entry m.0 ss)) ms
 
 -- each of these schemas, numbered from i, at the element beside it
 abbrev pub planned_pairs : Text → Application → ℕ → List Value → List Value → List (Part × Application)

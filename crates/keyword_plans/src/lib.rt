@@ -15,4 +15,4 @@ pub use planned::{Chosen, Part, Planned};
 pub use planning::plan;
 pub use site::{Evaluated, Site};
 pub use subject::Subject;
-pub use verdict::passes;
+pub use verdict::{holds_of, passes};

@@ -66,7 +66,9 @@ pub fn passes<'a>(
     }
 }
 
-fn holds_of(
+/// Whether the keyword that makes this assertion, with this value, holds of what the schema is applied to. The only error
+/// is want of memory.
+pub fn holds_of(
     alloc: Global,
     assertion: Assertion,
     keyword_value: &Doc,

@@ -4,7 +4,7 @@ ghost use Rattle.std.specs.Prelude.{◌≡◌, [], ◌∷◌, Option, if◌then�
 ghost use Rattle.definitions.specs.Values.{Text, members};
 ghost use Rattle.definitions.specs.Applied.{Application, Outcome, in_place, list_applications, consequence_of};
 ghost use Rattle.json_doc.specs.Docs.{value, members_value};
-ghost use Rattle.keyword_plans.specs.Applications.{planned_elements, planned_dependents};
+ghost use Rattle.keyword_plans.specs.Applications.{planned_elements, planned_dependents, planned_under_names};
 ghost use Rattle.keyword_plans.specs.Plans.{planned_view};
 ghost use Rattle.keyword_plans.specs.Subjects.{subject_value};
 
@@ -122,7 +122,65 @@ pub(crate) fn plan_dependents<'a>(
     }
 }
 
+// Along the shorter of the two: the schemas, or the members of the instance.
 fn plan_dependent_members<'a>(
+    alloc: Global,
+    schemas: &'a Members,
+    subject: Subject<'a>,
+) -> Result<Vec<Planned<'a>>, AllocError>
+    ensures { (a : Application) (k : Text) → a.instance ≡ subject_value subject.entry
+        → IfOk result (λ ps. map (planned_view k a) ps.items
+        ≡ planned_dependents k a (members_value schemas.now)) }
+{
+    match subject.members() {
+        Some(members) if members.len() < schemas.len() => {
+            plan_dependents_along_instance(alloc, schemas, members, subject)
+        }
+        _ => plan_dependents_along_schemas(alloc, schemas, subject),
+    }
+}
+
+fn plan_dependents_along_instance<'a>(
+    alloc: Global,
+    schemas: &'a Members,
+    present: &'a Members,
+    subject: Subject<'a>,
+) -> Result<Vec<Planned<'a>>, AllocError>
+    ensures { (a : Application) (k : Text) → a.instance ≡ subject_value subject.entry
+        → members a.instance ≡ members_value present.now
+        → IfOk result (λ ps. map (planned_view k a) ps.items
+        ≡ planned_dependents k a (members_value schemas.now)) }
+{
+    // Their contracts say that the names are in order.
+    let _ = schemas.iter();
+    let _ = present.iter();
+    plan_dependents_of_members(alloc, schemas, present, subject)
+}
+
+fn plan_dependents_of_members<'a>(
+    alloc: Global,
+    schemas: &'a Members,
+    members: &'a Members,
+    subject: Subject<'a>,
+) -> Result<Vec<Planned<'a>>, AllocError>
+    ensures { (a : Application) (k : Text) → a.instance ≡ subject_value subject.entry
+        → IfOk result (λ ps. map (planned_view k a) ps.items
+        ≡ planned_under_names k a (members_value schemas.now) (members_value members.now)) }
+{
+    let mut planned = Vec::new(alloc);
+    for (name, _) in members.iter() {
+        if let Some(schema) = schemas.get(name) {
+            planned.push(Planned {
+                chosen: Chosen::Below(Some(Step::Name(name)), schema),
+                part: Part::Whole,
+                subject,
+            })?;
+        }
+    }
+    Ok(planned)
+}
+
+fn plan_dependents_along_schemas<'a>(
     alloc: Global,
     schemas: &'a Members,
     subject: Subject<'a>,

@@ -4,7 +4,7 @@ ghost use Rattle.std.specs.Prelude.{◌≡◌, map, IfOk};
 ghost use Rattle.definitions.specs.Values.{Text, members};
 ghost use Rattle.definitions.specs.Applied.{Application};
 ghost use Rattle.json_doc.specs.Docs.{value, members_value};
-ghost use Rattle.keyword_plans.specs.Applications.{planned_members, planned_names};
+ghost use Rattle.keyword_plans.specs.Applications.{planned_members, planned_at_names, planned_names};
 ghost use Rattle.keyword_plans.specs.Plans.{planned_view};
 ghost use Rattle.keyword_plans.specs.Subjects.{subject_value};
 
@@ -30,7 +30,62 @@ pub(crate) fn plan_properties<'a>(
     }
 }
 
+// Along the shorter of the two: the schemas, or the members of the instance.
 fn plan_members<'a>(
+    alloc: Global,
+    schemas: &'a Members,
+    subject: Subject<'a>,
+) -> Result<Vec<Planned<'a>>, AllocError>
+    ensures { (a : Application) (k : Text) → a.instance ≡ subject_value subject.entry
+        → IfOk result (λ ps. map (planned_view k a) ps.items
+        ≡ planned_members k a (members_value schemas.now)) }
+{
+    match subject.members() {
+        Some(members) if members.len() < schemas.len() => {
+            plan_along_instance(alloc, schemas, members)
+        }
+        _ => plan_along_schemas(alloc, schemas, subject),
+    }
+}
+
+fn plan_along_instance<'a>(
+    alloc: Global,
+    schemas: &'a Members,
+    present: &'a Members,
+) -> Result<Vec<Planned<'a>>, AllocError>
+    ensures { (a : Application) (k : Text) → members a.instance ≡ members_value present.now
+        → IfOk result (λ ps. map (planned_view k a) ps.items
+        ≡ planned_members k a (members_value schemas.now)) }
+{
+    // Their contracts say that the names are in order.
+    let _ = schemas.iter();
+    let _ = present.iter();
+    plan_each_member(alloc, schemas, present)
+}
+
+fn plan_each_member<'a>(
+    alloc: Global,
+    schemas: &'a Members,
+    members: &'a Members,
+) -> Result<Vec<Planned<'a>>, AllocError>
+    ensures { (a : Application) (k : Text)
+        → IfOk result (λ ps. map (planned_view k a) ps.items
+        ≡ planned_at_names k a (members_value schemas.now) (members_value members.now)) }
+{
+    let mut planned = Vec::new(alloc);
+    for (name, member) in members.iter() {
+        if let Some(schema) = schemas.get(name) {
+            planned.push(Planned {
+                chosen: Chosen::Below(Some(Step::Name(name)), schema),
+                part: Part::Member(name),
+                subject: Subject::Value(member),
+            })?;
+        }
+    }
+    Ok(planned)
+}
+
+fn plan_along_schemas<'a>(
     alloc: Global,
     schemas: &'a Members,
     subject: Subject<'a>,

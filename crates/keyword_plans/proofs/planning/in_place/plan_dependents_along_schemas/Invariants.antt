@@ -6,7 +6,7 @@ use Rattle.json_doc.specs.Docs.{members_value}
 use Rattle.json_doc.specs.Members.{members_left}
 use Rattle.keyword_plans.specs.Subjects.{subject_value}
 use Rattle.keyword_plans.specs.Plans.{planned_view}
-use Rattle.keyword_plans.proofs.planning.in_place.plan_dependent_members.Given as goal
+use Rattle.keyword_plans.proofs.planning.in_place.plan_dependents_along_schemas.Given as goal
 
 -- what is planned, and what the schemas that are left add
 abbrev pub invariant-loop-name : goal.invariant-loop-name

@@ -8,7 +8,7 @@ use Rattle.definitions.specs.Pointers.{Pointer}
 use Rattle.definitions.specs.Schemas.{Schema, Identity, schema_at, opened_schema}
 use Rattle.definitions.specs.Outcomes.{is_running}
 use Rattle.std.specs.List.{list_any}
-use Rattle.evaluation_context.specs.Runnings.{is_running_as}
+use Rattle.evaluation_context.specs.Runnings.{is_running_as, are_above}
 use Rattle.definitions.specs.Applied.{InstanceLocation, OutputUnit}
 use Rattle.evaluation_context.specs.Frames.{Frame, frame_standing}
 use Rattle.evaluation_context.specs.Standings.{Standing, application_at}
@@ -108,14 +108,17 @@ pub came_from : (back : Return) (older newer : Frame) → LeadsTo back older →
 came_from back older newer leads onward =
     let all : take back.steps (newer.outer ++ newer.pointer) ≡ older.outer ++ older.pointer =
     ap (λ n. take n (newer.outer ++ newer.pointer)) leads.steps ∙ onward.steps in
-    same_frames
-    (sym (ap (λ n. take n newer.path) leads.path ∙ onward.path))
-    (sym (ap₂ take leads.start all ∙ take_at older.outer older.pointer (length older.outer) refl))
-    (sym leads.resource)
-    (sym (ap₂ drop leads.start all ∙ drop_at older.outer older.pointer (length older.outer) refl))
-    (same_locations (sym (ap (λ n. take n newer.instance_location.pointer) leads.instance_location ∙ onward.instance_location)) (sym leads.name))
-    (sym onward.scope)
-    (sym onward.running)
+    record {
+      cut = same_frames
+          (sym (ap (λ n. take n newer.path) leads.path ∙ onward.path))
+          (sym (ap₂ take leads.start all ∙ take_at older.outer older.pointer (length older.outer) refl))
+          (sym leads.resource)
+          (sym (ap₂ drop leads.start all ∙ drop_at older.outer older.pointer (length older.outer) refl))
+          (same_locations (sym (ap (λ n. take n newer.instance_location.pointer) leads.instance_location ∙ onward.instance_location)) (sym leads.name))
+          (sym onward.scope)
+          (sym onward.running);
+      above = ap (are_above back.instance_location) onward.running ∙ leads.above;
+    }
 
 -- ---- a schema
 pub schema_stays : (f : Frame) (v : Value) → opened_schema f.resource f.pointer v None ≡ schema_at f.resource f.pointer v → frame_standing f ≡ standing_at [] (schema_at f.resource f.pointer v) (frame_standing f)

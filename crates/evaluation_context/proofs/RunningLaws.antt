@@ -1,185 +1,299 @@
--- The schema objects that are being applied, beside the steps that are kept for them.
-use Rattle.std.proofs.Common.{◌≡◌, ◌≤◌, ◌<◌, ◌++◌, ◌∷◌, ◌&&◌, [], ℕ, zero, suc, List, Bool, true, false, length, nat_le, map, option_map, get_or, take, drop, append_assoc, refl, sym, ap, ap₂, ◌∙◌, arith}
-use Rattle.std.proofs.lemmas.Bool.{and_parts, and_from, leb-true, le-leb}
-use Rattle.std.proofs.lemmas.List.{take-take, take_all, take_rest, map_push, same_from_push, length-append, length-map, length-take-le, get_or-map, nil_from_length, drop_at, take_at}
-use Rattle.std.proofs.lemmas.List.Folds.{list_any_at}
+-- The schema objects that are being applied, beside the steps that are kept for them and those of the instance location.
+use Rattle.std.proofs.Common.{◌≡◌, ◌≤◌, ◌<◌, ◌+◌, ◌++◌, ◌∷◌, ◌&&◌, ◌||◌, [], ℕ, zero, suc, List, Bool, Option, true, false, length, nat_le, map, option_map, get_or, take, drop, refl, sym, ap, ap₂, ◌∙◌, arith}
+use Rattle.std.proofs.lemmas.Bool.{and_parts, and_from, and_left, and_right, leb-true, le-leb}
+use Rattle.std.proofs.lemmas.List.{take-take, take_all, take_rest, map_push, map-append, same_from_push, length-append, length-map, length-take, length-take-le, get_or-map, nil_from_length, drop_at, take_at, take-append-drop, drop_more}
+use Rattle.std.proofs.lemmas.List.Folds.{list_any_at, list_any-append}
 use Rattle.std.specs.Prelude.{slice_range, if◌then◌else◌}
-use Rattle.std.specs.List.{list_any}
-use Rattle.definitions.specs.Schemas.{Identity}
+use Rattle.std.specs.List.{list_any, list_all}
+use Rattle.definitions.specs.Values.{Text, same_text}
+use Rattle.definitions.specs.Pointers.{Pointer, same_pointer}
+use Rattle.definitions.specs.Schemas.{Identity, same_identity}
 use Rattle.definitions.specs.Applied.{InstanceLocation}
-use Rattle.lemmas.proofs.Lists.{range_is, range_same}
-use Rattle.locations.specs.Steps.{tokens}
+use Rattle.definitions.specs.Outcomes.{same_name}
+use Rattle.lemmas.proofs.Lists.{range_same}
+use Rattle.lemmas.proofs.Texts.{same_text_itself}
+use Rattle.locations.specs.Steps.{token, tokens}
 use Rattle.locations.specs.declared.step.Step.{Step}
+use Rattle.locations.proofs.SameTokens.{same_pointer-lengths}
 use Rattle.evaluation_context.proofs.PointerLaws.{no_push}
-use Rattle.evaluation_context.specs.Runnings.{running_view, are_laid}
+use Rattle.evaluation_context.specs.Runnings.{running_view, is_running_as, are_above, are_laid}
 use Rattle.evaluation_context.specs.declared.running.Running.{Running}
 
--- where the steps of one stand
-pub record Laid (from to : ℕ) (r : Running) : Type 0 where
-  pub pointer : from ≤ r.pointer
-  pub instance_location : r.pointer ≤ r.instance_location
-  pub end : r.instance_location ≤ r.end
-  pub within : r.end ≤ to
+-- where one stands
+pub record Laid (s e : Running → ℕ) (from to : ℕ) (r : Running) : Type 0 where
+  pub start : from ≤ s r
+  pub end : s r ≤ e r
+  pub within : e r ≤ to
 
-own_parts : (from : ℕ) (r : Running) → (nat_le from r.pointer && (nat_le r.pointer r.instance_location && nat_le r.instance_location r.end)) ≡ true → Laid from r.end r
-own_parts from r h =
-    let p = and_parts (nat_le from r.pointer) _ h in
-    let q = and_parts (nat_le r.pointer r.instance_location) (nat_le r.instance_location r.end) p.1 in
-    record { pointer = leb-true _ _ p.0; instance_location = leb-true _ _ q.0; end = leb-true _ _ q.1; within = omega arith }
+own_parts : (s e : Running → ℕ) (from : ℕ) (r : Running) → (nat_le from (s r) && nat_le (s r) (e r)) ≡ true → Laid s e from (e r) r
+own_parts s e from r h =
+    let p = and_parts (nat_le from (s r)) (nat_le (s r) (e r)) h in
+    record { start = leb-true _ _ p.0; end = leb-true _ _ p.1; within = omega arith }
 
 -- the first one, and the rest
-pub record Parts (from to : ℕ) (r : Running) (rs : List Running) : Type 0 where
-  pub own : Laid from r.end r
-  pub rest : are_laid r.end to rs ≡ true
+pub record Parts (s e : Running → ℕ) (from to : ℕ) (r : Running) (rs : List Running) : Type 0 where
+  pub own : Laid s e from (e r) r
+  pub rest : are_laid s e (e r) to rs ≡ true
 
-parts : (from to : ℕ) (r : Running) (rs : List Running) → are_laid from to (r ∷ rs) ≡ true → Parts from to r rs
-parts from to r rs h =
-    let p = and_parts (nat_le from r.pointer && (nat_le r.pointer r.instance_location && nat_le r.instance_location r.end)) (are_laid r.end to rs) h in
-    record { own = own_parts from r p.0; rest = p.1 }
+parts : (s e : Running → ℕ) (from to : ℕ) (r : Running) (rs : List Running) → are_laid s e from to (r ∷ rs) ≡ true → Parts s e from to r rs
+parts s e from to r rs h =
+    let p = and_parts (nat_le from (s r) && nat_le (s r) (e r)) (are_laid s e (e r) to rs) h in
+    record { own = own_parts s e from r p.0; rest = p.1 }
 
-whole : (from to : ℕ) (r : Running) (rs : List Running) → Laid from r.end r → are_laid r.end to rs ≡ true → are_laid from to (r ∷ rs) ≡ true
-whole from to r rs own rest =
-    and_from _ (are_laid r.end to rs) (and_from (nat_le from r.pointer) _ (le-leb _ _ own.pointer) (and_from (nat_le r.pointer r.instance_location) (nat_le r.instance_location r.end) (le-leb _ _ own.instance_location) (le-leb _ _ own.end))) rest
+whole : (s e : Running → ℕ) (from to : ℕ) (r : Running) (rs : List Running) → Laid s e from (e r) r → are_laid s e (e r) to rs ≡ true → are_laid s e from to (r ∷ rs) ≡ true
+whole s e from to r rs own rest = and_from _ (are_laid s e (e r) to rs) (and_from (nat_le from (s r)) _ (le-leb _ _ own.start) (le-leb _ _ own.end)) rest
 
-laid_bound : (from to : ℕ) (rs : List Running) → are_laid from to rs ≡ true → from ≤ to
-laid_bound from to [] h = leb-true from to h
-laid_bound from to (r ∷ rs) h =
-    let p = parts from to r rs h in
-    let rest = laid_bound r.end to rs p.rest in
-    omega (arith, p.own.pointer, p.own.instance_location, p.own.end)
+laid_bound : (s e : Running → ℕ) (from to : ℕ) (rs : List Running) → are_laid s e from to rs ≡ true → from ≤ to
+laid_bound s e from to [] h = leb-true from to h
+laid_bound s e from to (r ∷ rs) h =
+    let p = parts s e from to r rs h in
+    let rest = laid_bound s e (e r) to rs p.rest in
+    omega (arith, p.own.start, p.own.end)
 
--- ---- more steps
-pub laid_more : (from to more : ℕ) (rs : List Running) → to ≤ more → are_laid from to rs ≡ true → are_laid from more rs ≡ true
-laid_more from to more [] le h = le-leb from more (omega (arith, leb-true from to h))
-laid_more from to more (r ∷ rs) le h =
-    let p = parts from to r rs h in
-    whole from more r rs p.own (laid_more r.end to more rs le p.rest)
+-- ---- more room
+pub laid_more : (s e : Running → ℕ) (from to more : ℕ) (rs : List Running) → to ≤ more → are_laid s e from to rs ≡ true → are_laid s e from more rs ≡ true
+laid_more s e from to more [] le h = le-leb from more (omega (arith, leb-true from to h))
+laid_more s e from to more (r ∷ rs) le h =
+    let p = parts s e from to r rs h in
+    whole s e from more r rs p.own (laid_more s e (e r) to more rs le p.rest)
 
 -- ---- one more, and one less
-pub laid_push : (from to more : ℕ) (rs : List Running) (r : Running) → are_laid from to rs ≡ true → Laid to more r → are_laid from more (rs ++ r ∷ []) ≡ true
-laid_push from to more [] r h own =
-    let first : Laid from r.end r = record { pointer = omega (arith, leb-true from to h, own.pointer); instance_location = own.instance_location; end = own.end; within = omega arith } in
-    whole from more r [] first (le-leb r.end more own.within)
-laid_push from to more (s ∷ rs) r h own =
-    let p = parts from to s rs h in
-    whole from more s (rs ++ r ∷ []) p.own (laid_push s.end to more rs r p.rest own)
+pub laid_push : (s e : Running → ℕ) (from to more : ℕ) (rs : List Running) (r : Running) → are_laid s e from to rs ≡ true → Laid s e to more r → are_laid s e from more (rs ++ r ∷ []) ≡ true
+laid_push s e from to more [] r h own =
+    let first : Laid s e from (e r) r = record { start = omega (arith, leb-true from to h, own.start); end = own.end; within = omega arith } in
+    whole s e from more r [] first (le-leb (e r) more own.within)
+laid_push s e from to more (x ∷ rs) r h own =
+    let p = parts s e from to x rs h in
+    whole s e from more x (rs ++ r ∷ []) p.own (laid_push s e (e x) to more rs r p.rest own)
 
-pub laid_pop : (from to : ℕ) (rs : List Running) (r : Running) → are_laid from to (rs ++ r ∷ []) ≡ true → (are_laid from r.pointer rs ≡ true) × Laid from to r
-laid_pop from to [] r h =
-    let p = parts from to r [] h in
-    (le-leb from r.pointer p.own.pointer, record { pointer = p.own.pointer; instance_location = p.own.instance_location; end = p.own.end; within = leb-true r.end to p.rest })
-laid_pop from to (s ∷ rs) r h =
-    let p = parts from to s (rs ++ r ∷ []) h in
-    let q = laid_pop s.end to rs r p.rest in
-    let below : from ≤ s.end = omega (arith, p.own.pointer, p.own.instance_location, p.own.end) in
-    (whole from r.pointer s rs p.own q.0, record { pointer = omega (arith, q.1.pointer); instance_location = q.1.instance_location; end = q.1.end; within = q.1.within })
+pub laid_pop : (s e : Running → ℕ) (from to : ℕ) (rs : List Running) (r : Running) → are_laid s e from to (rs ++ r ∷ []) ≡ true → (are_laid s e from (s r) rs ≡ true) × Laid s e from to r
+laid_pop s e from to [] r h =
+    let p = parts s e from to r [] h in
+    (le-leb from (s r) p.own.start, record { start = p.own.start; end = p.own.end; within = leb-true (e r) to p.rest })
+laid_pop s e from to (x ∷ rs) r h =
+    let p = parts s e from to x (rs ++ r ∷ []) h in
+    let q = laid_pop s e (e x) to rs r p.rest in
+    (whole s e from (s r) x rs p.own q.0, record { start = omega (arith, q.1.start, p.own.start, p.own.end); end = q.1.end; within = q.1.within })
 
-pub laid_at : (from to : ℕ) (rs : List Running) (i : ℕ) (d : Running) → i < length rs → are_laid from to rs ≡ true → Laid from to (get_or rs i d)
-laid_at from to [] i d less h = absurd (omega arith)
-laid_at from to (r ∷ rs) zero d less h =
-    let p = parts from to r rs h in
-    record { pointer = p.own.pointer; instance_location = p.own.instance_location; end = p.own.end; within = laid_bound r.end to rs p.rest }
-laid_at from to (r ∷ rs) (suc i) d less h =
-    let p = parts from to r rs h in
-    let q = laid_at r.end to rs i d (omega arith) p.rest in
-    record { pointer = omega (arith, q.pointer, p.own.pointer, p.own.instance_location, p.own.end); instance_location = q.instance_location; end = q.end; within = q.within }
+pub laid_at : (s e : Running → ℕ) (from to : ℕ) (rs : List Running) (i : ℕ) (d : Running) → i < length rs → are_laid s e from to rs ≡ true → Laid s e from to (get_or rs i d)
+laid_at s e from to [] i d less h = absurd (omega arith)
+laid_at s e from to (r ∷ rs) zero d less h =
+    let p = parts s e from to r rs h in
+    record { start = p.own.start; end = p.own.end; within = laid_bound s e (e r) to rs p.rest }
+laid_at s e from to (r ∷ rs) (suc i) d less h =
+    let p = parts s e from to r rs h in
+    let q = laid_at s e (e r) to rs i d (omega arith) p.rest in
+    record { start = omega (arith, q.start, p.own.start, p.own.end); end = q.end; within = q.within }
+
+-- the first ones, up to one of them
+pub laid_front : (s e : Running → ℕ) (from to : ℕ) (rs : List Running) (i : ℕ) (d : Running) → i < length rs → are_laid s e from to rs ≡ true → are_laid s e from (e (get_or rs i d)) (take (suc i) rs) ≡ true
+laid_front s e from to [] i d less h = absurd (omega arith)
+laid_front s e from to (r ∷ rs) zero d less h = whole s e from (e r) r [] (parts s e from to r rs h).own (le-leb (e r) (e r) (omega arith))
+laid_front s e from to (r ∷ rs) (suc i) d less h =
+    let p = parts s e from to r rs h in
+    whole s e from (e (get_or rs i d)) r (take (suc i) rs) p.own (laid_front s e (e r) to rs i d (omega arith) p.rest)
 
 -- ---- the same beside any steps whose first ones are those that are kept
-pub views_same : (xs ys : List Step) (from to : ℕ) (rs : List Running) → take to xs ≡ take to ys → are_laid from to rs ≡ true → map (running_view xs) rs ≡ map (running_view ys) rs
-views_same xs ys from to [] same h = refl
-views_same xs ys from to (r ∷ rs) same h =
-    let p = parts from to r rs h in
-    let within = laid_bound r.end to rs p.rest in
-    let pointer = range_same xs ys to r.pointer r.instance_location same p.own.instance_location (omega (arith, p.own.end)) in
-    let instance_location = range_same xs ys to r.instance_location r.end same p.own.end within in
+pub views_same : (xs ys ps qs : List Step) (from to low high : ℕ) (rs : List Running) → take to xs ≡ take to ys → take high ps ≡ take high qs
+    → are_laid (λ r. r.pointer) (λ r. r.end) from to rs ≡ true → are_laid (λ r. r.depth) (λ r. r.depth) low high rs ≡ true
+    → map (running_view xs ps) rs ≡ map (running_view ys qs) rs
+views_same xs ys ps qs from to low high [] same near h k = refl
+views_same xs ys ps qs from to low high (r ∷ rs) same near h k =
+    let p = parts (λ r. r.pointer) (λ r. r.end) from to r rs h in
+    let q = parts (λ r. r.depth) (λ r. r.depth) low high r rs k in
+    let within = laid_bound (λ r. r.pointer) (λ r. r.end) r.end to rs p.rest in
+    let shallow = laid_bound (λ r. r.depth) (λ r. r.depth) r.depth high rs q.rest in
+    let pointer = range_same xs ys to r.pointer r.end same p.own.end within in
+    let place : take r.depth ps ≡ take r.depth qs = sym (take-take r.depth high ps shallow) ∙ ap (take r.depth) near ∙ take-take r.depth high qs shallow in
     ap₂ (λ v vs. v ∷ vs)
-    (ap₂ (λ s t. ((r.resource.now, tokens s), record { pointer = tokens t; name = (running_view xs r).1.name })) pointer instance_location)
-    (views_same xs ys r.end to rs same p.rest)
+    (ap₂ (λ a b. ((r.resource.now, tokens a), record { pointer = tokens b; name = option_map (λ n. n.now) r.name })) pointer place)
+    (views_same xs ys ps qs r.end to r.depth high rs same near p.rest q.rest)
 
 -- ---- what a push leaves
-pub pushed_laid : (b : Bool) (es new : List Running) (r : Running) (to more : ℕ) → new ≡ (if b then es ++ r ∷ [] else es) → are_laid 0 to es ≡ true → Laid to more r → are_laid 0 more new ≡ true
-pushed_laid true es new r to more e h own = ap (are_laid 0 more) e ∙ laid_push 0 to more es r h own
-pushed_laid false es new r to more e h own = ap (are_laid 0 more) e ∙ laid_more 0 to more es (omega (arith, own.pointer, own.instance_location, own.end, own.within)) h
+pub pushed_laid : (s e : Running → ℕ) (b : Bool) (es new : List Running) (r : Running) (to more : ℕ) → new ≡ (if b then es ++ r ∷ [] else es) → are_laid s e 0 to es ≡ true → Laid s e to more r → are_laid s e 0 more new ≡ true
+pushed_laid s e true es new r to more is h own = ap (are_laid s e 0 more) is ∙ laid_push s e 0 to more es r h own
+pushed_laid s e false es new r to more is h own = ap (are_laid s e 0 more) is ∙ laid_more s e 0 to more es (omega (arith, own.start, own.end, own.within)) h
+
+pub grown_laid : (s e : Running → ℕ) (es : List Running) (xs ys more : List Step) → ys ≡ xs ++ more → are_laid s e 0 (length xs) es ≡ true → are_laid s e 0 (length ys) es ≡ true
+grown_laid s e es xs ys more is h = laid_more s e 0 (length xs) (length ys) es (omega (arith, ap length is, length-append xs more)) h
 
 front_same : {X : Type 0} (xs more : List X) → take (length xs) (xs ++ more) ≡ take (length xs) xs
 front_same xs more = take_at xs more (length xs) refl ∙ sym (take_all (length xs) xs (omega arith))
 
-pub grown_laid : (es : List Running) (xs ys more : List Step) → ys ≡ xs ++ more → are_laid 0 (length xs) es ≡ true → are_laid 0 (length ys) es ≡ true
-grown_laid es xs ys more e h = laid_more 0 (length xs) (length ys) es (omega (arith, ap length e, length-append xs more)) h
-
 -- the steps of what is pushed
-pub record Pushed (xs middle ys p q : List Step) (r : Running) : Type 0 where
-  pub first : middle ≡ xs ++ p
-  pub second : ys ≡ middle ++ q
+pub record Pushed (xs ys place p : List Step) (r : Running) : Type 0 where
+  pub kept : ys ≡ xs ++ p
   pub pointer : r.pointer ≡ length xs
-  pub instance_location : r.instance_location ≡ length middle
   pub end : r.end ≡ length ys
+  pub depth : r.depth ≡ length place
 
-pub pushed_own : {xs middle ys p q : List Step} {r : Running} → Pushed xs middle ys p q r → Laid (length xs) (length ys) r
-pushed_own {xs} {middle} {ys} {p} {q} {r} h =
+pub pushed_own : {xs ys place p : List Step} {r : Running} → Pushed xs ys place p r → Laid (λ r. r.pointer) (λ r. r.end) (length xs) (length ys) r
+pushed_own {xs} {ys} {place} {p} {r} h =
     record {
-      pointer = omega (arith, h.pointer);
-      instance_location = omega (arith, h.pointer, h.instance_location, ap length h.first, length-append xs p);
-      end = omega (arith, h.instance_location, h.end, ap length h.second, length-append middle q);
+      start = omega (arith, h.pointer);
+      end = omega (arith, h.pointer, h.end, ap length h.kept, length-append xs p);
       within = omega (arith, h.end);
     }
 
-pushed_pointer : {xs middle ys p q : List Step} {r : Running} → Pushed xs middle ys p q r → slice_range ys r.pointer r.instance_location ≡ p
-pushed_pointer {xs} {middle} {ys} {p} {q} {r} h =
-    range_is ys r.pointer r.instance_location (pushed_own h).instance_location
-    ∙ ap₂ (λ a b. drop a (take b ys)) h.pointer h.instance_location
-    ∙ ap (λ s. drop (length xs) (take (length middle) s)) h.second
-    ∙ ap (drop (length xs)) (take_at middle q (length middle) refl ∙ h.first)
-    ∙ drop_at xs p (length xs) refl
+pub pushed_deep : {xs ys place p : List Step} {r : Running} → Pushed xs ys place p r → Laid (λ r. r.depth) (λ r. r.depth) (length place) (length place) r
+pushed_deep {xs} {ys} {place} {p} {r} h = record { start = omega (arith, h.depth); end = omega arith; within = omega (arith, h.depth) }
 
-pushed_location : {xs middle ys p q : List Step} {r : Running} → Pushed xs middle ys p q r → slice_range ys r.instance_location r.end ≡ q
-pushed_location {xs} {middle} {ys} {p} {q} {r} h =
-    ap₂ (slice_range ys) h.instance_location h.end ∙ take_rest ys (length middle) ∙ ap (drop (length middle)) h.second ∙ drop_at middle q (length middle) refl
-
-pub pushed_views : (es new : List Running) (xs middle ys p q : List Step) (r : Running) → new ≡ es ++ r ∷ [] → Pushed xs middle ys p q r → are_laid 0 (length xs) es ≡ true
-    → map (running_view ys) new
-    ≡ map (running_view xs) es ++ ((r.resource.now, tokens p), record { pointer = tokens q; name = option_map (λ n. n.now) r.name }) ∷ []
-pushed_views es new xs middle ys p q r e h laid =
-    let all : ys ≡ xs ++ (p ++ q) = h.second ∙ ap (λ s. s ++ q) h.first ∙ append_assoc xs p q in
-    ap (map (running_view ys)) e ∙ map_push (running_view ys) es r
+pub pushed_views : (es new : List Running) (xs ys place p : List Step) (r : Running) → new ≡ es ++ r ∷ [] → Pushed xs ys place p r
+    → are_laid (λ r. r.pointer) (λ r. r.end) 0 (length xs) es ≡ true → are_laid (λ r. r.depth) (λ r. r.depth) 0 (length place) es ≡ true
+    → map (running_view ys place) new
+    ≡ map (running_view xs place) es ++ ((r.resource.now, tokens p), record { pointer = tokens place; name = option_map (λ n. n.now) r.name }) ∷ []
+pushed_views es new xs ys place p r e h laid nested =
+    let pointer : slice_range ys r.pointer r.end ≡ p = ap₂ (slice_range ys) h.pointer h.end ∙ take_rest ys (length xs) ∙ ap (drop (length xs)) h.kept ∙ drop_at xs p (length xs) refl in
+    let all : take r.depth place ≡ place = take_all r.depth place (omega (arith, h.depth)) in
+    ap (map (running_view ys place)) e ∙ map_push (running_view ys place) es r
     ∙ ap₂ (λ vs v. vs ++ v ∷ [])
-    (views_same ys xs 0 (length xs) es (ap (take (length xs)) all ∙ front_same xs (p ++ q)) laid)
-    (ap₂ (λ s t. ((r.resource.now, tokens s), record { pointer = tokens t; name = option_map (λ n. n.now) r.name })) (pushed_pointer h) (pushed_location h))
+    (views_same ys xs place place 0 (length xs) 0 (length place) es (ap (take (length xs)) h.kept ∙ front_same xs p) refl laid nested)
+    (ap₂ (λ a b. ((r.resource.now, tokens a), record { pointer = tokens b; name = option_map (λ n. n.now) r.name })) pointer all)
+
+-- ---- a longer instance location
+pub deepened_views : (es : List Running) (xs place new more : List Step) → new ≡ place ++ more
+    → are_laid (λ r. r.pointer) (λ r. r.end) 0 (length xs) es ≡ true → are_laid (λ r. r.depth) (λ r. r.depth) 0 (length place) es ≡ true
+    → map (running_view xs new) es ≡ map (running_view xs place) es
+deepened_views es xs place new more is laid nested =
+    views_same xs xs new place 0 (length xs) 0 (length place) es refl (ap (take (length place)) is ∙ front_same place more) laid nested
+
+pub deepened_laid : (s e : Running → ℕ) (b : Bool) (es : List Running) (place new : List Step) (step : Step) → new ≡ (if b then place ++ step ∷ [] else place) → are_laid s e 0 (length place) es ≡ true → are_laid s e 0 (length new) es ≡ true
+deepened_laid s e true es place new step is h = grown_laid s e es place new (step ∷ []) is h
+deepened_laid s e false es place new step is h = ap (λ n. are_laid s e 0 n es) (ap length is) ∙ h
+
+-- ---- a shorter one
+-- the depth of the innermost
+pub record Innermost (es : List Running) (place : List Step) (depth : ℕ) : Type 0 where
+  pub within : depth ≤ length place
+  pub enough : are_laid (λ r. r.depth) (λ r. r.depth) 0 depth es ≡ true
+
+pub innermost_is : (es : List Running) (place : List Step) (i : ℕ) (r : Running) → i < length es → length es ≤ suc i → r ≡ get_or es i r → are_laid (λ r. r.depth) (λ r. r.depth) 0 (length place) es ≡ true → Innermost es place r.depth
+innermost_is es place i r less last is nested =
+    record {
+      within = omega (arith, (laid_at (λ r. r.depth) (λ r. r.depth) 0 (length place) es i r less nested).within, ap (λ (x : Running). x.depth) is);
+      enough = ap₂ (λ (x : Running) rs. are_laid (λ r. r.depth) (λ r. r.depth) 0 x.depth rs) is (sym (take_all (suc i) es last)) ∙ laid_front (λ r. r.depth) (λ r. r.depth) 0 (length place) es i r less nested;
+    }
+
+all_here : {A : Type 0} (f : A → Bool) (xs : List A) (i : ℕ) (d : A) → i < length xs → list_all f xs ≡ true → f (get_or xs i d) ≡ true
+all_here f [] i d less h = absurd (omega arith)
+all_here f (x ∷ xs) zero d less h = (and_parts (f x) (list_all f xs) h).0
+all_here f (x ∷ xs) (suc i) d less h = all_here f xs i d (omega arith) (and_parts (f x) (list_all f xs) h).1
+
+pub innermost_above : (es : List Running) (xs place : List Step) (i : ℕ) (r : Running) (n : ℕ) → i < length es → r ≡ get_or es i r → r.depth ≤ length place → are_above n (map (running_view xs place) es) ≡ true → r.depth ≤ n
+innermost_above es xs place i r n less is within above =
+    let f = λ (o : Identity × InstanceLocation). nat_le (length o.1.pointer) n in
+    let v = running_view xs place r in
+    let here : nat_le (length v.1.pointer) n ≡ true =
+    ap (λ (x : Running). f (running_view xs place x)) is ∙ ap f (sym (get_or-map (running_view xs place) es i r v less)) ∙ all_here f (map (running_view xs place) es) i v (omega (arith, length-map es (running_view xs place))) above in
+    let own : length (tokens (take r.depth place)) ≤ n = leb-true _ n here in
+    omega (arith, own, length-map (take r.depth place) token, length-take-le r.depth place within)
+
+pub are_all_above : (xs place : List Step) (from to n : ℕ) (rs : List Running) → to ≤ n → are_laid (λ r. r.depth) (λ r. r.depth) from to rs ≡ true → are_above n (map (running_view xs place) rs) ≡ true
+are_all_above xs place from to n [] le h = refl
+are_all_above xs place from to n (r ∷ rs) le h =
+    let p = parts (λ r. r.depth) (λ r. r.depth) from to r rs h in
+    let bound = laid_bound (λ r. r.depth) (λ r. r.depth) r.depth to rs p.rest in
+    and_from _ (are_above n (map (running_view xs place) rs))
+    (le-leb (length (tokens (take r.depth place))) n (omega (arith, bound, length-map (take r.depth place) token, length-take r.depth place)))
+    (are_all_above xs place r.depth to n rs le p.rest)
+
+pub cut_laid : (es : List Running) (place new : List Step) (n depth : ℕ) → new ≡ take n place → depth ≤ n → Innermost es place depth → are_laid (λ r. r.depth) (λ r. r.depth) 0 (length new) es ≡ true
+cut_laid es place new n depth is le h =
+    laid_more (λ r. r.depth) (λ r. r.depth) 0 depth (length new) es (omega (arith, h.within, ap length is, length-take n place)) h.enough
+
+pub cut_views : (es : List Running) (xs place new : List Step) (n depth : ℕ) → new ≡ take n place → depth ≤ n → Innermost es place depth → are_laid (λ r. r.pointer) (λ r. r.end) 0 (length xs) es ≡ true
+    → map (running_view xs new) es ≡ map (running_view xs place) es
+cut_views es xs place new n depth is le h laid =
+    views_same xs xs new place 0 (length xs) 0 depth es refl (ap (take depth) is ∙ take-take depth n place le) laid h.enough
 
 -- ---- what a pop leaves
-pub popped_laid : (es new : List Running) (xs ys : List Step) (r : Running) → es ≡ new ++ r ∷ [] → ys ≡ take r.pointer xs → are_laid 0 (length xs) es ≡ true → are_laid 0 (length ys) new ≡ true
+pub popped_laid : (es new : List Running) (xs ys : List Step) (r : Running) → es ≡ new ++ r ∷ [] → ys ≡ take r.pointer xs → are_laid (λ r. r.pointer) (λ r. r.end) 0 (length xs) es ≡ true → are_laid (λ r. r.pointer) (λ r. r.end) 0 (length ys) new ≡ true
 popped_laid es new xs ys r e cut h =
-    let p = laid_pop 0 (length xs) new r (ap (are_laid 0 (length xs)) (sym e) ∙ h) in
-    let long : length ys ≡ r.pointer = ap length cut ∙ length-take-le r.pointer xs (omega (arith, p.1.instance_location, p.1.end, p.1.within)) in
-    ap (λ n. are_laid 0 n new) long ∙ p.0
+    let p = laid_pop (λ r. r.pointer) (λ r. r.end) 0 (length xs) new r (ap (are_laid (λ r. r.pointer) (λ r. r.end) 0 (length xs)) (sym e) ∙ h) in
+    let long : length ys ≡ r.pointer = ap length cut ∙ length-take-le r.pointer xs (omega (arith, p.1.end, p.1.within)) in
+    ap (λ n. are_laid (λ r. r.pointer) (λ r. r.end) 0 n new) long ∙ p.0
 
-pub popped_views : (es new : List Running) (xs ys : List Step) (r : Running) → es ≡ new ++ r ∷ [] → ys ≡ take r.pointer xs → are_laid 0 (length xs) es ≡ true
-    → (older : List (Identity × InstanceLocation)) (v : Identity × InstanceLocation) → map (running_view xs) es ≡ older ++ v ∷ [] → map (running_view ys) new ≡ older
-popped_views es new xs ys r e cut h older v seen =
-    let p = laid_pop 0 (length xs) new r (ap (are_laid 0 (length xs)) (sym e) ∙ h) in
+pub popped_nested : (es new : List Running) (place : List Step) (r : Running) → es ≡ new ++ r ∷ [] → are_laid (λ r. r.depth) (λ r. r.depth) 0 (length place) es ≡ true → are_laid (λ r. r.depth) (λ r. r.depth) 0 (length place) new ≡ true
+popped_nested es new place r e h =
+    let p = laid_pop (λ r. r.depth) (λ r. r.depth) 0 (length place) new r (ap (are_laid (λ r. r.depth) (λ r. r.depth) 0 (length place)) (sym e) ∙ h) in
+    laid_more (λ r. r.depth) (λ r. r.depth) 0 r.depth (length place) new p.1.within p.0
+
+pub popped_views : (es new : List Running) (xs ys place : List Step) (r : Running) → es ≡ new ++ r ∷ [] → ys ≡ take r.pointer xs
+    → are_laid (λ r. r.pointer) (λ r. r.end) 0 (length xs) es ≡ true → are_laid (λ r. r.depth) (λ r. r.depth) 0 (length place) es ≡ true
+    → (older : List (Identity × InstanceLocation)) (v : Identity × InstanceLocation) → map (running_view xs place) es ≡ older ++ v ∷ [] → map (running_view ys place) new ≡ older
+popped_views es new xs ys place r e cut h k older v seen =
+    let p = laid_pop (λ r. r.pointer) (λ r. r.end) 0 (length xs) new r (ap (are_laid (λ r. r.pointer) (λ r. r.end) 0 (length xs)) (sym e) ∙ h) in
     let front : take r.pointer ys ≡ take r.pointer xs = ap (take r.pointer) cut ∙ take-take r.pointer r.pointer xs (omega arith) in
-    views_same ys xs 0 r.pointer new front p.0
-    ∙ (same_from_push (map (running_view xs) new) older (running_view xs r) v (sym (map_push (running_view xs) new r) ∙ ap (map (running_view xs)) (sym e) ∙ seen)).0
+    views_same ys xs place place 0 r.pointer 0 (length place) new front refl p.0 (popped_nested es new place r e k)
+    ∙ (same_from_push (map (running_view xs place) new) older (running_view xs place r) v (sym (map_push (running_view xs place) new r) ∙ ap (map (running_view xs place)) (sym e) ∙ seen)).0
 
 pub none_popped : {A B : Type 0} (f : A → B) (es : List A) → length es ≡ 0 → (older : List B) (v : B) → map f es ≡ older ++ v ∷ [] → ⊥
 none_popped f es none older v seen = no_push older v (sym (ap (map f) (nil_from_length es none)) ∙ seen)
 
 -- ---- the search
-pub found_at : {A B : Type 0} (f : B → Bool) (g : A → B) (es : List A) (i : ℕ) (d : A) → i < length es → f (g (get_or es i d)) ≡ true → list_any f (map g es) ≡ true
-found_at f g es i d less here =
-    list_any_at f (map g es) i (g d) (omega (arith, length-map es g)) (ap f (get_or-map g es i d (g d) less) ∙ here)
+any_split : {A B : Type 0} (f : B → Bool) (g : A → B) (n : ℕ) (es : List A) → list_any f (map g es) ≡ (list_any f (map g (take n es)) || list_any f (map g (drop n es)))
+any_split f g n es =
+    ap (λ rs. list_any f (map g rs)) (sym (take-append-drop n es)) ∙ ap (list_any f) (map-append g (take n es) (drop n es)) ∙ list_any-append f (map g (take n es)) (map g (drop n es))
 
--- ---- the same in the list that the code reads
-pub laid_read : (es read : List Running) (xs steps : List Step) (i : ℕ) (d : Running) → read ≡ es → steps ≡ xs → i < length read → are_laid 0 (length xs) es ≡ true → Laid 0 (length steps) (get_or read i d)
-laid_read es read xs steps i d same_entries same_steps less h =
-    laid_at 0 (length steps) read i d less (ap₂ (λ ys rs. are_laid 0 (length ys) rs) same_steps same_entries ∙ h)
+pub any_more : {A B : Type 0} (f : B → Bool) (g : A → B) (es : List A) (i : ℕ) (x : A) → i < length es → x ≡ get_or es i x → list_any f (map g (drop i es)) ≡ (f (g x) || list_any f (map g (drop (i + 1) es)))
+any_more f g es i x less is = ap (λ rs. list_any f (map g rs)) (drop_more es i x less) ∙ ap (λ y. f (g y) || list_any f (map g (drop (i + 1) es))) (sym is)
 
-pub found_in : (f : Identity × InstanceLocation → Bool) (es read : List Running) (xs steps : List Step) (i : ℕ) (d : Running) → read ≡ es → steps ≡ xs → i < length read
-    → f (running_view steps (get_or read i d)) ≡ true → list_any f (map (running_view xs) es) ≡ true
-found_in f es read xs steps i d same_entries same_steps less here =
-    ap₂ (λ ys rs. list_any f (map (running_view ys) rs)) (sym same_steps) (sym same_entries) ∙ found_at f (running_view steps) read i d less here
+pub found_at : {A B : Type 0} (f : B → Bool) (g : A → B) (es : List A) (i : ℕ) (x : A) → i < length es → x ≡ get_or es i x → f (g x) ≡ true → list_any f (map g es) ≡ true
+found_at f g es i x less is here =
+    list_any_at f (map g es) i (g x) (omega (arith, length-map es g)) (ap f (get_or-map g es i x (g x) less) ∙ ap (λ y. f (g y)) (sym is) ∙ here)
 
-pub none_in : (f : Identity × InstanceLocation → Bool) (es read : List Running) (xs : List Step) (i : ℕ) → read ≡ es → length read ≤ i
-    → list_any f (map (running_view xs) (take i es)) ≡ false → list_any f (map (running_view xs) es) ≡ false
-none_in f es read xs i same_entries end none =
-    ap (λ rs. list_any f (map (running_view xs) rs)) (sym (take_all i es (omega (arith, end, ap length same_entries)))) ∙ none
+-- none of those higher up stands at the instance location
+none_higher : (xs place : List Step) (identity : Identity) (name : Option Text) (from to : ℕ) (rs : List Running) → to < length place → are_laid (λ r. r.depth) (λ r. r.depth) from to rs ≡ true
+    → list_any (is_running_as identity (record { pointer = tokens place; name = name })) (map (running_view xs place) rs) ≡ false
+none_higher xs place identity name from to [] less h = refl
+none_higher xs place identity name from to (r ∷ rs) less h =
+    let p = parts (λ r. r.depth) (λ r. r.depth) from to r rs h in
+    let bound = laid_bound (λ r. r.depth) (λ r. r.depth) r.depth to rs p.rest in
+    let v = running_view xs place r in
+    let shorter : same_pointer (tokens (take r.depth place)) (tokens place) ≡ false =
+    same_pointer-lengths (take r.depth place) place (λ same. omega (arith, same, bound, length-take r.depth place)) in
+    ap₂ (λ a b. a || b)
+    (and_right (same_identity v.0 identity) _ (and_left (same_pointer (tokens (take r.depth place)) (tokens place)) (same_name v.1.name name) shorter))
+    (none_higher xs place identity name r.depth to rs less p.rest)
+
+pub none_left : (xs place : List Step) (identity : Identity) (name : Option Text) (es : List Running) (i : ℕ) (r : Running) → i < length es → r ≡ get_or es i r → r.depth < length place
+    → are_laid (λ r. r.depth) (λ r. r.depth) 0 (length place) es ≡ true
+    → list_any (is_running_as identity (record { pointer = tokens place; name = name })) (map (running_view xs place) (drop (i + 1) es)) ≡ false
+    → false ≡ list_any (is_running_as identity (record { pointer = tokens place; name = name })) (map (running_view xs place) es)
+none_left xs place identity name es i r less is higher nested later =
+    let f = is_running_as identity (record { pointer = tokens place; name = name }) in
+    let next : i + 1 ≡ suc i = omega arith in
+    let front : are_laid (λ r. r.depth) (λ r. r.depth) 0 r.depth (take (i + 1) es) ≡ true =
+    ap₂ (λ (x : Running) (n : ℕ). are_laid (λ r. r.depth) (λ r. r.depth) 0 x.depth (take n es)) is next ∙ laid_front (λ r. r.depth) (λ r. r.depth) 0 (length place) es i r less nested in
+    sym (any_split f (running_view xs place) (i + 1) es ∙ ap₂ (λ a b. a || b) (none_higher xs place identity name 0 r.depth (take (i + 1) es) higher front) later)
+
+-- at the instance location only the identity and the name can differ
+same_itself : (ts : Pointer) → same_pointer ts ts ≡ true
+same_itself [] = refl
+same_itself (t ∷ ts) = and_from (same_text t t) (same_pointer ts ts) (same_text_itself t) (same_itself ts)
+
+pub here_same : (xs place : List Step) (identity : Identity) (name : Option Text) (r : Running) → length place ≤ r.depth
+    → is_running_as identity (record { pointer = tokens place; name = name }) (running_view xs place r) ≡ (same_identity (running_view xs place r).0 identity && same_name (running_view xs place r).1.name name)
+here_same xs place identity name r deep =
+    let v = running_view xs place r in
+    let same : same_pointer (tokens (take r.depth place)) (tokens place) ≡ true = ap (λ t. same_pointer (tokens t) (tokens place)) (take_all r.depth place deep) ∙ same_itself (tokens place) in
+    ap (λ b. same_identity v.0 identity && (b && same_name v.1.name name)) same
+
+-- ---- the same where the code reads
+pub laid_read : (es : List Running) (xs steps : List Step) (i : ℕ) (r : Running) → steps ≡ xs → i < length es → r ≡ get_or es i r → are_laid (λ r. r.pointer) (λ r. r.end) 0 (length xs) es ≡ true → Laid (λ r. r.pointer) (λ r. r.end) 0 (length steps) r
+laid_read es xs steps i r same less is h =
+    let own = laid_at (λ r. r.pointer) (λ r. r.end) 0 (length xs) es i r less h in
+    record {
+      start = omega arith;
+      end = omega (arith, own.end, ap (λ (x : Running). x.pointer) is, ap (λ (x : Running). x.end) is);
+      within = omega (arith, own.within, ap length same, ap (λ (x : Running). x.end) is);
+    }
+
+pub found_here : (es : List Running) (xs steps place : List Step) (identity : Identity) (name : Option Text) (i : ℕ) (r : Running) (b : Bool) → steps ≡ xs → i < length es → r ≡ get_or es i r → length place ≤ r.depth
+    → b ≡ (same_identity (running_view steps place r).0 identity && same_name (running_view steps place r).1.name name) → b ≡ true
+    → true ≡ list_any (is_running_as identity (record { pointer = tokens place; name = name })) (map (running_view xs place) es)
+found_here es xs steps place identity name i r b same less is deep said here =
+    let f = is_running_as identity (record { pointer = tokens place; name = name }) in
+    let own : f (running_view xs place r) ≡ true =
+    here_same xs place identity name r deep ∙ ap (λ ys. same_identity (running_view ys place r).0 identity && same_name (running_view ys place r).1.name name) (sym same) ∙ sym said ∙ here in
+    sym (found_at f (running_view xs place) es i r less is own)

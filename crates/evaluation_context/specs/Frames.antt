@@ -7,7 +7,7 @@ use Rattle.definitions.specs.Applied.{InstanceLocation}
 use Rattle.locations.specs.Steps.{tokens}
 use Rattle.evaluation_context.specs.Standings.{Standing}
 use Rattle.evaluation_context.specs.PointerViews.{last_pointer, outer_pointers}
-use Rattle.evaluation_context.specs.RunningViews.{running_objects}
+use Rattle.evaluation_context.specs.RunningViews.{instance_pointer, running_objects}
 use Rattle.evaluation_context.specs.declared.context.Context.{Context}
 
 pub record Frame : Type 0 where
@@ -26,7 +26,7 @@ context_view c = record {
   outer = outer_pointers c.pointers;
   resource = c.resource.now;
   pointer = last_pointer c.pointers;
-  instance_location = record { pointer = tokens c.instance_location.items; name = option_map (λ n. n.now) c.name };
+  instance_location = record { pointer = instance_pointer c.running; name = option_map (λ n. n.now) c.name };
   scope = map (λ uri. uri.now) c.scope.items;
   running = running_objects c.running;
 }

@@ -1,5 +1,5 @@
 -- Where a context stands after a move.
-use Rattle.std.specs.Prelude.{◌≡◌, ◌++◌, [], length, take, option_map}
+use Rattle.std.specs.Prelude.{◌≡◌, ◌++◌, [], true, length, take, option_map}
 use Rattle.definitions.specs.Values.{Text}
 use Rattle.definitions.specs.Pointers.{Pointer}
 use Rattle.definitions.specs.Schemas.{Schema, schema_at}
@@ -10,6 +10,7 @@ use Rattle.keyword_plans.specs.Plans.{step_view}
 use Rattle.keyword_plans.specs.declared.planned.Chosen.{Chosen}
 use Rattle.keyword_plans.specs.declared.planned.Chosen.TheVariants.{Below, Target}
 use Rattle.evaluation_context.specs.Frames.{Frame}
+use Rattle.evaluation_context.specs.Runnings.{are_above}
 use Rattle.evaluation_context.specs.Standings.{Standing}
 use Rattle.evaluation_context.specs.declared.context.Return.{Return}
 
@@ -54,3 +55,4 @@ pub record LeadsTo (back : Return) (f : Frame) : Type 0 where
   pub resource : back.resource.now ≡ f.resource
   pub instance_location : back.instance_location ≡ length f.instance_location.pointer
   pub name : option_map (λ n. n.now) back.name ≡ f.instance_location.name
+  pub above : are_above back.instance_location f.running ≡ true

@@ -1,9 +1,14 @@
--- The schema objects that are being applied, as the definitions have them.
+-- The instance location and the schema objects that are being applied, as the definitions have them.
 use Rattle.std.specs.Prelude.{List, map}
+use Rattle.definitions.specs.Pointers.{Pointer}
 use Rattle.definitions.specs.Schemas.{Identity}
 use Rattle.definitions.specs.Applied.{InstanceLocation}
+use Rattle.locations.specs.Steps.{tokens}
 use Rattle.evaluation_context.specs.Runnings.{running_view}
 use Rattle.evaluation_context.specs.declared.running_objects.RunningObjects.{RunningObjects}
 
+unfoldable pub instance_pointer : RunningObjects → Pointer
+instance_pointer o = tokens o.instance_location.items
+
 unfoldable pub running_objects : RunningObjects → List (Identity × InstanceLocation)
-running_objects o = map (running_view o.steps.items) o.entries.items
+running_objects o = map (running_view o.steps.items o.instance_location.items) o.entries.items

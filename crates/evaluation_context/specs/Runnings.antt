@@ -1,5 +1,6 @@
--- A schema object that is being applied, beside the steps that are kept.
-use Rattle.std.specs.Prelude.{◌&&◌, Bool, List, [], ◌∷◌, ℕ, nat_le, option_map, slice_range}
+-- A schema object that is being applied, beside the steps that are kept and those of the instance location.
+use Rattle.std.specs.Prelude.{◌&&◌, Bool, List, [], ◌∷◌, ℕ, length, nat_le, option_map, slice_range, take}
+use Rattle.std.specs.List.{list_all}
 use Rattle.definitions.specs.Schemas.{Identity, same_identity}
 use Rattle.definitions.specs.Applied.{InstanceLocation}
 use Rattle.definitions.specs.Outcomes.{same_location}
@@ -7,15 +8,20 @@ use Rattle.locations.specs.Steps.{tokens}
 use Rattle.locations.specs.declared.step.Step.{Step}
 use Rattle.evaluation_context.specs.declared.running.Running.{Running}
 
-abbrev pub running_view : List Step → Running → Identity × InstanceLocation
-running_view steps r =
-    ((r.resource.now, tokens (slice_range steps r.pointer r.instance_location)), record { pointer = tokens (slice_range steps r.instance_location r.end); name = option_map (λ n. n.now) r.name })
+-- its instance location is a beginning of the one where the context stands
+abbrev pub running_view : List Step → List Step → Running → Identity × InstanceLocation
+running_view steps location r =
+    ((r.resource.now, tokens (slice_range steps r.pointer r.end)), record { pointer = tokens (take r.depth location); name = option_map (λ n. n.now) r.name })
 
 -- the same schema at the same instance location
 abbrev pub is_running_as : Identity → InstanceLocation → Identity × InstanceLocation → Bool
 is_running_as identity instance_location e = same_identity e.0 identity && same_location e.1 instance_location
 
--- their steps stand one after the other, from there to there
-abbrev pub are_laid : ℕ → ℕ → List Running → Bool
-are_laid from to [] = nat_le from to
-are_laid from to (r ∷ rs) = (nat_le from r.pointer && (nat_le r.pointer r.instance_location && nat_le r.instance_location r.end)) && are_laid r.end to rs
+-- their instance locations have so many steps at most
+abbrev pub are_above : ℕ → List (Identity × InstanceLocation) → Bool
+are_above n os = list_all (λ o. nat_le (length o.1.pointer) n) os
+
+-- each stands from its start to its end, one after the other, between the two numbers
+abbrev pub are_laid : (Running → ℕ) → (Running → ℕ) → ℕ → ℕ → List Running → Bool
+are_laid start end from to [] = nat_le from to
+are_laid start end from to (r ∷ rs) = (nat_le from (start r) && nat_le (start r) (end r)) && are_laid start end (end r) to rs

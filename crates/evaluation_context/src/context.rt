@@ -25,7 +25,6 @@ pub struct Context<'a> {
     pub(crate) path: Vec<Step<'a>>,
     pub(crate) pointers: Pointers<'a>,
     pub(crate) resource: &'a str,
-    pub(crate) instance_location: Vec<Step<'a>>,
     pub(crate) name: Option<&'a str>,
     pub(crate) scope: Vec<&'a str>,
     pub(crate) running: RunningObjects<'a>,
@@ -60,7 +59,6 @@ impl<'a> Context<'a> {
             path: Vec::new(alloc),
             pointers: Pointers::new(steps),
             resource,
-            instance_location: Vec::new(alloc),
             name: None,
             scope: Vec::new(alloc),
             running: RunningObjects::new(alloc),
@@ -86,12 +84,8 @@ impl<'a> Context<'a> {
         ensures { (s x : Value) → is_object s ≡ true
             → result ≡ is_running (application_at (frame_standing (context_view self.now)) s x) }
     {
-        self.running.contains(
-            self.resource,
-            self.pointers.last(),
-            &self.instance_location,
-            self.name,
-        )
+        self.running
+            .contains(self.resource, self.pointers.last(), self.name)
     }
 
     /// The location of a unit of the output.
@@ -104,7 +98,7 @@ impl<'a> Context<'a> {
             path: &self.path,
             resource: self.resource,
             pointer: self.pointers.last(),
-            instance_location: &self.instance_location,
+            instance_location: self.running.instance_location(),
         }
     }
 
@@ -117,12 +111,8 @@ impl<'a> Context<'a> {
             (context_view self.new ≡ object_frame (context_view self.old)) }
     {
         self.scope.push(self.resource)?;
-        self.running.push(
-            self.resource,
-            self.pointers.last(),
-            &self.instance_location,
-            self.name,
-        )?;
+        self.running
+            .push(self.resource, self.pointers.last(), self.name)?;
         Ok(())
     }
 

@@ -53,7 +53,7 @@ impl<'a> Context<'a> {
         self.path.truncate(back.path);
         self.pointers.cut(back.steps, back.start);
         self.resource = back.resource;
-        self.instance_location.truncate(back.instance_location);
+        self.running.cut(back.instance_location);
         self.name = back.name;
     }
 
@@ -65,7 +65,7 @@ impl<'a> Context<'a> {
             steps: self.pointers.len(),
             start: self.pointers.start(),
             resource: self.resource,
-            instance_location: self.instance_location.len(),
+            instance_location: self.running.instance_location().len(),
             name: self.name,
         }
     }
@@ -152,8 +152,8 @@ impl<'a> Context<'a> {
     {
         match part {
             Part::Whole => {}
-            Part::Member(name) => self.instance_location.push(Step::Name(name))?,
-            Part::Element(index) => self.instance_location.push(Step::Index(index))?,
+            Part::Member(name) => self.running.deepen(Step::Name(name))?,
+            Part::Element(index) => self.running.deepen(Step::Index(index))?,
             Part::NameOf(name) => self.name = Some(name),
         }
         Ok(())

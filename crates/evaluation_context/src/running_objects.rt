@@ -1,70 +1,117 @@
-//! The schema objects that are being applied.
+//! The instance location, and the schema objects that are being applied there and above it.
 
-ghost use Rattle.std.specs.Prelude.{◌≡◌, ◌≤◌, ◌++◌, ◌∷◌, ◌&&◌, [], true, length, option_map, take, OnOk, List};
+ghost use Rattle.std.specs.Prelude.{◌≡◌, ◌≤◌, ◌++◌, ◌∷◌, ◌&&◌, [], true, length, option_map, slice_range, take, ℕ, OnOk, List};
 ghost use Rattle.std.specs.List.{list_any};
 ghost use Rattle.definitions.specs.Schemas.{Identity, same_identity};
 ghost use Rattle.definitions.specs.Applied.{InstanceLocation};
-ghost use Rattle.definitions.specs.Outcomes.{same_name, same_location};
-ghost use Rattle.locations.specs.Steps.{tokens};
-ghost use Rattle.evaluation_context.specs.Runnings.{are_laid, is_running_as, running_view};
+ghost use Rattle.definitions.specs.Outcomes.{same_name};
+ghost use Rattle.locations.specs.Steps.{token, tokens};
+ghost use Rattle.evaluation_context.specs.Runnings.{are_above, are_laid, is_running_as, running_view};
 
 use crate::running::Running;
 use locations::{Step, same_steps};
 use std::alloc::{AllocError, Global};
 
-/// The schema objects that are being applied, the outermost first. Their pointers and instance locations are copied, so
-/// that they stay while a context moves, into one list that all of them share.
+/// The instance location, and the schema objects that are being applied, the outermost first. Each is applied where the
+/// one before it is, or below, so that all their instance locations are beginnings of this one. Their pointers are
+/// copied, so that they stay while a context moves, into one list that all of them share.
 ///
-/// Contracts see their identities and instance locations, by `running_objects`.
+/// Contracts see the identities and instance locations of the objects by `running_objects`, and the instance location
+/// by `instance_pointer`.
 #[derive(Drop)]
 pub(crate) struct RunningObjects<'a> {
     entries: Vec<Running<'a>>,
     steps: Vec<Step<'a>>,
-    ghost laid: { are_laid 0 (length steps.items) entries.items ≡ true },
+    instance_location: Vec<Step<'a>>,
+    ghost laid: { are_laid (λ r. r.pointer) (λ r. r.end) 0 (length steps.items) entries.items
+        ≡ true },
+    ghost nested: { are_laid (λ r. r.depth) (λ r. r.depth) 0 (length instance_location.items)
+        entries.items
+        ≡ true },
 }
 
 impl<'a> RunningObjects<'a> {
-    ghost use Rattle.evaluation_context.specs.RunningViews.{running_objects};
+    ghost use Rattle.evaluation_context.specs.RunningViews.{instance_pointer, running_objects};
 
-    /// None. This takes no memory; the objects that come later take it from `alloc`.
+    /// None, at the whole instance. This takes no memory; what comes later takes it from `alloc`.
     pub(crate) fn new(alloc: Global) -> RunningObjects<'a>
-        ensures { running_objects result ≡ [] }
+        ensures running { running_objects result ≡ [] }
+        ensures instance_location { instance_pointer result ≡ [] }
     {
         RunningObjects {
             entries: Vec::new(alloc),
             steps: Vec::new(alloc),
+            instance_location: Vec::new(alloc),
         }
     }
 
-    /// One object more, the innermost.
+    /// The steps of the instance location.
+    pub(crate) fn instance_location(&self) -> &[Step<'a>]
+        ensures { tokens result.now ≡ instance_pointer self.now }
+    {
+        &self.instance_location
+    }
+
+    /// The instance location is one step longer.
+    pub(crate) fn deepen(&mut self, step: Step<'a>) -> Result<(), AllocError>
+        ensures running { OnOk result (running_objects self.new ≡ running_objects self.old) }
+        ensures instance_location { OnOk result
+            (instance_pointer self.new ≡ instance_pointer self.old ++ token step.entry ∷ []) }
+    {
+        self.instance_location.push(step)?;
+        Ok(())
+    }
+
+    /// Only so many steps of the instance location stay, and those that an object needs.
+    pub(crate) fn cut(&mut self, steps: usize)
+        ensures running { running_objects self.new ≡ running_objects self.old }
+        ensures instance_location { are_above steps (running_objects self.old) ≡ true
+            → instance_pointer self.new ≡ take steps (instance_pointer self.old) }
+    {
+        let needed = self.depth();
+        self.instance_location.truncate(steps.max(needed));
+    }
+
+    // How many steps the instance location of the innermost object has.
+    fn depth(&self) -> usize
+        ensures within { result ≤ length self.now.instance_location.items }
+        ensures enough { are_laid (λ r. r.depth) (λ r. r.depth) 0 result self.now.entries.items
+            ≡ true }
+        ensures least { (n : ℕ) → are_above n (running_objects self.now) ≡ true → result ≤ n }
+    {
+        match self.entries.last() {
+            Some(entry) => entry.depth,
+            None => 0,
+        }
+    }
+
+    /// One object more, the innermost, applied at the instance location.
     pub(crate) fn push(
         &mut self,
         resource: &'a str,
         pointer: &[Step<'a>],
-        instance_location: &[Step<'a>],
         name: Option<&'a str>,
     ) -> Result<(), AllocError>
-        ensures { OnOk result (running_objects self.new ≡ running_objects self.old
+        ensures running { OnOk result (running_objects self.new ≡ running_objects self.old
             ++ (
               (resource.now, tokens pointer.now),
               record {
-                pointer = tokens instance_location.now;
+                pointer = instance_pointer self.old;
                 name = option_map
                     (λ n. n.now) name.entry;
               },
             )
             ∷ []) }
+        ensures instance_location { instance_pointer self.new ≡ instance_pointer self.old }
     {
-        let pointer_start = self.steps.len();
+        let start = self.steps.len();
         self.steps.extend_from_slice(pointer)?;
-        let location_start = self.steps.len();
-        self.steps.extend_from_slice(instance_location)?;
         self.entries.push(Running {
             resource,
             name,
-            pointer: pointer_start,
-            instance_location: location_start,
+            pointer: start,
             end: self.steps.len(),
+            depth: self.instance_location.len(),
         })?;
         Ok(())
     }
@@ -74,6 +121,7 @@ impl<'a> RunningObjects<'a> {
         ensures running { (older : List (Identity × InstanceLocation))
             (e : Identity × InstanceLocation)
             → running_objects self.old ≡ older ++ e ∷ [] → running_objects self.new ≡ older }
+        ensures instance_location { instance_pointer self.new ≡ instance_pointer self.old }
         ensures steps { (older : List Running) (e : Running)
             → self.old.entries.items ≡ older ++ e ∷ []
             → self.new.steps.items ≡ take e.pointer self.old.steps.items }
@@ -84,26 +132,27 @@ impl<'a> RunningObjects<'a> {
         }
     }
 
-    /// Whether one of them has this resource and this pointer, and is applied at this instance location.
-    pub(crate) fn contains(
-        &self,
-        resource: &str,
-        pointer: &[Step<'_>],
-        instance_location: &[Step<'_>],
-        name: Option<&str>,
-    ) -> bool
+    /// Whether one of them has this resource and this pointer, and is applied at the instance location with this name.
+    /// Objects higher up stand before those at the instance location, so that the search ends at the first of them.
+    pub(crate) fn contains(&self, resource: &str, pointer: &[Step<'_>], name: Option<&str>) -> bool
         ensures { result ≡ list_any
             (is_running_as (resource.now, tokens pointer.now)
             (record {
-              pointer = tokens instance_location.now;
+              pointer = instance_pointer self.now;
               name = option_map
                   (λ n. n.now) name.entry;
             }))
             (running_objects self.now) }
     {
-        let steps = self.steps.as_slice();
-        for entry in &self.entries {
-            if is_same(steps, *entry, resource, pointer, instance_location, name) {
+        let depth = self.instance_location.len();
+        let mut left = self.entries.len();
+        while left > 0 {
+            left -= 1;
+            let entry = self.entries[left];
+            if entry.depth < depth {
+                return false;
+            }
+            if is_same(&self.steps, entry, resource, pointer, name) {
                 return true;
             }
         }
@@ -111,33 +160,27 @@ impl<'a> RunningObjects<'a> {
     }
 }
 
-// Whether the object is this schema, applied at this instance location. Lengths are compared before texts.
+// Whether the object is this schema, applied where the name at the instance location is this one.
 fn is_same(
     steps: &[Step<'_>],
     object: Running<'_>,
     resource: &str,
     pointer: &[Step<'_>],
-    instance_location: &[Step<'_>],
     name: Option<&str>,
 ) -> bool
-    requires pointer { object.pointer ≤ object.instance_location }
-    requires instance_location { object.instance_location ≤ object.end }
+    requires pointer { object.pointer ≤ object.end }
     requires within { object.end ≤ length steps.now }
-    ensures { result ≡ is_running_as (resource.now, tokens pointer.now)
-        (record {
-          pointer = tokens instance_location.now;
-          name = option_map
-              (λ n. n.now) name.entry;
-        })
-        (running_view steps.now object.entry) }
+    ensures { result ≡ (same_identity (
+      object.entry.resource.now,
+      tokens
+          (slice_range steps.now object.entry.pointer object.entry.end),
+    )
+        (resource.now, tokens pointer.now)
+        && same_name (option_map (λ n. n.now) object.entry.name)
+        (option_map (λ n. n.now) name.entry)) }
 {
-    let own_pointer = &steps[object.pointer..object.instance_location];
-    let own_location = &steps[object.instance_location..object.end];
-    if own_location.len() != instance_location.len() {
-        return false;
-    }
-    same_identity(object.resource, own_pointer, resource, pointer)
-        && same_location(own_location, object.name, instance_location, name)
+    let own_pointer = &steps[object.pointer..object.end];
+    same_identity(object.resource, own_pointer, resource, pointer) && same_name(object.name, name)
 }
 
 fn same_identity(
@@ -150,19 +193,6 @@ fn same_identity(
         (second.now, tokens second_pointer.now) }
 {
     same_steps(first_pointer, second_pointer) && first == second
-}
-
-fn same_location(
-    first: &[Step<'_>],
-    first_name: Option<&str>,
-    second: &[Step<'_>],
-    second_name: Option<&str>,
-) -> bool
-    ensures { result ≡ same_location
-        (record { pointer = tokens first.now; name = option_map (λ n. n.now) first_name.entry })
-        (record { pointer = tokens second.now; name = option_map (λ n. n.now) second_name.entry }) }
-{
-    same_steps(first, second) && same_name(first_name, second_name)
 }
 
 fn same_name(first: Option<&str>, second: Option<&str>) -> bool

@@ -14,7 +14,7 @@ returns c = λ older h.
     c.cut.ensures.outer
     refl
     c.cut.ensures.last
-    (same_locations (ap tokens c.truncate-2.ensures.items ∙ sym (take-map token c.args.back.instance_location old.instance_location.items)) refl)
+    (same_locations (c.cut-2.ensures.instance_location h.above) refl)
     refl
-    refl
-    ∙ sym h
+    c.cut-2.ensures.running
+    ∙ sym h.cut

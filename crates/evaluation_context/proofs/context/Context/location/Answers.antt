@@ -6,4 +6,4 @@ use Rattle.evaluation_context.proofs.context.Context.location.Goals as goal
 
 pub returns : goal.returns
 unfolding context_view frame_standing
-returns c = λ says. same_units (ap tokens c.deref.ensures.value) refl c.last.ensures (ap tokens c.deref-2.ensures.value) refl
+returns c = λ says. same_units (ap tokens c.deref.ensures.value) refl c.last.ensures c.instance_location.ensures refl

@@ -12,4 +12,4 @@ returns c = λ x.
     let root = c.args.root in
     let start : Standing = record { path = []; resource = root.resource.now; pointer = tokens root.steps.items; instance_location = record { pointer = []; name = None }; scope = []; running = [] } in
     ap (λ st. application_at st (value root.schema.now) x)
-    (same_standings {t = start} (ap tokens c.new.ensures.items) refl c.new-2.ensures.last (same_locations (ap tokens c.new-3.ensures.items) refl) (ap (map (λ uri. uri.now)) c.new-4.ensures.items) c.new-5.ensures)
+    (same_standings {t = start} (ap tokens c.new.ensures.items) refl c.new-2.ensures.last (same_locations c.new-4.ensures.instance_location refl) (ap (map (λ uri. uri.now)) c.new-3.ensures.items) c.new-4.ensures.running)

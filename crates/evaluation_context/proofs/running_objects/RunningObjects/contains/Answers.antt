@@ -1,31 +1,42 @@
-use Rattle.std.proofs.Common.{sym, ◌∙◌}
-use Rattle.evaluation_context.specs.RunningViews.{running_objects}
-use Rattle.evaluation_context.proofs.RunningLaws.{laid_read, found_in, none_in}
+use Rattle.std.proofs.Common.{◌≡◌, ◌+◌, ◌-◌, false, map, drop, option_map, arith, sym, ap, ◌∙◌}
+use Rattle.std.specs.List.{list_any}
+use Rattle.locations.specs.Steps.{tokens}
+use Rattle.evaluation_context.specs.Runnings.{is_running_as, running_view}
+use Rattle.evaluation_context.specs.RunningViews.{instance_pointer, running_objects}
+use Rattle.evaluation_context.proofs.RunningLaws.{laid_read, found_here, none_left}
 use Rattle.evaluation_context.proofs.running_objects.RunningObjects.contains.Goals as goal
+
+pub returns-then-entry-depth : goal.returns-then-entry-depth
+unfolding running_objects instance_pointer
+returns-then-entry-depth c =
+    let o = c.args.self.now in
+    let i = c.loop-left.left - 1 in
+    let next : c.loop-left.left ≡ i + 1 = omega arith in
+    let f = is_running_as (c.args.resource.now, tokens c.args.pointer.now) (record { pointer = tokens o.instance_location.items; name = option_map (λ n. n.now) c.args.name }) in
+    let later : list_any f (map (running_view o.steps.items o.instance_location.items) (drop (i + 1) o.entries.items)) ≡ false =
+    ap (λ n. list_any f (map (running_view o.steps.items o.instance_location.items) (drop n o.entries.items))) (sym next) ∙ c.loop-left.invariant.none in
+    none_left o.steps.items o.instance_location.items (c.args.resource.now, tokens c.args.pointer.now) (option_map (λ n. n.now) c.args.name) o.entries.items i c.index-entry.result.now (omega arith) c.index-entry.ensures (omega arith) o.nested later
 
 pub is_same-requires-clause-pointer : goal.is_same-requires-clause-pointer
 is_same-requires-clause-pointer c =
     let o = c.args.self.now in
-    (laid_read o.entries.items c.deref-entry-items.result.now o.steps.items c.as_slice-steps.result.now c.loop-entry.entry-index _ c.deref-entry-items.ensures.value c.as_slice-steps.ensures.value c.loop-entry-test.true o.laid).instance_location
-
-pub is_same-requires-clause-instance_location : goal.is_same-requires-clause-instance_location
-is_same-requires-clause-instance_location c =
-    let o = c.args.self.now in
-    (laid_read o.entries.items c.deref-entry-items.result.now o.steps.items c.as_slice-steps.result.now c.loop-entry.entry-index _ c.deref-entry-items.ensures.value c.as_slice-steps.ensures.value c.loop-entry-test.true o.laid).end
+    (laid_read o.entries.items o.steps.items c.deref.result.now (c.loop-left.left - 1) c.index-entry.result.now c.deref.ensures.value (omega arith) c.index-entry.ensures o.laid).end
 
 pub is_same-requires-clause-within : goal.is_same-requires-clause-within
 is_same-requires-clause-within c =
     let o = c.args.self.now in
-    (laid_read o.entries.items c.deref-entry-items.result.now o.steps.items c.as_slice-steps.result.now c.loop-entry.entry-index _ c.deref-entry-items.ensures.value c.as_slice-steps.ensures.value c.loop-entry-test.true o.laid).within
+    (laid_read o.entries.items o.steps.items c.deref.result.now (c.loop-left.left - 1) c.index-entry.result.now c.deref.ensures.value (omega arith) c.index-entry.ensures o.laid).within
 
 pub returns-then-is_same : goal.returns-then-is_same
-unfolding running_objects
+unfolding running_objects instance_pointer
 returns-then-is_same c =
     let o = c.args.self.now in
-    sym (found_in _ o.entries.items c.deref-entry-items.result.now o.steps.items c.as_slice-steps.result.now c.loop-entry.entry-index _ c.deref-entry-items.ensures.value c.as_slice-steps.ensures.value c.loop-entry-test.true (sym c.is_same.ensures ∙ c.if-is_same.true))
+    found_here o.entries.items o.steps.items c.deref.result.now o.instance_location.items (c.args.resource.now, tokens c.args.pointer.now) (option_map (λ n. n.now) c.args.name) (c.loop-left.left - 1) c.index-entry.result.now c.is_same.result c.deref.ensures.value (omega arith) c.index-entry.ensures (omega arith) c.is_same.ensures c.if-is_same.true
 
 pub returns : goal.returns
-unfolding running_objects
+unfolding running_objects instance_pointer
 returns c =
     let o = c.args.self.now in
-    sym (none_in _ o.entries.items c.deref-entry-items.result.now o.steps.items c.loop-entry.entry-index c.deref-entry-items.ensures.value c.loop-entry-test.false c.loop-entry.invariant)
+    let f = is_running_as (c.args.resource.now, tokens c.args.pointer.now) (record { pointer = tokens o.instance_location.items; name = option_map (λ n. n.now) c.args.name }) in
+    let none : c.loop-left.left ≡ 0 = omega arith in
+    sym (ap (λ n. list_any f (map (running_view o.steps.items o.instance_location.items) (drop n o.entries.items))) (sym none) ∙ c.loop-left.invariant.none)

@@ -1,8 +1,13 @@
 use Rattle.std.proofs.Common.{map, ap}
-use Rattle.evaluation_context.specs.RunningViews.{running_objects}
+use Rattle.locations.specs.Steps.{tokens}
+use Rattle.evaluation_context.specs.RunningViews.{instance_pointer, running_objects}
 use Rattle.evaluation_context.specs.Runnings.{running_view}
 use Rattle.evaluation_context.proofs.running_objects.RunningObjects.new.Goals as goal
 
-pub returns : goal.returns
+pub returns-clause-running : goal.returns-clause-running
 unfolding running_objects
-returns c = ap (map (running_view c.new-2.result.items)) c.new.ensures.items
+returns-clause-running c = ap (map (running_view c.new-2.result.items c.new-3.result.items)) c.new.ensures.items
+
+pub returns-clause-instance_location : goal.returns-clause-instance_location
+unfolding instance_pointer
+returns-clause-instance_location c = ap tokens c.new-3.ensures.items

@@ -1,14 +1,10 @@
 -- Laws of the names that annotate with their own value.
-use Rattle.std.proofs.Common.{◌≡◌, List, [], ◌∷◌, ◌++◌, ◌||◌, ◌∙◌, Bool, true, Some, None, cond, refl, sym, ap, map, filter, flat_map}
-use Rattle.std.specs.List.{list_any}
-use Rattle.std.proofs.lemmas.List.Folds.{list_any-append}
-use Rattle.definitions.specs.Values.{Text, Value, null, boolean, integer, string, array, object, members, same_text}
-use Rattle.definitions.specs.Keywords.{Keyword, is_keyword_of, keywords}
+use Rattle.std.proofs.Common.{◌≡◌, List, [], ◌∷◌, ◌∙◌, Bool, true, Some, None, cond, refl, sym, ap, map, filter}
+use Rattle.definitions.specs.Values.{Text, Value, null, boolean, integer, string, array, object, members}
 use Rattle.definitions.specs.Applied.{Application}
 use Rattle.definitions.specs.Evaluated.{is_annotation}
 use Rattle.definitions.specs.Outcomes.{other_annotations, unit}
 use Rattle.json_doc.specs.Kinds.{as_members}
-use Rattle.linker.proofs.Adding.{is_some-find}
 use Rattle.evaluator.specs.Annotations.{annotations_among}
 
 pub annotates_there : (a : Application) (s x : Value) (name : Text) (b : Bool) → a.schema.value ≡ s → a.instance ≡ x → b ≡ is_annotation s x name
@@ -33,7 +29,7 @@ members_are (string s) ms e = absurd (cc)
 members_are (array vs) ms e = absurd (cc)
 
 -- what is no object has no members
-no_members_in : (v : Value) → None ≡ as_members v → members v ≡ []
+pub no_members_in : (v : Value) → None ≡ as_members v → members v ≡ []
 no_members_in (object ns) e = absurd (cc)
 no_members_in null e = refl
 no_members_in (boolean b) e = refl

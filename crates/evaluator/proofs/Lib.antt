@@ -13,3 +13,4 @@ pub mod KeywordsLaws
 pub mod PartLaws
 pub mod SettlingLaws
 pub mod PresentLaws
+pub mod AssertedLaws

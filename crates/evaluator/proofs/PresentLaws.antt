@@ -1,23 +1,33 @@
 -- Laws of the keywords that a schema object has.
-use Rattle.std.proofs.Common.{◌≡◌, ◌<◌, ◌≤◌, ◌&&◌, ◌||◌, not, ℕ, zero, suc, List, [], ◌∷◌, ◌++◌, Bool, true, false, Option, Some, None, option_map, append-nil, length, get_or, slice_get, set, cond, refl, sym, ap, subst, ◌∙◌, arith}
+use Rattle.std.proofs.Common.{◌≡◌, ◌≢◌, ◌<◌, ◌≤◌, ◌+◌, ◌-◌, ◌*◌, ◌^◌, ◌%◌, ◌&&◌, ◌||◌, not, ℕ, zero, suc, List, [], ◌∷◌, ◌++◌, Bool, true, false, Option, Some, None, option_map, is_some, append-nil, length, get_or, slice_get, take, w64, cond, inl, inr, filter, flat_map, codes, refl, sym, ap, subst, ◌∙◌, arith}
+use Rattle.std.specs.Prelude.{◌==◌}
+use Rattle.std.specs.Int.{bit_at}
+use Rattle.std.specs.Int.RustNames.{bit_or}
 use Rattle.std.specs.List.{list_all, list_any}
-use Rattle.std.proofs.lemmas.List.{length-set, get_or-set_same}
-use Rattle.std.proofs.lemmas.Bool.{and_parts, or_parts}
-use Rattle.definitions.specs.Values.{Text, Value, entry, get, members, same_text}
-use Rattle.definitions.specs.Keywords.{Keyword, keyword_named, keywords}
+use Rattle.std.proofs.lemmas.Bool.{and_parts, cases_lt, or_parts}
+use Rattle.std.proofs.lemmas.List.{take_all}
+use Rattle.std.proofs.lemmas.Bool.Decides.{Decides-eqb}
+use Rattle.std.proofs.lemmas.Nat.Bits.{bit_at_set_other, bit_at_set_same}
+use Rattle.definitions.specs.Values.{Text, Value, entry, get, is_string, members, same_text}
+use Rattle.definitions.specs.Keywords.{Keyword, is_keyword_of, keyword_named, keywords}
 use Rattle.definitions.specs.Applied.{Application, Outcome, Rules}
-use Rattle.definitions.specs.Outcomes.{Use, uses_of}
+use Rattle.definitions.specs.Evaluated.{is_annotation}
+use Rattle.definitions.specs.Uris.{begins}
+use Rattle.definitions.specs.Outcomes.{Use, other_annotations, uses_of}
 use Rattle.definition_laws.proofs.Occurrences.{found_passes}
 use Rattle.lemmas.proofs.Texts.{same_text_differs, same_text_is, same_text_itself}
 use Rattle.linker.specs.declared.linked.Linked.{Linked}
 use Rattle.keywords.specs.Rows.{row_named, row_of}
+use Rattle.keywords.specs.Groups.{in_order}
 use Rattle.keywords.specs.declared.keyword.Keyword as listed
 use Rattle.keyword_plans.specs.Sites.{linked_rules}
-use Rattle.keywords.specs.declared.keyword.Keyword.TheVariants.{UnevaluatedItems, UnevaluatedProperties}
-use Rattle.evaluation_context.specs.Frames.{Frame}
-use Rattle.evaluator.specs.Groups.{are_marked, has_mark, first_groups, is_marked, position_in, position_of, rows_of}
-use Rattle.evaluator.specs.Rounds.{IsAt, group_uses, groups_uses, linked_outcome, object_uses, unevaluated_uses}
+use Rattle.keywords.specs.declared.keyword.Keyword.TheVariants.{Ref, UnevaluatedItems, UnevaluatedProperties}
+use Rattle.evaluator.specs.Groups.{first_groups, rows_of}
+use Rattle.evaluator.specs.Presents.{has_mark, mark_at, mark_of, position_in, position_of}
+use Rattle.evaluator.specs.Rounds.{group_uses, groups_uses, linked_outcome, object_uses, unevaluated_uses}
 use Rattle.keywords.specs.declared.group.Group.{Group}
+use Rattle.keywords.specs.declared.group.Group.TheVariants.{One}
+use Rattle.evaluator.proofs.UseLaws.{flat_same}
 
 -- ---- the positions of the table
 how_many : length keywords ≡ 46
@@ -95,73 +105,187 @@ pub no_keyword : (name : Text) (o : Option listed.Keyword) → o ≡ None → op
 unfolding position_of row_named
 no_keyword name o e named = sym (after_all name keywords (sym named ∙ ap (option_map row_of) e) ∙ how_many)
 
--- ---- the marks of all members
-abbrev pub marked : List Bool → List (Text × Value) → List Bool
-marked marks [] = marks
-marked marks (m ∷ ms) = marked (set marks (position_of m.0) true) ms
+-- ---- the marks of the members
+pub mark_is : (name : Text) (p n : ℕ) → p ≡ position_of name → n ≡ mark_at p → n ≡ mark_of name
+unfolding mark_of
+mark_is name p n e f = f ∙ ap mark_at e
 
-stays : (marks : List Bool) (i p : ℕ) → get_or marks p false ≡ true → get_or (set marks i true) p false ≡ true
-stays [] i p h = h
-stays (b ∷ marks) zero zero h = refl
-stays (b ∷ marks) zero (suc p) h = h
-stays (b ∷ marks) (suc i) zero h = h
-stays (b ∷ marks) (suc i) (suc p) h = stays marks i p h
+differs_from : (n i : ℕ) → (n == i) ≡ false → i ≢ n
+differs_from n i e same = let yes : (n == i) ≡ true = (Decides-eqb n i).1 (sym same) in let both : true ≡ false = sym yes ∙ e in absurd (cc)
 
-all_stay : (ms : List (Text × Value)) (marks : List Bool) (p : ℕ) → get_or marks p false ≡ true → get_or (marked marks ms) p false ≡ true
-all_stay [] marks p h = h
-all_stay (m ∷ ms) marks p h = all_stay ms (set marks (position_of m.0) true) p (stays marks (position_of m.0) p h)
+one_more : (b : Bool) (marks : ℕ) (m : Text × Value) (left ms : List (Text × Value)) (i : ℕ) → has_mark i m ≡ b → mark_of m.0 < 64
+    → (bit_at marks i ≡ 0 → list_any (has_mark i) (m ∷ left) ≡ false → list_any (has_mark i) ms ≡ false)
+    → bit_at (bit_or marks (1 * 2 ^ mark_of m.0 % 2 ^ 64)) i ≡ 0 → list_any (has_mark i) left ≡ false → list_any (has_mark i) ms ≡ false
+one_more true marks m left ms i e within found none rest =
+    let same : mark_of m.0 ≡ i = (Decides-eqb (mark_of m.0) i).0 e in
+    let set : bit_at (bit_or marks (1 * 2 ^ mark_of m.0 % 2 ^ 64)) i ≡ 1 =
+    ap (λ j. bit_at (bit_or marks (1 * 2 ^ mark_of m.0 % 2 ^ 64)) j) (sym same) ∙ bit_at_set_same w64 marks (mark_of m.0) within in
+    let both : 0 ≡ 1 = sym none ∙ set in absurd (omega (arith, both))
+one_more false marks m left ms i e within found none rest =
+    found (sym (bit_at_set_other w64 marks (mark_of m.0) within i (differs_from (mark_of m.0) i e)) ∙ none) (rw e rest)
 
-pub all_marked : (ms : List (Text × Value)) (marks : List Bool) → length marks ≡ 47 → are_marked (marked marks ms) ms ≡ true
-all_marked [] marks e = refl
-all_marked (m ∷ ms) marks e =
-    let p = position_of m.0 in
-    let inside : p < length marks = omega (arith, e, position_within m.0) in
-    rw (all_stay ms (set marks p true) p (get_or-set_same marks p true false inside)) (all_marked ms (set marks p true) (length-set marks p true ∙ e))
+-- the bits so far, and the members that are left
+pub marked_on : (marks : ℕ) (m : Text × Value) (left ms : List (Text × Value)) → mark_of m.0 < 64
+    → ((i : ℕ) → bit_at marks i ≡ 0 → list_any (has_mark i) (m ∷ left) ≡ false → list_any (has_mark i) ms ≡ false)
+    → (i : ℕ) → bit_at (bit_or marks (1 * 2 ^ mark_of m.0 % 2 ^ 64)) i ≡ 0 → list_any (has_mark i) left ≡ false → list_any (has_mark i) ms ≡ false
+marked_on marks m left ms within found i = one_more (has_mark i m) marks m left ms i refl within (found i)
 
--- ---- a group that isn't marked
-pub absent : (k : Text) (marks : List Bool) (ms : List (Text × Value)) → get_or marks (position_of k) false ≡ false → are_marked marks ms ≡ true → entry k ms ≡ None
-absent k marks [] gone all = refl
-absent k marks (m ∷ ms) gone all =
-    let here : get_or marks (position_of m.0) false ≡ true = (and_parts (get_or marks (position_of m.0) false) (are_marked marks ms) all).0 in
-    let other : same_text k m.0 ≡ false = same_text_differs k m.0 (λ e. let both : true ≡ false = sym here ∙ ap (λ t. get_or marks (position_of t) false) (sym e) ∙ gone in absurd (cc)) in
-    rw other (absent k marks ms gone (and_parts (get_or marks (position_of m.0) false) (are_marked marks ms) all).1)
+-- ---- names that have no mark
+absent : (name : Text) (i : ℕ) (ms : List (Text × Value)) → mark_of name ≡ i → list_any (has_mark i) ms ≡ false → entry name ms ≡ None
+absent name i [] own none = refl
+absent name i (m ∷ ms) own none =
+    let parts = or_parts (has_mark i m) (list_any (has_mark i) ms) none in
+    let other : same_text name m.0 ≡ false = same_text_differs name m.0 (λ e. let yes : has_mark i m ≡ true = (Decides-eqb (mark_of m.0) i).1 (sym (ap mark_of e) ∙ own) in
+    let both : true ≡ false = sym yes ∙ parts.0 in absurd (cc)) in
+    rw other (absent name i ms own parts.1)
 
-no_uses : (rules : Rules) (run : Application → Outcome) (marks : List Bool) (names : List Text) (indexes : List ℕ) (a : Application) (ks : List Keyword)
-    → list_any (is_marked marks) ks ≡ false → are_marked marks (members a.schema.value) ≡ true → uses_of rules run ks names indexes a ≡ []
-no_uses rules run marks names indexes a [] gone all = refl
-no_uses rules run marks names indexes a (k ∷ ks) gone all =
-    let apart = or_parts (is_marked marks k) (list_any (is_marked marks) ks) gone in
-    let none : get k.name a.schema.value ≡ None = absent k.name marks (members a.schema.value) apart.0 all in
-    rw none (no_uses rules run marks names indexes a ks apart.1 all)
+-- ---- a group that isn't there
+abbrev are_at : ℕ → List Keyword → Bool
+are_at i ks = list_all (λ k. mark_of k.name == i) ks
 
--- a group that isn't marked does nothing
-pub unused_at : (l : Linked) (left : ℕ) (a : Application) (marks : List Bool) (g : Group) → has_mark marks g ≡ false
-    → are_marked marks (members a.schema.value) ≡ true → group_uses l left a g ≡ []
-unused_at l left a marks g gone all = no_uses (linked_rules l) (linked_outcome l left) marks [] [] a (rows_of g) gone all
+abbrev are_placed : ℕ → List Group → Bool
+are_placed i [] = true
+are_placed i (g ∷ gs) = are_at i (rows_of g) && are_placed (suc i) gs
 
-pub marked_there : (l : Linked) (f : Frame) (s x : Value) (a : Application) (marks : List Bool) → IsAt l f s x a → are_marked marks (members s) ≡ true
-    → are_marked marks (members a.schema.value) ≡ true
-marked_there l f s x a marks at all =
-    let same : a.schema.value ≡ s = ap (λ b. b.schema.value) at.there in
-    subst (λ v. are_marked marks (members v) ≡ true) (sym same) all
+all_placed : are_placed 0 first_groups ≡ true
+unfolding first_groups in_order mark_of mark_at position_of position_in
+all_placed = refl
+
+placed_at : (gs : List Group) (start i : ℕ) (d : Group) → are_placed start gs ≡ true → i < length gs → are_at (start + i) (rows_of (get_or gs i d)) ≡ true
+placed_at [] start i d all h = absurd (omega arith)
+placed_at (g ∷ gs) start zero d all h =
+    let here : start + 0 ≡ start = omega arith in
+    ap (λ n. are_at n (rows_of g)) here ∙ (and_parts (are_at start (rows_of g)) (are_placed (suc start) gs) all).0
+placed_at (g ∷ gs) start (suc i) d all h =
+    let here : start + suc i ≡ suc start + i = omega arith in
+    ap (λ n. are_at n (rows_of (get_or gs i d))) here ∙ placed_at gs (suc start) i d (and_parts (are_at start (rows_of g)) (are_placed (suc start) gs) all).1 (omega arith)
+
+no_uses : (rules : Rules) (run : Application → Outcome) (a : Application) (i : ℕ) (ks : List Keyword) → are_at i ks ≡ true
+    → list_any (has_mark i) (members a.schema.value) ≡ false → uses_of rules run ks [] [] a ≡ []
+no_uses rules run a i [] all none = refl
+no_uses rules run a i (k ∷ ks) all none =
+    let parts = and_parts (mark_of k.name == i) (are_at i ks) all in
+    let gone : get k.name a.schema.value ≡ None = absent k.name i (members a.schema.value) ((Decides-eqb (mark_of k.name) i).0 parts.0) none in
+    rw gone (no_uses rules run a i ks parts.1 none)
+
+-- it does nothing
+unused_at : (l : Linked) (left : ℕ) (a : Application) (i : ℕ) → i < length first_groups → list_any (has_mark i) (members a.schema.value) ≡ false
+    → group_uses l left a (get_or first_groups i (One Ref)) ≡ []
+unused_at l left a i within none =
+    no_uses (linked_rules l) (linked_outcome l left) a i (rows_of (get_or first_groups i (One Ref)))
+    (ap (λ n. are_at n (rows_of (get_or first_groups i (One Ref)))) (let e : i ≡ 0 + i = omega arith in e) ∙ placed_at first_groups 0 i (One Ref) all_placed within) none
+
+-- groups that do nothing may be passed over
+flat_passed : {X Y : Type 0} (f : X → List Y) (xs : List X) (d : X) (n i : ℕ) → ((k : ℕ) → i ≤ k → k < i + n → k < length xs → f (get_or xs k d) ≡ [])
+    → flat_map f (take i xs) ≡ flat_map f (take (i + n) xs)
+flat_passed f xs d zero i none = let e : i ≡ i + 0 = omega arith in ap (λ k. flat_map f (take k xs)) e
+flat_passed f xs d (suc n) i none =
+    let on : (i + 1) + n ≡ i + suc n = omega arith in
+    elim (cases_lt i (length xs)) [
+      | inl inside ↦ flat_same f xs i d inside (none i (omega arith) (omega arith) inside)
+          ∙ flat_passed f xs d n (i + 1) (λ k less below within. none k (omega arith) (omega arith) within)
+          ∙ ap (λ k. flat_map f (take k xs)) on
+      | inr past ↦ ap (flat_map f) (take_all i xs past ∙ sym (take_all (i + suc n) xs (omega arith)))
+    ]
+
+pub groups_passed : (l : Linked) (left : ℕ) (a : Application) (s : Value) (i j : ℕ) → a.schema.value ≡ s → i ≤ j
+    → ((k : ℕ) → i ≤ k → k < j → list_any (has_mark k) (members s) ≡ false)
+    → groups_uses l left a (take i first_groups) ≡ groups_uses l left a (take j first_groups)
+groups_passed l left a s i j same on none =
+    let n = j - i in
+    let e : i + n ≡ j = omega arith in
+    flat_passed (group_uses l left a) first_groups (One Ref) n i
+    (λ k less below within. unused_at l left a k within (ap (λ v. list_any (has_mark k) (members v)) same ∙ none k less (omega (arith, e, below))))
+    ∙ ap (λ k. groups_uses l left a (take k first_groups)) e
 
 -- ---- the keywords that look at what others evaluated
-abbrev NoneLast : List Bool → Type 0
-NoneLast marks = (is_marked marks (row_of UnevaluatedItems) || is_marked marks (row_of UnevaluatedProperties)) ≡ false
+abbrev NoneLast : Value → Type 0
+NoneLast s = (is_some (get (row_of UnevaluatedItems).name s) || is_some (get (row_of UnevaluatedProperties).name s)) ≡ false
 
-unused_last : (l : Linked) (left : ℕ) (a : Application) (marks : List Bool) (us : List Use) → NoneLast marks
-    → are_marked marks (members a.schema.value) ≡ true → unevaluated_uses l left a us ≡ []
-unused_last l left a marks us gone all =
-    let apart = or_parts (is_marked marks (row_of UnevaluatedItems)) (is_marked marks (row_of UnevaluatedProperties)) gone in
-    let items : get (row_of UnevaluatedItems).name a.schema.value ≡ None =
-    absent (row_of UnevaluatedItems).name marks (members a.schema.value) apart.0 all in
-    let properties : get (row_of UnevaluatedProperties).name a.schema.value ≡ None =
-    absent (row_of UnevaluatedProperties).name marks (members a.schema.value) apart.1 all in
+items_mark : mark_of (row_of UnevaluatedItems).name ≡ 33
+unfolding mark_of mark_at position_of position_in
+items_mark = refl
+
+properties_mark : mark_of (row_of UnevaluatedProperties).name ≡ 34
+unfolding mark_of mark_at position_of position_in
+properties_mark = refl
+
+pub none_last : (s : Value) (n : ℕ) → 35 ≤ n → ((i : ℕ) → 33 ≤ i → i < n → list_any (has_mark i) (members s) ≡ false) → NoneLast s
+none_last s n past none =
+    let items : get (row_of UnevaluatedItems).name s ≡ None = absent (row_of UnevaluatedItems).name 33 (members s) items_mark (none 33 (omega arith) (omega arith)) in
+    let properties : get (row_of UnevaluatedProperties).name s ≡ None = absent (row_of UnevaluatedProperties).name 34 (members s) properties_mark (none 34 (omega arith) (omega arith)) in
     rw (items, properties) refl
 
-pub groups_alone : (l : Linked) (left : ℕ) (a : Application) (marks : List Bool) → NoneLast marks → are_marked marks (members a.schema.value) ≡ true
-    → groups_uses l left a first_groups ≡ object_uses l left a
+none_from : (o : Option Value) → is_some o ≡ false → o ≡ None
+none_from None e = refl
+none_from (Some v) e = absurd (cc)
+
+unused_last : (l : Linked) (left : ℕ) (a : Application) (us : List Use) → NoneLast a.schema.value → unevaluated_uses l left a us ≡ []
+unused_last l left a us gone =
+    let apart = or_parts (is_some (get (row_of UnevaluatedItems).name a.schema.value)) (is_some (get (row_of UnevaluatedProperties).name a.schema.value)) gone in
+    let items : get (row_of UnevaluatedItems).name a.schema.value ≡ None = none_from _ apart.0 in
+    let properties : get (row_of UnevaluatedProperties).name a.schema.value ≡ None = none_from _ apart.1 in
+    rw (items, properties) refl
+
+pub groups_alone : (l : Linked) (left : ℕ) (a : Application) (s : Value) → a.schema.value ≡ s → NoneLast s → groups_uses l left a first_groups ≡ object_uses l left a
 unfolding object_uses
-groups_alone l left a marks gone all =
+groups_alone l left a s same gone =
     let us = groups_uses l left a first_groups in
-    sym (ap (λ vs. us ++ vs) (unused_last l left a marks us gone all) ∙ append-nil us)
+    sym (ap (λ vs. us ++ vs) (unused_last l left a us (ap (λ v. is_some (get (row_of UnevaluatedItems).name v) || is_some (get (row_of UnevaluatedProperties).name v)) same ∙ gone)) ∙ append-nil us)
+
+-- ---- names that annotate
+-- a name of another mark is a keyword's
+is_keyword_at : (name : Text) (o : Option Keyword) → keyword_named name keywords ≡ o → (mark_of name == 36) ≡ false → is_some o ≡ true
+unfolding position_of mark_of mark_at
+is_keyword_at name (Some k) e apart = refl
+is_keyword_at name None e apart =
+    let last : position_in name keywords ≡ 46 = after_all name keywords e ∙ how_many in
+    let there : (mark_at (position_in name keywords) == 36) ≡ true = ap (λ n. mark_at n == 36) last in
+    let both : true ≡ false = sym there ∙ apart in absurd (cc)
+
+both_or_none : (b c : Bool) → (b ≡ true → c ≡ true) → (c ≡ true → b ≡ true) → b ≡ c
+both_or_none true true f g = refl
+both_or_none true false f g = sym (f refl)
+both_or_none false true f g = g refl
+both_or_none false false f g = refl
+
+-- a name of another mark is not this one
+unlike : (name other : Text) → mark_of other ≡ 36 → (mark_of name == 36) ≡ false → same_text name other ≡ false
+unlike name other last apart =
+    both_or_none (same_text name other) false
+    (λ e. let same : name ≡ other = same_text_is name other e in
+    let there : (mark_of name == 36) ≡ true = (Decides-eqb (mark_of name) 36).1 (ap mark_of same ∙ last) in sym apart ∙ there)
+    (λ e. absurd (cc))
+
+schema_last : mark_of (codes "contentSchema") ≡ 36
+unfolding mark_of mark_at position_of position_in
+schema_last = refl
+
+encoding_last : mark_of (codes "contentEncoding") ≡ 36
+unfolding mark_of mark_at position_of position_in
+encoding_last = refl
+
+media_type_last : mark_of (codes "contentMediaType") ≡ 36
+unfolding mark_of mark_at position_of position_in
+media_type_last = refl
+
+fell : (p q r w g s t : Bool) → p ≡ false → q ≡ false → r ≡ false → w ≡ true → cond p s (cond (q || (r || false)) t (not (w || g))) ≡ false
+fell p q r w g s t e f h k = rw (e, f, h, k) refl
+
+annotates_not : (s x : Value) (name : Text) → (mark_of name == 36) ≡ false → is_annotation s x name ≡ false
+annotates_not s x name apart =
+    fell (same_text name (codes "contentSchema")) (same_text name (codes "contentEncoding")) (same_text name (codes "contentMediaType")) (is_keyword_of keywords name) (begins name (codes "$"))
+    (is_string x && is_some (get (codes "contentMediaType") s)) (is_string x)
+    (unlike name (codes "contentSchema") schema_last apart) (unlike name (codes "contentEncoding") encoding_last apart) (unlike name (codes "contentMediaType") media_type_last apart)
+    (is_keyword_at name (keyword_named name keywords) refl apart)
+
+none_annotates : (s x : Value) (ms : List (Text × Value)) → list_any (has_mark 36) ms ≡ false → filter (λ m. is_annotation s x m.0) ms ≡ []
+none_annotates s x [] none = refl
+none_annotates s x (m ∷ ms) none =
+    let parts = or_parts (has_mark 36 m) (list_any (has_mark 36) ms) none in
+    rw (annotates_not s x m.0 parts.0) (none_annotates s x ms parts.1)
+
+pub nothing_annotates : (a : Application) (s : Value) → a.schema.value ≡ s → list_any (has_mark 36) (members s) ≡ false → other_annotations a ≡ []
+nothing_annotates a s same none =
+    let at : list_any (has_mark 36) (members a.schema.value) ≡ false = ap (λ v. list_any (has_mark 36) (members v)) same ∙ none in
+    rw (none_annotates a.schema.value a.instance (members a.schema.value) at) refl

@@ -29,6 +29,10 @@ pub all_alone : list_all stands_alone first_groups ≡ true
 unfolding first_groups in_order
 all_alone = refl
 
+pub number_of_groups : length first_groups ≡ 33
+unfolding first_groups in_order
+number_of_groups = refl
+
 pub uses_more_notes : (a : Application) (us vs : List Use) → notes_of_both (uses_notes a us) (uses_notes a vs) ≡ uses_notes a (us ++ vs)
 unfolding notes_of_both
 uses_more_notes a us vs =

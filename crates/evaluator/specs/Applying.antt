@@ -24,7 +24,7 @@ Applies e schema subject a = IsAt e.linked.now (context_view e.context) (value s
 
 -- it is the application of what is applied here
 abbrev pub IsHere : Evaluation → Here → Application → Type 0
-IsHere e h a = Applies e h.schema.now h.subject a
+IsHere e h a = Applies e h.present.now.schema.now h.subject a
 
 -- the evaluation noted this too
 abbrev pub Adds : Evaluation → Evaluation → Notes → Type 0

@@ -6,3 +6,4 @@ pub mod Rounds
 pub mod Reports
 pub mod Annotations
 pub mod Applying
+pub mod Presents

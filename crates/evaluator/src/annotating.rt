@@ -14,6 +14,7 @@ ghost use Rattle.evaluator.specs.Notes.{no_notes, notes_of_both};
 ghost use Rattle.keyword_plans.specs.Subjects.{subject_value};
 
 use crate::log::Log;
+use crate::present::Present;
 use basic_output::Says;
 use evaluation_context::Context;
 use json_doc::{Doc, Members};
@@ -26,16 +27,21 @@ use std::alloc::AllocError;
 pub(crate) fn note_others<'a>(
     context: &mut Context<'a>,
     log: &mut Log<'a>,
-    schema: &'a Doc,
+    present: &Present<'a>,
     subject: Subject<'a>,
 ) -> Result<(), AllocError>
     ensures back { OnOk result (context_view context.new ≡ context_view context.old) }
     ensures noted { (a : Application) → frame_standing (context_view context.old) ≡ standing_of a
-        → a.schema.value ≡ value schema.now → a.instance ≡ subject_value subject.entry
+        → a.schema.value ≡ value present.now.schema.now
+        → a.instance ≡ subject_value subject.entry
         → OnOk result (log_view log.new
         ≡ notes_of_both (log_view log.old)
         (record no_notes { annotations = other_annotations a })) }
 {
+    if !present.may_annotate() {
+        return Ok(());
+    }
+    let schema = present.schema;
     match schema.as_dict() {
         Some(members) => note_members(context, log, schema, members, subject),
         None => Ok(()),

@@ -7,6 +7,7 @@ ghost use Rattle.json_doc.specs.Docs.{value};
 use crate::found::Found;
 use crate::here::Here;
 use crate::log::Log;
+use crate::present::Present;
 use crate::room::Room;
 use crate::settling_object::settle_object;
 use basic_output::Says;
@@ -174,8 +175,9 @@ impl<'a> Evaluation<'a> {
     {
         let mark = self.log.mark();
         self.context.enter_object()?;
+        let present = Present::of(schema);
         let here = Here {
-            schema,
+            present: &present,
             subject,
             before: mark.before(),
         };
@@ -186,7 +188,7 @@ impl<'a> Evaluation<'a> {
                     &mut self.context,
                     &mut self.log,
                     &mark,
-                    schema,
+                    &present,
                     subject,
                     found.valid,
                 )?;

@@ -15,7 +15,7 @@ pub(crate) struct Found {
 }
 
 impl Found {
-    /// A keyword that isn't there.
+    /// A keyword that isn't there, or that applies nothing and passes.
     pub(crate) fn nothing() -> Found
         ensures { result ≡ record {
           valid = true;
@@ -27,6 +27,25 @@ impl Found {
     {
         Found {
             valid: true,
+            count: 0,
+            looped: false,
+            deep: false,
+            passing: None,
+        }
+    }
+
+    /// A keyword that applies nothing, and fails.
+    pub(crate) fn unmet() -> Found
+        ensures { result ≡ record {
+          valid = false;
+          count = 0;
+          looped = false;
+          deep = false;
+          passing = None;
+        } }
+    {
+        Found {
+            valid: false,
             count: 0,
             looped: false,
             deep: false,

@@ -1,13 +1,13 @@
 //! What a schema object is applied to.
 
 use crate::log::Before;
-use json_doc::Doc;
+use crate::present::Present;
 use keyword_plans::Subject;
 
 /// What is applied here: a schema object, what it is applied to, and how much was evaluated before its keywords.
 #[derive(Clone, Copy)]
-pub(crate) struct Here<'a> {
-    pub(crate) schema: &'a Doc,
+pub(crate) struct Here<'s, 'a> {
+    pub(crate) present: &'s Present<'a>,
     pub(crate) subject: Subject<'a>,
     pub(crate) before: Before,
 }

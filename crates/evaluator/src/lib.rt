@@ -4,6 +4,7 @@
 
 mod annotating;
 mod applying;
+mod asserting;
 mod beside;
 mod found;
 mod groups;

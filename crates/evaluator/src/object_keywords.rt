@@ -8,20 +8,19 @@ use crate::beside::Beside;
 use crate::found::Found;
 use crate::groups::first_groups;
 use crate::here::Here;
-use crate::present::Present;
 use crate::room::Room;
+use assertions::Assertion;
 use faults::Fault;
 use keywords::{Group, Keyword};
 
 impl<'a> Evaluation<'a> {
     ghost use Rattle.std.specs.Prelude.{◌<◌, ◌≤◌, suc, true, IfOk, IfErr, OnOk};
-    ghost use Rattle.definitions.specs.Values.{members};
     ghost use Rattle.definitions.specs.Applied.{Application};
     ghost use Rattle.keywords.specs.Rows.{row_of};
     ghost use Rattle.evaluation_context.specs.Frames.{context_view};
     ghost use Rattle.evaluator.specs.Applying.{Adds, IsCostly, IsHere};
     ghost use Rattle.evaluator.specs.Findings.{FindsObject, FindsUse, FindsUses, IsWithin, use_count};
-    ghost use Rattle.evaluator.specs.Groups.{are_marked, first_groups, stands_alone};
+    ghost use Rattle.evaluator.specs.Groups.{first_groups, stands_alone};
     ghost use Rattle.keywords.specs.declared.group.Group.TheVariants.{One, Conditional, Counted};
     ghost use Rattle.evaluator.specs.Logs.{log_view};
     ghost use Rattle.evaluator.specs.Notes.{uses_notes};
@@ -29,7 +28,7 @@ impl<'a> Evaluation<'a> {
 
     /// All keywords of a schema object, and last those that look at what the others evaluated; the object counts itself.
     #[cycle(apply)]
-    pub(crate) fn use_keywords(&mut self, here: Here<'a>, room: Room) -> Result<Found, Fault>
+    pub(crate) fn use_keywords(&mut self, here: Here<'_, 'a>, room: Room) -> Result<Found, Fault>
         requires some { 0 < room.applications }
         requires before { here.before ≡ evaluated_in (log_view self.old.log) }
         ensures linked { self.new.linked ≡ self.old.linked }
@@ -45,21 +44,16 @@ impl<'a> Evaluation<'a> {
             → IfErr result (λ f. IsCostly f room.applications (suc
             (use_count (object_uses self.old.linked.now room.nesting a)))) }
     {
-        let present = Present::of(here.schema);
-        match self.use_groups(here, &present, room) {
+        match self.use_groups(here, room) {
             Ok(found) => {
-                if !present.looks_at_evaluated() {
+                if !here.present.looks_at_evaluated() {
                     return Ok(found);
                 }
-                let beside = Beside {
-                    condition: None,
-                    containing: None,
-                };
                 match self.use_two(
                     Keyword::UnevaluatedItems,
                     Keyword::UnevaluatedProperties,
                     here,
-                    beside,
+                    Beside::nothing(),
                     Room {
                         nesting: room.nesting,
                         applications: room.applications - found.count,
@@ -73,12 +67,10 @@ impl<'a> Evaluation<'a> {
         }
     }
 
-    /// The groups of keywords that the schema has, in order; the object counts itself.
+    /// The groups of keywords that the schema may have, in order; the object counts itself.
     #[cycle(apply)]
-    fn use_groups(&mut self, here: Here<'a>, present: &Present, room: Room) -> Result<Found, Fault>
+    fn use_groups(&mut self, here: Here<'_, 'a>, room: Room) -> Result<Found, Fault>
         requires some { 0 < room.applications }
-        requires present { are_marked present.now.marks (members (value here.schema.now))
-            ≡ true }
         ensures linked { self.new.linked ≡ self.old.linked }
         ensures back { OnOk result (context_view self.new.context ≡ context_view self.old.context) }
         ensures within { IfOk result (λ f. IsWithin f room.applications) }
@@ -92,13 +84,12 @@ impl<'a> Evaluation<'a> {
             → IfErr result (λ f. IsCostly f room.applications (suc
             (use_count (groups_uses self.old.linked.now room.nesting a first_groups)))) }
     {
+        let groups = first_groups();
         let mut found = Found::boolean(true);
-        for group in first_groups() {
-            if !present.has(*group) {
-                continue;
-            }
+        let mut next = here.present.first_mark(0);
+        while next < groups.len() {
             match self.use_group(
-                *group,
+                groups[next],
                 here,
                 Room {
                     nesting: room.nesting,
@@ -108,12 +99,13 @@ impl<'a> Evaluation<'a> {
                 Ok(used) => found = found.and(used),
                 Err(fault) => return Err(fault),
             }
+            next = here.present.first_mark(next + 1);
         }
         Ok(found)
     }
 
     #[cycle(apply)]
-    fn use_group(&mut self, group: Group, here: Here<'a>, room: Room) -> Result<Found, Fault>
+    fn use_group(&mut self, group: Group, here: Here<'_, 'a>, room: Room) -> Result<Found, Fault>
         requires alone { stands_alone group ≡ true }
         ensures linked { self.new.linked ≡ self.old.linked }
         ensures back { OnOk result (context_view self.new.context ≡ context_view self.old.context) }
@@ -137,7 +129,7 @@ impl<'a> Evaluation<'a> {
 
     /// A keyword that asks for nothing that keywords beside say.
     #[cycle(apply)]
-    fn use_one(&mut self, keyword: Keyword, here: Here<'a>, room: Room) -> Result<Found, Fault>
+    fn use_one(&mut self, keyword: Keyword, here: Here<'_, 'a>, room: Room) -> Result<Found, Fault>
         requires alone { stands_alone (One keyword) ≡ true }
         ensures linked { self.new.linked ≡ self.old.linked }
         ensures back { OnOk result (context_view self.new.context ≡ context_view self.old.context) }
@@ -152,16 +144,15 @@ impl<'a> Evaluation<'a> {
             → IfErr result (λ f. IsCostly f room.applications
             (use_count (group_uses self.old.linked.now room.nesting a (One keyword)))) }
     {
-        let beside = Beside {
-            condition: None,
-            containing: None,
-        };
-        self.use_named(keyword, here, beside, room)
+        match Assertion::of(keyword) {
+            Some(assertion) => self.use_assertion(keyword, assertion, here),
+            None => self.use_named(keyword, here, Beside::nothing(), room),
+        }
     }
 
     /// `if`, and then `then` and `else` (Core, 10.2.2).
     #[cycle(apply)]
-    fn use_conditional(&mut self, here: Here<'a>, room: Room) -> Result<Found, Fault>
+    fn use_conditional(&mut self, here: Here<'_, 'a>, room: Room) -> Result<Found, Fault>
         ensures linked { self.new.linked ≡ self.old.linked }
         ensures back { OnOk result (context_view self.new.context ≡ context_view self.old.context) }
         ensures within { IfOk result (λ f. f.count ≤ room.applications) }
@@ -175,11 +166,7 @@ impl<'a> Evaluation<'a> {
             → IfErr result (λ f. IsCostly f room.applications
             (use_count (group_uses self.old.linked.now room.nesting a Conditional))) }
     {
-        let nothing = Beside {
-            condition: None,
-            containing: None,
-        };
-        match self.use_named(Keyword::If, here, nothing, room) {
+        match self.use_named(Keyword::If, here, Beside::nothing(), room) {
             Ok(used) => {
                 let beside = Beside {
                     condition: used.some_passed(),
@@ -205,7 +192,7 @@ impl<'a> Evaluation<'a> {
 
     /// `contains`, and then `minContains` and `maxContains` (Core, 10.3.1.3; Validation, 6.4.4 and 6.4.5).
     #[cycle(apply)]
-    fn use_counted(&mut self, here: Here<'a>, room: Room) -> Result<Found, Fault>
+    fn use_counted(&mut self, here: Here<'_, 'a>, room: Room) -> Result<Found, Fault>
         ensures linked { self.new.linked ≡ self.old.linked }
         ensures back { OnOk result (context_view self.new.context ≡ context_view self.old.context) }
         ensures within { IfOk result (λ f. f.count ≤ room.applications) }
@@ -219,11 +206,7 @@ impl<'a> Evaluation<'a> {
             → IfErr result (λ f. IsCostly f room.applications
             (use_count (group_uses self.old.linked.now room.nesting a Counted))) }
     {
-        let nothing = Beside {
-            condition: None,
-            containing: None,
-        };
-        match self.use_named(Keyword::Contains, here, nothing, room) {
+        match self.use_named(Keyword::Contains, here, Beside::nothing(), room) {
             Ok(used) => {
                 let beside = Beside {
                     condition: None,
@@ -253,7 +236,7 @@ impl<'a> Evaluation<'a> {
         &mut self,
         first: Keyword,
         second: Keyword,
-        here: Here<'a>,
+        here: Here<'_, 'a>,
         beside: Beside,
         room: Room,
     ) -> Result<Found, Fault>
@@ -301,7 +284,7 @@ impl<'a> Evaluation<'a> {
     fn use_named(
         &mut self,
         keyword: Keyword,
-        here: Here<'a>,
+        here: Here<'_, 'a>,
         beside: Beside,
         room: Room,
     ) -> Result<Found, Fault>
@@ -324,7 +307,7 @@ impl<'a> Evaluation<'a> {
             (uses_since self.old.linked.now room.nesting a keyword here.entry.before
             (log_view self.old.log)))) }
     {
-        match here.schema.get(keyword.name()) {
+        match here.present.value(keyword) {
             Some(keyword_value) => self.use_keyword(keyword, keyword_value, here, beside, room),
             None => Ok(Found::nothing()),
         }

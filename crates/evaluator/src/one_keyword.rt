@@ -39,7 +39,7 @@ impl<'a> Evaluation<'a> {
         &mut self,
         keyword: Keyword,
         keyword_value: &'a Doc,
-        here: Here<'a>,
+        here: Here<'_, 'a>,
         beside: Beside,
         room: Room,
     ) -> Result<Found, Fault>
@@ -91,7 +91,7 @@ impl<'a> Evaluation<'a> {
         &mut self,
         keyword: Keyword,
         keyword_value: &'a Doc,
-        here: Here<'a>,
+        here: Here<'_, 'a>,
         beside: Beside,
     ) -> Result<Vec<Planned<'a>>, Fault>
         ensures linked { self.new.linked ≡ self.old.linked }
@@ -113,7 +113,7 @@ impl<'a> Evaluation<'a> {
         let site = Site {
             linked: self.linked,
             resource: self.context.resource(),
-            schema: here.schema,
+            schema: here.present.schema,
             subject: here.subject,
             scope: self.context.scope(),
         };
@@ -133,7 +133,7 @@ impl<'a> Evaluation<'a> {
         &mut self,
         keyword: Keyword,
         keyword_value: &'a Doc,
-        here: Here<'a>,
+        here: Here<'_, 'a>,
         beside: Beside,
         mark: &LogMark,
         applied: Applied,
@@ -145,7 +145,7 @@ impl<'a> Evaluation<'a> {
         ensures count { IfOk result (λ r. r.count ≡ applied.count) }
         ensures found { (a : Application) (left budget : ℕ) (names : List Text) (indexes : List ℕ)
             → IsAtKeyword self.old.linked.now left (context_view self.old.context)
-            (value here.entry.schema.now) (subject_value here.entry.subject) keyword
+            (value here.entry.present.now.schema.now) (subject_value here.entry.subject) keyword
             (value keyword_value.now) beside a
             → let u = use_there self.old.linked.now left a keyword names indexes
             (value keyword_value.now) in
@@ -153,7 +153,7 @@ impl<'a> Evaluation<'a> {
         ensures noted { (a : Application) (left : ℕ) (names : List Text) (indexes : List ℕ)
             (older : Notes)
             → IsAtKeyword self.old.linked.now left (context_view self.old.context)
-            (value here.entry.schema.now) (subject_value here.entry.subject) keyword
+            (value here.entry.present.now.schema.now) (subject_value here.entry.subject) keyword
             (value keyword_value.now) beside a
             → let u = use_there self.old.linked.now left a keyword names indexes
             (value keyword_value.now) in
@@ -183,7 +183,7 @@ impl<'a> Evaluation<'a> {
         &mut self,
         keyword: Keyword,
         keyword_value: &'a Doc,
-        here: Here<'a>,
+        here: Here<'_, 'a>,
         beside: Beside,
         applied: Applied,
     ) -> Result<bool, Fault>
@@ -192,7 +192,7 @@ impl<'a> Evaluation<'a> {
         ensures noted { self.new.log ≡ self.old.log }
         ensures passes { (a : Application) (left : ℕ) (names : List Text) (indexes : List ℕ)
             → IsAtKeyword self.old.linked.now left (context_view self.old.context)
-            (value here.entry.schema.now) (subject_value here.entry.subject) keyword
+            (value here.entry.present.now.schema.now) (subject_value here.entry.subject) keyword
             (value keyword_value.now) beside a
             → let u = use_there self.old.linked.now left a keyword names indexes
             (value keyword_value.now) in
@@ -203,7 +203,7 @@ impl<'a> Evaluation<'a> {
         let site = Site {
             linked: self.linked,
             resource: self.context.resource(),
-            schema: here.schema,
+            schema: here.present.schema,
             subject: here.subject,
             scope: self.context.scope(),
         };

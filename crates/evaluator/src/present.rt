@@ -1,94 +1,102 @@
 //! Which keywords a schema object has, found in one walk over its members.
 
-ghost use Rattle.std.specs.Prelude.{◌≡◌, ◌≤◌, ◌||◌, true, false, get_or};
-ghost use Rattle.definitions.specs.Values.{members};
+ghost use Rattle.std.specs.Prelude.{◌≡◌, ◌≤◌, ◌<◌, ◌||◌, ℕ, [], false, is_some, option_map};
+ghost use Rattle.std.specs.List.{list_any};
+ghost use Rattle.std.specs.Int.{bit_at};
+ghost use Rattle.definitions.specs.Values.{get, members};
+ghost use Rattle.definitions.specs.Applied.{Application};
+ghost use Rattle.definitions.specs.Outcomes.{other_annotations};
 ghost use Rattle.json_doc.specs.Docs.{value, members_value};
 ghost use Rattle.keywords.specs.Rows.{row_of};
 ghost use Rattle.keywords.specs.declared.keyword.Keyword.TheVariants.{UnevaluatedItems, UnevaluatedProperties};
-ghost use Rattle.evaluator.specs.Groups.{are_marked, has_mark, is_marked, position_of};
+ghost use Rattle.evaluator.specs.Presents.{AreMarked, has_mark, mark_at, mark_of, position_of};
 
 use json_doc::{Doc, Members};
-use keywords::{Group, Keyword};
+use keywords::Keyword;
 
 /// The position of the names that are no keywords', after those of the table.
 const NO_KEYWORD: usize = 46;
-/// How many positions there are.
-const POSITIONS: usize = 47;
+/// The marks of the two groups that look at what others evaluated begin here.
+const UNEVALUATED: usize = 33;
+/// The mark of keywords that only declare.
+const DECLARES: usize = 35;
+/// The mark of names that may annotate with their own value.
+const ANNOTATES: usize = 36;
 
-/// The keywords that a schema object has: each is marked at its position in the table of keywords, and all other names
-/// at one position after them.
+/// A schema, and which names stand in it: a bit for each group of keywords, in the order of evaluation, one for keywords
+/// that only declare, and one for names that may annotate with their own value.
 #[derive(Drop)]
-pub(crate) struct Present {
-    marks: [bool; POSITIONS],
+pub(crate) struct Present<'a> {
+    pub(crate) schema: &'a Doc,
+    marks: u64,
+    ghost marked: { AreMarked marks (value schema.now) },
 }
 
-impl Present {
+impl<'a> Present<'a> {
     /// What this schema has.
-    pub(crate) fn of(schema: &Doc) -> Present
-        ensures { are_marked result.marks (members (value schema.now)) ≡ true }
+    pub(crate) fn of(schema: &'a Doc) -> Present<'a>
+        ensures { result.schema.now ≡ schema.now }
     {
-        match schema.as_dict() {
-            Some(members) => Present {
-                marks: marks_of(members),
-            },
-            None => Present {
-                marks: [false; POSITIONS],
-            },
+        Present {
+            schema,
+            marks: marks_in(schema),
         }
     }
 
-    /// Whether it has a keyword of the group.
-    pub(crate) fn has(&self, group: Group) -> bool
-        ensures { result ≡ has_mark self.now.marks group }
+    /// The first mark from this one on that it may have, or 64.
+    pub(crate) fn first_mark(&self, from: usize) -> usize
+        requires { from < 64 }
+        ensures onward { from ≤ result }
+        ensures passed { (i : ℕ) → from ≤ i → i < result
+            → list_any (has_mark i) (members (value self.now.schema.now)) ≡ false }
     {
-        match group {
-            Group::One(keyword) => self.has_keyword(keyword),
-            Group::Conditional => {
-                self.has_keyword(Keyword::If)
-                    || self.has_keyword(Keyword::Then)
-                    || self.has_keyword(Keyword::Else)
-            }
-            Group::Counted => {
-                self.has_keyword(Keyword::Contains)
-                    || self.has_keyword(Keyword::MinContains)
-                    || self.has_keyword(Keyword::MaxContains)
-            }
-        }
+        first_bit(self.marks, from)
     }
 
-    /// Whether it has a keyword that looks at what others evaluated.
+    /// Whether it may have a keyword that looks at what others evaluated.
     pub(crate) fn looks_at_evaluated(&self) -> bool
-        ensures { result ≡ (is_marked self.now.marks (row_of UnevaluatedItems)
-            || is_marked self.now.marks (row_of UnevaluatedProperties)) }
+        ensures { result ≡ false
+            → (is_some (get (row_of UnevaluatedItems).name (value self.now.schema.now))
+            || is_some (get (row_of UnevaluatedProperties).name (value self.now.schema.now)))
+            ≡ false }
     {
-        self.has_keyword(Keyword::UnevaluatedItems)
-            || self.has_keyword(Keyword::UnevaluatedProperties)
+        self.first_mark(UNEVALUATED) < DECLARES
     }
 
-    // Whether it has this keyword.
-    fn has_keyword(&self, keyword: Keyword) -> bool
-        ensures { result ≡ is_marked self.now.marks (row_of keyword) }
+    /// Whether it has a name that may annotate with its own value: one that is no keyword's, or `contentSchema`.
+    pub(crate) fn may_annotate(&self) -> bool
+        ensures { (a : Application) → a.schema.value ≡ value self.now.schema.now → result ≡ false
+            → other_annotations a ≡ [] }
     {
-        self.is_marked(keyword.position())
+        self.first_mark(ANNOTATES) == ANNOTATES
     }
 
-    // Whether this position is marked.
-    fn is_marked(&self, position: usize) -> bool
-        ensures { result ≡ get_or self.now.marks position false }
+    /// The value of the keyword, where it is there.
+    pub(crate) fn value(&self, keyword: Keyword) -> Option<&'a Doc>
+        ensures { option_map (λ d. value d.now) result
+            ≡ get (row_of keyword).name (value self.now.schema.now) }
     {
-        match self.marks.get(position) {
-            Some(mark) => *mark,
-            None => false,
-        }
+        self.schema.get(keyword.name())
     }
 }
 
-fn marks_of(members: &Members) -> [bool; POSITIONS]
-    ensures { are_marked result (members_value members.now) ≡ true }
+fn marks_in(schema: &Doc) -> u64
+    ensures { AreMarked result (value schema.now) }
 {
-    let mut marks = [false; POSITIONS];
+    match schema.as_dict() {
+        Some(members) => marks_of(members),
+        None => 0,
+    }
+}
+
+fn marks_of(members: &Members) -> u64
+    ensures { (i : ℕ) → bit_at result i ≡ 0
+        → list_any (has_mark i) (members_value members.now) ≡ false }
+{
+    let mut marks: u64 = 0;
     for (name, _) in members.iter() {
-        marks[position_of(name)] = true;
+        let mark = mark_at(position_of(name));
+        marks |= 1u64 << mark;
     }
     marks
 }
@@ -101,5 +109,42 @@ fn position_of(name: &str) -> usize
     match Keyword::named(name) {
         Some(keyword) => keyword.position(),
         None => NO_KEYWORD,
+    }
+}
+
+// The mark of the keyword at this position: `if`, `then` and `else` have one, as have `contains` and its two counts.
+#[tactic(auto, unfolding(crate::specs::Presents::mark_at))]
+fn mark_at(position: usize) -> usize
+    ensures mark { result ≡ mark_at position }
+    ensures within { position ≤ 46 → result ≤ 36 }
+{
+    if position < 24 {
+        position
+    } else if position < 27 {
+        24
+    } else if position < 30 {
+        position - 2
+    } else if position < 33 {
+        28
+    } else if position < 39 {
+        position - 4
+    } else if position == 41 || position >= 46 {
+        ANNOTATES
+    } else {
+        DECLARES
+    }
+}
+
+// The lowest bit that is 1 from this one on, or 64.
+fn first_bit(bits: u64, from: usize) -> usize
+    requires { from < 64 }
+    ensures onward { from ≤ result }
+    ensures passed { (i : ℕ) → from ≤ i → i < result → bit_at bits i ≡ 0 }
+{
+    let rest = bits & (u64::MAX << from);
+    if rest == 0 {
+        64
+    } else {
+        rest.trailing_zeros() as usize
     }
 }

@@ -13,8 +13,8 @@ ghost use Rattle.keyword_plans.specs.Subjects.{subject_value};
 
 use crate::annotating::note_others;
 use crate::log::{Log, LogMark};
+use crate::present::Present;
 use evaluation_context::Context;
-use json_doc::Doc;
 use keyword_plans::Subject;
 use std::alloc::AllocError;
 
@@ -24,14 +24,14 @@ pub(crate) fn settle_object<'a>(
     context: &mut Context<'a>,
     log: &mut Log<'a>,
     mark: &LogMark,
-    schema: &'a Doc,
+    present: &Present<'a>,
     subject: Subject<'a>,
     valid: bool,
 ) -> Result<(), AllocError>
     ensures back { OnOk result (context_view context.new ≡ context_view context.old) }
     ensures noted { (a : Application) (older : Notes) (us : List Use)
-        → a ≡ application_at (frame_standing (context_view context.old)) (value schema.now)
-        (subject_value subject.entry)
+        → a ≡ application_at (frame_standing (context_view context.old))
+        (value present.now.schema.now) (subject_value subject.entry)
         → mark_view mark.now ≡ lengths older
         → log_view log.old ≡ notes_of_both older (uses_notes a us)
         → valid ≡ list_all (λ u. u.passes) us
@@ -39,7 +39,7 @@ pub(crate) fn settle_object<'a>(
         ≡ notes_of_both older (outcome_notes (outcome_of_uses a us))) }
 {
     if valid {
-        note_others(context, log, schema, subject)
+        note_others(context, log, present, subject)
     } else {
         log.cut_annotations(mark);
         log.cut_evaluated(mark);

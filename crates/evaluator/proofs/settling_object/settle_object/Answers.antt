@@ -17,5 +17,5 @@ returns-then-valid-clause-noted c a older us at m n v =
     let all : list_all (λ (u : Use). u.passes) us ≡ true = sym v ∙ c.if-valid.true in
     on_ok_weaker c.note_others.result (λ e.
     e ∙ ap (λ (k : Notes). notes_of_both k others) n ∙ added_twice older (uses_notes a us) others ∙ ap (notes_of_both older) (passing_object a us all))
-    (c.note_others.ensures.noted a (stands_there (frame_standing (context_view c.args.context.now)) (value c.args.schema.now) (subject_value c.args.subject) a at)
+    (c.note_others.ensures.noted a (stands_there (frame_standing (context_view c.args.context.now)) (value c.args.present.now.schema.now) (subject_value c.args.subject) a at)
     (ap (λ (b : Application). b.schema.value) at) (ap (λ (b : Application). b.instance) at))

@@ -33,20 +33,20 @@ use_keywords-returns-then-not-looks_at_evaluated-clause-found = object_keywords.
 pub use_keywords-returns-then-not-looks_at_evaluated-clause-noted : goal.use_keywords-returns-then-not-looks_at_evaluated-clause-noted
 use_keywords-returns-then-not-looks_at_evaluated-clause-noted = object_keywords.use_keywords-returns-then-not-looks_at_evaluated-clause-noted
 
-pub use_groups-loop-group-init : goal.use_groups-loop-group-init
-use_groups-loop-group-init = object_keywords.use_groups-loop-group-init
+pub use_groups-loop-next-init : goal.use_groups-loop-next-init
+use_groups-loop-next-init = object_keywords.use_groups-loop-next-init
 
 pub use_groups-use_group-requires : goal.use_groups-use_group-requires
 use_groups-use_group-requires = object_keywords.use_groups-use_group-requires
 
+pub use_groups-first_mark-next-requires-in-loop-next : goal.use_groups-first_mark-next-requires-in-loop-next
+use_groups-first_mark-next-requires-in-loop-next = object_keywords.use_groups-first_mark-next-requires-in-loop-next
+
 pub use_groups-returns-in-Err-clause-err : goal.use_groups-returns-in-Err-clause-err
 use_groups-returns-in-Err-clause-err = object_keywords.use_groups-returns-in-Err-clause-err
 
-pub use_groups-loop-group-preserved-then-not-has : goal.use_groups-loop-group-preserved-then-not-has
-use_groups-loop-group-preserved-then-not-has = object_keywords.use_groups-loop-group-preserved-then-not-has
-
-pub use_groups-loop-group-preserved : goal.use_groups-loop-group-preserved
-use_groups-loop-group-preserved = object_keywords.use_groups-loop-group-preserved
+pub use_groups-loop-next-preserved : goal.use_groups-loop-next-preserved
+use_groups-loop-next-preserved = object_keywords.use_groups-loop-next-preserved
 
 pub use_groups-returns-clause-found : goal.use_groups-returns-clause-found
 use_groups-returns-clause-found = object_keywords.use_groups-returns-clause-found
@@ -90,14 +90,14 @@ use_counted-returns-in-Err-use_two-clause-err = object_keywords.use_counted-retu
 pub use_counted-returns-in-Err-clause-err : goal.use_counted-returns-in-Err-clause-err
 use_counted-returns-in-Err-clause-err = object_keywords.use_counted-returns-in-Err-clause-err
 
-pub use_one-returns-clause-found : goal.use_one-returns-clause-found
-use_one-returns-clause-found = object_keywords.use_one-returns-clause-found
+pub use_one-returns-in-None-clause-found : goal.use_one-returns-in-None-clause-found
+use_one-returns-in-None-clause-found = object_keywords.use_one-returns-in-None-clause-found
 
-pub use_one-returns-clause-noted : goal.use_one-returns-clause-noted
-use_one-returns-clause-noted = object_keywords.use_one-returns-clause-noted
+pub use_one-returns-in-None-clause-noted : goal.use_one-returns-in-None-clause-noted
+use_one-returns-in-None-clause-noted = object_keywords.use_one-returns-in-None-clause-noted
 
-pub use_one-returns-clause-err : goal.use_one-returns-clause-err
-use_one-returns-clause-err = object_keywords.use_one-returns-clause-err
+pub use_one-returns-in-None-clause-err : goal.use_one-returns-in-None-clause-err
+use_one-returns-in-None-clause-err = object_keywords.use_one-returns-in-None-clause-err
 
 pub use_two-returns-in-Ok-use_named-clause-noted : goal.use_two-returns-in-Ok-use_named-clause-noted
 use_two-returns-in-Ok-use_named-clause-noted = object_keywords.use_two-returns-in-Ok-use_named-clause-noted

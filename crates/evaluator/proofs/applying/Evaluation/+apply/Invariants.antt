@@ -1,9 +1,10 @@
-use Rattle.std.proofs.Common.{◌≡◌, take, Contains, ◌+◌, ◌*◌}
+use Rattle.std.proofs.Common.{◌≡◌, take, length, Contains, ◌+◌, ◌-◌, ◌*◌}
 use Rattle.definitions.specs.Applied.{Application}
 use Rattle.json_doc.specs.Docs.{value}
 use Rattle.keyword_plans.specs.Subjects.{subject_value}
 use Rattle.evaluation_context.specs.Frames.{context_view}
 use Rattle.evaluator.specs.Findings.{IsWithin, FindsObject, AreWithin, FindsAll}
+use Rattle.evaluator.specs.Groups.{first_groups}
 use Rattle.evaluator.specs.Logs.{log_view}
 use Rattle.evaluator.specs.Notes.{notes_of_both, uses_notes, parts_notes}
 use Rattle.evaluator.specs.Rounds.{IsAt, groups_uses, IsKnown, IsUnder, part_outcomes}
@@ -53,17 +54,20 @@ decreases-apply l = 14 * l.room.nesting + 1
 abbrev pub decreases-apply_other : goal.decreases-apply_other
 decreases-apply_other l = 14 * l.room.nesting
 
+abbrev pub decreases-use_groups-loop-next : goal.decreases-use_groups-loop-next
+decreases-use_groups-loop-next l = length l.groups - l.next
+
 -- what the groups so far found and noted
-abbrev pub invariant-use_groups-loop-group : goal.invariant-use_groups-loop-group
-invariant-use_groups-loop-group l =
+abbrev pub invariant-use_groups-loop-next : goal.invariant-use_groups-loop-next
+invariant-use_groups-loop-next l =
     record {
       linked : l.self.linked ≡ l.fn.self.linked;
       back : context_view l.self.context ≡ context_view l.fn.self.context;
       within : IsWithin l.found l.room.applications;
-      found : (a : Application) → IsAt l.fn.self.linked.now (context_view l.fn.self.context) (value l.here.schema.now) (subject_value l.here.subject) a
-          → FindsObject l.found l.room.applications (groups_uses l.fn.self.linked.now l.room.nesting a (take l.group-index l.group-items));
-      noted : (a : Application) → IsAt l.fn.self.linked.now (context_view l.fn.self.context) (value l.here.schema.now) (subject_value l.here.subject) a
-          → log_view l.self.log ≡ notes_of_both (log_view l.fn.self.log) (uses_notes a (groups_uses l.fn.self.linked.now l.room.nesting a (take l.group-index l.group-items)));
+      found : (a : Application) → IsAt l.fn.self.linked.now (context_view l.fn.self.context) (value l.here.present.now.schema.now) (subject_value l.here.subject) a
+          → FindsObject l.found l.room.applications (groups_uses l.fn.self.linked.now l.room.nesting a (take l.next first_groups));
+      noted : (a : Application) → IsAt l.fn.self.linked.now (context_view l.fn.self.context) (value l.here.present.now.schema.now) (subject_value l.here.subject) a
+          → log_view l.self.log ≡ notes_of_both (log_view l.fn.self.log) (uses_notes a (groups_uses l.fn.self.linked.now l.room.nesting a (take l.next first_groups)));
     }
 
 -- what the schemas applied so far found and noted

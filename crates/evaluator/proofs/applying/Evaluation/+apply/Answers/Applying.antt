@@ -1,5 +1,5 @@
 -- Schemas that are applied.
-use Rattle.std.proofs.Common.{◌≡◌, ◌<◌, ◌∙◌, sym, ap, subst, ◌-◌, refl, arith, true, false, OnOk, Some, None, IfOk}
+use Rattle.std.proofs.Common.{◌≡◌, ◌<◌, ◌∙◌, sym, ap, subst, refl, arith, true, false, OnOk, Some, None}
 use Rattle.definitions.specs.Applied.{Outcome, application_within, Application}
 use Rattle.json_doc.specs.Docs.{value}
 use Rattle.keyword_plans.specs.Subjects.{subject_value}
@@ -11,7 +11,6 @@ use Rattle.evaluator.specs.Notes.{notes_of_both, outcome_notes, Notes}
 use Rattle.evaluator.specs.Rounds.{IsAt, object_uses}
 use Rattle.evaluator.proofs.CombinedLaws.{entered_at, entered_notes, object_found}
 use Rattle.evaluator.proofs.ObjectLaws.{object_by_groups}
-use Rattle.keywords.specs.declared.keyword.Keyword.TheVariants.{If}
 use Rattle.evaluator.proofs.LogLaws.{added_nothing}
 use Rattle.definitions.specs.Outcomes.{is_running, leaf}
 use Rattle.std.proofs.lemmas.Result.{IfOk-weaker}
@@ -23,35 +22,41 @@ use Rattle.evaluator.proofs.applying.Evaluation.+apply.Goals as goal
 pub apply_object-returns-in_ok-settle_object-in-Ok-clause-found : goal.apply_object-returns-in_ok-settle_object-in-Ok-clause-found
 apply_object-returns-in_ok-settle_object-in-Ok-clause-found t c a at =
     let l = c.args.self.now.linked.now in
-    let s = value c.args.schema.now in
+    let s = value c.of-present.result.schema.now in
     let x = subject_value c.args.subject in
+    let here : IsAt l (context_view c.args.self.now.context) s x a =
+    subst (λ v. IsAt l (context_view c.args.self.now.context) v x a) (ap value (sym c.of-present.ensures)) at in
     let inner : IsAt l (context_view c.enter_object.new.self) s x (application_within a) =
-    entered_at l (context_view c.args.self.now.context) (context_view c.enter_object.new.self) s x a at c.in_ok-enter_object.ensures.there in
+    entered_at l (context_view c.args.self.now.context) (context_view c.enter_object.new.self) s x a here c.in_ok-enter_object.ensures.there in
     subst (Finds c.in-Ok.found c.args.room.applications) (sym (object_by_groups l c.args.room.nesting a))
     (object_found c.in-Ok.found c.args.room.applications a (object_uses l c.args.room.nesting (application_within a)) (c.in-Ok.ensures.found (application_within a) inner))
 
 pub apply_object-returns-in_ok-settle_object-in-Ok-clause-noted : goal.apply_object-returns-in_ok-settle_object-in-Ok-clause-noted
 apply_object-returns-in_ok-settle_object-in-Ok-clause-noted t c a at =
     let l = c.args.self.now.linked.now in
-    let s = value c.args.schema.now in
+    let s = value c.of-present.result.schema.now in
     let x = subject_value c.args.subject in
+    let here : IsAt l (context_view c.args.self.now.context) s x a =
+    subst (λ v. IsAt l (context_view c.args.self.now.context) v x a) (ap value (sym c.of-present.ensures)) at in
     let inner : IsAt l (context_view c.enter_object.new.self) s x (application_within a) =
-    entered_at l (context_view c.args.self.now.context) (context_view c.enter_object.new.self) s x a at c.in_ok-enter_object.ensures.there in
+    entered_at l (context_view c.args.self.now.context) (context_view c.enter_object.new.self) s x a here c.in_ok-enter_object.ensures.there in
     let n = log_view c.args.self.now.log in
     let us = object_uses l c.args.room.nesting (application_within a) in
     let back : context_view c.leave_object.new.self ≡ context_view c.args.self.now.context =
     c.leave_object.ensures (context_view c.args.self.now.context) (c.in-Ok.ensures.back ∙ c.in_ok-enter_object.ensures.entered) in
-    c.in_ok-settle_object-in-Ok.ensures.noted a n us (at.there ∙ ap (λ (f : Frame). application_at (frame_standing f) s x) (sym back)) c.mark-mark.ensures
+    c.in_ok-settle_object-in-Ok.ensures.noted a n us (here.there ∙ ap (λ (f : Frame). application_at (frame_standing f) s x) (sym back)) c.mark-mark.ensures
     (c.in-Ok.ensures.noted (application_within a) inner ∙ ap (notes_of_both n) (entered_notes a us)) (c.in-Ok.ensures.found (application_within a) inner).valid
     ∙ ap (λ (o : Outcome). notes_of_both n (outcome_notes o)) (sym (object_by_groups l c.args.room.nesting a))
 
 pub apply_object-returns-in-Err-clause-err : goal.apply_object-returns-in-Err-clause-err
 apply_object-returns-in-Err-clause-err t c a at other =
     let l = c.args.self.now.linked.now in
-    let s = value c.args.schema.now in
+    let s = value c.of-present.result.schema.now in
     let x = subject_value c.args.subject in
+    let here : IsAt l (context_view c.args.self.now.context) s x a =
+    subst (λ v. IsAt l (context_view c.args.self.now.context) v x a) (ap value (sym c.of-present.ensures)) at in
     let inner : IsAt l (context_view c.enter_object.new.self) s x (application_within a) =
-    entered_at l (context_view c.args.self.now.context) (context_view c.enter_object.new.self) s x a at c.in_ok-enter_object.ensures.there in
+    entered_at l (context_view c.args.self.now.context) (context_view c.enter_object.new.self) s x a here c.in_ok-enter_object.ensures.there in
     let fault = c.in-Err.ensures.err (application_within a) inner other in
     (fault.0, subst (λ (o : Outcome). c.args.room.applications < o.count) (sym (object_by_groups l c.args.room.nesting a)) fault.1)
 

@@ -1,10 +1,10 @@
 -- The keywords of a schema object, group by group.
-use Rattle.std.proofs.Common.{◌≡◌, ◌<◌, ◌∙◌, sym, ap, subst, ◌-◌, Bor, refl, arith, true, get_or, rules, false, None, OnOk, IfErr}
+use Rattle.std.proofs.Common.{◌≡◌, ◌<◌, ◌∙◌, sym, ap, subst, ◌-◌, ◌+◌, ◌≤◌, length, Bor, refl, arith, true, get_or, rules, false, None, OnOk, IfErr}
 use Rattle.definitions.specs.Applied.{Application}
 use Rattle.json_doc.specs.Docs.{value}
 use Rattle.keyword_plans.specs.Subjects.{subject_value}
-use Rattle.evaluation_context.specs.Frames.{Frame, context_view}
-use Rattle.evaluator.specs.Findings.{Finds, FindsUses, use_count, FindsObject, FindsUse}
+use Rattle.evaluation_context.specs.Frames.{context_view}
+use Rattle.evaluator.specs.Findings.{FindsUses, use_count, FindsObject, FindsUse}
 use Rattle.evaluator.specs.Logs.{log_view}
 use Rattle.evaluator.specs.Notes.{notes_of_both, uses_notes, Notes}
 use Rattle.evaluator.specs.Rounds.{IsAt, two_uses, group_uses, groups_uses, uses_since, Knows}
@@ -14,13 +14,13 @@ use Rattle.evaluator.proofs.KeywordsLaws.{groups_over, keywords_found, keywords_
 use Rattle.evaluator.proofs.UnevaluatedLaws.{items_know, properties_know}
 use Rattle.std.specs.List.{list_all}
 use Rattle.std.proofs.lemmas.List.{take_all}
-use Rattle.evaluator.specs.Groups.{stands_alone}
+use Rattle.evaluator.specs.Groups.{first_groups, stands_alone}
 use Rattle.keywords.specs.declared.group.Group.TheVariants.{One}
 use Rattle.evaluator.proofs.LogLaws.{added_nothing}
-use Rattle.evaluator.proofs.PresentLaws.{groups_alone, marked_there, unused_at}
+use Rattle.evaluator.proofs.PresentLaws.{groups_alone, groups_passed}
 use Rattle.std.proofs.lemmas.Result.{IfOk-weaker}
 use Rattle.evaluator.specs.Applying.{IsCostly}
-use Rattle.evaluator.proofs.UseLaws.{all_at, all_alone, flat_same, found_within, group_more, group_noted, group_over, two_found, first_over, second_over, still_at, two_noted}
+use Rattle.evaluator.proofs.UseLaws.{all_at, all_alone, found_within, group_more, group_noted, group_over, number_of_groups, two_found, first_over, second_over, still_at, two_noted}
 use Rattle.definitions.specs.Keywords.{condition, contains, min_contains, max_contains}
 use Rattle.evaluator.proofs.BesideLaws.{conditional_uses, knows_nothing, knows_condition, counted_uses, knows_containing}
 use Rattle.evaluator.proofs.AloneLaws.{alone_knows, alone_uses}
@@ -71,99 +71,99 @@ use_keywords-returns-in-Err-clause-err t c a at other =
 pub use_keywords-returns-then-not-looks_at_evaluated-clause-found : goal.use_keywords-returns-then-not-looks_at_evaluated-clause-found
 use_keywords-returns-then-not-looks_at_evaluated-clause-found t c a at =
     subst (FindsObject c.in-Ok.found c.args.room.applications)
-    (groups_alone c.args.self.now.linked.now c.args.room.nesting a c.of-present.result.marks (sym c.looks_at_evaluated.ensures ∙ c.if-not-looks_at_evaluated.true)
-    (marked_there c.args.self.now.linked.now (context_view c.args.self.now.context) (value c.args.here.schema.now) (subject_value c.args.here.subject) a c.of-present.result.marks at c.of-present.ensures))
+    (groups_alone c.args.self.now.linked.now c.args.room.nesting a (value c.args.here.present.now.schema.now) (ap (λ (b : Application). b.schema.value) at.there)
+    (c.looks_at_evaluated.ensures c.if-not-looks_at_evaluated.true))
     (c.in-Ok.ensures.found a at)
 
 pub use_keywords-returns-then-not-looks_at_evaluated-clause-noted : goal.use_keywords-returns-then-not-looks_at_evaluated-clause-noted
 use_keywords-returns-then-not-looks_at_evaluated-clause-noted t c a at =
     c.in-Ok.ensures.noted a at
     ∙ ap (λ us. notes_of_both (log_view c.args.self.now.log) (uses_notes a us))
-    (groups_alone c.args.self.now.linked.now c.args.room.nesting a c.of-present.result.marks (sym c.looks_at_evaluated.ensures ∙ c.if-not-looks_at_evaluated.true)
-    (marked_there c.args.self.now.linked.now (context_view c.args.self.now.context) (value c.args.here.schema.now) (subject_value c.args.here.subject) a c.of-present.result.marks at c.of-present.ensures))
+    (groups_alone c.args.self.now.linked.now c.args.room.nesting a (value c.args.here.present.now.schema.now) (ap (λ (b : Application). b.schema.value) at.there)
+    (c.looks_at_evaluated.ensures c.if-not-looks_at_evaluated.true))
 
-pub use_groups-loop-group-init : goal.use_groups-loop-group-init
-use_groups-loop-group-init t c = record {
-  linked = refl;
-  back = refl;
-  within = rw c.boolean-found.ensures (record { some = omega arith; within = omega (arith, c.requires.some) });
-  found = λ a at. rw c.boolean-found.ensures (record { valid = refl; count = refl; looped = refl; deep = refl; within = omega (arith, c.requires.some) });
-  noted = λ a at. sym (added_nothing (log_view c.args.self.now.log));
-}
+pub use_groups-loop-next-init : goal.use_groups-loop-next-init
+use_groups-loop-next-init t c =
+    let l = c.args.self.now.linked.now in
+    let none = λ (a : Application) (at : IsAt l (context_view c.args.self.now.context) (value c.args.here.present.now.schema.now) (subject_value c.args.here.subject) a).
+    groups_passed l c.args.room.nesting a (value c.args.here.present.now.schema.now) 0 c.first_mark-next.result (ap (λ (b : Application). b.schema.value) at.there) c.first_mark-next.ensures.onward c.first_mark-next.ensures.passed in
+    record {
+      linked = refl;
+      back = refl;
+      within = rw c.boolean-found.ensures (record { some = omega arith; within = omega (arith, c.requires.some) });
+      found = λ a at. subst (FindsObject c.boolean-found.result c.args.room.applications) (none a at)
+          (rw c.boolean-found.ensures (record { valid = refl; count = refl; looped = refl; deep = refl; within = omega (arith, c.requires.some) }));
+      noted = λ a at. sym (added_nothing (log_view c.args.self.now.log)) ∙ ap (λ us. notes_of_both (log_view c.args.self.now.log) (uses_notes a us)) (none a at);
+    }
 
 pub use_groups-use_group-requires : goal.use_groups-use_group-requires
 use_groups-use_group-requires t c = (
   search rules,
-  all_at stands_alone c.first_groups-group-items.result.now c.loop-group.group-index (One Ref) (ap (list_all stands_alone) c.first_groups-group-items.ensures ∙ all_alone)
-      c.loop-group-test.true,
+  all_at stands_alone c.first_groups-groups.result.now c.loop-next.next (One Ref) (ap (list_all stands_alone) c.first_groups-groups.ensures ∙ all_alone) c.loop-next-test.true,
 )
+
+pub use_groups-first_mark-next-requires-in-loop-next : goal.use_groups-first_mark-next-requires-in-loop-next
+use_groups-first_mark-next-requires-in-loop-next t c =
+    let inside : c.loop-next.next < length first_groups = subst (λ gs. c.loop-next.next < length gs) c.first_groups-groups.ensures c.loop-next-test.true in
+    omega (arith, inside, number_of_groups)
 
 pub use_groups-returns-in-Err-clause-err : goal.use_groups-returns-in-Err-clause-err
 use_groups-returns-in-Err-clause-err t c a at other =
-    let same = c.loop-group.invariant.linked in
-    let items = c.first_groups-group-items.result.now in
-    let i = c.loop-group.group-index in
-    let there = still_at same c.loop-group.invariant.back at in
+    let same = c.loop-next.invariant.linked in
+    let i = c.loop-next.next in
+    let there = still_at same c.loop-next.invariant.back at in
+    let inside : i < length first_groups = subst (λ gs. i < length gs) c.first_groups-groups.ensures c.loop-next-test.true in
+    let here : get_or c.first_groups-groups.result.now i (One Ref) ≡ get_or first_groups i (One Ref) = ap (λ gs. get_or gs i (One Ref)) c.first_groups-groups.ensures in
     let fault = c.in-Err.ensures.err a there other in (
       fault.0,
-      rw (← c.first_groups-group-items.ensures)
-          (group_over c.loop-group.found c.args.room.applications (group_uses c.args.self.now.linked.now c.args.room.nesting a) items i (One Ref) c.loop-group-test.true (c.loop-group.invariant.found a at)
-          (subst (λ (l : Bor Linked). c.args.room.applications - c.loop-group.found.count < use_count (group_uses l.now c.args.room.nesting a (get_or items i (One Ref)))) same fault.1)),
+      group_over c.loop-next.found c.args.room.applications (group_uses c.args.self.now.linked.now c.args.room.nesting a) first_groups i (One Ref) inside (c.loop-next.invariant.found a at)
+          (subst (λ g. c.args.room.applications - c.loop-next.found.count < use_count (group_uses c.args.self.now.linked.now c.args.room.nesting a g)) here
+          (subst (λ (l : Bor Linked). c.args.room.applications - c.loop-next.found.count < use_count (group_uses l.now c.args.room.nesting a (get_or c.first_groups-groups.result.now i (One Ref)))) same fault.1)),
     )
 
-pub use_groups-loop-group-preserved-then-not-has : goal.use_groups-loop-group-preserved-then-not-has
-use_groups-loop-group-preserved-then-not-has t c =
+pub use_groups-loop-next-preserved : goal.use_groups-loop-next-preserved
+use_groups-loop-next-preserved t c =
+    let same = c.loop-next.invariant.linked in
     let l = c.args.self.now.linked.now in
-    let uses = group_uses l c.args.room.nesting in
-    let items = c.first_groups-group-items.result.now in
-    let i = c.loop-group.group-index in
-    let same = λ (a : Application) (at : IsAt l (context_view c.args.self.now.context) (value c.args.here.schema.now) (subject_value c.args.here.subject) a).
-    flat_same (uses a) items i (One Ref) c.loop-group-test.true
-    (unused_at l c.args.room.nesting a c.args.present.now.marks (get_or items i (One Ref)) (sym c.has.ensures ∙ c.if-not-has.true)
-    (marked_there l (context_view c.args.self.now.context) (value c.args.here.schema.now) (subject_value c.args.here.subject) a c.args.present.now.marks at c.requires.present))
-    in
-    record {
-      linked = c.loop-group.invariant.linked;
-      back = c.loop-group.invariant.back;
-      within = c.loop-group.invariant.within;
-      found = λ a at. subst (FindsObject c.loop-group.found c.args.room.applications) (same a at) (c.loop-group.invariant.found a at);
-      noted = λ a at. c.loop-group.invariant.noted a at ∙ ap (λ us. notes_of_both (log_view c.args.self.now.log) (uses_notes a us)) (same a at);
-    }
-
-pub use_groups-loop-group-preserved : goal.use_groups-loop-group-preserved
-use_groups-loop-group-preserved t c =
-    let same = c.loop-group.invariant.linked in
-    let items = c.first_groups-group-items.result.now in
-    let i = c.loop-group.group-index in
+    let i = c.loop-next.next in
+    let inside : i < length first_groups = subst (λ gs. i < length gs) c.first_groups-groups.ensures c.loop-next-test.true in
+    let here : get_or c.first_groups-groups.result.now i (One Ref) ≡ get_or first_groups i (One Ref) = ap (λ gs. get_or gs i (One Ref)) c.first_groups-groups.ensures in
+    let on = λ (a : Application) (at : IsAt l (context_view c.args.self.now.context) (value c.args.here.present.now.schema.now) (subject_value c.args.here.subject) a).
+    groups_passed l c.args.room.nesting a (value c.args.here.present.now.schema.now) (i + 1) c.first_mark-next-in-loop-next.result (ap (λ (b : Application). b.schema.value) at.there) c.first_mark-next-in-loop-next.ensures.onward c.first_mark-next-in-loop-next.ensures.passed in
     record {
       linked = c.in-Ok.ensures.linked ∙ same;
-      back = c.in-Ok.ensures.back ∙ c.loop-group.invariant.back;
-      within = rw c.and-found.ensures (found_within c.loop-group.found c.in-Ok.used c.args.room.applications c.loop-group.invariant.within c.in-Ok.ensures.within);
+      back = c.in-Ok.ensures.back ∙ c.loop-next.invariant.back;
+      within = rw c.and-found.ensures (found_within c.loop-next.found c.in-Ok.used c.args.room.applications c.loop-next.invariant.within c.in-Ok.ensures.within);
       found =
           λ a at.
-          let there = still_at same c.loop-group.invariant.back at in
-          group_more c.loop-group.found c.in-Ok.used c.and-found.result c.args.room.applications (group_uses c.args.self.now.linked.now c.args.room.nesting a) items i (One Ref) c.loop-group-test.true
-          (c.loop-group.invariant.found a at)
-          (subst (λ (l : Bor Linked). FindsUses c.in-Ok.used (c.args.room.applications - c.loop-group.found.count) (group_uses l.now c.args.room.nesting a (get_or items i (One Ref)))) same (c.in-Ok.ensures.found a there))
-          c.and-found.ensures;
+          let there = still_at same c.loop-next.invariant.back at in
+          subst (FindsObject c.and-found.result c.args.room.applications) (on a at)
+          (group_more c.loop-next.found c.in-Ok.used c.and-found.result c.args.room.applications (group_uses l c.args.room.nesting a) first_groups i (One Ref) inside
+          (c.loop-next.invariant.found a at)
+          (subst (λ g. FindsUses c.in-Ok.used (c.args.room.applications - c.loop-next.found.count) (group_uses l c.args.room.nesting a g)) here
+          (subst (λ (m : Bor Linked). FindsUses c.in-Ok.used (c.args.room.applications - c.loop-next.found.count) (group_uses m.now c.args.room.nesting a (get_or c.first_groups-groups.result.now i (One Ref)))) same (c.in-Ok.ensures.found a there)))
+          c.and-found.ensures);
       noted =
           λ a at.
-          let there = still_at same c.loop-group.invariant.back at in
-          group_noted a (log_view c.args.self.now.log) (log_view c.loop-group.self.log) (log_view c.use_group.new.self.log) (group_uses c.args.self.now.linked.now c.args.room.nesting a) items i (One Ref)
-          c.loop-group-test.true (c.loop-group.invariant.noted a at)
-          (subst (λ (l : Bor Linked). log_view c.use_group.new.self.log ≡ notes_of_both (log_view c.loop-group.self.log) (uses_notes a (group_uses l.now c.args.room.nesting a (get_or items i (One Ref))))) same
-          (c.in-Ok.ensures.noted a there));
+          let there = still_at same c.loop-next.invariant.back at in
+          let new = log_view c.use_group.new.self.log in
+          group_noted a (log_view c.args.self.now.log) (log_view c.loop-next.self.log) new (group_uses l c.args.room.nesting a) first_groups i (One Ref)
+          inside (c.loop-next.invariant.noted a at)
+          (subst (λ g. new ≡ notes_of_both (log_view c.loop-next.self.log) (uses_notes a (group_uses l c.args.room.nesting a g))) here
+          (subst (λ (m : Bor Linked). new ≡ notes_of_both (log_view c.loop-next.self.log) (uses_notes a (group_uses m.now c.args.room.nesting a (get_or c.first_groups-groups.result.now i (One Ref))))) same
+          (c.in-Ok.ensures.noted a there)))
+          ∙ ap (λ us. notes_of_both (log_view c.args.self.now.log) (uses_notes a us)) (on a at);
     }
 
 pub use_groups-returns-clause-found : goal.use_groups-returns-clause-found
 use_groups-returns-clause-found t c a at =
-    let whole = take_all c.loop-group.group-index c.first_groups-group-items.result.now c.loop-group-test.false ∙ c.first_groups-group-items.ensures in
-    subst (λ gs. FindsObject c.loop-group.found c.args.room.applications (groups_uses c.args.self.now.linked.now c.args.room.nesting a gs)) whole (c.loop-group.invariant.found a at)
+    let past : length first_groups ≤ c.loop-next.next = subst (λ gs. length gs ≤ c.loop-next.next) c.first_groups-groups.ensures c.loop-next-test.false in
+    subst (λ gs. FindsObject c.loop-next.found c.args.room.applications (groups_uses c.args.self.now.linked.now c.args.room.nesting a gs)) (take_all c.loop-next.next first_groups past) (c.loop-next.invariant.found a at)
 
 pub use_groups-returns-clause-noted : goal.use_groups-returns-clause-noted
 use_groups-returns-clause-noted t c a at =
-    let whole = take_all c.loop-group.group-index c.first_groups-group-items.result.now c.loop-group-test.false ∙ c.first_groups-group-items.ensures in
-    subst (λ gs. log_view c.loop-group.self.log ≡ notes_of_both (log_view c.args.self.now.log) (uses_notes a (groups_uses c.args.self.now.linked.now c.args.room.nesting a gs))) whole (c.loop-group.invariant.noted a at)
+    let past : length first_groups ≤ c.loop-next.next = subst (λ gs. length gs ≤ c.loop-next.next) c.first_groups-groups.ensures c.loop-next-test.false in
+    subst (λ gs. log_view c.loop-next.self.log ≡ notes_of_both (log_view c.args.self.now.log) (uses_notes a (groups_uses c.args.self.now.linked.now c.args.room.nesting a gs))) (take_all c.loop-next.next first_groups past) (c.loop-next.invariant.noted a at)
 
 pub use_group-returns-in-One-clause-err : goal.use_group-returns-in-One-clause-err
 use_group-returns-in-One-clause-err t c a at = rw c.in-One.is (c.use_one.ensures.err a at)
@@ -295,22 +295,22 @@ use_counted-returns-in-Err-clause-err t c a at other =
       subst (λ ws. c.args.room.applications < use_count ws) (counted_uses l c.args.room.nesting a c.args.here.before n n) (first_over c.args.room.applications us vs fault.1),
     )
 
-pub use_one-returns-clause-found : goal.use_one-returns-clause-found
-use_one-returns-clause-found t c a at =
+pub use_one-returns-in-None-clause-found : goal.use_one-returns-in-None-clause-found
+use_one-returns-in-None-clause-found t c a at =
     let l = c.args.self.now.linked.now in
     IfOk-weaker c.use_named.result _ _
     (λ f h. subst (FindsUses f c.args.room.applications) (alone_uses l c.args.room.nesting a c.args.keyword c.args.here.before (log_view c.args.self.now.log) c.requires.alone) h.found)
     (c.use_named.ensures.found a at (alone_knows l c.args.room.nesting a c.args.keyword _ c.requires.alone))
 
-pub use_one-returns-clause-noted : goal.use_one-returns-clause-noted
-use_one-returns-clause-noted t c a at =
+pub use_one-returns-in-None-clause-noted : goal.use_one-returns-in-None-clause-noted
+use_one-returns-in-None-clause-noted t c a at =
     let l = c.args.self.now.linked.now in
     subst (λ us. OnOk c.use_named.result (log_view c.use_named.new.self.log ≡ notes_of_both (log_view c.args.self.now.log) (uses_notes a us)))
     (alone_uses l c.args.room.nesting a c.args.keyword c.args.here.before (log_view c.args.self.now.log) c.requires.alone)
     (c.use_named.ensures.noted a at (alone_knows l c.args.room.nesting a c.args.keyword _ c.requires.alone))
 
-pub use_one-returns-clause-err : goal.use_one-returns-clause-err
-use_one-returns-clause-err t c a at =
+pub use_one-returns-in-None-clause-err : goal.use_one-returns-in-None-clause-err
+use_one-returns-in-None-clause-err t c a at =
     let l = c.args.self.now.linked.now in
     subst (λ us. IfErr c.use_named.result (λ f. IsCostly f c.args.room.applications (use_count us)))
     (alone_uses l c.args.room.nesting a c.args.keyword c.args.here.before (log_view c.args.self.now.log) c.requires.alone)
@@ -373,5 +373,5 @@ use_two-returns-in-Err-clause-err t c a at knows knows_second other =
 pub use_named-returns-in-None-clause-noted : goal.use_named-returns-in-None-clause-noted
 use_named-returns-in-None-clause-noted t c a at knows =
     let log = log_view c.args.self.now.log in
-    let none : get (row_of c.args.keyword).name a.schema.value ≡ None = ap (λ (b : Application). get (row_of c.args.keyword).name b.schema.value) at.there ∙ ap (λ n. get n (value c.args.here.schema.now)) (sym c.name.ensures) ∙ sym c.in-None.ensures in
+    let none : get (row_of c.args.keyword).name a.schema.value ≡ None = ap (λ (b : Application). get (row_of c.args.keyword).name b.schema.value) at.there ∙ sym c.in-None.ensures in
     rw none (sym (added_nothing log))

@@ -1,5 +1,5 @@
 -- One keyword, and the schemas that it applies.
-use Rattle.std.proofs.Common.{◌≡◌, ◌<◌, ◌∙◌, sym, ap, subst, ◌-◌, Bor, refl, arith, length, false, OnOk, ◌∷◌, [], map, Contains as Contains-use_keyword, IfOk, Contains as Contains-apply_all}
+use Rattle.std.proofs.Common.{◌≡◌, ◌<◌, ◌∙◌, sym, ap, subst, ◌-◌, Bor, refl, arith, length, OnOk, ◌∷◌, [], map, Contains as Contains-use_keyword, IfOk, Contains as Contains-apply_all}
 use Rattle.definitions.specs.Applied.{Application, Part}
 use Rattle.json_doc.specs.Docs.{value}
 use Rattle.keyword_plans.specs.Subjects.{subject_value}
@@ -10,7 +10,6 @@ use Rattle.evaluator.specs.Logs.{log_view}
 use Rattle.evaluator.specs.Notes.{notes_of_both, uses_notes, parts_notes, part_notes}
 use Rattle.evaluator.specs.Rounds.{IsAt, names_since, indexes_since, IsAtKeyword, IsKnown, part_outcomes, linked_outcome, use_there, IsUnder, part_outcome}
 use Rattle.linker.specs.declared.linked.Linked.{Linked}
-use Rattle.keywords.specs.declared.keyword.Keyword.TheVariants.{If, Contains}
 use Rattle.std.proofs.lemmas.List.{take_all}
 use Rattle.evaluator.proofs.LogLaws.{added_nothing}
 use Rattle.keywords.specs.Rows.{row_of}
@@ -29,7 +28,7 @@ use_keyword-returns-in-Ok-clause-found t c a at knows got =
     let left = c.args.room.nesting in
     let keyword = c.args.keyword in
     let k = (row_of keyword).name in
-    let s = value c.args.here.schema.now in
+    let s = value c.args.here.present.now.schema.now in
     let x = subject_value c.args.here.subject in
     let v = value c.args.keyword_value.now in
     let names = names_since c.args.here.before (log_view old.log) in
@@ -60,7 +59,7 @@ use_keyword-returns-in-Ok-clause-noted t c a at knows got =
     let left = c.args.room.nesting in
     let keyword = c.args.keyword in
     let k = (row_of keyword).name in
-    let s = value c.args.here.schema.now in
+    let s = value c.args.here.present.now.schema.now in
     let x = subject_value c.args.here.subject in
     let v = value c.args.keyword_value.now in
     let names = names_since c.args.here.before (log_view old.log) in
@@ -99,7 +98,7 @@ use_keyword-returns-clause-err t c a at knows got other =
     let left = c.args.room.nesting in
     let keyword = c.args.keyword in
     let k = (row_of keyword).name in
-    let s = value c.args.here.schema.now in
+    let s = value c.args.here.present.now.schema.now in
     let x = subject_value c.args.here.subject in
     let v = value c.args.keyword_value.now in
     let names = names_since c.args.here.before (log_view old.log) in

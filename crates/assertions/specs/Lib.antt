@@ -1,2 +1,3 @@
 pub mod AssertionView
+pub mod Dependents
 pub mod Limits

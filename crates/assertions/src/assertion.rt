@@ -125,10 +125,10 @@ pub fn holds(
     ensures { IfOk result (λ b. b
         ≡ holds (assertion_view assertion) (value keyword_value.now) (value instance.now)) }
 {
-    if has_its_shape(assertion, keyword_value) {
-        is_asserted(alloc, assertion, keyword_value, instance)
-    } else {
+    if is_asserted(alloc, assertion, keyword_value, instance)? {
         Ok(true)
+    } else {
+        Ok(!has_its_shape(assertion, keyword_value))
     }
 }
 
@@ -146,7 +146,7 @@ fn shape_of(assertion: Assertion) -> Shape
     assertion.keyword().shape()
 }
 
-// What the keyword asks, where its value has its shape.
+// What the keyword asks. Of a value of another shape the answer tells nothing.
 fn is_asserted(
     alloc: Global,
     assertion: Assertion,

@@ -2,7 +2,7 @@
 
 use basic_output::Says;
 use json_doc::read;
-use keyword_plans::{Annotation, Evaluated, Subject, annotate};
+use keyword_plans::{Evaluated, Subject, annotate, distinct_names};
 use keywords::Keyword;
 use std::test::Fail;
 
@@ -30,13 +30,14 @@ fn keywords_have_their_names(rt: HostRuntime) {
 #[test]
 fn pattern_properties_names_each_member_once(rt: HostRuntime) -> Result<(), Fail> {
     let doc = read(rt.alloc(), b"{}")?;
+    let distinct = distinct_names(rt.alloc(), &["b", "a", "b"])?;
     let evaluated = Evaluated {
-        names: &["b", "a", "b"],
+        names: &distinct,
         indexes: &[],
     };
     let keyword = Keyword::PatternProperties;
-    match annotate(rt.alloc(), keyword, Subject::Value(&doc), 3, evaluated)? {
-        Annotation::Names(names) => assert!(rt; names.as_slice() == ["b", "a"].as_slice()),
+    match annotate(keyword, Subject::Value(&doc), 3, evaluated) {
+        Some(Says::Names(names)) => assert!(rt; names == ["b", "a"].as_slice()),
         _ => assert!(rt; false),
     }
     Ok(())
@@ -50,8 +51,8 @@ fn prefix_items_annotates_with_the_largest_index(rt: HostRuntime) -> Result<(), 
         indexes: &[0, 1],
     };
     let keyword = Keyword::PrefixItems;
-    match annotate(rt.alloc(), keyword, Subject::Value(&doc), 2, evaluated)? {
-        Annotation::Says(Says::Index(index)) => assert!(rt; index == 1),
+    match annotate(keyword, Subject::Value(&doc), 2, evaluated) {
+        Some(Says::Index(index)) => assert!(rt; index == 1),
         _ => assert!(rt; false),
     }
     Ok(())

@@ -5,7 +5,7 @@ use Rattle.std.specs.Prelude.{Some, None, codes}
 use Rattle.definitions.specs.Values.{Text, Value, string, get}
 use Rattle.definitions.specs.Keywords.{keywords}
 use Rattle.definitions.specs.Applied.{Application, OutputUnit, keyword_applications}
-use Rattle.definitions.specs.Evaluated.{may_annotate, outcomes_that_fail, outcomes_that_pass}
+use Rattle.definitions.specs.Evaluated.{may_annotate, once, outcomes_that_fail, outcomes_that_pass}
 use Rattle.definitions.specs.Outcomes.{Use, own_annotation, unit}
 use Rattle.definition_laws.proofs.Evaluations.{failing_nothing}
 use Rattle.definition_laws.proofs.AppliedSchemas.{applied_schemas_are_known}
@@ -13,6 +13,7 @@ use Rattle.definition_laws.proofs.Occurrences.{contains_from_in, in_from_contain
 use Rattle.definition_laws.proofs.Reports.{failing_annotates_nothing, passing_reports_no_error}
 use Rattle.linker.specs.LinkedDocuments.{linked_documents, linked_schemas}
 use Rattle.linker.specs.declared.linked.Linked.{Linked}
+use Rattle.keyword_plans.specs.Annotations.{annotation_names}
 use Rattle.keyword_plans.specs.Plans.{planned_view}
 use Rattle.keywords.specs.Rows.{row_of}
 use Rattle.keyword_plans.specs.Sites.{linked_rules}
@@ -66,11 +67,19 @@ module _ (l : Linked) (left : ℕ) (a : Application) (keyword : Keyword) (names 
       (rw (← e) refl) (names_settled ∙ sym (append-nil this.names)) (indexes_settled ∙ sym (append-nil this.indexes))
 
 -- ---- what it says itself
-pub own_none : (a : Application) (u : Use) (more : Notes) → None ≡ u.annotation → more ≡ record more { annotations = own_annotation a u u.annotation ++ more.annotations }
-own_none a u more e = rw (← e) refl
+pub own_none : (a : Application) (u : Use) (us : List OutputUnit) → None ≡ u.annotation → us ≡ own_annotation a u u.annotation ++ us
+own_none a u us e = rw (← e) refl
 
 pub own_some : (a : Application) (u : Use) (v : Value) (us : List OutputUnit) → Some v ≡ u.annotation → unit a u.keyword v ∷ us ≡ own_annotation a u u.annotation ++ us
 own_some a u v us e = rw (← e) refl
+
+-- ---- the names that it annotates with
+pub names_of_patterns : (k : Keyword) (ns : List Text) → k ≡ PatternProperties → once ns ≡ annotation_names (row_of k).meaning ns
+names_of_patterns k ns e = rw e refl
+
+pub names_of_others : (k : Keyword) (ns : List Text) → (k ≡ PatternProperties → ⊥) → ns ≡ annotation_names (row_of k).meaning ns
+names_of_others PatternProperties ns other = absurd (other refl)
+names_of_others _ ns other = refl
 
 -- ---- what is planned is what the definitions apply
 pub planned_outcomes : (l : Linked) (left : ℕ) (k : Text) (a : Application) (ps : List Planned)

@@ -3,11 +3,13 @@
 
 ghost use Rattle.std.specs.Prelude.{◌≡◌, ◌++◌, [], ◌∷◌, ℕ, List, drop, if◌then◌else◌, length, map, IfErr, OnOk};
 ghost use Rattle.definitions.specs.Values.{Text, Value};
-ghost use Rattle.definitions.specs.Applied.{Application, Outcome, Rules};
+ghost use Rattle.definitions.specs.Applied.{Application, Outcome, OutputUnit, Rules};
 ghost use Rattle.definitions.specs.Evaluated.{evaluated_indexes, evaluated_names, may_annotate};
 ghost use Rattle.definitions.specs.Outcomes.{Use, own_annotation, unit};
 ghost use Rattle.basic_output.specs.declared.says.Says as output;
 ghost use Rattle.basic_output.specs.Sayings.{says_value, unit_at};
+ghost use Rattle.basic_output.specs.Units.{units_view};
+ghost use Rattle.keyword_plans.specs.Annotations.{annotation_names};
 ghost use Rattle.keyword_plans.specs.Plans.{outcomes_of};
 ghost use Rattle.keywords.specs.Rows.{row_of};
 ghost use Rattle.keyword_plans.specs.Subjects.{subject_value};
@@ -17,9 +19,9 @@ ghost use Rattle.evaluator.specs.Notes.{Notes, evaluates, lengths, notes_of_both
 ghost use Rattle.evaluator.specs.Rounds.{linked_outcome, use_there};
 
 use crate::log::{Before, Log, LogMark};
-use basic_output::{Location, Says};
+use basic_output::{Location, Mark, Says, Units};
 use faults::Fault;
-use keyword_plans::{Annotation, Evaluated, Subject, annotate};
+use keyword_plans::{Evaluated, Subject, annotate, distinct_names};
 use keywords::Keyword;
 
 /// Puts what the keyword itself says in the place of what it applied said: `applied` is the number of schemas that it
@@ -97,15 +99,62 @@ fn note_own<'a>(
     ensures err { IfErr result (λ f. f ≡ Fault.NoRoom) }
 {
     let evaluated = evaluated_since(&log.names, &log.indexes, mark.before());
-    match annotate(log.alloc, keyword, subject, applied, evaluated)? {
-        Annotation::None => Ok(()),
-        Annotation::Says(says) => Ok(log.annotations.insert(mark.annotations, location, says)?),
-        Annotation::Names(names) => {
-            Ok(
-                log.annotations
-                    .insert(mark.annotations, location, Says::Names(&names))?,
+    match keyword {
+        Keyword::PatternProperties => {
+            let names = distinct_names(log.alloc, evaluated.names)?;
+            let distinct = Evaluated {
+                names: &names,
+                indexes: evaluated.indexes,
+            };
+            insert_own(
+                &mut log.annotations,
+                mark.annotations,
+                location,
+                keyword,
+                subject,
+                applied,
+                distinct,
             )
         }
+        _ => insert_own(
+            &mut log.annotations,
+            mark.annotations,
+            location,
+            keyword,
+            subject,
+            applied,
+            evaluated,
+        ),
+    }
+}
+
+// The same among the annotations alone: of the names `evaluated` has those that the keyword annotates with.
+fn insert_own<'a>(
+    annotations: &mut Units<'a>,
+    mark: Mark,
+    location: Location<'_, 'a>,
+    keyword: Keyword,
+    subject: Subject<'a>,
+    applied: u64,
+    evaluated: Evaluated<'_, 'a>,
+) -> Result<(), Fault>
+    ensures noted { (l : Linked) (left : ℕ) (a : Application) (names : List Text) (indexes : List ℕ)
+        (v : Value) (older more : List OutputUnit)
+        → let u = use_there l left a keyword names indexes v in
+        a.instance ≡ subject_value subject.entry → applied ≡ length u.outcomes
+        → ((says : output.Says) → unit_at location.entry says
+        ≡ unit a (row_of keyword).name (says_value says))
+        → mark ≡ length older → units_view annotations.old ≡ older ++ more
+        → map (λ n. n.now) evaluated.entry.names.now
+        ≡ annotation_names (row_of keyword).meaning u.names
+        → evaluated.entry.indexes.now ≡ u.indexes
+        → OnOk result (units_view annotations.new
+        ≡ older ++ (own_annotation a u u.annotation ++ more)) }
+    ensures err { IfErr result (λ f. f ≡ Fault.NoRoom) }
+{
+    match annotate(keyword, subject, applied, evaluated) {
+        Some(says) => Ok(annotations.insert(mark, location, says)?),
+        None => Ok(()),
     }
 }
 

@@ -1,12 +1,10 @@
--- The value that a keyword annotates with.
-use Rattle.std.specs.Prelude.{Option, map}
-use Rattle.std.specs.Prelude as std
-use Rattle.definitions.specs.Values.{Value, string, array, to_elements}
-use Rattle.basic_output.specs.Sayings.{says_value}
-use Rattle.keyword_plans.specs.declared.annotating.Annotation.{Annotation}
-use Rattle.keyword_plans.specs.declared.annotating.Annotation.TheVariants.{None, Says, Names}
+-- The names that a keyword annotates with.
+use Rattle.std.specs.Prelude.{List}
+use Rattle.definitions.specs.Values.{Text}
+use Rattle.definitions.specs.Keywords.{Meaning, pattern_properties}
+use Rattle.definitions.specs.Evaluated.{once}
 
-abbrev pub annotation_value : Annotation → Option Value
-annotation_value None = std.None
-annotation_value (Says says) = std.Some (says_value says)
-annotation_value (Names names) = std.Some (array (to_elements (map (λ name. string name.now) names.items)))
+-- of those that it evaluated: all, but each once where several patterns match it
+abbrev pub annotation_names : Meaning → List Text → List Text
+annotation_names pattern_properties ns = once ns
+annotation_names _ ns = ns

@@ -9,7 +9,7 @@ mod site;
 mod subject;
 mod verdict;
 
-pub use annotating::{Annotation, annotate};
+pub use annotating::{annotate, distinct_names};
 pub use faults::Fault;
 pub use planned::{Chosen, Part, Planned};
 pub use planning::plan;

@@ -8,27 +8,27 @@ use Rattle.keyword_plans.proofs.annotating.annotate.Goals as goal
 abbrev names_on : Value → List Text → Option Value
 names_on x ns = if is_object x then Some (array (to_elements (map string ns))) else None
 
-pub returns-in-Properties-clause-ok : goal.returns-in-Properties-clause-ok
-returns-in-Properties-clause-ok c a rules run names indexes v same applied ns is =
+pub returns-in-Properties : goal.returns-in-Properties
+returns-in-Properties c a rules run names indexes v same applied ns is =
     let each = rw c.in-Properties.is at ns in
     rw c.in-Properties.is
     (c.annotate_names.ensures ∙ ap₂ names_on (sym same) (each ∙ names-properties rules run names indexes a (codes "properties") v))
 
-pub returns-in_ok-annotate_distinct-in-PatternProperties-clause-ok : goal.returns-in_ok-annotate_distinct-in-PatternProperties-clause-ok
-returns-in_ok-annotate_distinct-in-PatternProperties-clause-ok c a rules run names indexes v same applied ns is =
+pub returns-in-PatternProperties : goal.returns-in-PatternProperties
+returns-in-PatternProperties c a rules run names indexes v same applied ns is =
     let each = rw c.in-PatternProperties.is at ns in
     rw c.in-PatternProperties.is
-    (c.in_ok-annotate_distinct-in-PatternProperties.ensures
-    ∙ ap₂ (λ x ns. names_on x (once ns)) (sym same) (each ∙ names-patterns rules run names indexes a (codes "patternProperties") v))
+    (c.annotate_names-in-PatternProperties.ensures
+    ∙ ap₂ names_on (sym same) (each ∙ ap once (names-patterns rules run names indexes a (codes "patternProperties") v)))
 
-pub returns-in-AdditionalProperties-clause-ok : goal.returns-in-AdditionalProperties-clause-ok
-returns-in-AdditionalProperties-clause-ok c a rules run names indexes v same applied ns is =
+pub returns-in-AdditionalProperties : goal.returns-in-AdditionalProperties
+returns-in-AdditionalProperties c a rules run names indexes v same applied ns is =
     let each = rw c.in-AdditionalProperties.is at ns in
     rw c.in-AdditionalProperties.is
     (c.annotate_names-in-AdditionalProperties.ensures ∙ ap₂ names_on (sym same) (each ∙ names-others rules run names indexes a (codes "additionalProperties") v))
 
-pub returns-in-UnevaluatedProperties-clause-ok : goal.returns-in-UnevaluatedProperties-clause-ok
-returns-in-UnevaluatedProperties-clause-ok c a rules run names indexes v same applied ns is =
+pub returns-in-UnevaluatedProperties : goal.returns-in-UnevaluatedProperties
+returns-in-UnevaluatedProperties c a rules run names indexes v same applied ns is =
     let each = rw c.in-UnevaluatedProperties.is at ns in
     rw c.in-UnevaluatedProperties.is
     (c.annotate_names-in-UnevaluatedProperties.ensures ∙ ap₂ names_on (sym same) (each ∙ names-unevaluated rules run names indexes a (codes "unevaluatedProperties") v))
@@ -36,8 +36,8 @@ returns-in-UnevaluatedProperties-clause-ok c a rules run names indexes v same ap
 abbrev prefix_on : Value → ℕ → List ℕ → Option Value
 prefix_on x n is = if n == 0 then None else Some (if n == length (elements x) then boolean true else integer (pos (last_index is)))
 
-pub returns-in-PrefixItems-clause-ok : goal.returns-in-PrefixItems-clause-ok
-returns-in-PrefixItems-clause-ok c a rules run names indexes v same applied ns is =
+pub returns-in-PrefixItems : goal.returns-in-PrefixItems
+returns-in-PrefixItems c a rules run names indexes v same applied ns is =
     let number = rw c.in-PrefixItems.is at applied in
     let each = rw c.in-PrefixItems.is at is in
     let os = all_of rules run names indexes a (codes "prefixItems") v prefix_items in

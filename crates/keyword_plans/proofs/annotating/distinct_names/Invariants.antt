@@ -3,7 +3,7 @@ use Rattle.std.specs.BTreeSet.{contains_by}
 use Rattle.std.specs.Cmp.Lexicographic.{slice_cmp}
 use Rattle.definitions.specs.Evaluated.{once}
 use Rattle.keyword_plans.proofs.Once.{unseen}
-use Rattle.keyword_plans.proofs.annotating.each_once.Given as goal
+use Rattle.keyword_plans.proofs.annotating.distinct_names.Given as goal
 
 -- what is kept, and those that are left and weren't seen
 abbrev pub invariant-loop-name : goal.invariant-loop-name

@@ -8,8 +8,8 @@ use Rattle.keyword_plans.proofs.Unevaluated.{skipped}
 use Rattle.keyword_plans.proofs.Once.{unseen, unseen-new, unseen-old, unseen-first}
 use Rattle.std.proofs.lemmas.Map.Text.{is_eq-slice_cmp}
 use Rattle.std.proofs.lemmas.Bool.{not-true, not-false}
-use Rattle.keyword_plans.proofs.annotating.each_once.Goals as goal
-use Rattle.keyword_plans.proofs.annotating.each_once.Goals.{then-branch+in_ok-push, else-branch}
+use Rattle.keyword_plans.proofs.annotating.distinct_names.Goals as goal
+use Rattle.keyword_plans.proofs.annotating.distinct_names.Goals.{then-branch+in_ok-push, else-branch}
 
 pub loop-name-init : goal.loop-name-init
 loop-name-init c =

@@ -1,6 +1,6 @@
 //! Texts that are read and written, and texts that are refused.
 
-use json_doc::{Fault, Scratch, Whole, read, read_with, write};
+use json_doc::{Doc, Fault, Scratch, Whole, read, read_with, write};
 use std::alloc::Global;
 use std::test::Fail;
 
@@ -92,23 +92,28 @@ fn falling(alloc: Global, count: u32) -> Result<String, Fail> {
     Ok(text)
 }
 
+// Whether the object has so many members, each of them 1 but that of the empty name.
+fn has_last_values(doc: &Doc, count: usize) -> bool {
+    let Some(members) = doc.as_dict() else {
+        return false;
+    };
+    for (name, member) in members.iter() {
+        if !name.is_empty() && member.as_int() != Some(Whole::of(1)) {
+            return false;
+        }
+    }
+    members.len() == count
+}
+
 #[test]
 fn many_names_in_any_order_are_read(rt: HostRuntime) -> Result<(), Fail> {
     let mut scratch = Scratch::new(rt.alloc());
     for count in [20, 300] {
         let text = falling(rt.alloc(), count)?;
         let doc = read_with(rt.alloc(), &mut scratch, text.as_bytes())?;
-        let members = doc.as_dict().expect(&rt, "an object");
-        assert_eq!(rt; members.len(), count as usize / 2 + 2);
-        for (name, member) in members.iter() {
-            assert!(rt;
-                name.is_empty() || member.as_int() == Some(Whole::of(1)),
-                "{name}"
-            );
-        }
-        for (name, is_there) in &[("1001", true), ("1000", true), ("2000", false)] {
-            assert_eq!(rt; members.get(name).is_some(), *is_there, "{name}");
-        }
+        assert!(rt; has_last_values(&doc, count as usize / 2 + 2));
+        assert!(rt; doc.get("1001").is_some() && doc.get("1000").is_some());
+        assert!(rt; doc.get("2000").is_none());
     }
     Ok(())
 }

@@ -1,6 +1,8 @@
 //! The order of values, and lists that hold a value twice.
 
-use json_doc::read;
+use json_doc::{Fault, read};
+use std::alloc::Global;
+use std::cmp::Ordering;
 use std::test::Fail;
 use value_order::{compare, has_same, is_unique};
 
@@ -27,14 +29,18 @@ const ASCENDING: &[(&str, &str)] = &[
     (r#"{"b":0}"#, r#"{"b":0}"#),
 ];
 
+fn order(alloc: Global, text: &str, other: &str) -> Result<Ordering, Fault> {
+    let doc = read(alloc, text.as_bytes())?;
+    let other = read(alloc, other.as_bytes())?;
+    Ok(compare(&doc, &other))
+}
+
 #[test]
 fn values_stand_by_kind_and_content(rt: HostRuntime) -> Result<(), Fail> {
     for (index, (text, _)) in ASCENDING.iter().enumerate() {
-        for (other_index, (_, other_text)) in ASCENDING.iter().enumerate() {
-            let doc = read(rt.alloc(), text.as_bytes())?;
-            let other = read(rt.alloc(), other_text.as_bytes())?;
-            let order = index.cmp(&other_index);
-            assert_eq!(rt; compare(&doc, &other), order, "{text} and {other_text}");
+        for (other_index, (_, other)) in ASCENDING.iter().enumerate() {
+            let found = order(rt.alloc(), text, other)?;
+            assert!(rt; found == index.cmp(&other_index), "{text} and {other}");
         }
     }
     Ok(())
@@ -56,13 +62,27 @@ const LISTS: &[(&str, bool)] = &[
     (r#""aa""#, true),
 ];
 
+fn has_no_repeats(alloc: Global, text: &str) -> Result<bool, Fault> {
+    let doc = read(alloc, text.as_bytes())?;
+    Ok(is_unique(alloc, &doc)?)
+}
+
 #[test]
 fn repeats_are_found(rt: HostRuntime) -> Result<(), Fail> {
     for (text, unique) in LISTS {
-        let doc = read(rt.alloc(), text.as_bytes())?;
-        assert_eq!(rt; is_unique(rt.alloc(), &doc)?, *unique, "{text}");
+        assert!(rt; has_no_repeats(rt.alloc(), text)? == *unique, "{text}");
     }
     Ok(())
+}
+
+// The numbers below `length`, and `last`.
+fn numbers(alloc: Global, length: u64, last: u64) -> Result<String, Fault> {
+    let mut text = String::from_str(alloc, "[")?;
+    for number in 1..length {
+        text.push_str(format!(in alloc; "{number},")?.as_str())?;
+    }
+    text.push_str(format!(in alloc; "{last}]")?.as_str())?;
+    Ok(text)
 }
 
 // Lists of so many numbers, the last of which stands there once or twice.
@@ -70,17 +90,9 @@ fn repeats_are_found(rt: HostRuntime) -> Result<(), Fail> {
 fn short_and_long_lists_are_told_alike(rt: HostRuntime) -> Result<(), Fail> {
     for length in [1_u64, 15, 16, 17, 40] {
         for last in [length, 1] {
-            let mut text = String::from_str(rt.alloc(), "[")?;
-            for number in 1..length {
-                text.push_str(format!(in rt.alloc(); "{number},")?.as_str())?;
-            }
-            text.push_str(format!(in rt.alloc(); "{last}]")?.as_str())?;
-            let doc = read(rt.alloc(), text.as_bytes())?;
-            assert_eq!(rt;
-                is_unique(rt.alloc(), &doc)?,
-                last == length,
-                "{length} and {last}"
-            );
+            let text = numbers(rt.alloc(), length, last)?;
+            let unique = has_no_repeats(rt.alloc(), text.as_str())?;
+            assert!(rt; unique == (last == length), "{length} and {last}");
         }
     }
     Ok(())
@@ -96,21 +108,23 @@ fn an_equal_value_is_found(rt: HostRuntime) -> Result<(), Fail> {
     Ok(())
 }
 
-// 19,999 objects, no two of which are equal, and a last one, which may be one of them.
+// 19,999 objects, no two of which are equal, and one with this number.
+fn long_list(alloc: Global, last: u64) -> Result<String, Fault> {
+    let mut text = String::from_str(alloc, "[")?;
+    for number in 0..19_999_u64 {
+        let number = number.wrapping_mul(7_919) % 20_011;
+        text.push_str(format!(in alloc; r#"{{"a":{number},"b":"b","c":null}},"#)?.as_str())?;
+    }
+    text.push_str(format!(in alloc; r#"{{"a":{last},"b":"b","c":null}}]"#)?.as_str())?;
+    Ok(text)
+}
+
+// The numbers are the first 19,999 multiples of 7,919, modulo 20,011; the next multiple gives 5,027.
 #[test]
 fn repeats_in_long_lists_are_quickly_told(rt: HostRuntime) -> Result<(), Fail> {
-    for (last, unique) in &[(19_999, true), (1, false)] {
-        let mut text = String::from_str(rt.alloc(), "[")?;
-        for number in 0..19_999_u64 {
-            let number = number.wrapping_mul(7_919) % 20_011;
-            text.push_str(format!(in rt.alloc();
-                r#"{{"a":{number},"b":"b","c":null}},"#
-            )?.as_str())?;
-        }
-        let last = (*last as u64).wrapping_mul(7_919) % 20_011;
-        text.push_str(format!(in rt.alloc(); r#"{{"a":{last},"b":"b","c":null}}]"#)?.as_str())?;
-        let doc = read(rt.alloc(), text.as_bytes())?;
-        assert_eq!(rt; is_unique(rt.alloc(), &doc)?, *unique);
+    for (last, unique) in &[(5_027, true), (7_919, false)] {
+        let text = long_list(rt.alloc(), *last)?;
+        assert!(rt; has_no_repeats(rt.alloc(), text.as_str())? == *unique);
     }
     Ok(())
 }

@@ -79,34 +79,48 @@ const OUTER: &str = "https://ex.org/s";
 
 const INNER: &str = "https://ex.org/in/e";
 
-// A resource and a fragment, and the resource of the schema that is found and how many steps lead to it.
-const TARGETS: &[(&str, &str, Option<(&str, usize)>)] = &[
-    (OUTER, "", Some((OUTER, 0))),
-    (INNER, "", Some((INNER, 0))),
-    (OUTER, "n", Some((OUTER, 2))),
-    (INNER, "n", Some((INNER, 0))),
-    (INNER, "d", Some((INNER, 2))),
-    (OUTER, "d", None),
-    (OUTER, "/$defs/f", Some((OUTER, 2))),
-    (OUTER, "/$defs/e/allOf/1", Some((INNER, 2))),
-    (INNER, "/allOf/1", Some((INNER, 2))),
-    (INNER, "/allOf/01", None),
-    (INNER, "/allOf/2", None),
-    (OUTER, "/$defs", None),
-    (OUTER, "/$defs/f/const", None),
-    (OUTER, "/enum/0", None),
-    ("https://ex.org/no", "", None),
+// A resource and a fragment, and the resource of the schema that is found and how many steps lead to it; no resource where
+// none is found.
+const TARGETS: &[(&str, &str, &str, usize)] = &[
+    (OUTER, "", OUTER, 0),
+    (INNER, "", INNER, 0),
+    (OUTER, "n", OUTER, 2),
+    (INNER, "n", INNER, 0),
+    (INNER, "d", INNER, 2),
+    (OUTER, "d", "", 0),
+    (OUTER, "/$defs/f", OUTER, 2),
+    (OUTER, "/$defs/e/allOf/1", INNER, 2),
+    (INNER, "/allOf/1", INNER, 2),
+    (INNER, "/allOf/01", "", 0),
+    (INNER, "/allOf/2", "", 0),
+    (OUTER, "/$defs", "", 0),
+    (OUTER, "/$defs/f/const", "", 0),
+    (OUTER, "/enum/0", "", 0),
+    ("https://ex.org/no", "", "", 0),
 ];
+
+// Whether the fragment names a schema of this resource, so many steps from its root; no schema for no resource.
+fn names(
+    alloc: Global,
+    document: &Compiled,
+    uri: &str,
+    fragment: &str,
+    resource: &str,
+    steps: usize,
+) -> Result<bool, Fault> {
+    let kind = fragment_kind(alloc, Some(fragment))?;
+    match document.target(alloc, uri, &kind)? {
+        Some(located) => Ok(located.resource == resource && located.steps.len() == steps),
+        None => Ok(resource.is_empty()),
+    }
+}
 
 #[test]
 fn fragments_name_schemas(rt: HostRuntime) -> Result<(), Fail> {
-    let alloc = rt.alloc();
-    let document = compiled(alloc, OUTER, DOCUMENT)?;
-    for (uri, fragment, wanted) in TARGETS {
-        let kind = fragment_kind(alloc, Some(fragment))?;
-        let found = document.target(alloc, uri, &kind)?;
-        let found = found.map(|located| (located.resource, located.steps.len()));
-        assert_eq!(rt; found, *wanted, "{fragment} in {uri}");
+    let document = compiled(rt.alloc(), OUTER, DOCUMENT)?;
+    for (uri, fragment, resource, steps) in TARGETS {
+        let is_named = names(rt.alloc(), &document, uri, fragment, resource, *steps)?;
+        assert!(rt; is_named, "{fragment} in {uri}");
     }
     Ok(())
 }

@@ -3,13 +3,13 @@
 use crate::documents::compiled;
 use json_doc::write;
 use locations::push_pointer;
-use schema_scan::Located;
+use schema_scan::{Compiled, Fault, Located};
 use std::alloc::Global;
 use std::test::Fail;
 use uri_ref::fragment_kind;
 
 /// The URI of the schema's resource, the pointer from its root, and the schema; nothing for no schema.
-pub fn shown(alloc: Global, located: Option<Located<'_>>) -> Result<String, Fail> {
+pub fn shown(alloc: Global, located: Option<Located<'_>>) -> Result<String, Fault> {
     let mut text = String::new(alloc);
     if let Some(located) = located {
         text.push_str(located.resource)?;
@@ -90,13 +90,16 @@ const TARGETS: &[(&str, &str, &str)] = &[
     (RESOURCES, "z", ""),
 ];
 
+fn pointed(alloc: Global, document: &Compiled, fragment: &str) -> Result<String, Fault> {
+    let kind = fragment_kind(alloc, Some(fragment))?;
+    shown(alloc, document.target(alloc, BASE, &kind)?)
+}
+
 #[test]
 fn fragments_lead_to_schemas(rt: HostRuntime) -> Result<(), Fail> {
-    let alloc = rt.alloc();
     for (document, fragment, text) in TARGETS {
-        let compiled = compiled(alloc, BASE, document)?;
-        let kind = fragment_kind(alloc, Some(fragment))?;
-        let found = shown(alloc, compiled.target(alloc, BASE, &kind)?)?;
+        let compiled = compiled(rt.alloc(), BASE, document)?;
+        let found = pointed(rt.alloc(), &compiled, fragment)?;
         assert_eq!(rt; found.as_str(), *text, "{fragment} in {document}");
     }
     Ok(())

@@ -15,6 +15,3 @@ use std::process::ExitCode;
 fn main(rt: HostRuntime) -> ExitCode {
     ExitCode::from(program::run(&rt))
 }
-
-#[cfg(test)]
-mod tests;

@@ -1,5 +1,6 @@
 //! Documents on texts, their bundles, and what they say of instances.
 
+use crate::texts::{filled, text_or_fault};
 use bundler::{Fault, bundle};
 use evaluator::evaluate;
 use json_doc::{read, write};
@@ -14,7 +15,7 @@ use uri_ref::split;
 fn listed(alloc: Global, documents: &[(&str, &str)]) -> Result<ListSource, Fault> {
     let mut source = ListSource::new(alloc);
     for (base, text) in documents {
-        let document = read(alloc, text.as_bytes())?;
+        let document = read(alloc, filled(alloc, text)?.as_bytes())?;
         let compiled = compile(alloc, scan(alloc, &split(base), &document)?)?;
         source.add(Rc::new(alloc, compiled)?)?;
     }
@@ -41,7 +42,7 @@ fn evaluated(
 
 /// The text of the bundle of what this URI reaches, or the fault.
 pub fn bundle_text(alloc: Global, documents: &[(&str, &str)], uri: &str) -> Result<String, Fail> {
-    told(alloc, bundled(alloc, documents, uri))
+    text_or_fault(alloc, bundled(alloc, documents, uri))
 }
 
 /// What the resource with this URI says of the instance, or the fault.
@@ -51,12 +52,5 @@ pub fn answer(
     uri: &str,
     instance: &str,
 ) -> Result<String, Fail> {
-    told(alloc, evaluated(alloc, documents, uri, instance))
-}
-
-fn told(alloc: Global, answered: Result<String, Fault>) -> Result<String, Fail> {
-    match answered {
-        Ok(text) => Ok(text),
-        Err(fault) => Ok(format!(in alloc; "{fault}")?),
-    }
+    text_or_fault(alloc, evaluated(alloc, documents, uri, instance))
 }

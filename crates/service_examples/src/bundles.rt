@@ -1,139 +1,179 @@
-//! The texts of bundles, and refusals.
+//! The texts of bundles, refusals, and what bundles say, put alone under some other URI.
 
-use crate::bundled_documents::bundle_text;
-use std::alloc::{AllocError, Global};
+use crate::bundled_documents::{answer, bundle_text};
+use crate::texts::is_like;
+use std::alloc::Global;
 use std::test::Fail;
 
-#[test]
-fn a_lone_document_gets_its_uri(rt: HostRuntime) -> Result<(), Fail> {
-    let uri = "https://ex.org/s";
-    assert_eq!(rt;
-        bundle_text(rt.alloc(), &[(uri, "{}")], uri)?.as_str(),
-        r#"{"$id":"https://ex.org/s"}"#
-    );
-    Ok(())
-}
+const ROOT: &str = "https://ex.org/root";
+
+const BY_PROPERTY: &[(&str, &str)] = &[
+    (ROOT, r#"{"properties":{"a":{"$ref":"b"}}}"#),
+    ("https://ex.org/b", r#"{"type":"integer"}"#),
+];
+
+const ROUND: &[(&str, &str)] = &[
+    (ROOT, r#"{"$ref":"b"}"#),
+    ("https://ex.org/b", r#"{"$ref":"root"}"#),
+];
+
+const STAYING: &[(&str, &str)] = &[
+    (
+        ROOT,
+        r##"{"$defs":{"zz":{},"https://ex.org/bb":{}},"allOf":[{"$ref":"c"},{"$ref":"b"},{"$ref":"#/$defs/zz"}]}"##,
+    ),
+    ("https://ex.org/b", "{}"),
+    ("https://ex.org/c", r#"{"$id":"c#"}"#),
+];
+
+const CLASHING: &[(&str, &str)] = &[
+    (
+        ROOT,
+        r#"{"$defs":{"https://ex.org/b":{},"https://ex.org/c":{}},"$ref":"c","allOf":[{"$ref":"b"}]}"#,
+    ),
+    ("https://ex.org/b", "{}"),
+    ("https://ex.org/c", "{}"),
+];
+
+const STRICT_TREE: &str = "https://example.com/strict-tree";
+
+const TREES: &[(&str, &str)] = &[
+    (
+        "https://example.com/tree",
+        r##"{"$dynamicAnchor":"node","type":"object","properties":{"data":true,"children":{"type":"array","items":{"$dynamicRef":"#node"}}}}"##,
+    ),
+    (
+        STRICT_TREE,
+        r#"{"$dynamicAnchor":"node","$ref":"tree","unevaluatedProperties":false}"#,
+    ),
+];
+
+const BY_DYNAMIC_REFERENCE: &[(&str, &str)] = &[
+    (ROOT, r##"{"$dynamicRef":"d#n"}"##),
+    (
+        "https://ex.org/d",
+        r#"{"$dynamicAnchor":"n","type":"null"}"#,
+    ),
+];
+
+const NESTED_117: &[(&str, &str)] = &[
+    (ROOT, r#"{"$ref":"b"}"#),
+    ("https://ex.org/b", r#"{"const":«117*[»«117*]»}"#),
+];
+
+const NESTED_118: &[(&str, &str)] = &[
+    (ROOT, r#"{"$ref":"b"}"#),
+    ("https://ex.org/b", r#"{"const":«118*[»«118*]»}"#),
+];
+
+// Documents, a URI, and the text of the bundle of what it reaches, or the fault.
+const BUNDLES: &[(&[(&str, &str)], &str, &str)] = &[
+    (
+        &[("https://ex.org/s", "{}")],
+        "https://ex.org/s",
+        r#"{"$id":"https://ex.org/s"}"#,
+    ),
+    (
+        BY_PROPERTY,
+        ROOT,
+        r#"{"$defs":{"https://ex.org/b":{"$id":"https://ex.org/b","type":"integer"}},"$id":"https://ex.org/root","properties":{"a":{"$ref":"b"}}}"#,
+    ),
+    (
+        ROUND,
+        ROOT,
+        r#"{"$defs":{"https://ex.org/b":{"$id":"https://ex.org/b","$ref":"root"}},"$id":"https://ex.org/root","$ref":"b"}"#,
+    ),
+    (
+        STAYING,
+        ROOT,
+        r##"{"$defs":{"https://ex.org/b":{"$id":"https://ex.org/b"},"https://ex.org/bb":{},"https://ex.org/c":{"$id":"https://ex.org/c"},"zz":{}},"$id":"https://ex.org/root","allOf":[{"$ref":"c"},{"$ref":"b"},{"$ref":"#/$defs/zz"}]}"##,
+    ),
+    (CLASHING, ROOT, "19 BundleClash https://ex.org/b"),
+    // An embedded resource has no bundle.
+    (
+        &[("https://ex.org/z", r#"{"$defs":{"e":{"$id":"w"}}}"#)],
+        "https://ex.org/w",
+        "14 NotFound",
+    ),
+    (
+        TREES,
+        STRICT_TREE,
+        r##"{"$defs":{"https://example.com/tree":{"$dynamicAnchor":"node","$id":"https://example.com/tree","properties":{"children":{"items":{"$dynamicRef":"#node"},"type":"array"},"data":true},"type":"object"}},"$dynamicAnchor":"node","$id":"https://example.com/strict-tree","$ref":"tree","unevaluatedProperties":false}"##,
+    ),
+    (
+        BY_DYNAMIC_REFERENCE,
+        ROOT,
+        r##"{"$defs":{"https://ex.org/d":{"$dynamicAnchor":"n","$id":"https://ex.org/d","type":"null"}},"$dynamicRef":"d#n","$id":"https://ex.org/root"}"##,
+    ),
+    // A bundle nests 120 deep at most.
+    (NESTED_117, ROOT, "{…"),
+    (NESTED_118, ROOT, "20 BundleTooLarge"),
+    // It has 1,048,576 bytes at most: beside the letters, 26.
+    (
+        &[("urn:x", r#"{"title":"«1048550*t»"}"#)],
+        "urn:x",
+        r#"{"$id":"urn:x","title":"«1048550*t»"}"#,
+    ),
+    (
+        &[("urn:x", r#"{"title":"«1048551*t»"}"#)],
+        "urn:x",
+        "20 BundleTooLarge",
+    ),
+];
 
 #[test]
-fn another_document_is_embedded(rt: HostRuntime) -> Result<(), Fail> {
-    let documents = [
-        (
-            "https://ex.org/root",
-            r#"{"properties":{"a":{"$ref":"b"}}}"#,
-        ),
-        ("https://ex.org/b", r#"{"type":"integer"}"#),
-    ];
-    assert_eq!(rt;
-        bundle_text(rt.alloc(), &documents, "https://ex.org/root")?.as_str(),
-        r#"{"$defs":{"https://ex.org/b":{"$id":"https://ex.org/b","type":"integer"}},"$id":"https://ex.org/root","properties":{"a":{"$ref":"b"}}}"#
-    );
-    Ok(())
-}
-
-#[test]
-fn a_document_that_refers_back_is_embedded_once(rt: HostRuntime) -> Result<(), Fail> {
-    let documents = [
-        ("https://ex.org/root", r#"{"$ref":"b"}"#),
-        ("https://ex.org/b", r#"{"$ref":"root"}"#),
-    ];
-    assert_eq!(rt;
-        bundle_text(rt.alloc(), &documents, "https://ex.org/root")?.as_str(),
-        r#"{"$defs":{"https://ex.org/b":{"$id":"https://ex.org/b","$ref":"root"}},"$id":"https://ex.org/root","$ref":"b"}"#
-    );
-    Ok(())
-}
-
-#[test]
-fn documents_of_the_root_stay(rt: HostRuntime) -> Result<(), Fail> {
-    let documents = [
-        (
-            "https://ex.org/root",
-            r##"{"$defs":{"zz":{},"https://ex.org/bb":{}},"allOf":[{"$ref":"c"},{"$ref":"b"},{"$ref":"#/$defs/zz"}]}"##,
-        ),
-        ("https://ex.org/b", "{}"),
-        ("https://ex.org/c", r#"{"$id":"c#"}"#),
-    ];
-    assert_eq!(rt;
-        bundle_text(rt.alloc(), &documents, "https://ex.org/root")?.as_str(),
-        r##"{"$defs":{"https://ex.org/b":{"$id":"https://ex.org/b"},"https://ex.org/bb":{},"https://ex.org/c":{"$id":"https://ex.org/c"},"zz":{}},"$id":"https://ex.org/root","allOf":[{"$ref":"c"},{"$ref":"b"},{"$ref":"#/$defs/zz"}]}"##
-    );
-    Ok(())
-}
-
-#[test]
-fn a_key_that_stands_already_clashes(rt: HostRuntime) -> Result<(), Fail> {
-    let documents = [
-        (
-            "https://ex.org/root",
-            r#"{"$defs":{"https://ex.org/b":{},"https://ex.org/c":{}},"$ref":"c","allOf":[{"$ref":"b"}]}"#,
-        ),
-        ("https://ex.org/b", "{}"),
-        ("https://ex.org/c", "{}"),
-    ];
-    assert_eq!(rt;
-        bundle_text(rt.alloc(), &documents, "https://ex.org/root")?.as_str(),
-        "19 BundleClash https://ex.org/b"
-    );
-    Ok(())
-}
-
-#[test]
-fn embedded_resources_have_no_bundle(rt: HostRuntime) -> Result<(), Fail> {
-    let documents = [("https://ex.org/z", r#"{"$defs":{"e":{"$id":"w"}}}"#)];
-    assert_eq!(rt;
-        bundle_text(rt.alloc(), &documents, "https://ex.org/w")?.as_str(),
-        "14 NotFound"
-    );
-    Ok(())
-}
-
-// A document with a constant of this many nested lists.
-fn nested(alloc: Global, lists: usize) -> Result<String, AllocError> {
-    let mut text = String::from_str(alloc, r#"{"const":"#)?;
-    for _ in 0..lists {
-        text.push('[')?;
-    }
-    for _ in 0..lists {
-        text.push(']')?;
-    }
-    text.push('}')?;
-    Ok(text)
-}
-
-fn with_nested(alloc: Global, lists: usize) -> Result<String, Fail> {
-    let text = nested(alloc, lists)?;
-    let documents = [
-        ("https://ex.org/root", r#"{"$ref":"b"}"#),
-        ("https://ex.org/b", text.as_str()),
-    ];
-    bundle_text(alloc, &documents, "https://ex.org/root")
-}
-
-#[test]
-fn a_bundle_nests_120_deep_at_most(rt: HostRuntime) -> Result<(), Fail> {
+fn bundles_have_their_texts(rt: HostRuntime) -> Result<(), Fail> {
     let alloc = rt.alloc();
-    assert!(rt; with_nested(alloc, 117)?.starts_with("{"));
-    assert_eq!(rt; with_nested(alloc, 118)?.as_str(), "20 BundleTooLarge");
+    for (documents, uri, wanted) in BUNDLES {
+        let found = bundle_text(alloc, documents, uri)?;
+        assert!(rt;
+            is_like(alloc, found.as_str(), wanted)?,
+            "{wanted}: {found}"
+        );
+    }
     Ok(())
 }
 
-fn with_long_title(alloc: Global, letters: usize) -> Result<String, Fail> {
-    let mut text = String::from_str(alloc, r#"{"title":""#)?;
-    for _ in 0..letters {
-        text.push('t')?;
-    }
-    text.push_str(r#""}"#)?;
-    bundle_text(alloc, &[("urn:x", text.as_str())], "urn:x")
+// Documents, the URI whose bundle is put alone, an instance, and what both say of it, or the fault.
+const STANDING_ALONE: &[(&[(&str, &str)], &str, &str, &str)] = &[
+    (BY_PROPERTY, ROOT, r#"{"a":"x"}"#, r#"…"valid":false}"#),
+    (ROUND, ROOT, "1", "17 Loop"),
+    (
+        TREES,
+        STRICT_TREE,
+        r#"{"children":[{"daat":1}]}"#,
+        r#"…"/$ref/properties/children/items/$dynamicRef/unevaluatedProperties"…"#,
+    ),
+    (
+        BY_DYNAMIC_REFERENCE,
+        ROOT,
+        "1",
+        r##"{"errors":[{"absoluteKeywordLocation":"https://ex.org/root#/$dynamicRef","error":"$dynamicRef is not met","instanceLocation":"","keywordLocation":"/$dynamicRef"},{"absoluteKeywordLocation":"https://ex.org/d#/type","error":"type is not met","instanceLocation":"","keywordLocation":"/$dynamicRef/type"}],"valid":false}"##,
+    ),
+];
+
+// What the bundle alone says, put under a URI of its own.
+fn alone(
+    alloc: Global,
+    documents: &[(&str, &str)],
+    uri: &str,
+    instance: &str,
+) -> Result<String, Fail> {
+    let bundle = bundle_text(alloc, documents, uri)?;
+    answer(alloc, &[("urn:x", bundle.as_str())], uri, instance)
 }
 
 #[test]
-fn a_bundle_has_1048576_bytes_at_most(rt: HostRuntime) -> Result<(), Fail> {
+fn bundles_say_what_their_documents_say(rt: HostRuntime) -> Result<(), Fail> {
     let alloc = rt.alloc();
-    // Beside the letters, `{"$id":"urn:x","title":""}` has 26 bytes.
-    assert_eq!(rt; with_long_title(alloc, 1_048_550)?.len(), 1_048_576);
-    assert_eq!(rt;
-        with_long_title(alloc, 1_048_551)?.as_str(),
-        "20 BundleTooLarge"
-    );
+    for (documents, uri, instance, wanted) in STANDING_ALONE {
+        let before = answer(alloc, documents, uri, instance)?;
+        assert!(rt;
+            is_like(alloc, before.as_str(), wanted)?,
+            "{wanted}: {before}"
+        );
+        let after = alone(alloc, documents, uri, instance)?;
+        assert_eq!(rt; after.as_str(), before.as_str());
+    }
     Ok(())
 }

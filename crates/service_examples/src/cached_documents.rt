@@ -1,5 +1,6 @@
-//! Documents that are asked for, kept and pushed out.
+//! Documents that are asked for, kept and pushed out, and how many a cache may keep.
 
+use crate::texts::{filled, text_or_fault};
 use json_doc::read;
 use schema_scan::{Compiled, canonical};
 use shared_cache::{Cache, Fault};
@@ -18,89 +19,133 @@ fn compiled(
     base: &str,
     document: &str,
 ) -> Result<Rc<Compiled>, Fault> {
-    let document = read(alloc, document.as_bytes())?;
+    let document = read(alloc, filled(alloc, document)?.as_bytes())?;
     cache.compiled(alloc, &split(base), &document)
 }
 
-#[test]
-fn documents_outlive_their_place_in_the_cache(rt: HostRuntime) -> Result<(), Fail> {
-    let alloc = rt.alloc();
-    let mut cache = Cache::new(alloc, 1)?;
-    assert_eq!(rt; cache.len(), 0);
-    let first = compiled(alloc, &mut cache, A, "{}")?;
-    assert_eq!(rt; cache.len(), 1);
-    let second = compiled(alloc, &mut cache, B, "{}")?;
-    assert_eq!(rt; cache.len(), 1);
-    assert_eq!(rt; canonical(&first), A);
-    assert_eq!(rt; canonical(&second), B);
-    Ok(())
-}
-
-#[test]
-fn a_cleared_cache_compiles_anew(rt: HostRuntime) -> Result<(), Fail> {
-    let alloc = rt.alloc();
-    let mut cache = Cache::new(alloc, 2)?;
-    let first = compiled(alloc, &mut cache, A, "{}")?;
-    compiled(alloc, &mut cache, B, "{}")?;
-    cache.clear();
-    assert_eq!(rt; cache.len(), 0);
-    assert_eq!(rt; canonical(&first), A);
-    let again = compiled(alloc, &mut cache, A, "{}")?;
-    assert!(rt; !Rc::ptr_eq(&again, &first));
-    assert_eq!(rt; cache.len(), 1);
-    Ok(())
-}
-
-#[test]
-fn refused_documents_are_not_kept(rt: HostRuntime) -> Result<(), Fail> {
-    let alloc = rt.alloc();
-    let mut cache = Cache::new(alloc, 1)?;
-    let kept = compiled(alloc, &mut cache, B, "{}")?;
-    let unbuilt = compiled(alloc, &mut cache, B, r#"{"pattern":"(?=a)"}"#);
-    assert!(rt; matches!(unbuilt, Err(Fault::BadPattern)));
-    let list = compiled(alloc, &mut cache, B, "[]");
-    assert!(rt; matches!(list, Err(Fault::NotObject)));
-    let again = compiled(alloc, &mut cache, B, "{}")?;
-    assert!(rt; Rc::ptr_eq(&again, &kept));
-    assert_eq!(rt; cache.len(), 1);
-    Ok(())
-}
-
-#[test]
-fn the_document_asked_for_longest_ago_is_pushed_out(rt: HostRuntime) -> Result<(), Fail> {
-    let alloc = rt.alloc();
-    let mut cache = Cache::new(alloc, 2)?;
-    let strings = compiled(alloc, &mut cache, A, r#"{"type":"string"}"#)?;
-    let numbers = compiled(alloc, &mut cache, A, r#"{"type":"integer"}"#)?;
-    let asked = compiled(alloc, &mut cache, A, r#"{ "type" : "string" }"#)?;
-    assert!(rt; Rc::ptr_eq(&asked, &strings));
-    let other = compiled(alloc, &mut cache, B, r#"{"type":"string"}"#)?;
-    assert!(rt; !Rc::ptr_eq(&other, &strings));
-    assert_eq!(rt; cache.len(), 2);
-    let still = compiled(alloc, &mut cache, A, r#"{"type":"string"}"#)?;
-    assert!(rt; Rc::ptr_eq(&still, &strings));
-    let anew = compiled(alloc, &mut cache, A, r#"{"type":"integer"}"#)?;
-    assert!(rt; !Rc::ptr_eq(&anew, &numbers));
-    Ok(())
-}
-
-#[test]
-fn documents_that_nest_too_deep_are_refused(rt: HostRuntime) -> Result<(), Fail> {
-    let alloc = rt.alloc();
-    let mut cache = Cache::new(alloc, 4)?;
-    for (lists, taken) in [(119_u8, true), (120, false), (126, false)] {
-        let mut text = String::from_str(alloc, "{\"const\":")?;
-        for _ in 0..lists {
-            text.push('[')?;
+// The number, from 1, of this document among those that were answered; it is put behind them where it isn't one.
+fn number(answers: &mut Vec<Rc<Compiled>>, document: Rc<Compiled>) -> Result<usize, Fault> {
+    for (index, answer) in answers.iter().enumerate() {
+        if Rc::ptr_eq(answer, &document) {
+            return Ok(index.saturating_add(1));
         }
-        for _ in 0..lists {
-            text.push(']')?;
-        }
-        text.push('}')?;
-        let answer = compiled(alloc, &mut cache, A, text.as_str());
-        assert_eq!(rt; answer.is_ok(), taken);
-        assert_eq!(rt; matches!(answer, Err(Fault::TooNested)), !taken);
     }
-    assert_eq!(rt; cache.len(), 1);
+    answers.push(document)?;
+    Ok(answers.len())
+}
+
+// The number of the document and how many the cache keeps then, or the fault. Without a base, the cache is cleared.
+fn asked(
+    alloc: Global,
+    cache: &mut Cache,
+    answers: &mut Vec<Rc<Compiled>>,
+    line: (&str, &str),
+) -> Result<String, Fault> {
+    if line.0.is_empty() {
+        cache.clear();
+        return Ok(format!(in alloc; "{} kept", cache.len())?);
+    }
+    let document = compiled(alloc, cache, line.0, line.1)?;
+    let number = number(answers, document)?;
+    Ok(format!(in alloc; "{number}, {} kept", cache.len())?)
+}
+
+// The canonical URIs, each after a space.
+fn canonicals(alloc: Global, answers: &[Rc<Compiled>]) -> Result<String, Fail> {
+    let mut line = String::new(alloc);
+    for answer in answers {
+        line.push(' ')?;
+        line.push_str(canonical(answer))?;
+    }
+    Ok(line)
+}
+
+const PUSHED_OUT: &[(&str, &str, &str)] = &[(A, "{}", "1, 1 kept"), (B, "{}", "2, 1 kept")];
+
+const CLEARED: &[(&str, &str, &str)] = &[
+    (A, "{}", "1, 1 kept"),
+    (B, "{}", "2, 2 kept"),
+    ("", "", "0 kept"),
+    (A, "{}", "3, 1 kept"),
+];
+
+const REFUSED: &[(&str, &str, &str)] = &[
+    (B, "{}", "1, 1 kept"),
+    (B, r#"{"pattern":"(?=a)"}"#, "5 BadPattern"),
+    (B, "[]", "6 NotObject"),
+    (B, "{}", "1, 1 kept"),
+];
+
+const LONGEST_AGO: &[(&str, &str, &str)] = &[
+    (A, r#"{"type":"string"}"#, "1, 1 kept"),
+    (A, r#"{"type":"integer"}"#, "2, 2 kept"),
+    (A, r#"{ "type" : "string" }"#, "1, 2 kept"),
+    (B, r#"{"type":"string"}"#, "3, 2 kept"),
+    (A, r#"{"type":"string"}"#, "1, 2 kept"),
+    (A, r#"{"type":"integer"}"#, "4, 2 kept"),
+];
+
+const TOO_DEEP: &[(&str, &str, &str)] = &[
+    (A, r#"{"const":«119*[»«119*]»}"#, "1, 1 kept"),
+    (A, r#"{"const":«120*[»«120*]»}"#, "7 TooNested"),
+    (A, r#"{"const":«126*[»«126*]»}"#, "7 TooNested"),
+    (A, r#"{"const":«119*[»«119*]»}"#, "1, 1 kept"),
+];
+
+// A capacity, what is asked and answered, and the canonical URIs of all documents that were answered, which outlive their
+// places in the cache.
+const CACHES: &[(usize, &[(&str, &str, &str)], &str)] = &[
+    (1, PUSHED_OUT, " https://ex.org/a https://ex.org/b"),
+    (
+        2,
+        CLEARED,
+        " https://ex.org/a https://ex.org/b https://ex.org/a",
+    ),
+    (1, REFUSED, " https://ex.org/b"),
+    (
+        2,
+        LONGEST_AGO,
+        " https://ex.org/a https://ex.org/a https://ex.org/b https://ex.org/a",
+    ),
+    (4, TOO_DEEP, " https://ex.org/a"),
+];
+
+#[test]
+fn documents_are_kept_and_pushed_out(rt: HostRuntime) -> Result<(), Fail> {
+    let alloc = rt.alloc();
+    for (capacity, lines, uris) in CACHES {
+        let mut cache = Cache::new(alloc, *capacity)?;
+        let mut answers = Vec::new(alloc);
+        for (base, document, wanted) in *lines {
+            let line = (*base, *document);
+            let found = text_or_fault(alloc, asked(alloc, &mut cache, &mut answers, line))?;
+            assert_eq!(rt; found.as_str(), *wanted, "{capacity}, {base} {document}");
+        }
+        assert_eq!(rt; canonicals(alloc, &answers)?.as_str(), *uris, "{capacity}");
+    }
+    Ok(())
+}
+
+// A capacity, and how many documents a new cache keeps, or the fault.
+const CAPACITIES: &[(usize, &str)] = &[
+    (1, "0 kept"),
+    (256, "0 kept"),
+    (4096, "0 kept"),
+    (0, "21 BadCapacity"),
+    (4097, "21 BadCapacity"),
+    (usize::MAX, "21 BadCapacity"),
+];
+
+fn opened(alloc: Global, capacity: usize) -> Result<String, Fault> {
+    let cache = Cache::new(alloc, capacity)?;
+    Ok(format!(in alloc; "{} kept", cache.len())?)
+}
+
+#[test]
+fn caches_have_capacities(rt: HostRuntime) -> Result<(), Fail> {
+    for (capacity, wanted) in CAPACITIES {
+        let found = text_or_fault(rt.alloc(), opened(rt.alloc(), *capacity))?;
+        assert_eq!(rt; found.as_str(), *wanted, "{capacity}");
+    }
     Ok(())
 }

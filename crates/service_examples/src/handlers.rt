@@ -40,11 +40,3 @@ impl Handler for Counting {
 pub fn sessions(alloc: Global) -> Sessions<Counting> {
     Sessions::new(alloc, Counting { asked: 0 })
 }
-
-/// What is sent on a new connection for the bytes, and whether it is closed then.
-pub fn sent(alloc: Global, bytes: &[u8]) -> Result<(Vec<u8>, bool), Fault> {
-    let mut sessions = sessions(alloc);
-    sessions.open(1)?;
-    let out = sessions.feed(alloc, 1, bytes)?;
-    Ok((out, sessions.is_closed(1)))
-}

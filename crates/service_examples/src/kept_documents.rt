@@ -1,5 +1,6 @@
 //! Documents as a registry keeps them.
 
+use crate::texts::text_or_fault;
 use json_doc::{Doc, read, write};
 use shared_cache::Cache;
 use std::alloc::Global;
@@ -7,49 +8,42 @@ use std::test::Fail;
 use stored_documents::{Documents, Fault, Stored};
 use uri_ref::split;
 
-fn stored(alloc: Global, cache: &mut Cache, base: &str, text: &str) -> Result<Stored, Fault> {
+// The canonical URI, the length, the key's text, the written document, how many resources there are, and which of three
+// URIs they have; and how many documents the cache keeps.
+fn told(alloc: Global, cache: &mut Cache, text: &str) -> Result<String, Fault> {
     let document: Doc = read(alloc, text.as_bytes())?;
-    Stored::of(alloc, cache, &split(base), document)
+    let kept = Stored::of(alloc, cache, &split("https://ex.org/s"), document)?;
+    let (canonical, length) = (kept.canonical(), kept.length());
+    let (key, document) = (kept.key().text(), write(alloc, kept.document())?);
+    let uris = kept.resource_uris().len();
+    let mut line = format!(in alloc; "{canonical} {length} {key} {document} {uris}")?;
+    for uri in &["https://ex.org/t", "https://ex.org/e", "https://ex.org/s"] {
+        line.push_str(if kept.holds(uri) { " held" } else { " not" })?;
+    }
+    Ok(line)
 }
+
+// A document under `https://ex.org/s`, what is kept with it or the fault, and how many documents the cache keeps then.
+const DOCUMENTS: &[(&str, &str, usize)] = &[
+    ("[]", "6 NotObject", 0),
+    (r#"{"$id":"a#b"}"#, "9 BadId", 0),
+    (r#"{"pattern":"("}"#, "5 BadPattern", 0),
+    (
+        r#"{ "$id": "t", "$defs": { "e": { "$id": "e" } } }"#,
+        r#"https://ex.org/t 37 {"$defs":{"e":{"$id":"e"}},"$id":"t"} {"$defs":{"e":{"$id":"e"}},"$id":"t"} 2 held held not"#,
+        1,
+    ),
+];
 
 #[test]
 fn what_is_kept_with_a_document(rt: HostRuntime) -> Result<(), Fail> {
     let alloc = rt.alloc();
     let mut cache = Cache::new(alloc, 1)?;
-    let text = r#"{ "$id": "t", "$defs": { "e": { "$id": "e" } } }"#;
-    let kept = stored(alloc, &mut cache, "https://ex.org/s", text)?;
-    assert_eq!(rt; kept.canonical(), "https://ex.org/t");
-    assert_eq!(rt; kept.length(), 37);
-    assert_eq!(rt;
-        kept.key().text(),
-        r#"{"$defs":{"e":{"$id":"e"}},"$id":"t"}"#
-    );
-    assert_eq!(rt; write(alloc, kept.document())?.as_str(), kept.key().text());
-    assert_eq!(rt; kept.resource_uris().len(), 2);
-    for (uri, held) in [
-        ("https://ex.org/t", true),
-        ("https://ex.org/e", true),
-        ("https://ex.org/s", false),
-    ] {
-        assert_eq!(rt; kept.holds(uri), held);
+    for (document, wanted, kept) in DOCUMENTS {
+        let found = text_or_fault(alloc, told(alloc, &mut cache, document))?;
+        assert_eq!(rt; found.as_str(), *wanted, "{document}");
+        assert_eq!(rt; cache.len(), *kept, "{document}");
     }
-    assert_eq!(rt; cache.len(), 1);
-    Ok(())
-}
-
-#[test]
-fn documents_with_a_fault_are_not_kept(rt: HostRuntime) -> Result<(), Fail> {
-    let alloc = rt.alloc();
-    let mut cache = Cache::new(alloc, 1)?;
-    for (text, fault) in [
-        ("[]", Fault::NotObject),
-        (r#"{"$id":"a#b"}"#, Fault::BadId),
-        (r#"{"pattern":"("}"#, Fault::BadPattern),
-    ] {
-        let refused = stored(alloc, &mut cache, "https://ex.org/s", text).err();
-        assert!(rt; refused == Some(fault));
-    }
-    assert_eq!(rt; cache.len(), 0);
     Ok(())
 }
 

@@ -3,17 +3,11 @@
 #![tactic(auto)]
 
 #[cfg(test)]
-mod batches;
-#[cfg(test)]
-mod bodies;
-#[cfg(test)]
 mod bundled_documents;
 #[cfg(test)]
 mod bundles;
 #[cfg(test)]
 mod cached_documents;
-#[cfg(test)]
-mod capacities;
 #[cfg(test)]
 mod handlers;
 #[cfg(test)]
@@ -25,19 +19,15 @@ mod kept_documents;
 #[cfg(test)]
 mod libraries;
 #[cfg(test)]
-mod long_bodies;
-#[cfg(test)]
 mod new_servers;
 #[cfg(test)]
 mod own_registries;
-#[cfg(test)]
-mod refusals;
 #[cfg(test)]
 mod registries;
 #[cfg(test)]
 mod replied_bundles;
 #[cfg(test)]
-mod replies;
+mod sent_streams;
 #[cfg(test)]
 mod served_hubs;
 #[cfg(test)]
@@ -47,16 +37,14 @@ mod several_tenants;
 #[cfg(test)]
 mod socket_connections;
 #[cfg(test)]
-mod standing_alone;
-#[cfg(test)]
 mod stored_batches;
 #[cfg(test)]
 mod streams;
 #[cfg(test)]
 mod talks;
 #[cfg(test)]
-mod targets;
-#[cfg(test)]
 mod tenants;
+#[cfg(test)]
+mod texts;
 #[cfg(test)]
 mod whole_connections;

@@ -1,7 +1,7 @@
 //! Hubs over a fixed library, whose documents every tenant reaches and none owns.
 
-use crate::talks::{TWO_TENANTS, library_hub, unlike, unlike_by_run};
-use std::alloc::Global;
+use crate::talks::{TWO_TENANTS, Talk, new_hub, unlike_talks};
+use crate::texts::text_or_fault;
 use std::test::Fail;
 
 const LIBRARY: &str =
@@ -75,67 +75,73 @@ const REACHED: &[(&str, &str, &str)] = &[
     ("k1", "put https://ex.org/t {}", "28 QuotaDocuments"),
 ];
 
-fn unlike_over_library(alloc: Global, lines: &[(&str, &str, &str)]) -> Result<String, Fail> {
-    let mut found = unlike(alloc, &mut library_hub(alloc, TENANTS, LIBRARY)?, lines)?;
-    let by_run = unlike_by_run(alloc, &mut library_hub(alloc, TENANTS, LIBRARY)?, lines)?;
-    found.push_str(by_run.as_str())?;
-    Ok(found)
-}
-
-#[test]
-fn the_librarys_documents_stay(rt: HostRuntime) -> Result<(), Fail> {
-    let unlike = unlike_over_library(rt.alloc(), OWNED)?;
-    assert_eq!(rt; unlike.as_str(), "");
-    Ok(())
-}
-
-#[test]
-fn references_run_over_both(rt: HostRuntime) -> Result<(), Fail> {
-    let unlike = unlike_over_library(rt.alloc(), REACHED)?;
-    assert_eq!(rt; unlike.as_str(), "");
-    Ok(())
-}
-
-// A library's batch, and what the hub is refused for.
-const REFUSED_LIBRARIES: &[(&str, &str)] = &[
-    ("{", "1 BadJson"),
-    ("[0.5]", "2 BadNumber"),
-    (r#"{"put":[]}"#, "42 BadBatch"),
-    (r#"{"put":[{"schema":{},"uri":"lib"}]}"#, "25 BadUri"),
+const TALKS: &[Talk] = &[
     (
+        "the library's documents stay",
+        TENANTS,
+        Some(LIBRARY),
+        &[256],
+        OWNED,
+    ),
+    (
+        "references run over both",
+        TENANTS,
+        Some(LIBRARY),
+        &[256],
+        REACHED,
+    ),
+];
+
+#[test]
+fn hubs_over_a_library(rt: HostRuntime) -> Result<(), Fail> {
+    let unlike = unlike_talks(rt.alloc(), TALKS)?;
+    assert_eq!(rt; unlike.as_str(), "");
+    Ok(())
+}
+
+// A file of tenants, a library's batch, and what the hub is refused for.
+const REFUSED_LIBRARIES: &[(&str, &str, &str)] = &[
+    (TWO_TENANTS, "{", "1 BadJson"),
+    (TWO_TENANTS, "[0.5]", "2 BadNumber"),
+    (TWO_TENANTS, r#"{"put":[]}"#, "42 BadBatch"),
+    (
+        TWO_TENANTS,
+        r#"{"put":[{"schema":{},"uri":"lib"}]}"#,
+        "25 BadUri",
+    ),
+    (
+        TWO_TENANTS,
         r#"{"put":[{"schema":[],"uri":"https://ex.org/lib"}]}"#,
         "6 NotObject",
     ),
     (
+        TWO_TENANTS,
         r#"{"put":[{"schema":{"pattern":"("},"uri":"https://ex.org/lib"}]}"#,
         "5 BadPattern",
     ),
     (
+        TWO_TENANTS,
         r#"{"put":[{"schema":{},"uri":"https://ex.org/lib"},{"schema":{},"uri":"https://ex.org/./lib"}]}"#,
         "43 SameDocument https://ex.org/lib",
     ),
     (
+        TWO_TENANTS,
         r#"{"put":[{"schema":{"$defs":{"e":{"$id":"b"}}},"uri":"https://ex.org/a"},{"schema":{},"uri":"https://ex.org/b"}]}"#,
         "27 Taken https://ex.org/b",
     ),
+    (
+        r#"{"tenants":[{"bytes":1,"documents":1,"key":"k1"},{"bytes":1,"documents":1,"key":"k1"}]}"#,
+        "{",
+        "22 DuplicateTenant",
+    ),
 ];
-
-fn refusal(alloc: Global, tenants: &str, library: &str) -> Result<String, Fail> {
-    match library_hub(alloc, tenants, library) {
-        Ok(_) => Ok(String::new(alloc)),
-        Err(fault) => Ok(format!(in alloc; "{fault}")?),
-    }
-}
 
 #[test]
 fn libraries_with_a_fault_are_refused(rt: HostRuntime) -> Result<(), Fail> {
-    for (library, fault) in REFUSED_LIBRARIES {
-        let found = refusal(rt.alloc(), TWO_TENANTS, library)?;
+    for (tenants, library, fault) in REFUSED_LIBRARIES {
+        let hub = new_hub(rt.alloc(), tenants, Some(*library), 256);
+        let found = text_or_fault(rt.alloc(), hub.map(|_| String::new(rt.alloc())))?;
         assert_eq!(rt; found.as_str(), *fault, "{library}");
     }
-    let twice =
-        r#"{"tenants":[{"bytes":1,"documents":1,"key":"k1"},{"bytes":1,"documents":1,"key":"k1"}]}"#;
-    let found = refusal(rt.alloc(), twice, "{")?;
-    assert_eq!(rt; found.as_str(), "22 DuplicateTenant");
     Ok(())
 }

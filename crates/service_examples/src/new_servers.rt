@@ -1,81 +1,76 @@
 //! What new servers are refused for.
 
+use crate::texts::{filled, text_or_fault};
 use std::alloc::Global;
 use std::test::Fail;
+use tenant_hub::Hub;
 use tenants_file::{Fault, Tenant, server_fault};
 
-fn tenant(alloc: Global, key: &str) -> Result<Tenant, Fail> {
-    Ok(Tenant {
-        key: String::from_str(alloc, key)?,
+fn tenant(key: String) -> Tenant {
+    Tenant {
+        key,
         documents: 1,
         bytes: 1,
-    })
-}
-
-fn with_keys(alloc: Global, keys: &[&str]) -> Result<Vec<Tenant>, Fail> {
-    let mut tenants = Vec::new(alloc);
-    for key in keys {
-        tenants.push(tenant(alloc, *key)?)?;
     }
-    Ok(tenants)
 }
 
-// Tenants `k0`, `k1` and so on.
-fn numbered(alloc: Global, count: usize) -> Result<Vec<Tenant>, Fail> {
+// So many tenants `k0`, `k1` and so on, and then those with these keys.
+fn tenants(alloc: Global, count: usize, keys: &[&str]) -> Result<Vec<Tenant>, Fail> {
     let mut tenants = Vec::new(alloc);
     for number in 0..count {
-        let key = format!(in alloc; "k{number}")?;
-        tenants.push(tenant(alloc, key.as_str())?)?;
+        tenants.push(tenant(format!(in alloc; "k{number}")?))?;
+    }
+    for key in keys {
+        tenants.push(tenant(filled(alloc, key)?))?;
     }
     Ok(tenants)
 }
 
-#[test]
-fn the_capacity_is_judged_first(rt: HostRuntime) -> Result<(), Fail> {
-    let none = numbered(rt.alloc(), 0)?;
-    assert_eq!(rt; server_fault(&none, 1), None);
-    assert_eq!(rt; server_fault(&none, 4096), None);
-    assert_eq!(rt; server_fault(&none, 4097), Some(Fault::BadCapacity));
-    assert_eq!(rt; server_fault(&none, 0), Some(Fault::BadCapacity));
-    let many = numbered(rt.alloc(), 65)?;
-    assert_eq!(rt; server_fault(&many, 0), Some(Fault::BadCapacity));
-    Ok(())
-}
-
-#[test]
-fn tenants_are_counted_before_their_keys_are_judged(rt: HostRuntime) -> Result<(), Fail> {
-    let mut tenants = numbered(rt.alloc(), 64)?;
-    assert_eq!(rt; server_fault(&tenants, 256), None);
-    tenants.push(tenant(rt.alloc(), "")?)?;
-    assert_eq!(rt; server_fault(&tenants, 256), Some(Fault::TooManyTenants));
-    Ok(())
-}
-
-#[test]
-fn keys_are_judged_before_repeats(rt: HostRuntime) -> Result<(), Fail> {
-    let keys = with_keys(rt.alloc(), &["k1", "k1", "a b"])?;
-    assert_eq!(rt; server_fault(&keys, 256), Some(Fault::BadTenants));
-    let keys = with_keys(rt.alloc(), &["k1", "k2", "k1"])?;
-    assert_eq!(rt; server_fault(&keys, 256), Some(Fault::DuplicateTenant));
-    let keys = with_keys(rt.alloc(), &["k1", "K1", "k1 "])?;
-    assert_eq!(rt; server_fault(&keys, 256), Some(Fault::BadTenants));
-    let keys = with_keys(rt.alloc(), &["!", "~", "k1", "K1"])?;
-    assert_eq!(rt; server_fault(&keys, 256), None);
-    Ok(())
-}
-
-#[test]
-fn keys_have_64_characters_at_most(rt: HostRuntime) -> Result<(), Fail> {
-    let mut key = String::new(rt.alloc());
-    for _ in 0..64 {
-        key.push('k')?;
+fn refusal(alloc: Global, refused: Option<Fault>) -> Result<String, Fail> {
+    match refused {
+        Some(fault) => text_or_fault(alloc, Err(fault)),
+        None => Ok(String::new(alloc)),
     }
-    let keys = with_keys(rt.alloc(), &[key.as_str()])?;
-    assert_eq!(rt; server_fault(&keys, 256), None);
-    key.push('k')?;
-    for key in [key.as_str(), "", "ä", "\u{7f}"] {
-        let keys = with_keys(rt.alloc(), &[key])?;
-        assert_eq!(rt; server_fault(&keys, 256), Some(Fault::BadTenants), "{key}");
+}
+
+// How many tenants there are before those with these keys, the capacity, and the fault.
+const SERVERS: &[(usize, &[&str], usize, &str)] = &[
+    // The capacity is judged first.
+    (0, &[], 1, ""),
+    (0, &[], 4096, ""),
+    (0, &[], 4097, "21 BadCapacity"),
+    (0, &[], 0, "21 BadCapacity"),
+    (65, &[], 0, "21 BadCapacity"),
+    (64, &["k64"], 0, "21 BadCapacity"),
+    (64, &["k64"], 4097, "21 BadCapacity"),
+    // Tenants are counted before their keys are judged.
+    (64, &[], 256, ""),
+    (64, &[""], 256, "23 TooManyTenants"),
+    (63, &["~"], 4096, ""),
+    // Keys are judged before repeats.
+    (0, &["k1", "k1", "a b"], 256, "35 BadTenants"),
+    (0, &["k1", "k2", "k1"], 256, "22 DuplicateTenant"),
+    (0, &["k1", "K1", "k1 "], 256, "35 BadTenants"),
+    (0, &["!", "~", "k1", "K1"], 256, ""),
+    (2, &["a b"], 256, "35 BadTenants"),
+    (1, &["k0"], 1, "22 DuplicateTenant"),
+    // Keys have 64 characters at most.
+    (0, &["«64*k»"], 256, ""),
+    (0, &["«65*k»"], 256, "35 BadTenants"),
+    (0, &[""], 256, "35 BadTenants"),
+    (0, &["ä"], 256, "35 BadTenants"),
+    (0, &["\u{7f}"], 256, "35 BadTenants"),
+];
+
+#[test]
+fn servers_are_refused_in_order(rt: HostRuntime) -> Result<(), Fail> {
+    let alloc = rt.alloc();
+    for (count, keys, capacity, fault) in SERVERS {
+        let tenants = tenants(alloc, *count, keys)?;
+        let found = refusal(alloc, server_fault(&tenants, *capacity))?;
+        assert_eq!(rt; found.as_str(), *fault, "{count} {keys:?} {capacity}");
+        let found = refusal(alloc, Hub::new(alloc, tenants, *capacity).err())?;
+        assert_eq!(rt; found.as_str(), *fault, "{count} {keys:?} {capacity}");
     }
     Ok(())
 }

@@ -1,5 +1,7 @@
 //! A tenant's registry alone, over a library of its own.
 
+use crate::talks::{VALID, told};
+use crate::texts::text_or_fault;
 use evaluator::evaluate;
 use json_doc::{Doc, Whole};
 use linker::{ListSource, link};
@@ -7,9 +9,7 @@ use shared_cache::Cache;
 use std::alloc::Global;
 use std::rc::Rc;
 use std::test::Fail;
-use tenant_documents::{Fault, Registry, Reply, library_of};
-
-const LIBRARY: &[u8] = br#"{"put":[{"schema":{"type":"integer"},"uri":"https://ex.org/lib"}]}"#;
+use tenant_documents::{Fault, Registry, library_of};
 
 // What the resource with this URI says of the number 5.
 fn said(alloc: Global, registry: &Registry, cache: &mut Cache, uri: &str) -> Result<String, Fault> {
@@ -18,59 +18,80 @@ fn said(alloc: Global, registry: &Registry, cache: &mut Cache, uri: &str) -> Res
     Ok(evaluate(alloc, &linked, &instance)?.into_text())
 }
 
-#[test]
-fn a_registry_over_a_library(rt: HostRuntime) -> Result<(), Fail> {
-    let alloc = rt.alloc();
-    let mut cache = Cache::new(alloc, 1)?;
-    let library = Rc::new(alloc, library_of(alloc, LIBRARY)?)?;
-    let mut registry = Registry::new(library, 2, 100, alloc);
-    let put = registry.put(alloc, &mut cache, "https://ex.org/s", br#"{"$ref":"lib"}"#);
-    assert!(rt; matches!(put, Reply::Stored(_, false)));
-    let batch = br#"{"put":[{"schema":{"$ref":"s"},"uri":"https://ex.org/t"}]}"#;
-    let put_all = registry.put_all(alloc, &mut cache, batch);
-    assert!(rt; matches!(put_all, Reply::StoredAll(_)));
-    registry.kept();
-    assert_eq!(rt;
-        said(alloc, &registry, &mut cache, "https://ex.org/t")?.as_str(),
-        r#"{"annotations":[],"valid":true}"#
-    );
-    let deleted = registry.delete(alloc, "https://ex.org/s");
-    assert!(rt; matches!(deleted, Reply::Deleted(_)));
-    assert!(rt;
-        matches!(
-            said(alloc, &registry, &mut cache, "https://ex.org/t"),
-            Err(Fault::Unresolved(_))
-        )
-    );
-    Ok(())
+// What is replied to `put URI BODY`, `batch BODY` and `delete URI`, and said of the number 5 for `say URI`; for `len`, how
+// many documents the cache keeps.
+fn answered(
+    alloc: Global,
+    registry: &mut Registry,
+    cache: &mut Cache,
+    text: &str,
+) -> Result<String, Fail> {
+    let (kind, rest) = text.split_once(' ').unwrap_or((text, ""));
+    let (uri, body) = rest.split_once(' ').unwrap_or((rest, ""));
+    let reply = match kind {
+        "put" => registry.put(alloc, cache, uri, body.as_bytes()),
+        "batch" => registry.put_all(alloc, cache, rest.as_bytes()),
+        "delete" => registry.delete(alloc, uri),
+        "say" => return text_or_fault(alloc, said(alloc, registry, cache, uri)),
+        _ => return Ok(format!(in alloc; "{}", cache.len())?),
+    };
+    told(alloc, &reply)
 }
 
-#[test]
-fn documents_that_are_put_stay_in_a_cache_of_two(rt: HostRuntime) -> Result<(), Fail> {
-    let alloc = rt.alloc();
-    let mut cache = Cache::new(alloc, 2)?;
-    let library = Rc::new(alloc, ListSource::new(alloc))?;
-    let mut registry = Registry::new(library, 3, 100, alloc);
-    assert_eq!(rt; cache.len(), 0);
-    let first = registry.put(alloc, &mut cache, "https://ex.org/a", b"{}");
-    assert!(rt; matches!(first, Reply::Stored(_, false)));
-    assert_eq!(rt; cache.len(), 1);
-    let second = registry.put(alloc, &mut cache, "https://ex.org/b", b"{}");
-    assert!(rt; matches!(second, Reply::Stored(_, false)));
-    assert_eq!(rt; cache.len(), 2);
-    let third = registry.put(alloc, &mut cache, "https://ex.org/c", b"{}");
-    assert!(rt; matches!(third, Reply::Stored(_, false)));
-    assert_eq!(rt; cache.len(), 2);
-    Ok(())
+fn library(alloc: Global, batch: Option<&str>) -> Result<ListSource, Fault> {
+    match batch {
+        Some(batch) => library_of(alloc, batch.as_bytes()),
+        None => Ok(ListSource::new(alloc)),
+    }
 }
 
+const LIBRARY: &str = r#"{"put":[{"schema":{"type":"integer"},"uri":"https://ex.org/lib"}]}"#;
+
+const OVER_A_LIBRARY: &[(&str, &str)] = &[
+    (
+        r#"put https://ex.org/s {"$ref":"lib"}"#,
+        "stored https://ex.org/s",
+    ),
+    (
+        r#"batch {"put":[{"schema":{"$ref":"s"},"uri":"https://ex.org/t"}]}"#,
+        "stored https://ex.org/t",
+    ),
+    ("say https://ex.org/t", VALID),
+    ("delete https://ex.org/s", "deleted https://ex.org/s"),
+    ("say https://ex.org/t", "15 Unresolved https://ex.org/s"),
+];
+
+const CACHE_OF_TWO: &[(&str, &str)] = &[
+    ("len", "0"),
+    ("put https://ex.org/a {}", "stored https://ex.org/a"),
+    ("len", "1"),
+    ("put https://ex.org/b {}", "stored https://ex.org/b"),
+    ("len", "2"),
+    ("put https://ex.org/c {}", "stored https://ex.org/c"),
+    ("len", "2"),
+];
+
+const EMPTY_LIBRARY: &[(&str, &str)] = &[("say https://ex.org/lib", "14 NotFound")];
+
+// A library, a cache's capacity, the most documents of the registry, and what it is asked and answers.
+const REGISTRIES: &[(Option<&str>, usize, u32, &[(&str, &str)])] = &[
+    (Some(LIBRARY), 1, 2, OVER_A_LIBRARY),
+    (None, 2, 3, CACHE_OF_TWO),
+    (None, 1, 2, EMPTY_LIBRARY),
+];
+
 #[test]
-fn an_empty_library_has_nothing(rt: HostRuntime) -> Result<(), Fail> {
+fn registries_alone(rt: HostRuntime) -> Result<(), Fail> {
     let alloc = rt.alloc();
-    let mut cache = Cache::new(alloc, 1)?;
-    let library = Rc::new(alloc, ListSource::new(alloc))?;
-    let registry = Registry::new(library, 2, 100, alloc);
-    let unknown = said(alloc, &registry, &mut cache, "https://ex.org/lib");
-    assert!(rt; matches!(unknown, Err(Fault::NotFound)));
+    for (batch, capacity, documents, lines) in REGISTRIES {
+        let mut cache = Cache::new(alloc, *capacity)?;
+        let library = Rc::new(alloc, library(alloc, *batch)?)?;
+        let mut registry = Registry::new(library, *documents, 100, alloc);
+        for (text, wanted) in *lines {
+            let found = answered(alloc, &mut registry, &mut cache, text)?;
+            assert_eq!(rt; found.as_str(), *wanted, "{text}");
+            registry.kept();
+        }
+    }
     Ok(())
 }

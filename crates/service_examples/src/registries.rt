@@ -1,6 +1,6 @@
 //! One tenant's registry: what is stored, replaced, deleted and refused.
 
-use crate::talks::{SMALL_TENANT, TWO_TENANTS, unlike_anyhow};
+use crate::talks::{SMALL_TENANT, TWO_TENANTS, Talk, VALID, unlike_talks};
 use std::test::Fail;
 
 const REFUSED_PUT: &[(&str, &str, &str)] = &[
@@ -31,13 +31,6 @@ const REFUSED_PUT: &[(&str, &str, &str)] = &[
     ),
 ];
 
-#[test]
-fn a_refused_put_leaves_the_old_document(rt: HostRuntime) -> Result<(), Fail> {
-    let unlike = unlike_anyhow(rt.alloc(), TWO_TENANTS, 256, REFUSED_PUT)?;
-    assert_eq!(rt; unlike.as_str(), "");
-    Ok(())
-}
-
 const TAKEN: &[(&str, &str, &str)] = &[
     ("k1", "put https://ex.org/x {}", "stored https://ex.org/x"),
     (
@@ -67,15 +60,6 @@ const TAKEN: &[(&str, &str, &str)] = &[
     ("k1", "validate https://ex.org/w null", "14 NotFound"),
     ("k1", "put https://ex.org/w {}", "stored https://ex.org/w"),
 ];
-
-#[test]
-fn a_resource_belongs_to_one_document(rt: HostRuntime) -> Result<(), Fail> {
-    for capacity in [1_usize, 2, 4096] {
-        let unlike = unlike_anyhow(rt.alloc(), TWO_TENANTS, capacity, TAKEN)?;
-        assert_eq!(rt; unlike.as_str(), "");
-    }
-    Ok(())
-}
 
 const REFERENCES: &[(&str, &str, &str)] = &[
     (
@@ -113,13 +97,6 @@ const REFERENCES: &[(&str, &str, &str)] = &[
     ),
 ];
 
-#[test]
-fn each_reference_of_a_reached_document_has_a_target(rt: HostRuntime) -> Result<(), Fail> {
-    let unlike = unlike_anyhow(rt.alloc(), TWO_TENANTS, 1, REFERENCES)?;
-    assert_eq!(rt; unlike.as_str(), "");
-    Ok(())
-}
-
 const QUOTAS: &[(&str, &str, &str)] = &[
     ("k1", "put https://ex.org/a {}", "stored https://ex.org/a"),
     ("k1", "put https://ex.org/b {}", "28 QuotaDocuments"),
@@ -142,13 +119,6 @@ const QUOTAS: &[(&str, &str, &str)] = &[
     ("k1", "delete https://ex.org/a", "14 NotFound"),
     ("k1", "put https://ex.org/b {}", "stored https://ex.org/b"),
 ];
-
-#[test]
-fn quotas_are_judged_on_what_is_left(rt: HostRuntime) -> Result<(), Fail> {
-    let unlike = unlike_anyhow(rt.alloc(), SMALL_TENANT, 256, QUOTAS)?;
-    assert_eq!(rt; unlike.as_str(), "");
-    Ok(())
-}
 
 const URIS: &[(&str, &str, &str)] = &[
     (
@@ -195,13 +165,6 @@ const URIS: &[(&str, &str, &str)] = &[
     ),
     ("k1", "validate https://ex.org/a null", "14 NotFound"),
 ];
-
-#[test]
-fn documents_are_named_by_their_canonical_uris(rt: HostRuntime) -> Result<(), Fail> {
-    let unlike = unlike_anyhow(rt.alloc(), TWO_TENANTS, 256, URIS)?;
-    assert_eq!(rt; unlike.as_str(), "");
-    Ok(())
-}
 
 const REFUSED_DOCUMENTS: &[(&str, &str, &str)] = &[
     ("k1", "put https://ex.org/s [1", "1 BadJson"),
@@ -252,13 +215,6 @@ const REFUSED_DOCUMENTS: &[(&str, &str, &str)] = &[
     ),
 ];
 
-#[test]
-fn documents_with_a_fault_are_not_stored(rt: HostRuntime) -> Result<(), Fail> {
-    let unlike = unlike_anyhow(rt.alloc(), TWO_TENANTS, 256, REFUSED_DOCUMENTS)?;
-    assert_eq!(rt; unlike.as_str(), "");
-    Ok(())
-}
-
 const REFUSED_VALIDATIONS: &[(&str, &str, &str)] = &[
     ("k1", "validate s [1", "25 BadUri"),
     ("k1", "validate https://ex.org/s [1", "1 BadJson"),
@@ -282,9 +238,84 @@ const REFUSED_VALIDATIONS: &[(&str, &str, &str)] = &[
     ),
 ];
 
+const LONG_BODIES: &[(&str, &str, &str)] = &[
+    (
+        "k1",
+        "put https://ex.org/s {}«1048574* »",
+        "stored https://ex.org/s",
+    ),
+    ("k1", "validate https://ex.org/s {}«1048574* »", VALID),
+    ("k1", "put https://ex.org/s {}«1048575* »", "26 TooLarge"),
+    (
+        "k1",
+        "validate https://ex.org/s {}«1048575* »",
+        "26 TooLarge",
+    ),
+    ("k1", "batch {}«1048575* »", "26 TooLarge"),
+];
+
+const TALKS: &[Talk] = &[
+    (
+        "a refused put leaves the old document",
+        TWO_TENANTS,
+        None,
+        &[256],
+        REFUSED_PUT,
+    ),
+    (
+        "a resource belongs to one document",
+        TWO_TENANTS,
+        None,
+        &[1, 2, 4096],
+        TAKEN,
+    ),
+    (
+        "each reference of a reached document has a target",
+        TWO_TENANTS,
+        None,
+        &[1],
+        REFERENCES,
+    ),
+    (
+        "quotas are judged on what is left",
+        SMALL_TENANT,
+        None,
+        &[256],
+        QUOTAS,
+    ),
+    (
+        "documents are named by their canonical uris",
+        TWO_TENANTS,
+        None,
+        &[256],
+        URIS,
+    ),
+    (
+        "documents with a fault are not stored",
+        TWO_TENANTS,
+        None,
+        &[256],
+        REFUSED_DOCUMENTS,
+    ),
+    (
+        "validations are refused by the first fault",
+        TWO_TENANTS,
+        None,
+        &[256],
+        REFUSED_VALIDATIONS,
+    ),
+    (
+        "bodies have 1048576 bytes at most",
+        TWO_TENANTS,
+        None,
+        &[1],
+        LONG_BODIES,
+    ),
+];
+
 #[test]
-fn validations_are_refused_by_the_first_fault(rt: HostRuntime) -> Result<(), Fail> {
-    let unlike = unlike_anyhow(rt.alloc(), TWO_TENANTS, 256, REFUSED_VALIDATIONS)?;
+fn one_tenants_registry(rt: HostRuntime) -> Result<(), Fail> {
+    let unlike = unlike_talks(rt.alloc(), TALKS)?;
     assert_eq!(rt; unlike.as_str(), "");
     Ok(())
 }

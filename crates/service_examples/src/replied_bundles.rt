@@ -1,6 +1,6 @@
 //! Bundles of a tenant's documents, and what they say in a registry that has nothing else.
 
-use crate::talks::{TWO_TENANTS, answered, new_hub, unlike_anyhow};
+use crate::talks::{TWO_TENANTS, Talk, answered, new_hub, unlike_talks};
 use std::alloc::Global;
 use std::test::Fail;
 use tenant_hub::Hub;
@@ -51,9 +51,50 @@ const BUNDLES: &[(&str, &str, &str)] = &[
     ("k2", "bundle https://ex.org/s", "14 NotFound"),
 ];
 
+const NESTED: &[(&str, &str, &str)] = &[
+    (
+        "k1",
+        r#"put https://ex.org/root {"$ref":"b"}"#,
+        "stored https://ex.org/root",
+    ),
+    (
+        "k1",
+        r#"put https://ex.org/b {"const":«117*[»«117*]»}"#,
+        "stored https://ex.org/b",
+    ),
+    (
+        "k1",
+        "bundle https://ex.org/root",
+        r#"{"$defs":{"https://ex.org/b":{"$id":"https://ex.org/b","const":«117*[»«117*]»}},"$id":"https://ex.org/root","$ref":"b"}"#,
+    ),
+    (
+        "k1",
+        r#"put https://ex.org/b {"const":«118*[»«118*]»}"#,
+        "replaced https://ex.org/b",
+    ),
+    ("k1", "bundle https://ex.org/root", "20 BundleTooLarge"),
+];
+
+const TALKS: &[Talk] = &[
+    (
+        "bundles are replied or refused",
+        TWO_TENANTS,
+        None,
+        &[1],
+        BUNDLES,
+    ),
+    (
+        "replied bundles nest 120 deep at most",
+        TWO_TENANTS,
+        None,
+        &[1],
+        NESTED,
+    ),
+];
+
 #[test]
 fn bundles_are_replied_or_refused(rt: HostRuntime) -> Result<(), Fail> {
-    let unlike = unlike_anyhow(rt.alloc(), TWO_TENANTS, 1, BUNDLES)?;
+    let unlike = unlike_talks(rt.alloc(), TALKS)?;
     assert_eq!(rt; unlike.as_str(), "");
     Ok(())
 }
@@ -142,39 +183,12 @@ fn unlike_alone(
 fn bundles_stand_alone(rt: HostRuntime) -> Result<(), Fail> {
     let alloc = rt.alloc();
     for (puts, uri, instances) in STANDING_ALONE {
-        let mut hub = new_hub(alloc, TWO_TENANTS, 2)?;
+        let mut hub = new_hub(alloc, TWO_TENANTS, None, 2)?;
         for put in *puts {
             assert!(rt; answered(alloc, &mut hub, "k1", put)?.starts_with("stored "));
         }
         let unlike = unlike_alone(alloc, &mut hub, uri, instances)?;
         assert_eq!(rt; unlike.as_str(), "");
-    }
-    Ok(())
-}
-
-// A constant of so many nested lists.
-fn nested(alloc: Global, lists: usize) -> Result<String, Fail> {
-    let mut text = String::from_str(alloc, r#"put https://ex.org/b {"const":"#)?;
-    for _ in 0..lists {
-        text.push('[')?;
-    }
-    for _ in 0..lists {
-        text.push(']')?;
-    }
-    text.push('}')?;
-    Ok(text)
-}
-
-#[test]
-fn replied_bundles_nest_120_deep_at_most(rt: HostRuntime) -> Result<(), Fail> {
-    let alloc = rt.alloc();
-    let mut hub = new_hub(alloc, TWO_TENANTS, 1)?;
-    let root = r#"put https://ex.org/root {"$ref":"b"}"#;
-    assert!(rt; answered(alloc, &mut hub, "k1", root)?.starts_with("stored "));
-    for (lists, taken) in [(117_usize, true), (118, false)] {
-        answered(alloc, &mut hub, "k1", nested(alloc, lists)?.as_str())?;
-        let bundle = answered(alloc, &mut hub, "k1", "bundle https://ex.org/root")?;
-        assert_eq!(rt; bundle.as_str() == "20 BundleTooLarge", !taken);
     }
     Ok(())
 }

@@ -28,6 +28,22 @@ pub const EXAMPLE: &str =
 pub const EXAMPLE_REPLIES: &str =
     "HTTP/1.1 201 Created\r\ncontent-type: application/json\r\ncontent-length: 46\r\n\r\n{\"replaced\":false,\"stored\":\"https://ex.org/s\"}HTTP/1.1 200 OK\r\ncontent-type: application/json\r\ncontent-length: 31\r\n\r\n{\"annotations\":[],\"valid\":true}";
 
+/// What is sent for the first.
+pub const STORED: &str =
+    "HTTP/1.1 201 Created\r\ncontent-type: application/json\r\ncontent-length: 46\r\n\r\n{\"replaced\":false,\"stored\":\"https://ex.org/s\"}";
+
+/// What is sent for the second.
+pub const OUTPUT: &str =
+    "HTTP/1.1 200 OK\r\ncontent-type: application/json\r\ncontent-length: 31\r\n\r\n{\"annotations\":[],\"valid\":true}";
+
+/// What is sent where no document has the URI.
+pub const NOT_FOUND: &str =
+    "HTTP/1.1 404 Not Found\r\ncontent-type: application/json\r\ncontent-length: 30\r\n\r\n{\"fault\":14,\"name\":\"NotFound\"}";
+
+/// What is sent before a connection is closed for bytes that are no request.
+pub const CLOSING: &str =
+    "HTTP/1.1 400 Bad Request\r\ncontent-type: application/json\r\ncontent-length: 32\r\nconnection: close\r\n\r\n{\"fault\":37,\"name\":\"BadRequest\"}";
+
 /// No connection yet, to a hub of the two tenants.
 pub fn hub_sessions(alloc: Global) -> Result<Sessions<HubHandler>, Fault> {
     let hub = hub_of(alloc, TENANTS.as_bytes(), 2)?;

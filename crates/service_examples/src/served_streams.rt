@@ -1,6 +1,7 @@
 //! Streams that a reader gives and a writer takes, whole or failing on the way.
 
 use crate::served_hubs::{EXAMPLE, EXAMPLE_REPLIES, POST, PUT, PUT_FRONT, hub_sessions};
+use crate::texts::filled;
 use http_front::Fault;
 use serving::{MemoryReader, MemoryWriter, Pace, Pause, Recorded, serve};
 use std::alloc::{AllocError, Global};
@@ -93,13 +94,11 @@ fn a_writer_that_fails_or_stops_at_each_write(rt: HostRuntime) -> Result<(), Fai
 #[test]
 fn a_stream_without_an_end_is_given_up(rt: HostRuntime) -> Result<(), Fail> {
     let alloc = rt.alloc();
-    let mut stream = String::from_str(alloc, EXAMPLE)?;
-    stream.push_str(
-        "PUT /schemas?uri=a HTTP/1.1\r\nx-tenant-key: k1\r\ncontent-length: 70000\r\n\r\n",
+    let more = filled(
+        alloc,
+        "PUT /schemas?uri=a HTTP/1.1\r\nx-tenant-key: k1\r\ncontent-length: 70000\r\n\r\n«65536* »",
     )?;
-    for _ in 0..65536 {
-        stream.push(' ')?;
-    }
+    let stream = format!(in alloc; "{EXAMPLE}{more}")?;
     let mut sessions = hub_sessions(alloc)?;
     let mut reader = reader(alloc, stream.as_str(), pace(1, usize::MAX, Pause::Stops))?;
     let mut writer = MemoryWriter::new(alloc, Pace::WHOLE);

@@ -1,9 +1,7 @@
 //! Several tenants: none sees what another has or does.
 
-use crate::talks::{TWO_TENANTS, new_hub, unlike_anyhow};
-use std::alloc::Global;
+use crate::talks::{TWO_TENANTS, Talk, VALID, unlike_talks};
 use std::test::Fail;
-use tenant_hub::{Hub, Tenant};
 
 const ONE_URI: &[(&str, &str, &str)] = &[
     (
@@ -32,17 +30,6 @@ const ONE_URI: &[(&str, &str, &str)] = &[
 
 const FAILS: &str =
     r#"{"errors":[{"absoluteKeywordLocation":"https://ex.org/s#/type","error":"type is not met","instanceLocation":"","keywordLocation":"/type"}],"valid":false}"#;
-
-const VALID: &str = r#"{"annotations":[],"valid":true}"#;
-
-#[test]
-fn one_uri_means_each_tenants_own_document(rt: HostRuntime) -> Result<(), Fail> {
-    for capacity in [1_usize, 2, 4096] {
-        let unlike = unlike_anyhow(rt.alloc(), TWO_TENANTS, capacity, ONE_URI)?;
-        assert_eq!(rt; unlike.as_str(), "");
-    }
-    Ok(())
-}
 
 const ONE_DOCUMENT_EACH: &str =
     r#"{"tenants":[{"bytes":20,"documents":1,"key":"k1"},{"bytes":20,"documents":1,"key":"k2"}]}"#;
@@ -73,62 +60,27 @@ const APART: &[(&str, &str, &str)] = &[
     ("k1", "bundle https://ex.org/t", "14 NotFound"),
 ];
 
-#[test]
-fn neither_references_nor_quotas_reach_over(rt: HostRuntime) -> Result<(), Fail> {
-    let unlike = unlike_anyhow(rt.alloc(), ONE_DOCUMENT_EACH, 256, APART)?;
-    assert_eq!(rt; unlike.as_str(), "");
-    Ok(())
-}
-
-#[test]
-fn no_calls_have_no_replies(rt: HostRuntime) -> Result<(), Fail> {
-    let mut hub = new_hub(rt.alloc(), TWO_TENANTS, 256)?;
-    assert!(rt; hub.run(rt.alloc(), &[])?.is_empty());
-    Ok(())
-}
-
-// So many tenants, the last one with this key.
-fn with_last(alloc: Global, count: usize, last: &str) -> Result<Vec<Tenant>, Fail> {
-    let mut tenants = Vec::new(alloc);
-    for number in 0..count {
-        let key = format!(in alloc; "k{number}")?;
-        tenants.push(Tenant {
-            key,
-            documents: 1,
-            bytes: 1,
-        })?;
-    }
-    tenants.push(Tenant {
-        key: String::from_str(alloc, last)?,
-        documents: 1,
-        bytes: 1,
-    })?;
-    Ok(tenants)
-}
-
-// Tenants beside the last one, its key, the capacity, and the fault.
-const REFUSED_HUBS: &[(usize, &str, usize, &str)] = &[
-    (64, "k64", 0, "21 BadCapacity"),
-    (64, "k64", 4097, "21 BadCapacity"),
-    (64, "", 256, "23 TooManyTenants"),
-    (2, "a b", 256, "35 BadTenants"),
-    (1, "k0", 1, "22 DuplicateTenant"),
-    (63, "~", 4096, ""),
+const TALKS: &[Talk] = &[
+    (
+        "one uri means each tenant's own document",
+        TWO_TENANTS,
+        None,
+        &[1, 2, 4096],
+        ONE_URI,
+    ),
+    (
+        "neither references nor quotas reach over",
+        ONE_DOCUMENT_EACH,
+        None,
+        &[256],
+        APART,
+    ),
+    ("no calls have no replies", TWO_TENANTS, None, &[256], &[]),
 ];
 
-fn refusal(alloc: Global, tenants: Vec<Tenant>, capacity: usize) -> Result<String, Fail> {
-    match Hub::new(alloc, tenants, capacity) {
-        Ok(_) => Ok(String::new(alloc)),
-        Err(fault) => Ok(format!(in alloc; "{fault}")?),
-    }
-}
-
 #[test]
-fn hubs_are_refused_in_order(rt: HostRuntime) -> Result<(), Fail> {
-    let alloc = rt.alloc();
-    for (count, last, capacity, fault) in REFUSED_HUBS {
-        let found = refusal(alloc, with_last(alloc, *count, last)?, *capacity)?;
-        assert_eq!(rt; found.as_str(), *fault);
-    }
+fn tenants_are_apart(rt: HostRuntime) -> Result<(), Fail> {
+    let unlike = unlike_talks(rt.alloc(), TALKS)?;
+    assert_eq!(rt; unlike.as_str(), "");
     Ok(())
 }

@@ -1,19 +1,15 @@
 //! Connections on real sockets of the loopback address. Each client connects and sends before the server accepts.
 
 use crate::handlers::{Counting, sessions};
+use crate::served_hubs::{OUTPUT, POST};
+use crate::texts::filled;
 use connections::Sessions;
 use sockets::{Limits, bind, serve_connections};
 use std::io::{Read, Write};
 use std::net::{Net, Shutdown, SocketAddr, TcpListener, TcpStream};
 use std::process::Abort;
+use std::test::Fail;
 use std::time::{Clock, Duration};
-
-const VALIDATE: &str =
-    "POST /validate?uri=https://ex.org/s HTTP/1.1\r\nx-tenant-key: k1\r\ncontent-length: 4\r\n\r\nnull";
-
-const VALIDATED: &str =
-    "HTTP/1.1 200 OK\r\ncontent-type: application/json\r\ncontent-length: 31\r\n\r\n\
-    {\"annotations\":[],\"valid\":true}";
 
 /// Limits that a test can wait for.
 fn limits() -> Limits {
@@ -33,14 +29,18 @@ fn listen<R: Net<Listener = TcpListener, Stream = TcpStream> + Abort>(
     (listener, address)
 }
 
-/// A client that has sent the bytes.
+/// A client that has sent the bytes, and has ended where it says so.
 fn client<R: Net<Listener = TcpListener, Stream = TcpStream> + Abort>(
     rt: &R,
     address: SocketAddr,
     bytes: &str,
+    ended: bool,
 ) -> TcpStream {
     let mut stream = TcpStream::connect(rt, address).expect(rt, "a connection");
     stream.write_all(bytes.as_bytes()).expect(rt, "bytes sent");
+    if ended {
+        stream.shutdown(Shutdown::Write).expect(rt, "an end");
+    }
     stream
 }
 
@@ -68,40 +68,44 @@ fn serve<R: AllocGlobal + Clock + Abort>(rt: &R, listener: &TcpListener, count: 
     String::from_utf8(errors).ok().expect(rt, "text")
 }
 
-#[test]
-fn serves_clients_that_have_ended(rt: HostRuntime) {
-    let (listener, address) = listen(&rt);
-    let mut first = client(&rt, address, VALIDATE);
-    first.shutdown(Shutdown::Write).expect(&rt, "an end");
-    let mut second = client(&rt, address, VALIDATE);
-    second.shutdown(Shutdown::Write).expect(&rt, "an end");
-    assert_eq!(rt; serve(&rt, &listener, 2).as_str(), "");
-    assert_eq!(rt; received(&rt, &mut first).as_str(), VALIDATED);
-    assert_eq!(rt; received(&rt, &mut second).as_str(), VALIDATED);
-}
+// A client's bytes, whether it has ended then, and what it is sent.
+type Client = (&'static str, bool, &'static str);
+
+const BOTH_ENDED: &[Client] = &[(POST, true, OUTPUT), (POST, true, OUTPUT)];
+
+const SILENT: &[Client] = &[(POST, false, OUTPUT), (POST, true, OUTPUT)];
+
+// The last reply is sent to a client that goes on.
+const GOING_ON: &[Client] = &[(
+    "GET /other HTTP/1.0\r\n\r\n«50000* »",
+    false,
+    "HTTP/1.1 404 Not Found\r\ncontent-type: application/json\r\ncontent-length: 30\r\nconnection: close\r\n\r\n{\"fault\":36,\"name\":\"BadRoute\"}",
+)];
+
+// The clients of a server, and what is told of them.
+const SERVED: &[(&[Client], &str)] = &[
+    (BOTH_ENDED, ""),
+    (SILENT, "connection 1: ReadFailed\n"),
+    (GOING_ON, ""),
+];
 
 #[test]
-fn serves_the_next_after_a_silent_client(rt: HostRuntime) {
-    let (listener, address) = listen(&rt);
-    let mut silent = client(&rt, address, VALIDATE);
-    let mut next = client(&rt, address, VALIDATE);
-    next.shutdown(Shutdown::Write).expect(&rt, "an end");
-    let told = serve(&rt, &listener, 2);
-    assert_eq!(rt; told.as_str(), "connection 1: ReadFailed\n");
-    assert_eq!(rt; received(&rt, &mut silent).as_str(), VALIDATED);
-    assert_eq!(rt; received(&rt, &mut next).as_str(), VALIDATED);
-}
-
-#[test]
-fn sends_the_last_reply_to_a_client_that_goes_on(rt: HostRuntime) {
-    let (listener, address) = listen(&rt);
-    let mut client = client(&rt, address, "GET /other HTTP/1.0\r\n\r\n");
-    let more = [b' '; 50_000];
-    client.write_all(&more).expect(&rt, "more bytes");
-    assert_eq!(rt; serve(&rt, &listener, 1).as_str(), "");
-    let reply = "HTTP/1.1 404 Not Found\r\ncontent-type: application/json\r\ncontent-length: 30\r\n\
-        connection: close\r\n\r\n{\"fault\":36,\"name\":\"BadRoute\"}";
-    assert_eq!(rt; received(&rt, &mut client).as_str(), reply);
+fn clients_are_served(rt: HostRuntime) -> Result<(), Fail> {
+    for (clients, wanted) in SERVED {
+        let (listener, address) = listen(&rt);
+        let mut streams = Vec::new(rt.alloc());
+        for (bytes, ended, _) in *clients {
+            let bytes = filled(rt.alloc(), bytes)?;
+            streams.push(client(&rt, address, bytes.as_str(), *ended))?;
+        }
+        let told = serve(&rt, &listener, clients.len() as u32);
+        assert_eq!(rt; told.as_str(), *wanted);
+        for (_, _, reply) in clients.iter().rev() {
+            let mut stream = streams.pop().expect(&rt, "a client");
+            assert_eq!(rt; received(&rt, &mut stream).as_str(), *reply);
+        }
+    }
+    Ok(())
 }
 
 #[test]

@@ -1,7 +1,6 @@
 //! Batches that are stored, or not at all.
 
-use crate::talks::{SMALL_TENANT, TWO_TENANTS, answered, new_hub, unlike_anyhow};
-use std::alloc::Global;
+use crate::talks::{SMALL_TENANT, TWO_TENANTS, Talk, unlike_talks};
 use std::test::Fail;
 
 const GIVEN_UP: &[(&str, &str, &str)] = &[
@@ -32,13 +31,6 @@ const GIVEN_UP: &[(&str, &str, &str)] = &[
         r#"{"annotations":[],"valid":true}"#,
     ),
 ];
-
-#[test]
-fn one_entry_takes_what_another_gives_up(rt: HostRuntime) -> Result<(), Fail> {
-    let unlike = unlike_anyhow(rt.alloc(), TWO_TENANTS, 1, GIVEN_UP)?;
-    assert_eq!(rt; unlike.as_str(), "");
-    Ok(())
-}
 
 const REFUSED_ENTRIES: &[(&str, &str, &str)] = &[
     (
@@ -80,13 +72,6 @@ const REFUSED_ENTRIES: &[(&str, &str, &str)] = &[
     ("k1", "bundle https://ex.org/b", "14 NotFound"),
 ];
 
-#[test]
-fn a_refused_batch_stores_nothing(rt: HostRuntime) -> Result<(), Fail> {
-    let unlike = unlike_anyhow(rt.alloc(), TWO_TENANTS, 256, REFUSED_ENTRIES)?;
-    assert_eq!(rt; unlike.as_str(), "");
-    Ok(())
-}
-
 const QUOTAS: &[(&str, &str, &str)] = &[
     ("k1", "put https://ex.org/b {}", "stored https://ex.org/b"),
     (
@@ -106,35 +91,53 @@ const QUOTAS: &[(&str, &str, &str)] = &[
     ),
 ];
 
+const LENGTHS: &[(&str, &str, &str)] = &[
+    (
+        "k1",
+        r#"batch {"put":[{"schema":{},"uri":"https://ex.org/0"}«64*,{"schema":{},"uri":"https://ex.org/№"}»]}"#,
+        "42 BadBatch",
+    ),
+    (
+        "k1",
+        r#"batch {"put":[{"schema":{},"uri":"https://ex.org/0"}«63*,{"schema":{},"uri":"https://ex.org/№"}»]}"#,
+        "stored https://ex.org/0«63*, stored https://ex.org/№»",
+    ),
+];
+
+const TALKS: &[Talk] = &[
+    (
+        "one entry takes what another gives up",
+        TWO_TENANTS,
+        None,
+        &[1],
+        GIVEN_UP,
+    ),
+    (
+        "a refused batch stores nothing",
+        TWO_TENANTS,
+        None,
+        &[256],
+        REFUSED_ENTRIES,
+    ),
+    (
+        "quotas are judged on all entries",
+        SMALL_TENANT,
+        None,
+        &[256],
+        QUOTAS,
+    ),
+    (
+        "a batch stores 64 documents at most",
+        TWO_TENANTS,
+        None,
+        &[256],
+        LENGTHS,
+    ),
+];
+
 #[test]
-fn quotas_are_judged_on_all_entries(rt: HostRuntime) -> Result<(), Fail> {
-    let unlike = unlike_anyhow(rt.alloc(), SMALL_TENANT, 256, QUOTAS)?;
+fn batches_are_stored_whole(rt: HostRuntime) -> Result<(), Fail> {
+    let unlike = unlike_talks(rt.alloc(), TALKS)?;
     assert_eq!(rt; unlike.as_str(), "");
-    Ok(())
-}
-
-// A batch of so many documents.
-fn of_length(alloc: Global, count: usize) -> Result<String, Fail> {
-    let mut text = String::from_str(alloc, r#"batch {"put":["#)?;
-    for number in 0..count {
-        if number > 0 {
-            text.push(',')?;
-        }
-        let entry = format!(in alloc; "{{\"schema\":{{}},\"uri\":\"https://ex.org/{number}\"}}")?;
-        text.push_str(entry.as_str())?;
-    }
-    text.push_str("]}")?;
-    Ok(text)
-}
-
-#[test]
-fn a_batch_stores_64_documents_at_most(rt: HostRuntime) -> Result<(), Fail> {
-    let alloc = rt.alloc();
-    let mut hub = new_hub(alloc, TWO_TENANTS, 256)?;
-    let refused = answered(alloc, &mut hub, "k1", of_length(alloc, 65)?.as_str())?;
-    assert_eq!(rt; refused.as_str(), "42 BadBatch");
-    let stored = answered(alloc, &mut hub, "k1", of_length(alloc, 64)?.as_str())?;
-    assert!(rt; stored.starts_with("stored https://ex.org/0, stored https://ex.org/1, "));
-    assert!(rt; stored.ends_with(", stored https://ex.org/63"));
     Ok(())
 }

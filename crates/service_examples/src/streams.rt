@@ -1,32 +1,93 @@
-//! Streams of requests, however they are cut.
+//! Streams of requests, however they are cut, and requests behind which a connection is closed.
 
-use crate::handlers::{sent, sessions};
-use requests::Fault;
+use crate::handlers::sessions;
+use crate::sent_streams::{Step, sent_in_two, sent_to_the_end, unlike_steps};
+use crate::served_hubs::{CLOSING, EXAMPLE, EXAMPLE_REPLIES, OUTPUT, POST, PUT, STORED};
 use std::test::Fail;
 
-const PUT: &str =
-    "PUT /schemas?uri=https://ex.org/s HTTP/1.1\r\nx-tenant-key: k1\r\ncontent-length: 2\r\n\r\n{}";
+// What is sent on a new connection for these bytes, and whether it is closed then.
+const STREAMS: &[(&str, &str, bool)] = &[
+    (EXAMPLE, EXAMPLE_REPLIES, false),
+    ("TRACE / HTTP/1.1\r\n\r\n", CLOSING, true),
+    (
+        "POST /validate?uri=a HTTP/1.1\r\ncontent-length: 1\r\ncontent-length: 1\r\n\r\nx",
+        CLOSING,
+        true,
+    ),
+    ("POST /validate?uri=a HTTP/1.1\r\n\r\n", CLOSING, true),
+    (
+        "POST /validate?uri=a HTTP/1.1\r\ncontent-length: 1048577\r\n\r\n",
+        CLOSING,
+        true,
+    ),
+    (
+        "GET /bundle?uri=a HTTP/1.1\r\ntransfer-encoding: chunked\r\n\r\n",
+        CLOSING,
+        true,
+    ),
+    ("GET / HTTP/2.0\r\n\r\n", CLOSING, true),
+    // An old version makes a request the last one.
+    (
+        "GET /bundle HTTP/1.0\r\n\r\nPOST /validate?uri=https://ex.org/s HTTP/1.1\r\nx-tenant-key: k1\r\ncontent-length: 4\r\n\r\nnull",
+        "HTTP/1.1 404 Not Found\r\ncontent-type: application/json\r\ncontent-length: 30\r\nconnection: close\r\n\r\n{\"fault\":36,\"name\":\"BadRoute\"}",
+        true,
+    ),
+    // No key is no tenant's.
+    (
+        "DELETE /schemas?uri=a HTTP/1.1\r\n\r\n",
+        "HTTP/1.1 403 Forbidden\r\ncontent-type: application/json\r\ncontent-length: 35\r\n\r\n{\"fault\":24,\"name\":\"UnknownTenant\"}",
+        false,
+    ),
+];
 
-const POST: &str =
-    "POST /validate?uri=https://ex.org/s HTTP/1.1\r\nx-tenant-key: k1\r\ncontent-length: 4\r\n\r\nnull";
+// A closed connection answers nothing.
+const CLOSED: &[Step] = &[
+    ("open", 1, "", "", false),
+    ("feed", 1, "GET / HTTP/2.0\r\n\r\n", CLOSING, true),
+    ("feed", 1, POST, "", true),
+    ("end", 1, "", "", true),
+    ("open", 1, "", "", false),
+];
 
-const STORED: &str =
-    "HTTP/1.1 201 Created\r\ncontent-type: application/json\r\ncontent-length: 46\r\n\r\n{\"replaced\":false,\"stored\":\"https://ex.org/s\"}";
+const IDS: &[Step] = &[
+    ("end", 1, "", "32 NoSession", true),
+    ("open", 1, "", "", false),
+    ("open", 1, "", "31 IdInUse", false),
+    ("feed", 2, "x", "32 NoSession", true),
+    ("end", 2, "", "32 NoSession", true),
+    ("end", 1, "", "", true),
+    ("open", 1, "", "", false),
+];
 
-const OUTPUT: &str =
-    "HTTP/1.1 200 OK\r\ncontent-type: application/json\r\ncontent-length: 31\r\n\r\n{\"annotations\":[],\"valid\":true}";
-
-const CLOSING: &str =
-    "HTTP/1.1 400 Bad Request\r\ncontent-type: application/json\r\ncontent-length: 32\r\nconnection: close\r\n\r\n{\"fault\":37,\"name\":\"BadRequest\"}";
+const BODY_IN_BYTES: &[Step] = &[
+    ("open", 1, "", "", false),
+    (
+        "feed",
+        1,
+        "PUT /schemas?uri=a HTTP/1.1\r\nx-tenant-key: k1\r\ncontent-length: 1048576\r\n\r\n",
+        "",
+        false,
+    ),
+    ("bytes", 1, "«1048575* »", "", false),
+    ("feed", 1, " ", STORED, false),
+];
 
 #[test]
-fn two_requests_in_one_piece(rt: HostRuntime) -> Result<(), Fail> {
+fn streams_and_steps_have_their_replies(rt: HostRuntime) -> Result<(), Fail> {
     let alloc = rt.alloc();
-    let stream = format!(in alloc; "{PUT}{POST}")?;
-    let replies = format!(in alloc; "{STORED}{OUTPUT}")?;
-    let (out, closed) = sent(alloc, stream.as_bytes())?;
-    assert_eq!(rt; out.as_slice(), replies.as_bytes());
-    assert!(rt; !closed);
+    for (stream, wanted, closed) in STREAMS {
+        let mut sessions = sessions(alloc);
+        let steps = &[
+            ("open", 1, "", "", false),
+            ("feed", 1, *stream, *wanted, *closed),
+        ];
+        let unlike = unlike_steps(alloc, &mut sessions, steps)?;
+        assert_eq!(rt; unlike.as_str(), "", "{stream}");
+    }
+    for steps in &[CLOSED, IDS, BODY_IN_BYTES] {
+        let unlike = unlike_steps(alloc, &mut sessions(alloc), steps)?;
+        assert_eq!(rt; unlike.as_str(), "");
+    }
     Ok(())
 }
 
@@ -34,18 +95,12 @@ fn two_requests_in_one_piece(rt: HostRuntime) -> Result<(), Fail> {
 fn cut_after_each_byte_with_another_connection_between(rt: HostRuntime) -> Result<(), Fail> {
     let alloc = rt.alloc();
     let stream = format!(in alloc; "\r\n{PUT}\r\n\n{POST}\r\n")?;
-    let replies = format!(in alloc; "{STORED}{OUTPUT}")?;
-    for cut in 0..=stream.len() {
-        let mut sessions = sessions(alloc);
-        sessions.open(1)?;
-        sessions.open(2)?;
-        let mut out = sessions.feed(alloc, 1, &stream.as_bytes()[..cut])?;
-        let other = sessions.feed(alloc, 2, POST.as_bytes())?;
-        assert_eq!(rt; other.as_slice(), OUTPUT.as_bytes());
-        let rest = sessions.feed(alloc, 1, &stream.as_bytes()[cut..])?;
-        out.extend_from_slice(&rest)?;
-        assert_eq!(rt; out.as_slice(), replies.as_bytes());
-        assert_eq!(rt; sessions.end(alloc, 1)?.as_slice(), b"".as_slice());
+    let bytes = stream.as_bytes();
+    for cut in 0..=bytes.len() {
+        let pieces = (&bytes[..cut], &bytes[cut..]);
+        let (out, other) = sent_in_two(alloc, &mut sessions(alloc), pieces, POST.as_bytes())?;
+        assert_eq!(rt; other.as_str(), OUTPUT, "{cut}");
+        assert_eq!(rt; out.as_str(), EXAMPLE_REPLIES, "{cut}");
     }
     Ok(())
 }
@@ -53,52 +108,15 @@ fn cut_after_each_byte_with_another_connection_between(rt: HostRuntime) -> Resul
 #[test]
 fn ended_after_each_byte(rt: HostRuntime) -> Result<(), Fail> {
     let alloc = rt.alloc();
-    let stream = format!(in alloc; "{PUT}{POST}")?;
-    for cut in 0..=stream.len() {
-        let mut sessions = sessions(alloc);
-        sessions.open(1)?;
-        let mut out = sessions.feed(alloc, 1, &stream.as_bytes()[..cut])?;
-        out.extend_from_slice(&sessions.end(alloc, 1)?)?;
+    for cut in 0..=EXAMPLE.len() {
+        let bytes = &EXAMPLE.as_bytes()[..cut];
+        let out = sent_to_the_end(alloc, &mut sessions(alloc), bytes)?;
         let first = if PUT.len() <= cut { STORED } else { "" };
-        let second = if cut == stream.len() { OUTPUT } else { "" };
-        let whole = cut == 0 || cut == PUT.len() || cut == stream.len();
+        let second = if cut == EXAMPLE.len() { OUTPUT } else { "" };
+        let whole = cut == 0 || cut == PUT.len() || cut == EXAMPLE.len();
         let last = if whole { "" } else { CLOSING };
         let told = format!(in alloc; "{first}{second}{last}")?;
-        assert_eq!(rt; out.as_slice(), told.as_bytes());
-        sessions.open(1)?;
+        assert_eq!(rt; out.as_str(), told.as_str(), "{cut}");
     }
-    Ok(())
-}
-
-#[test]
-fn a_body_in_single_bytes(rt: HostRuntime) -> Result<(), Fail> {
-    let alloc = rt.alloc();
-    let mut sessions = sessions(alloc);
-    sessions.open(1)?;
-    let head = "PUT /schemas?uri=a HTTP/1.1\r\nx-tenant-key: k1\r\ncontent-length: 1048576\r\n\r\n";
-    assert_eq!(rt; sessions.feed(alloc, 1, head.as_bytes())?.len(), 0);
-    for _ in 1..1048576 {
-        assert_eq!(rt; sessions.feed(alloc, 1, b" ")?.len(), 0);
-    }
-    assert_eq!(rt;
-        sessions.feed(alloc, 1, b" ")?.as_slice(),
-        STORED.as_bytes()
-    );
-    Ok(())
-}
-
-#[test]
-fn ids(rt: HostRuntime) -> Result<(), Fail> {
-    let alloc = rt.alloc();
-    let mut sessions = sessions(alloc);
-    assert!(rt; sessions.is_closed(1));
-    sessions.open(1)?;
-    assert!(rt; !sessions.is_closed(1));
-    assert!(rt; sessions.open(1) == Err(Fault::IdInUse));
-    assert!(rt; matches!(sessions.feed(alloc, 2, b"x"), Err(Fault::NoSession)));
-    assert!(rt; matches!(sessions.end(alloc, 2), Err(Fault::NoSession)));
-    assert_eq!(rt; sessions.end(alloc, 1)?.len(), 0);
-    assert!(rt; sessions.is_closed(1));
-    sessions.open(1)?;
     Ok(())
 }

@@ -1,5 +1,6 @@
 //! Talks with a hub: requests and their replies, each as a text.
 
+use crate::texts::{filled, is_like};
 use std::alloc::{AllocError, Global};
 use std::test::Fail;
 use tenant_hub::{Fault, Hub, Reply, Request, StoredEntry, read_tenants};
@@ -14,20 +15,24 @@ pub const SMALL_TENANT: &str = r#"{"tenants":[{"bytes":20,"documents":1,"key":"k
 /// What is said of an instance that passes and gives no annotation.
 pub const VALID: &str = r#"{"annotations":[],"valid":true}"#;
 
-/// A hub of the tenants in this file, without a library.
-pub fn new_hub(alloc: Global, tenants: &str, capacity: usize) -> Result<Hub, Fault> {
-    Hub::new(alloc, read_tenants(alloc, tenants.as_bytes())?, capacity)
+/// A hub of the tenants in this file, over the library that the batch gives, if there is one.
+pub fn new_hub(
+    alloc: Global,
+    tenants: &str,
+    library: Option<&str>,
+    capacity: usize,
+) -> Result<Hub, Fault> {
+    let tenants = read_tenants(alloc, filled(alloc, tenants)?.as_bytes())?;
+    match library {
+        Some(batch) => Hub::with_library(alloc, tenants, capacity, batch.as_bytes()),
+        None => Hub::new(alloc, tenants, capacity),
+    }
 }
 
-/// A hub of the tenants in this file, over the library that the batch gives.
-pub fn library_hub(alloc: Global, tenants: &str, batch: &str) -> Result<Hub, Fault> {
-    let tenants = read_tenants(alloc, tenants.as_bytes())?;
-    Hub::with_library(alloc, tenants, 256, batch.as_bytes())
-}
-
-// What a text asks for: `put URI BODY`, `delete URI`, `validate URI BODY`, `bundle URI` or `batch BODY`.
+// What a text asks for, once it is filled: `put URI BODY`, `delete URI`, `validate URI BODY`, `bundle URI` or `batch BODY`.
 fn asked(alloc: Global, text: &str) -> Result<Request, AllocError> {
-    let (kind, rest) = text.split_once(' ').unwrap_or((text, ""));
+    let text = filled(alloc, text)?;
+    let (kind, rest) = text.split_once(' ').unwrap_or((text.as_str(), ""));
     if kind == "batch" {
         return Ok(Request::Batch(Vec::from_slice(alloc, rest.as_bytes())?));
     }
@@ -78,20 +83,20 @@ pub fn answered(alloc: Global, hub: &mut Hub, key: &str, text: &str) -> Result<S
     told(alloc, &reply)
 }
 
-/// The first line of a talk (a tenant's key, what it asks, what it is told) that the hub answers otherwise, with what it
-/// answers; an empty text where there is none.
-pub fn unlike(alloc: Global, hub: &mut Hub, lines: &[(&str, &str, &str)]) -> Result<String, Fail> {
+// The first line of a talk (a tenant's key, what it asks, what it is told) that the hub answers otherwise, with what it
+// answers; an empty text where there is none.
+fn unlike(alloc: Global, hub: &mut Hub, lines: &[(&str, &str, &str)]) -> Result<String, Fail> {
     for (key, text, reply) in lines {
         let found = answered(alloc, hub, key, text)?;
-        if found.as_str() != *reply {
+        if !is_like(alloc, found.as_str(), reply)? {
             return Ok(format!(in alloc; "{key} {text}: {found}")?);
         }
     }
     Ok(String::new(alloc))
 }
 
-/// The same by one call for all lines.
-pub fn unlike_by_run(
+// The same by one call for all lines.
+fn unlike_by_run(
     alloc: Global,
     hub: &mut Hub,
     lines: &[(&str, &str, &str)],
@@ -106,22 +111,46 @@ pub fn unlike_by_run(
     }
     for ((key, text, reply), answer) in lines.iter().zip(&replies) {
         let found = told(alloc, answer)?;
-        if found.as_str() != *reply {
+        if !is_like(alloc, found.as_str(), reply)? {
             return Ok(format!(in alloc; "{key} {text}: {found}")?);
         }
     }
     Ok(String::new(alloc))
 }
 
-/// The same one by one with a new hub, and by one call with another.
-pub fn unlike_anyhow(
+// The same one by one with a new hub, and by one call with another.
+fn unlike_anyhow(
     alloc: Global,
     tenants: &str,
+    library: Option<&str>,
     capacity: usize,
     lines: &[(&str, &str, &str)],
 ) -> Result<String, Fail> {
-    let mut found = unlike(alloc, &mut new_hub(alloc, tenants, capacity)?, lines)?;
-    let by_run = unlike_by_run(alloc, &mut new_hub(alloc, tenants, capacity)?, lines)?;
-    found.push_str(by_run.as_str())?;
+    let mut hub = new_hub(alloc, tenants, library, capacity)?;
+    let mut found = unlike(alloc, &mut hub, lines)?;
+    let mut hub = new_hub(alloc, tenants, library, capacity)?;
+    found.push_str(unlike_by_run(alloc, &mut hub, lines)?.as_str())?;
     Ok(found)
+}
+
+/// A talk: its name, the tenants' file, the library, the capacities that it is held with, and its lines.
+pub type Talk = (
+    &'static str,
+    &'static str,
+    Option<&'static str>,
+    &'static [usize],
+    &'static [(&'static str, &'static str, &'static str)],
+);
+
+/// The first talk that goes otherwise: its name, its line, and what the hub answers; an empty text where there is none.
+pub fn unlike_talks(alloc: Global, talks: &[Talk]) -> Result<String, Fail> {
+    for (name, tenants, library, capacities, lines) in talks {
+        for capacity in *capacities {
+            let found = unlike_anyhow(alloc, tenants, *library, *capacity, lines)?;
+            if !found.is_empty() {
+                return Ok(format!(in alloc; "{name}, {capacity}: {found}")?);
+            }
+        }
+    }
+    Ok(String::new(alloc))
 }

@@ -1,77 +1,155 @@
-//! Files of tenants.
+//! Files of tenants, bodies of requests, and batches of documents.
 
+use crate::texts::{filled, is_like, text_or_fault};
+use json_doc::{read, write};
 use std::alloc::Global;
 use std::test::Fail;
-use tenants_file::{Fault, Tenant, read_tenants};
+use tenants_file::{Fault, read_batch, read_body, read_tenants};
 
-fn refusal(alloc: Global, file: &str) -> Option<Fault> {
-    read_tenants(alloc, file.as_bytes()).err()
+// Each tenant's key, documents and bytes.
+fn tenants_told(alloc: Global, file: &[u8]) -> Result<String, Fault> {
+    let mut line = String::new(alloc);
+    for tenant in &read_tenants(alloc, file)? {
+        let (key, documents, bytes) = (&tenant.key, tenant.documents, tenant.bytes);
+        line.push_str(format!(in alloc; "'{key}' {documents} {bytes};")?.as_str())?;
+    }
+    Ok(line)
 }
 
-#[test]
-fn tenants_in_the_order_of_the_file(rt: HostRuntime) -> Result<(), Fail> {
-    let file = r#"{"tenants":[{"bytes":1000000,"documents":100,"key":"k1"},
-        {"key":"","note":null,"bytes":18446744073709551615,"documents":4294967295}],"note":1}"#;
-    let tenants = read_tenants(rt.alloc(), file.as_bytes())?;
-    assert_eq!(rt; tenants.len(), 2);
-    assert_eq!(rt; tenants[0].key.as_str(), "k1");
-    assert_eq!(rt; tenants[0].documents, 100);
-    assert_eq!(rt; tenants[0].bytes, 1_000_000);
-    assert_eq!(rt; tenants[1].key.as_str(), "");
-    assert_eq!(rt; tenants[1].documents, 4_294_967_295);
-    assert_eq!(rt; tenants[1].bytes, 18_446_744_073_709_551_615);
-    Ok(())
+// Each entry's URI and document.
+fn batch_told(alloc: Global, text: &[u8]) -> Result<String, Fault> {
+    let mut line = String::new(alloc);
+    let batch = read(alloc, text)?;
+    for entry in &read_batch(alloc, &batch)? {
+        let schema = write(alloc, entry.schema)?;
+        line.push_str(format!(in alloc; "'{}' {schema};", entry.uri)?.as_str())?;
+    }
+    Ok(line)
 }
 
-#[test]
-fn a_file_without_tenants(rt: HostRuntime) -> Result<(), Fail> {
-    let tenants = read_tenants(rt.alloc(), br#"{"tenants":[]}"#)?;
-    assert!(rt; tenants.is_empty());
-    Ok(())
+#[derive(Clone, Copy)]
+enum Form {
+    Tenants,
+    Body,
+    Batch,
 }
 
-#[test]
-fn one_key_twice_is_read_as_two_tenants(rt: HostRuntime) -> Result<(), Fail> {
-    let file =
-        r#"{"tenants":[{"bytes":1,"documents":1,"key":"k1"},{"bytes":1,"documents":1,"key":"k1"}]}"#;
-    let tenants: Vec<Tenant> = read_tenants(rt.alloc(), file.as_bytes())?;
-    assert_eq!(rt; tenants.len(), 2);
-    assert!(rt; tenants[0] == tenants[1]);
-    Ok(())
-}
-
-#[test]
-fn files_of_another_shape_are_refused(rt: HostRuntime) {
-    for file in [
-        "[]",
-        "{}",
-        r#"{"tenants":{}}"#,
-        r#"{"tenants":[[]]}"#,
-        r#"{"tenants":[{"bytes":-1,"documents":100,"key":"k1"}]}"#,
-        r#"{"tenants":[{"bytes":1,"documents":-1,"key":"k1"}]}"#,
-        r#"{"tenants":[{"bytes":1,"documents":4294967296,"key":"k1"}]}"#,
-        r#"{"tenants":[{"bytes":1,"documents":100}]}"#,
-        r#"{"tenants":[{"bytes":1,"documents":100,"key":1}]}"#,
-        r#"{"tenants":[{"bytes":1,"documents":1,"key":"k1"},{"bytes":1,"key":"k2"}]}"#,
-    ] {
-        assert_eq!(rt;
-            refusal(rt.alloc(), file),
-            Some(Fault::BadTenants),
-            "{file}"
-        );
+fn read_as(alloc: Global, form: Form, text: &str) -> Result<String, Fault> {
+    let text = filled(alloc, text)?;
+    match form {
+        Form::Tenants => tenants_told(alloc, text.as_bytes()),
+        Form::Body => write(alloc, &read_body(alloc, text.as_bytes())?),
+        Form::Batch => batch_told(alloc, text.as_bytes()),
     }
 }
 
+// A form, a text, and what it is read as, or the fault.
+const TEXTS: &[(Form, &str, &str)] = &[
+    // In the order of the file.
+    (
+        Form::Tenants,
+        r#"{"tenants":[{"bytes":1000000,"documents":100,"key":"k1"},
+        {"key":"","note":null,"bytes":18446744073709551615,"documents":4294967295}],"note":1}"#,
+        "'k1' 100 1000000;'' 4294967295 18446744073709551615;",
+    ),
+    (Form::Tenants, r#"{"tenants":[]}"#, ""),
+    // One key twice is two tenants.
+    (
+        Form::Tenants,
+        r#"{"tenants":[{"bytes":1,"documents":1,"key":"k1"},{"bytes":1,"documents":1,"key":"k1"}]}"#,
+        "'k1' 1 1;'k1' 1 1;",
+    ),
+    // Another shape.
+    (Form::Tenants, "[]", "35 BadTenants"),
+    (Form::Tenants, "{}", "35 BadTenants"),
+    (Form::Tenants, r#"{"tenants":{}}"#, "35 BadTenants"),
+    (Form::Tenants, r#"{"tenants":[[]]}"#, "35 BadTenants"),
+    (
+        Form::Tenants,
+        r#"{"tenants":[{"bytes":-1,"documents":100,"key":"k1"}]}"#,
+        "35 BadTenants",
+    ),
+    (
+        Form::Tenants,
+        r#"{"tenants":[{"bytes":1,"documents":-1,"key":"k1"}]}"#,
+        "35 BadTenants",
+    ),
+    (
+        Form::Tenants,
+        r#"{"tenants":[{"bytes":1,"documents":4294967296,"key":"k1"}]}"#,
+        "35 BadTenants",
+    ),
+    (
+        Form::Tenants,
+        r#"{"tenants":[{"bytes":1,"documents":100}]}"#,
+        "35 BadTenants",
+    ),
+    (
+        Form::Tenants,
+        r#"{"tenants":[{"bytes":1,"documents":100,"key":1}]}"#,
+        "35 BadTenants",
+    ),
+    (
+        Form::Tenants,
+        r#"{"tenants":[{"bytes":1,"documents":1,"key":"k1"},{"bytes":1,"key":"k2"}]}"#,
+        "35 BadTenants",
+    ),
+    // Texts are refused before their shape.
+    (Form::Tenants, "", "1 BadJson"),
+    (Form::Tenants, r#"{"tenants":[1}"#, "1 BadJson"),
+    (Form::Tenants, r#"{"tenants":1.0}"#, "2 BadNumber"),
+    (Form::Tenants, "[0.5]", "2 BadNumber"),
+    // A body has 1,048,576 bytes at most.
+    (Form::Body, "5«1048575* »", "5"),
+    (Form::Body, "5«1048576* »", "26 TooLarge"),
+    (Form::Body, "[1", "1 BadJson"),
+    (Form::Body, "[1.5]", "2 BadNumber"),
+    (Form::Body, "", "1 BadJson"),
+    // In the order of the batch.
+    (
+        Form::Batch,
+        r#"{"note":1,"put":[{"schema":{},"uri":"https://ex.org/a"},{"note":1,"schema":true,"uri":""}]}"#,
+        "'https://ex.org/a' {};'' true;",
+    ),
+    // A batch has 1 to 64 entries.
+    (Form::Batch, r#"{"put":[]}"#, "42 BadBatch"),
+    (
+        Form::Batch,
+        r#"{"put":[{"schema":{},"uri":"https://ex.org/a"}«63*,{"schema":{},"uri":"https://ex.org/a"}»]}"#,
+        "«64*'https://ex.org/a' {};»",
+    ),
+    (
+        Form::Batch,
+        r#"{"put":[{"schema":{},"uri":"https://ex.org/a"}«64*,{"schema":{},"uri":"https://ex.org/a"}»]}"#,
+        "42 BadBatch",
+    ),
+    // Another shape.
+    (Form::Batch, "[]", "42 BadBatch"),
+    (Form::Batch, "{}", "42 BadBatch"),
+    (Form::Batch, r#"{"put":{}}"#, "42 BadBatch"),
+    (Form::Batch, r#"{"put":[{"schema":{}}]}"#, "42 BadBatch"),
+    (
+        Form::Batch,
+        r#"{"put":[{"uri":"https://ex.org/a"}]}"#,
+        "42 BadBatch",
+    ),
+    (
+        Form::Batch,
+        r#"{"put":[{"schema":{},"uri":1}]}"#,
+        "42 BadBatch",
+    ),
+    (
+        Form::Batch,
+        r#"{"put":[{"schema":{},"uri":"https://ex.org/a"},1]}"#,
+        "42 BadBatch",
+    ),
+];
+
 #[test]
-fn texts_are_refused_before_their_shape(rt: HostRuntime) {
-    assert_eq!(rt; refusal(rt.alloc(), ""), Some(Fault::BadJson));
-    assert_eq!(rt;
-        refusal(rt.alloc(), r#"{"tenants":[1}"#),
-        Some(Fault::BadJson)
-    );
-    assert_eq!(rt;
-        refusal(rt.alloc(), r#"{"tenants":1.0}"#),
-        Some(Fault::BadNumber)
-    );
-    assert_eq!(rt; refusal(rt.alloc(), "[0.5]"), Some(Fault::BadNumber));
+fn texts_are_read_or_refused(rt: HostRuntime) -> Result<(), Fail> {
+    for (form, text, wanted) in TEXTS {
+        let found = text_or_fault(rt.alloc(), read_as(rt.alloc(), *form, text))?;
+        assert!(rt; is_like(rt.alloc(), found.as_str(), wanted)?, "{text}");
+    }
+    Ok(())
 }

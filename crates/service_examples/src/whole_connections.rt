@@ -1,6 +1,7 @@
 //! Connections from the tenants' file to the last byte.
 
 use crate::served_hubs::{EXAMPLE, EXAMPLE_REPLIES};
+use crate::texts::text_or_fault;
 use http_front::{Fault, run_connection, run_connection_with};
 use serving::{MemoryReader, MemoryWriter, Pace};
 use std::alloc::Global;
@@ -23,52 +24,53 @@ const OWNED: &str =
 const OWNED_REPLY: &str =
     "HTTP/1.1 409 Conflict\r\ncontent-type: application/json\r\ncontent-length: 34\r\n\r\n{\"fault\":34,\"name\":\"LibraryOwned\"}";
 
-fn reader(alloc: Global, stream: &str) -> Result<MemoryReader, Fault> {
-    let bytes = Vec::from_slice(alloc, stream.as_bytes())?;
-    Ok(MemoryReader::new(bytes, Pace::WHOLE))
-}
-
-// What is written for the stream by a server without a library.
+// What is written for the stream by a server, over a library if there is one.
 fn written(
     alloc: Global,
     tenants: &str,
+    library: Option<&str>,
     capacity: usize,
     stream: &str,
-) -> Result<MemoryWriter, Fault> {
-    let mut reader = reader(alloc, stream)?;
+) -> Result<String, Fault> {
+    let bytes = Vec::from_slice(alloc, stream.as_bytes())?;
+    let mut reader = MemoryReader::new(bytes, Pace::WHOLE);
     let mut writer = MemoryWriter::new(alloc, Pace::WHOLE);
     let tenants = tenants.as_bytes();
-    run_connection(alloc, tenants, capacity, &mut reader, &mut writer)?;
-    Ok(writer)
-}
-
-// The same over a library.
-fn written_with(alloc: Global, library: &str, stream: &str) -> Result<MemoryWriter, Fault> {
-    let mut reader = reader(alloc, stream)?;
-    let mut writer = MemoryWriter::new(alloc, Pace::WHOLE);
-    let (tenants, library) = (TENANT.as_bytes(), library.as_bytes());
-    run_connection_with(alloc, tenants, 256, library, &mut reader, &mut writer)?;
-    Ok(writer)
-}
-
-// What is written, or the fault.
-fn text_of(alloc: Global, written: Result<MemoryWriter, Fault>) -> Result<String, Fail> {
-    match written {
-        Ok(writer) => Ok(String::from_utf8_lossy(alloc, writer.bytes())?),
-        Err(fault) => Ok(format!(in alloc; "{fault}")?),
+    match library {
+        Some(library) => run_connection_with(
+            alloc,
+            tenants,
+            capacity,
+            library.as_bytes(),
+            &mut reader,
+            &mut writer,
+        )?,
+        None => run_connection(alloc, tenants, capacity, &mut reader, &mut writer)?,
     }
+    Ok(String::from_utf8_lossy(alloc, writer.bytes())?)
 }
 
-// A tenants' file, a capacity, a stream, and what is written, or the fault.
-const CONNECTIONS: &[(&str, usize, &str, &str)] = &[
-    (TENANT, 256, EXAMPLE, EXAMPLE_REPLIES),
-    (TENANT, 256, BATCH, BATCH_REPLY),
-    ("[1", 0, EXAMPLE, "1 BadJson"),
-    ("[1.0]", 0, EXAMPLE, "2 BadNumber"),
-    ("[]", 0, EXAMPLE, "35 BadTenants"),
-    (TENANT, 0, EXAMPLE, "21 BadCapacity"),
-    (TWICE, 1, EXAMPLE, "22 DuplicateTenant"),
-    (BAD_KEY, 1, EXAMPLE, "35 BadTenants"),
+// A tenants' file, a library, a capacity, a stream, and what is written, or the fault.
+const CONNECTIONS: &[(&str, Option<&str>, usize, &str, &str)] = &[
+    (TENANT, None, 256, EXAMPLE, EXAMPLE_REPLIES),
+    (TENANT, None, 256, BATCH, BATCH_REPLY),
+    ("[1", None, 0, EXAMPLE, "1 BadJson"),
+    ("[1.0]", None, 0, EXAMPLE, "2 BadNumber"),
+    ("[]", None, 0, EXAMPLE, "35 BadTenants"),
+    (TENANT, None, 0, EXAMPLE, "21 BadCapacity"),
+    (TWICE, None, 1, EXAMPLE, "22 DuplicateTenant"),
+    (BAD_KEY, None, 1, EXAMPLE, "35 BadTenants"),
+    (TENANT, Some(LIBRARY), 256, EXAMPLE, EXAMPLE_REPLIES),
+    (TENANT, Some(LIBRARY), 256, OWNED, OWNED_REPLY),
+    (TENANT, Some("{"), 256, EXAMPLE, "1 BadJson"),
+    (TENANT, Some(r#"{"put":[]}"#), 256, EXAMPLE, "42 BadBatch"),
+    (
+        TENANT,
+        Some(r#"{"put":[{"schema":[],"uri":"https://ex.org/lib"}]}"#),
+        256,
+        EXAMPLE,
+        "6 NotObject",
+    ),
 ];
 
 const TWICE: &str =
@@ -77,34 +79,12 @@ const TWICE: &str =
 const BAD_KEY: &str = r#"{"tenants":[{"bytes":1,"documents":1,"key":"a b"}]}"#;
 
 #[test]
-fn connections_without_a_library(rt: HostRuntime) -> Result<(), Fail> {
+fn connections_are_written_or_refused(rt: HostRuntime) -> Result<(), Fail> {
     let alloc = rt.alloc();
-    for (tenants, capacity, stream, wanted) in CONNECTIONS {
-        let found = text_of(alloc, written(alloc, tenants, *capacity, stream))?;
-        assert_eq!(rt; found.as_str(), *wanted);
-    }
-    Ok(())
-}
-
-// A library, a stream, and what is written, or the fault.
-const OVER_LIBRARIES: &[(&str, &str, &str)] = &[
-    (LIBRARY, EXAMPLE, EXAMPLE_REPLIES),
-    (LIBRARY, OWNED, OWNED_REPLY),
-    ("{", EXAMPLE, "1 BadJson"),
-    (r#"{"put":[]}"#, EXAMPLE, "42 BadBatch"),
-    (
-        r#"{"put":[{"schema":[],"uri":"https://ex.org/lib"}]}"#,
-        EXAMPLE,
-        "6 NotObject",
-    ),
-];
-
-#[test]
-fn connections_over_a_library(rt: HostRuntime) -> Result<(), Fail> {
-    let alloc = rt.alloc();
-    for (library, stream, wanted) in OVER_LIBRARIES {
-        let found = text_of(alloc, written_with(alloc, library, stream))?;
-        assert_eq!(rt; found.as_str(), *wanted);
+    for (tenants, library, capacity, stream, wanted) in CONNECTIONS {
+        let written = written(alloc, tenants, *library, *capacity, stream);
+        let found = text_or_fault(alloc, written)?;
+        assert_eq!(rt; found.as_str(), *wanted, "{tenants} {library:?} {capacity}");
     }
     Ok(())
 }

@@ -283,10 +283,14 @@ fn are_plain_bytes(bytes: &[u8]) -> bool
     bytes.iter().all(|byte| is_plain(*byte))
 }
 
+// Small letters first: most names are made of them.
 fn is_plain(byte: u8) -> bool
     ensures { result ≡ is_plain byte }
 {
-    byte.is_ascii_alphanumeric() || matches!(byte, b'$' | b'-' | b'.' | b'_')
+    byte.is_ascii_lowercase()
+        || byte.is_ascii_uppercase()
+        || byte.is_ascii_digit()
+        || matches!(byte, b'$' | b'-' | b'.' | b'_')
 }
 
 fn are_unescaped(bytes: &[u8]) -> bool

@@ -18,7 +18,7 @@ use Rattle.keyword_plans.specs.Sites.{linked_rules}
 use Rattle.keywords.specs.declared.keyword.Keyword.TheVariants.{UnevaluatedItems, UnevaluatedProperties}
 use Rattle.evaluator.specs.Findings.{use_count}
 use Rattle.evaluator.specs.Groups.{first_groups, rows_of}
-use Rattle.keywords.specs.Groups.{in_order}
+use Rattle.keywords.specs.Groups.{group_number, groups_before, in_order}
 use Rattle.evaluator.specs.Rounds.{groups_uses, linked_outcome, object_uses, unevaluated_uses}
 
 -- ---- uses that say nothing
@@ -111,7 +111,7 @@ declaring_idle rules run names indexes a b (e ∷ es) =
 
 -- ---- keywords in groups
 grouped_rows : filter (λ k. not (looks_at_evaluated k.meaning)) keywords ≡ flat_map rows_of first_groups ++ declared_rows
-unfolding first_groups in_order
+unfolding first_groups group_number groups_before in_order
 grouped_rows = refl
 
 unevaluated_rows : filter (λ k. looks_at_evaluated k.meaning) keywords ≡ row_of UnevaluatedItems ∷ row_of UnevaluatedProperties ∷ []

@@ -1,10 +1,10 @@
 -- Laws of the keywords that a schema object has.
-use Rattle.std.proofs.Common.{◌≡◌, ◌≢◌, ◌<◌, ◌≤◌, ◌+◌, ◌-◌, ◌*◌, ◌^◌, ◌%◌, ◌&&◌, ◌||◌, not, ℕ, zero, suc, List, [], ◌∷◌, ◌++◌, Bool, true, false, Option, Some, None, option_map, is_some, append-nil, length, get_or, slice_get, take, w64, cond, inl, inr, filter, flat_map, codes, refl, sym, ap, subst, ◌∙◌, arith}
+use Rattle.std.proofs.Common.{◌≡◌, ◌≢◌, ◌<◌, ◌≤◌, ◌+◌, ◌-◌, ◌*◌, ◌^◌, ◌%◌, nat_lt, ◌&&◌, ◌||◌, not, ℕ, zero, suc, List, [], ◌∷◌, ◌++◌, Bool, true, false, Option, Some, None, option_map, is_some, append-nil, length, get_or, take, w64, cond, inl, inr, filter, flat_map, codes, refl, sym, ap, ◌∙◌, arith}
 use Rattle.std.specs.Prelude.{◌==◌}
 use Rattle.std.specs.Int.{bit_at}
 use Rattle.std.specs.Int.RustNames.{bit_or}
 use Rattle.std.specs.List.{list_all, list_any}
-use Rattle.std.proofs.lemmas.Bool.{and_parts, cases_lt, or_parts}
+use Rattle.std.proofs.lemmas.Bool.{and_parts, cases_lt, ltb-true, or_parts}
 use Rattle.std.proofs.lemmas.List.{take_all}
 use Rattle.std.proofs.lemmas.Bool.Decides.{Decides-eqb}
 use Rattle.std.proofs.lemmas.Nat.Bits.{bit_at_set_other, bit_at_set_same}
@@ -15,101 +15,65 @@ use Rattle.definitions.specs.Evaluated.{is_annotation}
 use Rattle.definitions.specs.Uris.{begins}
 use Rattle.definitions.specs.Outcomes.{Use, other_annotations, uses_of}
 use Rattle.definition_laws.proofs.Occurrences.{found_passes}
-use Rattle.lemmas.proofs.Texts.{same_text_differs, same_text_is, same_text_itself}
+use Rattle.lemmas.proofs.Texts.{same_text_differs, same_text_is}
 use Rattle.linker.specs.declared.linked.Linked.{Linked}
 use Rattle.keywords.specs.Rows.{row_named, row_of}
-use Rattle.keywords.specs.Groups.{in_order}
+use Rattle.keywords.specs.Groups.{group_number, groups_before, in_order}
+use Rattle.keywords.proofs.Grouped.{number_within}
 use Rattle.keywords.specs.declared.keyword.Keyword as listed
 use Rattle.keyword_plans.specs.Sites.{linked_rules}
-use Rattle.keywords.specs.declared.keyword.Keyword.TheVariants.{Ref, UnevaluatedItems, UnevaluatedProperties}
+use Rattle.keywords.specs.declared.keyword.Keyword.TheVariants.{ContentSchema, Ref, UnevaluatedItems, UnevaluatedProperties}
 use Rattle.evaluator.specs.Groups.{first_groups, rows_of}
-use Rattle.evaluator.specs.Presents.{has_mark, mark_at, mark_of, position_in, position_of}
+use Rattle.evaluator.specs.Presents.{has_mark, mark_of, may_annotate_itself}
 use Rattle.evaluator.specs.Rounds.{group_uses, groups_uses, linked_outcome, object_uses, unevaluated_uses}
 use Rattle.keywords.specs.declared.group.Group.{Group}
 use Rattle.keywords.specs.declared.group.Group.TheVariants.{One}
 use Rattle.evaluator.proofs.UseLaws.{flat_same}
 
--- ---- the positions of the table
-how_many : length keywords ≡ 46
-how_many = refl
+-- ---- the marks of names
+few : nat_lt (length in_order) 63 ≡ true
+unfolding in_order
+few = refl
 
-next_position : (b : Bool) (n m : ℕ) → n ≤ m → cond b 0 (suc n) ≤ suc m
-next_position true n m h = omega arith
-next_position false n m h = omega (arith, h)
+pub number_below : (name : Text) → group_number name < 63
+number_below name = omega (arith, number_within name, ltb-true (length in_order) 63 few)
 
-within : (name : Text) (ks : List Keyword) → position_in name ks ≤ length ks
-unfolding position_in
-within name [] = omega arith
-within name (k ∷ ks) = next_position (same_text name k.name) (position_in name ks) (length ks) (within name ks)
+below_last : (b : Bool) (n : ℕ) → n < 63 → cond b 63 n < 64
+below_last true n h = omega arith
+below_last false n h = omega (arith, h)
 
-pub position_within : (name : Text) → position_of name ≤ 46
-unfolding position_of
-position_within name = subst (λ n. position_in name keywords ≤ n) how_many (within name keywords)
+pub mark_within : (name : Text) → mark_of name < 64
+unfolding mark_of
+mark_within name = below_last (may_annotate_itself name) (group_number name) (number_below name)
 
-not_true : (b : Bool) → not b ≡ true → b ≡ false
-not_true true h = absurd (cc)
-not_true false h = refl
+pub number_marks : (k : listed.Keyword) → (k ≡ ContentSchema → ⊥) → group_number (row_of k).name ≡ mark_of (row_of k).name
+unfolding mark_of
+number_marks ContentSchema other = absurd (other refl)
+number_marks _ other = refl
 
--- none of these has this one's name
-abbrev is_apart : Keyword → List Keyword → Bool
-is_apart k ks = list_all (λ j. not (same_text j.name k.name)) ks
+pub schema_last : 63 ≡ mark_of (row_of ContentSchema).name
+unfolding mark_of
+schema_last = refl
 
-abbrev are_apart : List Keyword → Bool
-are_apart [] = true
-are_apart (k ∷ ks) = is_apart k ks && are_apart ks
-
-all_apart : are_apart keywords ≡ true
-all_apart = refl
-
-apart_at : (k : Keyword) (ks : List Keyword) (i : ℕ) (r : Keyword) → is_apart k ks ≡ true → slice_get ks i ≡ Some r → same_text r.name k.name ≡ false
-apart_at k [] i r all e = absurd (cc)
-apart_at k (j ∷ ks) zero r all e =
-    let same : j ≡ r = cc in
-    rw (← same) (not_true (same_text j.name k.name) (and_parts (not (same_text j.name k.name)) (is_apart k ks) all).0)
-apart_at k (j ∷ ks) (suc i) r all e = apart_at k ks i r (and_parts (not (same_text j.name k.name)) (is_apart k ks) all).1 e
-
-found_at : (ks : List Keyword) (i : ℕ) (r : Keyword) → are_apart ks ≡ true → slice_get ks i ≡ Some r → position_in r.name ks ≡ i
-unfolding position_in
-found_at [] i r all e = absurd (cc)
-found_at (k ∷ ks) zero r all e =
-    let same : k ≡ r = cc in
-    rw (← same, same_text_itself k.name) refl
-found_at (k ∷ ks) (suc i) r all e =
-    let parts = and_parts (is_apart k ks) (are_apart ks) all in
-    rw (apart_at k ks i r parts.0 e) (ap suc (found_at ks i r parts.1 e))
-
-pub position_is : (k : listed.Keyword) (i : ℕ) → slice_get keywords i ≡ Some (row_of k) → i ≡ position_of (row_of k).name
-unfolding position_of
-position_is k i e = sym (found_at keywords i (row_of k) all_apart e)
-
--- the keyword of this name stands at the name's position
-pub at_position : (name : Text) (k : listed.Keyword) (o : Option listed.Keyword) (i : ℕ) → o ≡ Some k → option_map row_of o ≡ row_named name
-    → slice_get keywords i ≡ Some (row_of k) → i ≡ position_of name
+-- the name of a keyword has the mark of the keyword
+pub mark_of_named : (name : Text) (k : listed.Keyword) (o : Option listed.Keyword) (n : ℕ) → o ≡ Some k → option_map row_of o ≡ row_named name
+    → n ≡ mark_of (row_of k).name → n ≡ mark_of name
 unfolding row_named
-at_position name k o i e named at =
+mark_of_named name k o n e named at =
     let found : keyword_named name keywords ≡ Some (row_of k) = sym named ∙ ap (option_map row_of) e in
-    let same : name ≡ (row_of k).name = same_text_is name (row_of k).name (found_passes (λ (r : Keyword). same_text name r.name) keywords (row_of k) found) in
-    position_is k i at ∙ ap position_of (sym same)
+    at ∙ ap mark_of (sym (same_text_is name (row_of k).name (found_passes (λ (r : Keyword). same_text name r.name) keywords (row_of k) found)))
 
-no_more : (b : Bool) (k : Keyword) (o : Option Keyword) (p n : ℕ) → cond b (Some k) o ≡ None → (o ≡ None → p ≡ n) → cond b 0 (suc p) ≡ suc n
-no_more true k o p n e h = absurd (cc)
-no_more false k o p n e h = ap suc (h e)
+last_without : (b : Bool) (o : Option Keyword) (n : ℕ) → o ≡ None → 63 ≡ cond (b || not (is_some o)) 63 n
+last_without true o n e = refl
+last_without false o n e = rw e refl
 
-after_all : (name : Text) (ks : List Keyword) → keyword_named name ks ≡ None → position_in name ks ≡ length ks
-unfolding position_in
-after_all name [] e = refl
-after_all name (k ∷ ks) e = no_more (same_text name k.name) k (keyword_named name ks) (position_in name ks) (length ks) e (after_all name ks)
-
--- other names stand after all keywords
-pub no_keyword : (name : Text) (o : Option listed.Keyword) → o ≡ None → option_map row_of o ≡ row_named name → 46 ≡ position_of name
-unfolding position_of row_named
-no_keyword name o e named = sym (after_all name keywords (sym named ∙ ap (option_map row_of) e) ∙ how_many)
+-- other names have the last
+pub mark_of_others : (name : Text) (o : Option listed.Keyword) → o ≡ None → option_map row_of o ≡ row_named name → 63 ≡ mark_of name
+unfolding row_named mark_of
+mark_of_others name o e named =
+    last_without (same_text name (codes "contentSchema")) (keyword_named name keywords) (group_number name) (sym named ∙ ap (option_map row_of) e)
 
 -- ---- the marks of the members
-pub mark_is : (name : Text) (p n : ℕ) → p ≡ position_of name → n ≡ mark_at p → n ≡ mark_of name
-unfolding mark_of
-mark_is name p n e f = f ∙ ap mark_at e
-
 differs_from : (n i : ℕ) → (n == i) ≡ false → i ≢ n
 differs_from n i e same = let yes : (n == i) ≡ true = (Decides-eqb n i).1 (sym same) in let both : true ≡ false = sym yes ∙ e in absurd (cc)
 
@@ -131,7 +95,7 @@ pub marked_on : (marks : ℕ) (m : Text × Value) (left ms : List (Text × Value
 marked_on marks m left ms within found i = one_more (has_mark i m) marks m left ms i refl within (found i)
 
 -- ---- names that have no mark
-absent : (name : Text) (i : ℕ) (ms : List (Text × Value)) → mark_of name ≡ i → list_any (has_mark i) ms ≡ false → entry name ms ≡ None
+pub absent : (name : Text) (i : ℕ) (ms : List (Text × Value)) → mark_of name ≡ i → list_any (has_mark i) ms ≡ false → entry name ms ≡ None
 absent name i [] own none = refl
 absent name i (m ∷ ms) own none =
     let parts = or_parts (has_mark i m) (list_any (has_mark i) ms) none in
@@ -148,7 +112,7 @@ are_placed i [] = true
 are_placed i (g ∷ gs) = are_at i (rows_of g) && are_placed (suc i) gs
 
 all_placed : are_placed 0 first_groups ≡ true
-unfolding first_groups in_order mark_of mark_at position_of position_in
+unfolding first_groups in_order mark_of group_number groups_before
 all_placed = refl
 
 placed_at : (gs : List Group) (start i : ℕ) (d : Group) → are_placed start gs ≡ true → i < length gs → are_at (start + i) (rows_of (get_or gs i d)) ≡ true
@@ -202,20 +166,6 @@ groups_passed l left a s i j same on none =
 abbrev NoneLast : Value → Type 0
 NoneLast s = (is_some (get (row_of UnevaluatedItems).name s) || is_some (get (row_of UnevaluatedProperties).name s)) ≡ false
 
-items_mark : mark_of (row_of UnevaluatedItems).name ≡ 33
-unfolding mark_of mark_at position_of position_in
-items_mark = refl
-
-properties_mark : mark_of (row_of UnevaluatedProperties).name ≡ 34
-unfolding mark_of mark_at position_of position_in
-properties_mark = refl
-
-pub none_last : (s : Value) (n : ℕ) → 35 ≤ n → ((i : ℕ) → 33 ≤ i → i < n → list_any (has_mark i) (members s) ≡ false) → NoneLast s
-none_last s n past none =
-    let items : get (row_of UnevaluatedItems).name s ≡ None = absent (row_of UnevaluatedItems).name 33 (members s) items_mark (none 33 (omega arith) (omega arith)) in
-    let properties : get (row_of UnevaluatedProperties).name s ≡ None = absent (row_of UnevaluatedProperties).name 34 (members s) properties_mark (none 34 (omega arith) (omega arith)) in
-    rw (items, properties) refl
-
 none_from : (o : Option Value) → is_some o ≡ false → o ≡ None
 none_from None e = refl
 none_from (Some v) e = absurd (cc)
@@ -234,58 +184,47 @@ groups_alone l left a s same gone =
     sym (ap (λ vs. us ++ vs) (unused_last l left a us (ap (λ v. is_some (get (row_of UnevaluatedItems).name v) || is_some (get (row_of UnevaluatedProperties).name v)) same ∙ gone)) ∙ append-nil us)
 
 -- ---- names that annotate
--- a name of another mark is a keyword's
-is_keyword_at : (name : Text) (o : Option Keyword) → keyword_named name keywords ≡ o → (mark_of name == 36) ≡ false → is_some o ≡ true
-unfolding position_of mark_of mark_at
-is_keyword_at name (Some k) e apart = refl
-is_keyword_at name None e apart =
-    let last : position_in name keywords ≡ 46 = after_all name keywords e ∙ how_many in
-    let there : (mark_at (position_in name keywords) == 36) ≡ true = ap (λ n. mark_at n == 36) last in
-    let both : true ≡ false = sym there ∙ apart in absurd (cc)
+not_last : (b : Bool) (o : Option Keyword) (n : ℕ) → (cond (b || not (is_some o)) 63 n == 63) ≡ false → (b ≡ false) × (is_some o ≡ true)
+not_last true o n e = absurd (cc)
+not_last false (Some k) n e = (refl, refl)
+not_last false None n e = absurd (cc)
 
-both_or_none : (b c : Bool) → (b ≡ true → c ≡ true) → (c ≡ true → b ≡ true) → b ≡ c
-both_or_none true true f g = refl
-both_or_none true false f g = sym (f refl)
-both_or_none false true f g = g refl
-both_or_none false false f g = refl
+-- a name of another mark is a keyword's, and not `contentSchema`
+apart_from_last : (name : Text) → (mark_of name == 63) ≡ false → (same_text name (codes "contentSchema") ≡ false) × (is_keyword_of keywords name ≡ true)
+unfolding mark_of
+apart_from_last name apart = not_last (same_text name (codes "contentSchema")) (keyword_named name keywords) (group_number name) apart
 
--- a name of another mark is not this one
-unlike : (name other : Text) → mark_of other ≡ 36 → (mark_of name == 36) ≡ false → same_text name other ≡ false
+-- nor any other name that has the last
+unlike : (name other : Text) → mark_of other ≡ 63 → (mark_of name == 63) ≡ false → same_text name other ≡ false
 unlike name other last apart =
-    both_or_none (same_text name other) false
-    (λ e. let same : name ≡ other = same_text_is name other e in
-    let there : (mark_of name == 36) ≡ true = (Decides-eqb (mark_of name) 36).1 (ap mark_of same ∙ last) in sym apart ∙ there)
-    (λ e. absurd (cc))
+    same_text_differs name other (λ same. let there : (mark_of name == 63) ≡ true = (Decides-eqb (mark_of name) 63).1 (ap mark_of same ∙ last) in
+    let both : true ≡ false = sym there ∙ apart in absurd (cc))
 
-schema_last : mark_of (codes "contentSchema") ≡ 36
-unfolding mark_of mark_at position_of position_in
-schema_last = refl
-
-encoding_last : mark_of (codes "contentEncoding") ≡ 36
-unfolding mark_of mark_at position_of position_in
+encoding_last : mark_of (codes "contentEncoding") ≡ 63
+unfolding mark_of
 encoding_last = refl
 
-media_type_last : mark_of (codes "contentMediaType") ≡ 36
-unfolding mark_of mark_at position_of position_in
+media_type_last : mark_of (codes "contentMediaType") ≡ 63
+unfolding mark_of
 media_type_last = refl
 
 fell : (p q r w g s t : Bool) → p ≡ false → q ≡ false → r ≡ false → w ≡ true → cond p s (cond (q || (r || false)) t (not (w || g))) ≡ false
 fell p q r w g s t e f h k = rw (e, f, h, k) refl
 
-annotates_not : (s x : Value) (name : Text) → (mark_of name == 36) ≡ false → is_annotation s x name ≡ false
+annotates_not : (s x : Value) (name : Text) → (mark_of name == 63) ≡ false → is_annotation s x name ≡ false
 annotates_not s x name apart =
+    let plain = apart_from_last name apart in
     fell (same_text name (codes "contentSchema")) (same_text name (codes "contentEncoding")) (same_text name (codes "contentMediaType")) (is_keyword_of keywords name) (begins name (codes "$"))
     (is_string x && is_some (get (codes "contentMediaType") s)) (is_string x)
-    (unlike name (codes "contentSchema") schema_last apart) (unlike name (codes "contentEncoding") encoding_last apart) (unlike name (codes "contentMediaType") media_type_last apart)
-    (is_keyword_at name (keyword_named name keywords) refl apart)
+    plain.0 (unlike name (codes "contentEncoding") encoding_last apart) (unlike name (codes "contentMediaType") media_type_last apart) plain.1
 
-none_annotates : (s x : Value) (ms : List (Text × Value)) → list_any (has_mark 36) ms ≡ false → filter (λ m. is_annotation s x m.0) ms ≡ []
+none_annotates : (s x : Value) (ms : List (Text × Value)) → list_any (has_mark 63) ms ≡ false → filter (λ m. is_annotation s x m.0) ms ≡ []
 none_annotates s x [] none = refl
 none_annotates s x (m ∷ ms) none =
-    let parts = or_parts (has_mark 36 m) (list_any (has_mark 36) ms) none in
+    let parts = or_parts (has_mark 63 m) (list_any (has_mark 63) ms) none in
     rw (annotates_not s x m.0 parts.0) (none_annotates s x ms parts.1)
 
-pub nothing_annotates : (a : Application) (s : Value) → a.schema.value ≡ s → list_any (has_mark 36) (members s) ≡ false → other_annotations a ≡ []
+pub nothing_annotates : (a : Application) (s : Value) → a.schema.value ≡ s → list_any (has_mark 63) (members s) ≡ false → other_annotations a ≡ []
 nothing_annotates a s same none =
-    let at : list_any (has_mark 36) (members a.schema.value) ≡ false = ap (λ v. list_any (has_mark 36) (members v)) same ∙ none in
+    let at : list_any (has_mark 63) (members a.schema.value) ≡ false = ap (λ v. list_any (has_mark 63) (members v)) same ∙ none in
     rw (none_annotates a.schema.value a.instance (members a.schema.value) at) refl

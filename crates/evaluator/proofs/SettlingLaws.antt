@@ -3,7 +3,6 @@ use Rattle.std.proofs.Common.{◌≡◌, ◌<◌, ℕ, List, [], ◌∷◌, ◌+
 use Rattle.std.proofs.Math.Bool.{and-true, or-false}
 use Rattle.std.specs.Prelude.{Some, None, codes}
 use Rattle.definitions.specs.Values.{Text, Value, string, get}
-use Rattle.definitions.specs.Keywords.{keywords}
 use Rattle.definitions.specs.Applied.{Application, OutputUnit, keyword_applications}
 use Rattle.definitions.specs.Evaluated.{may_annotate, once, outcomes_that_fail, outcomes_that_pass}
 use Rattle.definitions.specs.Outcomes.{Use, own_annotation, unit}
@@ -16,10 +15,10 @@ use Rattle.linker.specs.declared.linked.Linked.{Linked}
 use Rattle.keyword_plans.specs.Annotations.{annotation_names}
 use Rattle.keyword_plans.specs.Plans.{planned_view}
 use Rattle.keywords.specs.Rows.{row_of}
+use Rattle.keywords.proofs.Grouped.{row_in}
 use Rattle.keyword_plans.specs.Sites.{linked_rules}
 use Rattle.keywords.specs.declared.keyword.Keyword.{Keyword}
-use Rattle.keywords.specs.declared.keyword.Keyword.TheVariants as keyword
-use Rattle.keywords.specs.declared.keyword.Keyword.TheVariants.{Ref, DynamicRef, «Type», Enum, Const, MultipleOf, Maximum, ExclusiveMaximum, Minimum, ExclusiveMinimum, MaxLength, MinLength, MaxProperties, MinProperties, Required, DependentRequired, MaxItems, MinItems, UniqueItems, Pattern, AllOf, AnyOf, OneOf, Not, If, Then, Else, DependentSchemas, PrefixItems, Items, MinContains, MaxContains, Properties, PatternProperties, AdditionalProperties, PropertyNames, UnevaluatedItems, UnevaluatedProperties, Defs, Definitions, ContentSchema, Id, Anchor, DynamicAnchor, Schema}
+use Rattle.keywords.specs.declared.keyword.Keyword.TheVariants.{PatternProperties}
 use Rattle.keyword_plans.specs.declared.planned.Planned.{Planned}
 use Rattle.evaluation_context.specs.Frames.{Frame, frame_standing}
 use Rattle.evaluation_context.specs.Standings.{at_keyword, standing_of}
@@ -86,54 +85,6 @@ pub planned_outcomes : (l : Linked) (left : ℕ) (k : Text) (a : Application) (p
     → part_outcomes l left k a ps ≡ map (λ e. (e.0, linked_outcome l left e.1)) (map (planned_view k a) ps)
 planned_outcomes l left k a [] = refl
 planned_outcomes l left k a (p ∷ ps) = ap (λ os. (let e = planned_view k a p in (e.0, linked_outcome l left e.1)) ∷ os) (planned_outcomes l left k a ps)
-
-row_in : (k : Keyword) → Contains keywords (row_of k)
-row_in Ref = (0, omega arith, refl)
-row_in DynamicRef = (1, omega arith, refl)
-row_in «Type» = (2, omega arith, refl)
-row_in Enum = (3, omega arith, refl)
-row_in Const = (4, omega arith, refl)
-row_in MultipleOf = (5, omega arith, refl)
-row_in Maximum = (6, omega arith, refl)
-row_in ExclusiveMaximum = (7, omega arith, refl)
-row_in Minimum = (8, omega arith, refl)
-row_in ExclusiveMinimum = (9, omega arith, refl)
-row_in MaxLength = (10, omega arith, refl)
-row_in MinLength = (11, omega arith, refl)
-row_in Pattern = (12, omega arith, refl)
-row_in MaxProperties = (13, omega arith, refl)
-row_in MinProperties = (14, omega arith, refl)
-row_in Required = (15, omega arith, refl)
-row_in DependentRequired = (16, omega arith, refl)
-row_in MaxItems = (17, omega arith, refl)
-row_in MinItems = (18, omega arith, refl)
-row_in UniqueItems = (19, omega arith, refl)
-row_in AllOf = (20, omega arith, refl)
-row_in AnyOf = (21, omega arith, refl)
-row_in OneOf = (22, omega arith, refl)
-row_in Not = (23, omega arith, refl)
-row_in If = (24, omega arith, refl)
-row_in Then = (25, omega arith, refl)
-row_in Else = (26, omega arith, refl)
-row_in DependentSchemas = (27, omega arith, refl)
-row_in PrefixItems = (28, omega arith, refl)
-row_in Items = (29, omega arith, refl)
-row_in keyword.Contains = (30, omega arith, refl)
-row_in MinContains = (31, omega arith, refl)
-row_in MaxContains = (32, omega arith, refl)
-row_in Properties = (33, omega arith, refl)
-row_in PatternProperties = (34, omega arith, refl)
-row_in AdditionalProperties = (35, omega arith, refl)
-row_in PropertyNames = (36, omega arith, refl)
-row_in UnevaluatedItems = (37, omega arith, refl)
-row_in UnevaluatedProperties = (38, omega arith, refl)
-row_in Defs = (39, omega arith, refl)
-row_in Definitions = (40, omega arith, refl)
-row_in ContentSchema = (41, omega arith, refl)
-row_in Id = (42, omega arith, refl)
-row_in Anchor = (43, omega arith, refl)
-row_in DynamicAnchor = (44, omega arith, refl)
-row_in Schema = (45, omega arith, refl)
 
 pub planned_known : (l : Linked) (left : ℕ) (keyword : Keyword) (a : Application) (ps : List Planned) (names : List Text) (indexes : List ℕ) (v : Value)
     → Contains (linked_schemas l) a.schema → get (row_of keyword).name a.schema.value ≡ Some v

@@ -5,7 +5,7 @@ use Rattle.std.proofs.lemmas.List.{take_more}
 use Rattle.std.proofs.lemmas.Grind.{flat_map-append}
 use Rattle.std.proofs.lemmas.List.Sums.{sum_by-append}
 use Rattle.std.proofs.lemmas.List.Folds.{list_all-append, list_any-append}
-use Rattle.std.proofs.lemmas.Bool.{and_parts}
+use Rattle.std.proofs.lemmas.Bool.{and_parts, ltb-true}
 use Rattle.definitions.specs.Values.{Value}
 use Rattle.definitions.specs.Applied.{Application}
 use Rattle.definitions.specs.Outcomes.{Use, use_errors}
@@ -14,7 +14,7 @@ use Rattle.evaluation_context.specs.Frames.{Frame}
 use Rattle.evaluator.specs.Rounds.{IsAt}
 use Rattle.evaluator.specs.Findings.{FindsObject, FindsUses, IsWithin, use_count}
 use Rattle.evaluator.specs.Groups.{first_groups, stands_alone}
-use Rattle.keywords.specs.Groups.{in_order}
+use Rattle.keywords.specs.Groups.{group_number, groups_before, in_order}
 use Rattle.evaluator.specs.Notes.{Notes, kept_annotations, notes_of_both, uses_notes}
 use Rattle.evaluator.specs.declared.found.Found.{Found}
 use Rattle.evaluator.proofs.LogLaws.{added_twice, same_notes}
@@ -26,12 +26,12 @@ all_at p (x ∷ xs) zero d all h = (and_parts (p x) (list_all p xs) all).0
 all_at p (x ∷ xs) (suc i) d all h = all_at p xs i d (and_parts (p x) (list_all p xs) all).1 (omega arith)
 
 pub all_alone : list_all stands_alone first_groups ≡ true
-unfolding first_groups in_order
+unfolding first_groups group_number groups_before in_order
 all_alone = refl
 
-pub number_of_groups : length first_groups ≡ 33
-unfolding first_groups in_order
-number_of_groups = refl
+pub few_groups : length first_groups < 63
+unfolding first_groups group_number groups_before in_order
+few_groups = ltb-true (length first_groups) 63 refl
 
 pub uses_more_notes : (a : Application) (us vs : List Use) → notes_of_both (uses_notes a us) (uses_notes a vs) ≡ uses_notes a (us ++ vs)
 unfolding notes_of_both

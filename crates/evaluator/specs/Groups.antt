@@ -3,14 +3,15 @@ use Rattle.std.specs.Prelude.{List, Bool, true, not, ◌||◌, take}
 use Rattle.definitions.specs.Keywords as table
 use Rattle.keyword_plans.specs.Plans.{counts_contained, is_consequence}
 use Rattle.keywords.specs.Rows.{row_of}
-use Rattle.keywords.specs.Groups.{in_order}
+use Rattle.keywords.specs.Groups.{group_number, in_order}
 pub use Rattle.keywords.specs.Groups.{rows_of}
 use Rattle.keywords.specs.declared.group.Group.{Group}
 use Rattle.keywords.specs.declared.group.Group.TheVariants.{One}
+use Rattle.keywords.specs.declared.keyword.Keyword.TheVariants.{UnevaluatedItems}
 
 -- all that don't look at what others evaluated, in the order of evaluation
 unfoldable pub first_groups : List Group
-first_groups = take 33 in_order
+first_groups = take (group_number (row_of UnevaluatedItems).name) in_order
 
 -- whether it asks for nothing that keywords beside say or evaluate
 abbrev pub stands_alone : Group → Bool

@@ -1,6 +1,6 @@
 //! Which keywords a schema object has, found in one walk over its members.
 
-ghost use Rattle.std.specs.Prelude.{◌≡◌, ◌≤◌, ◌<◌, ◌||◌, ℕ, [], false, is_some, option_map};
+ghost use Rattle.std.specs.Prelude.{◌≡◌, ◌≤◌, ◌<◌, ◌||◌, ℕ, None, [], false, is_some, option_map};
 ghost use Rattle.std.specs.List.{list_any};
 ghost use Rattle.std.specs.Int.{bit_at};
 ghost use Rattle.definitions.specs.Values.{get, members};
@@ -9,22 +9,16 @@ ghost use Rattle.definitions.specs.Outcomes.{other_annotations};
 ghost use Rattle.json_doc.specs.Docs.{value, members_value};
 ghost use Rattle.keywords.specs.Rows.{row_of};
 ghost use Rattle.keywords.specs.declared.keyword.Keyword.TheVariants.{UnevaluatedItems, UnevaluatedProperties};
-ghost use Rattle.evaluator.specs.Presents.{AreMarked, has_mark, mark_at, mark_of, position_of};
+ghost use Rattle.evaluator.specs.Presents.{AreMarked, has_mark, mark_of};
 
 use json_doc::{Doc, Members};
 use keywords::Keyword;
 
-/// The position of the names that are no keywords', after those of the table.
-const NO_KEYWORD: usize = 46;
-/// The marks of the two groups that look at what others evaluated begin here.
-const UNEVALUATED: usize = 33;
-/// The mark of keywords that only declare.
-const DECLARES: usize = 35;
 /// The mark of names that may annotate with their own value.
-const ANNOTATES: usize = 36;
+const ANNOTATES: usize = 63;
 
 /// A schema, and which names stand in it: a bit for each group of keywords, in the order of evaluation, one for keywords
-/// that only declare, and one for names that may annotate with their own value.
+/// that are not evaluated, and the last for names that may annotate with their own value.
 #[derive(Drop)]
 pub(crate) struct Present<'a> {
     pub(crate) schema: &'a Doc,
@@ -60,7 +54,15 @@ impl<'a> Present<'a> {
             || is_some (get (row_of UnevaluatedProperties).name (value self.now.schema.now)))
             ≡ false }
     {
-        self.first_mark(UNEVALUATED) < DECLARES
+        self.may_have(Keyword::UnevaluatedItems) || self.may_have(Keyword::UnevaluatedProperties)
+    }
+
+    // Whether it may have this keyword, or one of its group.
+    fn may_have(&self, keyword: Keyword) -> bool
+        ensures { result ≡ false → get (row_of keyword).name (value self.now.schema.now) ≡ None }
+    {
+        let mark = mark_of_keyword(keyword);
+        self.first_mark(mark) == mark
     }
 
     /// Whether it has a name that may annotate with its own value: one that is no keyword's, or `contentSchema`.
@@ -95,43 +97,28 @@ fn marks_of(members: &Members) -> u64
 {
     let mut marks: u64 = 0;
     for (name, _) in members.iter() {
-        let mark = mark_at(position_of(name));
-        marks |= 1u64 << mark;
+        marks |= 1u64 << mark_of(name);
     }
     marks
 }
 
-// The position of the keyword of this name in the table, or that of other names.
-fn position_of(name: &str) -> usize
-    ensures position { result ≡ position_of name.now }
-    ensures within { result ≤ 46 }
+fn mark_of(name: &str) -> usize
+    ensures mark { result ≡ mark_of name.now }
+    ensures within { result < 64 }
 {
     match Keyword::named(name) {
-        Some(keyword) => keyword.position(),
-        None => NO_KEYWORD,
+        Some(keyword) => mark_of_keyword(keyword),
+        None => ANNOTATES,
     }
 }
 
-// The mark of the keyword at this position: `if`, `then` and `else` have one, as have `contains` and its two counts.
-#[tactic(auto, unfolding(crate::specs::Presents::mark_at))]
-fn mark_at(position: usize) -> usize
-    ensures mark { result ≡ mark_at position }
-    ensures within { position ≤ 46 → result ≤ 36 }
+fn mark_of_keyword(keyword: Keyword) -> usize
+    ensures mark { result ≡ mark_of (row_of keyword).name }
+    ensures within { result < 64 }
 {
-    if position < 24 {
-        position
-    } else if position < 27 {
-        24
-    } else if position < 30 {
-        position - 2
-    } else if position < 33 {
-        28
-    } else if position < 39 {
-        position - 4
-    } else if position == 41 || position >= 46 {
-        ANNOTATES
-    } else {
-        DECLARES
+    match keyword {
+        Keyword::ContentSchema => ANNOTATES,
+        _ => keyword.group_number(),
     }
 }
 

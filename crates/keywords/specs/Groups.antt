@@ -1,5 +1,5 @@
 -- The keywords that are evaluated together, and their order.
-use Rattle.std.specs.Prelude.{List, [], ◌∷◌, Bool, true, false, not, Option, find}
+use Rattle.std.specs.Prelude.{ℕ, suc, List, [], ◌∷◌, Bool, true, false, not, if◌then◌else◌, Option, find}
 use Rattle.std.specs.List.{list_any}
 use Rattle.definitions.specs.Values.{Text, same_text}
 use Rattle.definitions.specs.Shapes.{Shape}
@@ -35,6 +35,15 @@ has_name name g = list_any (λ k. same_text name k.name) (rows_of g)
 -- the group of the keyword of this name, if one is evaluated
 unfoldable pub group_named : Text → Option Group
 group_named name = find (has_name name) in_order
+
+-- how many groups stand before that of the keyword of this name: all, if none has it
+unfoldable pub groups_before : Text → List Group → ℕ
+groups_before name [] = 0
+groups_before name (g ∷ gs) = if has_name name g then 0 else suc (groups_before name gs)
+
+-- in the order of evaluation
+unfoldable pub group_number : Text → ℕ
+group_number name = groups_before name in_order
 
 -- what the table says of a keyword
 abbrev pub row_view : Keyword → Text × Shape × Option Group

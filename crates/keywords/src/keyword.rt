@@ -1,8 +1,7 @@
 //! The table of keywords, in the order of evaluation.
 
-ghost use Rattle.std.specs.Prelude.{◌≡◌, Some, slice_get};
-ghost use Rattle.definitions.specs.Keywords.{keywords};
-ghost use Rattle.keywords.specs.Groups.{group_named, is_evaluated, row_view};
+ghost use Rattle.std.specs.Prelude.{◌≡◌};
+ghost use Rattle.keywords.specs.Groups.{group_named, group_number, is_evaluated, row_view};
 ghost use Rattle.keywords.specs.Rows.{row_of};
 ghost use Rattle.keywords.specs.Shapes.{shape_view};
 
@@ -137,11 +136,24 @@ impl Keyword {
         self.group().is_some()
     }
 
-    /// Its place in the table, from 0 to 45.
-    pub fn position(self) -> usize
-        ensures { slice_get keywords result ≡ Some (row_of self) }
+    /// The number of its group in the order of evaluation, from 0; how many groups there are, where it is not evaluated.
+    pub fn group_number(self) -> usize
+        ensures { result ≡ group_number (row_of self).name }
     {
-        self as usize
+        let position = self as usize;
+        if position <= Keyword::If as usize {
+            position
+        } else if position <= Keyword::Else as usize {
+            Keyword::If as usize
+        } else if position <= Keyword::Contains as usize {
+            position - 2
+        } else if position <= Keyword::MaxContains as usize {
+            Keyword::Contains as usize - 2
+        } else if position <= Keyword::UnevaluatedProperties as usize {
+            position - 4
+        } else {
+            Keyword::UnevaluatedProperties as usize - 3
+        }
     }
 
     // The name, the shape and the group.

@@ -6,4 +6,4 @@ use Rattle.evaluator.proofs.present.Present.may_annotate.Goals as goal
 
 pub returns : goal.returns
 returns c a same e =
-    nothing_annotates a (value c.args.self.now.schema.now) same (c.first_mark.ensures.passed 36 (omega arith) (omega (arith, c.first_mark.ensures.onward, eqb-false c.first_mark.result 36 e)))
+    nothing_annotates a (value c.args.self.now.schema.now) same (c.first_mark.ensures.passed 63 (omega arith) (omega (arith, c.first_mark.ensures.onward, eqb-false c.first_mark.result 63 e)))

@@ -20,7 +20,7 @@ use Rattle.evaluator.proofs.LogLaws.{added_nothing}
 use Rattle.evaluator.proofs.PresentLaws.{groups_alone, groups_passed}
 use Rattle.std.proofs.lemmas.Result.{IfOk-weaker}
 use Rattle.evaluator.specs.Applying.{IsCostly}
-use Rattle.evaluator.proofs.UseLaws.{all_at, all_alone, found_within, group_more, group_noted, group_over, number_of_groups, two_found, first_over, second_over, still_at, two_noted}
+use Rattle.evaluator.proofs.UseLaws.{all_at, all_alone, found_within, group_more, group_noted, group_over, few_groups, two_found, first_over, second_over, still_at, two_noted}
 use Rattle.definitions.specs.Keywords.{condition, contains, min_contains, max_contains}
 use Rattle.evaluator.proofs.BesideLaws.{conditional_uses, knows_nothing, knows_condition, counted_uses, knows_containing}
 use Rattle.evaluator.proofs.AloneLaws.{alone_knows, alone_uses}
@@ -105,7 +105,7 @@ use_groups-use_group-requires t c = (
 pub use_groups-first_mark-next-requires-in-loop-next : goal.use_groups-first_mark-next-requires-in-loop-next
 use_groups-first_mark-next-requires-in-loop-next t c =
     let inside : c.loop-next.next < length first_groups = subst (λ gs. c.loop-next.next < length gs) c.first_groups-groups.ensures c.loop-next-test.true in
-    omega (arith, inside, number_of_groups)
+    omega (arith, inside, few_groups)
 
 pub use_groups-returns-in-Err-clause-err : goal.use_groups-returns-in-Err-clause-err
 use_groups-returns-in-Err-clause-err t c a at other =

@@ -1,6 +1,5 @@
 -- What references name, by what they are read as.
-use Rattle.std.proofs.Common.{◌≡◌, List, [], true, None, Ok, Err, Result, IsTrue, is_err, is_some, Contains, option_map, refl, sym, ap, ◌∙◌}
-use Rattle.std.specs.Cow.{cow_str_bytes}
+use Rattle.std.proofs.Common.{◌≡◌, List, [], true, None, Ok, Err, Result, IsTrue, is_err, is_some, Contains, option_map, string_bytes, refl, sym, ap, ◌∙◌}
 use Rattle.definitions.specs.Faults.{Fault}
 use Rattle.definitions.specs.Fragments.{Fragment}
 use Rattle.definitions.specs.Schemas.{Schema}
@@ -12,7 +11,7 @@ use Rattle.definition_laws.proofs.Roots.{roots_found, pointer_root}
 use Rattle.linker.specs.AbsoluteReferences.{target_of, dynamic_target_of}
 use Rattle.linker.specs.LinkedDocuments.{linked_documents, linked_schemas}
 use Rattle.linker.specs.declared.linked.Linked.{Linked}
-use Rattle.linker.specs.declared.references.AbsoluteReference.{AbsoluteReference}
+use Rattle.uri_ref.specs.declared.absolute_references.AbsoluteReference.{AbsoluteReference}
 
 no_target : (table : List Schema) (uri : Text) (f : Result Fragment Fault) → is_err f ≡ true → None ≡ target_in table uri f
 no_target table uri (Ok f) e = absurd (cc)
@@ -26,11 +25,11 @@ pub unread_dynamic : (table : List Schema) (scope : List Text) (text : Text) →
 unread_dynamic table scope text e = ap (option_map (λ first. dynamic_by table scope first (fragment_of text))) (unread table text e)
 
 -- and one that is read names what it is read as
-pub read : (table : List Schema) (text : Text) (r : AbsoluteReference) → cow_str_bytes r.uri ≡ without_fragment text → fragment_of text ≡ Ok (fragment_view r.fragment)
+pub read : (table : List Schema) (text : Text) (r : AbsoluteReference) → string_bytes r.uri ≡ without_fragment text → fragment_of text ≡ Ok (fragment_view r.fragment)
     → target_of table r ≡ target table text
 read table text r e f = ap (λ u. target_in table u (Ok (fragment_view r.fragment))) e ∙ ap (target_in table (without_fragment text)) (sym f)
 
-pub read_dynamic : (table : List Schema) (scope : List Text) (text : Text) (r : AbsoluteReference) → cow_str_bytes r.uri ≡ without_fragment text
+pub read_dynamic : (table : List Schema) (scope : List Text) (text : Text) (r : AbsoluteReference) → string_bytes r.uri ≡ without_fragment text
     → fragment_of text ≡ Ok (fragment_view r.fragment) → dynamic_target_of table scope r ≡ dynamic_target table scope text
 read_dynamic table scope text r e f =
     ap (option_map (λ first. dynamic_by table scope first (Ok (fragment_view r.fragment)))) (read table text r e f)

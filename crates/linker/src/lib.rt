@@ -11,7 +11,6 @@ mod linking;
 mod list_holding;
 mod list_source;
 mod lookups;
-mod references;
 mod source;
 mod visiting;
 

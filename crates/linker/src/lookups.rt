@@ -7,23 +7,23 @@ ghost use Rattle.definitions.specs.Searches.{patterns_of};
 ghost use Rattle.definitions.specs.Schemas.{Document, Schema};
 ghost use Rattle.definitions.specs.Targets.{resource_root, target, target_by, is_dynamic_anchor, schema_with_dynamic_anchor, outermost, dynamic_by, dynamic_target};
 ghost use Rattle.definitions.specs.Uris.{without_fragment};
-ghost use Rattle.linker.specs.AbsoluteReferences.{dynamic_target_of};
+ghost use Rattle.linker.specs.AbsoluteReferences.{dynamic_target_of, target_of};
 ghost use Rattle.linker.specs.DocumentPatterns.{HasPattern};
 ghost use Rattle.linker.specs.SharedDocuments.{shared_documents};
 ghost use Rattle.linker.specs.LinkedDocuments.{linked_uri, linked_documents, linked_schemas};
 ghost use Rattle.schema_index.specs.Locateds.{located_view};
 ghost use Rattle.schema_scan.specs.CompiledDocuments.{compiled_view};
+ghost use Rattle.uri_ref.specs.AbsoluteReferences.{IsReadAs};
 ghost use Rattle.uri_ref.specs.FragmentViews.{fragment_view};
 
 use crate::holders::holder;
 use crate::linked::Linked;
-use crate::references::{AbsoluteReference, resolve_reference};
 use faults::Fault;
 use patterns::Pattern;
 use schema_scan::{Compiled, Located};
 use std::alloc::Global;
 use std::rc::Rc;
-use uri_ref::{FragmentKind, opened_uri};
+use uri_ref::{AbsoluteReference, FragmentKind, absolute_reference, opened_uri};
 
 impl Linked {
     /// The root of the resource that was linked.
@@ -50,8 +50,11 @@ impl Linked {
             ≡ target (linked_schemas self.now) (target_uri resource.now reference.now)) }
         ensures err { IfErr result (λ f. f ≡ Fault.NoRoom) }
     {
-        match resolve_reference(alloc, resource, reference)? {
-            Some(named) => self.target_by(alloc, named.uri.as_str(), &named.fragment),
+        if let Some(named) = self.absolute_reference(resource, reference) {
+            return self.target_of(alloc, named);
+        }
+        match absolute_reference(alloc, resource, reference)? {
+            Some(named) => self.target_of(alloc, &named),
             None => Ok(None),
         }
     }
@@ -71,7 +74,10 @@ impl Linked {
             (target_uri resource.now reference.now)) }
         ensures err { IfErr result (λ f. f ≡ Fault.NoRoom) }
     {
-        match resolve_reference(alloc, resource, reference)? {
+        if let Some(named) = self.absolute_reference(resource, reference) {
+            return self.dynamic_target_of(alloc, scope, named);
+        }
+        match absolute_reference(alloc, resource, reference)? {
             Some(named) => self.dynamic_target_of(alloc, scope, &named),
             None => Ok(None),
         }
@@ -85,6 +91,9 @@ impl Linked {
             → IfOk result (λ uri. uri.now ≡ s.resource) }
         ensures err { IfErr result (λ f. f ≡ Fault.NoRoom) }
     {
+        if let Some(read) = self.absolute_reference(around, id) {
+            return Ok(read.uri.as_str());
+        }
         let uri = opened_uri(alloc, around, id)?;
         Ok(self.resource_uri(uri.as_str()))
     }
@@ -118,6 +127,30 @@ impl Linked {
             Some(document) => document.resource_root(alloc, uri),
             None => None,
         }
+    }
+
+    // What a reference, or an `$id`, that stands in the resource with this URI is read as, where its document has kept that.
+    fn absolute_reference(&self, resource: &str, reference: &str) -> Option<&AbsoluteReference>
+        ensures { IfSome result
+            (λ r. IsReadAs (target_uri resource.now reference.now) (Some r.now)) }
+    {
+        match self.holder(resource) {
+            Some(document) => document.absolute_reference(resource, reference),
+            None => None,
+        }
+    }
+
+    // What an absolute reference names.
+    fn target_of(
+        &self,
+        alloc: Global,
+        named: &AbsoluteReference,
+    ) -> Result<Option<Located<'_>>, Fault>
+        ensures ok { IfOk result
+            (λ t. option_map located_view t ≡ target_of (linked_schemas self.now) named.now) }
+        ensures err { IfErr result (λ f. f ≡ Fault.NoRoom) }
+    {
+        self.target_by(alloc, named.uri.as_str(), &named.fragment)
     }
 
     // What the fragment names in the resource with this URI.
@@ -183,7 +216,7 @@ impl Linked {
             (map (λ uri. uri.now) scope.now) named.now) }
         ensures err { IfErr result (λ f. f ≡ Fault.NoRoom) }
     {
-        match self.target_by(alloc, named.uri.as_str(), &named.fragment) {
+        match self.target_of(alloc, named) {
             Ok(Some(first)) => match self.dynamic_by(alloc, scope, first, &named.fragment) {
                 Ok(target) => Ok(Some(target)),
                 Err(fault) => Err(fault),

@@ -1,5 +1,5 @@
 -- What is gathered of one schema, and of more.
-use Rattle.std.proofs.Common.{◌≡◌, List, [], ◌∷◌, ◌++◌, map, Bool, true, false, cond, filter, refl, sym, ap, ◌∙◌, append_assoc, append-nil}
+use Rattle.std.proofs.Common.{◌≡◌, List, [], ◌∷◌, ◌++◌, map, Bool, true, false, cond, filter, Result, Ok, Err, OnOk, refl, sym, ap, ◌∙◌, append_assoc, append-nil}
 use Rattle.std.proofs.lemmas.List.{map-append}
 use Rattle.std.proofs.lemmas.Grind.{flat_map-append}
 use Rattle.std.proofs.lemmas.List.Elements.{filter-append}
@@ -34,3 +34,8 @@ gathers-append g h k ss ts a b =
       references = two _ _ _ _ _ _ a.references b.references (flat_map-append spot_references ss ts);
       marks = two _ _ _ _ _ _ a.marks b.marks (flat_map-append marks ss ts);
     }
+
+-- what is gathered after nothing was
+pub on_ok-gathers : {T E : Type 0} (r : Result T E) (g h k : GatheredSchemas) (ss : List Spot) → Gathers g h [] → OnOk r (Gathers h k ss) → OnOk r (Gathers g k ss)
+on_ok-gathers (Ok u) g h k ss none rest = gathers-append g h k [] ss none rest
+on_ok-gathers (Err e) g h k ss none rest = rest

@@ -12,3 +12,4 @@ pub mod Indexing
 pub mod Marked
 pub mod Owned
 pub mod Paired
+pub mod Readings

@@ -5,7 +5,7 @@ use Rattle.std.specs.BTreeMap.{BTreeMap, get_by_text}
 use Rattle.std.specs.List.{find, position_from, slice_get}
 use Rattle.definitions.specs.Values.{Text, same_text}
 use Rattle.lemmas.proofs.Texts.{same_text_turned}
-use Rattle.schema_index.specs.AnchorNumbers.{name_number, pair_number}
+use Rattle.schema_index.specs.PairNumbers.{name_number, pair_number}
 
 abbrev pub Names : Type 0
 Names = BTreeMap (String Global) ℕ

@@ -5,4 +5,5 @@ pub mod DescentViews
 pub mod Spots
 pub mod Gathering
 pub mod Lookups
+pub mod PairNumbers
 pub mod AnchorNumbers

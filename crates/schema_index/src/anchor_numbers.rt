@@ -4,7 +4,8 @@ ghost use Rattle.std.specs.Prelude.{◌≡◌, ◌&&◌, false, IfOk, OnOk, Some
 ghost use Rattle.std.specs.BTreeMap.{get_by_text};
 ghost use Rattle.std.specs.List.{position_from};
 ghost use Rattle.definitions.specs.Values.{Text, same_text};
-ghost use Rattle.schema_index.specs.AnchorNumbers.{is_marked, pair_number};
+ghost use Rattle.schema_index.specs.AnchorNumbers.{is_marked};
+ghost use Rattle.schema_index.specs.PairNumbers.{pair_number};
 ghost use Rattle.schema_index.specs.Gathering.{anchor_mark};
 
 use crate::anchors::Anchor;
@@ -56,7 +57,8 @@ fn add_anchor(
     }
 }
 
-fn add_pair(
+/// Puts the number of a name in a resource of this URI in. Where it fails, for want of memory, some may be lost.
+pub(crate) fn add_pair(
     alloc: Global,
     numbers: &mut BTreeMap<String, BTreeMap<String, usize>>,
     uri: &str,
@@ -90,8 +92,8 @@ fn take_names(
     }
 }
 
-// The number of the anchor of this name in the resource with this URI.
-fn anchor_number(
+/// The number of this name in the resource with this URI.
+pub(crate) fn pair_number(
     numbers: &BTreeMap<String, BTreeMap<String, usize>>,
     uri: &str,
     name: &str,
@@ -115,7 +117,7 @@ pub(crate) fn find_anchor<'a>(
         ≡ option_and_then (slice_get (map anchor_mark anchors.now))
         (pair_number numbers.now uri.now name.now) }
 {
-    match anchor_number(numbers, uri, name) {
+    match pair_number(numbers, uri, name) {
         Some(number) => anchors.get(number),
         None => None,
     }

@@ -7,6 +7,7 @@ ghost use Rattle.schema_index.specs.Spots.{spot_in};
 ghost use Rattle.locations.specs.Ways.{owned_hops};
 ghost use Rattle.schema_index.specs.Gathering.{anchor_mark, marks, reference_under, references_at};
 
+use crate::absolute_references::AbsoluteReferences;
 use crate::anchors::Anchor;
 use json_doc::Doc;
 use locations::{OwnedStep, Step, own};
@@ -24,6 +25,8 @@ pub(crate) struct GatheredSchemas {
     pub(crate) references: Vec<String>,
     /// The anchors.
     pub(crate) anchors: Vec<Anchor>,
+    /// What the references, and the `$id`s, are read as.
+    pub(crate) read: AbsoluteReferences,
 }
 
 impl GatheredSchemas {
@@ -42,7 +45,21 @@ impl GatheredSchemas {
             ways: Vec::new(alloc),
             references: Vec::new(alloc),
             anchors: Vec::new(alloc),
+            read: AbsoluteReferences::new(alloc),
         }
+    }
+
+    /// Keeps what the `$id` of a schema is read as inside the resource around it.
+    #[tactic(auto, unfolding(crate::specs::Gathering::gathered_uris, crate::specs::Gathering::gathered_ways, crate::specs::Gathering::gathered_references, crate::specs::Gathering::gathered_marks))]
+    pub(crate) fn read_identifier(
+        &mut self,
+        alloc: Global,
+        around: &str,
+        id: &str,
+    ) -> Result<(), AllocError>
+        ensures { OnOk result (Gathers self.old self.new []) }
+    {
+        self.read.add(alloc, around, id)
     }
 
     /// Adds a schema that stands at the end of this way, in the resource of this URI, whose root is `start` steps along
@@ -61,7 +78,7 @@ impl GatheredSchemas {
         if way.len() <= start {
             push_root(alloc, &mut self.uris, &mut self.ways, uri, way)?;
         }
-        push_references(alloc, &mut self.references, uri, schema)?;
+        push_references(alloc, &mut self.references, &mut self.read, uri, schema)?;
         push_anchors(alloc, &mut self.anchors, uri, start, way, schema)?;
         Ok(())
     }
@@ -91,19 +108,21 @@ fn push_root(
 fn push_references(
     alloc: Global,
     references: &mut Vec<String>,
+    read: &mut AbsoluteReferences,
     base: &str,
     schema: &Doc,
 ) -> Result<(), AllocError>
     ensures { OnOk result (map string_bytes references.new.items
         ≡ map string_bytes references.old.items ++ references_at base.now (value schema.now)) }
 {
-    push_reference(alloc, references, "$ref", base, schema)?;
-    push_reference(alloc, references, "$dynamicRef", base, schema)
+    push_reference(alloc, references, read, "$ref", base, schema)?;
+    push_reference(alloc, references, read, "$dynamicRef", base, schema)
 }
 
 fn push_reference(
     alloc: Global,
     references: &mut Vec<String>,
+    read: &mut AbsoluteReferences,
     keyword: &str,
     base: &str,
     schema: &Doc,
@@ -114,6 +133,7 @@ fn push_reference(
 {
     if let Some(reference) = schema.text_at(keyword) {
         references.push(resolved_uri(alloc, base, reference)?)?;
+        read.add(alloc, base, reference)?;
     }
     Ok(())
 }

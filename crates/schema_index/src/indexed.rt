@@ -1,19 +1,23 @@
 //! Documents with an index.
 
-ghost use Rattle.std.specs.Prelude.{◌≡◌, [], false, true, None, IfOk, IfErr, IfSome, is_some, find, map, option_and_then, option_map, string_bytes};
+ghost use Rattle.std.specs.Prelude.{◌≡◌, [], false, true, None, IfOk, IfErr, IfSome, Some, is_some, find, map, option_and_then, option_map, string_bytes};
 ghost use Rattle.std.specs.BTreeMap.{get_by_text};
 ghost use Rattle.std.specs.List.{position_from};
 ghost use Rattle.definitions.specs.Reach.{holds_resource, references_in};
+ghost use Rattle.definitions.specs.Resolution.{target_uri};
 ghost use Rattle.definitions.specs.Scanning.{resource_uris, scan_fault};
 ghost use Rattle.definitions.specs.Targets.{resource_root, target_by, schema_at_pointer, schema_with_anchor, schema_with_dynamic_anchor};
+ghost use Rattle.definitions.specs.Uris.{without_fragment};
 ghost use Rattle.definitions.specs.Values.{Text, is_well_formed, same_text};
 ghost use Rattle.json_doc.specs.Docs.{value};
-ghost use Rattle.schema_index.specs.AnchorNumbers.{is_marked, pair_number};
+ghost use Rattle.schema_index.specs.AnchorNumbers.{is_marked};
+ghost use Rattle.schema_index.specs.PairNumbers.{pair_number};
 ghost use Rattle.schema_index.specs.Gathering.{IsGathered, gathered_marks, gathered_uris, gathered_ways};
 ghost use Rattle.schema_index.specs.Locateds.{located_view};
 ghost use Rattle.schema_index.specs.Lookups.{numbered_root, root_at};
 ghost use Rattle.locations.specs.Ways.{owned_hops};
 ghost use Rattle.schema_index.specs.Spots.{spots};
+ghost use Rattle.uri_ref.specs.AbsoluteReferences.{IsReadAs};
 ghost use Rattle.uri_ref.specs.FragmentViews.{fragment_view};
 
 use crate::anchor_numbers::{anchor_numbers_of, find_anchor};
@@ -27,7 +31,7 @@ use json_doc::{Doc, Pointer, copy};
 use locations::{OwnedStep, follow};
 use std::alloc::Global;
 use std::collections::BTreeMap;
-use uri_ref::FragmentKind;
+use uri_ref::{AbsoluteReference, FragmentKind, opened_uri};
 
 /// A schema document with no fault, and an index of its resources, anchors and references.
 ///
@@ -126,6 +130,37 @@ impl Indexed {
             Some(number) => numbered(&self.gathered.uris, number),
             None => None,
         }
+    }
+
+    /// What a reference, or an `$id`, of the document's schemas is read as inside the resource of this URI. It takes no memory.
+    /// Of others it answers nothing, and of those whose fragment can't be read.
+    pub fn absolute_reference(&self, resource: &str, reference: &str) -> Option<&AbsoluteReference>
+        ensures { IfSome result
+            (λ r. IsReadAs (target_uri resource.now reference.now) (Some r.now)) }
+    {
+        self.gathered.read.get(resource, reference)
+    }
+
+    // The URI, as a text of the document, of the resource that a schema opens by this `$id` inside the resource around it
+    // (JSON Schema 2020-12 Core, section 8.2.1). The only error is want of memory.
+    pub(crate) fn resource_opened(
+        &self,
+        alloc: Global,
+        around: &str,
+        id: &str,
+    ) -> Result<Option<&str>, Fault>
+        ensures same { IfOk result (λ o. IfSome o
+            (λ u. u.now ≡ without_fragment (target_uri around.now id.now))) }
+        ensures held { IfOk result (λ o.
+            holds_resource (without_fragment (target_uri around.now id.now)) (indexed_view self.now)
+            ≡ true → is_some o ≡ true) }
+        ensures err { IfErr result (λ f. f ≡ Fault.NoRoom) }
+    {
+        if let Some(read) = self.absolute_reference(around, id) {
+            return Ok(Some(read.uri.as_str()));
+        }
+        let uri = opened_uri(alloc, around, id)?;
+        Ok(self.resource_uri(uri.as_str()))
     }
 
     /// The root of the resource with this URI.

@@ -2,6 +2,7 @@
 //! Schema 2020-12 Core, section 8.2).
 #![tactic(auto)]
 
+mod absolute_references;
 mod anchor_numbers;
 mod anchors;
 mod gathered;

@@ -16,7 +16,6 @@ use faults::Fault;
 use json_doc::{Doc, Pointer};
 use locations::Step;
 use std::alloc::{AllocError, Global};
-use uri_ref::opened_uri;
 
 mod descending;
 
@@ -86,17 +85,14 @@ impl Indexed {
         ensures err { IfErr result (λ f. f ≡ Fault.NoRoom) }
     {
         match descent.schema.text_at("$id") {
-            Some(id) => {
-                let uri = opened_uri(alloc, around.resource, id)?;
-                match self.resource_uri(uri.as_str()) {
-                    Some(resource) => Ok(Located {
-                        resource,
-                        steps: Vec::new(alloc),
-                        schema: descent.schema,
-                    }),
-                    None => unreachable!(),
-                }
-            }
+            Some(id) => match self.resource_opened(alloc, around.resource, id)? {
+                Some(resource) => Ok(Located {
+                    resource,
+                    steps: Vec::new(alloc),
+                    schema: descent.schema,
+                }),
+                None => unreachable!(),
+            },
             None => Ok(Located {
                 resource: around.resource,
                 steps: with_steps(around.steps, descent.keyword, descent.step)?,

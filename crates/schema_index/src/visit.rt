@@ -1,6 +1,8 @@
 //! The walk over the schemas of a document.
 
-ghost use Rattle.std.specs.Prelude.{◌≡◌, ◌∷◌, ◌++◌, [], List, OnOk, map};
+ghost use Rattle.std.specs.Prelude.{◌≡◌, ◌∷◌, ◌++◌, [], List, IfOk, OnOk, map, string_bytes};
+ghost use Rattle.definitions.specs.Resolution.{target_uri};
+ghost use Rattle.definitions.specs.Uris.{without_fragment};
 ghost use Rattle.definitions.specs.Values.{to_elements};
 ghost use Rattle.json_doc.specs.Docs.{value, members_view};
 ghost use Rattle.schema_index.specs.Gathering.{Gathers};
@@ -33,7 +35,7 @@ pub(crate) fn visit_schema<'a>(
     ensures way { OnOk result (step_hops way.new.items ≡ step_hops way.old.items) }
 {
     match schema.text_at("$id") {
-        Some(id) => match opened_uri(alloc, base, id) {
+        Some(id) => match opened(alloc, gathered, base, id) {
             Ok(uri) => {
                 let here = way.len();
                 visit_in_resource(alloc, gathered, way, here, uri.as_str(), schema)
@@ -225,6 +227,21 @@ fn visit_step<'a>(
     }
     pop_step(way);
     Ok(())
+}
+
+// The URI of the resource that a schema with this `$id` opens inside this base. What the `$id` is read as is kept.
+fn opened(
+    alloc: Global,
+    gathered: &mut GatheredSchemas,
+    base: &str,
+    id: &str,
+) -> Result<String, AllocError>
+    ensures uri { IfOk result
+        (λ uri. string_bytes uri ≡ without_fragment (target_uri base.now id.now)) }
+    ensures gathers { OnOk result (Gathers gathered.old gathered.new []) }
+{
+    gathered.read_identifier(alloc, base, id)?;
+    opened_uri(alloc, base, id)
 }
 
 fn push_step<'a>(way: &mut Vec<Step<'a>>, step: Step<'a>) -> Result<(), AllocError>

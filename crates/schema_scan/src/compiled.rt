@@ -1,9 +1,10 @@
 //! Documents that can be evaluated.
 
-ghost use Rattle.std.specs.Prelude.{◌≡◌, true, None, IfOk, IfErr, IfSome, IsTrue, Contains, is_some, map, option_map, string_bytes};
+ghost use Rattle.std.specs.Prelude.{◌≡◌, true, None, IfOk, IfErr, IfSome, IsTrue, Contains, Some, is_some, map, option_map, string_bytes};
 ghost use Rattle.std.specs.List.{list_all};
 ghost use Rattle.definitions.specs.Patterns.{regular_search};
 ghost use Rattle.definitions.specs.Reach.{holds_resource, references_in};
+ghost use Rattle.definitions.specs.Resolution.{target_uri};
 ghost use Rattle.definitions.specs.Searches.{is_regular, patterns};
 ghost use Rattle.definitions.specs.Scanning.{resource_uris, scan_fault};
 ghost use Rattle.definitions.specs.Targets.{resource_root, target_by, schema_with_dynamic_anchor};
@@ -11,6 +12,7 @@ ghost use Rattle.json_doc.specs.Docs.{value};
 ghost use Rattle.schema_index.specs.IndexedDocuments.{indexed_value};
 ghost use Rattle.schema_index.specs.Locateds.{located_view};
 ghost use Rattle.schema_scan.specs.PatternTables.{holds_pattern};
+ghost use Rattle.uri_ref.specs.AbsoluteReferences.{IsReadAs};
 ghost use Rattle.uri_ref.specs.FragmentViews.{fragment_view};
 
 use crate::pattern_table::PatternTable;
@@ -19,7 +21,7 @@ use json_doc::Doc;
 use patterns::Pattern;
 use schema_index::{Indexed, Located};
 use std::alloc::Global;
-use uri_ref::FragmentKind;
+use uri_ref::{AbsoluteReference, FragmentKind};
 
 /// A schema document that can be evaluated: the scan found no fault in it, and its patterns are built.
 ///
@@ -72,6 +74,15 @@ impl Compiled {
         ensures held { is_some result ≡ holds_resource uri.now (compiled_view self.now) }
     {
         self.indexed.resource_uri(uri)
+    }
+
+    /// What a reference, or an `$id`, of the document's schemas is read as inside the resource of this URI. It takes no memory.
+    /// Of others it answers nothing, and of those whose fragment can't be read.
+    pub fn absolute_reference(&self, resource: &str, reference: &str) -> Option<&AbsoluteReference>
+        ensures { IfSome result
+            (λ r. IsReadAs (target_uri resource.now reference.now) (Some r.now)) }
+    {
+        self.indexed.absolute_reference(resource, reference)
     }
 
     /// The root of the resource with this URI.

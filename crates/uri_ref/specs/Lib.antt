@@ -4,3 +4,4 @@ pub mod Places
 pub mod Soundness
 pub mod Views
 pub mod ResolvedViews
+pub mod AbsoluteReferences

@@ -1,6 +1,7 @@
 //! URI references (RFC 3986): their parts, and what they resolve to.
 #![tactic(auto)]
 
+mod absolute_references;
 mod base_forms;
 mod dots;
 mod fragments;
@@ -12,6 +13,7 @@ mod resolved_parts;
 mod resolving;
 mod splitting;
 
+pub use absolute_references::{AbsoluteReference, absolute_reference};
 pub use base_forms::base_form;
 pub use faults::Fault;
 pub use fragments::{FragmentKind, fragment_kind};

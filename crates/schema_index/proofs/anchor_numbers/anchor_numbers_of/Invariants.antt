@@ -1,7 +1,8 @@
 use Rattle.std.proofs.Common.{◌≡◌, ◌≤◌, drop, length, map}
 use Rattle.std.specs.List.{position_from}
 use Rattle.definitions.specs.Values.{Text}
-use Rattle.schema_index.specs.AnchorNumbers.{is_marked, pair_number}
+use Rattle.schema_index.specs.AnchorNumbers.{is_marked}
+use Rattle.schema_index.specs.PairNumbers.{pair_number}
 use Rattle.schema_index.specs.Gathering.{anchor_mark}
 use Rattle.schema_index.proofs.anchor_numbers.anchor_numbers_of.Given as goal
 

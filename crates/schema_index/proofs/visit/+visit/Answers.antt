@@ -11,7 +11,7 @@ use Rattle.schema_index.specs.Gathering.{Gathers}
 use Rattle.locations.specs.Hops.{step_hop, step_hops, to_element, to_member}
 use Rattle.keywords.specs.Rows.{shape_named}
 use Rattle.schema_index.specs.Spots.{Spot, spots, spots_from, spots_at, spots_below, spots_in_list, spots_in_map}
-use Rattle.schema_index.proofs.Gatherings.{gathers-none, gathers-append}
+use Rattle.schema_index.proofs.Gatherings.{gathers-none, gathers-append, on_ok-gathers}
 use Rattle.schema_index.proofs.Visiting.{spots-by, spots-index}
 use Rattle.schema_index.proofs.visit.+visit.Goals as goal
 
@@ -106,10 +106,11 @@ visit_schema-returns-in-Ok-clause-gathers t c =
     let base = c.args.base.now in
     let v = value c.args.schema.now in
     let here : length way ≡ c.len-here.result = omega (arith, length-map c.args.way.now.items step_hop) in
-    let uri : without_fragment (target_uri base c.in-Some.id.now) ≡ c.as_str.result.now = sym (c.as_str.ensures.value ∙ c.in-Ok.ensures) in
+    let uri : without_fragment (target_uri base c.in-Some.id.now) ≡ c.as_str.result.now = sym (c.as_str.ensures.value ∙ c.in-Ok.ensures.uri) in
     subst (λ ss. OnOk c.visit_in_resource.result (Gathers c.args.gathered.now c.visit_in_resource.new.gathered ss))
     (sym (spots-by way c.args.start base v (Some c.in-Some.id.now) (sym c.in-Some.ensures) ∙ ap₂ (λ n u. spots_from way n u v) here uri))
-    c.visit_in_resource.ensures.gathers
+    (on_ok-gathers c.visit_in_resource.result c.args.gathered.now c.opened.new.gathered c.visit_in_resource.new.gathered
+    (spots_from way c.len-here.result c.as_str.result.now v) c.in-Ok.ensures.gathers c.visit_in_resource.ensures.gathers)
 
 pub visit_schema-returns-in-None-clause-gathers : goal.visit_schema-returns-in-None-clause-gathers
 visit_schema-returns-in-None-clause-gathers t c =

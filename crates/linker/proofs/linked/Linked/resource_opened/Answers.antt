@@ -4,5 +4,5 @@ use Rattle.linker.proofs.linked.Linked.resource_opened.Goals as goal
 
 pub returns-clause-ok : goal.returns-clause-ok
 returns-clause-ok c = λ s inside root opens.
-    let uri_is = opens ∙ sym c.in_ok-uri.ensures ∙ sym c.as_str.ensures.value in
-    c.resource_uri.ensures (opened_has_root c.args.self.now s c.as_str.result.now inside root uri_is) ∙ sym uri_is
+    let uri_is = opens ∙ sym c.in_ok-uri.ensures ∙ sym c.as_str-2.ensures.value in
+    c.resource_uri.ensures (opened_has_root c.args.self.now s c.as_str-2.result.now inside root uri_is) ∙ sym uri_is

@@ -1,7 +1,8 @@
 use Rattle.std.proofs.Common.{true, map, option_and_then, ap, ◌∙◌}
 use Rattle.std.specs.List.{slice_get}
 use Rattle.json_doc.specs.Docs.{value}
-use Rattle.schema_index.specs.AnchorNumbers.{is_marked, pair_number}
+use Rattle.schema_index.specs.AnchorNumbers.{is_marked}
+use Rattle.schema_index.specs.PairNumbers.{pair_number}
 use Rattle.schema_index.specs.Gathering.{anchor_mark, gathered_marks}
 use Rattle.schema_index.specs.Lookups.{marked_schema}
 use Rattle.schema_index.proofs.Owned.{owned-anchored}

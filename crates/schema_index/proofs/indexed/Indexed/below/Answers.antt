@@ -20,19 +20,20 @@ unreachable-requires c =
     let way = tokens_taken c.args.descent in
     let t = below s way v in
     let is = below-opened s way v c.in-Some.id.now (sym c.in-Some.ensures) in
-    let uri : t.resource ≡ c.as_str.result.now = ap (λ x. x.resource) is ∙ sym (c.as_str.ensures.value ∙ c.in_ok-uri-in-Some.ensures) in
+    let uri : t.resource ≡ without_fragment (target_uri s.resource c.in-Some.id.now) = ap (λ x. x.resource) is in
     let held : is_some (resource_root (indexed_schemas c.args.self.now) t.resource) ≡ true = root_held (indexed_schemas c.args.self.now) t c.requires (ap (λ x. x.pointer) is) in
-    let none : is_some (resource_root (indexed_schemas c.args.self.now) c.as_str.result.now) ≡ true = ap (λ u. is_some (resource_root (indexed_schemas c.args.self.now) u)) (sym uri) ∙ held in
-    absurd (let no : false ≡ true = c.in-None-resource_uri.ensures.held ∙ none in cc)
+    let there : is_some (resource_root (indexed_schemas c.args.self.now) (without_fragment (target_uri s.resource c.in-Some.id.now))) ≡ true = ap (λ u. is_some (resource_root (indexed_schemas c.args.self.now) u)) (sym uri) ∙ held in
+    let none : false ≡ true = rw c.in-None-2.is at c.in_ok-resource-in-Some.ensures.held there in
+    absurd (cc)
 
 abbrev shown : Text → Pointer → Value → Schema
 shown resource pointer v = record { resource = resource; pointer = pointer; value = v }
 
-pub returns-in-Some-resource_uri-clause-ok : goal.returns-in-Some-resource_uri-clause-ok
-returns-in-Some-resource_uri-clause-ok c =
+pub returns-in-Some-2-clause-ok : goal.returns-in-Some-2-clause-ok
+returns-in-Some-2-clause-ok c =
     let s = located_view c.args.around in
     let v = value c.args.descent.schema.now in
-    let uri : c.in-Some-resource_uri.resource.now ≡ without_fragment (target_uri s.resource c.in-Some.id.now) = c.in-Some-resource_uri.ensures.same ∙ c.as_str.ensures.value ∙ c.in_ok-uri-in-Some.ensures in
+    let uri : c.in-Some-2.resource.now ≡ without_fragment (target_uri s.resource c.in-Some.id.now) = rw c.in-Some-2.is at c.in_ok-resource-in-Some.ensures.same in
     ap₂ (λ r p. shown r p v) uri (ap tokens c.new.ensures.items) ∙ sym (below-opened s (tokens_taken c.args.descent) v c.in-Some.id.now (sym c.in-Some.ensures))
 
 pub returns-clause-ok : goal.returns-clause-ok

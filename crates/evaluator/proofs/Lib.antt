@@ -13,4 +13,5 @@ pub mod KeywordsLaws
 pub mod PartLaws
 pub mod SettlingLaws
 pub mod PresentLaws
+pub mod DollarLaws
 pub mod AssertedLaws

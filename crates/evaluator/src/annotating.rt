@@ -6,6 +6,7 @@ ghost use Rattle.definitions.specs.Evaluated.{is_annotation};
 ghost use Rattle.definitions.specs.Keywords.{is_keyword_of, keywords};
 ghost use Rattle.definitions.specs.Outcomes.{other_annotations, unit};
 ghost use Rattle.json_doc.specs.Docs.{value, members_value};
+ghost use Rattle.json_doc.specs.Members.{members_left};
 ghost use Rattle.evaluation_context.specs.Frames.{context_view, frame_standing};
 ghost use Rattle.evaluation_context.specs.Standings.{standing_of};
 ghost use Rattle.evaluator.specs.Annotations.{annotations_among};
@@ -13,11 +14,12 @@ ghost use Rattle.evaluator.specs.Logs.{log_view};
 ghost use Rattle.evaluator.specs.Notes.{no_notes, notes_of_both};
 ghost use Rattle.keyword_plans.specs.Subjects.{subject_value};
 
+use crate::dollar_names::{are_many, cut_at_dollar_names};
 use crate::log::Log;
 use crate::present::Present;
 use basic_output::Says;
 use evaluation_context::Context;
-use json_doc::{Doc, Members};
+use json_doc::{Doc, Members, MembersIter};
 use keyword_plans::Subject;
 use keywords::Keyword;
 use std::alloc::AllocError;
@@ -64,7 +66,31 @@ fn note_members<'a>(
               (members_value members.now);
         })) }
 {
-    for (name, member) in members.iter() {
+    if !are_many(members) {
+        return note_among(context, log, schema, members.iter(), subject);
+    }
+    let cut = cut_at_dollar_names(members);
+    note_among(context, log, schema, cut.before, subject)?;
+    note_among(context, log, schema, cut.after, subject)
+}
+
+fn note_among<'a>(
+    context: &mut Context<'a>,
+    log: &mut Log<'a>,
+    schema: &'a Doc,
+    members: MembersIter<'a>,
+    subject: Subject<'a>,
+) -> Result<(), AllocError>
+    ensures back { OnOk result (context_view context.new ≡ context_view context.old) }
+    ensures noted { (a : Application) → frame_standing (context_view context.old) ≡ standing_of a
+        → a.schema.value ≡ value schema.now → a.instance ≡ subject_value subject.entry
+        → OnOk result (log_view log.new
+        ≡ notes_of_both (log_view log.old) (record no_notes {
+          annotations = annotations_among a
+              (members_left members.entry);
+        })) }
+{
+    for (name, member) in members {
         if annotates(name, schema, subject) {
             note_member(context, log, name, member)?;
         }

@@ -6,6 +6,7 @@ mod annotating;
 mod applying;
 mod asserting;
 mod beside;
+mod dollar_names;
 mod found;
 mod groups;
 mod here;

@@ -1,17 +1,21 @@
-//! Which keywords a schema object has, found in one walk over its members.
+//! Which keywords a schema object has, found in one walk over its members; of many, those whose names begin with `$`
+//! are passed over.
 
-ghost use Rattle.std.specs.Prelude.{◌≡◌, ◌≤◌, ◌<◌, ◌||◌, ℕ, None, [], false, is_some, option_map};
+ghost use Rattle.std.specs.Prelude.{◌≡◌, ◌≤◌, ◌<◌, ◌||◌, ℕ, None, [], false, true, codes, is_some, option_map};
 ghost use Rattle.std.specs.List.{list_any};
 ghost use Rattle.std.specs.Int.{bit_at};
-ghost use Rattle.definitions.specs.Values.{get, members};
+ghost use Rattle.definitions.specs.Values.{Text, get, members};
+ghost use Rattle.definitions.specs.Uris.{begins};
 ghost use Rattle.definitions.specs.Applied.{Application};
 ghost use Rattle.definitions.specs.Outcomes.{other_annotations};
 ghost use Rattle.json_doc.specs.Docs.{value, members_value};
+ghost use Rattle.json_doc.specs.Members.{members_left};
 ghost use Rattle.keywords.specs.Rows.{row_of};
 ghost use Rattle.keywords.specs.declared.keyword.Keyword.TheVariants.{UnevaluatedItems, UnevaluatedProperties};
 ghost use Rattle.evaluator.specs.Presents.{AreMarked, has_mark, mark_of};
 
-use json_doc::{Doc, Members};
+use crate::dollar_names::{are_many, cut_at_dollar_names};
+use json_doc::{Doc, Members, MembersIter};
 use keywords::Keyword;
 
 /// The mark of names that may annotate with their own value.
@@ -95,11 +99,33 @@ fn marks_of(members: &Members) -> u64
     ensures { (i : ℕ) → bit_at result i ≡ 0
         → list_any (has_mark i) (members_value members.now) ≡ false }
 {
+    if !are_many(members) {
+        return marks_among(members.iter());
+    }
+    let cut = cut_at_dollar_names(members);
+    marks_among(cut.before) | dollar_marks() | marks_among(cut.after)
+}
+
+fn marks_among(members: MembersIter<'_>) -> u64
+    ensures { (i : ℕ) → bit_at result i ≡ 0
+        → list_any (has_mark i) (members_left members.entry) ≡ false }
+{
     let mut marks: u64 = 0;
-    for (name, _) in members.iter() {
+    for (name, _) in members {
         marks |= 1u64 << mark_of(name);
     }
     marks
+}
+
+// The marks that names that begin with `$` may have: those of two keywords that are evaluated, that of keywords that
+// are not, and that of names that are no keyword's.
+fn dollar_marks() -> u64
+    ensures { (name : Text) → begins name (codes "$") ≡ true → bit_at result (mark_of name) ≡ 1 }
+{
+    let reference = 1u64 << mark_of_keyword(Keyword::Ref);
+    let dynamic_reference = 1u64 << mark_of_keyword(Keyword::DynamicRef);
+    let declaration = 1u64 << mark_of_keyword(Keyword::Defs);
+    reference | dynamic_reference | declaration | 1u64 << ANNOTATES
 }
 
 fn mark_of(name: &str) -> usize

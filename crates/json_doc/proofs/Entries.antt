@@ -1,5 +1,7 @@
 -- The entries of a map beside the members that they stand for.
-use Rattle.std.proofs.Common.{◌≡◌, List, [], ◌∷◌, map, length, Option, Some, None, option_map, String, Global, Ordering, Less, Equal, Greater, string_bytes, string_cmp, nat_cmp, is_eq, cond, Bool, true, false, refl, ap, ◌∙◌}
+use Rattle.std.proofs.Common.{◌≡◌, List, [], ◌∷◌, ◌++◌, map, length, Option, Some, None, option_map, String, Global, Ordering, Less, Equal, Greater, string_bytes, string_cmp, nat_cmp, is_eq, cond, Bool, true, false, refl, sym, ap, ◌∙◌}
+use Rattle.std.proofs.lemmas.Cmp.{nat_list_cmp_total}
+use Rattle.std.proofs.lemmas.List.{map-append}
 use Rattle.std.proofs.lemmas.Str.{is_utf8-from_IsUtf8, IsUtf8-string_bytes}
 use Rattle.std.proofs.lemmas.Map.Text.{is_eq-slice_cmp}
 use Rattle.std.specs.BTreeMap.{is_at, insert_entry}
@@ -7,12 +9,12 @@ use Rattle.std.specs.Cmp.Lexicographic.{slice_cmp}
 use Rattle.std.specs.List.{AllByRecursion}
 use Rattle.std.specs.List.Sorted.{IsStrictlySortedBy}
 use Rattle.std.specs.Map.{keys_of, lookup}
-use Rattle.std.specs.Ordering.{match_ordering}
+use Rattle.std.specs.Ordering.{is_gt, is_lt, match_ordering, ordering_reverse}
 use Rattle.std.specs.Str.{is_utf8}
 use Rattle.definitions.specs.Values.{Text, Value, entry}
 use Rattle.json_doc.specs.Docs.{value}
-use Rattle.json_doc.specs.Members.{member_value, members_with, HasNamesInOrder, HasTextsAsNames}
-use Rattle.json_doc.specs.NameMaps.{entry_named}
+use Rattle.json_doc.specs.Members.{member_value, members_with, is_below, AreBelow, AreNotBelow, HasNamesInOrder, HasTextsAsNames}
+use Rattle.json_doc.specs.NameMaps.{entry_named, IsAbove, IsAboveNone}
 use Rattle.json_doc.specs.declared.doc.Doc.{Doc}
 use Rattle.json_doc.proofs.Views.{Entry}
 
@@ -65,6 +67,36 @@ pub names_in_order : (es : List Entry) → IsStrictlySortedBy string_cmp (keys_o
 unfolding IsStrictlySortedBy
 names_in_order [] h = tt
 names_in_order (e ∷ es) h = (above e.0 es h.0, names_in_order es h.1)
+
+-- ---- names below another
+reversed : (o : Ordering) → is_lt (ordering_reverse o) ≡ is_gt o
+reversed Less = refl
+reversed Equal = refl
+reversed Greater = refl
+
+-- a name is below the other where the other is above it
+below_is : (name other : Text) → is_below name other ≡ is_gt (slice_cmp nat_cmp other name)
+below_is name other = ap is_lt (nat_list_cmp_total.antisymm name other) ∙ reversed (slice_cmp nat_cmp other name)
+
+pub are_below : (name : Text) (es : List Entry) → IsAbove name es → AreBelow name (map member_value es)
+are_below name [] h = tt
+are_below name (e ∷ es) h = (below_is (string_bytes e.0) name ∙ ap is_gt h.0, are_below name es h.1)
+
+pub are_not_below : (name : Text) (es : List Entry) → IsAboveNone name es → AreNotBelow name (map member_value es)
+are_not_below name [] h = tt
+are_not_below name (e ∷ es) h = (below_is (string_bytes e.0) name ∙ h.0, are_not_below name es h.1)
+
+-- what is above no entry is above none of the first, nor of the others
+pub above_none_parts : (name : Text) (es fs : List Entry) → IsAboveNone name (es ++ fs) → IsAboveNone name es × IsAboveNone name fs
+above_none_parts name [] fs h = (tt, h)
+above_none_parts name (e ∷ es) fs h = let parts = above_none_parts name es fs h.1 in ((h.0, parts.0), parts.1)
+
+-- members cut twice
+pub cut_twice : (bs rest cs ds es : List Entry) → bs ++ rest ≡ es → cs ++ ds ≡ rest
+    → map member_value bs ++ (map member_value cs ++ map member_value ds) ≡ map member_value es
+cut_twice bs rest cs ds es e f =
+    ap (λ ms. map member_value bs ++ ms) (sym (map-append member_value cs ds)) ∙ sym (map-append member_value bs (cs ++ ds))
+    ∙ ap (λ ns. map member_value (bs ++ ns)) f ∙ ap (map member_value) e
 
 pub none_are_left : {A B : Type 0} (f : A → B) (xs : List A) → map f xs ≡ [] → length xs ≡ 0
 none_are_left f [] e = refl

@@ -1,5 +1,5 @@
 -- Where a name stands among entries in order of names, and what an edit at that position does.
-use Rattle.std.proofs.Common.{◌≡◌, ℕ, zero, suc, ◌+◌, ◌-◌, ◌++◌, slice_get, ◌<◌, ◌≤◌, List, [], ◌∷◌, length, take, drop, get_or, set, Option, Some, None, option_map, String, Global, Ordering, Less, Equal, Greater, string_bytes, string_cmp, nat_cmp, is_eq, true, refl, sym, ap, ◌∙◌, arith, add-one, subst}
+use Rattle.std.proofs.Common.{◌≡◌, ℕ, zero, suc, ◌+◌, ◌-◌, ◌++◌, slice_get, slice_index_or, ◌<◌, ◌≤◌, List, [], ◌∷◌, length, take, drop, get_or, set, Option, Some, None, option_map, String, Global, Ordering, Less, Equal, Greater, string_bytes, string_cmp, nat_cmp, is_eq, true, refl, sym, ap, ◌∙◌, arith, add-one, subst}
 use Rattle.std.proofs.lemmas.Cmp.{nat_list_cmp_total}
 use Rattle.std.proofs.lemmas.List.{take_all}
 use Rattle.std.proofs.lemmas.Map.Text.{is_eq-slice_cmp}
@@ -13,7 +13,7 @@ use Rattle.std.specs.Map.{keys_of, lookup}
 use mathlib.Core.Bool.{true≢false}
 use Rattle.std.specs.Ordering.{ordering_reverse, is_gt}
 use Rattle.definitions.specs.Values.{Text}
-use Rattle.json_doc.specs.NameMaps.{order_to, entry_named, IsAbove, IsBelow, IsPositionOf, IsGapFor}
+use Rattle.json_doc.specs.NameMaps.{order_to, entry_named, IsAbove, IsAboveNone, IsBelow, IsPositionOf, IsGapFor}
 
 abbrev compared : Text → Text → Ordering
 compared = slice_cmp nat_cmp
@@ -74,6 +74,31 @@ module _ {T : Type 0} where
   below_from name [] i d order lt h = absurd (omega arith)
   below_from name (e ∷ es) zero d order lt h = (h, below_all name e.0 es h order.0)
   below_from name (e ∷ es) (suc i) d order lt h = below_from name es i d order.1 (omega arith) h
+
+  -- ---- cutting in two
+  pub none_above_below : (name : Text) (es : List (Entry T)) → IsBelow name es → IsAboveNone name es
+  none_above_below name [] h = tt
+  none_above_below name (e ∷ es) h = (ap is_gt h.0, none_above_below name es h.1)
+
+  below_same : (name : Text) (first : String Global) (es : List (Entry T)) → compared name (string_bytes first) ≡ Equal → AllByRecursion (λ k. string_cmp first k ≡ Less) (keys_of es) → IsBelow name es
+  below_same name first [] same h = tt
+  below_same name first (e ∷ es) same h = (nat_list_cmp_total.congr name (string_bytes first) (string_bytes e.0) same ∙ h.0, below_same name first es same h.1)
+
+  from_same : (name : Text) (es : List (Entry T)) (i : ℕ) → InOrder es → i < length es → ((d : Entry T) → order_to name (slice_index_or es i d) ≡ Equal) → IsAboveNone name (drop i es)
+  unfolding IsStrictlySortedBy
+  from_same name [] i order lt h = absurd (omega arith)
+  from_same name (e ∷ es) zero order lt h = (ap is_gt (h e), none_above_below name es (below_same name e.0 es (h e) order.0))
+  from_same name (e ∷ es) (suc i) order lt h = from_same name es i order.1 (omega arith) h
+
+  pub none_above_from : (name : Text) (es : List (Entry T)) (i : ℕ) → InOrder es → IsPositionOf name es i → IsAboveNone name (drop i es)
+  none_above_from name es i order at = from_same name es i order at.within at.same
+
+  pub in_order_from : (es : List (Entry T)) (i : ℕ) → InOrder es → InOrder (drop i es)
+  unfolding IsStrictlySortedBy
+  in_order_from [] zero order = order
+  in_order_from [] (suc i) order = order
+  in_order_from (e ∷ es) zero order = order
+  in_order_from (e ∷ es) (suc i) order = in_order_from es i order.1
 
   -- ---- what is there
   abbrev named : Text → List (Entry T) → Option T

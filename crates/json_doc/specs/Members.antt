@@ -1,11 +1,11 @@
 -- Members as a list of names and values, and what an iterator over them has left.
-use Rattle.std.specs.Prelude.{◌≡◌, true, List, [], ◌∷◌, map, String, string_bytes}
+use Rattle.std.specs.Prelude.{◌≡◌, Bool, true, false, List, [], ◌∷◌, map, String, string_bytes}
 use Rattle.std.specs.Borrow.{Bor}
 use Rattle.std.specs.Cmp.Lexicographic.{slice_cmp}
 use Rattle.std.specs.Global.{Global}
 use Rattle.std.specs.List.{AllByRecursion}
 use Rattle.std.specs.List.Sorted.{IsStrictlySortedBy}
-use Rattle.std.specs.Ordering.{nat_cmp, match_ordering}
+use Rattle.std.specs.Ordering.{is_lt, nat_cmp, match_ordering}
 use Rattle.std.specs.Slice.Iter.{iter_rest}
 use Rattle.std.specs.Str.{is_utf8}
 use Rattle.definitions.specs.Values.{Text, Value}
@@ -25,6 +25,18 @@ HasNamesInOrder ms = IsStrictlySortedBy (slice_cmp nat_cmp) (map (λ m. m.0) ms)
 -- each name in UTF-8
 abbrev pub HasTextsAsNames : List (Text × Value) → Type 0
 HasTextsAsNames ms = AllByRecursion (λ m. is_utf8 m.0 ≡ true) ms
+
+-- the name is below the other, in byte order
+abbrev pub is_below : Text → Text → Bool
+is_below name other = is_lt (slice_cmp nat_cmp name other)
+
+-- each name is below this one
+abbrev pub AreBelow : Text → List (Text × Value) → Type 0
+AreBelow name ms = AllByRecursion (λ m. is_below m.0 name ≡ true) ms
+
+-- no name is below this one
+abbrev pub AreNotBelow : Text → List (Text × Value) → Type 0
+AreNotBelow name ms = AllByRecursion (λ m. is_below m.0 name ≡ false) ms
 
 -- the name and the value of an entry of the map
 abbrev pub member_value : String Global × Doc → Text × Value

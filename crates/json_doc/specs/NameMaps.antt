@@ -1,5 +1,5 @@
 -- Values by name as a list of entries, and where a name stands in it.
-use Rattle.std.specs.Prelude.{◌≡◌, ℕ, ◌<◌, ◌≤◌, List, length, take, drop, Option, option_map, String, string_bytes, slice_index_or}
+use Rattle.std.specs.Prelude.{◌≡◌, ℕ, ◌<◌, ◌≤◌, false, List, length, take, drop, Option, option_map, String, string_bytes, slice_index_or}
 use Rattle.std.specs.Borrow.{Bor}
 use Rattle.std.specs.Coded.{Coded, coded×, coded_list}
 use Rattle.std.specs.Cmp.Lexicographic.{slice_cmp}
@@ -7,7 +7,7 @@ use Rattle.std.specs.Global.{Global}
 use Rattle.std.specs.List.{AllByRecursion}
 use Rattle.std.specs.Map.{lookup}
 use Rattle.std.specs.BTreeMap.{is_at}
-use Rattle.std.specs.Ordering.{nat_cmp}
+use Rattle.std.specs.Ordering.{is_gt, nat_cmp}
 use Rattle.std.specs.declared.cmp.Ordering.{Ordering}
 use Rattle.std.specs.declared.cmp.Ordering.TheVariants.{Less, Equal, Greater}
 use Rattle.std.specs.contracts.string.String as string
@@ -28,6 +28,10 @@ IsAbove name es = AllByRecursion (λ e. order_to name e ≡ Greater) es
 -- the name is below all of these
 abbrev pub IsBelow : {T : Type 0} → Text → List (String Global × T) → Type 0
 IsBelow name es = AllByRecursion (λ e. order_to name e ≡ Less) es
+
+-- the name is above none of these
+abbrev pub IsAboveNone : {T : Type 0} → Text → List (String Global × T) → Type 0
+IsAboveNone name es = AllByRecursion (λ e. is_gt (order_to name e) ≡ false) es
 
 -- the first entry with this name stands at this index
 pub record IsPositionOf {T : Type 0} (name : Text) (es : List (String Global × T)) (position : ℕ) : Type 0 where

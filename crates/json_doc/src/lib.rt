@@ -18,7 +18,7 @@ pub use depth::nesting;
 pub use doc::Doc;
 pub use faults::Fault;
 pub use json::Scratch;
-pub use members::{Members, MembersIter};
+pub use members::{Cut, Members, MembersIter};
 pub use pointer::{Pointer, push_fragment_token, push_token};
 pub use reading::{read, read_with};
 pub use sameness::same;

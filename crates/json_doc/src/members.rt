@@ -1,13 +1,13 @@
 //! The members of a JSON object.
 
-ghost use Rattle.std.specs.Prelude.{◌≡◌, ◌↔◌, [], ◌∷◌, IsTrue, OnOk, OnErr, IfErr, length, map, option_map, string_bytes};
+ghost use Rattle.std.specs.Prelude.{◌≡◌, ◌↔◌, [], ◌∷◌, ◌++◌, IsTrue, OnOk, OnErr, IfErr, length, map, option_map, string_bytes};
 ghost use Rattle.std.specs.Iterator.{YieldsFirstBy, item_count};
 ghost use Rattle.definitions.specs.Values.{entry};
 ghost use Rattle.json_doc.specs.Docs.{value, members_value};
-ghost use Rattle.json_doc.specs.Members.{members_with, member_view, member_value, members_left, HasNamesInOrder, HasTextsAsNames};
+ghost use Rattle.json_doc.specs.Members.{members_with, member_view, member_value, members_left, AreBelow, AreNotBelow, HasNamesInOrder, HasTextsAsNames};
 
 use crate::doc::Doc;
-use crate::name_map::NameMap;
+use crate::name_map::{NameMap, split_at_name};
 use faults::Fault;
 use std::alloc::Global;
 use std::slice;
@@ -77,8 +77,28 @@ impl Members {
         ensures ordered { HasNamesInOrder (members_value self.now) }
         ensures utf8 { HasTextsAsNames (members_value self.now) }
     {
-        let entries = self.entries.as_slice().iter();
-        MembersIter { entries }
+        MembersIter::of(self.entries.as_slice())
+    }
+
+    /// The members cut in three: those whose names are below the first name, of the others those below the second,
+    /// and the rest. The time grows with the logarithm of the number of members.
+    pub fn cut_between(&self, low: &str, high: &str) -> Cut<'_>
+        ensures all { members_left result.before
+            ++ (members_left result.within ++ members_left result.after)
+            ≡ members_value self.now }
+        ensures before { AreBelow low.now (members_left result.before) }
+        ensures within { AreNotBelow low.now (members_left result.within)
+            × AreBelow high.now (members_left result.within) }
+        ensures after { AreNotBelow low.now (members_left result.after)
+            × AreNotBelow high.now (members_left result.after) }
+    {
+        let (before, others) = split_at_name(self.entries.as_slice(), low);
+        let (within, after) = split_at_name(others, high);
+        Cut {
+            before: MembersIter::of(before),
+            within: MembersIter::of(within),
+            after: MembersIter::of(after),
+        }
     }
 
     /// Puts a member in, in place of the one of the same name, if there is one: the last of repeated names wins
@@ -110,6 +130,18 @@ pub struct MembersIter<'a> {
     entries: slice::Iter<'a, (String, Doc)>,
 }
 
+impl<'a> MembersIter<'a> {
+    // These entries as members.
+    #[tactic(auto, unfolding(crate::specs::Members::members_left))]
+    fn of(entries: &'a [(String, Doc)]) -> MembersIter<'a>
+        ensures { members_left result ≡ map member_value entries.now }
+    {
+        MembersIter {
+            entries: entries.iter(),
+        }
+    }
+}
+
 impl<'a> Iterator for MembersIter<'a> {
     type Item = (&'a str, &'a Doc);
 
@@ -124,4 +156,15 @@ impl<'a> Iterator for MembersIter<'a> {
             None => None,
         }
     }
+}
+
+/// The members of an object cut in three, each part in byte order of names.
+#[derive(Drop)]
+pub struct Cut<'a> {
+    /// The members before the first cut.
+    pub before: MembersIter<'a>,
+    /// Those between the two cuts.
+    pub within: MembersIter<'a>,
+    /// Those after the second.
+    pub after: MembersIter<'a>,
 }

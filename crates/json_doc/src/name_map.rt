@@ -1,11 +1,11 @@
 //! Values by name, in one list.
 
-ghost use Rattle.std.specs.Prelude.{◌≡◌, ◌<◌, ◌↔◌, [], IsTrue, length, IfOk, IfErr, OnOk, OnErr, option_map, string_bytes};
+ghost use Rattle.std.specs.Prelude.{◌≡◌, ◌<◌, ◌↔◌, [], ◌++◌, IsTrue, length, IfOk, IfErr, OnOk, OnErr, option_map, string_bytes};
 ghost use Rattle.std.specs.BTreeMap.{insert_entry};
 ghost use Rattle.std.specs.List.Sorted.{IsStrictlySortedBy};
 ghost use Rattle.std.specs.Map.{keys_of};
 ghost use Rattle.std.specs.String.{string_cmp};
-ghost use Rattle.json_doc.specs.NameMaps.{entry_view, entry_named, IsAbove, IsPositionOf, IsGapFor};
+ghost use Rattle.json_doc.specs.NameMaps.{entry_view, entry_named, IsAbove, IsAboveNone, IsPositionOf, IsGapFor};
 
 use std::alloc::{AllocError, Global};
 use std::cmp::Ordering;
@@ -153,6 +153,23 @@ impl<T: Drop> NameMap<T> {
                 Ok(())
             }
         }
+    }
+}
+
+/// The entries whose names are below this one, and the others. The time grows with the logarithm of their number.
+pub(crate) fn split_at_name<'a, T>(
+    entries: &'a [(String, T)],
+    name: &str,
+) -> (&'a [(String, T)], &'a [(String, T)])
+    requires { IsStrictlySortedBy string_cmp (keys_of entries.now) }
+    ensures all { result.0.now ++ result.1.now ≡ entries.now }
+    ensures below { IsAbove name.now result.0.now }
+    ensures others { IsAboveNone name.now result.1.now }
+    ensures ordered { IsStrictlySortedBy string_cmp (keys_of result.1.now) }
+{
+    match position_of(entries, name) {
+        Ok(position) => entries.split_at(position),
+        Err(gap) => entries.split_at(gap),
     }
 }
 

@@ -1,35 +1,27 @@
-use Rattle.std.proofs.Common.{[], ◌∷◌, ◌∙◌, sym, ap}
-use Rattle.definitions.specs.Outcomes.{unit}
-use Rattle.json_doc.specs.Docs.{value}
+use Rattle.std.proofs.Common.{◌≡◌, ◌∙◌, ap, subst, OnOk}
+use Rattle.json_doc.specs.Docs.{members_value}
 use Rattle.json_doc.specs.Members.{members_left}
 use Rattle.evaluation_context.specs.Frames.{frame_standing}
 use Rattle.evaluator.specs.Annotations.{annotations_among}
 use Rattle.evaluator.specs.Logs.{log_view}
 use Rattle.evaluator.specs.Notes.{notes_of_both}
-use Rattle.keyword_plans.specs.Subjects.{subject_value}
-use Rattle.evaluator.proofs.AnnotatingLaws.{annotates_there, annotation_here}
-use Rattle.evaluator.proofs.LogLaws.{added_nothing, annotated, annotated_then}
+use Rattle.evaluator.proofs.DollarLaws.{annotations_around}
+use Rattle.evaluator.proofs.LogLaws.{annotated, annotated_then}
 use Rattle.evaluator.proofs.annotating.note_members.Goals as goal
 
-pub loop-name-preserved-in-Continue-1 : goal.loop-name-preserved-in-Continue-1
-loop-name-preserved-in-Continue-1 c = record {
-  back = c.in_ok-note_member.ensures.back ∙ c.loop-name.invariant.back;
-  noted = λ a at s i.
-      let n = log_view c.loop-name.log in
-      let name = c.in-Some.name.now in
-      let v = value c.in-Some.member.now in
-      let rest = members_left c.next.new.self in
-      ap (λ m. notes_of_both m (annotated (annotations_among a rest))) (c.in_ok-note_member.ensures.noted a (ap frame_standing c.loop-name.invariant.back ∙ at))
-      ∙ annotated_then n (unit a name v ∷ []) (annotations_among a rest)
-      ∙ ap (λ us. notes_of_both n (annotated us))
-      (annotation_here a name v rest
-      (annotates_there a (value c.args.schema.now) (subject_value c.args.subject) name c.annotates.result s i c.annotates.ensures ∙ c.if-annotates.true)
-      ∙ ap (annotations_among a) (sym c.in-Some.ensures.steps))
-      ∙ c.loop-name.invariant.noted a at s i;
-}
+pub returns-then-not-are_many-clause-noted : goal.returns-then-not-are_many-clause-noted
+returns-then-not-are_many-clause-noted c a at s i =
+    subst (λ ms. OnOk c.note_among.result (log_view c.note_among.new.log ≡ notes_of_both (log_view c.args.log.now) (annotated (annotations_among a ms))))
+    c.iter.ensures.all (c.note_among.ensures.noted a at s i)
 
 pub returns-clause-noted : goal.returns-clause-noted
 returns-clause-noted c a at s i =
-    sym (added_nothing (log_view c.loop-name.log))
-    ∙ ap (λ ms. notes_of_both (log_view c.loop-name.log) (annotated (annotations_among a ms))) (sym c.in-None.ensures.steps.0)
-    ∙ c.loop-name.invariant.noted a at s i
+    let cut = c.cut_at_dollar_names-cut in
+    let before = members_left cut.result.before in
+    let after = members_left cut.result.after in
+    let n = log_view c.args.log.now in
+    subst (λ m. OnOk c.note_among-3.result (log_view c.note_among-3.new.log ≡ m))
+    (ap (λ m. notes_of_both m (annotated (annotations_among a after))) (c.in_ok-note_among.ensures.noted a at s i)
+    ∙ annotated_then n (annotations_among a before) (annotations_among a after)
+    ∙ ap (λ us. notes_of_both n (annotated us)) (annotations_around a before (members_left cut.result.within) after (members_value c.args.members.now) cut.ensures.all cut.ensures.within))
+    (c.note_among-3.ensures.noted a (ap frame_standing c.in_ok-note_among.ensures.back ∙ at) s i)

@@ -1,6 +1,6 @@
 use Rattle.std.proofs.Common.{◌≡◌}
 use Rattle.definitions.specs.Applied.{Application}
-use Rattle.json_doc.specs.Docs.{value, members_value}
+use Rattle.json_doc.specs.Docs.{value}
 use Rattle.json_doc.specs.Members.{members_left}
 use Rattle.keyword_plans.specs.Subjects.{subject_value}
 use Rattle.evaluation_context.specs.Frames.{context_view, frame_standing}
@@ -8,7 +8,7 @@ use Rattle.evaluation_context.specs.Standings.{standing_of}
 use Rattle.evaluator.specs.Annotations.{annotations_among}
 use Rattle.evaluator.specs.Logs.{log_view}
 use Rattle.evaluator.specs.Notes.{no_notes, notes_of_both}
-use Rattle.evaluator.proofs.annotating.note_members.Given as goal
+use Rattle.evaluator.proofs.annotating.note_among.Given as goal
 
 -- what was noted, and what the members that are left add
 abbrev pub invariant-loop-name : goal.invariant-loop-name
@@ -17,5 +17,5 @@ invariant-loop-name l =
       back : context_view l.context ≡ context_view l.initial.context;
       noted : (a : Application) → frame_standing (context_view l.initial.context) ≡ standing_of a → a.schema.value ≡ value l.schema → a.instance ≡ subject_value l.subject
           → notes_of_both (log_view l.log) (record no_notes { annotations = annotations_among a (members_left l.name-iterator) })
-          ≡ notes_of_both (log_view l.initial.log) (record no_notes { annotations = annotations_among a (members_value l.members) });
+          ≡ notes_of_both (log_view l.initial.log) (record no_notes { annotations = annotations_among a (members_left l.fn.members) });
     }

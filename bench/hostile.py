@@ -270,7 +270,7 @@ CASES = [
         ("k", "put", f"https://{site}.org/s", {"$defs": {str(n): {"$id": f"https://{site}.org/{n}"} for n in range(8_000)}})
         for site in "ab"], "201"),
     Case("a document of 8,000 resources, put twice", lambda: [
-        ("k", "put", f"{SITE}s", {"$defs": {str(n): {"$id": f"r{n}"} for n in range(8_000)}})] * 2, "200", over="replaced"),
+        ("k", "put", f"{SITE}s", {"$defs": {str(n): {"$id": f"r{n}"} for n in range(8_000)}})] * 2, "200"),
     Case("8 documents of 25 bytes with a large pattern, kept compiled", lambda: [
         ("k", "put", f"{SITE}{n}", {"pattern": rf"\w{{1000}}{n}"}) for n in range(8)], "201", over="cache"),
     Case("the same 8 with --cache 1", lambda: [

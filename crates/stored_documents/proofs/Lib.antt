@@ -1,4 +1,5 @@
 pub mod HeldResources
+pub mod TextSets
 pub mod StandingDocuments
 pub mod KeptStored
 pub mod PlacedThere

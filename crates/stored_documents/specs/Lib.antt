@@ -1,3 +1,4 @@
+pub mod TextSets
 pub mod StoredDocuments
 pub mod SharedStored
 pub mod OrderedDocuments

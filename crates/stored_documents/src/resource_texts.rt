@@ -1,10 +1,10 @@
 //! The texts of a document's resource URIs.
 
 ghost use Rattle.std.specs.Prelude.{◌≡◌, IfOk, map, string_bytes};
-ghost use Rattle.std.specs.List.{list_any};
-ghost use Rattle.definitions.specs.Values.{same_text};
+ghost use Rattle.stored_documents.specs.TextSets.{IsSetOf};
 
 use std::alloc::{AllocError, Global};
+use std::collections::BTreeSet;
 
 pub(crate) fn copied(alloc: Global, uris: &[String]) -> Result<Vec<String>, AllocError>
     ensures { IfOk result (λ copies. map string_bytes copies.items ≡ map string_bytes uris.now) }
@@ -16,8 +16,13 @@ pub(crate) fn copied(alloc: Global, uris: &[String]) -> Result<Vec<String>, Allo
     Ok(copies)
 }
 
-pub(crate) fn stands(uris: &[String], uri: &str) -> bool
-    ensures { result ≡ list_any (same_text uri.now) (map string_bytes uris.now) }
+// The texts in order, to look up.
+pub(crate) fn text_set(alloc: Global, uris: &[String]) -> Result<BTreeSet<String>, AllocError>
+    ensures { IfOk result (λ set. IsSetOf set (map string_bytes uris.now)) }
 {
-    uris.iter().any(|own| uri == own.as_str())
+    let mut set = BTreeSet::new(alloc);
+    for uri in uris {
+        set.insert(uri.as_str().to_owned(alloc)?)?;
+    }
+    Ok(set)
 }

@@ -14,13 +14,15 @@ ghost use Rattle.faults.specs.View.{fault_view};
 ghost use Rattle.json_doc.specs.Docs.{value};
 ghost use Rattle.shared_cache.specs.Readings.{is_read_as};
 ghost use Rattle.shared_cache.specs.Refusals.{Refuses};
+ghost use Rattle.stored_documents.specs.TextSets.{IsSetOf};
 
-use crate::resource_texts::{copied, stands};
+use crate::resource_texts::{copied, text_set};
 use faults::Fault;
 use json_doc::Doc;
 use schema_scan::canonical;
 use shared_cache::{Cache, Key};
 use std::alloc::Global;
+use std::collections::BTreeSet;
 use std::rc::Rc;
 use uri_ref::Parts;
 
@@ -34,12 +36,15 @@ pub struct Stored {
     canonical: String,
     // In the order of a walk.
     resources: Vec<String>,
+    // The same in byte order, to look up.
+    resource_set: BTreeSet<String>,
     ghost reads_back: { is_read_as key.value.1 (value document) ≡ true },
     ghost compact: { key.value.1 ≡ text (value document) },
     ghost faultless: { scan_fault key.value.0 (value document) ≡ None },
     ghost regular: { is_regular regular_search (value document) ≡ true },
     ghost named: { string_bytes canonical ≡ (document_from key.value.0 (value document)).canonical },
     ghost opened: { map string_bytes resources.items ≡ resources_of (document_from key.value.0 (value document)) },
+    ghost looked_up: { IsSetOf resource_set (map string_bytes resources.items) },
 }
 
 impl Stored {
@@ -64,11 +69,13 @@ impl Stored {
         let (key, compiled) = cache.compiled_with_key(alloc, base, &document)?;
         let canonical = canonical(&compiled).to_owned(alloc)?;
         let resources = copied(alloc, compiled.resource_uris())?;
+        let resource_set = text_set(alloc, &resources)?;
         Ok(Stored {
             key,
             document,
             canonical,
             resources,
+            resource_set,
         })
     }
 
@@ -116,6 +123,6 @@ impl Stored {
     pub fn holds(&self, uri: &str) -> bool
         ensures { result ≡ holds_resource uri.now (stored_view self.now) }
     {
-        stands(self.resources.as_slice(), uri)
+        self.resource_set.contains(uri)
     }
 }

@@ -1,4 +1,4 @@
-use Rattle.std.proofs.Common.{List, ap, ◌∙◌, map, string_bytes, String, Global}
+use Rattle.std.proofs.Common.{ap, ◌∙◌}
 use Rattle.std.specs.List.{list_any}
 use Rattle.definitions.specs.Schemas.{schemas_of}
 use Rattle.definitions.specs.Values.{same_text}
@@ -9,5 +9,5 @@ use Rattle.stored_documents.proofs.stored.Stored.holds.Goals as goal
 pub returns : goal.returns
 returns c =
     let d = stored_view c.args.self.now in
-    c.stands.ensures ∙ ap (λ (ss : List (String Global)). list_any (same_text c.args.uri.now) (map string_bytes ss)) c.as_slice.ensures.value
-    ∙ ap (list_any (same_text c.args.uri.now)) c.args.self.now.opened ∙ held c.args.uri.now (schemas_of d.base d.value)
+    c.contains.ensures ∙ c.args.self.now.looked_up c.args.uri.now ∙ ap (list_any (same_text c.args.uri.now)) c.args.self.now.opened
+    ∙ held c.args.uri.now (schemas_of d.base d.value)

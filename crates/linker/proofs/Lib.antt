@@ -13,3 +13,4 @@ pub mod Least
 pub mod Judged
 pub mod LinkFaults
 pub mod BothSources
+pub mod DynamicAnchors

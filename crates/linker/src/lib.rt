@@ -3,6 +3,7 @@
 
 mod both;
 mod contents;
+mod dynamic_resources;
 mod holders;
 mod insertion;
 mod judging;

@@ -1,17 +1,19 @@
 //! Linked documents.
 
 ghost use Rattle.std.specs.Prelude.{◌≡◌, [], true, false, is_some, string_bytes};
-ghost use Rattle.definitions.specs.Values.{same_text};
+ghost use Rattle.definitions.specs.Values.{Text, same_text};
 ghost use Rattle.definitions.specs.Lists.{has_repeat};
 ghost use Rattle.definitions.specs.Reach.{missing_references};
 ghost use Rattle.definitions.specs.Scanning.{resource_uris};
 ghost use Rattle.definitions.specs.Schemas.{table_of};
-ghost use Rattle.definitions.specs.Targets.{resource_root};
+ghost use Rattle.definitions.specs.Targets.{resource_root, schema_with_dynamic_anchor};
 ghost use Rattle.linker.specs.SharedDocuments.{shared_documents};
+ghost use Rattle.schema_index.specs.DynamicResources.{has_resource};
 ghost use Rattle.std.specs.List.Sorted.{IsStrictlySortedBy-prop};
 ghost use Rattle.definitions.specs.Documents.{Ascend};
 
 use schema_scan::Compiled;
+use std::collections::{BTreeMap, BTreeSet};
 use std::rc::Rc;
 
 /// A resource, and the documents that it reaches, in which each reference names a schema.
@@ -22,8 +24,13 @@ pub struct Linked {
     pub(crate) uri: String,
     // In byte order of canonical URIs.
     pub(crate) documents: Vec<Rc<Compiled>>,
+    // The URIs of the resources that have a dynamic anchor, by its name.
+    pub(crate) dynamic_resources: BTreeMap<String, BTreeSet<String>>,
     ghost ascend: { Ascend (shared_documents documents.items) } by { IsStrictlySortedBy-prop _ _ },
     ghost distinct: { has_repeat same_text (resource_uris (table_of (shared_documents documents.items))) ≡ false },
     ghost whole: { missing_references (shared_documents documents.items) ≡ [] },
     ghost asked: { is_some (resource_root (table_of (shared_documents documents.items)) (string_bytes uri)) ≡ true },
+    ghost by_dynamic_anchor: { (uri name : Text) → has_resource dynamic_resources uri name
+        ≡ is_some (schema_with_dynamic_anchor
+        (table_of (shared_documents documents.items)) uri name) },
 }

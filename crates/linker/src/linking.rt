@@ -12,6 +12,7 @@ ghost use Rattle.linker.specs.LinkFaults.{link_fault};
 ghost use Rattle.linker.specs.LinkedDocuments.{linked_uri, linked_documents};
 ghost use Rattle.linker.specs.SharedDocuments.{shared_documents};
 
+use crate::dynamic_resources::dynamic_resources_of;
 use crate::judging::least_missing;
 use crate::linked::Linked;
 use crate::source::Source;
@@ -39,8 +40,13 @@ pub fn link<S: Source>(alloc: Global, source: &mut S, resource: &str) -> Result<
 {
     let documents = reached_documents(alloc, source, resource)?;
     judge(alloc, &documents)?;
+    let dynamic_resources = dynamic_resources_of(alloc, &documents)?;
     let uri = resource.to_owned(alloc)?;
-    Ok(Linked { uri, documents })
+    Ok(Linked {
+        uri,
+        documents,
+        dynamic_resources,
+    })
 }
 
 // Fails where there are no documents, or where a reference of theirs names no schema.

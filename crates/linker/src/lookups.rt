@@ -1,12 +1,14 @@
 //! What the linked documents have under a URI, a reference and a pattern's text (JSON Schema 2020-12 Core, section 8.2).
 
 ghost use Rattle.std.specs.Prelude.{◌≡◌, [], Some, Ok, Err, IfOk, IfErr, IfSome, IsTrue, Contains, is_some, map, option_map, find, unwrap_or, string_bytes};
+ghost use Rattle.std.specs.BTreeSet.{contains_text};
 ghost use Rattle.definitions.specs.Reach.{holds_resource};
 ghost use Rattle.definitions.specs.Resolution.{target_uri};
 ghost use Rattle.definitions.specs.Searches.{patterns_of};
 ghost use Rattle.definitions.specs.Schemas.{Document, Schema};
 ghost use Rattle.definitions.specs.Targets.{resource_root, target, target_by, is_dynamic_anchor, schema_with_dynamic_anchor, outermost, dynamic_by, dynamic_target};
 ghost use Rattle.definitions.specs.Uris.{without_fragment};
+ghost use Rattle.definitions.specs.Values.{Text};
 ghost use Rattle.linker.specs.AbsoluteReferences.{dynamic_target_of, target_of};
 ghost use Rattle.linker.specs.DocumentPatterns.{HasPattern};
 ghost use Rattle.linker.specs.SharedDocuments.{shared_documents};
@@ -22,6 +24,7 @@ use faults::Fault;
 use patterns::Pattern;
 use schema_scan::{Compiled, Located};
 use std::alloc::Global;
+use std::collections::BTreeSet;
 use std::rc::Rc;
 use uri_ref::{AbsoluteReference, FragmentKind, absolute_reference, opened_uri};
 
@@ -268,15 +271,30 @@ impl Linked {
             ≡ outermost (linked_schemas self.now) (map (λ uri. uri.now) scope.now) name.now first) }
         ensures err { IfErr result (λ f. f ≡ Fault.NoRoom) }
     {
-        let mut before: Option<&str> = None;
+        match self.dynamic_resources.get(name) {
+            Some(uris) => self.outermost_of(alloc, uris, scope, name),
+            None => Ok(None),
+        }
+    }
+
+    // The same, where these are the URIs of the resources that have the anchor.
+    fn outermost_of(
+        &self,
+        alloc: Global,
+        uris: &BTreeSet<String>,
+        scope: &[&str],
+        name: &str,
+    ) -> Result<Option<Located<'_>>, Fault>
+        requires { (uri : Text) → contains_text uris.now uri
+            ≡ is_some (schema_with_dynamic_anchor (linked_schemas self.now) uri name.now) }
+        ensures ok { IfOk result
+            (λ t. (first : Schema) → unwrap_or (option_map located_view t) first
+            ≡ outermost (linked_schemas self.now) (map (λ uri. uri.now) scope.now) name.now first) }
+        ensures err { IfErr result (λ f. f ≡ Fault.NoRoom) }
+    {
         for uri in scope {
-            // A resource that has entered the scope twice in a row is asked once.
-            if before != Some(*uri) {
-                match self.dynamically_anchored(alloc, uri, name) {
-                    Ok(Some(found)) => return Ok(Some(found)),
-                    Ok(None) => before = Some(*uri),
-                    Err(fault) => return Err(fault),
-                }
+            if uris.contains(*uri) {
+                return self.dynamically_anchored(alloc, uri, name);
             }
         }
         Ok(None)

@@ -1,7 +1,7 @@
 -- What is gathered of a document, as the definitions find it.
 use Rattle.std.proofs.Common.{◌≡◌, ℕ, List, [], ◌∷◌, filter, true, Some, map, nat_le, is_some, cond, option_and_then, refl, sym, ap, ◌∙◌, arith}
 use Rattle.std.proofs.lemmas.Bool.Decides.{nat_tests}
-use Rattle.std.specs.List.{find, flat_map, position_from, slice_get}
+use Rattle.std.specs.List.{find, flat_map, list_any, position_from, slice_get}
 use Rattle.definitions.specs.Values.{Text, Value, null, boolean, integer, string, array, object, is_well_formed, same_text}
 use Rattle.definitions.specs.Schemas.{Schema, document_from, schemas_of, references}
 use Rattle.definitions.specs.Scanning.{resource_uris}
@@ -12,7 +12,7 @@ use Rattle.schema_index.specs.Gathering.{marks, root_uris, root_ways, spot_refer
 use Rattle.schema_index.specs.Lookups.{has_dynamic_mark, has_mark, marked_schema, numbered_root}
 use Rattle.schema_index.proofs.Following.{AreFollowed, spots-followed}
 use Rattle.schema_index.proofs.Standing.{schema-spot, schemas_of-spots}
-use Rattle.schema_index.proofs.Tables.{uris-of, references-of, root-by_number, uri-held, anchored-by_mark, dynamically-by_mark}
+use Rattle.schema_index.proofs.Tables.{uris-of, references-of, root-by_number, uri-held, anchored-by_mark, dynamically-by_mark, dynamically-held}
 
 module _ (base : Text) (v : Value) where
   abbrev pub standing : List Spot
@@ -66,3 +66,7 @@ module _ (base : Text) (v : Value) where
     pub document-dynamically_anchored : (uri name : Text)
         → option_and_then (marked_schema v) (find (has_dynamic_mark uri name) (flat_map marks (standing base v))) ≡ schema_with_dynamic_anchor (schemas_of base v) uri name
     document-dynamically_anchored uri name = dynamically-by_mark v uri name (standing base v) followed ∙ ap (λ ss. schema_with_dynamic_anchor ss uri name) (sym (schemas_of-spots base v))
+
+  pub document-dynamic_held : (uri name : Text)
+      → list_any (has_dynamic_mark uri name) (flat_map marks (standing base v)) ≡ is_some (schema_with_dynamic_anchor (schemas_of base v) uri name)
+  document-dynamic_held uri name = dynamically-held uri name (standing base v) ∙ ap (λ ss. is_some (schema_with_dynamic_anchor ss uri name)) (sym (schemas_of-spots base v))

@@ -13,3 +13,4 @@ pub mod Marked
 pub mod Owned
 pub mod Paired
 pub mod Readings
+pub mod Named

@@ -1,6 +1,6 @@
 -- What an indexed document owns, as the definitions find it.
 use Rattle.std.proofs.Common.{◌≡◌, ℕ, List, Bor, Option, Some, None, IfSome, is_some, option_and_then, option_map, string_bytes, refl, sym, ap, ap₂, ◌∙◌}
-use Rattle.std.specs.List.{find, position_from, slice_get}
+use Rattle.std.specs.List.{find, list_any, position_from, slice_get}
 use Rattle.definitions.specs.Values.{Text, same_text}
 use Rattle.definitions.specs.Reach.{holds_resource, references_in}
 use Rattle.definitions.specs.Scanning.{resource_uris}
@@ -10,7 +10,7 @@ use Rattle.schema_index.specs.Gathering.{gathered_marks, gathered_references, ga
 use Rattle.schema_index.specs.IndexedDocuments.{indexed_base, indexed_value, indexed_schemas, indexed_view}
 use Rattle.schema_index.specs.Lookups.{has_dynamic_mark, has_mark, marked_schema, numbered_root}
 use Rattle.schema_index.specs.declared.indexed.Indexed.{Indexed}
-use Rattle.schema_index.proofs.Indexing.{document-anchored, document-canonical, document-dynamically_anchored, document-held, document-references, document-root, document-uris}
+use Rattle.schema_index.proofs.Indexing.{document-anchored, document-canonical, document-dynamic_held, document-dynamically_anchored, document-held, document-references, document-root, document-uris}
 use Rattle.schema_index.proofs.Tables.{uri-by_number, uri-found}
 
 pub owned-uris : (d : Indexed) → gathered_uris d.gathered ≡ resource_uris (indexed_schemas d)
@@ -50,6 +50,12 @@ unfolding indexed_base indexed_value
 owned-dynamically_anchored d uri name =
     ap (λ ms. option_and_then (marked_schema (value d.document)) (find (has_dynamic_mark uri name) ms)) d.of_document.marks
     ∙ document-dynamically_anchored (string_bytes d.base) (value d.document) d.well_formed uri name
+
+pub owned-dynamic_held : (d : Indexed) (uri name : Text)
+    → list_any (has_dynamic_mark uri name) (gathered_marks d.gathered) ≡ is_some (schema_with_dynamic_anchor (indexed_schemas d) uri name)
+unfolding indexed_base indexed_value
+owned-dynamic_held d uri name =
+    ap (list_any (has_dynamic_mark uri name)) d.of_document.marks ∙ document-dynamic_held (string_bytes d.base) (value d.document) uri name
 
 -- ---- a URI among the resources'
 pub same-uri : (uri : Text) (us : List Text) (r : Option (Bor Text)) → option_map (λ (u : Bor Text). u.now) r ≡ find (same_text uri) us → IfSome r (λ u. u.now ≡ uri)

@@ -3,7 +3,7 @@ use Rattle.std.proofs.Common.{◌≡◌, ◌==◌, ◌&&◌, ◌||◌, ◌⊎◌
 use Rattle.std.proofs.lemmas.Bool.Decides.{nat_tests}
 use Rattle.std.proofs.lemmas.List.{drop_all, length-drop, length-map}
 use Rattle.std.proofs.lemmas.Slice.Eq.{bytes_eq-Decides}
-use Rattle.std.specs.List.{find, flat_map, position_from, slice_get}
+use Rattle.std.specs.List.{find, flat_map, list_any, position_from, slice_get}
 use Rattle.definitions.specs.Values.{Text, Value, same_text, text_at}
 use Rattle.definitions.specs.Schemas.{Schema, is_root, references}
 use Rattle.definitions.specs.Lists.{option_list}
@@ -233,3 +233,41 @@ module _ (root : Value) (uri name : Text) where
   dynamically-by_mark (s ∷ ss) f =
       dynamic-marks s f.0 (flat_map marks ss)
       ∙ ap (λ t. cond (same_text uri s.resource && is_dynamic_anchor name (spot_view s)) (Some (spot_view s)) t) (dynamically-by_mark ss f.1)
+
+-- ---- whether a dynamic anchor stands there
+module _ (uri name : Text) where
+  abbrev is_held : List Mark → Bool
+  is_held ms = list_any (has_dynamic_mark uri name) ms
+
+  module _ (s : Spot) where
+    none-held : (o : Option Text) (rest : List Mark) → is_held (map (mark false s) (option_list o) ++ rest) ≡ is_held rest
+    none-held None rest = refl
+    none-held (Some n) rest = refl
+
+    passed : (u b : Bool) → b ≡ ((u && false) || b)
+    passed true b = refl
+    passed false b = refl
+
+    one-held : (o : Option Text) (rest : List Mark)
+        → is_held (map (mark true s) (option_list o) ++ rest) ≡ ((same_text uri s.resource && unwrap_or (option_map (same_text name) o) false) || is_held rest)
+    one-held None rest = passed (same_text uri s.resource) (is_held rest)
+    one-held (Some n) rest = refl
+
+    spot-held : (rest : List Mark) → is_held (marks s ++ rest) ≡ ((same_text uri s.resource && is_dynamic_anchor name (spot_view s)) || is_held rest)
+    unfolding marks
+    spot-held rest =
+        ap is_held (append_assoc (marks_under (codes "$anchor") false s) (marks_under (codes "$dynamicAnchor") true s) rest)
+        ∙ none-held (text_at (codes "$anchor") s.value) (marks_under (codes "$dynamicAnchor") true s ++ rest)
+        ∙ one-held (text_at (codes "$dynamicAnchor") s.value) rest
+
+  first-held : (b : Bool) (t : Schema) (rest : Option Schema) → (b || is_some rest) ≡ is_some (cond b (Some t) rest)
+  first-held true t rest = refl
+  first-held false t rest = refl
+
+  pub dynamically-held : (ss : List Spot) → is_held (flat_map marks ss) ≡ is_some (schema_with_dynamic_anchor (map spot_view ss) uri name)
+  dynamically-held [] = refl
+  dynamically-held (s ∷ ss) =
+      let here = same_text uri s.resource && is_dynamic_anchor name (spot_view s) in
+      spot-held s (flat_map marks ss)
+      ∙ ap (λ b. here || b) (dynamically-held ss)
+      ∙ first-held here (spot_view s) (schema_with_dynamic_anchor (map spot_view ss) uri name)

@@ -7,3 +7,4 @@ pub mod Gathering
 pub mod Lookups
 pub mod PairNumbers
 pub mod AnchorNumbers
+pub mod DynamicResources

@@ -1,6 +1,6 @@
 //! Documents with an index.
 
-ghost use Rattle.std.specs.Prelude.{◌≡◌, [], false, true, None, IfOk, IfErr, IfSome, Some, is_some, find, map, option_and_then, option_map, string_bytes};
+ghost use Rattle.std.specs.Prelude.{◌≡◌, ◌||◌, [], false, true, None, IfOk, IfErr, IfSome, OnOk, Some, is_some, find, map, option_and_then, option_map, string_bytes};
 ghost use Rattle.std.specs.BTreeMap.{get_by_text};
 ghost use Rattle.std.specs.List.{position_from};
 ghost use Rattle.definitions.specs.Reach.{holds_resource, references_in};
@@ -11,10 +11,11 @@ ghost use Rattle.definitions.specs.Uris.{without_fragment};
 ghost use Rattle.definitions.specs.Values.{Text, is_well_formed, same_text};
 ghost use Rattle.json_doc.specs.Docs.{value};
 ghost use Rattle.schema_index.specs.AnchorNumbers.{is_marked};
-ghost use Rattle.schema_index.specs.PairNumbers.{pair_number};
+ghost use Rattle.schema_index.specs.DynamicResources.{has_resource};
 ghost use Rattle.schema_index.specs.Gathering.{IsGathered, gathered_marks, gathered_uris, gathered_ways};
 ghost use Rattle.schema_index.specs.Locateds.{located_view};
 ghost use Rattle.schema_index.specs.Lookups.{numbered_root, root_at};
+ghost use Rattle.schema_index.specs.PairNumbers.{pair_number};
 ghost use Rattle.locations.specs.Ways.{owned_hops};
 ghost use Rattle.schema_index.specs.Spots.{spots};
 ghost use Rattle.uri_ref.specs.AbsoluteReferences.{IsReadAs};
@@ -22,6 +23,7 @@ ghost use Rattle.uri_ref.specs.FragmentViews.{fragment_view};
 
 use crate::anchor_numbers::{anchor_numbers_of, find_anchor};
 use crate::anchors::schema_of_anchor;
+use crate::dynamic_resources::add_resources;
 use crate::gathered::GatheredSchemas;
 use crate::gathering::gather;
 use crate::located::Located;
@@ -30,7 +32,7 @@ use faults::Fault;
 use json_doc::{Doc, Pointer, copy};
 use locations::{OwnedStep, follow};
 use std::alloc::Global;
-use std::collections::BTreeMap;
+use std::collections::{BTreeMap, BTreeSet};
 use uri_ref::{AbsoluteReference, FragmentKind, opened_uri};
 
 /// A schema document with no fault, and an index of its resources, anchors and references.
@@ -232,6 +234,22 @@ impl Indexed {
             Some(anchor) => Ok(schema_of_anchor(alloc, anchor, &self.document)?),
             None => Ok(None),
         }
+    }
+
+    /// Adds the URI of each resource to those of each dynamic anchor's name that it has. The only error is want of memory.
+    pub fn add_dynamic_resources(
+        &self,
+        alloc: Global,
+        resources: &mut BTreeMap<String, BTreeSet<String>>,
+    ) -> Result<(), Fault>
+        ensures ok { OnOk result ((uri name : Text)
+            → has_resource resources.new uri name
+            ≡ (has_resource resources.old uri name
+            || is_some (schema_with_dynamic_anchor (indexed_schemas self.now) uri name))) }
+        ensures err { IfErr result (λ f. f ≡ Fault.NoRoom) }
+    {
+        add_resources(alloc, resources, &self.gathered.anchors)?;
+        Ok(())
     }
 
     // The schema that a pointer leads to from the root of the resource with this URI.

@@ -5,6 +5,7 @@
 mod absolute_references;
 mod anchor_numbers;
 mod anchors;
+mod dynamic_resources;
 mod gathered;
 mod gathering;
 mod indexed;

@@ -1,6 +1,6 @@
 //! Documents that can be evaluated.
 
-ghost use Rattle.std.specs.Prelude.{◌≡◌, true, None, IfOk, IfErr, IfSome, IsTrue, Contains, Some, is_some, map, option_map, string_bytes};
+ghost use Rattle.std.specs.Prelude.{◌≡◌, ◌||◌, true, None, IfOk, IfErr, IfSome, IsTrue, OnOk, Contains, Some, is_some, map, option_map, string_bytes};
 ghost use Rattle.std.specs.List.{list_all};
 ghost use Rattle.definitions.specs.Patterns.{regular_search};
 ghost use Rattle.definitions.specs.Reach.{holds_resource, references_in};
@@ -8,7 +8,9 @@ ghost use Rattle.definitions.specs.Resolution.{target_uri};
 ghost use Rattle.definitions.specs.Searches.{is_regular, patterns};
 ghost use Rattle.definitions.specs.Scanning.{resource_uris, scan_fault};
 ghost use Rattle.definitions.specs.Targets.{resource_root, target_by, schema_with_dynamic_anchor};
+ghost use Rattle.definitions.specs.Values.{Text};
 ghost use Rattle.json_doc.specs.Docs.{value};
+ghost use Rattle.schema_index.specs.DynamicResources.{has_resource};
 ghost use Rattle.schema_index.specs.IndexedDocuments.{indexed_value};
 ghost use Rattle.schema_index.specs.Locateds.{located_view};
 ghost use Rattle.schema_scan.specs.PatternTables.{holds_pattern};
@@ -21,6 +23,7 @@ use json_doc::Doc;
 use patterns::Pattern;
 use schema_index::{Indexed, Located};
 use std::alloc::Global;
+use std::collections::{BTreeMap, BTreeSet};
 use uri_ref::{AbsoluteReference, FragmentKind};
 
 /// A schema document that can be evaluated: the scan found no fault in it, and its patterns are built.
@@ -122,6 +125,21 @@ impl Compiled {
         ensures err { IfErr result (λ f. f ≡ Fault.NoRoom) }
     {
         self.indexed.dynamically_anchored(alloc, uri, name)
+    }
+
+    /// Adds the URI of each resource to those of each dynamic anchor's name that it has. The only error is want of memory.
+    pub fn add_dynamic_resources(
+        &self,
+        alloc: Global,
+        resources: &mut BTreeMap<String, BTreeSet<String>>,
+    ) -> Result<(), Fault>
+        ensures ok { OnOk result ((uri name : Text)
+            → has_resource resources.new uri name
+            ≡ (has_resource resources.old uri name
+            || is_some (schema_with_dynamic_anchor (compiled_schemas self.now) uri name))) }
+        ensures err { IfErr result (λ f. f ≡ Fault.NoRoom) }
+    {
+        self.indexed.add_dynamic_resources(alloc, resources)
     }
 
     /// The pattern with this text, where one of the document's schemas has it.

@@ -1,7 +1,8 @@
-use Rattle.std.proofs.Common.{◌≡◌, None, string_bytes, ap, sym, ◌∙◌, subst}
+use Rattle.std.proofs.Common.{◌≡◌, None, is_some, string_bytes, ap, sym, ◌∙◌, subst}
 use Rattle.definitions.specs.Documents.{Ascend}
 use Rattle.definitions.specs.Scanning.{resource_uris}
 use Rattle.definitions.specs.Schemas.{table_of}
+use Rattle.definitions.specs.Targets.{schema_with_dynamic_anchor}
 use Rattle.definitions.specs.Values.{same_text}
 use Rattle.definitions.specs.Lists.{has_repeat}
 use Rattle.linker.specs.LinkFaults.{link_fault}
@@ -28,7 +29,15 @@ invariant_of-result g c =
     subst (IsLinked ds) (sym c.in_ok-uri.ensures.ok)
     (is_linked (g.S.Source.documents c.args.source.now) ds c.args.resource.now (g.met.S.Source.sound c.args.source.now) c.in_ok-documents.ensures.ok
     (subst (λ xs. link_fault (shared_documents xs) ≡ None) c.deref.ensures.value c.in_ok-judge.ensures.ok)) in
-    record { ascend = linked.ascend; distinct = linked.distinct; whole = linked.whole; asked = linked.asked }
+    record {
+      ascend = linked.ascend;
+      distinct = linked.distinct;
+      whole = linked.whole;
+      asked = linked.asked;
+      by_dynamic_anchor = λ uri name.
+          c.in_ok-dynamic_resources.ensures.ok uri name
+          ∙ ap (λ xs. is_some (schema_with_dynamic_anchor (table_of (shared_documents xs)) uri name)) c.deref-2.ensures.value;
+    }
 
 pub returns-clause-uri : goal.returns-clause-uri
 unfolding linked_uri

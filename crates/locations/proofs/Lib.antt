@@ -1,1 +1,2 @@
 pub mod SameTokens
+pub mod WayLaws

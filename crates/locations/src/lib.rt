@@ -1,10 +1,12 @@
 //! The steps of locations in documents and instances, as tokens of JSON Pointers (RFC 6901).
 #![tactic(auto)]
 
+mod owned_way;
 mod sameness;
 mod step;
 mod ways;
 
+pub use owned_way::OwnedWay;
 pub use sameness::same_steps;
 pub use step::{Step, push_fragment, push_pointer};
-pub use ways::{OwnedStep, follow, own, steps_after};
+pub use ways::{follow, own, steps_after};

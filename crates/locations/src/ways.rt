@@ -1,95 +1,116 @@
 //! Ways from a document's root to a value in it.
 
-ghost use Rattle.std.specs.Prelude.{◌≡◌, IfOk, drop, option_map};
+ghost use Rattle.std.specs.Prelude.{◌≡◌, ◌++◌, IfOk, OnOk, drop, length, option_map, string_bytes};
 ghost use Rattle.json_doc.specs.Docs.{value};
 ghost use Rattle.locations.specs.Hops.{follow, hop_value, step_hop, step_hops};
-ghost use Rattle.locations.specs.Ways.{owned_hop, owned_hops};
+ghost use Rattle.locations.specs.Ways.{owned_hops, owned_step, step_name, step_names};
 
+use crate::owned_way::{OwnedStep, OwnedWay, cut_step};
 use crate::step::Step;
 use json_doc::Doc;
 use std::alloc::{AllocError, Global};
 
-/// One step of a way from a document's root to a value in it, which owns its name.
-///
-/// Contracts see the hop, by `owned_hop`.
-#[derive(Debug, Drop)]
-pub enum OwnedStep {
-    /// To the member of this name.
-    Name(String),
-    /// To the element of this index.
-    Index(usize),
-}
-
-/// The same way, which owns its names. It fails only for want of memory.
-pub fn own(alloc: Global, steps: &[Step<'_>]) -> Result<Vec<OwnedStep>, AllocError>
-    ensures { IfOk result (λ way. owned_hops way.items ≡ step_hops steps.now) }
+/// The same way, which owns its names. It fails only for want of memory; a name whose length, or an index, is of more than
+/// 32 bits counts as that.
+pub fn own(alloc: Global, steps: &[Step<'_>]) -> Result<OwnedWay, AllocError>
+    ensures { IfOk result (λ way. owned_hops way ≡ step_hops steps.now) }
 {
-    let mut way = Vec::with_capacity(alloc, steps.len())?;
+    let mut names = String::with_capacity(alloc, names_len(steps)?)?;
+    let mut owned = Vec::with_capacity(alloc, steps.len())?;
     for step in steps {
-        way.push(own_step(alloc, *step)?)?;
+        owned.push(keep_step(&mut names, *step)?)?;
     }
-    Ok(way)
+    Ok(OwnedWay {
+        names,
+        steps: owned,
+    })
 }
 
-fn own_step(alloc: Global, step: Step<'_>) -> Result<OwnedStep, AllocError>
-    ensures { IfOk result (λ owned. owned_hop owned ≡ step_hop step.entry) }
+// How many bytes the names of the steps take. It fails where no memory holds so many.
+fn names_len(steps: &[Step<'_>]) -> Result<usize, AllocError>
+    ensures { IfOk result (λ len. len ≡ length (step_names steps.now)) }
+{
+    let mut len: usize = 0;
+    for step in steps {
+        len = len.checked_add(name_len(*step)).ok_or(AllocError)?;
+    }
+    Ok(len)
+}
+
+fn name_len(step: Step<'_>) -> usize
+    ensures { result ≡ length (step_name step.entry) }
 {
     match step {
-        Step::Name(name) => Ok(OwnedStep::Name(String::from_str(alloc, name)?)),
-        Step::Index(index) => Ok(OwnedStep::Index(index)),
+        Step::Name(name) => name.len(),
+        Step::Index(_) => 0,
+    }
+}
+
+// Appends the name of the step: the step as it is kept.
+fn keep_step(names: &mut String, step: Step<'_>) -> Result<OwnedStep, AllocError>
+    ensures kept { IfOk result (λ kept. kept ≡ owned_step step.entry) }
+    ensures names { OnOk result
+        (string_bytes names.new ≡ string_bytes names.old ++ step_name step.entry) }
+{
+    match step {
+        Step::Name(name) => {
+            names.push_str(name)?;
+            Ok(OwnedStep::Name(in_32_bits(name.len())?))
+        }
+        Step::Index(index) => Ok(OwnedStep::Index(in_32_bits(index)?)),
+    }
+}
+
+// The same number, where it has no more bits. It fails as for want of memory where it has.
+fn in_32_bits(number: usize) -> Result<u32, AllocError>
+    ensures { IfOk result (λ n. n ≡ number) }
+{
+    match u32::try_from(number) {
+        Ok(number) => Ok(number),
+        Err(_) => Err(AllocError),
     }
 }
 
 /// What stands at the end of the way, if it leads anywhere. This takes no memory.
-pub fn follow<'a>(way: &[OwnedStep], doc: &'a Doc) -> Option<&'a Doc>
+pub fn follow<'a>(way: &OwnedWay, doc: &'a Doc) -> Option<&'a Doc>
     ensures { option_map (λ d. value d.now) result ≡ follow (owned_hops way.now) (value doc.now) }
 {
+    let mut names = way.names.as_str();
     let mut found = doc;
-    for step in way {
+    for kept in &way.steps {
+        let (step, rest) = cut_step(*kept, names);
         found = child(step, found)?;
+        names = rest;
     }
     Some(found)
 }
 
-fn child<'a>(step: &OwnedStep, doc: &'a Doc) -> Option<&'a Doc>
+fn child<'a>(step: Step<'_>, doc: &'a Doc) -> Option<&'a Doc>
     ensures { option_map (λ d. value d.now) result
-        ≡ hop_value (owned_hop step.now) (value doc.now) }
+        ≡ hop_value (step_hop step.entry) (value doc.now) }
 {
     match step {
-        OwnedStep::Name(name) => doc.get(name.as_str()),
-        OwnedStep::Index(index) => doc.as_list()?.get(*index),
+        Step::Name(name) => doc.get(name),
+        Step::Index(index) => doc.as_list()?.get(index),
     }
 }
 
 /// The steps of the way after the first `start`; none where it has fewer. It fails only for want of memory.
 pub fn steps_after<'a>(
     alloc: Global,
-    way: &'a [OwnedStep],
+    way: &'a OwnedWay,
     start: usize,
 ) -> Result<Vec<Step<'a>>, AllocError>
     ensures { IfOk result (λ steps. step_hops steps.items ≡ drop start (owned_hops way.now)) }
 {
-    match way.get(start..) {
-        Some(rest) => borrow_steps(alloc, rest),
-        None => Ok(Vec::new(alloc)),
-    }
-}
-
-fn borrow_steps<'a>(alloc: Global, way: &'a [OwnedStep]) -> Result<Vec<Step<'a>>, AllocError>
-    ensures { IfOk result (λ steps. step_hops steps.items ≡ owned_hops way.now) }
-{
-    let mut steps = Vec::with_capacity(alloc, way.len())?;
-    for step in way {
-        steps.push(borrow_step(step))?;
+    let mut steps = Vec::with_capacity(alloc, way.steps.len().saturating_sub(start))?;
+    let mut names = way.names.as_str();
+    for (index, kept) in way.steps.iter().enumerate() {
+        let (step, rest) = cut_step(*kept, names);
+        names = rest;
+        if index >= start {
+            steps.push(step)?;
+        }
     }
     Ok(steps)
-}
-
-fn borrow_step(step: &OwnedStep) -> Step<'_>
-    ensures { step_hop result ≡ owned_hop step.now }
-{
-    match step {
-        OwnedStep::Name(name) => Step::Name(name.as_str()),
-        OwnedStep::Index(index) => Step::Index(*index),
-    }
 }

@@ -44,14 +44,14 @@ unfoldable pub marks : Spot → List Mark
 marks s = marks_under (codes "$anchor") false s ++ marks_under (codes "$dynamicAnchor") true s
 
 abbrev pub anchor_mark : Anchor → Mark
-anchor_mark a = record { name = string_bytes a.name; dynamic = a.dynamic; resource = string_bytes a.resource; start = a.start; way = owned_hops a.way.items }
+anchor_mark a = record { name = string_bytes a.name; dynamic = a.dynamic; resource = string_bytes a.resource; start = a.start; way = owned_hops a.way }
 
 -- ---- all of it
 unfoldable pub gathered_uris : GatheredSchemas → List Text
 gathered_uris g = map string_bytes g.uris.items
 
 unfoldable pub gathered_ways : GatheredSchemas → List (List Hop)
-gathered_ways g = map (λ w. owned_hops w.items) g.ways.items
+gathered_ways g = map owned_hops g.ways.items
 
 unfoldable pub gathered_references : GatheredSchemas → List Text
 gathered_references g = map string_bytes g.references.items

@@ -8,7 +8,7 @@ ghost use Rattle.schema_index.specs.Lookups.{marked_schema};
 
 use crate::located::Located;
 use json_doc::Doc;
-use locations::{OwnedStep, follow, steps_after};
+use locations::{OwnedWay, follow, steps_after};
 use std::alloc::{AllocError, Global};
 
 /// An anchor, and the schema that has it.
@@ -22,7 +22,7 @@ pub(crate) struct Anchor {
     /// How many steps of the way lead to the resource's root.
     pub(crate) start: usize,
     /// The way from the document's root to the schema.
-    pub(crate) way: Vec<OwnedStep>,
+    pub(crate) way: OwnedWay,
 }
 
 /// The schema of the document that has the anchor.

@@ -10,7 +10,7 @@ ghost use Rattle.schema_index.specs.Gathering.{anchor_mark, marks, reference_und
 use crate::absolute_references::AbsoluteReferences;
 use crate::anchors::Anchor;
 use json_doc::Doc;
-use locations::{OwnedStep, Step, own};
+use locations::{OwnedWay, Step, own};
 use std::alloc::{AllocError, Global};
 use uri_ref::resolved_uri;
 
@@ -20,7 +20,7 @@ pub(crate) struct GatheredSchemas {
     /// The URIs of the resources.
     pub(crate) uris: Vec<String>,
     /// The ways to their roots.
-    pub(crate) ways: Vec<Vec<OwnedStep>>,
+    pub(crate) ways: Vec<OwnedWay>,
     /// The absolute references.
     pub(crate) references: Vec<String>,
     /// The anchors.
@@ -88,15 +88,15 @@ impl GatheredSchemas {
 fn push_root(
     alloc: Global,
     uris: &mut Vec<String>,
-    ways: &mut Vec<Vec<OwnedStep>>,
+    ways: &mut Vec<OwnedWay>,
     uri: &str,
     way: &[Step<'_>],
 ) -> Result<(), AllocError>
     ensures uris { OnOk result
         (map string_bytes uris.new.items ≡ map string_bytes uris.old.items ++ uri.now ∷ []) }
     ensures ways { OnOk result
-        (map (λ w. owned_hops w.items) ways.new.items
-        ≡ map (λ w. owned_hops w.items) ways.old.items ++ step_hops way.now ∷ []) }
+        (map owned_hops ways.new.items
+        ≡ map owned_hops ways.old.items ++ step_hops way.now ∷ []) }
 {
     uris.push(String::from_str(alloc, uri)?)?;
     ways.push(own(alloc, way)?)?;

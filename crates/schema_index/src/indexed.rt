@@ -30,7 +30,7 @@ use crate::located::Located;
 use crate::numbers::{numbered, numbers_of, way_of};
 use faults::Fault;
 use json_doc::{Doc, Pointer, copy};
-use locations::{OwnedStep, follow};
+use locations::{OwnedWay, follow};
 use std::alloc::Global;
 use std::collections::{BTreeMap, BTreeSet};
 use uri_ref::{AbsoluteReference, FragmentKind, opened_uri};
@@ -290,7 +290,7 @@ impl Indexed {
 fn root_along<'a>(
     alloc: Global,
     resource: &'a str,
-    way: &[OwnedStep],
+    way: &OwnedWay,
     document: &'a Doc,
 ) -> Option<Located<'a>>
     ensures { option_map located_view result

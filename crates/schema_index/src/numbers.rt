@@ -6,7 +6,7 @@ ghost use Rattle.std.specs.List.{position_from};
 ghost use Rattle.definitions.specs.Values.{Text, same_text};
 ghost use Rattle.locations.specs.Ways.{owned_hops};
 
-use locations::OwnedStep;
+use locations::OwnedWay;
 use std::alloc::{AllocError, Global};
 use std::collections::BTreeMap;
 
@@ -35,9 +35,9 @@ pub(crate) fn numbered(texts: &[String], number: usize) -> Option<&str>
 }
 
 /// The way of this number.
-pub(crate) fn way_of(ways: &[Vec<OwnedStep>], number: usize) -> Option<&[OwnedStep]>
+pub(crate) fn way_of(ways: &[OwnedWay], number: usize) -> Option<&OwnedWay>
     ensures { option_map (λ w. owned_hops w.now) result
-        ≡ slice_get (map (λ w. owned_hops w.items) ways.now) number }
+        ≡ slice_get (map owned_hops ways.now) number }
 {
-    Some(ways.get(number)?.as_slice())
+    ways.get(number)
 }

@@ -1,22 +1,23 @@
-use Rattle.std.proofs.Common.{◌≡◌, ◌≤◌, ℕ, List, ◌++◌, drop, length, subst, sym, ap, ◌∙◌, arith, append-nil}
-use Rattle.std.proofs.lemmas.List.{drop_all, drop-map}
-use Rattle.std.proofs.lemmas.List.Folds.{drop_split}
-use Rattle.std.specs.List.{slice_range}
-use Rattle.std.specs.Result.{IfOk}
-use Rattle.locations.specs.Hops.{step_hops}
-use Rattle.locations.specs.Ways.{owned_hop, owned_hops}
-use Rattle.locations.specs.declared.ways.OwnedStep.{OwnedStep}
+use Rattle.std.proofs.Common.{refl, ap, ◌∙◌}
+use Rattle.locations.proofs.WayLaws.{one_less, one_passed, one_taken}
 use Rattle.locations.proofs.ways.steps_after.Goals as goal
+use Rattle.locations.proofs.ways.steps_after.Goals.{then-index-start+in_ok-push, else-index-start}
 
-rest-range : (way : List OwnedStep) (start : ℕ) → start ≤ length way → slice_range way start (length way) ≡ drop start way
-rest-range way start h =
-    sym (append-nil (slice_range way start (length way)))
-    ∙ ap (λ more. slice_range way start (length way) ++ more) (sym (drop_all (length way) way (omega arith)))
-    ∙ sym (drop_split way start (length way) h)
-
-pub returns-in-Some : goal.returns-in-Some
-returns-in-Some c =
-    let lookup = c.in-Some.ensures.lookup.0 in
-    subst (λ hops. IfOk c.borrow_steps.result (λ steps. step_hops steps.items ≡ hops))
-    (ap owned_hops (lookup.2 ∙ rest-range c.args.way.now c.args.start lookup.0) ∙ sym (drop-map owned_hop c.args.start c.args.way.now))
-    c.borrow_steps.ensures
+pub loop-index-preserved : goal.loop-index-preserved
+loop-index-preserved c =
+    let l = c.loop-index in
+    let left =
+    one_less c.args.way.now.steps.items c.deref-kept-items.result.now l.index _ _ l.names.now c.cut_step.result.1.now
+    c.deref-kept-items.ensures.value c.loop-index-test.true refl l.invariant.cut c.cut_step.ensures.rest in
+    record {
+      utf8 = c.cut_step.ensures.text;
+      cut = left.0;
+      taken =
+          elim c.if-index-start.branch [
+            | then-index-start+in_ok-push w ↦
+                one_taken c.args.start l.index l.steps.items _ c.cut_step.result.0 _ _ _ _ w.if-index-start.true left.1
+                (ap (λ v. v.items) w.steps-is ∙ w.in_ok-push.ensures.items) c.cut_step.ensures.step l.invariant.taken
+            | else-index-start w ↦
+                one_passed c.args.start l.index l.steps.items _ _ _ _ _ w.if-index-start.false left.1 (ap (λ v. v.items) w.steps-is) l.invariant.taken
+          ];
+    }

@@ -19,8 +19,8 @@ returns-in_ok-steps_after-in-Some c =
     let anchor = c.args.anchor.now in
     let document = value c.args.document.now in
     let steps = c.in_ok-steps_after-in-Some.field-0.items in
-    let there : Some (value c.in-Some.schema.now) ≡ follow (owned_hops anchor.way.items) document = c.in-Some.ensures ∙ ap (λ w. follow (owned_hops w) document) c.deref.ensures.value in
-    let pointer : tokens steps ≡ hop_tokens (drop anchor.start (owned_hops anchor.way.items)) =
-    tokens-hops steps ∙ ap hop_tokens (c.in_ok-steps_after-in-Some.ensures ∙ ap (λ w. drop anchor.start (owned_hops w)) c.deref-in-Some.ensures.value) in
+    let there : Some (value c.in-Some.schema.now) ≡ follow (owned_hops anchor.way) document = c.in-Some.ensures in
+    let pointer : tokens steps ≡ hop_tokens (drop anchor.start (owned_hops anchor.way)) =
+    tokens-hops steps ∙ ap hop_tokens c.in_ok-steps_after-in-Some.ensures in
     ap₂ (λ u p. Some (schema_with u p (value c.in-Some.schema.now))) c.as_str.ensures.value pointer
-    ∙ ap (option_map (schema_with _ (hop_tokens (drop anchor.start (owned_hops anchor.way.items))))) there
+    ∙ ap (option_map (schema_with _ (hop_tokens (drop anchor.start (owned_hops anchor.way))))) there

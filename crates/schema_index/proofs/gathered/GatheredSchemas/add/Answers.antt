@@ -34,7 +34,7 @@ returns c =
           let root : at_root s ≡ true = is-root c.args.way.now c.args.start w.if-way-start.true in
           record {
             uris = ap (λ g. map string_bytes g.uris.items) w.self-is ∙ w.in_ok-push_root.ensures.uris ∙ ap (λ us. map string_bytes before.uris.items ++ us) (sym (root_uri-one s true root));
-            ways = ap (λ g. map (λ v. owned_hops v.items) g.ways.items) w.self-is ∙ w.in_ok-push_root.ensures.ways ∙ ap (λ us. map (λ v. owned_hops v.items) before.ways.items ++ us) (sym (root_way-one s true root));
+            ways = ap (λ g. map owned_hops g.ways.items) w.self-is ∙ w.in_ok-push_root.ensures.ways ∙ ap (λ us. map owned_hops before.ways.items ++ us) (sym (root_way-one s true root));
             references = last (map string_bytes before.references.items) _ (references_at uri v) (references ∙ ap (λ g. map string_bytes g.references.items ++ references_at uri v) w.self-is);
             marks = last (map anchor_mark before.anchors.items) _ (marks s) (anchors ∙ ap (λ g. map anchor_mark g.anchors.items ++ marks s) w.self-is);
           }
@@ -42,7 +42,7 @@ returns c =
           let below : at_root s ≡ false = no-root c.args.way.now c.args.start w.if-way-start.false in
           record {
             uris = ap (λ g. map string_bytes g.uris.items) w.self-is ∙ sym (append-nil (map string_bytes before.uris.items)) ∙ ap (λ us. map string_bytes before.uris.items ++ us) (sym (root_uri-one s false below));
-            ways = ap (λ g. map (λ v. owned_hops v.items) g.ways.items) w.self-is ∙ sym (append-nil (map (λ v. owned_hops v.items) before.ways.items)) ∙ ap (λ us. map (λ v. owned_hops v.items) before.ways.items ++ us) (sym (root_way-one s false below));
+            ways = ap (λ g. map owned_hops g.ways.items) w.self-is ∙ sym (append-nil (map owned_hops before.ways.items)) ∙ ap (λ us. map owned_hops before.ways.items ++ us) (sym (root_way-one s false below));
             references = last (map string_bytes before.references.items) _ (references_at uri v) (references ∙ ap (λ g. map string_bytes g.references.items ++ references_at uri v) w.self-is);
             marks = last (map anchor_mark before.anchors.items) _ (marks s) (anchors ∙ ap (λ g. map anchor_mark g.anchors.items ++ marks s) w.self-is);
           }

@@ -22,25 +22,25 @@ unfolding gathered_uris gathered_ways
 returns-in-Some-way_of c =
     let d = c.args.self.now in
     c.root_along.ensures
-    ∙ numbered-root (map string_bytes d.gathered.uris.items) (map (λ w. owned_hops w.items) d.gathered.ways.items) (value d.document) c.args.number
+    ∙ numbered-root (map string_bytes d.gathered.uris.items) (map owned_hops d.gathered.ways.items) (value d.document) c.args.number
     (Some c.in-Some.resource.now) (Some (owned_hops c.in-Some-way_of.way.now))
     (c.in-Some.ensures ∙ ap (λ us. slice_get (map string_bytes us) c.args.number) c.deref.ensures.value)
-    (c.in-Some-way_of.ensures ∙ ap (λ ws. slice_get (map (λ w. owned_hops w.items) ws) c.args.number) c.deref-in-Some.ensures.value)
+    (c.in-Some-way_of.ensures ∙ ap (λ ws. slice_get (map owned_hops ws) c.args.number) c.deref-in-Some.ensures.value)
 
 pub returns-in-None-way_of : goal.returns-in-None-way_of
 unfolding gathered_uris gathered_ways
 returns-in-None-way_of c =
     let d = c.args.self.now in
-    numbered-root (map string_bytes d.gathered.uris.items) (map (λ w. owned_hops w.items) d.gathered.ways.items) (value d.document) c.args.number
+    numbered-root (map string_bytes d.gathered.uris.items) (map owned_hops d.gathered.ways.items) (value d.document) c.args.number
     (Some c.in-Some.resource.now) None
     (c.in-Some.ensures ∙ ap (λ us. slice_get (map string_bytes us) c.args.number) c.deref.ensures.value)
-    (c.in-None-way_of.ensures ∙ ap (λ ws. slice_get (map (λ w. owned_hops w.items) ws) c.args.number) c.deref-in-Some.ensures.value)
+    (c.in-None-way_of.ensures ∙ ap (λ ws. slice_get (map owned_hops ws) c.args.number) c.deref-in-Some.ensures.value)
 
 pub returns-in-None : goal.returns-in-None
 unfolding gathered_uris gathered_ways
 returns-in-None c =
     let d = c.args.self.now in
-    let ways = map (λ w. owned_hops w.items) d.gathered.ways.items in
+    let ways = map owned_hops d.gathered.ways.items in
     numbered-root (map string_bytes d.gathered.uris.items) ways (value d.document) c.args.number
     None (slice_get ways c.args.number)
     (c.in-None.ensures ∙ ap (λ us. slice_get (map string_bytes us) c.args.number) c.deref.ensures.value)

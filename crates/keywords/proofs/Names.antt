@@ -1,6 +1,6 @@
 -- What the definitions' table has under a name.
-use Rattle.std.proofs.Common.{◌≡◌, ◌==◌, ℕ, List, [], ◌∷◌, Bool, true, false, None, Option, option_map, unwrap_or, length, refl, sym, ap, ◌∙◌}
-use Rattle.definitions.specs.Values.{Text, same_text}
+use Rattle.std.proofs.Common.{◌≡◌, ◌==◌, ℕ, List, [], ◌∷◌, None, Option, option_map, unwrap_or, length, refl, sym, ap}
+use Rattle.definitions.specs.Values.{Text}
 use Rattle.definitions.specs.Shapes.{any_value}
 use Rattle.definitions.specs.Keywords.{Keyword, keyword_named, keywords, shape_in}
 use Rattle.lemmas.proofs.Texts.{DifferIf, differs_by}

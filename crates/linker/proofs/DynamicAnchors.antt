@@ -1,10 +1,10 @@
 -- The dynamic anchors of a table, and the outermost resource of a scope that has one.
-use Rattle.std.proofs.Common.{◌≡◌, ◌++◌, ◌∷◌, [], ◌||◌, List, Option, Some, None, true, false, is_some, map, option_map, unwrap_or, refl, sym, ap, ◌∙◌}
+use Rattle.std.proofs.Common.{◌≡◌, ◌++◌, ◌∷◌, [], ◌||◌, List, Option, Some, None, true, false, is_some, unwrap_or, refl, sym, ap, ◌∙◌}
 use Rattle.std.proofs.lemmas.List.Folds.{find-append}
 use Rattle.std.specs.Option.{option_or}
 use Rattle.definitions.specs.Schemas.{Document, Schema, schemas_of, table_of}
 use Rattle.definitions.specs.Targets.{is_dynamic_anchor, outermost, schema_with_dynamic_anchor}
-use Rattle.definitions.specs.Values.{Text, same_text}
+use Rattle.definitions.specs.Values.{Text}
 use Rattle.lemmas.proofs.Lists.{flat_map-push}
 use Rattle.lemmas.proofs.Options.{some_from_is_some}
 use Rattle.linker.proofs.Tables.{in_resource}

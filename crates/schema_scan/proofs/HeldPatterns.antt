@@ -1,5 +1,5 @@
 -- Patterns by their texts, where one more is put in.
-use Rattle.std.proofs.Common.{◌≡◌, ℕ, ◌<◌, ◌+◌, List, [], ◌∷◌, ◌++◌, map, take, length, get_or, Bool, true, false, cond, ◌||◌, ◌&&◌, Option, Some, None, is_some, Result, Ok, Err, OnOk, OnErr, Bor, String, Global, string_bytes, string_cmp, nat_cmp, refl, sym, ap, ◌∙◌, IfSome}
+use Rattle.std.proofs.Common.{◌≡◌, ℕ, ◌<◌, ◌+◌, List, [], ◌∷◌, ◌++◌, map, take, length, get_or, Bool, true, false, cond, ◌||◌, Option, Some, None, is_some, Result, Ok, Err, OnOk, OnErr, Bor, String, Global, string_bytes, string_cmp, nat_cmp, refl, sym, ap, ◌∙◌, IfSome}
 use Rattle.std.proofs.lemmas.Bool.{and_parts, and_from, or_right}
 use Rattle.std.proofs.lemmas.List.{map_more}
 use Rattle.std.proofs.lemmas.Map.Text.{btree_map_updates_text}

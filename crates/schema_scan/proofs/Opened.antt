@@ -4,10 +4,8 @@ use Rattle.std.proofs.Math.Bool.{or-false, or-true}
 use Rattle.std.proofs.lemmas.Bool.Decides.{nat_tests}
 use Rattle.definitions.specs.Values.{Text, Value, text_at}
 use Rattle.definitions.specs.Pointers.{Pointer}
-use Rattle.definitions.specs.Keywords.{keywords, shape_in}
 use Rattle.definitions.specs.Schemas.{opened_schema, schema_at, is_root}
 use Rattle.definition_laws.proofs.Places.{value-opened}
-use Rattle.keywords.specs.Rows.{shape_named}
 use Rattle.schema_scan.specs.SchemaPositions.{opened_uri, resource_of, opens_resource}
 
 pub value-at : (base : Text) (p : Pointer) (v : Value) → (schema_at base p v).value ≡ v

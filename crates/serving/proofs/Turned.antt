@@ -1,5 +1,5 @@
 -- One piece, read and answered.
-use Rattle.std.proofs.Common.{◌≡◌, ◌+◌, ◌<◌, ℕ, List, [], ◌∷◌, ◌++◌, true, false, Option, Some, None, Result, Ok, Err, take, length, refl, sym, ap, ◌∙◌, subst, arith, inl, inr, true≢false}
+use Rattle.std.proofs.Common.{◌≡◌, ◌<◌, ℕ, List, [], ◌∷◌, ◌++◌, true, false, Option, Some, None, Result, Ok, Err, take, length, refl, sym, ap, ◌∙◌, subst, arith, inl, inr, true≢false}
 use Rattle.definitions.specs.Values.{Text}
 use Rattle.http_definitions.specs.Connections.{Answers, Connection, holding, closed, Takes}
 use Rattle.connections.specs.Connected.{is_closed_at}

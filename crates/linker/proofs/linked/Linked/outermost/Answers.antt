@@ -1,4 +1,4 @@
-use Rattle.std.proofs.Common.{false, is_some, map, option_map, unwrap_or, sym, ap, ◌∙◌}
+use Rattle.std.proofs.Common.{false, map, option_map, unwrap_or, sym, ap, ◌∙◌}
 use Rattle.schema_index.specs.DynamicResources.{has_uri}
 use Rattle.linker.specs.LinkedDocuments.{linked_documents, linked_schemas}
 use Rattle.linker.proofs.DynamicAnchors.{outermost_none}

@@ -1,4 +1,4 @@
-use Rattle.std.proofs.Common.{◌≡◌, [], false, true, map, string_bytes, subst, sym, refl, ap, ◌∙◌}
+use Rattle.std.proofs.Common.{◌≡◌, [], false, true, map, string_bytes, subst, refl, ap, ◌∙◌}
 use Rattle.std.specs.List.{position_from}
 use Rattle.definitions.specs.Scanning.{scan_fault}
 use Rattle.definitions.specs.Values.{is_well_formed, same_text}

@@ -20,8 +20,11 @@ pub(crate) struct AbsoluteReferences {
     read: Vec<AbsoluteReference>,
     /// The number of each, by the URI of the resource around it and by its text.
     numbers: BTreeMap<String, BTreeMap<String, usize>>,
-    ghost within: { (uri text : Text) (number : ℕ) → pair_number numbers uri text ≡ Some number → number < length read.items },
-    ghost sound: { (uri text : Text) (number : ℕ) (r : AbsoluteReference) → pair_number numbers uri text ≡ Some number → slice_get read.items number ≡ Some r → IsReadAs (target_uri uri text) (Some r) },
+    ghost within: { (uri text : Text) (number : ℕ) → pair_number numbers uri text ≡ Some number
+        → number < length read.items },
+    ghost sound: { (uri text : Text) (number : ℕ) (r : AbsoluteReference)
+        → pair_number numbers uri text ≡ Some number → slice_get read.items number ≡ Some r
+        → IsReadAs (target_uri uri text) (Some r) },
 }
 
 impl AbsoluteReferences {

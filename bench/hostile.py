@@ -82,11 +82,14 @@ def deep_chain(length):
     return {"$ref": "#/$defs/d1", "$defs": {**chain, f"d{length}": {}}}
 
 
-def dynamic_scope(resources):
-    """A chain of so many resources, above elements that are judged by a dynamic reference to an anchor of none of them."""
+def dynamic_scope(resources, others=0):
+    """A chain of so many resources, above elements that are judged by a dynamic reference to an anchor of none of them. So
+    many others have the anchor, too."""
     chain = {f"r{number}": {"$id": f"r{number}", "$ref": f"r{number + 1}"} for number in range(resources)}
     last = {"$id": f"r{resources}", "items": {"$dynamicRef": "leaf#leaf"}}
-    return {"$ref": "r0", "$defs": {**chain, "last": last, "leaf": {"$id": "leaf", "$dynamicAnchor": "leaf"}}}
+    anchored = {f"o{number}": {"$id": f"o{number}", "$dynamicAnchor": "leaf"} for number in range(others)}
+    leaf = {"$id": "leaf", "$dynamicAnchor": "leaf"}
+    return {"$ref": "r0", "$defs": {**chain, "last": last, "leaf": leaf, **anchored}}
 
 
 def doubled(levels, more=None):
@@ -144,7 +147,10 @@ CASES = [
          + b"}}" * 59)], "400 TooNested"),
     Case("put: schemas 58 deep, 45,000 anchors at the bottom", lambda: [
         ("k", "put", f"{SITE}s", b'{"$defs":{"d":' * 58 + definitions(lambda n: b'"%d":{"$anchor":"a%d"}' % (n, n), BODY - 1000)
-         + b"}}" * 58)], "201", over="memory"),
+         + b"}}" * 58)], "201"),
+    Case("put: schemas 58 deep, 45,000 definitions with an $id at the bottom", lambda: [
+        ("k", "put", f"{SITE}s", b'{"$defs":{"d":' * 58 + definitions(lambda n: b'"%d":{"$id":"%d"}' % (n, n), BODY - 1000)
+         + b"}}" * 58)], "201"),
     Case("put: 100,000 names that mean nothing, in falling order", lambda: [
         ("k", "put", f"{SITE}s", members(lambda n: b'"%06d":1' % (999_999 - n)))], "201"),
     Case("put: one anchor twice among 45,000", lambda: [
@@ -158,28 +164,30 @@ CASES = [
     Case("99,999 applications", lambda: check({"items": True}, [0] * 99_999), "200 valid"),
     Case("100,001 applications", lambda: check({"items": True}, [0] * 100_000), "400 Costly"),
     Case("a reference of 20,000 bytes, followed 20,000 times", lambda: check(
-        {"items": {"$ref": "#/$defs/" + "d" * 20_000}, "$defs": {"d" * 20_000: True}}, [0] * 20_000), "200 valid", over="nodes"),
+        {"items": {"$ref": "#/$defs/" + "d" * 20_000}, "$defs": {"d" * 20_000: True}}, [0] * 20_000), "200 valid"),
     Case("an $id of 20,000 bytes, entered 20,000 times", lambda: check(
-        {"items": {"$id": "i/" * 10_000, "type": "integer"}}, [0] * 20_000), "200 valid", over="nodes"),
-    Case("9,000 dynamic references, 900 resources in scope", lambda: check(dynamic_scope(900), [0] * 9_000), "200 valid", over="nodes"),
+        {"items": {"$id": "i/" * 10_000, "type": "integer"}}, [0] * 20_000), "200 valid"),
+    Case("9,000 dynamic references, 900 resources in scope", lambda: check(dynamic_scope(900), [0] * 9_000), "200 valid"),
+    Case("the same, and 900 other resources that have the anchor", lambda: check(
+        dynamic_scope(900, 900), [0] * 9_000), "200 valid", over="product"),
     Case("5,000 names that are ignored, applied 20,000 times", lambda: check(
-        {"items": {f"$x{n}": 1 for n in range(5_000)}}, [0] * 20_000), "200 valid", over="nodes"),
+        {"items": {f"$x{n}": 1 for n in range(5_000)}}, [0] * 20_000), "200 valid"),
     Case("dependentRequired of 5,000 names on 20,000 objects", lambda: check(
-        {"items": {"dependentRequired": {name: [] for name in names(5_000)}}}, [{}] * 20_000), "200 valid", over="nodes"),
+        {"items": {"dependentRequired": {name: [] for name in names(5_000)}}}, [{}] * 20_000), "200 valid"),
     Case("dependentSchemas of 5,000 names on 20,000 objects", lambda: check(
-        {"items": {"dependentSchemas": {name: True for name in names(5_000)}}}, [{}] * 20_000), "200 valid", over="nodes"),
+        {"items": {"dependentSchemas": {name: True for name in names(5_000)}}}, [{}] * 20_000), "200 valid"),
     Case("properties of 5,000 names on 20,000 objects", lambda: check(
-        {"items": {"properties": {name: True for name in names(5_000)}}}, [{"a": 1}] * 20_000), "200 valid", over="nodes"),
+        {"items": {"properties": {name: True for name in names(5_000)}}}, [{"a": 1}] * 20_000), "200 valid"),
     Case("required of 10,000 names on 40,000 numbers", lambda: check(
-        {"items": {"required": names(10_000)}}, [0] * 40_000), "200 valid", over="nodes"),
+        {"items": {"required": names(10_000)}}, [0] * 40_000), "200 valid"),
     Case("enum of 3,000 texts on 12,000 texts", lambda: check(
-        {"items": {"enum": names(3_000)}}, ["n02999"] * 12_000), "200 valid", over="nodes"),
+        {"items": {"enum": names(3_000)}}, ["n02999"] * 12_000), "200 valid"),
     Case("480 levels that fail, 4,000 errors", lambda: check(
         {**deep_chain(480), "$defs": {**{f"d{n}": {"$ref": f"#/$defs/d{n + 1}"} for n in range(1, 480)},
                                       "d480": {"items": False}}}, [0] * 4_000), "200 invalid"),
     Case("960 applications in place above 38,400 objects", lambda: check(
         {**deep_chain(960), "$defs": {**{f"d{n}": {"$ref": f"#/$defs/d{n + 1}"} for n in range(1, 960)},
-                                      "d960": {"items": {"type": "object"}}}}, [{}] * 38_400), "200 valid", over="nodes"),
+                                      "d960": {"items": {"type": "object"}}}}, [{}] * 38_400), "200 valid"),
     Case("unevaluatedProperties over 40,000 names", lambda: check(
         {"allOf": [{"properties": {name: True for name in names(20_000)}}], "unevaluatedProperties": True},
         {name: 1 for name in names(40_000)}), "200 valid"),

@@ -4,3 +4,5 @@ pub mod Kept
 pub mod Units
 pub mod Pieces
 pub mod Outputs
+pub mod Shared
+pub mod Fronts

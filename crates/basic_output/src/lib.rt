@@ -2,10 +2,12 @@
 #![tactic(auto)]
 
 mod entry;
+mod kept_pointer;
 mod location;
 mod output;
 mod quoting;
 mod says;
+mod shared_steps;
 mod units;
 
 pub use faults::Fault;

@@ -15,16 +15,32 @@ ghost use Rattle.locations.specs.Steps.{step_value, tokens};
 ghost use Rattle.basic_output.specs.Units.{units_view};
 
 use crate::entry::{Entry, Said, Segment};
-use crate::quoting::{
-    push_decimal, push_message, push_quoted, push_quoted_location, push_quoted_pointer,
-    push_written,
-};
+use crate::kept_pointer::KeptPointer;
+use crate::quoting::{push_decimal, push_message, push_quoted, push_written};
 use crate::units::Units;
 use faults::Fault;
 use json::Writer;
 use json_doc::{Doc, write_doc};
 use locations::Step;
 use std::alloc::{AllocError, Global};
+
+// The pointers that were written last, of the three locations of a unit.
+#[derive(Drop)]
+struct KeptPointers<'s, 'a> {
+    pointer: KeptPointer<'s, 'a>,
+    instance_location: KeptPointer<'s, 'a>,
+    path: KeptPointer<'s, 'a>,
+}
+
+impl<'s, 'a> KeptPointers<'s, 'a> {
+    fn new(alloc: Global) -> KeptPointers<'s, 'a> {
+        KeptPointers {
+            pointer: KeptPointer::new(alloc),
+            instance_location: KeptPointer::new(alloc),
+            path: KeptPointer::new(alloc),
+        }
+    }
+}
 
 /// The text of the basic output: compact JSON, with the names of each object in byte order. The units are the
 /// annotations of a valid instance, or the errors of another. The only error is want of memory, [`Fault::NoRoom`].
@@ -71,9 +87,9 @@ fn valid_member(valid: bool) -> &'static str
     }
 }
 
-fn write_entries<'a>(
+fn write_entries<'s, 'a>(
     valid: bool,
-    steps: &[Step<'a>],
+    steps: &'s [Step<'a>],
     entries: &[Entry<'a>],
     out: &mut String,
 ) -> Result<(), AllocError>
@@ -83,9 +99,10 @@ fn write_entries<'a>(
 {
     match entries.split_first() {
         Some((first, rest)) => {
+            let mut kept = KeptPointers::new(*out.allocator());
             out.push_str("[")?;
-            write_unit(valid, steps, *first, out)?;
-            write_later_entries(valid, steps, rest, out)?;
+            write_unit(valid, steps, *first, &mut kept, out)?;
+            write_later_entries(valid, steps, rest, &mut kept, out)?;
             out.push_str("]")
         }
         None => out.push_str("[]"),
@@ -93,10 +110,11 @@ fn write_entries<'a>(
 }
 
 // Each unit behind a comma.
-fn write_later_entries<'a>(
+fn write_later_entries<'s, 'a>(
     valid: bool,
-    steps: &[Step<'a>],
+    steps: &'s [Step<'a>],
     entries: &[Entry<'a>],
+    kept: &mut KeptPointers<'s, 'a>,
     out: &mut String,
 ) -> Result<(), AllocError>
     requires { list_all (fits (length steps.now)) entries.now ≡ true }
@@ -105,15 +123,16 @@ fn write_later_entries<'a>(
 {
     for entry in entries {
         out.push_str(",")?;
-        write_unit(valid, steps, *entry, out)?;
+        write_unit(valid, steps, *entry, kept, out)?;
     }
     Ok(())
 }
 
-fn write_unit<'a>(
+fn write_unit<'s, 'a>(
     valid: bool,
-    steps: &[Step<'a>],
+    steps: &'s [Step<'a>],
     entry: Entry<'a>,
+    kept: &mut KeptPointers<'s, 'a>,
     out: &mut String,
 ) -> Result<(), AllocError>
     requires { fits (length steps.now) entry ≡ true }
@@ -121,12 +140,15 @@ fn write_unit<'a>(
         ≡ string_bytes out.old ++ unit_text valid (entry_view steps.now entry.entry)) }
 {
     out.push_str("{\"absoluteKeywordLocation\":")?;
-    push_quoted_location(out, entry.resource, run(steps, entry.pointer))?;
+    let pointer = run(steps, entry.pointer);
+    kept.pointer
+        .push_quoted_location(out, entry.resource, pointer)?;
     out.push_str(kind_key(valid))?;
     write_said(steps, entry.says, out)?;
     write_locations(
         run(steps, entry.instance_location),
         run(steps, entry.path),
+        kept,
         out,
     )?;
     out.push_str("}")
@@ -143,9 +165,10 @@ fn kind_key(valid: bool) -> &'static str
 }
 
 // The locations of the instance and of the keyword.
-fn write_locations(
-    instance_location: &[Step<'_>],
-    path: &[Step<'_>],
+fn write_locations<'s, 'a>(
+    instance_location: &'s [Step<'a>],
+    path: &'s [Step<'a>],
+    kept: &mut KeptPointers<'s, 'a>,
     out: &mut String,
 ) -> Result<(), AllocError>
     ensures { OnOk result (string_bytes out.new ≡ string_bytes out.old
@@ -153,9 +176,9 @@ fn write_locations(
         ++ (codes ",\"keywordLocation\":" ++ quoted (pointer_text (tokens path.now)))))) }
 {
     out.push_str(",\"instanceLocation\":")?;
-    push_quoted_pointer(out, instance_location)?;
+    kept.instance_location.push_quoted(out, instance_location)?;
     out.push_str(",\"keywordLocation\":")?;
-    push_quoted_pointer(out, path)
+    kept.path.push_quoted(out, path)
 }
 
 #[tactic(auto, using(crate::proofs::PieceLaws::steps_pieces))]

@@ -36,11 +36,11 @@ pub(crate) fn push_quoted_location(
         ≡ string_bytes out.old
         ++ quoted (resource.now ++ (number_sign ∷ fragment_text (tokens steps.now)))) }
 {
-    if is_plain_location(resource, steps) {
-        push_plain_location(out, resource, steps)
-    } else {
-        push_other_location(out, resource, steps)
-    }
+    let mut location = String::with_capacity(*out.allocator(), MOST_OFTEN)?;
+    location.push_str(resource)?;
+    location.push_str("#")?;
+    push_fragment(&mut location, steps)?;
+    push_quoted(out, location.as_str())
 }
 
 /// Appends the pointer's text as a string.
@@ -48,9 +48,7 @@ pub(crate) fn push_quoted_pointer(out: &mut String, steps: &[Step<'_>]) -> Resul
     ensures { OnOk result (string_bytes out.new
         ≡ string_bytes out.old ++ quoted (pointer_text (tokens steps.now))) }
 {
-    if are_plain(steps) {
-        push_plain_pointer(out, steps)
-    } else if are_unescaped_steps(steps) {
+    if are_unescaped_steps(steps) {
         push_unescaped_pointer(out, steps)
     } else {
         push_other_pointer(out, steps)
@@ -77,7 +75,8 @@ pub(crate) fn push_decimal(out: &mut String, number: usize) -> Result<(), AllocE
     out.push_str(digits.format(number))
 }
 
-fn push_as_it_is(out: &mut String, text: &str) -> Result<(), AllocError>
+/// Appends the text as a string, as it is.
+pub(crate) fn push_as_it_is(out: &mut String, text: &str) -> Result<(), AllocError>
     ensures { OnOk result (string_bytes out.new
         ≡ string_bytes out.old ++ 34 ∷ (text.now ++ 34 ∷ [])) }
 {
@@ -123,27 +122,19 @@ fn push_other_message(out: &mut String, keyword: &str) -> Result<(), AllocError>
     push_quoted(out, message.as_str())
 }
 
-fn push_plain_location(
+/// Appends the resource's URI, `#` and the text as one string, as they are.
+pub(crate) fn push_plain_location(
     out: &mut String,
     resource: &str,
-    steps: &[Step<'_>],
+    text: &str,
 ) -> Result<(), AllocError>
     ensures { OnOk result (string_bytes out.new ≡ string_bytes out.old
-        ++ 34 ∷ (resource.now ++ number_sign ∷ (plain_text (tokens steps.now) ++ 34 ∷ []))) }
+        ++ 34 ∷ (resource.now ++ number_sign ∷ (text.now ++ 34 ∷ []))) }
 {
     out.push_str("\"")?;
     out.push_str(resource)?;
     out.push_str("#")?;
-    push_plain(out, steps)?;
-    out.push_str("\"")
-}
-
-fn push_plain_pointer(out: &mut String, steps: &[Step<'_>]) -> Result<(), AllocError>
-    ensures { OnOk result (string_bytes out.new
-        ≡ string_bytes out.old ++ 34 ∷ (plain_text (tokens steps.now) ++ 34 ∷ [])) }
-{
-    out.push_str("\"")?;
-    push_plain(out, steps)?;
+    out.push_str(text)?;
     out.push_str("\"")
 }
 
@@ -178,22 +169,6 @@ fn push_step(out: &mut String, step: Step<'_>) -> Result<(), AllocError>
     }
 }
 
-fn push_other_location(
-    out: &mut String,
-    resource: &str,
-    steps: &[Step<'_>],
-) -> Result<(), AllocError>
-    ensures { OnOk result (string_bytes out.new
-        ≡ string_bytes out.old
-        ++ quoted (resource.now ++ (number_sign ∷ fragment_text (tokens steps.now)))) }
-{
-    let mut location = String::with_capacity(*out.allocator(), MOST_OFTEN)?;
-    location.push_str(resource)?;
-    location.push_str("#")?;
-    push_fragment(&mut location, steps)?;
-    push_quoted(out, location.as_str())
-}
-
 fn push_other_pointer(out: &mut String, steps: &[Step<'_>]) -> Result<(), AllocError>
     ensures { OnOk result (string_bytes out.new
         ≡ string_bytes out.old ++ quoted (pointer_text (tokens steps.now))) }
@@ -203,18 +178,8 @@ fn push_other_pointer(out: &mut String, steps: &[Step<'_>]) -> Result<(), AllocE
     push_quoted(out, pointer.as_str())
 }
 
-// The tokens as they are, each led by a `/`.
-fn push_plain(out: &mut String, steps: &[Step<'_>]) -> Result<(), AllocError>
-    ensures { OnOk result (string_bytes out.new
-        ≡ string_bytes out.old ++ plain_text (tokens steps.now)) }
-{
-    for step in steps {
-        push_plain_step(out, *step)?;
-    }
-    Ok(())
-}
-
-fn push_plain_step(out: &mut String, step: Step<'_>) -> Result<(), AllocError>
+/// Appends a `/` and the step, as it is.
+pub(crate) fn push_plain_step(out: &mut String, step: Step<'_>) -> Result<(), AllocError>
     ensures { OnOk result (string_bytes out.new
         ≡ string_bytes out.old ++ slash ∷ token step.entry) }
 {
@@ -223,19 +188,6 @@ fn push_plain_step(out: &mut String, step: Step<'_>) -> Result<(), AllocError>
         Step::Name(name) => out.push_str(name),
         Step::Index(index) => push_decimal(out, index),
     }
-}
-
-fn is_plain_location(resource: &str, steps: &[Step<'_>]) -> bool
-    ensures { result ≡ (list_all is_unescaped resource.now
-        && list_all (λ s. list_all is_plain (token s)) steps.now) }
-{
-    are_unescaped(resource.as_bytes()) && are_plain(steps)
-}
-
-fn are_plain(steps: &[Step<'_>]) -> bool
-    ensures { result ≡ list_all (λ s. list_all is_plain (token s)) steps.now }
-{
-    steps.iter().all(|step| is_plain_step(*step))
 }
 
 fn are_unescaped_steps(steps: &[Step<'_>]) -> bool
@@ -253,7 +205,8 @@ fn is_unescaped_step(step: Step<'_>) -> bool
     }
 }
 
-fn is_plain_step(step: Step<'_>) -> bool
+/// Whether the step stands as it is in a pointer, in its fragment and in a string.
+pub(crate) fn is_plain_step(step: Step<'_>) -> bool
     ensures { result ≡ list_all is_plain (token step.entry) }
 {
     match step {
@@ -293,7 +246,8 @@ fn is_plain(byte: u8) -> bool
         || matches!(byte, b'$' | b'-' | b'.' | b'_')
 }
 
-fn are_unescaped(bytes: &[u8]) -> bool
+/// Whether the text stands as it is in a string.
+pub(crate) fn are_unescaped(bytes: &[u8]) -> bool
     ensures { result ≡ list_all is_unescaped bytes.now }
 {
     bytes.iter().all(|byte| is_unescaped(*byte))

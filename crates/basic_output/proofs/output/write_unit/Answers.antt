@@ -33,11 +33,11 @@ returns c =
     let places = at_instance ++ (instance_location ++ (at_path ++ path)) in
     let tail = at_instance ++ (instance_location ++ (at_path ++ (path ++ end))) in
     let at_located : located ≡ first ++ location =
-    c.in_ok-push_quoted_location.ensures ∙ ap (λ ss. first ++ quoted (entry.resource.now ++ (35 ∷ fragment_text (tokens ss)))) c.run.ensures in
+    c.in_ok-push_quoted_location.ensures ∙ ap (λ ss. first ++ quoted (entry.resource.now ++ (35 ∷ fragment_text (tokens ss)))) c.run-pointer.ensures in
     let at_keyed : keyed ≡ located ++ key = c.in_ok-push_str-2.ensures.bytes ∙ ap (λ k. located ++ k) c.kind_key.ensures in
     let at_placed : placed ≡ said ++ places =
     c.in_ok-write_locations.ensures
-    ∙ ap₂ (λ ps qs. said ++ (at_instance ++ (quoted (pointer_text (tokens ps)) ++ (at_path ++ quoted (pointer_text (tokens qs)))))) c.run-2.ensures c.run-3.ensures in
+    ∙ ap₂ (λ ps qs. said ++ (at_instance ++ (quoted (pointer_text (tokens ps)) ++ (at_path ++ quoted (pointer_text (tokens qs)))))) c.run.ensures c.run-2.ensures in
     let joined = regrouped at_instance instance_location at_path path end in
     pushed c.push_str-3.result (string_bytes c.push_str-3.new.self) _ _ c.push_str-3.ensures.bytes
     (λ e. appended old first _ head (location ++ (key ++ (says ++ tail))) c.in_ok-push_str.ensures.bytes

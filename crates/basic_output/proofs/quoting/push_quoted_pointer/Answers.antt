@@ -1,12 +1,7 @@
 use Rattle.std.proofs.Common.{◌++◌, string_bytes, sym, ap, ◌∙◌}
 use Rattle.std.proofs.lemmas.Result.{on_ok_weaker}
-use Rattle.basic_output.proofs.PlainLaws.{quoted_pointer, unescaped_pointer}
+use Rattle.basic_output.proofs.PlainLaws.{unescaped_pointer}
 use Rattle.basic_output.proofs.quoting.push_quoted_pointer.Goals as goal
-
-pub returns-then-are_plain : goal.returns-then-are_plain
-returns-then-are_plain c =
-    let h = sym c.are_plain.ensures ∙ c.if-are_plain.true in
-    on_ok_weaker c.push_plain_pointer.result (λ e. e ∙ ap (λ q. string_bytes c.args.out.now ++ q) (sym (quoted_pointer c.args.steps.now h))) c.push_plain_pointer.ensures
 
 pub returns-then-are_unescaped_steps : goal.returns-then-are_unescaped_steps
 returns-then-are_unescaped_steps c =

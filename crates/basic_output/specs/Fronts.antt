@@ -1,5 +1,5 @@
 -- The first steps of a location, and their text where nothing of it is escaped.
-use Rattle.std.specs.Prelude.{◌≡◌, ℕ, ◌<◌, List, Bool, get_or, length, take}
+use Rattle.std.specs.Prelude.{ℕ, List, Bool, take}
 use Rattle.std.specs.List.{list_all}
 use Rattle.definitions.specs.Values.{Text}
 use Rattle.locations.specs.Steps.{token, tokens}
@@ -12,7 +12,3 @@ are_plain_steps steps = list_all (λ s. list_all is_plain (token s)) steps
 -- the text of the first n steps
 abbrev pub front_text : ℕ → List Step → Text
 front_text n steps = plain_text (tokens (take n steps))
-
--- the n-th number is the length of the text of the first n steps
-abbrev pub AreLengths : List ℕ → List Step → Type 0
-AreLengths lengths steps = (n : ℕ) → n < length lengths → get_or lengths n 0 ≡ length (front_text n steps)

@@ -1,42 +1,51 @@
 //! The pointer that was written last, of which the next one mostly has the beginning.
 
-ghost use Rattle.std.specs.Prelude.{◌≡◌, ◌++◌, ◌≤◌, ◌<◌, ◌∷◌, [], OnOk, true, false, suc, IfOk, MatchBool, length, min, string_bytes, take};
+ghost use Rattle.std.specs.Prelude.{◌≡◌, ◌++◌, ◌+◌, ◌≤◌, ◌<◌, ◌∷◌, [], OnOk, true, IfOk, length, string_bytes, take};
 ghost use Rattle.json.specs.Print.{quoted};
-ghost use Rattle.definitions.specs.Bytes.{number_sign, slash};
+ghost use Rattle.definitions.specs.Bytes.{number_sign};
 ghost use Rattle.definitions.specs.Pointers.{fragment_text, pointer_text};
 ghost use Rattle.locations.specs.Steps.{token, tokens};
-ghost use Rattle.basic_output.specs.Pieces.{plain_text};
-ghost use Rattle.basic_output.specs.Fronts.{AreLengths, are_plain_steps, front_text};
+ghost use Rattle.basic_output.specs.Fronts.{are_plain_steps, front_text};
 
+use crate::kept_resource::KeptResource;
 use crate::quoting::{
-    are_unescaped, is_plain_step, push_as_it_is, push_plain_location, push_plain_step,
-    push_quoted_location, push_quoted_pointer,
+    are_plain, push_plain_location, push_plain_pointer, push_plain_step, push_quoted_location,
+    push_quoted_pointer,
 };
 use crate::shared_steps::shared_len;
 use locations::Step;
 use std::alloc::{AllocError, Global};
 
-/// The steps that were written last, and the text of those at the front of which nothing is escaped.
+/// How many bytes there is room for at once.
+const ROOM: usize = 128;
+
+/// The steps that were written last, and the text of those at the front that they share with the steps before.
 #[derive(Drop)]
 pub(crate) struct KeptPointer<'s, 'a> {
     steps: &'s [Step<'a>],
-    // The text of the first steps, of which there are as many as lengths.
+    // Nothing is escaped of so many of the first steps.
+    plain: usize,
+    // The text of so many of the first steps.
+    written: usize,
     text: String,
-    // How long it was before each of them.
-    lengths: Vec<usize>,
-    ghost within: { length lengths.items ≤ length steps.now },
-    ghost plain: { are_plain_steps (take (length lengths.items) steps.now) ≡ true },
-    ghost written: { string_bytes text ≡ front_text (length lengths.items) steps.now },
-    ghost measured: { AreLengths lengths.items steps.now },
+    // Text is kept of so many steps at most.
+    limit: usize,
+    ghost plain_within: { plain ≤ length steps.now },
+    ghost written_within: { written ≤ plain },
+    ghost are_plain: { are_plain_steps (take plain steps.now) ≡ true },
+    ghost is_text: { string_bytes text ≡ front_text written steps.now },
 }
 
 impl<'s, 'a> KeptPointer<'s, 'a> {
-    /// No steps. This takes no memory; those that come later take it from `alloc`.
-    pub(crate) fn new(alloc: Global) -> KeptPointer<'s, 'a> {
+    /// No steps. Text is kept of `limit` steps at most. This takes no memory; the steps that are shared later take it
+    /// from `alloc`.
+    pub(crate) fn new(alloc: Global, limit: usize) -> KeptPointer<'s, 'a> {
         KeptPointer {
             steps: &[],
+            plain: 0,
+            written: 0,
             text: String::new(alloc),
-            lengths: Vec::new(alloc),
+            limit,
         }
     }
 
@@ -51,7 +60,7 @@ impl<'s, 'a> KeptPointer<'s, 'a> {
     {
         let plain = self.keep(steps)?;
         if plain {
-            push_as_it_is(out, self.text.as_str())
+            push_plain_pointer(out, self.text.as_str(), &steps[self.written..])
         } else {
             push_quoted_pointer(out, steps)
         }
@@ -61,90 +70,112 @@ impl<'s, 'a> KeptPointer<'s, 'a> {
     pub(crate) fn push_quoted_location(
         &mut self,
         out: &mut String,
-        resource: &str,
+        resource: &mut KeptResource<'a>,
+        uri: &'a str,
         steps: &'s [Step<'a>],
     ) -> Result<(), AllocError>
         ensures { OnOk result (string_bytes out.new
             ≡ string_bytes out.old
-            ++ quoted (resource.now ++ (number_sign ∷ fragment_text (tokens steps.now)))) }
+            ++ quoted (uri.now ++ (number_sign ∷ fragment_text (tokens steps.now)))) }
     {
         let plain = self.keep(steps)?;
-        if plain && are_unescaped(resource.as_bytes()) {
-            push_plain_location(out, resource, self.text.as_str())
+        if plain && resource.is_unescaped(uri) {
+            push_plain_location(out, uri, self.text.as_str(), &steps[self.written..])
         } else {
-            push_quoted_location(out, resource, steps)
+            push_quoted_location(out, uri, steps)
         }
     }
 
-    // Turns to these steps: whether nothing of them is escaped. What they share with the steps before is neither looked
-    // at nor written anew.
+    // Turns to these steps: whether nothing of them is escaped. What they share with the steps before is not looked at
+    // anew, and its text is kept.
     fn keep(&mut self, steps: &'s [Step<'a>]) -> Result<bool, AllocError>
+        ensures steps { OnOk result (self.new.steps.now ≡ steps.now) }
         ensures plain { IfOk result (λ plain. plain ≡ are_plain_steps steps.now) }
-        ensures text { IfOk result (λ plain. plain ≡ true
-            → string_bytes self.new.text ≡ plain_text (tokens steps.now)) }
     {
         self.turn_to(steps);
-        while self.lengths.len() < self.steps.len() {
-            if !self.keep_next()? {
-                return Ok(false);
-            }
+        self.write_plain()?;
+        if !are_plain(&steps[self.plain..]) {
+            return Ok(false);
         }
+        self.plain = steps.len();
         Ok(true)
     }
 
     fn turn_to(&mut self, steps: &'s [Step<'a>])
         ensures { self.new.steps.now ≡ steps.now }
     {
-        let shared = shared_len(&self.steps[..self.lengths.len()], steps);
+        let shared = shared_len(&self.steps[..self.plain], steps);
         self.cut_back(shared);
         self.steps = steps;
     }
 
     // Keeps so many of the first steps alone.
     fn cut_back(&mut self, len: usize)
+        requires { len ≤ self.old.plain }
         ensures steps { self.new.steps.now ≡ self.old.steps.now }
-        ensures len { length self.new.lengths.items ≡ min len (length self.old.lengths.items) }
+        ensures plain { self.new.plain ≡ len }
     {
-        if len < self.lengths.len() {
-            self.text.truncate(self.lengths[len]);
-            self.lengths.truncate(len);
+        while self.written > len {
+            self.drop_last();
         }
+        self.plain = len;
     }
 
-    // Keeps one step more, unless something of it is escaped: whether it does. Where memory is wanting nothing is kept.
-    fn keep_next(&mut self) -> Result<bool, AllocError>
-        requires { length self.old.lengths.items < length self.old.steps.now }
+    // Cuts off the text of the last step that it has.
+    fn drop_last(&mut self)
+        requires { 0 < self.old.written }
         ensures steps { self.new.steps.now ≡ self.old.steps.now }
-        ensures next { IfOk result (λ plain. MatchBool plain
-            (length self.new.lengths.items ≡ suc (length self.old.lengths.items))
-            (are_plain_steps self.old.steps.now ≡ false)) }
+        ensures plain { self.new.plain ≡ self.old.plain }
+        ensures written { self.new.written + 1 ≡ self.old.written }
     {
-        let step = self.steps[self.lengths.len()];
-        if !is_plain_step(step) {
-            return Ok(false);
+        let last = self.written - 1;
+        let len = token_len(self.steps[last]);
+        self.text.truncate(self.text.len() - len - 1);
+        self.written = last;
+    }
+
+    // Appends the text of the steps of which it is known that nothing is escaped, up to the limit.
+    fn write_plain(&mut self) -> Result<(), AllocError>
+        ensures steps { self.new.steps.now ≡ self.old.steps.now }
+        ensures plain { self.new.plain ≡ self.old.plain }
+    {
+        while self.written < self.plain.min(self.limit) {
+            self.write_next()?;
         }
-        match push_measured(&mut self.text, &mut self.lengths, step) {
-            Ok(()) => Ok(true),
+        Ok(())
+    }
+
+    // Appends the text of one step more. Where memory is wanting no text is kept.
+    fn write_next(&mut self) -> Result<(), AllocError>
+        requires { self.old.written < self.old.plain }
+        ensures steps { self.new.steps.now ≡ self.old.steps.now }
+        ensures plain { self.new.plain ≡ self.old.plain }
+        ensures written { OnOk result (self.new.written ≡ self.old.written + 1) }
+    {
+        let step = self.steps[self.written];
+        self.text.reserve(ROOM)?;
+        match push_plain_step(&mut self.text, step) {
+            Ok(()) => {
+                self.written += 1;
+                Ok(())
+            }
             Err(error) => {
                 self.text.clear();
-                self.lengths.clear();
+                self.written = 0;
                 Err(error)
             }
         }
     }
 }
 
-// Appends the step to the text, and how long that was.
-fn push_measured(
-    text: &mut String,
-    lengths: &mut Vec<usize>,
-    step: Step<'_>,
-) -> Result<(), AllocError>
-    ensures text { OnOk result
-        (string_bytes text.new ≡ string_bytes text.old ++ slash ∷ token step.entry) }
-    ensures lengths { OnOk result
-        (lengths.new.items ≡ lengths.old.items ++ length (string_bytes text.old) ∷ []) }
+fn token_len(step: Step<'_>) -> usize
+    ensures { result ≡ length (token step.entry) }
 {
-    lengths.push(text.len())?;
-    push_plain_step(text, step)
+    match step {
+        Step::Name(name) => name.len(),
+        Step::Index(index) => {
+            let mut digits = itoa::Buffer::new();
+            digits.format(index).len()
+        }
+    }
 }

@@ -3,6 +3,7 @@
 
 mod entry;
 mod kept_pointer;
+mod kept_resource;
 mod location;
 mod output;
 mod quoting;

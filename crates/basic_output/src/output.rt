@@ -16,6 +16,7 @@ ghost use Rattle.basic_output.specs.Units.{units_view};
 
 use crate::entry::{Entry, Said, Segment};
 use crate::kept_pointer::KeptPointer;
+use crate::kept_resource::KeptResource;
 use crate::quoting::{push_decimal, push_message, push_quoted, push_written};
 use crate::units::Units;
 use faults::Fault;
@@ -24,20 +25,26 @@ use json_doc::{Doc, write_doc};
 use locations::Step;
 use std::alloc::{AllocError, Global};
 
-// The pointers that were written last, of the three locations of a unit.
+/// So few units are written sooner than there is memory for a text that they share.
+const FEW: usize = 8;
+
+// What was written last of each part of a unit's locations.
 #[derive(Drop)]
-struct KeptPointers<'s, 'a> {
+struct KeptLocations<'s, 'a> {
+    resource: KeptResource<'a>,
     pointer: KeptPointer<'s, 'a>,
     instance_location: KeptPointer<'s, 'a>,
     path: KeptPointer<'s, 'a>,
 }
 
-impl<'s, 'a> KeptPointers<'s, 'a> {
-    fn new(alloc: Global) -> KeptPointers<'s, 'a> {
-        KeptPointers {
-            pointer: KeptPointer::new(alloc),
-            instance_location: KeptPointer::new(alloc),
-            path: KeptPointer::new(alloc),
+impl<'s, 'a> KeptLocations<'s, 'a> {
+    fn new(alloc: Global, units: usize) -> KeptLocations<'s, 'a> {
+        let limit = if units > FEW { usize::MAX } else { 0 };
+        KeptLocations {
+            resource: KeptResource::new(),
+            pointer: KeptPointer::new(alloc, limit),
+            instance_location: KeptPointer::new(alloc, limit),
+            path: KeptPointer::new(alloc, limit),
         }
     }
 }
@@ -99,7 +106,7 @@ fn write_entries<'s, 'a>(
 {
     match entries.split_first() {
         Some((first, rest)) => {
-            let mut kept = KeptPointers::new(*out.allocator());
+            let mut kept = KeptLocations::new(*out.allocator(), entries.len());
             out.push_str("[")?;
             write_unit(valid, steps, *first, &mut kept, out)?;
             write_later_entries(valid, steps, rest, &mut kept, out)?;
@@ -114,7 +121,7 @@ fn write_later_entries<'s, 'a>(
     valid: bool,
     steps: &'s [Step<'a>],
     entries: &[Entry<'a>],
-    kept: &mut KeptPointers<'s, 'a>,
+    kept: &mut KeptLocations<'s, 'a>,
     out: &mut String,
 ) -> Result<(), AllocError>
     requires { list_all (fits (length steps.now)) entries.now ≡ true }
@@ -132,7 +139,7 @@ fn write_unit<'s, 'a>(
     valid: bool,
     steps: &'s [Step<'a>],
     entry: Entry<'a>,
-    kept: &mut KeptPointers<'s, 'a>,
+    kept: &mut KeptLocations<'s, 'a>,
     out: &mut String,
 ) -> Result<(), AllocError>
     requires { fits (length steps.now) entry ≡ true }
@@ -142,7 +149,7 @@ fn write_unit<'s, 'a>(
     out.push_str("{\"absoluteKeywordLocation\":")?;
     let pointer = run(steps, entry.pointer);
     kept.pointer
-        .push_quoted_location(out, entry.resource, pointer)?;
+        .push_quoted_location(out, &mut kept.resource, entry.resource, pointer)?;
     out.push_str(kind_key(valid))?;
     write_said(steps, entry.says, out)?;
     write_locations(
@@ -168,7 +175,7 @@ fn kind_key(valid: bool) -> &'static str
 fn write_locations<'s, 'a>(
     instance_location: &'s [Step<'a>],
     path: &'s [Step<'a>],
-    kept: &mut KeptPointers<'s, 'a>,
+    kept: &mut KeptLocations<'s, 'a>,
     out: &mut String,
 ) -> Result<(), AllocError>
     ensures { OnOk result (string_bytes out.new ≡ string_bytes out.old

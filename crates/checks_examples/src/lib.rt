@@ -23,6 +23,8 @@ mod links;
 #[cfg(test)]
 mod outputs;
 #[cfg(test)]
+mod references;
+#[cfg(test)]
 mod refusals;
 #[cfg(test)]
 mod subjects;

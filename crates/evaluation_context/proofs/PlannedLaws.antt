@@ -4,6 +4,8 @@ use Rattle.std.proofs.lemmas.List.{append-nil, append_assoc, take_at, take_all}
 use Rattle.std.proofs.lemmas.Result.{on_ok_weaker}
 use Rattle.std.specs.Prelude.{Contains}
 use Rattle.std.specs.Borrow.{Bor}
+use Rattle.std.specs.Global.{Global}
+use Rattle.std.specs.declared.rc.Rc.{Rc}
 use Rattle.definitions.specs.Values.{Text, Value}
 use Rattle.definitions.specs.Pointers.{Pointer}
 use Rattle.definitions.specs.Schemas.{Schema, schema_at}
@@ -12,10 +14,10 @@ use Rattle.definitions.specs.Applied.{Application, InstanceLocation, whole, name
 use Rattle.json_doc.specs.Docs.{value}
 use Rattle.json_doc.specs.declared.doc.Doc.{Doc}
 use Rattle.locations.specs.declared.step.Step.{Step}
+use Rattle.keyword_plans.specs.Followed.{shared_view}
 use Rattle.keyword_plans.specs.Plans.{step_view, chosen_application}
 use Rattle.keyword_plans.specs.declared.planned.Chosen.{Chosen}
 use Rattle.keyword_plans.specs.declared.planned.Chosen.TheVariants.{Below, Target}
-use Rattle.schema_index.specs.Locateds.{located_view}
 use Rattle.schema_index.specs.declared.located.Located.{Located}
 use Rattle.evaluation_context.specs.Frames.{Frame, frame_standing}
 use Rattle.evaluation_context.specs.Standings.{Standing, at_keyword, standing_of}
@@ -45,11 +47,11 @@ below_there r xs f g h chosen step schema is e there contains =
     on_ok_weaker r (λ o. o ∙ arrived) (there (subst (Contains xs) (sym same) contains))
 
 -- ---- at what a reference names
-pub target_there : (f h : Frame) (chosen : Chosen) (located : Located) → chosen ≡ Target located → h ≡ at_schema (located_view located) f
+pub target_there : (f h : Frame) (chosen : Chosen) (located : Rc Located Global) → chosen ≡ Target located → h ≡ at_schema (shared_view located) f
     → frame_standing h ≡ standing_at (chosen_way chosen) (chosen_schema f.resource f.pointer chosen) (frame_standing f)
 unfolding frame_standing at_schema standing_at
 target_there f h chosen located is e =
-    let start : frame_standing (at_schema (located_view located) f) ≡ standing_at [] (located_view located) (frame_standing f) = same_standings (sym (append-nil f.path)) refl refl refl refl refl in
+    let start : frame_standing (at_schema (shared_view located) f) ≡ standing_at [] (shared_view located) (frame_standing f) = same_standings (sym (append-nil f.path)) refl refl refl refl refl in
     ap frame_standing e ∙ start ∙ ap (λ c. standing_at (chosen_way c) (chosen_schema f.resource f.pointer c) (frame_standing f)) (sym is)
 
 -- ---- to the part of the instance

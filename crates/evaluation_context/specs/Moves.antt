@@ -5,7 +5,7 @@ use Rattle.definitions.specs.Pointers.{Pointer}
 use Rattle.definitions.specs.Schemas.{Schema, schema_at}
 use Rattle.definitions.specs.Applied.{InstanceLocation}
 use Rattle.json_doc.specs.Docs.{value}
-use Rattle.schema_index.specs.Locateds.{located_view}
+use Rattle.keyword_plans.specs.Followed.{shared_view}
 use Rattle.keyword_plans.specs.Plans.{step_view}
 use Rattle.keyword_plans.specs.declared.planned.Chosen.{Chosen}
 use Rattle.keyword_plans.specs.declared.planned.Chosen.TheVariants.{Below, Target}
@@ -37,7 +37,7 @@ chosen_way (Target located) = []
 
 abbrev pub chosen_schema : Text → Pointer → Chosen → Schema
 chosen_schema resource pointer (Below step schema) = schema_at resource (pointer ++ step_view step) (value schema.now)
-chosen_schema resource pointer (Target located) = located_view located
+chosen_schema resource pointer (Target located) = shared_view located
 
 -- the older frame still stands in front of the newer one, but for its resource and its name
 pub record Onward (older newer : Frame) : Type 0 where

@@ -3,6 +3,7 @@
 ghost use Rattle.std.specs.Prelude.{◌≡◌};
 ghost use Rattle.definitions.specs.Values.{is_object};
 ghost use Rattle.json_doc.specs.Docs.{value};
+ghost use Rattle.keyword_plans.specs.FollowedIn.{followed_in};
 
 use crate::found::Found;
 use crate::here::Here;
@@ -14,17 +15,19 @@ use basic_output::Says;
 use evaluation_context::Context;
 use faults::Fault;
 use json_doc::Doc;
-use keyword_plans::Subject;
+use keyword_plans::{FollowedReferences, Subject};
 use linker::Linked;
 use std::alloc::Global;
 
-/// An evaluation under way: the linked documents, where it stands, and what it noted.
+/// An evaluation under way: the linked documents, what it followed in them, where it stands, and what it noted.
 #[derive(Drop)]
 pub(crate) struct Evaluation<'a> {
     pub(crate) alloc: Global,
     pub(crate) linked: &'a Linked,
+    pub(crate) references: FollowedReferences<'a>,
     pub(crate) context: Context<'a>,
     pub(crate) log: Log<'a>,
+    ghost followed: { followed_in references ≡ linked },
 }
 
 impl<'a> Evaluation<'a> {

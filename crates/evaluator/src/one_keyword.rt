@@ -119,6 +119,7 @@ impl<'a> Evaluation<'a> {
         };
         plan(
             self.alloc,
+            &mut self.references,
             site,
             keyword,
             keyword_value,

@@ -21,7 +21,7 @@ use basic_output::output_text;
 use evaluation_context::Context;
 use faults::Fault;
 use json_doc::Doc;
-use keyword_plans::Subject;
+use keyword_plans::{FollowedReferences, Subject};
 use linker::Linked;
 use std::alloc::Global;
 
@@ -89,6 +89,7 @@ pub fn evaluate<'a>(alloc: Global, linked: &'a Linked, instance: &'a Doc) -> Res
     let mut evaluation = Evaluation {
         alloc,
         linked,
+        references: FollowedReferences::new(alloc, linked),
         context,
         log: Log::new(alloc),
     };

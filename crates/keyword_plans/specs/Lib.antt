@@ -1,5 +1,8 @@
 pub mod Subjects
 pub mod Sites
+pub mod ValueSets
+pub mod Followed
+pub mod FollowedIn
 pub mod Plans
 pub mod Annotations
 pub mod Applications

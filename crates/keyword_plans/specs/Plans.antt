@@ -8,7 +8,7 @@ use Rattle.definitions.specs.Applied.{Application, Outcome, Rules, whole, named,
 use Rattle.json_doc.specs.Docs.{value}
 use Rattle.locations.specs.declared.step.Step.{Step}
 use Rattle.locations.specs.Steps.{token}
-use Rattle.schema_index.specs.Locateds.{located_view}
+use Rattle.keyword_plans.specs.Followed.{shared_view}
 use Rattle.keyword_plans.specs.Subjects.{subject_value}
 use Rattle.keyword_plans.specs.declared.planned.Planned.{Planned}
 use Rattle.keyword_plans.specs.declared.planned.Chosen.{Chosen}
@@ -29,7 +29,7 @@ step_view (Some step) = token step ∷ []
 -- the application that is planned, under the keyword k of the application a
 abbrev pub chosen_application : Text → Application → Chosen → definition.Part → Value → Application
 chosen_application k a (Below step schema) part x = (at_part a (k ∷ step_view step) (value schema.now) part x).1
-chosen_application k a (Target located) part x = part_application a (k ∷ []) (located_view located) part x
+chosen_application k a (Target located) part x = part_application a (k ∷ []) (shared_view located) part x
 
 abbrev pub planned_view : Text → Application → Planned → definition.Part × Application
 planned_view k a p = (part_view p.part, chosen_application k a p.chosen (part_view p.part) (subject_value p.subject))

@@ -2,6 +2,7 @@
 #![tactic(auto)]
 
 mod annotating;
+mod followed_references;
 mod planned;
 mod planning;
 mod searching;
@@ -11,6 +12,7 @@ mod verdict;
 
 pub use annotating::{annotate, distinct_names};
 pub use faults::Fault;
+pub use followed_references::FollowedReferences;
 pub use planned::{Chosen, Part, Planned};
 pub use planning::plan;
 pub use site::{Evaluated, Site};

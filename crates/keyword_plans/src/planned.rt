@@ -4,6 +4,7 @@ use crate::subject::Subject;
 use json_doc::Doc;
 use locations::Step;
 use schema_index::Located;
+use std::rc::Rc;
 
 /// The part of the instance that a schema is applied to.
 #[derive(Clone, Copy, Debug)]
@@ -24,7 +25,7 @@ pub enum Chosen<'a> {
     /// The keyword's value, or what stands below it by this step.
     Below(Option<Step<'a>>, &'a Doc),
     /// What a reference names.
-    Target(Located<'a>),
+    Target(Rc<Located<'a>>),
 }
 
 /// A schema that is to be applied to a part of the instance.

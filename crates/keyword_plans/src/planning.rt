@@ -5,6 +5,7 @@ ghost use Rattle.definitions.specs.Values.{get};
 ghost use Rattle.definitions.specs.Applied.{Application, Outcome, condition_outcome, keyword_applications};
 ghost use Rattle.json_doc.specs.Docs.{value};
 ghost use Rattle.keywords.specs.Rows.{row_of};
+ghost use Rattle.keyword_plans.specs.FollowedIn.{followed_in};
 ghost use Rattle.keyword_plans.specs.Plans.{is_consequence, planned_view};
 ghost use Rattle.keyword_plans.specs.Sites.{Shows, linked_rules};
 
@@ -16,6 +17,7 @@ mod others;
 mod references;
 mod unevaluated;
 
+use crate::followed_references::FollowedReferences;
 use crate::planned::Planned;
 use crate::planning::in_place::{plan_consequence, plan_dependents, plan_listed, plan_own};
 use crate::planning::items::{plan_items, plan_prefix, prefix_length};
@@ -33,9 +35,11 @@ use std::alloc::Global;
 /// What the keyword of the schema, with this value, applies, in order (JSON Schema 2020-12 Core, 7.1, 10 and 11).
 ///
 /// `then` and `else` need `condition`, which says whether `if` beside passed, where it is there; `evaluated` is what the
-/// keywords but `unevaluatedItems` and `unevaluatedProperties` evaluated. The only error is want of memory.
+/// keywords but `unevaluatedItems` and `unevaluatedProperties` evaluated. `references` has what was followed before in these
+/// documents, and then what is followed here too. The only error is want of memory.
 pub fn plan<'a>(
     alloc: Global,
+    references: &mut FollowedReferences<'a>,
     site: Site<'_, 'a>,
     keyword: Keyword,
     keyword_value: &'a Doc,
@@ -43,6 +47,7 @@ pub fn plan<'a>(
     evaluated: Evaluated<'_, 'a>,
 ) -> Result<Vec<Planned<'a>>, Fault>
     ensures ok { (a : Application) (run : Application → Outcome) → Shows site.entry a
+        → followed_in references.old ≡ site.entry.linked
         → get (row_of keyword).name a.schema.value ≡ Some (value keyword_value.now)
         → (is_consequence (row_of keyword).meaning ≡ true
         → option_map (λ o. o.valid) (condition_outcome run a) ≡ condition)
@@ -50,11 +55,12 @@ pub fn plan<'a>(
         ≡ keyword_applications (linked_rules site.entry.linked.now) run
         (map (λ n. n.now) evaluated.entry.names.now) evaluated.entry.indexes.now a
         (row_of keyword).name (row_of keyword).meaning (value keyword_value.now)) }
+    ensures linked { followed_in references.new ≡ followed_in references.old }
     ensures err { IfErr result (λ f. f ≡ Fault.NoRoom) }
 {
     let subject = site.subject;
     match keyword {
-        Keyword::Ref => plan_reference(alloc, site, keyword_value),
+        Keyword::Ref => plan_reference(alloc, references, site, keyword_value),
         Keyword::DynamicRef => plan_dynamic_reference(alloc, site, keyword_value),
         Keyword::AllOf => Ok(plan_listed(alloc, keyword_value, subject)?),
         Keyword::AnyOf => Ok(plan_listed(alloc, keyword_value, subject)?),

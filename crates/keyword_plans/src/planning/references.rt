@@ -7,11 +7,13 @@ ghost use Rattle.definitions.specs.Targets.{target, dynamic_target};
 ghost use Rattle.definitions.specs.Applied.{Application, to_target};
 ghost use Rattle.json_doc.specs.Docs.{value};
 ghost use Rattle.linker.specs.LinkedDocuments.{linked_schemas};
+ghost use Rattle.keyword_plans.specs.Followed.{shared_view};
+ghost use Rattle.keyword_plans.specs.FollowedIn.{followed_in};
 ghost use Rattle.keyword_plans.specs.Plans.{planned_view};
 ghost use Rattle.keyword_plans.specs.Sites.{Shows};
 ghost use Rattle.keyword_plans.specs.Subjects.{subject_value};
-ghost use Rattle.schema_index.specs.Locateds.{located_view};
 
+use crate::followed_references::{FollowedReferences, shared};
 use crate::planned::{Chosen, Part, Planned};
 use crate::site::Site;
 use crate::subject::Subject;
@@ -19,23 +21,27 @@ use faults::Fault;
 use json_doc::Doc;
 use schema_index::Located;
 use std::alloc::{AllocError, Global};
+use std::rc::Rc;
 
 /// What a reference names (8.2.3.1).
 pub(crate) fn plan_reference<'a>(
     alloc: Global,
+    references: &mut FollowedReferences<'a>,
     site: Site<'_, 'a>,
     reference: &'a Doc,
 ) -> Result<Vec<Planned<'a>>, Fault>
     ensures ok { (a : Application) (k : Text) → Shows site.entry a
+        → followed_in references.old ≡ site.entry.linked
         → get k a.schema.value ≡ Some (value reference.now)
         → IfOk result (λ ps. map (planned_view k a) ps.items
         ≡ to_target a k (option_and_then (target (linked_schemas site.entry.linked.now))
         (reference_at k a.schema))) }
+    ensures linked { followed_in references.new ≡ followed_in references.old }
     ensures err { IfErr result (λ f. f ≡ Fault.NoRoom) }
 {
     match reference {
         Doc::Str(reference) => {
-            let target = site.linked.target(alloc, site.resource, reference)?;
+            let target = references.target(alloc, site.resource, reference)?;
             Ok(plan_target(alloc, target, site.subject)?)
         }
         _ => Ok(Vec::new(alloc)),
@@ -61,7 +67,7 @@ pub(crate) fn plan_dynamic_reference<'a>(
             let target = site
                 .linked
                 .dynamic_target(alloc, site.scope, site.resource, reference)?;
-            Ok(plan_target(alloc, target, site.subject)?)
+            Ok(plan_target(alloc, shared(alloc, target)?, site.subject)?)
         }
         _ => Ok(Vec::new(alloc)),
     }
@@ -69,12 +75,12 @@ pub(crate) fn plan_dynamic_reference<'a>(
 
 fn plan_target<'a>(
     alloc: Global,
-    target: Option<Located<'a>>,
+    target: Option<Rc<Located<'a>>>,
     subject: Subject<'a>,
 ) -> Result<Vec<Planned<'a>>, AllocError>
     ensures { (a : Application) (k : Text) → a.instance ≡ subject_value subject.entry
         → IfOk result (λ ps. map (planned_view k a) ps.items
-        ≡ to_target a k (option_map located_view target.entry)) }
+        ≡ to_target a k (option_map shared_view target.entry)) }
 {
     let mut planned = Vec::new(alloc);
     if let Some(located) = target {

@@ -32,7 +32,7 @@ returns-in-Ok-clause-ok c =
     let o = linked_outcome c.args.linked.now 1000 (first_application s x) in
     let at = first_is_at c.args.linked.now (context_view c.in_ok-context.context) s x c.root-root.ensures (c.in_ok-context.ensures x) in
     let f = c.in-Ok.ensures.found (first_application s x) at in
-    let noted = noted_first (log_view c.apply.new.self.log) _ o c.new-2.ensures (c.in-Ok.ensures.noted (first_application s x) at) in
+    let noted = noted_first (log_view c.apply.new.self.log) _ o c.new-3.ensures (c.in-Ok.ensures.noted (first_application s x) at) in
     let is = first_outcome c.args.linked.now s x c.root-root.ensures
     ∙ answer_ok 100000 o f.within (sym f.looped ∙ c.if-found.false) (sym f.deep ∙ c.if-found-2.false) in
     made_ok c.made.result o c.in-Ok.found.valid f.valid is (c.made.ensures.text o f.valid noted) c.made.ensures.valid

@@ -1,9 +1,11 @@
+use Rattle.std.proofs.Common.{◌∙◌, ap}
 use Rattle.std.proofs.lemmas.Result.{on_ok_weaker}
 use Rattle.linker.specs.LinkedDocuments.{linked_schemas}
 use Rattle.schema_index.specs.Locateds.{located_view}
+use Rattle.schema_index.specs.declared.located.Located.{Located}
 use Rattle.keyword_plans.specs.Plans.{step_view}
 use Rattle.evaluation_context.specs.Frames.{context_view}
-use Rattle.evaluation_context.specs.Moves.{Onward}
+use Rattle.evaluation_context.specs.Moves.{Onward, at_schema}
 use Rattle.evaluation_context.proofs.FrameLaws.{onward_at, onward_schema, onward_stepped, onward_onward}
 use Rattle.evaluation_context.proofs.PlannedLaws.{below_there, target_there}
 use Rattle.evaluation_context.proofs.context.Context.enter_chosen.Goals as goal
@@ -19,7 +21,9 @@ returns-in_ok-enter_step-in-Below-clause-onward c =
     on_ok_weaker c.enter_schema.result (λ next. onward_onward first next) c.enter_schema.ensures.onward
 
 pub returns-in_ok-enter_target-in-Target-clause-there : goal.returns-in_ok-enter_target-in-Target-clause-there
-returns-in_ok-enter_target-in-Target-clause-there c = λ contains. target_there (context_view c.args.self.now) (context_view c.enter_target.new.self) c.args.chosen.now c.in-Target.located c.in-Target.is c.in_ok-enter_target-in-Target.ensures
+returns-in_ok-enter_target-in-Target-clause-there c = λ contains.
+    target_there (context_view c.args.self.now) (context_view c.enter_target.new.self) c.args.chosen.now c.in-Target.located c.in-Target.is
+    (c.in_ok-enter_target-in-Target.ensures ∙ ap (λ (l : Located). at_schema (located_view l) (context_view c.args.self.now)) c.deref.ensures)
 
 pub returns-in_ok-enter_target-in-Target-clause-onward : goal.returns-in_ok-enter_target-in-Target-clause-onward
-returns-in_ok-enter_target-in-Target-clause-onward c = onward_at c.in_ok-enter_target-in-Target.ensures (onward_schema (located_view c.in-Target.located) (context_view c.args.self.now))
+returns-in_ok-enter_target-in-Target-clause-onward c = onward_at c.in_ok-enter_target-in-Target.ensures (onward_schema (located_view c.deref.result.now) (context_view c.args.self.now))

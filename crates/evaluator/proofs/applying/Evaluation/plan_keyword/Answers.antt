@@ -18,4 +18,4 @@ returns-clause-planned c a left at knows got =
       scope = ap (λ (b : Application). b.scope) at.there ∙ sym c.scope.ensures;
       inside = at.inside;
     })
-    got knows.condition)
+    c.args.self.now.followed got knows.condition)

@@ -1,50 +1,163 @@
--- The text of the first steps.
-use Rattle.std.proofs.Common.{◌≡◌, ◌-◌, ◌≤◌, ℕ, List, ◌∷◌, ◌++◌, true, ◌&&◌, length, take, drop, sym, ap, ap₂, ◌∙◌, append_assoc, arith}
-use Rattle.std.proofs.lemmas.Grind.{flat_map-append}
-use Rattle.std.proofs.lemmas.List.{length-drop, map-append, take-append-drop, take-map, take-take, take_all}
-use Rattle.std.proofs.lemmas.List.Folds.{list_all-append, list_all-map}
-use Rattle.std.specs.List.{list_all}
+-- The text of the first steps of the last pointer, as steps come and go behind them.
+use Rattle.std.proofs.Common.{◌≡◌, ◌≤◌, ◌-◌, ◌+◌, ◌<◌, ◌++◌, ◌∷◌, [], ℕ, zero, suc, List, Bool, false, Option, Some, None, true, length, min, take, drop, get_or, refl, subst, sym, ap, ap₂, ◌∙◌, arith, inl, inr}
+use Rattle.std.proofs.Math.Nat.{eq-or-lt_of_le}
+use Rattle.std.proofs.Math.Seq.{get_or-append_seam, take-append_seam, take-suc}
+use Rattle.std.proofs.lemmas.Bool.{and_parts}
+use Rattle.std.proofs.lemmas.List.{drop-append-le, drop-take, drop_min, get_or-take, length-append, length-drop, length-take, map-append, take-append-drop, take-append-le, take-take, take_all}
+use Rattle.std.specs.Prelude.{if◌then◌else◌}
+use Rattle.std.specs.List.{list_all, slice_index}
+use Rattle.std.specs.Option.{option_to_list}
 use Rattle.definitions.specs.Values.{Text}
 use Rattle.locations.specs.Steps.{token, tokens}
 use Rattle.locations.specs.declared.step.Step.{Step}
-use Rattle.basic_output.specs.Pieces.{is_plain, plain_text}
-use Rattle.basic_output.proofs.KeptLaws.{all_take}
-use Rattle.basic_output.specs.Fronts.{are_plain_steps, front_text}
+use Rattle.basic_output.specs.Notations.{front_text, noted_text, text_starts}
+use Rattle.basic_output.specs.declared.notation.Notation.{Notation}
+use Rattle.basic_output.specs.Notes.{IsNoted}
+use Rattle.basic_output.specs.Pieces.{is_unescaped}
+use Rattle.basic_output.proofs.PlainLaws.{all_of_both, noted_append, noted_led}
 
--- ---- the first n steps and the others
-text_parts : (n : ℕ) (ss : List Step) → front_text n ss ++ plain_text (tokens (drop n ss)) ≡ plain_text (tokens ss)
-text_parts n ss =
-    sym (flat_map-append (λ t. 47 ∷ t) (tokens (take n ss)) (tokens (drop n ss))) ∙ ap plain_text (sym (map-append token (take n ss) (drop n ss)))
-    ∙ ap (λ xs. plain_text (tokens xs)) (take-append-drop n ss)
+pub all_take : {A : Type 0} (p : A → Bool) (n : ℕ) (xs : List A) → list_all p xs ≡ true → list_all p (take n xs) ≡ true
+all_take p zero xs h = refl
+all_take p (suc n) [] h = refl
+all_take p (suc n) (x ∷ xs) h =
+    let q = and_parts (p x) (list_all p xs) h in
+    rw (q.0, all_take p n xs q.1) refl
 
--- the others, as the code cuts them out
-abbrev pub others : ℕ → List Step → List Step
-others n ss = take (length ss - n) (drop n ss)
+-- ---- where the steps start
+pub starts_length : (k : Notation) (n : ℕ) (xs : List Step) → length (text_starts k n xs) ≡ n
+starts_length k zero xs = refl
+starts_length k (suc n) xs = omega (arith, length-append (text_starts k n xs) (length (front_text k n xs) ∷ []), starts_length k n xs)
 
-others_are : (n : ℕ) (ss : List Step) → others n ss ≡ drop n ss
-others_are n ss = take_all (length ss - n) (drop n ss) (omega (arith, length-drop n ss))
+starts_same : (k : Notation) (n : ℕ) (xs ys : List Step) → take n xs ≡ take n ys → text_starts k n xs ≡ text_starts k n ys
+starts_same k zero xs ys same = refl
+starts_same k (suc n) xs ys same =
+    let less : take n xs ≡ take n ys = sym (take-take n (suc n) xs (omega arith)) ∙ ap (take n) same ∙ take-take n (suc n) ys (omega arith) in
+    ap₂ (λ ns t. ns ++ length t ∷ []) (starts_same k n xs ys less) (ap (λ ss. noted_text k (tokens ss)) less)
 
-pub plain_parts : (n : ℕ) (ss : List Step) → are_plain_steps (take n ss) ≡ true → are_plain_steps (others n ss) ≡ are_plain_steps ss
-plain_parts n ss h =
-    ap are_plain_steps (others_are n ss) ∙ ap (λ b. b && are_plain_steps (drop n ss)) (sym h)
-    ∙ sym (list_all-append (λ s. list_all is_plain (token s)) (take n ss) (drop n ss)) ∙ ap are_plain_steps (take-append-drop n ss)
+pub starts_take : (k : Notation) (n m : ℕ) (xs : List Step) → n ≤ m → take n (text_starts k m xs) ≡ text_starts k n xs
+starts_take k n zero xs le =
+    let none : n ≡ 0 = omega arith in
+    rw none refl
+starts_take k n (suc m) xs le =
+    elim (eq-or-lt_of_le le) [
+      | inl same ↦ take_all n (text_starts k (suc m) xs) (omega (arith, same, starts_length k (suc m) xs)) ∙ ap (λ i. text_starts k i xs) (sym same)
+      | inr less ↦ take-append-le n (text_starts k m xs) (length (front_text k m xs) ∷ []) (omega (arith, less, starts_length k m xs)) ∙ starts_take k n m xs (omega (arith, less))
+    ]
 
--- a text of the first n steps before the others
-pub text_joined : (n : ℕ) (ss : List Step) (t end : Text) → t ≡ front_text n ss → t ++ (plain_text (tokens (others n ss)) ++ end) ≡ plain_text (tokens ss) ++ end
-text_joined n ss t end is =
-    ap₂ (λ u rs. u ++ (plain_text (tokens rs) ++ end)) is (others_are n ss)
-    ∙ sym (append_assoc (front_text n ss) (plain_text (tokens (drop n ss))) end) ∙ ap (λ u. u ++ end) (text_parts n ss)
+pub start_at : (k : Notation) (n m : ℕ) (xs : List Step) (d : ℕ) → n < m → get_or (text_starts k m xs) n d ≡ length (front_text k n xs)
+start_at k n m xs d less =
+    let start = length (front_text k n xs) in
+    sym (get_or-take (suc n) (text_starts k m xs) n d (omega arith)) ∙ ap (λ ns. get_or ns n d) (starts_take k (suc n) m xs (omega arith))
+    ∙ ap (λ i. get_or (text_starts k n xs ++ start ∷ []) i d) (sym (starts_length k n xs)) ∙ get_or-append_seam (text_starts k n xs) start [] d
 
-pub plain_cut : (n m : ℕ) (ss : List Step) → n ≤ m → are_plain_steps (take m ss) ≡ true → are_plain_steps (take n ss) ≡ true
-plain_cut n m ss le h = ap are_plain_steps (sym (take-take n m ss le)) ∙ all_take (λ s. list_all is_plain (token s)) n (take m ss) h
+-- ---- one step more, and steps less
+pub front_next : (k : Notation) (n : ℕ) (xs : List Step) (x : Step) → n < length xs → x ≡ get_or xs n x → front_text k (suc n) xs ≡ front_text k n xs ++ noted_text k (token x ∷ [])
+front_next k n xs x less is =
+    ap (λ ys. noted_text k (tokens ys)) (take-suc xs n x less ∙ ap (λ y. take n xs ++ y ∷ []) (sym is)) ∙ ap (noted_text k) (map-append token (take n xs) (x ∷ []))
+    ∙ noted_append k (tokens (take n xs)) (token x ∷ [])
 
--- ---- other steps with the same tokens
-pub fewer_same : (n m : ℕ) (ss rs : List Step) → n ≤ m → tokens (take m ss) ≡ tokens (take m rs) → tokens (take n ss) ≡ tokens (take n rs)
-fewer_same n m ss rs le same =
-    ap tokens (sym (take-take n m ss le)) ∙ sym (take-map token n (take m ss)) ∙ ap (take n) same ∙ take-map token n (take m rs) ∙ ap tokens (take-take n m rs le)
+split_at : (k : Notation) (xs ys : List Step) → 0 < length ys → (rest : Text) × (noted_text k (tokens (xs ++ ys)) ≡ noted_text k (tokens xs) ++ 47 ∷ rest)
+split_at k xs [] some = absurd (omega arith)
+split_at k xs (y ∷ ys) some =
+    let led = noted_led k (token y) (tokens ys) in
+    (led.0, ap (noted_text k) (map-append token xs (y ∷ ys)) ∙ noted_append k (tokens xs) (tokens (y ∷ ys)) ∙ ap (λ t. noted_text k (tokens xs) ++ t) led.1)
 
-plain_tokens : (ss : List Step) → list_all (λ t. list_all is_plain t) (tokens ss) ≡ are_plain_steps ss
-plain_tokens ss = list_all-map (λ t. list_all is_plain t) token ss
+-- behind the text of fewer steps a `/` begins the rest
+pub front_split : (k : Notation) (n m : ℕ) (xs : List Step) → n < m → m ≤ length xs → (rest : Text) × (front_text k m xs ≡ front_text k n xs ++ 47 ∷ rest)
+front_split k n m xs less within =
+    let ys = take m xs in
+    let split = split_at k (take n ys) (drop n ys) (omega (arith, length-drop n ys, length-take m xs)) in
+    (split.0, ap (λ zs. noted_text k (tokens zs)) (sym (take-append-drop n ys)) ∙ split.1 ∙ ap (λ zs. noted_text k (tokens zs) ++ 47 ∷ split.0) (take-take n m xs (omega arith)))
 
-pub plain_same : (ss rs : List Step) → tokens ss ≡ tokens rs → are_plain_steps ss ≡ true → are_plain_steps rs ≡ true
-plain_same ss rs same h = sym (plain_tokens rs) ∙ ap (list_all (λ t. list_all is_plain t)) (sym same) ∙ plain_tokens ss ∙ h
+pub cut_text : (t f rest : Text) (len : ℕ) → t ≡ f ++ 47 ∷ rest → len ≡ length f → take len t ≡ f
+cut_text t f rest len e is = ap₂ take is e ∙ take-append_seam f (47 ∷ rest)
+
+pub slash_there : (t f rest : Text) (len : ℕ) → t ≡ f ++ 47 ∷ rest → len ≡ length f → slice_index t len ≡ 47
+slash_there t f rest len e is = ap₂ slice_index e is ∙ get_or-append_seam f 47 rest 0
+
+-- ---- what was written, beside the steps
+pub record Written (k : Notation) (text : Text) (starts : List ℕ) (xs : List Step) : Type 0 where
+  pub within : length starts ≤ length xs
+  pub at : starts ≡ text_starts k (length starts) xs
+  pub front : text ≡ front_text k (length starts) xs
+
+-- the same beside other steps, of which the first ones are the same
+pub moved : (k : Notation) (text : Text) (starts : List ℕ) (xs ys : List Step) → Written k text starts xs → length starts ≤ length ys → take (length starts) ys ≡ take (length starts) xs → Written k text starts ys
+moved k text starts xs ys w within same = record {
+  within = within;
+  at = w.at ∙ starts_same k (length starts) xs ys (sym same);
+  front = w.front ∙ ap (λ zs. noted_text k (tokens zs)) (sym same);
+}
+
+-- ---- steps more
+pub front_more : (n k : ℕ) (xs ys : List Step) → k ≤ length xs → n ≤ length (drop k xs) → take n (drop k (xs ++ ys)) ≡ take n (drop k xs)
+front_more n k xs ys le within = ap (take n) (drop-append-le k xs ys le) ∙ take-append-le n (drop k xs) ys within
+
+pub more_within : (n k : ℕ) (xs ys : List Step) → n ≤ length (drop k xs) → n ≤ length (drop k (xs ++ ys))
+more_within n k xs ys within = omega (arith, within, length-drop k xs, length-drop k (xs ++ ys), length-append xs ys)
+
+-- ---- steps less
+pub front_popped : (n k : ℕ) (xs ys : List Step) (o : Option Step) → xs ≡ ys ++ option_to_list o → k ≤ length ys → n ≤ length (drop k ys) → take n (drop k xs) ≡ take n (drop k ys)
+front_popped n k xs ys o e le within = ap (λ zs. take n (drop k zs)) e ∙ front_more n k ys (option_to_list o) le within
+
+pub one_less : (xs ys : List Step) (o : Option Step) → xs ≡ ys ++ option_to_list o → length xs ≤ length ys + 1
+one_less xs ys None e = omega (arith, ap length e, length-append ys [])
+one_less xs ys (Some x) e = omega (arith, ap length e, length-append ys (x ∷ []))
+
+pub front_fewer : (n k j : ℕ) (xs : List Step) → n ≤ j → take n (drop k (take (k + j) xs)) ≡ take n (drop k xs)
+front_fewer n k j xs le = ap (take n) (drop-take k j xs) ∙ take-take n j (drop k xs) le
+
+-- cut off behind so many steps
+front_cut : (n k m : ℕ) (xs : List Step) → n + k ≤ m → take n (drop k (take m xs)) ≡ take n (drop k xs)
+front_cut n k m xs le =
+    let split : m ≡ k + (m - k) = omega arith in
+    ap (λ j. take n (drop k (take j xs))) split ∙ front_fewer n k (m - k) xs (omega arith)
+
+-- cut off behind m steps, where the last pointer begins at j then, in place of k
+pub front_moved : (n k m j : ℕ) (xs : List Step) → (0 < n → (j ≡ k) × (n + k ≤ m)) → take n (drop (min j (length (take m xs))) (take m xs)) ≡ take n (drop k xs)
+front_moved zero k m j xs same = refl
+front_moved (suc n) k m j xs same =
+    let there = same (omega arith) in
+    ap (take (suc n)) (drop_min j (take m xs)) ∙ ap (λ i. take (suc n) (drop i (take m xs))) there.0 ∙ front_cut (suc n) k m xs there.1
+
+pub moved_within : (n k m j : ℕ) (xs : List Step) → (0 < n → (j ≡ k) × (n + k ≤ m)) → n ≤ length (drop k xs) → n ≤ length (drop (min j (length (take m xs))) (take m xs))
+moved_within zero k m j xs same within = omega arith
+moved_within (suc n) k m j xs same within =
+    let there = same (omega arith) in
+    let len = length-drop (min j (length (take m xs))) (take m xs) in
+    omega (arith, there.0, there.1, within, len, length-take m xs, length-drop k xs)
+
+-- ---- the same as steps come and go
+pub pushed_front : (b : Bool) (k : Notation) (text : Text) (starts : List ℕ) (start : ℕ) (xs new more : List Step) → new ≡ (if b then xs ++ more else xs) → start ≤ length xs
+    → Written k text starts (drop start xs) → Written k text starts (drop start new) × (start ≤ length new)
+pushed_front true k text starts start xs new more is le w =
+    let all : Written k text starts (drop start (xs ++ more)) =
+    moved k text starts (drop start xs) (drop start (xs ++ more)) w (more_within (length starts) start xs more w.within) (front_more (length starts) start xs more le w.within) in
+    (subst (λ ys. Written k text starts (drop start ys)) (sym is) all, omega (arith, le, ap length is, length-append xs more))
+pushed_front false k text starts start xs new more is le w = (subst (λ ys. Written k text starts (drop start ys)) (sym is) w, omega (arith, le, ap length is))
+
+pub popped_front : (k : Notation) (text : Text) (starts : List ℕ) (start : ℕ) (xs ys : List Step) (o : Option Step) → xs ≡ ys ++ option_to_list o → start ≤ length ys → length starts ≤ length (drop start ys)
+    → Written k text starts (drop start xs) → Written k text starts (drop start ys)
+popped_front k text starts start xs ys o is le within w =
+    moved k text starts (drop start xs) (drop start ys) w within (sym (front_popped (length starts) start xs ys o is le within))
+
+-- one step more was written, or none
+pub noted_front : (b : Bool) (k : Notation) (old new : Text) (starts more : List ℕ) (xs : List Step) (x : Step) → length starts < length xs → x ≡ get_or xs (length starts) x
+    → Written k old starts xs → list_all is_unescaped old ≡ true → (b ≡ true → IsNoted k (token x) old new × (more ≡ starts ++ length old ∷ [])) → (b ≡ false → (new ≡ old) × (more ≡ starts))
+    → Written k new more xs × (list_all is_unescaped new ≡ true)
+noted_front false k old new starts more xs x less is w plain noted same =
+    let s = same refl in
+    (subst (λ t. Written k t more xs) (sym s.0) (subst (λ ns. Written k old ns xs) (sym s.1) w), ap (list_all is_unescaped) s.0 ∙ plain)
+noted_front true k old new starts more xs x less is w plain noted same =
+    let n = length starts in
+    let one = noted refl in
+    let count : length more ≡ suc n = omega (arith, ap length one.1, length-append starts (length old ∷ [])) in
+    let at : more ≡ text_starts k (suc n) xs = one.1 ∙ ap₂ (λ ns l. ns ++ l ∷ []) w.at (ap length w.front) in
+    let front : new ≡ front_text k (suc n) xs = one.0.text ∙ ap (λ t. t ++ noted_text k (token x ∷ [])) w.front ∙ sym (front_next k n xs x less is) in (
+      record {
+        within = omega (arith, count, less);
+        at = at ∙ ap (λ i. text_starts k i xs) (sym count);
+        front = front ∙ ap (λ i. front_text k i xs) (sym count);
+      },
+      ap (list_all is_unescaped) one.0.text ∙ all_of_both is_unescaped old (noted_text k (token x ∷ [])) plain one.0.unescaped,
+    )

@@ -1,7 +1,6 @@
-pub mod EntryLaws
-pub mod KeptLaws
 pub mod PlainLaws
 pub mod PieceLaws
 pub mod OutputTexts
-pub mod SharedLaws
+pub mod PointerLaws
 pub mod FrontLaws
+pub mod UnitLaws

@@ -1,14 +1,13 @@
 -- The pieces are the definitions' text.
-use Rattle.std.proofs.Common.{◌≡◌, Bool, true, false, Result, Ok, Err, OnOk, List, [], ◌∷◌, ◌++◌, codes, map, refl, sym, ap, ap₂, ◌∙◌, append_assoc}
+use Rattle.std.proofs.Common.{◌≡◌, Bool, true, false, Result, Ok, Err, OnOk, List, [], ◌∷◌, ◌++◌, codes, map, pos, ℕ, refl, sym, ap, ap₂, ◌∙◌, append_assoc}
+use Rattle.std.specs.Borrow.{Bor}
 use Rattle.std.specs.Prelude.{if◌then◌else◌, is_ok}
 use Rattle.json.specs.Print.{escape_byte}
 use Rattle.serde_json.specs.Written.{items_text}
 use Rattle.definitions.specs.Answers.{unit_value, units_value}
 use Rattle.definitions.specs.Applied.{OutputUnit}
 use Rattle.definitions.specs.Texts.{items_of, text}
-use Rattle.definitions.specs.Values.{Text, Value, array, string, to_elements}
-use Rattle.locations.specs.Steps.{step_value}
-use Rattle.locations.specs.declared.step.Step.{Step}
+use Rattle.definitions.specs.Values.{Text, Value, array, integer, string, to_elements}
 use Rattle.basic_output.specs.Outputs.{units_output}
 use Rattle.basic_output.specs.Pieces.{array_text, kind, later_texts, list_key, unit_text, valid_member}
 
@@ -30,12 +29,19 @@ array_pieces : (vs : List Value) → text (array (to_elements vs)) ≡ array_tex
 array_pieces [] = refl
 array_pieces (v ∷ vs) = ap (λ r. 91 ∷ (text v ++ r)) (later_items vs)
 
-step_texts : (ss : List Step) → map text (map step_value ss) ≡ map (λ s. text (step_value s)) ss
-step_texts [] = refl
-step_texts (s ∷ ss) = ap (λ ts. text (step_value s) ∷ ts) (step_texts ss)
+name_texts : (names : List (Bor Text)) → map text (map (λ name. string name.now) names) ≡ map (λ name. text (string name.now)) names
+name_texts [] = refl
+name_texts (n ∷ ns) = ap (λ ts. text (string n.now) ∷ ts) (name_texts ns)
 
-pub steps_pieces : (ss : List Step) → text (array (to_elements (map step_value ss))) ≡ array_text (map (λ s. text (step_value s)) ss)
-steps_pieces ss = array_pieces (map step_value ss) ∙ ap array_text (step_texts ss)
+pub names_pieces : (names : List (Bor Text)) → text (array (to_elements (map (λ name. string name.now) names))) ≡ array_text (map (λ name. text (string name.now)) names)
+names_pieces names = array_pieces (map (λ name. string name.now) names) ∙ ap array_text (name_texts names)
+
+index_texts : (indexes : List ℕ) → map text (map (λ index. integer (pos index)) indexes) ≡ map (λ index. text (integer (pos index))) indexes
+index_texts [] = refl
+index_texts (i ∷ is) = ap (λ ts. text (integer (pos i)) ∷ ts) (index_texts is)
+
+pub indexes_pieces : (indexes : List ℕ) → text (array (to_elements (map (λ index. integer (pos index)) indexes))) ≡ array_text (map (λ index. text (integer (pos index))) indexes)
+indexes_pieces indexes = array_pieces (map (λ index. integer (pos index)) indexes) ∙ ap array_text (index_texts indexes)
 
 pub no_value_allowed : codes "\"no value is allowed\"" ≡ text (string (codes "no value is allowed"))
 unfolding escape_byte

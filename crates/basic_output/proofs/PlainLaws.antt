@@ -1,5 +1,5 @@
 -- Texts and tokens of which nothing is escaped.
-use Rattle.std.proofs.Common.{◌≡◌, ◌<◌, ◌≤◌, ◌^◌, ◌/◌, ◌%◌, ◌==◌, ◌&&◌, ◌||◌, ℕ, zero, suc, Bool, true, false, not, cond, List, [], ◌∷◌, ◌++◌, codes, decimal, flat_map, refl, ap, ap₂, ◌∙◌, arith, append_assoc, inl, inr}
+use Rattle.std.proofs.Common.{◌≡◌, ◌<◌, ◌≤◌, ◌^◌, ◌/◌, ◌%◌, ◌==◌, ◌&&◌, ◌||◌, ℕ, zero, suc, Bool, true, false, not, cond, List, [], ◌∷◌, ◌++◌, codes, decimal, flat_map, refl, ap, ap₂, ◌∙◌, arith, append_assoc, append-nil, inl, inr}
 use Rattle.std.proofs.Math.Nat.{eq-or-lt_of_le}
 use Rattle.std.proofs.lemmas.Bool.{and_parts, eqb-false, leb-true, le-leb, not-true}
 use Rattle.std.proofs.lemmas.Fmt.{decimal_is_IsNumeral}
@@ -14,6 +14,10 @@ use Rattle.json.proofs.Printed.Strings.{escape_byte_plain}
 use Rattle.definitions.specs.Bytes.{is_capital, is_small}
 use Rattle.definitions.specs.Pointers.{escaped_byte, fragment_text, hex_digit, is_fragment_byte, percent_encoded_text, pointer_text}
 use Rattle.definitions.specs.Values.{Text, same_text}
+use Rattle.basic_output.specs.Notations.{noted_text}
+use Rattle.basic_output.specs.declared.notation.Notation.{Notation}
+use Rattle.basic_output.specs.declared.notation.Notation.TheVariants as notation
+use Rattle.std.proofs.lemmas.Grind.{flat_map-append}
 use Rattle.locations.specs.Steps.{token, tokens}
 use Rattle.locations.specs.declared.step.Step.{Step}
 use Rattle.basic_output.specs.Pieces.{is_plain, is_unescaped, plain_text}
@@ -35,7 +39,7 @@ unescaped_byte x h =
 pub as_it_is : (t : Text) → list_all is_unescaped t ≡ true → quoted t ≡ 34 ∷ (t ++ 34 ∷ [])
 as_it_is t h = ap (λ s. 34 ∷ (s ++ 34 ∷ [])) (kept escape_byte is_unescaped unescaped_byte t h)
 
-all_of_both : (p : ℕ → Bool) (xs ys : Text) → list_all p xs ≡ true → list_all p ys ≡ true → list_all p (xs ++ ys) ≡ true
+pub all_of_both : (p : ℕ → Bool) (xs ys : Text) → list_all p xs ≡ true → list_all p ys ≡ true → list_all p (xs ++ ys) ≡ true
 all_of_both p xs ys h g = list_all-append p xs ys ∙ ap₂ (λ a b. a && b) h g
 
 pub message : (t : Text) → list_all is_unescaped t ≡ true → quoted (t ++ codes " is not met") ≡ 34 ∷ (t ++ codes " is not met\"")
@@ -113,30 +117,26 @@ plain_fragment ts h =
     ap percent_encoded_text (plain_pointer ts h)
     ∙ kept percent_byte is_fragment_byte (λ x e. rw e refl) (plain_text ts) (all_pass is_fragment_byte refl (λ x e. (plain x e).in_fragment) ts h)
 
-abbrev AreSteps : List Step → Type 0
-AreSteps ss = list_all (λ s. list_all is_plain (token s)) ss ≡ true
+-- ---- in either notation
+pub noted_append : (k : Notation) (ts us : List Text) → noted_text k (ts ++ us) ≡ noted_text k ts ++ noted_text k us
+noted_append notation.String ts us = flat_map-append (λ token. 47 ∷ flat_map escaped_byte token) ts us
+noted_append notation.Fragment ts us =
+    ap percent_encoded_text (flat_map-append (λ token. 47 ∷ flat_map escaped_byte token) ts us) ∙ flat_map-append percent_byte (pointer_text ts) (pointer_text us)
 
-of_steps : (ss : List Step) → AreSteps ss → ArePlain (tokens ss)
-of_steps ss h = list_all-map (λ t. list_all is_plain t) token ss ∙ h
+pub noted_led : (k : Notation) (t : Text) (ts : List Text) → (rest : Text) × (noted_text k (t ∷ ts) ≡ 47 ∷ rest)
+noted_led notation.String t ts = (flat_map escaped_byte t ++ pointer_text ts, refl)
+noted_led notation.Fragment t ts = (percent_encoded_text (flat_map escaped_byte t ++ pointer_text ts), refl)
 
-in_strings : (ts : List Text) → ArePlain ts → list_all is_unescaped (plain_text ts) ≡ true
-in_strings ts h = all_pass is_unescaped refl (λ x e. (plain x e).in_string) ts h
+plain_one : (t : Text) → list_all is_plain t ≡ true → ArePlain (t ∷ [])
+plain_one t h = ap (λ b. b && true) h
 
-pub quoted_pointer : (ss : List Step) → AreSteps ss → quoted (pointer_text (tokens ss)) ≡ 34 ∷ (plain_text (tokens ss) ++ 34 ∷ [])
-quoted_pointer ss h =
-    let ts = tokens ss in
-    let p = of_steps ss h in
-    ap quoted (plain_pointer ts p) ∙ as_it_is (plain_text ts) (in_strings ts p)
+pub plain_noted : (k : Notation) (t : Text) → list_all is_plain t ≡ true → noted_text k (t ∷ []) ≡ 47 ∷ t
+plain_noted notation.String t h = plain_pointer (t ∷ []) (plain_one t h) ∙ append-nil (47 ∷ t)
+plain_noted notation.Fragment t h = plain_fragment (t ∷ []) (plain_one t h) ∙ append-nil (47 ∷ t)
 
-pub quoted_location : (r : Text) (ss : List Step) → (list_all is_unescaped r && list_all (λ s. list_all is_plain (token s)) ss) ≡ true
-    → quoted (r ++ (35 ∷ fragment_text (tokens ss))) ≡ 34 ∷ (r ++ 35 ∷ (plain_text (tokens ss) ++ 34 ∷ []))
-quoted_location r ss h =
-    let both = and_parts (list_all is_unescaped r) _ h in
-    let ts = tokens ss in
-    let p = of_steps ss both.1 in
-    ap (λ f. quoted (r ++ (35 ∷ f))) (plain_fragment ts p)
-    ∙ as_it_is (r ++ (35 ∷ plain_text ts)) (all_of_both is_unescaped r (35 ∷ plain_text ts) both.0 (in_strings ts p))
-    ∙ ap (λ s. 34 ∷ s) (append_assoc r (35 ∷ plain_text ts) (34 ∷ []))
+pub location_as_it_is : (r f : Text) → list_all is_unescaped r ≡ true → list_all is_unescaped f ≡ true → quoted (r ++ (35 ∷ f)) ≡ 34 ∷ (r ++ 35 ∷ (f ++ 34 ∷ []))
+location_as_it_is r f h g =
+    as_it_is (r ++ (35 ∷ f)) (all_of_both is_unescaped r (35 ∷ f) h g) ∙ ap (λ s. 34 ∷ s) (append_assoc r (35 ∷ f) (34 ∷ []))
 
 -- ---- a pointer of which a string of JSON escapes nothing
 escaped_by : (b d : Bool) (x : ℕ) → is_unescaped x ≡ true → list_all is_unescaped (cond b (126 ∷ 48 ∷ []) (cond d (126 ∷ 49 ∷ []) (x ∷ []))) ≡ true
@@ -183,7 +183,7 @@ digits_are_plain (d ∷ ds) h =
 pub index_is_plain : (n : ℕ) → n < 2 ^ 64 → list_all is_plain (decimal n) ≡ true
 index_is_plain n fits = digits_are_plain (decimal n) (decimal_is_IsNumeral n fits).0.1
 
-plain_unescaped : (t : Text) → list_all is_plain t ≡ true → list_all is_unescaped t ≡ true
+pub plain_unescaped : (t : Text) → list_all is_plain t ≡ true → list_all is_unescaped t ≡ true
 plain_unescaped [] h = refl
 plain_unescaped (x ∷ xs) h =
     let q = and_parts (is_plain x) (list_all is_plain xs) h in

@@ -3,7 +3,7 @@ use Rattle.std.specs.Prelude.{◌++◌, map, pos, codes, true}
 use Rattle.definitions.specs.Values.{Value, boolean, integer, string, array, to_elements}
 use Rattle.definitions.specs.Applied.{OutputUnit}
 use Rattle.json_doc.specs.Docs.{value}
-use Rattle.locations.specs.Steps.{tokens}
+use Rattle.basic_output.specs.PointerViews.{last_pointer}
 use Rattle.basic_output.specs.declared.location.Location.{Location}
 use Rattle.basic_output.specs.declared.says.Says.{Says}
 use Rattle.basic_output.specs.declared.says.Says.TheVariants as says
@@ -20,9 +20,9 @@ says_value (says.Value doc) = value doc.now
 abbrev pub unit_at : Location → Says → OutputUnit
 unit_at location says =
     record {
-      path = tokens location.path.now;
+      path = last_pointer location.path.now;
       resource = location.resource.now;
-      pointer = tokens location.pointer.now;
-      instance_location = tokens location.instance_location.now;
+      pointer = last_pointer location.pointer.now;
+      instance_location = last_pointer location.instance_location.now;
       says = says_value says;
     }

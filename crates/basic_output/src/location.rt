@@ -1,16 +1,16 @@
 //! Where a unit stands.
 
-use locations::Step;
+use crate::pointers::Pointers;
 
-/// Where a unit stands (JSON Schema 2020-12 Core, 12.3).
-#[derive(Clone, Copy, Debug)]
+/// Where a unit stands (JSON Schema 2020-12 Core, 12.3). Of each of the pointers the last counts.
+#[derive(Clone, Copy)]
 pub struct Location<'s, 'a> {
     /// The keyword's location along the evaluation path, through references.
-    pub path: &'s [Step<'a>],
+    pub path: &'s Pointers<'a>,
     /// The URI of the schema resource that the keyword stands in.
     pub resource: &'a str,
     /// The keyword's location from the root of that resource.
-    pub pointer: &'s [Step<'a>],
+    pub pointer: &'s Pointers<'a>,
     /// The instance's location.
-    pub instance_location: &'s [Step<'a>],
+    pub instance_location: &'s Pointers<'a>,
 }

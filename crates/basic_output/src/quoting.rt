@@ -75,7 +75,8 @@ pub(crate) fn push_decimal(out: &mut String, number: usize) -> Result<(), AllocE
     out.push_str(digits.format(number))
 }
 
-fn push_as_it_is(out: &mut String, text: &str) -> Result<(), AllocError>
+/// Appends the text as a string, as it is.
+pub(crate) fn push_as_it_is(out: &mut String, text: &str) -> Result<(), AllocError>
     ensures { OnOk result (string_bytes out.new
         ≡ string_bytes out.old ++ 34 ∷ (text.now ++ 34 ∷ [])) }
 {
@@ -121,37 +122,19 @@ fn push_other_message(out: &mut String, keyword: &str) -> Result<(), AllocError>
     push_quoted(out, message.as_str())
 }
 
-/// Appends the resource's URI, `#`, the text and the rest of the steps as one string, all as they are.
+/// Appends the resource's URI, `#` and the fragment as one string, all as they are.
 pub(crate) fn push_plain_location(
     out: &mut String,
     resource: &str,
-    text: &str,
-    rest: &[Step<'_>],
+    fragment: &str,
 ) -> Result<(), AllocError>
     ensures { OnOk result (string_bytes out.new ≡ string_bytes out.old
-        ++ 34 ∷ (resource.now ++ number_sign
-        ∷ (text.now ++ (plain_text (tokens rest.now) ++ 34 ∷ [])))) }
+        ++ 34 ∷ (resource.now ++ number_sign ∷ (fragment.now ++ 34 ∷ []))) }
 {
     out.push_str("\"")?;
     out.push_str(resource)?;
     out.push_str("#")?;
-    out.push_str(text)?;
-    push_plain(out, rest)?;
-    out.push_str("\"")
-}
-
-/// Appends the text and the rest of the steps as one string, all as they are.
-pub(crate) fn push_plain_pointer(
-    out: &mut String,
-    text: &str,
-    rest: &[Step<'_>],
-) -> Result<(), AllocError>
-    ensures { OnOk result (string_bytes out.new ≡ string_bytes out.old
-        ++ 34 ∷ (text.now ++ (plain_text (tokens rest.now) ++ 34 ∷ []))) }
-{
-    out.push_str("\"")?;
-    out.push_str(text)?;
-    push_plain(out, rest)?;
+    out.push_str(fragment)?;
     out.push_str("\"")
 }
 
@@ -195,17 +178,6 @@ fn push_other_pointer(out: &mut String, steps: &[Step<'_>]) -> Result<(), AllocE
     push_quoted(out, pointer.as_str())
 }
 
-// The tokens as they are, each led by a `/`.
-fn push_plain(out: &mut String, steps: &[Step<'_>]) -> Result<(), AllocError>
-    ensures { OnOk result (string_bytes out.new
-        ≡ string_bytes out.old ++ plain_text (tokens steps.now)) }
-{
-    for step in steps {
-        push_plain_step(out, *step)?;
-    }
-    Ok(())
-}
-
 /// Appends a `/` and the step, as it is.
 pub(crate) fn push_plain_step(out: &mut String, step: Step<'_>) -> Result<(), AllocError>
     ensures { OnOk result (string_bytes out.new
@@ -216,13 +188,6 @@ pub(crate) fn push_plain_step(out: &mut String, step: Step<'_>) -> Result<(), Al
         Step::Name(name) => out.push_str(name),
         Step::Index(index) => push_decimal(out, index),
     }
-}
-
-/// Whether the steps stand as they are in a pointer, in its fragment and in a string.
-pub(crate) fn are_plain(steps: &[Step<'_>]) -> bool
-    ensures { result ≡ list_all (λ s. list_all is_plain (token s)) steps.now }
-{
-    steps.iter().all(|step| is_plain_step(*step))
 }
 
 fn are_unescaped_steps(steps: &[Step<'_>]) -> bool
@@ -240,7 +205,8 @@ fn is_unescaped_step(step: Step<'_>) -> bool
     }
 }
 
-fn is_plain_step(step: Step<'_>) -> bool
+/// Whether the step stands as it is in a pointer, in its fragment and in a string.
+pub(crate) fn is_plain_step(step: Step<'_>) -> bool
     ensures { result ≡ list_all is_plain (token step.entry) }
 {
     match step {

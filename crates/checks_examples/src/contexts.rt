@@ -20,9 +20,10 @@ fn knows_what_is_being_applied_and_where(rt: HostRuntime) -> Result<(), Fail> {
     assert!(rt; context.is_running() && context.scope().len() == 1);
     context.enter_keyword("not")?;
     assert!(rt; !context.is_running());
+    context.write_locations()?;
     let location = context.location();
-    assert!(rt; location.resource == context.resource() && location.path.len() == 1);
-    assert!(rt; location.pointer.len() == 1 && location.instance_location.is_empty());
+    assert!(rt; location.resource == context.resource() && location.path.last_len() == 1);
+    assert!(rt; location.pointer.last_len() == 1 && location.instance_location.last_len() == 0);
     context.leave_keyword();
     assert!(rt; context.is_running());
     context.leave_object();

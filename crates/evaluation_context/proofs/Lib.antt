@@ -1,4 +1,3 @@
-pub mod PointerLaws
 pub mod RunningLaws
 pub mod FrameLaws
 pub mod PlannedLaws

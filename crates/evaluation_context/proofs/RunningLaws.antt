@@ -1,9 +1,9 @@
 -- The schema objects that are being applied, beside the steps that are kept for them and those of the instance location.
-use Rattle.std.proofs.Common.{◌≡◌, ◌≤◌, ◌<◌, ◌+◌, ◌++◌, ◌∷◌, ◌&&◌, ◌||◌, [], ℕ, zero, suc, List, Bool, Option, true, false, length, nat_le, map, option_map, get_or, take, drop, refl, sym, ap, ap₂, ◌∙◌, arith}
+use Rattle.std.proofs.Common.{◌≡◌, ◌≤◌, ◌<◌, ◌+◌, ◌++◌, ◌∷◌, ◌&&◌, ◌||◌, [], ℕ, zero, suc, List, Bool, Option, Result, Ok, Err, OnOk, true, false, length, nat_le, map, option_map, get_or, take, drop, refl, sym, ap, ap₂, ◌∙◌, arith}
 use Rattle.std.proofs.lemmas.Bool.{and_parts, and_from, and_left, and_right, leb-true, le-leb}
 use Rattle.std.proofs.lemmas.List.{take-take, take_all, take_rest, map_push, map-append, same_from_push, length-append, length-map, length-take, length-take-le, get_or-map, nil_from_length, drop_at, take_at, take-append-drop, drop_more}
 use Rattle.std.proofs.lemmas.List.Folds.{list_any_at, list_any-append}
-use Rattle.std.specs.Prelude.{slice_range, if◌then◌else◌}
+use Rattle.std.specs.Prelude.{is_ok, slice_range, if◌then◌else◌}
 use Rattle.std.specs.List.{list_any, list_all}
 use Rattle.definitions.specs.Values.{Text, same_text}
 use Rattle.definitions.specs.Pointers.{Pointer, same_pointer}
@@ -12,10 +12,9 @@ use Rattle.definitions.specs.Applied.{InstanceLocation}
 use Rattle.definitions.specs.Outcomes.{same_name}
 use Rattle.lemmas.proofs.Lists.{range_same}
 use Rattle.lemmas.proofs.Texts.{same_text_itself}
-use Rattle.locations.specs.Steps.{token, tokens}
+use Rattle.locations.specs.Steps.{tokens}
 use Rattle.locations.specs.declared.step.Step.{Step}
-use Rattle.locations.proofs.SameTokens.{same_pointer-lengths}
-use Rattle.evaluation_context.proofs.PointerLaws.{no_push}
+use Rattle.basic_output.proofs.PointerLaws.{no_push}
 use Rattle.evaluation_context.specs.Runnings.{running_view, is_running_as, are_above, are_laid}
 use Rattle.evaluation_context.specs.declared.running.Running.{Running}
 
@@ -94,7 +93,7 @@ laid_front s e from to (r ∷ rs) (suc i) d less h =
     whole s e from (e (get_or rs i d)) r (take (suc i) rs) p.own (laid_front s e (e r) to rs i d (omega arith) p.rest)
 
 -- ---- the same beside any steps whose first ones are those that are kept
-pub views_same : (xs ys ps qs : List Step) (from to low high : ℕ) (rs : List Running) → take to xs ≡ take to ys → take high ps ≡ take high qs
+pub views_same : (xs ys : List Step) (ps qs : Pointer) (from to low high : ℕ) (rs : List Running) → take to xs ≡ take to ys → take high ps ≡ take high qs
     → are_laid (λ r. r.pointer) (λ r. r.end) from to rs ≡ true → are_laid (λ r. r.depth) (λ r. r.depth) low high rs ≡ true
     → map (running_view xs ps) rs ≡ map (running_view ys qs) rs
 views_same xs ys ps qs from to low high [] same near h k = refl
@@ -106,7 +105,7 @@ views_same xs ys ps qs from to low high (r ∷ rs) same near h k =
     let pointer = range_same xs ys to r.pointer r.end same p.own.end within in
     let place : take r.depth ps ≡ take r.depth qs = sym (take-take r.depth high ps shallow) ∙ ap (take r.depth) near ∙ take-take r.depth high qs shallow in
     ap₂ (λ v vs. v ∷ vs)
-    (ap₂ (λ a b. ((r.resource.now, tokens a), record { pointer = tokens b; name = option_map (λ n. n.now) r.name })) pointer place)
+    (ap₂ (λ a b. ((r.resource.now, tokens a), record { pointer = b; name = option_map (λ n. n.now) r.name })) pointer place)
     (views_same xs ys ps qs r.end to r.depth high rs same near p.rest q.rest)
 
 -- ---- what a push leaves
@@ -114,20 +113,20 @@ pub pushed_laid : (s e : Running → ℕ) (b : Bool) (es new : List Running) (r 
 pushed_laid s e true es new r to more is h own = ap (are_laid s e 0 more) is ∙ laid_push s e 0 to more es r h own
 pushed_laid s e false es new r to more is h own = ap (are_laid s e 0 more) is ∙ laid_more s e 0 to more es (omega (arith, own.start, own.end, own.within)) h
 
-pub grown_laid : (s e : Running → ℕ) (es : List Running) (xs ys more : List Step) → ys ≡ xs ++ more → are_laid s e 0 (length xs) es ≡ true → are_laid s e 0 (length ys) es ≡ true
+pub grown_laid : {X : Type 0} (s e : Running → ℕ) (es : List Running) (xs ys more : List X) → ys ≡ xs ++ more → are_laid s e 0 (length xs) es ≡ true → are_laid s e 0 (length ys) es ≡ true
 grown_laid s e es xs ys more is h = laid_more s e 0 (length xs) (length ys) es (omega (arith, ap length is, length-append xs more)) h
 
 front_same : {X : Type 0} (xs more : List X) → take (length xs) (xs ++ more) ≡ take (length xs) xs
 front_same xs more = take_at xs more (length xs) refl ∙ sym (take_all (length xs) xs (omega arith))
 
 -- the steps of what is pushed
-pub record Pushed (xs ys place p : List Step) (r : Running) : Type 0 where
+pub record Pushed (xs ys : List Step) (place : Pointer) (p : List Step) (r : Running) : Type 0 where
   pub kept : ys ≡ xs ++ p
   pub pointer : r.pointer ≡ length xs
   pub end : r.end ≡ length ys
   pub depth : r.depth ≡ length place
 
-pub pushed_own : {xs ys place p : List Step} {r : Running} → Pushed xs ys place p r → Laid (λ r. r.pointer) (λ r. r.end) (length xs) (length ys) r
+pub pushed_own : {xs ys : List Step} {place : Pointer} {p : List Step} {r : Running} → Pushed xs ys place p r → Laid (λ r. r.pointer) (λ r. r.end) (length xs) (length ys) r
 pushed_own {xs} {ys} {place} {p} {r} h =
     record {
       start = omega (arith, h.pointer);
@@ -135,39 +134,44 @@ pushed_own {xs} {ys} {place} {p} {r} h =
       within = omega (arith, h.end);
     }
 
-pub pushed_deep : {xs ys place p : List Step} {r : Running} → Pushed xs ys place p r → Laid (λ r. r.depth) (λ r. r.depth) (length place) (length place) r
+pub pushed_deep : {xs ys : List Step} {place : Pointer} {p : List Step} {r : Running} → Pushed xs ys place p r → Laid (λ r. r.depth) (λ r. r.depth) (length place) (length place) r
 pushed_deep {xs} {ys} {place} {p} {r} h = record { start = omega (arith, h.depth); end = omega arith; within = omega (arith, h.depth) }
 
-pub pushed_views : (es new : List Running) (xs ys place p : List Step) (r : Running) → new ≡ es ++ r ∷ [] → Pushed xs ys place p r
+pub pushed_views : (es new : List Running) (xs ys : List Step) (place : Pointer) (p : List Step) (r : Running) → new ≡ es ++ r ∷ [] → Pushed xs ys place p r
     → are_laid (λ r. r.pointer) (λ r. r.end) 0 (length xs) es ≡ true → are_laid (λ r. r.depth) (λ r. r.depth) 0 (length place) es ≡ true
     → map (running_view ys place) new
-    ≡ map (running_view xs place) es ++ ((r.resource.now, tokens p), record { pointer = tokens place; name = option_map (λ n. n.now) r.name }) ∷ []
+    ≡ map (running_view xs place) es ++ ((r.resource.now, tokens p), record { pointer = place; name = option_map (λ n. n.now) r.name }) ∷ []
 pushed_views es new xs ys place p r e h laid nested =
     let pointer : slice_range ys r.pointer r.end ≡ p = ap₂ (slice_range ys) h.pointer h.end ∙ take_rest ys (length xs) ∙ ap (drop (length xs)) h.kept ∙ drop_at xs p (length xs) refl in
     let all : take r.depth place ≡ place = take_all r.depth place (omega (arith, h.depth)) in
     ap (map (running_view ys place)) e ∙ map_push (running_view ys place) es r
     ∙ ap₂ (λ vs v. vs ++ v ∷ [])
     (views_same ys xs place place 0 (length xs) 0 (length place) es (ap (take (length xs)) h.kept ∙ front_same xs p) refl laid nested)
-    (ap₂ (λ a b. ((r.resource.now, tokens a), record { pointer = tokens b; name = option_map (λ n. n.now) r.name })) pointer all)
+    (ap₂ (λ a b. ((r.resource.now, tokens a), record { pointer = b; name = option_map (λ n. n.now) r.name })) pointer all)
 
 -- ---- a longer instance location
-pub deepened_views : (es : List Running) (xs place new more : List Step) → new ≡ place ++ more
+pub deepened_views : (es : List Running) (xs : List Step) (place new more : Pointer) → new ≡ place ++ more
     → are_laid (λ r. r.pointer) (λ r. r.end) 0 (length xs) es ≡ true → are_laid (λ r. r.depth) (λ r. r.depth) 0 (length place) es ≡ true
     → map (running_view xs new) es ≡ map (running_view xs place) es
 deepened_views es xs place new more is laid nested =
     views_same xs xs new place 0 (length xs) 0 (length place) es refl (ap (take (length place)) is ∙ front_same place more) laid nested
 
-pub deepened_laid : (s e : Running → ℕ) (b : Bool) (es : List Running) (place new : List Step) (step : Step) → new ≡ (if b then place ++ step ∷ [] else place) → are_laid s e 0 (length place) es ≡ true → are_laid s e 0 (length new) es ≡ true
+pub deepened_laid : (s e : Running → ℕ) (b : Bool) (es : List Running) (place new : Pointer) (step : Text) → new ≡ (if b then place ++ step ∷ [] else place) → are_laid s e 0 (length place) es ≡ true → are_laid s e 0 (length new) es ≡ true
 deepened_laid s e true es place new step is h = grown_laid s e es place new (step ∷ []) is h
 deepened_laid s e false es place new step is h = ap (λ n. are_laid s e 0 n es) (ap length is) ∙ h
 
+-- what holds where the push succeeds
+pub on_push : {X E P : Type 0} (r : Result X E) (new a b : Pointer) → new ≡ (if is_ok r then a else b) → (new ≡ a → P) → OnOk r P
+on_push (Ok x) new a b is f = f is
+on_push (Err x) new a b is f = tt
+
 -- ---- a shorter one
 -- the depth of the innermost
-pub record Innermost (es : List Running) (place : List Step) (depth : ℕ) : Type 0 where
+pub record Innermost (es : List Running) (place : Pointer) (depth : ℕ) : Type 0 where
   pub within : depth ≤ length place
   pub enough : are_laid (λ r. r.depth) (λ r. r.depth) 0 depth es ≡ true
 
-pub innermost_is : (es : List Running) (place : List Step) (i : ℕ) (r : Running) → i < length es → length es ≤ suc i → r ≡ get_or es i r → are_laid (λ r. r.depth) (λ r. r.depth) 0 (length place) es ≡ true → Innermost es place r.depth
+pub innermost_is : (es : List Running) (place : Pointer) (i : ℕ) (r : Running) → i < length es → length es ≤ suc i → r ≡ get_or es i r → are_laid (λ r. r.depth) (λ r. r.depth) 0 (length place) es ≡ true → Innermost es place r.depth
 innermost_is es place i r less last is nested =
     record {
       within = omega (arith, (laid_at (λ r. r.depth) (λ r. r.depth) 0 (length place) es i r less nested).within, ap (λ (x : Running). x.depth) is);
@@ -179,29 +183,29 @@ all_here f [] i d less h = absurd (omega arith)
 all_here f (x ∷ xs) zero d less h = (and_parts (f x) (list_all f xs) h).0
 all_here f (x ∷ xs) (suc i) d less h = all_here f xs i d (omega arith) (and_parts (f x) (list_all f xs) h).1
 
-pub innermost_above : (es : List Running) (xs place : List Step) (i : ℕ) (r : Running) (n : ℕ) → i < length es → r ≡ get_or es i r → r.depth ≤ length place → are_above n (map (running_view xs place) es) ≡ true → r.depth ≤ n
+pub innermost_above : (es : List Running) (xs : List Step) (place : Pointer) (i : ℕ) (r : Running) (n : ℕ) → i < length es → r ≡ get_or es i r → r.depth ≤ length place → are_above n (map (running_view xs place) es) ≡ true → r.depth ≤ n
 innermost_above es xs place i r n less is within above =
     let f = λ (o : Identity × InstanceLocation). nat_le (length o.1.pointer) n in
     let v = running_view xs place r in
     let here : nat_le (length v.1.pointer) n ≡ true =
     ap (λ (x : Running). f (running_view xs place x)) is ∙ ap f (sym (get_or-map (running_view xs place) es i r v less)) ∙ all_here f (map (running_view xs place) es) i v (omega (arith, length-map es (running_view xs place))) above in
-    let own : length (tokens (take r.depth place)) ≤ n = leb-true _ n here in
-    omega (arith, own, length-map (take r.depth place) token, length-take-le r.depth place within)
+    let own : length (take r.depth place) ≤ n = leb-true _ n here in
+    omega (arith, own, length-take-le r.depth place within)
 
-pub are_all_above : (xs place : List Step) (from to n : ℕ) (rs : List Running) → to ≤ n → are_laid (λ r. r.depth) (λ r. r.depth) from to rs ≡ true → are_above n (map (running_view xs place) rs) ≡ true
+pub are_all_above : (xs : List Step) (place : Pointer) (from to n : ℕ) (rs : List Running) → to ≤ n → are_laid (λ r. r.depth) (λ r. r.depth) from to rs ≡ true → are_above n (map (running_view xs place) rs) ≡ true
 are_all_above xs place from to n [] le h = refl
 are_all_above xs place from to n (r ∷ rs) le h =
     let p = parts (λ r. r.depth) (λ r. r.depth) from to r rs h in
     let bound = laid_bound (λ r. r.depth) (λ r. r.depth) r.depth to rs p.rest in
     and_from _ (are_above n (map (running_view xs place) rs))
-    (le-leb (length (tokens (take r.depth place))) n (omega (arith, bound, length-map (take r.depth place) token, length-take r.depth place)))
+    (le-leb (length (take r.depth place)) n (omega (arith, bound, length-take r.depth place)))
     (are_all_above xs place r.depth to n rs le p.rest)
 
-pub cut_laid : (es : List Running) (place new : List Step) (n depth : ℕ) → new ≡ take n place → depth ≤ n → Innermost es place depth → are_laid (λ r. r.depth) (λ r. r.depth) 0 (length new) es ≡ true
+pub cut_laid : (es : List Running) (place new : Pointer) (n depth : ℕ) → new ≡ take n place → depth ≤ n → Innermost es place depth → are_laid (λ r. r.depth) (λ r. r.depth) 0 (length new) es ≡ true
 cut_laid es place new n depth is le h =
     laid_more (λ r. r.depth) (λ r. r.depth) 0 depth (length new) es (omega (arith, h.within, ap length is, length-take n place)) h.enough
 
-pub cut_views : (es : List Running) (xs place new : List Step) (n depth : ℕ) → new ≡ take n place → depth ≤ n → Innermost es place depth → are_laid (λ r. r.pointer) (λ r. r.end) 0 (length xs) es ≡ true
+pub cut_views : (es : List Running) (xs : List Step) (place new : Pointer) (n depth : ℕ) → new ≡ take n place → depth ≤ n → Innermost es place depth → are_laid (λ r. r.pointer) (λ r. r.end) 0 (length xs) es ≡ true
     → map (running_view xs new) es ≡ map (running_view xs place) es
 cut_views es xs place new n depth is le h laid =
     views_same xs xs new place 0 (length xs) 0 depth es refl (ap (take depth) is ∙ take-take depth n place le) laid h.enough
@@ -213,12 +217,12 @@ popped_laid es new xs ys r e cut h =
     let long : length ys ≡ r.pointer = ap length cut ∙ length-take-le r.pointer xs (omega (arith, p.1.end, p.1.within)) in
     ap (λ n. are_laid (λ r. r.pointer) (λ r. r.end) 0 n new) long ∙ p.0
 
-pub popped_nested : (es new : List Running) (place : List Step) (r : Running) → es ≡ new ++ r ∷ [] → are_laid (λ r. r.depth) (λ r. r.depth) 0 (length place) es ≡ true → are_laid (λ r. r.depth) (λ r. r.depth) 0 (length place) new ≡ true
+pub popped_nested : (es new : List Running) (place : Pointer) (r : Running) → es ≡ new ++ r ∷ [] → are_laid (λ r. r.depth) (λ r. r.depth) 0 (length place) es ≡ true → are_laid (λ r. r.depth) (λ r. r.depth) 0 (length place) new ≡ true
 popped_nested es new place r e h =
     let p = laid_pop (λ r. r.depth) (λ r. r.depth) 0 (length place) new r (ap (are_laid (λ r. r.depth) (λ r. r.depth) 0 (length place)) (sym e) ∙ h) in
     laid_more (λ r. r.depth) (λ r. r.depth) 0 r.depth (length place) new p.1.within p.0
 
-pub popped_views : (es new : List Running) (xs ys place : List Step) (r : Running) → es ≡ new ++ r ∷ [] → ys ≡ take r.pointer xs
+pub popped_views : (es new : List Running) (xs ys : List Step) (place : Pointer) (r : Running) → es ≡ new ++ r ∷ [] → ys ≡ take r.pointer xs
     → are_laid (λ r. r.pointer) (λ r. r.end) 0 (length xs) es ≡ true → are_laid (λ r. r.depth) (λ r. r.depth) 0 (length place) es ≡ true
     → (older : List (Identity × InstanceLocation)) (v : Identity × InstanceLocation) → map (running_view xs place) es ≡ older ++ v ∷ [] → map (running_view ys place) new ≡ older
 popped_views es new xs ys place r e cut h k older v seen =
@@ -242,26 +246,33 @@ pub found_at : {A B : Type 0} (f : B → Bool) (g : A → B) (es : List A) (i : 
 found_at f g es i x less is here =
     list_any_at f (map g es) i (g x) (omega (arith, length-map es g)) (ap f (get_or-map g es i x (g x) less) ∙ ap (λ y. f (g y)) (sym is) ∙ here)
 
+-- pointers of two lengths differ
+pointers_differ : (ts us : Pointer) → (length ts ≡ length us → ⊥) → same_pointer ts us ≡ false
+pointers_differ [] [] differ = absurd (differ refl)
+pointers_differ [] (u ∷ us) differ = refl
+pointers_differ (t ∷ ts) [] differ = refl
+pointers_differ (t ∷ ts) (u ∷ us) differ = and_right (same_text t u) (same_pointer ts us) (pointers_differ ts us (λ same. differ (ap suc same)))
+
 -- none of those higher up stands at the instance location
-none_higher : (xs place : List Step) (identity : Identity) (name : Option Text) (from to : ℕ) (rs : List Running) → to < length place → are_laid (λ r. r.depth) (λ r. r.depth) from to rs ≡ true
-    → list_any (is_running_as identity (record { pointer = tokens place; name = name })) (map (running_view xs place) rs) ≡ false
+none_higher : (xs : List Step) (place : Pointer) (identity : Identity) (name : Option Text) (from to : ℕ) (rs : List Running) → to < length place → are_laid (λ r. r.depth) (λ r. r.depth) from to rs ≡ true
+    → list_any (is_running_as identity (record { pointer = place; name = name })) (map (running_view xs place) rs) ≡ false
 none_higher xs place identity name from to [] less h = refl
 none_higher xs place identity name from to (r ∷ rs) less h =
     let p = parts (λ r. r.depth) (λ r. r.depth) from to r rs h in
     let bound = laid_bound (λ r. r.depth) (λ r. r.depth) r.depth to rs p.rest in
     let v = running_view xs place r in
-    let shorter : same_pointer (tokens (take r.depth place)) (tokens place) ≡ false =
-    same_pointer-lengths (take r.depth place) place (λ same. omega (arith, same, bound, length-take r.depth place)) in
+    let shorter : same_pointer (take r.depth place) place ≡ false =
+    pointers_differ (take r.depth place) place (λ same. omega (arith, same, bound, length-take r.depth place)) in
     ap₂ (λ a b. a || b)
-    (and_right (same_identity v.0 identity) _ (and_left (same_pointer (tokens (take r.depth place)) (tokens place)) (same_name v.1.name name) shorter))
+    (and_right (same_identity v.0 identity) _ (and_left (same_pointer (take r.depth place) place) (same_name v.1.name name) shorter))
     (none_higher xs place identity name r.depth to rs less p.rest)
 
-pub none_left : (xs place : List Step) (identity : Identity) (name : Option Text) (es : List Running) (i : ℕ) (r : Running) → i < length es → r ≡ get_or es i r → r.depth < length place
+pub none_left : (xs : List Step) (place : Pointer) (identity : Identity) (name : Option Text) (es : List Running) (i : ℕ) (r : Running) → i < length es → r ≡ get_or es i r → r.depth < length place
     → are_laid (λ r. r.depth) (λ r. r.depth) 0 (length place) es ≡ true
-    → list_any (is_running_as identity (record { pointer = tokens place; name = name })) (map (running_view xs place) (drop (i + 1) es)) ≡ false
-    → false ≡ list_any (is_running_as identity (record { pointer = tokens place; name = name })) (map (running_view xs place) es)
+    → list_any (is_running_as identity (record { pointer = place; name = name })) (map (running_view xs place) (drop (i + 1) es)) ≡ false
+    → false ≡ list_any (is_running_as identity (record { pointer = place; name = name })) (map (running_view xs place) es)
 none_left xs place identity name es i r less is higher nested later =
-    let f = is_running_as identity (record { pointer = tokens place; name = name }) in
+    let f = is_running_as identity (record { pointer = place; name = name }) in
     let next : i + 1 ≡ suc i = omega arith in
     let front : are_laid (λ r. r.depth) (λ r. r.depth) 0 r.depth (take (i + 1) es) ≡ true =
     ap₂ (λ (x : Running) (n : ℕ). are_laid (λ r. r.depth) (λ r. r.depth) 0 x.depth (take n es)) is next ∙ laid_front (λ r. r.depth) (λ r. r.depth) 0 (length place) es i r less nested in
@@ -272,11 +283,11 @@ same_itself : (ts : Pointer) → same_pointer ts ts ≡ true
 same_itself [] = refl
 same_itself (t ∷ ts) = and_from (same_text t t) (same_pointer ts ts) (same_text_itself t) (same_itself ts)
 
-pub here_same : (xs place : List Step) (identity : Identity) (name : Option Text) (r : Running) → length place ≤ r.depth
-    → is_running_as identity (record { pointer = tokens place; name = name }) (running_view xs place r) ≡ (same_identity (running_view xs place r).0 identity && same_name (running_view xs place r).1.name name)
+pub here_same : (xs : List Step) (place : Pointer) (identity : Identity) (name : Option Text) (r : Running) → length place ≤ r.depth
+    → is_running_as identity (record { pointer = place; name = name }) (running_view xs place r) ≡ (same_identity (running_view xs place r).0 identity && same_name (running_view xs place r).1.name name)
 here_same xs place identity name r deep =
     let v = running_view xs place r in
-    let same : same_pointer (tokens (take r.depth place)) (tokens place) ≡ true = ap (λ t. same_pointer (tokens t) (tokens place)) (take_all r.depth place deep) ∙ same_itself (tokens place) in
+    let same : same_pointer (take r.depth place) place ≡ true = ap (λ t. same_pointer t place) (take_all r.depth place deep) ∙ same_itself place in
     ap (λ b. same_identity v.0 identity && (b && same_name v.1.name name)) same
 
 -- ---- the same where the code reads
@@ -289,11 +300,11 @@ laid_read es xs steps i r same less is h =
       within = omega (arith, own.within, ap length same, ap (λ (x : Running). x.end) is);
     }
 
-pub found_here : (es : List Running) (xs steps place : List Step) (identity : Identity) (name : Option Text) (i : ℕ) (r : Running) (b : Bool) → steps ≡ xs → i < length es → r ≡ get_or es i r → length place ≤ r.depth
+pub found_here : (es : List Running) (xs steps : List Step) (place : Pointer) (identity : Identity) (name : Option Text) (i : ℕ) (r : Running) (b : Bool) → steps ≡ xs → i < length es → r ≡ get_or es i r → length place ≤ r.depth
     → b ≡ (same_identity (running_view steps place r).0 identity && same_name (running_view steps place r).1.name name) → b ≡ true
-    → true ≡ list_any (is_running_as identity (record { pointer = tokens place; name = name })) (map (running_view xs place) es)
+    → true ≡ list_any (is_running_as identity (record { pointer = place; name = name })) (map (running_view xs place) es)
 found_here es xs steps place identity name i r b same less is deep said here =
-    let f = is_running_as identity (record { pointer = tokens place; name = name }) in
+    let f = is_running_as identity (record { pointer = place; name = name }) in
     let own : f (running_view xs place r) ≡ true =
     here_same xs place identity name r deep ∙ ap (λ ys. same_identity (running_view ys place r).0 identity && same_name (running_view ys place r).1.name name) (sym same) ∙ sym said ∙ here in
     sym (found_at f (running_view xs place) es i r less is own)

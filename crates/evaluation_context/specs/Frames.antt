@@ -4,9 +4,8 @@ use Rattle.definitions.specs.Values.{Text}
 use Rattle.definitions.specs.Pointers.{Pointer}
 use Rattle.definitions.specs.Schemas.{Identity}
 use Rattle.definitions.specs.Applied.{InstanceLocation}
-use Rattle.locations.specs.Steps.{tokens}
 use Rattle.evaluation_context.specs.Standings.{Standing}
-use Rattle.evaluation_context.specs.PointerViews.{last_pointer, outer_pointers}
+use Rattle.basic_output.specs.PointerViews.{last_pointer, outer_pointers}
 use Rattle.evaluation_context.specs.RunningViews.{instance_pointer, running_objects}
 use Rattle.evaluation_context.specs.declared.context.Context.{Context}
 
@@ -22,7 +21,7 @@ pub record Frame : Type 0 where
 
 unfoldable pub context_view : Context → Frame
 context_view c = record {
-  path = tokens c.path.items;
+  path = last_pointer c.path;
   outer = outer_pointers c.pointers;
   resource = c.resource.now;
   pointer = last_pointer c.pointers;

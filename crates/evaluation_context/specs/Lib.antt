@@ -1,5 +1,4 @@
 pub mod Standings
-pub mod PointerViews
 pub mod Runnings
 pub mod RunningViews
 pub mod Frames

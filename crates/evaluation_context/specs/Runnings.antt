@@ -1,6 +1,7 @@
 -- A schema object that is being applied, beside the steps that are kept and those of the instance location.
 use Rattle.std.specs.Prelude.{◌&&◌, Bool, List, [], ◌∷◌, ℕ, length, nat_le, option_map, slice_range, take}
 use Rattle.std.specs.List.{list_all}
+use Rattle.definitions.specs.Pointers.{Pointer}
 use Rattle.definitions.specs.Schemas.{Identity, same_identity}
 use Rattle.definitions.specs.Applied.{InstanceLocation}
 use Rattle.definitions.specs.Outcomes.{same_location}
@@ -9,9 +10,9 @@ use Rattle.locations.specs.declared.step.Step.{Step}
 use Rattle.evaluation_context.specs.declared.running.Running.{Running}
 
 -- its instance location is a beginning of the one where the context stands
-abbrev pub running_view : List Step → List Step → Running → Identity × InstanceLocation
+abbrev pub running_view : List Step → Pointer → Running → Identity × InstanceLocation
 running_view steps location r =
-    ((r.resource.now, tokens (slice_range steps r.pointer r.end)), record { pointer = tokens (take r.depth location); name = option_map (λ n. n.now) r.name })
+    ((r.resource.now, tokens (slice_range steps r.pointer r.end)), record { pointer = take r.depth location; name = option_map (λ n. n.now) r.name })
 
 -- the same schema at the same instance location
 abbrev pub is_running_as : Identity → InstanceLocation → Identity × InstanceLocation → Bool

@@ -10,9 +10,8 @@ ghost use Rattle.json_doc.specs.Docs.{value};
 ghost use Rattle.schema_index.specs.Locateds.{located_view};
 ghost use Rattle.evaluation_context.specs.Standings.{application_at, at_keyword, unit_there, within_object};
 
-use crate::pointers::Pointers;
 use crate::running_objects::RunningObjects;
-use basic_output::Location;
+use basic_output::{Location, Notation, Pointers};
 use locations::Step;
 use schema_index::Located;
 use std::alloc::{AllocError, Global};
@@ -22,7 +21,7 @@ use std::alloc::{AllocError, Global};
 /// Contracts see all that it keeps by `context_view`, and where that stands by `frame_standing`.
 #[derive(Drop)]
 pub struct Context<'a> {
-    pub(crate) path: Vec<Step<'a>>,
+    pub(crate) path: Pointers<'a>,
     pub(crate) pointers: Pointers<'a>,
     pub(crate) resource: &'a str,
     pub(crate) name: Option<&'a str>,
@@ -56,8 +55,8 @@ impl<'a> Context<'a> {
             schema: _,
         } = root;
         Ok(Context {
-            path: Vec::new(alloc),
-            pointers: Pointers::new(steps),
+            path: Pointers::new(alloc, Notation::String, Vec::new(alloc)),
+            pointers: Pointers::new(alloc, Notation::Fragment, steps),
             resource,
             name: None,
             scope: Vec::new(alloc),
@@ -88,6 +87,16 @@ impl<'a> Context<'a> {
             .contains(self.resource, self.pointers.last(), self.name)
     }
 
+    /// Writes what the texts of the locations lack, so that a unit's text has only to copy them: `location` says the same
+    /// before and after. The only error is want of memory.
+    pub fn write_locations(&mut self) -> Result<(), AllocError>
+        ensures { context_view self.new ≡ context_view self.old }
+    {
+        self.path.write()?;
+        self.pointers.write()?;
+        self.running.write_instance_location()
+    }
+
     /// The location of a unit of the output.
     pub fn location(&self) -> Location<'_, 'a>
         ensures { (says : output.Says)
@@ -97,7 +106,7 @@ impl<'a> Context<'a> {
         Location {
             path: &self.path,
             resource: self.resource,
-            pointer: self.pointers.last(),
+            pointer: &self.pointers,
             instance_location: self.running.instance_location(),
         }
     }

@@ -4,7 +4,6 @@
 
 mod context;
 mod moving;
-mod pointers;
 mod running;
 mod running_objects;
 

@@ -61,11 +61,11 @@ impl<'a> Context<'a> {
         ensures { LeadsTo result (context_view self.now) }
     {
         Return {
-            path: self.path.len(),
+            path: self.path.last_len(),
             steps: self.pointers.len(),
             start: self.pointers.start(),
             resource: self.resource,
-            instance_location: self.running.instance_location().len(),
+            instance_location: self.running.instance_location().last_len(),
             name: self.name,
         }
     }

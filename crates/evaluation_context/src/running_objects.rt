@@ -6,9 +6,11 @@ ghost use Rattle.definitions.specs.Schemas.{Identity, same_identity};
 ghost use Rattle.definitions.specs.Applied.{InstanceLocation};
 ghost use Rattle.definitions.specs.Outcomes.{same_name};
 ghost use Rattle.locations.specs.Steps.{token, tokens};
+ghost use Rattle.basic_output.specs.PointerViews.{last_pointer};
 ghost use Rattle.evaluation_context.specs.Runnings.{are_above, are_laid, is_running_as, running_view};
 
 use crate::running::Running;
+use basic_output::{Notation, Pointers};
 use locations::{Step, same_steps};
 use std::alloc::{AllocError, Global};
 
@@ -22,11 +24,11 @@ use std::alloc::{AllocError, Global};
 pub(crate) struct RunningObjects<'a> {
     entries: Vec<Running<'a>>,
     steps: Vec<Step<'a>>,
-    instance_location: Vec<Step<'a>>,
+    instance_location: Pointers<'a>,
     ghost laid: { are_laid (λ r. r.pointer) (λ r. r.end) 0 (length steps.items) entries.items
         ≡ true },
-    ghost nested: { are_laid (λ r. r.depth) (λ r. r.depth) 0 (length instance_location.items)
-        entries.items
+    ghost nested: { are_laid (λ r. r.depth) (λ r. r.depth) 0
+        (length (last_pointer instance_location)) entries.items
         ≡ true },
 }
 
@@ -41,15 +43,23 @@ impl<'a> RunningObjects<'a> {
         RunningObjects {
             entries: Vec::new(alloc),
             steps: Vec::new(alloc),
-            instance_location: Vec::new(alloc),
+            instance_location: Pointers::new(alloc, Notation::String, Vec::new(alloc)),
         }
     }
 
-    /// The steps of the instance location.
-    pub(crate) fn instance_location(&self) -> &[Step<'a>]
-        ensures { tokens result.now ≡ instance_pointer self.now }
+    /// The instance location.
+    pub(crate) fn instance_location(&self) -> &Pointers<'a>
+        ensures { last_pointer result.now ≡ instance_pointer self.now }
     {
         &self.instance_location
+    }
+
+    /// Writes what the text of the instance location lacks. The only error is want of memory.
+    pub(crate) fn write_instance_location(&mut self) -> Result<(), AllocError>
+        ensures running { running_objects self.new ≡ running_objects self.old }
+        ensures instance_location { instance_pointer self.new ≡ instance_pointer self.old }
+    {
+        self.instance_location.write()
     }
 
     /// The instance location is one step longer.
@@ -58,8 +68,7 @@ impl<'a> RunningObjects<'a> {
         ensures instance_location { OnOk result
             (instance_pointer self.new ≡ instance_pointer self.old ++ token step.entry ∷ []) }
     {
-        self.instance_location.push(step)?;
-        Ok(())
+        self.instance_location.push(step)
     }
 
     /// Only so many steps of the instance location stay, and those that an object needs.
@@ -74,7 +83,7 @@ impl<'a> RunningObjects<'a> {
 
     // How many steps the instance location of the innermost object has.
     fn depth(&self) -> usize
-        ensures within { result ≤ length self.now.instance_location.items }
+        ensures within { result ≤ length (last_pointer self.now.instance_location) }
         ensures enough { are_laid (λ r. r.depth) (λ r. r.depth) 0 result self.now.entries.items
             ≡ true }
         ensures least { (n : ℕ) → are_above n (running_objects self.now) ≡ true → result ≤ n }
@@ -111,7 +120,7 @@ impl<'a> RunningObjects<'a> {
             name,
             pointer: start,
             end: self.steps.len(),
-            depth: self.instance_location.len(),
+            depth: self.instance_location.last_len(),
         })?;
         Ok(())
     }
@@ -144,7 +153,7 @@ impl<'a> RunningObjects<'a> {
             }))
             (running_objects self.now) }
     {
-        let depth = self.instance_location.len();
+        let depth = self.instance_location.last_len();
         let mut left = self.entries.len();
         while left > 0 {
             left -= 1;

@@ -15,7 +15,7 @@ use Rattle.keywords.specs.declared.keyword.Keyword.{Keyword}
 use Rattle.keywords.specs.declared.group.Group.TheVariants.{One}
 use Rattle.keyword_plans.specs.Sites.{linked_rules}
 use Rattle.evaluator.specs.Findings.{FindsUses}
-use Rattle.evaluator.specs.Notes.{no_notes, uses_notes}
+use Rattle.evaluator.specs.Notes.{error_texts, no_notes, uses_notes}
 use Rattle.evaluator.specs.Rounds.{group_uses, linked_outcome}
 use Rattle.evaluator.specs.declared.found.Found.{Found}
 use Rattle.evaluator.proofs.LogLaws.{same_notes}
@@ -56,5 +56,5 @@ pub passing_notes : (name : Text) (x : meaning.Assertion) (v : Value) (a : Appli
 passing_notes name x v a e = same_notes (rw e refl) (rw e refl) refl refl
 
 pub failing_notes : (name : Text) (x : meaning.Assertion) (v : Value) (a : Application) → holds x v a.instance ≡ false
-    → uses_notes a (assertion_use name x v a ∷ []) ≡ record no_notes { errors = unit a name (string (name ++ codes " is not met")) ∷ [] }
+    → uses_notes a (assertion_use name x v a ∷ []) ≡ record no_notes { errors = error_texts (unit a name (string (name ++ codes " is not met")) ∷ []) }
 failing_notes name x v a e = same_notes (rw e refl) (rw e refl) refl refl

@@ -1,40 +1,45 @@
 -- Laws of the outcome of a schema object, from the uses of its keywords.
 use Rattle.std.proofs.Common.{◌≡◌, ℕ, List, [], ◌∷◌, ◌++◌, true, false, refl, sym, ap, ◌∙◌, arith, append-nil, flat_map}
 use Rattle.std.proofs.lemmas.Bool.{and_parts}
+use Rattle.std.proofs.lemmas.List.{map-append}
 use Rattle.std.specs.List.{list_all}
 use Rattle.definitions.specs.Values.{Value}
 use Rattle.definitions.specs.Applied.{Application, application_within}
 use Rattle.definitions.specs.Outcomes.{Use, other_annotations, outcome_of_uses, use_annotations, use_errors}
+use Rattle.basic_output.specs.Pieces.{unit_text}
 use Rattle.linker.specs.declared.linked.Linked.{Linked}
 use Rattle.evaluation_context.specs.Frames.{Frame, frame_standing}
 use Rattle.evaluation_context.specs.Standings.{Standing, application_at, standing_of, within_object}
 use Rattle.evaluator.specs.Findings.{Finds, FindsObject}
-use Rattle.evaluator.specs.Notes.{kept_annotations, notes_of_both, outcome_notes, uses_notes}
+use Rattle.evaluator.specs.Notes.{annotation_texts, error_texts, kept_annotations, notes_of_both, outcome_notes, uses_notes}
 use Rattle.evaluator.specs.Rounds.{IsAt}
 use Rattle.evaluator.specs.declared.found.Found.{Found}
-use Rattle.evaluator.proofs.LogLaws.{annotated, same_notes}
+use Rattle.evaluator.proofs.LogLaws.{annotated, mapped_all, same_notes}
 
 -- ---- uses that all pass
-no_errors : (a : Application) (us : List Use) → list_all (λ u. u.passes) us ≡ true → flat_map (use_errors a) us ≡ []
+no_errors : (a : Application) (us : List Use) → list_all (λ u. u.passes) us ≡ true → flat_map (λ u. error_texts (use_errors a u)) us ≡ []
 no_errors a [] h = refl
 no_errors a (u ∷ us) h = rw (and_parts u.passes (list_all (λ u. u.passes) us) h).0 (no_errors a us (and_parts u.passes (list_all (λ u. u.passes) us) h).1)
 
-all_kept : (a : Application) (us : List Use) → list_all (λ u. u.passes) us ≡ true → flat_map (kept_annotations a) us ≡ flat_map (use_annotations a) us
+all_kept : (a : Application) (us : List Use) → list_all (λ u. u.passes) us ≡ true → flat_map (kept_annotations a) us ≡ flat_map (λ u. annotation_texts (use_annotations a u)) us
 all_kept a [] h = refl
 all_kept a (u ∷ us) h =
     rw (and_parts u.passes (list_all (λ u. u.passes) us) h).0
-    (ap (λ l. use_annotations a u ++ l) (all_kept a us (and_parts u.passes (list_all (λ u. u.passes) us) h).1))
+    (ap (λ l. annotation_texts (use_annotations a u) ++ l) (all_kept a us (and_parts u.passes (list_all (λ u. u.passes) us) h).1))
 
 -- ---- what the object notes
 pub passing_object : (a : Application) (us : List Use) → list_all (λ u. u.passes) us ≡ true
     → notes_of_both (uses_notes a us) (annotated (other_annotations a)) ≡ outcome_notes (outcome_of_uses a us)
 unfolding notes_of_both
 passing_object a us h =
-    same_notes (append-nil _ ∙ no_errors a us h) (ap (λ l. l ++ other_annotations a) (all_kept a us h)) (append-nil _) (append-nil _) ∙ rw h refl
+    same_notes (append-nil _ ∙ no_errors a us h)
+    (ap (λ l. l ++ annotation_texts (other_annotations a)) (all_kept a us h ∙ sym (mapped_all (unit_text true) (use_annotations a) us))
+    ∙ sym (map-append (unit_text true) (flat_map (use_annotations a) us) (other_annotations a)))
+    (append-nil _) (append-nil _) ∙ rw h refl
 
 pub failing_object : (a : Application) (us : List Use) → list_all (λ u. u.passes) us ≡ false
     → record (uses_notes a us) { annotations = []; names = []; indexes = [] } ≡ outcome_notes (outcome_of_uses a us)
-failing_object a us h = rw h refl
+failing_object a us h = rw h (same_notes (sym (mapped_all (unit_text false) (use_errors a) us)) refl refl refl)
 
 -- ---- what was found
 pub object_found : (f : Found) (budget : ℕ) (a : Application) (us : List Use) → FindsObject f budget us → Finds f budget (outcome_of_uses a us)

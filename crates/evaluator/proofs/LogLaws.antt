@@ -1,12 +1,14 @@
--- Laws of notes: what is put last, put at a mark, and cut off.
-use Rattle.std.proofs.Common.{◌≡◌, ℕ, List, [], ◌∷◌, ◌++◌, length, take, drop, refl, ap, append-nil, append_assoc}
+-- Laws of notes: what is put last, put at a mark, and cut off; and of the texts of units.
+use Rattle.std.proofs.Common.{◌≡◌, ℕ, List, [], ◌∷◌, ◌++◌, true, length, map, flat_map, take, drop, refl, sym, ap, ◌∙◌, append-nil, append_assoc}
 use Rattle.std.proofs.Math.Seq.{take-append_seam, drop-append_seam}
+use Rattle.std.proofs.lemmas.List.{map-append}
 use Rattle.std.specs.List.{insert}
 use Rattle.definitions.specs.Values.{Text}
 use Rattle.definitions.specs.Applied.{Outcome, OutputUnit}
-use Rattle.evaluator.specs.Notes.{Notes, Lengths, notes_of_both, no_notes, outcome_notes}
+use Rattle.basic_output.specs.Pieces.{unit_text}
+use Rattle.evaluator.specs.Notes.{Notes, Lengths, annotation_texts, notes_of_both, no_notes, outcome_notes}
 
-pub same_notes : {es fs us vs : List OutputUnit} {ns ms : List Text} {is js : List ℕ} → es ≡ fs → us ≡ vs → ns ≡ ms → is ≡ js
+pub same_notes : {es fs us vs ns ms : List Text} {is js : List ℕ} → es ≡ fs → us ≡ vs → ns ≡ ms → is ≡ js
     → ◌≡◌ {A = Notes} (record { errors = es; annotations = us; names = ns; indexes = is }) (record { errors = fs; annotations = vs; names = ms; indexes = js })
 same_notes e u n i = rw (e, u, n, i) refl
 
@@ -23,6 +25,11 @@ rest_list m xs ys zs e f = rw (e, f) (drop-append_seam xs ys)
 
 pub inserted_list : {A : Type 0} (m : ℕ) (xs ys zs : List A) (x : A) → m ≡ length xs → zs ≡ xs ++ ys → insert zs m x ≡ xs ++ x ∷ ys
 inserted_list m xs ys zs x e f = rw (cut_list m xs ys zs e f, rest_list m xs ys zs e f) refl
+
+-- each of what comes one list after the other
+pub mapped_all : {X Y Z : Type 0} (f : Y → Z) (g : X → List Y) (xs : List X) → map f (flat_map g xs) ≡ flat_map (λ x. map f (g x)) xs
+mapped_all f g [] = refl
+mapped_all f g (x ∷ xs) = map-append f (g x) (flat_map g xs) ∙ ap (λ zs. map f (g x) ++ zs) (mapped_all f g xs)
 
 -- ---- notes
 pub added_nothing : (n : Notes) → notes_of_both n no_notes ≡ n
@@ -71,8 +78,9 @@ index_after older o index =
 
 -- ---- annotations alone
 abbrev pub annotated : List OutputUnit → Notes
-annotated us = record no_notes { annotations = us }
+annotated us = record no_notes { annotations = annotation_texts us }
 
 pub annotated_then : (n : Notes) (us vs : List OutputUnit) → notes_of_both (notes_of_both n (annotated us)) (annotated vs) ≡ notes_of_both n (annotated (us ++ vs))
 unfolding notes_of_both
-annotated_then n us vs = added_twice n (annotated us) (annotated vs)
+annotated_then n us vs =
+    added_twice n (annotated us) (annotated vs) ∙ ap (λ ts. notes_of_both n (record no_notes { annotations = ts })) (sym (map-append (unit_text true) us vs))

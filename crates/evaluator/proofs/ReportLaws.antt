@@ -1,5 +1,5 @@
 -- Laws of the answer, and of the report of it.
-use Rattle.std.proofs.Common.{◌≡◌, ◌<◌, ◌≤◌, ℕ, List, [], Bool, ◌&&◌, true, false, Some, Ok, Err, refl, sym, ap, ◌∙◌, Result, IfOk, IfErr}
+use Rattle.std.proofs.Common.{◌≡◌, ◌<◌, ◌≤◌, ℕ, List, [], Bool, ◌&&◌, true, false, Some, Ok, Err, refl, sym, ap, ◌∙◌, map, Result, IfOk, IfErr}
 use Rattle.std.proofs.lemmas.Bool.{lt-ltb, le-ltb}
 use Rattle.definitions.specs.Values.{Value, same_text}
 use Rattle.definitions.specs.Faults as meaning
@@ -16,7 +16,8 @@ use Rattle.definitions.specs.Answers.{answer, answer_of, answer_from, first_appl
 use Rattle.definitions.specs.Limits.{limits}
 use Rattle.definition_laws.proofs.Membership.{found_there}
 use Rattle.basic_output.specs.Outputs as output
-use Rattle.basic_output.specs.Units.{units_view}
+use Rattle.basic_output.specs.Pieces.{unit_text}
+use Rattle.basic_output.specs.Units.{unit_texts}
 use Rattle.linker.specs.LinkedDocuments.{linked_documents, linked_schemas, linked_uri}
 use Rattle.linker.specs.declared.linked.Linked.{Linked}
 use Rattle.keyword_plans.specs.Sites.{linked_rules}
@@ -59,13 +60,15 @@ first_is_at l f s x e there = record {
 pub noted_first : (n older : Notes) (o : Outcome) → older ≡ no_notes → n ≡ notes_of_both older (outcome_notes o) → n ≡ outcome_notes o
 noted_first n older o e h = h ∙ ap (λ m. notes_of_both m (outcome_notes o)) e ∙ nothing_added (outcome_notes o)
 
-pub logged_annotations : (l : Log) (o : Outcome) → log_view l ≡ outcome_notes o → o.valid ≡ true → output.reported_units o ≡ units_view l.annotations
+pub logged_annotations : (l : Log) (o : Outcome) (valid : Bool) → log_view l ≡ outcome_notes o → o.valid ≡ true → valid ≡ true
+    → unit_texts l.annotations ≡ map (unit_text valid) (output.reported_units o)
 unfolding log_view
-logged_annotations l o e v = rw v (sym (ap (λ (n : Notes). n.annotations) e))
+logged_annotations l o valid e v w = rw (v, w) (ap (λ (n : Notes). n.annotations) e)
 
-pub logged_errors : (l : Log) (o : Outcome) → log_view l ≡ outcome_notes o → o.valid ≡ false → output.reported_units o ≡ units_view l.errors
+pub logged_errors : (l : Log) (o : Outcome) (valid : Bool) → log_view l ≡ outcome_notes o → o.valid ≡ false → valid ≡ false
+    → unit_texts l.errors ≡ map (unit_text valid) (output.reported_units o)
 unfolding log_view
-logged_errors l o e v = rw v (sym (ap (λ (n : Notes). n.errors) e))
+logged_errors l o valid e v w = rw (v, w) (ap (λ (n : Notes). n.errors) e)
 
 -- ---- the report
 pub reported_ok : (o : Outcome) (r : Report) → is_valid r ≡ o.valid → output_text o ≡ report_text r → report_or_fault (Ok o) ≡ Ok (is_valid r, report_text r)

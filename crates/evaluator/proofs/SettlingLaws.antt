@@ -1,15 +1,17 @@
 -- Laws of what a keyword itself notes, once its schemas were applied.
 use Rattle.std.proofs.Common.{◌≡◌, ◌<◌, ℕ, List, [], ◌∷◌, ◌++◌, map, if◌then◌else◌, Bool, true, false, Contains, refl, sym, ap, ◌∙◌, append-nil, subst, flat_map, arith}
 use Rattle.std.proofs.Math.Bool.{and-true, or-false}
+use Rattle.std.proofs.lemmas.List.{map-append}
 use Rattle.std.specs.Prelude.{Some, None, codes}
 use Rattle.definitions.specs.Values.{Text, Value, string, get}
-use Rattle.definitions.specs.Applied.{Application, OutputUnit, keyword_applications}
+use Rattle.definitions.specs.Applied.{Application, Outcome, OutputUnit, Part, keyword_applications}
 use Rattle.definitions.specs.Evaluated.{may_annotate, once, outcomes_that_fail, outcomes_that_pass}
 use Rattle.definitions.specs.Outcomes.{Use, own_annotation, unit}
 use Rattle.definition_laws.proofs.Evaluations.{failing_nothing}
 use Rattle.definition_laws.proofs.AppliedSchemas.{applied_schemas_are_known}
 use Rattle.definition_laws.proofs.Occurrences.{contains_from_in, in_from_contains, into_map}
 use Rattle.definition_laws.proofs.Reports.{failing_annotates_nothing, passing_reports_no_error}
+use Rattle.basic_output.specs.Pieces.{unit_text}
 use Rattle.linker.specs.LinkedDocuments.{linked_documents, linked_schemas}
 use Rattle.linker.specs.declared.linked.Linked.{Linked}
 use Rattle.keyword_plans.specs.Annotations.{annotation_names}
@@ -21,15 +23,20 @@ use Rattle.keywords.specs.declared.keyword.Keyword.{Keyword}
 use Rattle.keywords.specs.declared.keyword.Keyword.TheVariants.{PatternProperties}
 use Rattle.keyword_plans.specs.declared.planned.Planned.{Planned}
 use Rattle.evaluation_context.specs.Frames.{Frame, frame_standing}
-use Rattle.evaluation_context.specs.Standings.{at_keyword, standing_of}
+use Rattle.evaluation_context.specs.Standings.{at_keyword, standing_of, unit_there}
 use Rattle.evaluator.specs.Findings.{FindsAll, FindsUse, count_of, use_count}
 use Rattle.evaluator.specs.declared.found.Applied as found
 use Rattle.evaluator.specs.declared.found.Found.{Found}
 use Rattle.evaluator.specs.declared.beside.Beside.{Beside}
-use Rattle.evaluator.specs.Notes.{Notes, parts_notes, uses_notes, visible_notes}
-use Rattle.evaluator.specs.Rounds.{IsAt, IsAtKeyword, IsKnown, Knows, linked_outcome, part_outcomes, use_there}
-use Rattle.evaluator.proofs.LogLaws.{same_notes}
+use Rattle.evaluator.specs.Notes.{Notes, annotation_texts, error_texts, parts_notes, uses_notes, visible_notes}
+use Rattle.evaluator.specs.Rounds.{IsAt, IsAtKeyword, IsKnown, IsUnder, Knows, linked_outcome, part_outcomes, use_there}
+use Rattle.evaluator.proofs.LogLaws.{mapped_all, same_notes}
 use Rattle.evaluator.proofs.PartLaws.{annotations_of_passed, errors_of_failed, indexes_of_use, names_of_use}
+
+-- the texts of units, where they are seen
+shown_texts : (b : Bool) (ts : List Text) (us : List OutputUnit) → ts ≡ annotation_texts us → (if b then ts else []) ≡ annotation_texts (if b then us else [])
+shown_texts true ts us e = e
+shown_texts false ts us e = refl
 
 module _ (l : Linked) (left : ℕ) (a : Application) (keyword : Keyword) (names : List Text) (indexes : List ℕ) (v : Value) where
   abbrev this : Use
@@ -44,33 +51,40 @@ module _ (l : Linked) (left : ℕ) (a : Application) (keyword : Keyword) (names 
   pub indexes_settled : noted.indexes ≡ this.indexes
   indexes_settled = indexes_of_use (linked_rules l) (linked_outcome l left) (failing_nothing (linked_rules l) left) names indexes a (row_of keyword).name (row_of keyword).meaning v
 
-  annotations_settled : noted.annotations ≡ (if this.annotates then flat_map (λ o. o.1.annotations) (outcomes_that_pass this.outcomes) else [])
+  annotations_settled : noted.annotations ≡ annotation_texts (if this.annotates then flat_map (λ o. o.1.annotations) (outcomes_that_pass this.outcomes) else [])
   annotations_settled =
-      ap (λ us. if may_annotate (row_of keyword).meaning then us else [])
-      (annotations_of_passed (linked_outcome l left) (failing_annotates_nothing (linked_rules l) left) (keyword_applications (linked_rules l) (linked_outcome l left) names indexes a (row_of keyword).name (row_of keyword).meaning v))
+      shown_texts (may_annotate (row_of keyword).meaning) _ _
+      (sym (mapped_all (unit_text true) (λ (o : Part × Outcome). o.1.annotations) this.outcomes)
+      ∙ ap annotation_texts (annotations_of_passed (linked_outcome l left) (failing_annotates_nothing (linked_rules l) left) (keyword_applications (linked_rules l) (linked_outcome l left) names indexes a (row_of keyword).name (row_of keyword).meaning v)))
 
-  errors_settled : noted.errors ≡ flat_map (λ o. o.1.errors) (outcomes_that_fail this.outcomes)
-  errors_settled = errors_of_failed (linked_outcome l left) (passing_reports_no_error (linked_rules l) left) (keyword_applications (linked_rules l) (linked_outcome l left) names indexes a (row_of keyword).name (row_of keyword).meaning v)
+  errors_settled : noted.errors ≡ error_texts (flat_map (λ o. o.1.errors) (outcomes_that_fail this.outcomes))
+  errors_settled =
+      sym (mapped_all (unit_text false) (λ (o : Part × Outcome). o.1.errors) this.outcomes)
+      ∙ ap error_texts (errors_of_failed (linked_outcome l left) (passing_reports_no_error (linked_rules l) left) (keyword_applications (linked_rules l) (linked_outcome l left) names indexes a (row_of keyword).name (row_of keyword).meaning v))
 
   pub passing_settled : true ≡ this.passes
-      → record noted { errors = []; annotations = own_annotation a this this.annotation ++ noted.annotations } ≡ uses_notes a (this ∷ [])
+      → record noted { errors = []; annotations = annotation_texts (own_annotation a this this.annotation) ++ noted.annotations } ≡ uses_notes a (this ∷ [])
   passing_settled e =
-      same_notes (rw (← e) refl) (rw (← e) (ap (λ us. own_annotation a this this.annotation ++ us) annotations_settled ∙ sym (append-nil _)))
+      same_notes (rw (← e) refl) (rw (← e) (ap (λ ts. annotation_texts (own_annotation a this this.annotation) ++ ts) annotations_settled ∙ sym (map-append (unit_text true) (own_annotation a this this.annotation) _) ∙ sym (append-nil _)))
       (names_settled ∙ sym (append-nil this.names)) (indexes_settled ∙ sym (append-nil this.indexes))
 
   pub failing_settled : false ≡ this.passes
-      → record noted { errors = unit a (row_of keyword).name (string ((row_of keyword).name ++ codes " is not met")) ∷ noted.errors; annotations = [] } ≡ uses_notes a (this ∷ [])
+      → record noted { errors = unit_text false (unit a (row_of keyword).name (string ((row_of keyword).name ++ codes " is not met"))) ∷ noted.errors; annotations = [] } ≡ uses_notes a (this ∷ [])
   failing_settled e =
       same_notes
-      (rw (← e) (ap (λ us. unit a (row_of keyword).name (string ((row_of keyword).name ++ codes " is not met")) ∷ us) (errors_settled ∙ sym (append-nil _))))
+      (rw (← e) (ap (λ ts. unit_text false (unit a (row_of keyword).name (string ((row_of keyword).name ++ codes " is not met"))) ∷ ts) (errors_settled ∙ sym (append-nil _))))
       (rw (← e) refl) (names_settled ∙ sym (append-nil this.names)) (indexes_settled ∙ sym (append-nil this.indexes))
 
 -- ---- what it says itself
-pub own_none : (a : Application) (u : Use) (us : List OutputUnit) → None ≡ u.annotation → us ≡ own_annotation a u u.annotation ++ us
-own_none a u us e = rw (← e) refl
+pub unit_under : (f g : Frame) (k : Text) (a : Application) (v : Value) → g ≡ f → IsUnder f k a → unit_there (frame_standing g) v ≡ unit a k v
+unit_under f g k a v e under = ap (λ h. unit_there (frame_standing h) v) e ∙ ap (λ st. unit_there st v) under
 
-pub own_some : (a : Application) (u : Use) (v : Value) (us : List OutputUnit) → Some v ≡ u.annotation → unit a u.keyword v ∷ us ≡ own_annotation a u u.annotation ++ us
-own_some a u v us e = rw (← e) refl
+pub own_none : (a : Application) (u : Use) (ts : List Text) → None ≡ u.annotation → ts ≡ annotation_texts (own_annotation a u u.annotation) ++ ts
+own_none a u ts e = rw (← e) refl
+
+pub own_some : (a : Application) (u : Use) (v : Value) (ts : List Text) → Some v ≡ u.annotation
+    → unit_text true (unit a u.keyword v) ∷ ts ≡ annotation_texts (own_annotation a u u.annotation) ++ ts
+own_some a u v ts e = rw (← e) refl
 
 -- ---- the names that it annotates with
 pub names_of_patterns : (k : Keyword) (ns : List Text) → k ≡ PatternProperties → once ns ≡ annotation_names (row_of k).meaning ns

@@ -15,7 +15,7 @@ use Rattle.evaluator.specs.Rounds.{IsAt}
 use Rattle.evaluator.specs.Findings.{FindsObject, FindsUses, IsWithin, use_count}
 use Rattle.evaluator.specs.Groups.{first_groups, stands_alone}
 use Rattle.keywords.specs.Groups.{group_number, groups_before, in_order}
-use Rattle.evaluator.specs.Notes.{Notes, kept_annotations, notes_of_both, uses_notes}
+use Rattle.evaluator.specs.Notes.{Notes, error_texts, kept_annotations, notes_of_both, uses_notes}
 use Rattle.evaluator.specs.declared.found.Found.{Found}
 use Rattle.evaluator.proofs.LogLaws.{added_twice, same_notes}
 use Rattle.evaluator.proofs.PlannedLaws.{split_at}
@@ -36,7 +36,7 @@ few_groups = ltb-true (length first_groups) 63 refl
 pub uses_more_notes : (a : Application) (us vs : List Use) → notes_of_both (uses_notes a us) (uses_notes a vs) ≡ uses_notes a (us ++ vs)
 unfolding notes_of_both
 uses_more_notes a us vs =
-    same_notes (sym (flat_map-append (use_errors a) us vs)) (sym (flat_map-append (kept_annotations a) us vs)) (sym (flat_map-append (λ u. u.names) us vs)) (sym (flat_map-append (λ u. u.indexes) us vs))
+    same_notes (sym (flat_map-append (λ u. error_texts (use_errors a u)) us vs)) (sym (flat_map-append (kept_annotations a) us vs)) (sym (flat_map-append (λ u. u.names) us vs)) (sym (flat_map-append (λ u. u.indexes) us vs))
 
 pub found_within : (f g : Found) (budget : ℕ) → IsWithin f budget → g.count ≤ budget - f.count
     → IsWithin (record { valid = f.valid && g.valid; count = f.count + g.count; looped = f.looped || g.looped; deep = f.deep || g.deep; passing = None }) budget

@@ -1,14 +1,14 @@
 -- What a log shows.
 use Rattle.std.specs.Prelude.{map}
-use Rattle.basic_output.specs.Units.{units_view}
+use Rattle.basic_output.specs.Units.{unit_texts}
 use Rattle.evaluator.specs.Notes.{Notes, Lengths}
 use Rattle.evaluator.specs.declared.log.Log.{Log}
 use Rattle.evaluator.specs.declared.log.LogMark.{LogMark}
 
 unfoldable pub log_view : Log → Notes
 log_view l = record {
-  errors = units_view l.errors;
-  annotations = units_view l.annotations;
+  errors = unit_texts l.errors;
+  annotations = unit_texts l.annotations;
   names = map (λ name. name.now) l.names.items;
   indexes = l.indexes.items;
 }

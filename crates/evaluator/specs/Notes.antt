@@ -1,17 +1,26 @@
--- What an evaluation notes: units of the output, and the names and indexes that were evaluated.
-use Rattle.std.specs.Prelude.{ℕ, List, [], ◌∷◌, ◌++◌, Bool, true, false, ◌&&◌, not, if◌then◌else◌, length, flat_map}
+-- What an evaluation notes: the texts of units of the output, and the names and indexes that were evaluated.
+use Rattle.std.specs.Prelude.{ℕ, List, [], ◌∷◌, ◌++◌, Bool, true, false, ◌&&◌, not, if◌then◌else◌, length, map, flat_map}
 use Rattle.definitions.specs.Values.{Text}
 use Rattle.definitions.specs.Keywords.{Meaning, contains, negation}
 use Rattle.definitions.specs.Applied.{Application, Outcome, OutputUnit, Part, whole, named, indexed}
 use Rattle.definitions.specs.Evaluated.{may_annotate}
 use Rattle.definitions.specs.Outcomes.{Use, use_annotations, use_errors}
+use Rattle.basic_output.specs.Pieces.{unit_text}
 
 pub record Notes : Type 0 where
-  pub errors : List OutputUnit
-  pub annotations : List OutputUnit
+  pub errors : List Text
+  pub annotations : List Text
   pub names : List Text
   pub indexes : List ℕ
 
+-- ---- the texts of units
+abbrev pub error_texts : List OutputUnit → List Text
+error_texts us = map (unit_text false) us
+
+abbrev pub annotation_texts : List OutputUnit → List Text
+annotation_texts us = map (unit_text true) us
+
+-- ---- nothing, and one after the other
 abbrev pub no_notes : Notes
 no_notes = record { errors = []; annotations = []; names = []; indexes = [] }
 
@@ -26,7 +35,12 @@ notes_of_both older newer = record {
 
 -- ---- of an application
 abbrev pub outcome_notes : Outcome → Notes
-outcome_notes o = record { errors = o.errors; annotations = o.annotations; names = o.names; indexes = o.indexes }
+outcome_notes o = record {
+  errors = error_texts o.errors;
+  annotations = annotation_texts o.annotations;
+  names = o.names;
+  indexes = o.indexes;
+}
 
 -- ---- of what a keyword applied: its units, and what of the instance it evaluated
 abbrev pub names_from : Part → Outcome → List Text
@@ -46,16 +60,16 @@ indexes_from meaning _ o = []
 
 abbrev pub part_notes : Meaning → Part × Outcome → Notes
 part_notes meaning e = record {
-  errors = e.1.errors;
-  annotations = e.1.annotations;
+  errors = error_texts e.1.errors;
+  annotations = annotation_texts e.1.annotations;
   names = names_from e.0 e.1;
   indexes = indexes_from meaning e.0 e.1;
 }
 
 abbrev pub parts_notes : Meaning → List (Part × Outcome) → Notes
 parts_notes meaning es = record {
-  errors = flat_map (λ e. e.1.errors) es;
-  annotations = flat_map (λ e. e.1.annotations) es;
+  errors = flat_map (λ e. error_texts e.1.errors) es;
+  annotations = flat_map (λ e. annotation_texts e.1.annotations) es;
   names = flat_map (λ e. names_from e.0 e.1) es;
   indexes = flat_map (λ e. indexes_from meaning e.0 e.1) es;
 }
@@ -74,12 +88,12 @@ visible_notes meaning n = record n {
 }
 
 -- ---- of uses of keywords: what fails annotates nothing, and evaluates all the same
-abbrev pub kept_annotations : Application → Use → List OutputUnit
-kept_annotations a u = if u.passes then use_annotations a u else []
+abbrev pub kept_annotations : Application → Use → List Text
+kept_annotations a u = if u.passes then annotation_texts (use_annotations a u) else []
 
 abbrev pub uses_notes : Application → List Use → Notes
 uses_notes a us = record {
-  errors = flat_map (use_errors a) us;
+  errors = flat_map (λ u. error_texts (use_errors a u)) us;
   annotations = flat_map (kept_annotations a) us;
   names = flat_map (λ u. u.names) us;
   indexes = flat_map (λ u. u.indexes) us;

@@ -11,7 +11,7 @@ ghost use Rattle.evaluation_context.specs.Frames.{context_view, frame_standing};
 ghost use Rattle.evaluation_context.specs.Standings.{standing_of};
 ghost use Rattle.evaluator.specs.Annotations.{annotations_among};
 ghost use Rattle.evaluator.specs.Logs.{log_view};
-ghost use Rattle.evaluator.specs.Notes.{no_notes, notes_of_both};
+ghost use Rattle.evaluator.specs.Notes.{annotation_texts, no_notes, notes_of_both};
 ghost use Rattle.keyword_plans.specs.Subjects.{subject_value};
 
 use crate::dollar_names::{are_many, cut_at_dollar_names};
@@ -38,7 +38,7 @@ pub(crate) fn note_others<'a>(
         → a.instance ≡ subject_value subject.entry
         → OnOk result (log_view log.new
         ≡ notes_of_both (log_view log.old)
-        (record no_notes { annotations = other_annotations a })) }
+        (record no_notes { annotations = annotation_texts (other_annotations a) })) }
 {
     if !present.may_annotate() {
         return Ok(());
@@ -62,8 +62,8 @@ fn note_members<'a>(
         → a.schema.value ≡ value schema.now → a.instance ≡ subject_value subject.entry
         → OnOk result (log_view log.new
         ≡ notes_of_both (log_view log.old) (record no_notes {
-          annotations = annotations_among a
-              (members_value members.now);
+          annotations = annotation_texts
+              (annotations_among a (members_value members.now));
         })) }
 {
     if !are_many(members) {
@@ -86,8 +86,8 @@ fn note_among<'a>(
         → a.schema.value ≡ value schema.now → a.instance ≡ subject_value subject.entry
         → OnOk result (log_view log.new
         ≡ notes_of_both (log_view log.old) (record no_notes {
-          annotations = annotations_among a
-              (members_left members.entry);
+          annotations = annotation_texts
+              (annotations_among a (members_left members.entry));
         })) }
 {
     for (name, member) in members {
@@ -108,11 +108,12 @@ fn note_member<'a>(
     ensures noted { (a : Application) → frame_standing (context_view context.old) ≡ standing_of a
         → OnOk result (log_view log.new
         ≡ notes_of_both (log_view log.old) (record no_notes {
-          annotations = unit a name.now (value member.now)
-              ∷ [];
+          annotations = annotation_texts
+              (unit a name.now (value member.now) ∷ []);
         })) }
 {
     context.enter_keyword(name)?;
+    context.write_locations()?;
     log.push_annotation(context.location(), Says::Value(member))?;
     context.leave_keyword();
     Ok(())

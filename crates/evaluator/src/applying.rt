@@ -92,7 +92,7 @@ impl<'a> Evaluation<'a> {
 
     fn note_boolean(&mut self, allowed: bool) -> Result<(), Fault>
         ensures linked { self.new.linked ≡ self.old.linked }
-        ensures back { self.new.context ≡ self.old.context }
+        ensures back { context_view self.new.context ≡ context_view self.old.context }
         ensures noted { (a : Application) (s x : Value)
             → a ≡ application_at (frame_standing (context_view self.old.context)) s x
             → OnOk result (Adds self.old self.new (outcome_notes (boolean_outcome a allowed))) }
@@ -101,6 +101,7 @@ impl<'a> Evaluation<'a> {
         if allowed {
             return Ok(());
         }
+        self.context.write_locations()?;
         self.log
             .push_error(self.context.location(), Says::NotAllowed)?;
         Ok(())

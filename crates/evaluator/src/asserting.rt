@@ -23,7 +23,7 @@ impl<'a> Evaluation<'a> {
     ghost use Rattle.evaluation_context.specs.Standings.{standing_of};
     ghost use Rattle.evaluator.specs.Applying.{Adds, IsHere};
     ghost use Rattle.evaluator.specs.Findings.{FindsUses};
-    ghost use Rattle.evaluator.specs.Notes.{no_notes, uses_notes};
+    ghost use Rattle.evaluator.specs.Notes.{error_texts, no_notes, uses_notes};
     ghost use Rattle.evaluator.specs.Rounds.{group_uses};
 
     /// A keyword that makes this assertion: it applies nothing. The only error is want of memory.
@@ -68,13 +68,14 @@ impl<'a> Evaluation<'a> {
         ensures noted { (a : Application)
             → frame_standing (context_view self.old.context) ≡ standing_of a
             → OnOk result (Adds self.old self.new (record no_notes {
-              errors = unit a (row_of keyword).name
+              errors = error_texts (unit a (row_of keyword).name
                   (string ((row_of keyword).name ++ codes " is not met"))
-                  ∷ [];
+                  ∷ []);
             })) }
         ensures err { IfErr result (λ f. f ≡ Fault.NoRoom) }
     {
         self.context.enter_keyword(keyword.name())?;
+        self.context.write_locations()?;
         self.log
             .push_error(self.context.location(), Says::NotMet(keyword.name()))?;
         self.context.leave_keyword();

@@ -12,7 +12,7 @@ use std::alloc::{AllocError, Global};
 /// The errors, should what is being applied fail; the annotations, should it pass; and the names and the indexes of the
 /// instance that were evaluated.
 ///
-/// Contracts see all four by `log_view`.
+/// Contracts see all four by `log_view`, the units as their texts.
 #[derive(Drop)]
 pub(crate) struct Log<'a> {
     pub(crate) alloc: Global,
@@ -51,7 +51,8 @@ impl LogMark {
 }
 
 impl<'a> Log<'a> {
-    ghost use Rattle.std.specs.Prelude.{◌≡◌, [], ◌∷◌, ◌++◌, OnOk};
+    ghost use Rattle.std.specs.Prelude.{◌≡◌, [], ◌∷◌, ◌++◌, true, false, OnOk};
+    ghost use Rattle.basic_output.specs.Pieces.{unit_text};
     ghost use Rattle.basic_output.specs.Sayings.{unit_at};
     ghost use Rattle.definitions.specs.Applied.{Outcome};
     ghost use Rattle.keyword_plans.specs.Plans.{part_view};
@@ -91,9 +92,12 @@ impl<'a> Log<'a> {
     ) -> Result<(), AllocError>
         ensures { OnOk result (log_view self.new
             ≡ notes_of_both (log_view self.old)
-            (record no_notes { errors = unit_at location.entry says.entry ∷ [] })) }
+            (record no_notes {
+              errors = unit_text false (unit_at location.entry says.entry)
+                  ∷ [];
+            })) }
     {
-        self.errors.push(location, says)
+        self.errors.push(false, location, says)
     }
 
     /// Puts an annotation last. The only error is want of memory.
@@ -104,9 +108,12 @@ impl<'a> Log<'a> {
     ) -> Result<(), AllocError>
         ensures { OnOk result (log_view self.new
             ≡ notes_of_both (log_view self.old)
-            (record no_notes { annotations = unit_at location.entry says.entry ∷ [] })) }
+            (record no_notes {
+              annotations = unit_text true (unit_at location.entry says.entry)
+                  ∷ [];
+            })) }
     {
-        self.annotations.push(location, says)
+        self.annotations.push(true, location, says)
     }
 
     /// A name was evaluated. The only error is want of memory.
@@ -138,11 +145,11 @@ impl<'a> Log<'a> {
             → log_view self.old ≡ notes_of_both older more
             → OnOk result (log_view self.new
             ≡ notes_of_both older (record more {
-              errors = unit_at location.entry says.entry
+              errors = unit_text false (unit_at location.entry says.entry)
                   ∷ more.errors;
             })) }
     {
-        self.errors.insert(mark.errors, location, says)
+        self.errors.insert(mark.errors, false, location, says)
     }
 
     /// Puts an annotation at the mark, before those that came later. The only error is want of memory.
@@ -156,11 +163,12 @@ impl<'a> Log<'a> {
             → log_view self.old ≡ notes_of_both older more
             → OnOk result (log_view self.new
             ≡ notes_of_both older (record more {
-              annotations = unit_at location.entry says.entry
+              annotations = unit_text true (unit_at location.entry says.entry)
                   ∷ more.annotations;
             })) }
     {
-        self.annotations.insert(mark.annotations, location, says)
+        self.annotations
+            .insert(mark.annotations, true, location, says)
     }
 
     /// Cuts off the errors that came after the mark.

@@ -167,8 +167,8 @@ impl<'a> Evaluation<'a> {
     {
         let passes = self.passes(keyword, keyword_value, here, beside, applied)?;
         settle(
+            &mut self.context,
             &mut self.log,
-            self.context.location(),
             keyword,
             here.subject,
             mark,

@@ -3,44 +3,44 @@
 
 ghost use Rattle.std.specs.Prelude.{◌≡◌, ◌++◌, [], ◌∷◌, ℕ, List, drop, if◌then◌else◌, length, map, IfErr, OnOk};
 ghost use Rattle.definitions.specs.Values.{Text, Value};
-ghost use Rattle.definitions.specs.Applied.{Application, Outcome, OutputUnit, Rules};
+ghost use Rattle.definitions.specs.Applied.{Application, Outcome, Rules};
 ghost use Rattle.definitions.specs.Evaluated.{evaluated_indexes, evaluated_names, may_annotate};
-ghost use Rattle.definitions.specs.Outcomes.{Use, own_annotation, unit};
-ghost use Rattle.basic_output.specs.declared.says.Says as output;
-ghost use Rattle.basic_output.specs.Sayings.{says_value, unit_at};
-ghost use Rattle.basic_output.specs.Units.{units_view};
+ghost use Rattle.definitions.specs.Outcomes.{Use, own_annotation};
+ghost use Rattle.basic_output.specs.Units.{unit_texts};
+ghost use Rattle.evaluation_context.specs.Frames.{context_view};
 ghost use Rattle.keyword_plans.specs.Annotations.{annotation_names};
 ghost use Rattle.keyword_plans.specs.Plans.{outcomes_of};
 ghost use Rattle.keywords.specs.Rows.{row_of};
 ghost use Rattle.keyword_plans.specs.Subjects.{subject_value};
 ghost use Rattle.linker.specs.declared.linked.Linked.{Linked};
 ghost use Rattle.evaluator.specs.Logs.{log_view, mark_view};
-ghost use Rattle.evaluator.specs.Notes.{Notes, evaluates, lengths, notes_of_both, parts_notes, uses_notes, visible_notes};
-ghost use Rattle.evaluator.specs.Rounds.{linked_outcome, use_there};
+ghost use Rattle.evaluator.specs.Notes.{Notes, annotation_texts, evaluates, lengths, notes_of_both, parts_notes, uses_notes, visible_notes};
+ghost use Rattle.evaluator.specs.Rounds.{IsUnder, linked_outcome, use_there};
 
 use crate::log::{Before, Log, LogMark};
-use basic_output::{Location, Mark, Says, Units};
+use basic_output::{Mark, Says, Units};
+use evaluation_context::Context;
 use faults::Fault;
 use keyword_plans::{Evaluated, Subject, annotate, distinct_names};
 use keywords::Keyword;
 
-/// Puts what the keyword itself says in the place of what it applied said: `applied` is the number of schemas that it
-/// applied, after the mark. The only error is want of memory.
+/// Puts what the keyword itself says in the place of what it applied said: the context stands at the keyword, and
+/// `applied` is the number of schemas that it applied, after the mark. The only error is want of memory.
 pub(crate) fn settle<'a>(
+    context: &mut Context<'a>,
     log: &mut Log<'a>,
-    location: Location<'_, 'a>,
     keyword: Keyword,
     subject: Subject<'a>,
     mark: &LogMark,
     applied: u64,
     passes: bool,
 ) -> Result<(), Fault>
+    ensures back { context_view context.new ≡ context_view context.old }
     ensures noted { (l : Linked) (left : ℕ) (a : Application) (names : List Text) (indexes : List ℕ)
         (v : Value) (older : Notes)
         → let u = use_there l left a keyword names indexes v in
         a.instance ≡ subject_value subject.entry → applied ≡ length u.outcomes → passes ≡ u.passes
-        → ((says : output.Says) → unit_at location.entry says
-        ≡ unit a (row_of keyword).name (says_value says))
+        → IsUnder (context_view context.old) (row_of keyword).name a
         → mark_view mark.now ≡ lengths older
         → log_view log.old ≡ notes_of_both older (parts_notes (row_of keyword).meaning u.outcomes)
         → OnOk result (log_view log.new ≡ notes_of_both older (uses_notes a (u ∷ []))) }
@@ -49,10 +49,11 @@ pub(crate) fn settle<'a>(
     hide(log, keyword, mark);
     if passes {
         log.cut_errors(mark);
-        note_own(log, location, keyword, subject, mark, applied)
+        note_own(context, log, keyword, subject, mark, applied)
     } else {
         log.cut_annotations(mark);
-        log.insert_error(mark, location, Says::NotMet(keyword.name()))?;
+        context.write_locations()?;
+        log.insert_error(mark, context.location(), Says::NotMet(keyword.name()))?;
         Ok(())
     }
 }
@@ -75,25 +76,25 @@ fn hide(log: &mut Log<'_>, keyword: Keyword, mark: &LogMark)
 
 // The keyword's own annotation stands before those of what it applied.
 fn note_own<'a>(
+    context: &mut Context<'a>,
     log: &mut Log<'a>,
-    location: Location<'_, 'a>,
     keyword: Keyword,
     subject: Subject<'a>,
     mark: &LogMark,
     applied: u64,
 ) -> Result<(), Fault>
+    ensures back { context_view context.new ≡ context_view context.old }
     ensures noted { (l : Linked) (left : ℕ) (a : Application) (names : List Text) (indexes : List ℕ)
         (v : Value) (older more : Notes)
         → let u = use_there l left a keyword names indexes v in
         a.instance ≡ subject_value subject.entry → applied ≡ length u.outcomes
-        → ((says : output.Says) → unit_at location.entry says
-        ≡ unit a (row_of keyword).name (says_value says))
+        → IsUnder (context_view context.old) (row_of keyword).name a
         → mark_view mark.now ≡ lengths older → log_view log.old ≡ notes_of_both older more
         → more.names ≡ u.names
         → more.indexes ≡ u.indexes
         → OnOk result (log_view log.new
         ≡ notes_of_both older (record more {
-          annotations = own_annotation a u u.annotation
+          annotations = annotation_texts (own_annotation a u u.annotation)
               ++ more.annotations;
         })) }
     ensures err { IfErr result (λ f. f ≡ Fault.NoRoom) }
@@ -107,9 +108,9 @@ fn note_own<'a>(
                 indexes: evaluated.indexes,
             };
             insert_own(
+                context,
                 &mut log.annotations,
                 mark.annotations,
-                location,
                 keyword,
                 subject,
                 applied,
@@ -117,9 +118,9 @@ fn note_own<'a>(
             )
         }
         _ => insert_own(
+            context,
             &mut log.annotations,
             mark.annotations,
-            location,
             keyword,
             subject,
             applied,
@@ -130,30 +131,34 @@ fn note_own<'a>(
 
 // The same among the annotations alone: of the names `evaluated` has those that the keyword annotates with.
 fn insert_own<'a>(
+    context: &mut Context<'a>,
     annotations: &mut Units<'a>,
     mark: Mark,
-    location: Location<'_, 'a>,
     keyword: Keyword,
     subject: Subject<'a>,
     applied: u64,
     evaluated: Evaluated<'_, 'a>,
 ) -> Result<(), Fault>
+    ensures back { context_view context.new ≡ context_view context.old }
     ensures noted { (l : Linked) (left : ℕ) (a : Application) (names : List Text) (indexes : List ℕ)
-        (v : Value) (older more : List OutputUnit)
+        (v : Value) (older more : List Text)
         → let u = use_there l left a keyword names indexes v in
         a.instance ≡ subject_value subject.entry → applied ≡ length u.outcomes
-        → ((says : output.Says) → unit_at location.entry says
-        ≡ unit a (row_of keyword).name (says_value says))
-        → mark ≡ length older → units_view annotations.old ≡ older ++ more
+        → IsUnder (context_view context.old) (row_of keyword).name a
+        → mark ≡ length older → unit_texts annotations.old ≡ older ++ more
         → map (λ n. n.now) evaluated.entry.names.now
         ≡ annotation_names (row_of keyword).meaning u.names
         → evaluated.entry.indexes.now ≡ u.indexes
-        → OnOk result (units_view annotations.new
-        ≡ older ++ (own_annotation a u u.annotation ++ more)) }
+        → OnOk result (unit_texts annotations.new
+        ≡ older ++ (annotation_texts (own_annotation a u u.annotation) ++ more)) }
     ensures err { IfErr result (λ f. f ≡ Fault.NoRoom) }
 {
     match annotate(keyword, subject, applied, evaluated) {
-        Some(says) => Ok(annotations.insert(mark, location, says)?),
+        Some(says) => {
+            context.write_locations()?;
+            annotations.insert(mark, true, context.location(), says)?;
+            Ok(())
+        }
         None => Ok(()),
     }
 }

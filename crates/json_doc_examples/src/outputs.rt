@@ -1,18 +1,65 @@
 //! Texts of outputs, by the rules of JSON Schema 2020-12 Core, 12.4, RFC 6901 and RFC 3986.
 
-use basic_output::{Location, Says, Step, Units, output_text};
+use basic_output::{Location, Notation, Pointers, Says, Step, Units, output_text};
 use json_doc::{Fault, read};
+use locations::same_steps;
 use std::alloc::Global;
 use std::test::Fail;
 
-/// At these steps, in the schema and in the instance, of one resource.
-fn at<'s, 'a>(path: &'s [Step<'a>], instance_location: &'s [Step<'a>]) -> Location<'s, 'a> {
-    Location {
-        path,
-        resource: "https://ex.org/s",
-        pointer: path,
-        instance_location,
+/// The steps of a location, in one resource after the other.
+#[derive(Drop)]
+struct Places<'a> {
+    path: Pointers<'a>,
+    pointer: Pointers<'a>,
+    instance_location: Pointers<'a>,
+}
+
+impl<'a> Places<'a> {
+    fn new(alloc: Global) -> Places<'a> {
+        Places {
+            path: Pointers::new(alloc, Notation::String, Vec::new(alloc)),
+            pointer: Pointers::new(alloc, Notation::Fragment, Vec::new(alloc)),
+            instance_location: Pointers::new(alloc, Notation::String, Vec::new(alloc)),
+        }
     }
+
+    /// To these steps in the schema, along the same path, and in the instance.
+    fn turn_to(&mut self, path: &[Step<'a>], instance_location: &[Step<'a>]) -> Result<(), Fault> {
+        turn_to(&mut self.path, path)?;
+        turn_to(&mut self.pointer, path)?;
+        turn_to(&mut self.instance_location, instance_location)
+    }
+
+    /// There, in this resource.
+    fn within(&self, resource: &'a str) -> Location<'_, 'a> {
+        Location {
+            path: &self.path,
+            resource,
+            pointer: &self.pointer,
+            instance_location: &self.instance_location,
+        }
+    }
+
+    fn here(&self) -> Location<'_, 'a> {
+        self.within("https://ex.org/s")
+    }
+}
+
+/// To these steps, of which those in front stay that are there already; then their text is written.
+fn turn_to<'a>(pointers: &mut Pointers<'a>, steps: &[Step<'a>]) -> Result<(), Fault> {
+    let mut shared: usize = 0;
+    for (old, new) in pointers.last().iter().zip(steps) {
+        if !same_steps(&[*old], &[*new]) {
+            break;
+        }
+        shared = shared.saturating_add(1);
+    }
+    pointers.truncate(shared);
+    for step in steps.iter().skip(shared) {
+        pointers.push(*step)?;
+    }
+    pointers.write()?;
+    Ok(())
 }
 
 #[test]
@@ -22,7 +69,9 @@ fn writes_annotations_or_errors(rt: HostRuntime) -> Result<(), Fail> {
     assert_eq!(rt; annotations.as_str(), r#"{"annotations":[],"valid":true}"#);
     let errors = output_text(rt.alloc(), false, &units)?;
     assert_eq!(rt; errors.as_str(), r#"{"errors":[],"valid":false}"#);
-    units.push(at(&[Step::Name("required")], &[]), Says::NotMet("required"))?;
+    let mut places = Places::new(rt.alloc());
+    places.turn_to(&[Step::Name("required")], &[])?;
+    units.push(false, places.here(), Says::NotMet("required"))?;
     let text = output_text(rt.alloc(), false, &units)?;
     assert_eq!(rt;
         text.as_str(),
@@ -31,9 +80,9 @@ fn writes_annotations_or_errors(rt: HostRuntime) -> Result<(), Fail> {
     Ok(())
 }
 
-fn annotation(alloc: Global, says: Says<'_, '_>) -> Result<String, Fault> {
+fn annotation<'a>(alloc: Global, says: Says<'_, 'a>) -> Result<String, Fault> {
     let mut units = Units::new(alloc);
-    units.push(at(&[], &[]), says)?;
+    units.push(true, Places::new(alloc).here(), says)?;
     output_text(alloc, true, &units)
 }
 
@@ -75,16 +124,17 @@ fn writes_what_units_say(rt: HostRuntime) -> Result<(), Fail> {
 #[test]
 fn escapes_locations(rt: HostRuntime) -> Result<(), Fail> {
     let mut units = Units::new(rt.alloc());
-    let path = [Step::Name("$ref"), Step::Name("~/%")];
-    let pointer = [Step::Name("~/%"), Step::Name("ä \""), Step::Name("\u{1}\n")];
-    let instance_location = [Step::Name("ä \""), Step::Index(12), Step::Name("\u{1}\n")];
-    let location = Location {
-        path: &path,
-        resource: "urn:x",
-        pointer: &pointer,
-        instance_location: &instance_location,
-    };
-    units.push(location, Says::NotAllowed)?;
+    let mut places = Places::new(rt.alloc());
+    turn_to(&mut places.path, &[Step::Name("$ref"), Step::Name("~/%")])?;
+    turn_to(
+        &mut places.pointer,
+        &[Step::Name("~/%"), Step::Name("ä \""), Step::Name("\u{1}\n")],
+    )?;
+    turn_to(
+        &mut places.instance_location,
+        &[Step::Name("ä \""), Step::Index(12), Step::Name("\u{1}\n")],
+    )?;
+    units.push(false, places.within("urn:x"), Says::NotAllowed)?;
     let text = output_text(rt.alloc(), false, &units)?;
     assert_eq!(rt;
         text.as_str(),
@@ -97,12 +147,16 @@ fn escapes_locations(rt: HostRuntime) -> Result<(), Fail> {
 fn puts_units_at_marks_and_cuts_them_off(rt: HostRuntime) -> Result<(), Fail> {
     let mut units = Units::new(rt.alloc());
     let path = [Step::Name("anyOf"), Step::Index(1), Step::Name("type")];
+    let mut places = Places::new(rt.alloc());
     let own = units.mark();
-    units.push(at(&path, &[]), Says::NotMet("type"))?;
+    places.turn_to(&path, &[])?;
+    units.push(false, places.here(), Says::NotMet("type"))?;
     let later = units.mark();
-    units.push(at(&path[..2], &[]), Says::NotAllowed)?;
+    places.turn_to(&path[..2], &[])?;
+    units.push(false, places.here(), Says::NotAllowed)?;
     units.cut_back(later);
-    units.insert(own, at(&path[..1], &[]), Says::NotMet("anyOf"))?;
+    places.turn_to(&path[..1], &[])?;
+    units.insert(own, false, places.here(), Says::NotMet("anyOf"))?;
     let text = output_text(rt.alloc(), false, &units)?;
     assert_eq!(rt;
         text.as_str(),
@@ -257,14 +311,10 @@ fn units_at(
     locations: &[(&'static [Step<'static>], &'static str, &'static str)],
 ) -> Result<Units<'static>, Fault> {
     let mut units = Units::new(alloc);
+    let mut places = Places::new(alloc);
     for ((path, _, _), (instance_location, _, _)) in locations.iter().zip(locations.iter().rev()) {
-        let location = Location {
-            path,
-            resource: resource_of(path),
-            pointer: path,
-            instance_location,
-        };
-        units.push(location, Says::NotAllowed)?;
+        places.turn_to(path, instance_location)?;
+        units.push(false, places.within(resource_of(path)), Says::NotAllowed)?;
     }
     Ok(units)
 }
@@ -308,5 +358,37 @@ fn writes_locations_after_one_another(rt: HostRuntime) -> Result<(), Fail> {
         let wanted = text_of_units_at(rt.alloc(), &LOCATIONS[start..])?;
         assert_eq!(rt; text.as_str(), wanted.as_str());
     }
+    Ok(())
+}
+
+/// The text of an error at this pointer in the resource, and nowhere else.
+fn error_at(alloc: Global, pointer: &Pointers<'static>) -> Result<String, Fault> {
+    let places = Places::new(alloc);
+    let mut units = Units::new(alloc);
+    let location = Location {
+        path: &places.path,
+        resource: "urn:x",
+        pointer,
+        instance_location: &places.instance_location,
+    };
+    units.push(false, location, Says::NotAllowed)?;
+    output_text(alloc, false, &units)
+}
+
+#[test]
+fn pointers_begin_and_end(rt: HostRuntime) -> Result<(), Fail> {
+    let mut pointers = Pointers::new(rt.alloc(), Notation::Fragment, Vec::new(rt.alloc()));
+    turn_to(&mut pointers, &[Step::Name("a"), Step::Index(7)])?;
+    pointers.begin();
+    turn_to(&mut pointers, &[Step::Name("b"), Step::Name("c")])?;
+    assert!(rt; pointers.len() == 4 && pointers.start() == 2 && pointers.last_len() == 2);
+    let inner = error_at(rt.alloc(), &pointers)?;
+    assert!(rt; inner.as_str().contains(r##""urn:x#/b/c""##), "{inner}");
+    pointers.pop();
+    let shorter = error_at(rt.alloc(), &pointers)?;
+    assert!(rt; shorter.as_str().contains(r##""urn:x#/b""##), "{shorter}");
+    pointers.cut(2, 0);
+    let outer = error_at(rt.alloc(), &pointers)?;
+    assert!(rt; outer.as_str().contains(r##""urn:x#/a/7""##), "{outer}");
     Ok(())
 }

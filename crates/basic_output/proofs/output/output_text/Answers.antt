@@ -1,19 +1,19 @@
-use Rattle.std.proofs.Common.{◌++◌, map, ap, sym, ◌∙◌}
+use Rattle.std.proofs.Common.{◌++◌, map, ap, ◌∙◌, refl, string_bytes, sym}
 use Rattle.definitions.specs.Texts.{text}
-use Rattle.basic_output.specs.Pieces.{array_text, list_key, unit_text, valid_member}
-use Rattle.basic_output.specs.Units.{units_view}
+use Rattle.basic_output.specs.Outputs.{reported_units}
+use Rattle.basic_output.specs.Pieces.{array_text, list_key, valid_member}
 use Rattle.basic_output.proofs.OutputTexts.{outcome_output}
 use Rattle.basic_output.proofs.PieceLaws.{output_pieces}
 use Rattle.basic_output.proofs.output.output_text.Goals as goal
 
 pub returns-clause-text : goal.returns-clause-text
-returns-clause-text c =
-    let us = units_view c.args.units.now in
+returns-clause-text c = λ us same.
     let valid = c.args.valid in
     c.in_ok-write_output.ensures
-    ∙ ap (λ b. b ++ (list_key valid ++ (array_text (map (unit_text valid) us) ++ valid_member valid))) c.in_ok-out.ensures.bytes
+    ∙ ap (λ b. b ++ (list_key valid ++ (array_text (map string_bytes c.as_slice-texts.result.now) ++ valid_member valid))) c.in_ok-out.ensures.bytes
+    ∙ ap (λ ts. list_key valid ++ (array_text ts ++ valid_member valid)) (ap (map string_bytes) c.as_slice-texts.ensures.value ∙ same)
     ∙ sym (output_pieces valid us)
 
 pub returns-clause-answer : goal.returns-clause-answer
-returns-clause-answer c o judged same =
-    returns-clause-text c ∙ ap text (outcome_output o c.args.valid (units_view c.args.units.now) judged same)
+returns-clause-answer c = λ o judged same.
+    returns-clause-text c (reported_units o) same ∙ ap text (outcome_output o c.args.valid (reported_units o) judged refl)

@@ -7,7 +7,7 @@ use Rattle.evaluation_context.specs.Frames.{context_view, frame_standing}
 use Rattle.evaluation_context.specs.Standings.{standing_of}
 use Rattle.evaluator.specs.Annotations.{annotations_among}
 use Rattle.evaluator.specs.Logs.{log_view}
-use Rattle.evaluator.specs.Notes.{no_notes, notes_of_both}
+use Rattle.evaluator.specs.Notes.{annotation_texts, no_notes, notes_of_both}
 use Rattle.evaluator.proofs.annotating.note_among.Given as goal
 
 -- what was noted, and what the members that are left add
@@ -16,6 +16,6 @@ invariant-loop-name l =
     record {
       back : context_view l.context ≡ context_view l.initial.context;
       noted : (a : Application) → frame_standing (context_view l.initial.context) ≡ standing_of a → a.schema.value ≡ value l.schema → a.instance ≡ subject_value l.subject
-          → notes_of_both (log_view l.log) (record no_notes { annotations = annotations_among a (members_left l.name-iterator) })
-          ≡ notes_of_both (log_view l.initial.log) (record no_notes { annotations = annotations_among a (members_left l.fn.members) });
+          → notes_of_both (log_view l.log) (record no_notes { annotations = annotation_texts (annotations_among a (members_left l.name-iterator)) })
+          ≡ notes_of_both (log_view l.initial.log) (record no_notes { annotations = annotation_texts (annotations_among a (members_left l.fn.members)) });
     }

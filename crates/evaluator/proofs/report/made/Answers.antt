@@ -1,5 +1,5 @@
 use Rattle.std.proofs.Common.{◌∙◌, sym, ap}
-use Rattle.basic_output.specs.Units.{units_view}
+use Rattle.basic_output.specs.Units.{unit_texts}
 use Rattle.evaluator.proofs.ReportLaws.{logged_annotations, logged_errors}
 use Rattle.evaluator.proofs.report.made.Goals.{then-valid, else-valid}
 use Rattle.evaluator.proofs.report.made.Goals as goal
@@ -8,6 +8,6 @@ pub returns-clause-text : goal.returns-clause-text
 returns-clause-text c o v n =
     sym (c.in_ok-text.ensures.answer o (sym v)
     (elim c.if-valid.branch [
-      | then-valid w ↦ logged_annotations c.args.log.now o n (sym v ∙ w.if-valid.true) ∙ ap (λ u. units_view u.now) (sym w.units-is)
-      | else-valid w ↦ logged_errors c.args.log.now o n (sym v ∙ w.if-valid.false) ∙ ap (λ u. units_view u.now) (sym w.units-is)
+      | then-valid w ↦ ap (λ u. unit_texts u.now) w.units-is ∙ logged_annotations c.args.log.now o c.args.valid n (sym v ∙ w.if-valid.true) w.if-valid.true
+      | else-valid w ↦ ap (λ u. unit_texts u.now) w.units-is ∙ logged_errors c.args.log.now o c.args.valid n (sym v ∙ w.if-valid.false) w.if-valid.false
     ]))

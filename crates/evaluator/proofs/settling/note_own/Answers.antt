@@ -11,7 +11,7 @@ use Rattle.evaluator.proofs.settling.note_own.Goals as goal
 
 pub returns-in_ok-names-in-PatternProperties-clause-noted : goal.returns-in_ok-names-in-PatternProperties-clause-noted
 unfolding log_view notes_of_both
-returns-in_ok-names-in-PatternProperties-clause-noted c l left a names indexes v older more inst count there m e own_names own_indexes =
+returns-in_ok-names-in-PatternProperties-clause-noted c l left a names indexes v older more inst count under m e own_names own_indexes =
     let log = c.args.log.now in
     let u = use_there l left a c.args.keyword names indexes v in
     let later = c.evaluated_since-evaluated.ensures.names ∙ ap (λ (b : Before). drop b.names (map (λ n. n.now) c.deref.result.now)) c.before-2.ensures
@@ -20,14 +20,14 @@ returns-in_ok-names-in-PatternProperties-clause-noted c l left a names indexes v
     let later_indexes = c.evaluated_since-evaluated.ensures.indexes ∙ ap (λ (b : Before). drop b.indexes c.deref-2.result.now) c.before-2.ensures
     ∙ ap (λ is. drop c.args.mark.now.indexes is) c.deref-2.ensures.value
     ∙ rest_list c.args.mark.now.indexes older.indexes more.indexes (log_view log).indexes (ap (λ (k : Lengths). k.indexes) m) (indexes_of (log_view log) older more e) ∙ own_indexes in
-    let told = c.insert_own.ensures.noted l left a names indexes v older.annotations more.annotations inst count there (ap (λ (k : Lengths). k.annotations) m) (annotations_of (log_view log) older more e)
+    let told = c.insert_own.ensures.noted l left a names indexes v older.annotations more.annotations inst count under (ap (λ (k : Lengths). k.annotations) m) (annotations_of (log_view log) older more e)
     (ap (map (λ n. n.now)) c.deref-in-PatternProperties.ensures.value ∙ c.in_ok-names-in-PatternProperties.ensures ∙ ap once later ∙ names_of_patterns c.args.keyword u.names c.in-PatternProperties.is) later_indexes in
     on_ok_weaker c.insert_own.result
     (λ inserted. same_notes (errors_of (log_view log) older more e) inserted (names_of (log_view log) older more e) (indexes_of (log_view log) older more e)) told
 
 pub returns-in_default-clause-noted : goal.returns-in_default-clause-noted
 unfolding log_view notes_of_both
-returns-in_default-clause-noted c l left a names indexes v older more inst count there m e own_names own_indexes =
+returns-in_default-clause-noted c l left a names indexes v older more inst count under m e own_names own_indexes =
     let log = c.args.log.now in
     let u = use_there l left a c.args.keyword names indexes v in
     let later = c.evaluated_since-evaluated.ensures.names ∙ ap (λ (b : Before). drop b.names (map (λ n. n.now) c.deref.result.now)) c.before-2.ensures
@@ -36,7 +36,7 @@ returns-in_default-clause-noted c l left a names indexes v older more inst count
     let later_indexes = c.evaluated_since-evaluated.ensures.indexes ∙ ap (λ (b : Before). drop b.indexes c.deref-2.result.now) c.before-2.ensures
     ∙ ap (λ is. drop c.args.mark.now.indexes is) c.deref-2.ensures.value
     ∙ rest_list c.args.mark.now.indexes older.indexes more.indexes (log_view log).indexes (ap (λ (k : Lengths). k.indexes) m) (indexes_of (log_view log) older more e) ∙ own_indexes in
-    let told = c.insert_own-in_default.ensures.noted l left a names indexes v older.annotations more.annotations inst count there (ap (λ (k : Lengths). k.annotations) m) (annotations_of (log_view log) older more e)
+    let told = c.insert_own-in_default.ensures.noted l left a names indexes v older.annotations more.annotations inst count under (ap (λ (k : Lengths). k.annotations) m) (annotations_of (log_view log) older more e)
     (later ∙ names_of_others c.args.keyword u.names c.in_default.not-PatternProperties) later_indexes in
     on_ok_weaker c.insert_own-in_default.result
     (λ inserted. same_notes (errors_of (log_view log) older more e) inserted (names_of (log_view log) older more e) (indexes_of (log_view log) older more e)) told

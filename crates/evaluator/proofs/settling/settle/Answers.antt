@@ -1,35 +1,40 @@
-use Rattle.std.proofs.Common.{◌≡◌, [], ◌∷◌, ◌∙◌, ◌++◌, ap, sym, subst, OnOk}
+use Rattle.std.proofs.Common.{◌≡◌, [], ◌∷◌, ◌∙◌, ◌++◌, false, ap, sym, subst, OnOk}
 use Rattle.std.specs.Prelude.{codes}
 use Rattle.definitions.specs.Values.{string}
 use Rattle.definitions.specs.Applied.{OutputUnit}
 use Rattle.definitions.specs.Outcomes.{unit}
+use Rattle.basic_output.specs.Pieces.{unit_text}
+use Rattle.basic_output.specs.Sayings.{says_value}
 use Rattle.basic_output.specs.declared.says.Says.TheVariants.{NotMet}
 use Rattle.keywords.specs.Rows.{row_of}
+use Rattle.evaluation_context.specs.Frames.{context_view}
 use Rattle.evaluator.specs.Logs.{log_view}
 use Rattle.evaluator.specs.Notes.{Notes, notes_of_both, parts_notes, visible_notes}
 use Rattle.evaluator.specs.Rounds.{use_there}
-use Rattle.evaluator.proofs.SettlingLaws.{failing_settled, indexes_settled, names_settled, passing_settled}
+use Rattle.evaluator.proofs.SettlingLaws.{failing_settled, indexes_settled, names_settled, passing_settled, unit_under}
 use Rattle.evaluator.proofs.settling.settle.Goals as goal
 
 -- where it passes
 pub returns-then-passes-clause-noted : goal.returns-then-passes-clause-noted
-returns-then-passes-clause-noted c l left a names indexes v older inst count passes there m e =
+returns-then-passes-clause-noted c l left a names indexes v older inst count passes under m e =
     let k = c.args.keyword in
     let u = use_there l left a k names indexes v in
     let meaning = (row_of k).meaning in
     let seen = visible_notes meaning (parts_notes meaning u.outcomes) in
     subst (λ (n : Notes). OnOk c.note_own.result (log_view c.note_own.new.log ≡ notes_of_both older n)) (passing_settled l left a k names indexes v (sym c.if-passes.true ∙ passes))
-    (c.note_own.ensures.noted l left a names indexes v older (record seen { errors = [] }) inst count there m
+    (c.note_own.ensures.noted l left a names indexes v older (record seen { errors = [] }) inst count under m
     (c.cut_errors.ensures older seen m (c.hide.ensures older (parts_notes meaning u.outcomes) m e)) (names_settled l left a k names indexes v) (indexes_settled l left a k names indexes v))
 
 -- where it fails
 pub returns-in_ok-insert_error-clause-noted : goal.returns-in_ok-insert_error-clause-noted
-returns-in_ok-insert_error-clause-noted c l left a names indexes v older inst count passes there m e =
+returns-in_ok-insert_error-clause-noted c l left a names indexes v older inst count passes under m e =
     let k = c.args.keyword in
     let u = use_there l left a k names indexes v in
     let meaning = (row_of k).meaning in
     let seen = visible_notes meaning (parts_notes meaning u.outcomes) in
     c.in_ok-insert_error.ensures older (record seen { annotations = [] }) m (c.cut_annotations.ensures older seen m (c.hide.ensures older (parts_notes meaning u.outcomes) m e))
-    ∙ ap (λ (unit : OutputUnit). notes_of_both older (record seen { annotations = []; errors = unit ∷ seen.errors }))
-    (there (NotMet c.name.result) ∙ ap (λ n. unit a (row_of k).name (string (n ++ codes " is not met"))) c.name.ensures)
+    ∙ ap (λ (unit : OutputUnit). notes_of_both older (record seen { annotations = []; errors = unit_text false unit ∷ seen.errors }))
+    (c.location.ensures (NotMet c.name.result)
+    ∙ unit_under (context_view c.args.context.now) (context_view c.write_locations.new.self) (row_of k).name a (says_value (NotMet c.name.result)) c.write_locations.ensures under
+    ∙ ap (λ n. unit a (row_of k).name (string (n ++ codes " is not met"))) c.name.ensures)
     ∙ ap (notes_of_both older) (failing_settled l left a k names indexes v (sym c.if-passes.false ∙ passes))

@@ -1,6 +1,4 @@
 use Rattle.std.proofs.Common.{refl, sym, ap, ◌∙◌}
-use Rattle.std.proofs.lemmas.List.{map_push}
-use Rattle.locations.specs.Steps.{token, tokens}
 use Rattle.keyword_plans.specs.Plans.{step_view}
 use Rattle.evaluation_context.specs.Frames.{context_view}
 use Rattle.evaluation_context.specs.Moves.{frame_below}
@@ -11,7 +9,7 @@ pub returns-in_ok-push-in-Some-2 : goal.returns-in_ok-push-in-Some-2
 unfolding context_view frame_below
 returns-in_ok-push-in-Some-2 c =
     let old = c.args.self.now in
-    same_frames (ap tokens c.in_ok-push-in-Some.ensures.items ∙ map_push token old.path.items _) c.in_ok-push-in-Some-2.ensures.outer refl c.in_ok-push-in-Some-2.ensures.last refl refl refl
+    same_frames c.in_ok-push-in-Some.ensures.last c.in_ok-push-in-Some-2.ensures.outer refl c.in_ok-push-in-Some-2.ensures.last refl refl refl
     ∙ ap (λ o. frame_below (step_view o) (context_view old)) (sym c.in-Some.is)
 
 pub returns-in-None : goal.returns-in-None

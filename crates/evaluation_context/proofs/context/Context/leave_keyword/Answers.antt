@@ -1,7 +1,6 @@
 use Rattle.std.proofs.Common.{ap, ◌∙◌}
-use Rattle.locations.specs.Steps.{token}
 use Rattle.evaluation_context.specs.Frames.{Frame, context_view, keyword_frame}
-use Rattle.evaluation_context.proofs.FrameLaws.{same_frames, popped}
+use Rattle.evaluation_context.proofs.FrameLaws.{same_frames}
 use Rattle.evaluation_context.proofs.context.Context.leave_keyword.Goals as goal
 
 pub returns : goal.returns
@@ -9,7 +8,7 @@ unfolding context_view keyword_frame
 returns c = λ older k h.
     let old = c.args.self.now in
     same_frames
-    (popped token old.path.items c.pop.new.self.items c.pop.result _ c.pop.ensures.items c.pop.ensures.variant.1 old.path.ok.0 older.path k (ap (λ (f : Frame). f.path) h))
+    (c.pop.ensures.last older.path k (ap (λ (f : Frame). f.path) h))
     (c.pop-2.ensures.outer ∙ ap (λ (f : Frame). f.outer) h)
     (ap (λ (f : Frame). f.resource) h)
     (c.pop-2.ensures.last older.pointer k (ap (λ (f : Frame). f.pointer) h))

@@ -1,6 +1,4 @@
-use Rattle.std.proofs.Common.{refl, sym, ap, ◌∙◌}
-use Rattle.std.proofs.lemmas.List.{take-map}
-use Rattle.locations.specs.Steps.{token, tokens}
+use Rattle.std.proofs.Common.{refl, sym, ◌∙◌}
 use Rattle.evaluation_context.specs.Frames.{context_view}
 use Rattle.evaluation_context.proofs.FrameLaws.{same_frames, same_locations}
 use Rattle.evaluation_context.proofs.context.Context.leave_planned.Goals as goal
@@ -10,7 +8,7 @@ unfolding context_view
 returns c = λ older h.
     let old = c.args.self.now in
     same_frames
-    (ap tokens c.truncate.ensures.items ∙ sym (take-map token c.args.back.path old.path.items))
+    c.truncate.ensures.last
     c.cut.ensures.outer
     refl
     c.cut.ensures.last

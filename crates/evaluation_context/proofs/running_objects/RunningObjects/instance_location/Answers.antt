@@ -1,8 +1,7 @@
-use Rattle.std.proofs.Common.{ap}
-use Rattle.locations.specs.Steps.{tokens}
+use Rattle.std.proofs.Common.{refl}
 use Rattle.evaluation_context.specs.RunningViews.{instance_pointer}
 use Rattle.evaluation_context.proofs.running_objects.RunningObjects.instance_location.Goals as goal
 
 pub returns : goal.returns
 unfolding instance_pointer
-returns c = ap tokens c.deref.ensures.value
+returns c = refl

@@ -1,9 +1,7 @@
 use Rattle.std.proofs.Common.{◌∙◌, ap}
-use Rattle.basic_output.specs.Sayings.{says_value}
 use Rattle.json_doc.specs.Docs.{value}
 use Rattle.keywords.specs.Rows.{row_of}
 use Rattle.evaluation_context.specs.Frames.{context_view, frame_standing}
-use Rattle.evaluation_context.specs.Standings.{Standing, unit_there}
 use Rattle.evaluator.specs.Logs.{log_view}
 use Rattle.evaluator.specs.Rounds.{use_there}
 use Rattle.evaluator.proofs.SettlingLaws.{use_found}
@@ -13,10 +11,7 @@ pub returns-clause-noted : goal.returns-clause-noted
 returns-clause-noted c a left names indexes older at number passing m e =
     c.in_ok-settle.ensures.noted c.args.self.now.linked.now left a names indexes (value c.args.keyword_value.now) older at.instance number
     (c.in_ok-passes.ensures.passes a left names indexes at number passing)
-    (λ says.
-    c.location.ensures says ∙ ap (λ here. unit_there (frame_standing (context_view here)) (says_value says)) c.in_ok-passes.ensures.back
-    ∙ ap (λ (s : Standing). unit_there s (says_value says)) at.under)
-    m (ap log_view c.in_ok-passes.ensures.noted ∙ e)
+    (ap (λ here. frame_standing (context_view here)) c.in_ok-passes.ensures.back ∙ at.under) m (ap log_view c.in_ok-passes.ensures.noted ∙ e)
 
 pub returns-clause-found : goal.returns-clause-found
 returns-clause-found c a left budget names indexes at finds =
@@ -24,4 +19,4 @@ returns-clause-found c a left budget names indexes at finds =
     c.in_ok-passes.passes finds (c.in_ok-passes.ensures.passes a left names indexes at finds.number finds.passing) c.under.ensures
 
 pub returns-clause-back : goal.returns-clause-back
-returns-clause-back c older e = c.leave_keyword.ensures older (row_of c.args.keyword).name (ap context_view c.in_ok-passes.ensures.back ∙ e)
+returns-clause-back c older e = c.leave_keyword.ensures older (row_of c.args.keyword).name (c.in_ok-settle.ensures.back ∙ ap context_view c.in_ok-passes.ensures.back ∙ e)

@@ -1,7 +1,11 @@
-use Rattle.std.proofs.Common.{[], ◌∷◌, ◌∙◌, ap, sym}
+use Rattle.std.proofs.Common.{[], ◌∷◌, ◌∙◌, false, ap, sym}
 use Rattle.definitions.specs.Applied.{OutputUnit}
 use Rattle.definitions.specs.Outcomes.{false_unit}
 use Rattle.basic_output.specs.declared.says.Says.TheVariants.{NotAllowed}
+use Rattle.basic_output.specs.Pieces.{unit_text}
+use Rattle.basic_output.specs.Sayings.{says_value}
+use Rattle.evaluation_context.specs.Frames.{frame_standing}
+use Rattle.evaluation_context.specs.Standings.{unit_there}
 use Rattle.evaluator.specs.Logs.{log_view}
 use Rattle.evaluator.specs.Notes.{no_notes, notes_of_both}
 use Rattle.evaluator.proofs.LogLaws.{added_nothing}
@@ -14,4 +18,5 @@ pub returns-clause-noted : goal.returns-clause-noted
 returns-clause-noted c a s x e =
     rw c.if-allowed.false
     (c.in_ok-push_error.ensures
-    ∙ ap (λ (u : OutputUnit). notes_of_both (log_view c.args.self.now.log) (record no_notes { errors = u ∷ [] })) (c.location.ensures NotAllowed ∙ sym (ap false_unit e)))
+    ∙ ap (λ (u : OutputUnit). notes_of_both (log_view c.args.self.now.log) (record no_notes { errors = unit_text false u ∷ [] }))
+    (c.location.ensures NotAllowed ∙ ap (λ f. unit_there (frame_standing f) (says_value NotAllowed)) c.write_locations.ensures ∙ sym (ap false_unit e)))

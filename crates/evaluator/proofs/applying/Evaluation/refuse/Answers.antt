@@ -1,9 +1,12 @@
-use Rattle.std.proofs.Common.{[], ◌∷◌, ◌++◌, ◌∙◌, ap, codes}
+use Rattle.std.proofs.Common.{[], ◌∷◌, ◌++◌, ◌∙◌, false, ap, codes}
 use Rattle.definitions.specs.Values.{string}
 use Rattle.definitions.specs.Applied.{OutputUnit}
 use Rattle.definitions.specs.Outcomes.{unit}
+use Rattle.basic_output.specs.Pieces.{unit_text}
+use Rattle.basic_output.specs.Sayings.{says_value}
 use Rattle.basic_output.specs.declared.says.Says.TheVariants.{NotMet}
 use Rattle.keywords.specs.Rows.{row_of}
+use Rattle.evaluation_context.specs.Frames.{frame_standing}
 use Rattle.evaluation_context.specs.Standings.{Standing, at_keyword, unit_there}
 use Rattle.evaluator.specs.Logs.{log_view}
 use Rattle.evaluator.specs.Notes.{no_notes, notes_of_both}
@@ -12,8 +15,9 @@ use Rattle.evaluator.proofs.applying.Evaluation.refuse.Goals as goal
 pub returns-clause-noted : goal.returns-clause-noted
 returns-clause-noted c a is =
     c.in_ok-push_error.ensures
-    ∙ ap (λ (u : OutputUnit). notes_of_both (log_view c.args.self.now.log) (record no_notes { errors = u ∷ [] }))
+    ∙ ap (λ (u : OutputUnit). notes_of_both (log_view c.args.self.now.log) (record no_notes { errors = unit_text false u ∷ [] }))
     (c.location.ensures (NotMet c.name-2.result)
+    ∙ ap (λ f. unit_there (frame_standing f) (says_value (NotMet c.name-2.result))) c.write_locations.ensures
     ∙ ap (λ (st : Standing). unit_there st (string (c.name-2.result.now ++ codes " is not met"))) (c.in_ok-enter_keyword.ensures.there ∙ ap (at_keyword c.name.result.now) is)
     ∙ ap (λ n. unit a c.name.result.now (string (n ++ codes " is not met"))) c.name-2.ensures
     ∙ ap (λ n. unit a n (string ((row_of c.args.keyword).name ++ codes " is not met"))) c.name.ensures)

@@ -8,5 +8,5 @@ pub returns : goal.returns
 unfolding log_view notes_of_both
 returns c older more m e =
     same_notes (errors_of _ older more e)
-    (c.cut_back.ensures.units ∙ cut_list c.args.mark.now.annotations older.annotations more.annotations _ (ap (λ (l : Lengths). l.annotations) m) (annotations_of _ older more e) ∙ sym (append-nil _))
+    (c.cut_back.ensures ∙ cut_list c.args.mark.now.annotations older.annotations more.annotations _ (ap (λ (l : Lengths). l.annotations) m) (annotations_of _ older more e) ∙ sym (append-nil _))
     (names_of _ older more e) (indexes_of _ older more e)

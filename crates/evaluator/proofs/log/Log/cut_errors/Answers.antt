@@ -7,5 +7,5 @@ use Rattle.evaluator.proofs.log.Log.cut_errors.Goals as goal
 pub returns : goal.returns
 unfolding log_view notes_of_both
 returns c older more m e =
-    same_notes (c.cut_back.ensures.units ∙ cut_list c.args.mark.now.errors older.errors more.errors _ (ap (λ (l : Lengths). l.errors) m) (errors_of _ older more e) ∙ sym (append-nil _))
+    same_notes (c.cut_back.ensures ∙ cut_list c.args.mark.now.errors older.errors more.errors _ (ap (λ (l : Lengths). l.errors) m) (errors_of _ older more e) ∙ sym (append-nil _))
     (annotations_of _ older more e) (names_of _ older more e) (indexes_of _ older more e)

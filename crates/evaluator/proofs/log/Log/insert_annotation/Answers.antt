@@ -1,5 +1,6 @@
-use Rattle.std.proofs.Common.{◌∙◌, ap}
+use Rattle.std.proofs.Common.{◌∙◌, ap, true}
 use Rattle.std.proofs.lemmas.Result.{on_ok_weaker}
+use Rattle.basic_output.specs.Pieces.{unit_text}
 use Rattle.basic_output.specs.Sayings.{unit_at}
 use Rattle.evaluator.specs.Notes.{Lengths, notes_of_both}
 use Rattle.evaluator.specs.Logs.{log_view}
@@ -11,5 +12,5 @@ unfolding log_view notes_of_both
 returns c older more m e =
     on_ok_weaker c.insert.result (λ new.
     same_notes (errors_of _ older more e)
-    (new ∙ inserted_list c.args.mark.now.annotations older.annotations more.annotations _ (unit_at c.args.location c.args.says) (ap (λ (l : Lengths). l.annotations) m) (annotations_of _ older more e))
+    (new ∙ inserted_list c.args.mark.now.annotations older.annotations more.annotations _ (unit_text true (unit_at c.args.location c.args.says)) (ap (λ (l : Lengths). l.annotations) m) (annotations_of _ older more e))
     (names_of _ older more e) (indexes_of _ older more e)) c.insert.ensures.ok

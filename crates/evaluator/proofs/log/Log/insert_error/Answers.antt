@@ -1,5 +1,6 @@
-use Rattle.std.proofs.Common.{◌∙◌, ap}
+use Rattle.std.proofs.Common.{◌∙◌, ap, false}
 use Rattle.std.proofs.lemmas.Result.{on_ok_weaker}
+use Rattle.basic_output.specs.Pieces.{unit_text}
 use Rattle.basic_output.specs.Sayings.{unit_at}
 use Rattle.evaluator.specs.Notes.{Lengths, notes_of_both}
 use Rattle.evaluator.specs.Logs.{log_view}
@@ -10,5 +11,5 @@ pub returns : goal.returns
 unfolding log_view notes_of_both
 returns c older more m e =
     on_ok_weaker c.insert.result (λ new.
-    same_notes (new ∙ inserted_list c.args.mark.now.errors older.errors more.errors _ (unit_at c.args.location c.args.says) (ap (λ (l : Lengths). l.errors) m) (errors_of _ older more e))
+    same_notes (new ∙ inserted_list c.args.mark.now.errors older.errors more.errors _ (unit_text false (unit_at c.args.location c.args.says)) (ap (λ (l : Lengths). l.errors) m) (errors_of _ older more e))
     (annotations_of _ older more e) (names_of _ older more e) (indexes_of _ older more e)) c.insert.ensures.ok

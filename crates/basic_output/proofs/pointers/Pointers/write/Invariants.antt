@@ -1,0 +1,11 @@
+use Rattle.std.proofs.Common.{◌≡◌, ◌-◌, length}
+use Rattle.basic_output.proofs.pointers.Pointers.write.Given as goal
+
+abbrev pub invariant-loop-self : goal.invariant-loop-self
+invariant-loop-self l = record {
+  steps : l.self.steps ≡ l.initial.self.steps;
+  start : l.self.start ≡ l.initial.self.start;
+}
+
+abbrev pub decreases-loop-self : goal.decreases-loop-self
+decreases-loop-self l = length l.self.steps.items - length l.self.starts.items

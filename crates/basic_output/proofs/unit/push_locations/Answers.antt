@@ -1,0 +1,23 @@
+use Rattle.std.proofs.Common.{◌++◌, codes, string_bytes}
+use Rattle.std.proofs.lemmas.Result.{on_ok_weaker}
+use Rattle.json.specs.Print.{quoted}
+use Rattle.definitions.specs.Pointers.{pointer_text}
+use Rattle.lemmas.proofs.Appended.{appended}
+use Rattle.basic_output.specs.PointerViews.{last_pointer}
+use Rattle.basic_output.proofs.unit.push_locations.Goals as goal
+
+pub returns : goal.returns
+returns c =
+    let old = string_bytes c.args.out.now in
+    let first = string_bytes c.push_str.new.self in
+    let second = string_bytes c.push_quoted.new.out in
+    let third = string_bytes c.push_str-2.new.self in
+    let key = codes ",\"instanceLocation\":" in
+    let instance_location = quoted (pointer_text (last_pointer c.args.instance_location.now)) in
+    let next = codes ",\"keywordLocation\":" in
+    let path = quoted (pointer_text (last_pointer c.args.path.now)) in
+    on_ok_weaker c.push_quoted-2.result
+    (λ e. appended old first _ key (instance_location ++ (next ++ path)) c.in_ok-push_str.ensures.bytes
+    (appended first second _ instance_location (next ++ path) c.in_ok-push_quoted.ensures
+    (appended second third _ next path c.in_ok-push_str-2.ensures.bytes e)))
+    c.push_quoted-2.ensures

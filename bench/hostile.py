@@ -213,6 +213,10 @@ CASES = [
     Case("2,000 annotations below 56 names of 1,000 bytes", lambda: check(
         {"additionalProperties": {"$ref": "#"}, "items": {"title": "t"}},
         long_names(56, 1000) + compact([0] * 2_000).encode() + b"}" * 56), "200 valid", over="output"),
+    Case("2,000 errors at the same place that no reply has", lambda: check(
+        {"anyOf": [{"$ref": "#/$defs/none"}, True],
+         "$defs": {"none": {"additionalProperties": {"$ref": "#/$defs/none"}, "items": False}}},
+        long_names(56, 1000) + compact([0] * 2_000).encode() + b"}" * 56), "200 valid", over="output"),
     Case("an annotation of 10 KB on 20,000 elements", lambda: check(
         {"items": {"default": "t" * 10_000}}, [0] * 20_000), "200 valid", over="output"),
     Case("an output larger than memory, and then a small one", lambda: check(

@@ -1,9 +1,9 @@
 -- The text of the first steps of the last pointer, as steps come and go behind them.
-use Rattle.std.proofs.Common.{◌≡◌, ◌≤◌, ◌-◌, ◌+◌, ◌<◌, ◌++◌, ◌∷◌, [], ℕ, zero, suc, List, Bool, false, Option, Some, None, true, length, min, take, drop, get_or, refl, subst, sym, ap, ap₂, ◌∙◌, arith, inl, inr}
+use Rattle.std.proofs.Common.{◌≡◌, ◌≤◌, ◌+◌, ◌<◌, ◌++◌, ◌∷◌, [], ℕ, zero, suc, List, Bool, false, Option, Some, None, true, length, take, drop, get_or, refl, string_bytes, subst, sym, ap, ap₂, ◌∙◌, arith, inl, inr}
 use Rattle.std.proofs.Math.Nat.{eq-or-lt_of_le}
 use Rattle.std.proofs.Math.Seq.{get_or-append_seam, take-append_seam, take-suc}
 use Rattle.std.proofs.lemmas.Bool.{and_parts}
-use Rattle.std.proofs.lemmas.List.{drop-append-le, drop-take, drop_min, get_or-take, length-append, length-drop, length-take, map-append, take-append-drop, take-append-le, take-take, take_all}
+use Rattle.std.proofs.lemmas.List.{drop-append-le, drop-take, get_or-take, length-append, length-drop, length-take, map-append, take-append-drop, take-append-le, take-take, take_all}
 use Rattle.std.specs.Prelude.{if◌then◌else◌}
 use Rattle.std.specs.List.{list_all, slice_index}
 use Rattle.std.specs.Option.{option_to_list}
@@ -12,6 +12,7 @@ use Rattle.locations.specs.Steps.{token, tokens}
 use Rattle.locations.specs.declared.step.Step.{Step}
 use Rattle.basic_output.specs.Notations.{front_text, noted_text, text_starts}
 use Rattle.basic_output.specs.declared.notation.Notation.{Notation}
+use Rattle.basic_output.specs.declared.pointers.Pointers.{Pointers}
 use Rattle.basic_output.specs.Notes.{IsNoted}
 use Rattle.basic_output.specs.Pieces.{is_unescaped}
 use Rattle.basic_output.proofs.PlainLaws.{all_of_both, noted_append, noted_led}
@@ -81,13 +82,35 @@ pub record Written (k : Notation) (text : Text) (starts : List ℕ) (xs : List S
   pub at : starts ≡ text_starts k (length starts) xs
   pub front : text ≡ front_text k (length starts) xs
 
+abbrev WrittenOf : Pointers → List Step → Type 0
+WrittenOf p xs = Written p.notation (string_bytes p.text) p.starts.items xs
+
+pub written : (p : Pointers) → WrittenOf p (drop p.start p.steps.items)
+written p = record { within = p.written_within; at = p.are_starts; front = p.is_text }
+
 -- the same beside other steps, of which the first ones are the same
-pub moved : (k : Notation) (text : Text) (starts : List ℕ) (xs ys : List Step) → Written k text starts xs → length starts ≤ length ys → take (length starts) ys ≡ take (length starts) xs → Written k text starts ys
-moved k text starts xs ys w within same = record {
+pub moved : (p : Pointers) (ys : List Step) → length p.starts.items ≤ length ys → take (length p.starts.items) ys ≡ take (length p.starts.items) (drop p.start p.steps.items) → WrittenOf p ys
+moved p ys within same = record {
   within = within;
-  at = w.at ∙ starts_same k (length starts) xs ys (sym same);
-  front = w.front ∙ ap (λ zs. noted_text k (tokens zs)) (sym same);
+  at = p.are_starts ∙ starts_same p.notation (length p.starts.items) (drop p.start p.steps.items) ys (sym same);
+  front = p.is_text ∙ ap (λ zs. noted_text p.notation (tokens zs)) (sym same);
 }
+
+-- where the text of a step starts, behind that of those before it
+pub record StartsAt (p : Pointers) (n start : ℕ) : Type 0 where
+  pub at : start ≡ length (front_text p.notation n (drop p.start p.steps.items))
+  pub rest : Text
+  pub split : string_bytes p.text ≡ front_text p.notation n (drop p.start p.steps.items) ++ 47 ∷ rest
+
+pub starts_at : (p : Pointers) (n start : ℕ) → n < length p.starts.items → start ≡ get_or p.starts.items n start → StartsAt p n start
+starts_at p n start less is =
+    let steps = drop p.start p.steps.items in
+    let split = front_split p.notation n (length p.starts.items) steps less p.written_within in
+    record {
+      at = is ∙ ap (λ ns. get_or ns n start) p.are_starts ∙ start_at p.notation n (length p.starts.items) steps start less;
+      rest = split.0;
+      split = p.is_text ∙ split.1;
+    }
 
 -- ---- steps more
 pub front_more : (n k : ℕ) (xs ys : List Step) → k ≤ length xs → n ≤ length (drop k xs) → take n (drop k (xs ++ ys)) ≡ take n (drop k xs)
@@ -107,39 +130,17 @@ one_less xs ys (Some x) e = omega (arith, ap length e, length-append ys (x ∷ [
 pub front_fewer : (n k j : ℕ) (xs : List Step) → n ≤ j → take n (drop k (take (k + j) xs)) ≡ take n (drop k xs)
 front_fewer n k j xs le = ap (take n) (drop-take k j xs) ∙ take-take n j (drop k xs) le
 
--- cut off behind so many steps
-front_cut : (n k m : ℕ) (xs : List Step) → n + k ≤ m → take n (drop k (take m xs)) ≡ take n (drop k xs)
-front_cut n k m xs le =
-    let split : m ≡ k + (m - k) = omega arith in
-    ap (λ j. take n (drop k (take j xs))) split ∙ front_fewer n k (m - k) xs (omega arith)
-
--- cut off behind m steps, where the last pointer begins at j then, in place of k
-pub front_moved : (n k m j : ℕ) (xs : List Step) → (0 < n → (j ≡ k) × (n + k ≤ m)) → take n (drop (min j (length (take m xs))) (take m xs)) ≡ take n (drop k xs)
-front_moved zero k m j xs same = refl
-front_moved (suc n) k m j xs same =
-    let there = same (omega arith) in
-    ap (take (suc n)) (drop_min j (take m xs)) ∙ ap (λ i. take (suc n) (drop i (take m xs))) there.0 ∙ front_cut (suc n) k m xs there.1
-
-pub moved_within : (n k m j : ℕ) (xs : List Step) → (0 < n → (j ≡ k) × (n + k ≤ m)) → n ≤ length (drop k xs) → n ≤ length (drop (min j (length (take m xs))) (take m xs))
-moved_within zero k m j xs same within = omega arith
-moved_within (suc n) k m j xs same within =
-    let there = same (omega arith) in
-    let len = length-drop (min j (length (take m xs))) (take m xs) in
-    omega (arith, there.0, there.1, within, len, length-take m xs, length-drop k xs)
-
 -- ---- the same as steps come and go
-pub pushed_front : (b : Bool) (k : Notation) (text : Text) (starts : List ℕ) (start : ℕ) (xs new more : List Step) → new ≡ (if b then xs ++ more else xs) → start ≤ length xs
-    → Written k text starts (drop start xs) → Written k text starts (drop start new) × (start ≤ length new)
-pushed_front true k text starts start xs new more is le w =
-    let all : Written k text starts (drop start (xs ++ more)) =
-    moved k text starts (drop start xs) (drop start (xs ++ more)) w (more_within (length starts) start xs more w.within) (front_more (length starts) start xs more le w.within) in
-    (subst (λ ys. Written k text starts (drop start ys)) (sym is) all, omega (arith, le, ap length is, length-append xs more))
-pushed_front false k text starts start xs new more is le w = (subst (λ ys. Written k text starts (drop start ys)) (sym is) w, omega (arith, le, ap length is))
+pub pushed_front : (b : Bool) (p : Pointers) (new more : List Step) → new ≡ (if b then p.steps.items ++ more else p.steps.items) → WrittenOf p (drop p.start new) × (p.start ≤ length new)
+pushed_front true p new more is =
+    let xs = p.steps.items in
+    let n = length p.starts.items in
+    let all = moved p (drop p.start (xs ++ more)) (more_within n p.start xs more p.written_within) (front_more n p.start xs more p.within p.written_within) in
+    (subst (λ ys. WrittenOf p (drop p.start ys)) (sym is) all, omega (arith, p.within, ap length is, length-append xs more))
+pushed_front false p new more is = (subst (λ ys. WrittenOf p (drop p.start ys)) (sym is) (written p), omega (arith, p.within, ap length is))
 
-pub popped_front : (k : Notation) (text : Text) (starts : List ℕ) (start : ℕ) (xs ys : List Step) (o : Option Step) → xs ≡ ys ++ option_to_list o → start ≤ length ys → length starts ≤ length (drop start ys)
-    → Written k text starts (drop start xs) → Written k text starts (drop start ys)
-popped_front k text starts start xs ys o is le within w =
-    moved k text starts (drop start xs) (drop start ys) w within (sym (front_popped (length starts) start xs ys o is le within))
+pub popped_front : (p : Pointers) (ys : List Step) (o : Option Step) → p.steps.items ≡ ys ++ option_to_list o → p.start ≤ length ys → length p.starts.items ≤ length (drop p.start ys) → WrittenOf p (drop p.start ys)
+popped_front p ys o is le within = moved p (drop p.start ys) within (sym (front_popped (length p.starts.items) p.start p.steps.items ys o is le within))
 
 -- one step more was written, or none
 pub noted_front : (b : Bool) (k : Notation) (old new : Text) (starts more : List ℕ) (xs : List Step) (x : Step) → length starts < length xs → x ≡ get_or xs (length starts) x

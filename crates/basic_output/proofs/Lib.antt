@@ -3,4 +3,5 @@ pub mod PieceLaws
 pub mod OutputTexts
 pub mod PointerLaws
 pub mod FrontLaws
+pub mod SpanLaws
 pub mod UnitLaws

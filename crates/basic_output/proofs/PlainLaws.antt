@@ -1,7 +1,6 @@
 -- Texts and tokens of which nothing is escaped.
-use Rattle.std.proofs.Common.{◌≡◌, ◌<◌, ◌≤◌, ◌^◌, ◌/◌, ◌%◌, ◌==◌, ◌&&◌, ◌||◌, ℕ, zero, suc, Bool, true, false, not, cond, List, [], ◌∷◌, ◌++◌, codes, decimal, flat_map, refl, ap, ap₂, ◌∙◌, arith, append_assoc, append-nil, inl, inr}
-use Rattle.std.proofs.Math.Nat.{eq-or-lt_of_le}
-use Rattle.std.proofs.lemmas.Bool.{and_parts, eqb-false, leb-true, le-leb, not-true}
+use Rattle.std.proofs.Common.{◌≡◌, ◌<◌, ◌≤◌, ◌^◌, ◌/◌, ◌%◌, ◌==◌, ◌&&◌, ◌||◌, ℕ, Bool, true, false, not, cond, List, [], ◌∷◌, ◌++◌, codes, decimal, flat_map, refl, ap, ap₂, ◌∙◌, arith, append_assoc, append-nil}
+use Rattle.std.proofs.lemmas.Bool.{agree_below_at, and_parts, eqb-false, leb-true, le-leb, not-true}
 use Rattle.std.proofs.lemmas.Fmt.{decimal_is_IsNumeral}
 use Rattle.std.proofs.lemmas.List.Folds.{list_all-append, list_all-map}
 use Rattle.std.proofs.lemmas.Slice.Eq.{bytes_eq-Decides}
@@ -51,21 +50,9 @@ message t h =
 agrees : ℕ → Bool
 agrees n = cond (is_plain n) (same_text (escaped_byte n) (n ∷ []) && (is_fragment_byte n && is_unescaped n)) true
 
-agree_below : ℕ → Bool
-agree_below zero = true
-agree_below (suc n) = agrees n && agree_below n
-
-all_agree : agree_below 123 ≡ true
-unfolding agrees agree_below
-all_agree = refl
-
-agrees_at : (n x : ℕ) → x < n → agree_below n ≡ true → agrees x ≡ true
-unfolding agree_below
-agrees_at zero x h e = absurd (omega arith)
-agrees_at (suc n) x h e =
-    let p = and_parts (agrees n) (agree_below n) e in
-    let le : x ≤ n = omega arith in
-    elim (eq-or-lt_of_le le) [ inl same ↦ rw same p.0 | inr less ↦ agrees_at n x less p.1 ]
+all_agree : (x : ℕ) → x < 123 → agrees x ≡ true
+unfolding agrees
+all_agree x below = agree_below_at agrees (λ n. true) 123 x refl below
 
 is_small_enough : (x : ℕ) → is_plain x ≡ true → x < 123
 is_small_enough x h = grind (arith, h)
@@ -82,7 +69,7 @@ record Plain (x : ℕ) : Type 0 where
 plain : (x : ℕ) → is_plain x ≡ true → Plain x
 unfolding agrees
 plain x h =
-    let all = chosen (is_plain x) _ (agrees_at 123 x (is_small_enough x h) all_agree) h in
+    let all = chosen (is_plain x) _ (all_agree x (is_small_enough x h)) h in
     let p = and_parts (same_text (escaped_byte x) (x ∷ [])) (is_fragment_byte x && is_unescaped x) all in
     let q = and_parts (is_fragment_byte x) (is_unescaped x) p.1 in
     record { in_pointer = (bytes_eq-Decides (escaped_byte x) (x ∷ [])).0 p.0; in_fragment = q.0; in_string = q.1 }

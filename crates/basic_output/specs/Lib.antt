@@ -1,7 +1,9 @@
 pub mod PointerViews
 pub mod Sayings
+pub mod Spans
 pub mod Units
 pub mod Pieces
 pub mod Outputs
 pub mod Notations
 pub mod Notes
+pub mod Written

@@ -1,9 +1,10 @@
 -- The output's text, piece by piece.
-use Rattle.std.specs.Prelude.{ℕ, List, [], ◌∷◌, ◌++◌, Bool, true, false, not, ◌&&◌, ◌||◌, ◌==◌, nat_le, codes, flat_map}
+use Rattle.std.specs.Prelude.{◌≡◌, ℕ, List, [], ◌∷◌, ◌++◌, Bool, true, false, not, ◌&&◌, ◌||◌, ◌==◌, nat_le, codes, flat_map}
+use Rattle.std.specs.List.{list_all}
 use Rattle.json.specs.Print.{quoted}
 use Rattle.definitions.specs.Answers.{absolute_location}
 use Rattle.definitions.specs.Applied.{OutputUnit}
-use Rattle.definitions.specs.Bytes.{is_capital, is_digit, is_small, slash}
+use Rattle.definitions.specs.Bytes.{is_capital, is_digit, is_small, number_sign, slash}
 use Rattle.definitions.specs.Pointers.{pointer_text}
 use Rattle.definitions.specs.Texts.{text}
 use Rattle.definitions.specs.Values.{Text}
@@ -46,6 +47,13 @@ valid_member true = codes ",\"valid\":true}"
 valid_member false = codes ",\"valid\":false}"
 
 -- ---- a unit's text, and that of all
+-- how the text begins, up to the keyword's pointer, where the resource's URI stands in a string as it is
+abbrev pub unit_head : Text → Text
+unit_head uri = codes "{\"absoluteKeywordLocation\":\"" ++ (uri ++ number_sign ∷ [])
+
+abbrev pub IsHead : Text → Text → Type 0
+IsHead uri t = (t ≡ unit_head uri) × (list_all is_unescaped uri ≡ true)
+
 unfoldable pub unit_text : Bool → OutputUnit → Text
 unit_text valid u =
     codes "{\"absoluteKeywordLocation\":" ++ (quoted (absolute_location u) ++ (kind_key valid ++ (text u.says

@@ -1,37 +1,62 @@
 //! The resource that was written last, which is mostly the next one, too.
 
-ghost use Rattle.std.specs.Prelude.{◌≡◌};
-ghost use Rattle.std.specs.List.{list_all};
-ghost use Rattle.basic_output.specs.Pieces.{is_unescaped};
+ghost use Rattle.std.specs.Prelude.{◌≡◌, ◌++◌, true, string_bytes, IfOk, OnOk};
+ghost use Rattle.basic_output.specs.Pieces.{IsHead, unit_head};
 
 use crate::quoting::are_unescaped;
+use std::alloc::{AllocError, Global};
 
-/// The URI of the resource that was written last, and whether it stands in a string as it is.
-#[derive(Clone, Copy, Drop)]
+/// The head of a unit's text, of the resource that was written last.
+#[derive(Drop)]
 pub(crate) struct KeptResource<'a> {
     uri: &'a str,
-    unescaped: bool,
-    ghost judged: { unescaped ≡ list_all is_unescaped uri.now },
+    head: String,
+    // Whether the head is that of the URI.
+    kept: bool,
+    ghost is_head: { kept ≡ true → IsHead uri.now (string_bytes head) },
 }
 
 impl<'a> KeptResource<'a> {
-    pub(crate) fn new() -> KeptResource<'a> {
+    /// None yet. This takes no memory; the head takes it from `alloc`.
+    pub(crate) fn new(alloc: Global) -> KeptResource<'a> {
         KeptResource {
             uri: "",
-            unescaped: true,
+            head: String::new(alloc),
+            kept: false,
         }
     }
 
-    /// Turns to this URI: whether it stands in a string as it is. The same one is not looked at anew.
-    pub(crate) fn is_unescaped(&mut self, uri: &'a str) -> bool
-        ensures { result ≡ list_all is_unescaped uri.now }
+    /// Turns to this URI, if it stands in a string as it is: whether it does. The head of the same one is not written anew.
+    /// The only error is want of memory.
+    pub(crate) fn keep(&mut self, uri: &'a str) -> Result<bool, AllocError>
+        ensures { IfOk result (λ b. b ≡ true → IsHead uri.now (string_bytes self.new.head)) }
     {
-        if uri == self.uri {
-            return self.unescaped;
+        if self.kept && uri == self.uri {
+            return Ok(true);
         }
-        let unescaped = are_unescaped(uri.as_bytes());
+        if !are_unescaped(uri.as_bytes()) {
+            return Ok(false);
+        }
+        self.kept = false;
+        self.head.clear();
+        push_head(&mut self.head, uri)?;
         self.uri = uri;
-        self.unescaped = unescaped;
-        unescaped
+        self.kept = true;
+        Ok(true)
     }
+
+    /// The head that was written last.
+    pub(crate) fn head(&self) -> &str
+        ensures { result.now ≡ string_bytes self.now.head }
+    {
+        self.head.as_str()
+    }
+}
+
+fn push_head(head: &mut String, uri: &str) -> Result<(), AllocError>
+    ensures { OnOk result (string_bytes head.new ≡ string_bytes head.old ++ unit_head uri.now) }
+{
+    head.push_str("{\"absoluteKeywordLocation\":\"")?;
+    head.push_str(uri)?;
+    head.push_str("#")
 }

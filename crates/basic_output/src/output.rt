@@ -1,14 +1,16 @@
 //! The text of the basic output (JSON Schema 2020-12 Core, 12.4.2).
 
 ghost use Rattle.std.specs.Prelude.{◌≡◌, ◌++◌, List, map, IfOk, IfErr, OnOk, string_bytes};
+ghost use Rattle.std.specs.List.{All};
 ghost use Rattle.definitions.specs.Applied.{Outcome, OutputUnit};
 ghost use Rattle.definitions.specs.Answers.{output_text};
 ghost use Rattle.definitions.specs.Texts.{text};
 ghost use Rattle.basic_output.specs.Outputs.{reported_units, units_output};
 ghost use Rattle.basic_output.specs.Pieces.{array_text, later_texts, list_key, unit_text, valid_member};
+ghost use Rattle.basic_output.specs.Spans.{IsSpan, span_text};
 ghost use Rattle.basic_output.specs.Units.{unit_texts};
 
-use crate::units::Units;
+use crate::units::{Span, Units};
 use faults::Fault;
 use std::alloc::{AllocError, Global};
 
@@ -25,27 +27,24 @@ pub fn output_text(alloc: Global, valid: bool, units: &Units<'_>) -> Result<Stri
         → IfOk result (λ s. string_bytes s ≡ output_text o) }
     ensures room { IfErr result (λ f. f ≡ Fault.NoRoom) }
 {
-    let texts = units.texts.as_slice();
-    let mut out = String::with_capacity(alloc, room_for(texts))?;
-    write_output(valid, texts, &mut out)?;
+    let mut out = String::with_capacity(alloc, room_for(units))?;
+    write_output(valid, units, &mut out)?;
     Ok(out)
 }
 
 // How many bytes the output has at most, if an address holds the number.
-fn room_for(texts: &[String]) -> usize {
-    let mut bytes = FRAME;
-    for text in texts {
-        bytes = bytes.saturating_add(text.len()).saturating_add(1);
-    }
-    bytes
+fn room_for(units: &Units<'_>) -> usize {
+    FRAME
+        .saturating_add(units.text().len())
+        .saturating_add(units.spans().len())
 }
 
-fn write_output(valid: bool, texts: &[String], out: &mut String) -> Result<(), AllocError>
+fn write_output(valid: bool, units: &Units<'_>, out: &mut String) -> Result<(), AllocError>
     ensures { OnOk result (string_bytes out.new ≡ string_bytes out.old
-        ++ (list_key valid ++ (array_text (map string_bytes texts.now) ++ valid_member valid))) }
+        ++ (list_key valid ++ (array_text (unit_texts units.now) ++ valid_member valid))) }
 {
     out.push_str(list_key(valid))?;
-    write_texts(texts, out)?;
+    write_texts(units.text(), units.spans(), out)?;
     out.push_str(valid_member(valid))
 }
 
@@ -69,15 +68,17 @@ fn valid_member(valid: bool) -> &'static str
     }
 }
 
-fn write_texts(texts: &[String], out: &mut String) -> Result<(), AllocError>
-    ensures { OnOk result
-        (string_bytes out.new ≡ string_bytes out.old ++ array_text (map string_bytes texts.now)) }
+// The texts that stand there.
+fn write_texts(text: &str, spans: &[Span], out: &mut String) -> Result<(), AllocError>
+    requires { All (IsSpan text.now) spans.now }
+    ensures { OnOk result (string_bytes out.new
+        ≡ string_bytes out.old ++ array_text (map (span_text text.now) spans.now)) }
 {
-    match texts.split_first() {
+    match spans.split_first() {
         Some((first, rest)) => {
             out.push_str("[")?;
-            out.push_str(first.as_str())?;
-            write_later_texts(rest, out)?;
+            out.push_str(first.text_in(text))?;
+            write_later_texts(text, rest, out)?;
             out.push_str("]")
         }
         None => out.push_str("[]"),
@@ -85,13 +86,14 @@ fn write_texts(texts: &[String], out: &mut String) -> Result<(), AllocError>
 }
 
 // Each text behind a comma.
-fn write_later_texts(texts: &[String], out: &mut String) -> Result<(), AllocError>
-    ensures { OnOk result
-        (string_bytes out.new ≡ string_bytes out.old ++ later_texts (map string_bytes texts.now)) }
+fn write_later_texts(text: &str, spans: &[Span], out: &mut String) -> Result<(), AllocError>
+    requires { All (IsSpan text.now) spans.now }
+    ensures { OnOk result (string_bytes out.new
+        ≡ string_bytes out.old ++ later_texts (map (span_text text.now) spans.now)) }
 {
-    for text in texts {
+    for span in spans {
         out.push_str(",")?;
-        out.push_str(text.as_str())?;
+        out.push_str(span.text_in(text))?;
     }
     Ok(())
 }

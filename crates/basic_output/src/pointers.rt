@@ -7,12 +7,8 @@ ghost use Rattle.basic_output.specs.Notations.{front_text, noted_text, text_star
 ghost use Rattle.basic_output.specs.Pieces.{is_unescaped};
 ghost use Rattle.basic_output.specs.Notes.{IsNoted};
 
-use crate::kept_resource::KeptResource;
 use crate::notation::{Notation, is_same};
-use crate::quoting::{
-    are_unescaped, is_plain_step, push_as_it_is, push_plain_location, push_plain_step,
-    push_quoted_location, push_quoted_pointer,
-};
+use crate::quoting::{are_unescaped, is_plain_step, push_plain_step};
 use locations::{Step, push_fragment, push_pointer};
 use std::alloc::{AllocError, Global};
 
@@ -45,12 +41,10 @@ pub struct Pointers<'a> {
 
 impl<'a> Pointers<'a> {
     ghost use Rattle.std.specs.Prelude.{◌+◌, ◌<◌, if◌then◌else◌, is_ok};
-    ghost use Rattle.json.specs.Print.{quoted};
-    ghost use Rattle.definitions.specs.Bytes.{number_sign};
-    ghost use Rattle.definitions.specs.Pointers.{Pointer, fragment_text, pointer_text};
+    ghost use Rattle.definitions.specs.Pointers.{Pointer};
     ghost use Rattle.definitions.specs.Values.{Text};
     ghost use Rattle.locations.specs.Steps.{tokens};
-    ghost use Rattle.basic_output.specs.PointerViews.{last_pointer, outer_pointers};
+    ghost use Rattle.basic_output.specs.PointerViews.{IsWritten, last_pointer, outer_pointers};
 
     /// One pointer, whose text is in this notation. This takes no memory; the text, and steps that come later, take it from
     /// `alloc`.
@@ -145,18 +139,28 @@ impl<'a> Pointers<'a> {
         ensures outer { outer_pointers self.new ≡ outer_pointers self.old ++ last_pointer self.old }
     {
         let end = self.steps.len();
-        self.unwrite(0);
-        self.start = end;
+        self.begin_at(end);
     }
 
-    /// These steps more. The only error is want of memory.
-    pub fn append(&mut self, steps: &[Step<'a>]) -> Result<(), AllocError>
-        ensures last { OnOk result
-            (last_pointer self.new ≡ last_pointer self.old ++ tokens steps.now) }
-        ensures outer { OnOk result (outer_pointers self.new ≡ outer_pointers self.old) }
+    // The last pointer begins there, and nothing of its text is written.
+    fn begin_at(&mut self, start: usize)
+        requires { start ≤ length self.old.steps.items }
+        ensures steps { self.new.steps ≡ self.old.steps }
+        ensures start { self.new.start ≡ start }
+        ensures unwritten { length self.new.starts.items ≡ 0 }
     {
-        self.steps.extend_from_slice(steps)?;
-        Ok(())
+        self.unwrite(0);
+        self.start = start;
+    }
+
+    /// These steps more. The only error is want of memory, and then the pointers stay as they were.
+    pub fn append(&mut self, steps: &[Step<'a>]) -> Result<(), AllocError>
+        ensures last { last_pointer self.new
+            ≡ (if is_ok result then last_pointer self.old ++ tokens steps.now
+            else last_pointer self.old) }
+        ensures outer { outer_pointers self.new ≡ outer_pointers self.old }
+    {
+        self.steps.extend_from_slice(steps)
     }
 
     /// Only so many steps stay, and the last pointer begins there.
@@ -166,19 +170,12 @@ impl<'a> Pointers<'a> {
         ensures outer { outer_pointers self.new
             ≡ take start (take steps (outer_pointers self.old ++ last_pointer self.old)) }
     {
-        self.unwrite(self.shared_len(steps, start));
-        self.steps.truncate(steps);
-        self.start = start.min(self.steps.len());
-    }
-
-    // How many steps of the last pointer stay its first ones, where it begins there and ends behind so many steps.
-    fn shared_len(&self, steps: usize, start: usize) -> usize
-        ensures { 0 < result → (start ≡ self.now.start) × (result + start ≤ steps) }
-    {
-        if start == self.start {
-            steps.saturating_sub(start)
+        if start == self.start && start <= steps {
+            self.truncate(steps - start);
         } else {
-            0
+            let end = steps.min(self.steps.len());
+            self.begin_at(start.min(end));
+            self.steps.truncate(steps);
         }
     }
 
@@ -230,42 +227,18 @@ impl<'a> Pointers<'a> {
         }
     }
 
-    /// Appends the last pointer's text as a string.
-    pub(crate) fn push_quoted(&self, out: &mut String) -> Result<(), AllocError>
-        ensures { OnOk result (string_bytes out.new
-            ≡ string_bytes out.old ++ quoted (pointer_text (last_pointer self.now))) }
-    {
-        if self.is_written(Notation::String) {
-            push_as_it_is(out, self.text.as_str())
-        } else {
-            push_quoted_pointer(out, self.last())
-        }
-    }
-
-    /// Appends the resource's URI, `#` and the last pointer as a fragment, as one string.
-    pub(crate) fn push_quoted_location(
-        &self,
-        out: &mut String,
-        resource: &mut KeptResource<'a>,
-        uri: &'a str,
-    ) -> Result<(), AllocError>
-        ensures { OnOk result (string_bytes out.new
-            ≡ string_bytes out.old
-            ++ quoted (uri.now ++ (number_sign ∷ fragment_text (last_pointer self.now)))) }
-    {
-        if self.is_written(Notation::Fragment) && resource.is_unescaped(uri) {
-            push_plain_location(out, uri, self.text.as_str())
-        } else {
-            push_quoted_location(out, uri, self.last())
-        }
-    }
-
-    // Whether the text is all of the last pointer, in this notation.
-    fn is_written(&self, notation: Notation) -> bool
-        ensures { result ≡ true
-            → (string_bytes self.now.text ≡ noted_text notation (last_pointer self.now)) }
+    /// Whether the text is all of the last pointer, in this notation.
+    pub(crate) fn is_written(&self, notation: Notation) -> bool
+        ensures { result ≡ true → IsWritten notation self.now }
     {
         is_same(self.notation, notation) && self.starts.len() == self.count()
+    }
+
+    /// The text as far as it was written.
+    pub(crate) fn text(&self) -> &str
+        ensures { result.now ≡ string_bytes self.now.text }
+    {
+        self.text.as_str()
     }
 }
 

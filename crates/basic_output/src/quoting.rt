@@ -15,6 +15,17 @@ use std::alloc::AllocError;
 /// How many bytes the text of a location most often has at most.
 const MOST_OFTEN: usize = 128;
 
+// Each plain byte stands at its own place, and a comma at every other place.
+static PLAIN: [u8; 256] = *b"\
+    ,,,,,,,,,,,,,,,,,,,,,,,,,,,,,,,,\
+    ,,,,$,,,,,,,,-.,0123456789,,,,,,\
+    ,ABCDEFGHIJKLMNOPQRSTUVWXYZ,,,,_\
+    ,abcdefghijklmnopqrstuvwxyz,,,,,\
+    ,,,,,,,,,,,,,,,,,,,,,,,,,,,,,,,,\
+    ,,,,,,,,,,,,,,,,,,,,,,,,,,,,,,,,\
+    ,,,,,,,,,,,,,,,,,,,,,,,,,,,,,,,,\
+    ,,,,,,,,,,,,,,,,,,,,,,,,,,,,,,,,";
+
 /// Appends the text as a string.
 pub(crate) fn push_quoted(out: &mut String, text: &str) -> Result<(), AllocError>
     ensures { OnOk result (string_bytes out.new ≡ string_bytes out.old ++ quoted text.now) }
@@ -75,8 +86,8 @@ pub(crate) fn push_decimal(out: &mut String, number: usize) -> Result<(), AllocE
     out.push_str(digits.format(number))
 }
 
-/// Appends the text as a string, as it is.
-pub(crate) fn push_as_it_is(out: &mut String, text: &str) -> Result<(), AllocError>
+// Appends the text as a string, as it is.
+fn push_as_it_is(out: &mut String, text: &str) -> Result<(), AllocError>
     ensures { OnOk result (string_bytes out.new
         ≡ string_bytes out.old ++ 34 ∷ (text.now ++ 34 ∷ [])) }
 {
@@ -120,22 +131,6 @@ fn push_other_message(out: &mut String, keyword: &str) -> Result<(), AllocError>
     message.push_str(keyword)?;
     message.push_str(" is not met")?;
     push_quoted(out, message.as_str())
-}
-
-/// Appends the resource's URI, `#` and the fragment as one string, all as they are.
-pub(crate) fn push_plain_location(
-    out: &mut String,
-    resource: &str,
-    fragment: &str,
-) -> Result<(), AllocError>
-    ensures { OnOk result (string_bytes out.new ≡ string_bytes out.old
-        ++ 34 ∷ (resource.now ++ number_sign ∷ (fragment.now ++ 34 ∷ []))) }
-{
-    out.push_str("\"")?;
-    out.push_str(resource)?;
-    out.push_str("#")?;
-    out.push_str(fragment)?;
-    out.push_str("\"")
 }
 
 // Tokens that stand in a string as they are, but for what a pointer escapes.
@@ -236,14 +231,10 @@ fn are_plain_bytes(bytes: &[u8]) -> bool
     bytes.iter().all(|byte| is_plain(*byte))
 }
 
-// Small letters first: most names are made of them.
 fn is_plain(byte: u8) -> bool
     ensures { result ≡ is_plain byte }
 {
-    byte.is_ascii_lowercase()
-        || byte.is_ascii_uppercase()
-        || byte.is_ascii_digit()
-        || matches!(byte, b'$' | b'-' | b'.' | b'_')
+    PLAIN[byte as usize] != b','
 }
 
 /// Whether the text stands as it is in a string.

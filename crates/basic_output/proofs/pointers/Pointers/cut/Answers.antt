@@ -1,44 +1,36 @@
-use Rattle.std.proofs.Common.{◌≡◌, ◌≤◌, ◌+◌, ◌<◌, length, min, take, drop, string_bytes, sym, ap, ap₂, ◌∙◌, arith}
+use Rattle.std.proofs.Common.{◌≡◌, length, min, take, drop, sym, ap, ap₂, ◌∙◌, arith}
+use Rattle.std.proofs.lemmas.List.{length-take}
 use Rattle.locations.specs.Steps.{tokens}
 use Rattle.basic_output.specs.PointerViews.{last_pointer, outer_pointers}
-use Rattle.basic_output.proofs.FrontLaws.{front_moved, moved, moved_within}
-use Rattle.basic_output.proofs.PointerLaws.{last_cut, outer_cut}
+use Rattle.basic_output.proofs.PointerLaws.{last_cut, last_shorter, outer_cut, outer_same}
 use Rattle.basic_output.proofs.pointers.Pointers.cut.Goals as goal
 
-pub invariant_of-self : goal.invariant_of-self
-invariant_of-self c =
-    let p = c.unwrite.new.self in
-    let xs = p.steps.items in
-    let n = length p.starts.items in
-    let k = p.start in
+pub returns-then-start-steps-clause-last : goal.returns-then-start-steps-clause-last
+returns-then-start-steps-clause-last c =
+    c.truncate.ensures.last ∙ last_shorter c.args.self.now c.args.start c.args.steps (omega (arith, c.if-start-self.true)) (omega (arith, c.if-start-steps.true))
+
+pub returns-then-start-steps-clause-outer : goal.returns-then-start-steps-clause-outer
+returns-then-start-steps-clause-outer c =
+    c.truncate.ensures.outer ∙ outer_same c.args.self.now c.args.start c.args.steps (omega (arith, c.if-start-self.true)) (omega (arith, c.if-start-steps.true))
+
+pub returns-else-start-self-clause-last : goal.returns-else-start-self-clause-last
+unfolding last_pointer outer_pointers
+returns-else-start-self-clause-last c =
+    let old = c.args.self.now in
+    let xs = old.steps.items in
     let m = c.args.steps in
-    let j = c.args.start in
-    let ys = c.truncate.new.self.items in
-    let left = c.truncate.ensures.items in
-    let start : c.min-self.result ≡ min j (length (take m xs)) = c.min-self.ensures ∙ ap (min j) (c.len.ensures ∙ c.truncate.new.self.ok.0 ∙ ap length left) in
-    let same : (0 < n → (j ≡ k) × (n + k ≤ m)) = λ some.
-    let there = c.shared_len.ensures (omega (arith, some, c.unwrite.ensures.fewer)) in
-    (there.0 ∙ sym c.unwrite.ensures.start, omega (arith, there.0, there.1, c.unwrite.ensures.start, c.unwrite.ensures.fewer)) in
-    let front = ap₂ (λ i zs. take n (drop i zs)) start left ∙ front_moved n k m j xs same in
-    let long = ap₂ (λ i zs. length (drop i zs)) start left in
-    let v = moved p.notation (string_bytes p.text) p.starts.items (drop k xs) (drop c.min-self.result ys) (record { within = p.written_within; at = p.are_starts; front = p.is_text })
-    (omega (arith, long, moved_within n k m j xs same p.written_within)) front in
-    record { within = omega (arith, start, ap length left); written_within = v.within; are_starts = v.at; is_text = v.front; unescaped = p.unescaped }
+    let left = c.truncate-else-start-self.ensures.items ∙ ap (λ v. take m v.items) c.begin_at.ensures.steps in
+    let end : c.min-end.result ≡ length (take m xs) = c.min-end.ensures ∙ ap (min m) (c.len.ensures ∙ old.steps.ok.0) ∙ sym (length-take m xs) in
+    let start : c.begin_at.new.self.start ≡ min c.args.start (length (take m xs)) = c.begin_at.ensures.start ∙ c.min.ensures ∙ ap (min c.args.start) end in
+    ap₂ (λ k s. tokens (drop k s)) start left ∙ last_cut old.start m c.args.start xs
 
-pub returns-clause-last : goal.returns-clause-last
+pub returns-else-start-self-clause-outer : goal.returns-else-start-self-clause-outer
 unfolding last_pointer outer_pointers
-returns-clause-last c =
+returns-else-start-self-clause-outer c =
     let old = c.args.self.now in
     let xs = old.steps.items in
-    let left = c.truncate.ensures.items ∙ ap (λ v. take c.args.steps v.items) c.unwrite.ensures.steps in
-    let start : c.min-self.result ≡ min c.args.start (length (take c.args.steps xs)) = c.min-self.ensures ∙ ap (min c.args.start) (c.len.ensures ∙ c.truncate.new.self.ok.0 ∙ ap length left) in
-    ap₂ (λ k s. tokens (drop k s)) start left ∙ last_cut old.start c.args.steps c.args.start xs
-
-pub returns-clause-outer : goal.returns-clause-outer
-unfolding last_pointer outer_pointers
-returns-clause-outer c =
-    let old = c.args.self.now in
-    let xs = old.steps.items in
-    let left = c.truncate.ensures.items ∙ ap (λ v. take c.args.steps v.items) c.unwrite.ensures.steps in
-    let start : c.min-self.result ≡ min c.args.start (length (take c.args.steps xs)) = c.min-self.ensures ∙ ap (min c.args.start) (c.len.ensures ∙ c.truncate.new.self.ok.0 ∙ ap length left) in
-    ap₂ (λ k s. tokens (take k s)) start left ∙ outer_cut old.start c.args.steps c.args.start xs
+    let m = c.args.steps in
+    let left = c.truncate-else-start-self.ensures.items ∙ ap (λ v. take m v.items) c.begin_at.ensures.steps in
+    let end : c.min-end.result ≡ length (take m xs) = c.min-end.ensures ∙ ap (min m) (c.len.ensures ∙ old.steps.ok.0) ∙ sym (length-take m xs) in
+    let start : c.begin_at.new.self.start ≡ min c.args.start (length (take m xs)) = c.begin_at.ensures.start ∙ c.min.ensures ∙ ap (min c.args.start) end in
+    ap₂ (λ k s. tokens (take k s)) start left ∙ outer_cut old.start m c.args.start xs

@@ -1,4 +1,4 @@
-use Rattle.std.proofs.Common.{◌≤◌, ◌<◌, string_bytes, length, take, drop, sym, ap, ◌∙◌, arith}
+use Rattle.std.proofs.Common.{◌≤◌, ◌<◌, length, take, drop, sym, ap, ◌∙◌, arith}
 use Rattle.locations.specs.Steps.{tokens}
 use Rattle.basic_output.specs.PointerViews.{last_pointer, outer_pointers}
 use Rattle.basic_output.proofs.PointerLaws.{last_popped, outer_popped, last_none}
@@ -43,5 +43,5 @@ invariant_of-self c =
     let one = one_less p.steps.items ys c.pop.result c.pop.ensures.items in
     let le : p.start ≤ length ys = omega (arith, c.if-count-gt0.true, count.sum, same, one, c.unwrite.ensures.start) in
     let within : length p.starts.items ≤ length (drop p.start ys) = omega (arith, c.if-count-gt0.true, count.sum, same, one, c.unwrite.ensures.start, c.unwrite.ensures.fewer, length-drop p.start ys) in
-    let v = popped_front p.notation (string_bytes p.text) p.starts.items p.start p.steps.items ys c.pop.result c.pop.ensures.items le within (record { within = p.written_within; at = p.are_starts; front = p.is_text }) in
+    let v = popped_front p ys c.pop.result c.pop.ensures.items le within in
     record { within = le; written_within = within; are_starts = v.at; is_text = v.front; unescaped = p.unescaped }

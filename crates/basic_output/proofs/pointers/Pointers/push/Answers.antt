@@ -1,18 +1,14 @@
-use Rattle.std.proofs.Common.{◌∷◌, [], length, take, drop, is_ok, string_bytes, ap, ◌∙◌}
+use Rattle.std.proofs.Common.{◌∷◌, [], take, drop, is_ok, ap, ◌∙◌}
 use Rattle.locations.specs.Steps.{tokens}
 use Rattle.basic_output.specs.PointerViews.{last_pointer, outer_pointers}
 use Rattle.basic_output.proofs.PointerLaws.{last_more, outer_more}
-use Rattle.basic_output.proofs.FrontLaws.{Written, pushed_front}
+use Rattle.basic_output.proofs.FrontLaws.{pushed_front}
 use Rattle.basic_output.proofs.pointers.Pointers.push.Goals as goal
 
 pub invariant_of-self : goal.invariant_of-self
 invariant_of-self c =
     let old = c.args.self.now in
-    let xs = old.steps.items in
-    let n = length old.starts.items in
-    let start = old.start in
-    let w : Written old.notation (string_bytes old.text) old.starts.items (drop start xs) = record { within = old.written_within; at = old.are_starts; front = old.is_text } in
-    let v = pushed_front (is_ok c.push.result) old.notation (string_bytes old.text) old.starts.items start xs c.push.new.self.items (c.args.step ∷ []) c.push.ensures.items old.within w in
+    let v = pushed_front (is_ok c.push.result) old c.push.new.self.items (c.args.step ∷ []) c.push.ensures.items in
     record { within = v.1; written_within = v.0.within; are_starts = v.0.at; is_text = v.0.front; unescaped = old.unescaped }
 
 pub returns-in-Ok-clause-last : goal.returns-in-Ok-clause-last

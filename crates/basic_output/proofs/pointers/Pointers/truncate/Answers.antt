@@ -1,4 +1,4 @@
-use Rattle.std.proofs.Common.{◌≡◌, ◌≤◌, ◌+◌, length, take, drop, string_bytes, sym, ap, ap₂, ◌∙◌, arith}
+use Rattle.std.proofs.Common.{◌≡◌, ◌≤◌, ◌+◌, length, take, drop, sym, ap, ap₂, ◌∙◌, arith}
 use Rattle.std.proofs.lemmas.List.{drop-take, length-drop, length-map, length-take, take-map, take-take, take_all}
 use Rattle.locations.specs.Steps.{token, tokens}
 use Rattle.basic_output.specs.PointerViews.{last_pointer, outer_pointers}
@@ -16,8 +16,7 @@ invariant_of-self c =
     let counted : k + j ≤ length xs =
     omega (arith, c.if-len-count.true, c.count.ensures.sum, c.unwrite.ensures.start, ap (λ v. length v.items) c.unwrite.ensures.steps) in
     let long : length (drop k c.truncate.new.self.items) ≡ j = ap (λ ys. length (drop k ys)) left ∙ ap length (drop-take k j xs) ∙ length-take j (drop k xs) ∙ omega (arith, counted, length-drop k xs) in
-    let v = moved p.notation (string_bytes p.text) p.starts.items (drop k xs) (drop k c.truncate.new.self.items) (record { within = p.written_within; at = p.are_starts; front = p.is_text })
-    (omega (arith, long, c.unwrite.ensures.fewer)) front in
+    let v = moved p (drop k c.truncate.new.self.items) (omega (arith, long, c.unwrite.ensures.fewer)) front in
     record { within = omega (arith, counted, ap length left, length-take (k + j) xs); written_within = v.within; are_starts = v.at; is_text = v.front; unescaped = p.unescaped }
 
 pub returns-then-len-count-clause-last : goal.returns-then-len-count-clause-last

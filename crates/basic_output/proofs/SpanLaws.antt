@@ -1,0 +1,192 @@
+-- Spans as their text grows, as it is cut, and as one is put among them.
+use Rattle.std.proofs.Common.{◌≡◌, ◌≤◌, ◌<◌, ◌+◌, ◌-◌, ◌++◌, ◌∷◌, [], ℕ, zero, suc, List, true, length, map, nat_le, take, drop, get_or, set, Some, refl, sym, ap, ap₂, ◌∙◌, arith}
+use Rattle.std.proofs.Math.Numerals.{add-one}
+use Rattle.std.proofs.Math.Seq.{drop-append_seam, take-append_seam, take-length}
+use Rattle.std.proofs.lemmas.Bool.{and_parts, le-leb, leb-true}
+use Rattle.std.proofs.lemmas.List.{drop-take, length-append, length-take-le, take-append-le, take-take, take_all}
+use Rattle.std.proofs.lemmas.List.Elements.{All-append, All-cons, All-drop, All-head, All-map, All-nil, All-same, All-tail, All-take, All-weaker}
+use Rattle.std.proofs.lemmas.Option.{slice_get_within}
+use Rattle.std.proofs.lemmas.Str.{IsUtf8-nil, is_utf8-from_IsUtf8}
+use Rattle.std.specs.List.{All, insert, slice_get}
+use Rattle.std.specs.Str.{IsUtf8, is_utf8}
+use Rattle.lemmas.proofs.Lists.{map-insert}
+use Rattle.definitions.specs.Values.{Text}
+use Rattle.basic_output.specs.Spans.{IsSpan, ascends, last_reach, raise_from, raised, span_text}
+use Rattle.basic_output.specs.declared.units.Span.{Span}
+
+front_same : (t u : Text) (h i : ℕ) → take h t ≡ take h u → i ≤ h → take i t ≡ take i u
+front_same t u h i same le = sym (take-take i h t le) ∙ ap (take i) same ∙ take-take i h u le
+
+text_of_front : (t : Text) (s : Span) → s.start ≤ s.end → span_text t s ≡ drop s.start (take s.end t)
+unfolding span_text
+text_of_front t s le =
+    let all : s.start + (s.end - s.start) ≡ s.end = omega (arith, le) in
+    sym (drop-take s.start (s.end - s.start) t) ∙ ap (λ i. drop s.start (take i t)) all
+
+-- ---- how far they reach
+low_le_last : (low : ℕ) (ss : List Span) → ascends low ss ≡ true → low ≤ last_reach low ss
+low_le_last low [] up = omega arith
+low_le_last low (s ∷ ss) up =
+    let q = and_parts (nat_le low s.reach) (ascends s.reach ss) up in
+    omega (arith, leb-true low s.reach q.0, low_le_last s.reach ss q.1)
+
+last_within : (t : Text) (low : ℕ) (ss : List Span) → low ≤ length t → All (IsSpan t) ss → last_reach low ss ≤ length t
+last_within t low [] le are = le
+last_within t low (s ∷ ss) le are = last_within t s.reach ss (All-head (IsSpan t) s ss are).within (All-tail (IsSpan t) s ss are)
+
+last_whole : (t : Text) (low : ℕ) (ss : List Span) → is_utf8 (take low t) ≡ true → All (IsSpan t) ss → is_utf8 (take (last_reach low ss) t) ≡ true
+last_whole t low [] whole are = whole
+last_whole t low (s ∷ ss) whole are = last_whole t s.reach ss (All-head (IsSpan t) s ss are).reach_whole (All-tail (IsSpan t) s ss are)
+
+pub whole_at_last : (t : Text) (ss : List Span) → All (IsSpan t) ss → is_utf8 (take (last_reach 0 ss) t) ≡ true
+whole_at_last t ss are = last_whole t 0 ss (is_utf8-from_IsUtf8 [] IsUtf8-nil) are
+
+pub ascends_take : (n low : ℕ) (ss : List Span) → ascends low ss ≡ true → ascends low (take n ss) ≡ true
+ascends_take zero low ss up = refl
+ascends_take (suc n) low [] up = refl
+ascends_take (suc n) low (s ∷ ss) up =
+    let q = and_parts (nat_le low s.reach) (ascends s.reach ss) up in
+    rw (q.0, ascends_take n s.reach ss q.1) refl
+
+-- ---- in another text that begins alike
+pub record Moved (t u : Text) (ss : List Span) : Type 0 where
+  pub are_spans : All (IsSpan u) ss
+  pub same : map (span_text u) ss ≡ map (span_text t) ss
+
+span_moved : (t u : Text) (h : ℕ) (s : Span) → take h t ≡ take h u → h ≤ length u → s.reach ≤ h → IsSpan t s → IsSpan u s × (span_text u s ≡ span_text t s)
+span_moved t u h s same within le is =
+    let front = λ (i : ℕ) (l : i ≤ h). sym (front_same t u h i same l) in
+    let end : take s.end u ≡ take s.end t = front s.end (omega (arith, le, is.reached)) in (
+      record {
+        ordered = is.ordered;
+        reached = is.reached;
+        within = omega (arith, le, within);
+        start_whole = ap is_utf8 (front s.start (omega (arith, le, is.reached, is.ordered))) ∙ is.start_whole;
+        end_whole = ap is_utf8 end ∙ is.end_whole;
+        reach_whole = ap is_utf8 (front s.reach le) ∙ is.reach_whole;
+      },
+      text_of_front u s is.ordered ∙ ap (drop s.start) end ∙ sym (text_of_front t s is.ordered),
+    )
+
+moved : (t u : Text) (h low : ℕ) (ss : List Span) → take h t ≡ take h u → h ≤ length u → last_reach low ss ≤ h → ascends low ss ≡ true → All (IsSpan t) ss → Moved t u ss
+moved t u h low [] same within last up are = record { are_spans = All-nil (IsSpan u); same = refl }
+moved t u h low (s ∷ ss) same within last up are =
+    let q = and_parts (nat_le low s.reach) (ascends s.reach ss) up in
+    let le : s.reach ≤ h = omega (arith, last, low_le_last s.reach ss q.1) in
+    let one = span_moved t u h s same within le (All-head (IsSpan t) s ss are) in
+    let rest = moved t u h s.reach ss same within last q.1 (All-tail (IsSpan t) s ss are) in
+    record { are_spans = All-cons (IsSpan u) s ss one.0 rest.are_spans; same = ap₂ (λ x xs. x ∷ xs) one.1 rest.same }
+
+pub grown : (t more u : Text) (ss : List Span) → u ≡ t ++ more → ascends 0 ss ≡ true → All (IsSpan t) ss → Moved t u ss
+grown t more u ss is up are =
+    moved t u (length t) 0 ss (take-length t ∙ sym (ap (take (length t)) is ∙ take-append_seam t more)) (omega (arith, ap length is, length-append t more)) (last_within t 0 ss (omega arith) are) up are
+
+pub cut : (t : Text) (ss : List Span) → ascends 0 ss ≡ true → All (IsSpan t) ss → Moved t (take (last_reach 0 ss) t) ss
+cut t ss up are =
+    let h = last_reach 0 ss in
+    let within : length (take h t) ≡ h = length-take-le h t (last_within t 0 ss (omega arith) are) in
+    moved t (take h t) h 0 ss (sym (take-take h h t (omega arith))) (omega (arith, within)) (omega arith) up are
+
+-- ---- one more, and those behind it raised
+new_span : (t more u : Text) (s : Span) → u ≡ t ++ more → IsUtf8 t → IsUtf8 u → s.start ≡ length t → s.end ≡ length u → s.reach ≡ length u
+    → IsSpan u s × (span_text u s ≡ more)
+new_span t more u s is whole both start end reach =
+    let ordered : s.start ≤ s.end = omega (arith, start, end, ap length is, length-append t more) in
+    let up_to = λ (i : ℕ) (e : i ≡ length u). ap (λ j. is_utf8 (take j u)) e ∙ ap is_utf8 (take-length u) ∙ is_utf8-from_IsUtf8 u both in (
+      record {
+        ordered = ordered;
+        reached = omega (arith, end, reach);
+        within = omega (arith, reach);
+        start_whole = ap₂ (λ i b. is_utf8 (take i b)) start is ∙ ap is_utf8 (take-append_seam t more) ∙ is_utf8-from_IsUtf8 t whole;
+        end_whole = up_to s.end end;
+        reach_whole = up_to s.reach reach;
+      },
+      text_of_front u s ordered ∙ ap₂ (λ i j. drop i (take j u)) start end ∙ ap (drop (length t)) (take-length u ∙ is) ∙ drop-append_seam t more,
+    )
+
+ascends_raised : (reach low : ℕ) (ss : List Span) → low ≤ reach → ascends low (map (raised reach) ss) ≡ true
+ascends_raised reach low [] le = refl
+ascends_raised reach low (s ∷ ss) le = rw (le-leb low reach le, ascends_raised reach reach ss (omega arith)) refl
+
+ascends_inserted : (reach low p : ℕ) (ss : List Span) (s : Span) → p ≤ length ss → last_reach low ss ≤ reach → ascends low ss ≡ true → ascends low (raise_from p reach (insert ss p s)) ≡ true
+ascends_inserted reach low zero ss s le last up = ascends_raised reach low (s ∷ ss) (omega (arith, last, low_le_last low ss up))
+ascends_inserted reach low (suc p) [] s le last up = absurd (omega arith)
+ascends_inserted reach low (suc p) (x ∷ ss) s le last up =
+    let q = and_parts (nat_le low x.reach) (ascends x.reach ss) up in
+    rw (q.0, ascends_inserted reach x.reach p ss s (omega arith) last q.1) refl
+
+raised_texts : (t : Text) (p reach : ℕ) (ss : List Span) → map (span_text t) (raise_from p reach ss) ≡ map (span_text t) ss
+unfolding span_text
+raised_texts t zero reach [] = refl
+raised_texts t zero reach (s ∷ ss) = ap (λ xs. span_text t s ∷ xs) (raised_texts t zero reach ss)
+raised_texts t (suc p) reach [] = refl
+raised_texts t (suc p) reach (s ∷ ss) = ap (λ xs. span_text t s ∷ xs) (raised_texts t p reach ss)
+
+raised_spans : (t : Text) (p reach : ℕ) (ss : List Span) → reach ≡ length t → is_utf8 (take reach t) ≡ true → All (IsSpan t) ss → All (IsSpan t) (raise_from p reach ss)
+raised_spans t zero reach ss all whole are =
+    let one : (s : Span) → IsSpan t s → IsSpan t (raised reach s) = λ s is. record {
+      ordered = is.ordered;
+      reached = omega (arith, all, is.reached, is.within);
+      within = omega (arith, all);
+      start_whole = is.start_whole;
+      end_whole = is.end_whole;
+      reach_whole = whole;
+    } in
+    All-map (IsSpan t) (raised reach) ss (All-weaker (IsSpan t) (λ s. IsSpan t (raised reach s)) one ss are)
+raised_spans t (suc p) reach [] all whole are = All-nil (IsSpan t)
+raised_spans t (suc p) reach (s ∷ ss) all whole are =
+    All-cons (IsSpan t) s (raise_from p reach ss) (All-head (IsSpan t) s ss are) (raised_spans t p reach ss all whole (All-tail (IsSpan t) s ss are))
+
+inserted_spans : (t : Text) (p : ℕ) (ss : List Span) (s : Span) → s.reach ≡ length t → IsSpan t s → All (IsSpan t) ss → All (IsSpan t) (raise_from p s.reach (insert ss p s))
+inserted_spans t p ss s all is are =
+    raised_spans t p s.reach (insert ss p s) all is.reach_whole
+    (All-append (IsSpan t) (take p ss) (s ∷ drop p ss) (All-take (IsSpan t) p ss are) (All-cons (IsSpan t) s (drop p ss) is (All-drop (IsSpan t) p ss are)))
+
+-- the text and the spans that are left, where there were others before
+pub record Kept (t more : Text) (ss : List Span) (p : ℕ) (u : Text) (xs : List Span) : Type 0 where
+  pub are_spans : All (IsSpan u) xs
+  pub ascend : ascends 0 xs ≡ true
+  pub texts : map (span_text u) xs ≡ insert (map (span_text t) ss) p more
+
+pub kept : (t more : Text) (ss : List Span) (p : ℕ) (u : Text) (xs : List Span) (s : Span) → u ≡ t ++ more → xs ≡ raise_from p s.reach (insert ss p s)
+    → IsUtf8 t → IsUtf8 u → s.start ≡ length t → s.end ≡ length u → s.reach ≡ length u → p ≤ length ss → ascends 0 ss ≡ true → All (IsSpan t) ss
+    → Kept t more ss p u xs
+kept t more ss p u xs s text spans whole both start end reach within up are =
+    let new = new_span t more u s text whole both start end reach in
+    let old = grown t more u ss text up are in
+    let last = last_within t 0 ss (omega arith) are in
+    record {
+      are_spans = All-same (IsSpan u) xs (raise_from p s.reach (insert ss p s)) spans (inserted_spans u p ss s reach new.0 old.are_spans);
+      ascend = ap (ascends 0) spans ∙ ascends_inserted s.reach 0 p ss s within (omega (arith, reach, last, ap length text, length-append t more)) up;
+      texts = ap (map (span_text u)) spans ∙ raised_texts u p s.reach (insert ss p s) ∙ map-insert (span_text u) ss p s ∙ ap₂ (λ ys x. insert ys p x) old.same new.1;
+    }
+
+-- ---- the loop that raises them
+pub raise_past : (p reach : ℕ) (ss : List Span) → length ss ≤ p → raise_from p reach ss ≡ ss
+raise_past zero reach [] le = refl
+raise_past zero reach (s ∷ ss) le = absurd (omega arith)
+raise_past (suc p) reach [] le = refl
+raise_past (suc p) reach (s ∷ ss) le = ap (λ xs. s ∷ xs) (raise_past p reach ss (omega arith))
+
+raise_suc : (p reach : ℕ) (ss : List Span) (d : Span) → p < length ss → raise_from (suc p) reach (set ss p (raised reach (get_or ss p d))) ≡ raise_from p reach ss
+raise_suc p reach [] d less = absurd (omega arith)
+raise_suc zero reach (s ∷ ss) d less = refl
+raise_suc (suc p) reach (s ∷ ss) d less = ap (λ xs. s ∷ xs) (raise_suc p reach ss d (omega arith))
+
+pub raise_next : (p reach : ℕ) (ss : List Span) (d : Span) → p < length ss → raise_from (p + 1) reach (set ss p (raised reach (get_or ss p d))) ≡ raise_from p reach ss
+raise_next p reach ss d less = rw add-one (raise_suc p reach ss d less)
+
+-- what was raised in a vector's place
+pub all_written : (n : ℕ) (xs ys : List Span) → n ≡ length xs → length ys ≡ length xs → take n (ys ++ drop (length ys) xs) ≡ ys
+all_written n xs ys len same = take-append-le n ys (drop (length ys) xs) (omega (arith, len, same)) ∙ take_all n ys (omega (arith, len, same))
+
+-- ---- the last one
+last_at : (low n : ℕ) (ss : List Span) (s : Span) → length ss ≡ suc n → slice_get ss n ≡ Some s → s.reach ≡ last_reach low ss
+last_at low n [] s len is = absurd (omega arith)
+last_at low zero (x ∷ []) s len is = cc
+last_at low (suc n) (x ∷ []) s len is = absurd (omega arith)
+last_at low zero (x ∷ y ∷ ss) s len is = absurd (omega arith)
+last_at low (suc n) (x ∷ y ∷ ss) s len is = last_at x.reach n (y ∷ ss) s (omega arith) is
+
+pub last_is : (low : ℕ) (ss : List Span) (s : Span) → slice_get ss (length ss - 1) ≡ Some s → s.reach ≡ last_reach low ss
+last_is low ss s is = last_at low (length ss - 1) ss s (omega (arith, slice_get_within ss (length ss - 1) s is)) is

@@ -2,7 +2,9 @@ pub mod Listed
 pub mod Consequences
 pub mod Matching
 pub mod Growing
+pub mod Merging
 pub mod SharedNames
+pub mod Unnamed
 pub mod Patterns
 pub mod Taken
 pub mod Seen

@@ -56,6 +56,15 @@ planned_pattern k a ps ms = flat_map (λ m. planned_matches k a m.0 m.1 ps) ms
 abbrev pub planned_others : Linked → Text → Application → Value → List (Text × Value) → List (Part × Application)
 planned_others l k a v ms = at_members a k v (filter (λ m. not (is_taken (linked_rules l) a m.0)) ms)
 
+-- the schema v, at the member m, where no schema has its name
+abbrev pub at_unnamed : Application → Text → Value → Text × Value → Option Value → List (Part × Application)
+at_unnamed a k v m None = at_part a (k ∷ []) v (named m.0) m.1 ∷ []
+at_unnamed a k v m (Some s) = []
+
+-- the schema v, at each of these members whose name isn't among the schemas ss
+abbrev pub planned_unnamed : Text → Application → Value → List (Text × Value) → List (Text × Value) → List (Part × Application)
+planned_unnamed k a v ss ms = flat_map (λ m. at_unnamed a k v m (entry m.0 ss)) ms
+
 -- the schema v, at each of these names
 abbrev pub planned_names : Text → Application → Value → List (Text × Value) → List (Part × Application)
 planned_names k a v ms = map (λ m. at_part a (k ∷ []) v (name_of m.0) (string m.0)) ms

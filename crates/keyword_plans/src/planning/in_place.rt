@@ -24,7 +24,7 @@ pub(crate) fn plan_own<'a>(
         → IfOk result (λ ps. map (planned_view k a) ps.items
         ≡ in_place a (k ∷ []) (value schema.now) ∷ []) }
 {
-    let mut planned = Vec::new(alloc);
+    let mut planned = Vec::with_capacity(alloc, 1)?;
     planned.push(Planned {
         chosen: Chosen::Below(None, schema),
         part: Part::Whole,
@@ -58,7 +58,7 @@ fn plan_elements<'a>(
         → IfOk result (λ ps. map (planned_view k a) ps.items
         ≡ planned_elements k a 0 (map value schemas.now)) }
 {
-    let mut planned = Vec::new(alloc);
+    let mut planned = Vec::with_capacity(alloc, schemas.len())?;
     for (index, schema) in schemas.iter().enumerate() {
         planned.push(Planned {
             chosen: Chosen::Below(Some(Step::Index(index)), schema),

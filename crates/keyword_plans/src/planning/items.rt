@@ -13,6 +13,7 @@ use crate::subject::{Subject, elements_of};
 use json_doc::Doc;
 use locations::Step;
 use std::alloc::{AllocError, Global};
+use std::cmp::min;
 
 /// Each schema of a list, at the element of the same number (10.3.1.1).
 pub(crate) fn plan_prefix<'a>(
@@ -36,7 +37,7 @@ fn plan_pairs<'a>(
         → IfOk result (λ ps. map (planned_view k a) ps.items
         ≡ planned_pairs k a 0 (map value schemas.now) (map value items.now)) }
 {
-    let mut planned = Vec::new(alloc);
+    let mut planned = Vec::with_capacity(alloc, min(schemas.len(), items.len()))?;
     for (index, schema) in schemas.iter().enumerate() {
         if index == items.len() {
             return Ok(planned);
@@ -74,7 +75,7 @@ fn plan_from<'a>(
         → IfOk result (λ ps. map (planned_view k a) ps.items
         ≡ at_items a k (value schema.now) start (map value (drop start items.now))) }
 {
-    let mut planned = Vec::new(alloc);
+    let mut planned = Vec::with_capacity(alloc, items.len().saturating_sub(start))?;
     for index in start..items.len() {
         planned.push(Planned {
             chosen: Chosen::Below(None, schema),

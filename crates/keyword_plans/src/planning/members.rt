@@ -13,6 +13,10 @@ use crate::subject::Subject;
 use json_doc::{Doc, Members};
 use locations::Step;
 use std::alloc::{AllocError, Global};
+use std::cmp::{Ordering, min};
+
+/// How many times as long a list is that is searched for each name of the other, rather than walked along beside it.
+pub(crate) const FAR_LONGER: usize = 4;
 
 /// Each schema whose name the instance has, at that member (10.3.2.1).
 pub(crate) fn plan_properties<'a>(
@@ -30,7 +34,6 @@ pub(crate) fn plan_properties<'a>(
     }
 }
 
-// Along the shorter of the two: the schemas, or the members of the instance.
 fn plan_members<'a>(
     alloc: Global,
     schemas: &'a Members,
@@ -41,10 +44,25 @@ fn plan_members<'a>(
         ≡ planned_members k a (members_value schemas.now)) }
 {
     match subject.members() {
-        Some(members) if members.len() < schemas.len() => {
-            plan_along_instance(alloc, schemas, members)
-        }
-        _ => plan_along_schemas(alloc, schemas, subject),
+        Some(present) => plan_present(alloc, schemas, present),
+        None => Ok(Vec::new(alloc)),
+    }
+}
+
+// Along the schemas, where the instance has far more members.
+fn plan_present<'a>(
+    alloc: Global,
+    schemas: &'a Members,
+    present: &'a Members,
+) -> Result<Vec<Planned<'a>>, AllocError>
+    ensures { (a : Application) (k : Text) → members a.instance ≡ members_value present.now
+        → IfOk result (λ ps. map (planned_view k a) ps.items
+        ≡ planned_members k a (members_value schemas.now)) }
+{
+    if schemas.len() < present.len() / FAR_LONGER {
+        plan_along_schemas(alloc, schemas, present)
+    } else {
+        plan_along_instance(alloc, schemas, present)
     }
 }
 
@@ -60,7 +78,57 @@ fn plan_along_instance<'a>(
     // Their contracts say that the names are in order.
     let _ = schemas.iter();
     let _ = present.iter();
-    plan_each_member(alloc, schemas, present)
+    plan_at_names(alloc, schemas, present)
+}
+
+// Along the members, where there are far more schemas, and along both otherwise.
+fn plan_at_names<'a>(
+    alloc: Global,
+    schemas: &'a Members,
+    members: &'a Members,
+) -> Result<Vec<Planned<'a>>, AllocError>
+    ensures { (a : Application) (k : Text)
+        → IfOk result (λ ps. map (planned_view k a) ps.items
+        ≡ planned_at_names k a (members_value schemas.now) (members_value members.now)) }
+{
+    if members.len() < schemas.len() / FAR_LONGER {
+        plan_each_member(alloc, schemas, members)
+    } else {
+        plan_merged(alloc, schemas, members)
+    }
+}
+
+// Along both: of the first schema and the first member that are left, the one of the lesser name has no partner.
+fn plan_merged<'a>(
+    alloc: Global,
+    schemas: &'a Members,
+    members: &'a Members,
+) -> Result<Vec<Planned<'a>>, AllocError>
+    ensures { (a : Application) (k : Text)
+        → IfOk result (λ ps. map (planned_view k a) ps.items
+        ≡ planned_at_names k a (members_value schemas.now) (members_value members.now)) }
+{
+    let mut planned = Vec::with_capacity(alloc, min(schemas.len(), members.len()))?;
+    let mut other_schemas = schemas.iter();
+    let mut other_members = members.iter();
+    let mut first_schema = other_schemas.next();
+    let mut first_member = other_members.next();
+    'names: while let (Some((key, schema)), Some((name, member))) = (first_schema, first_member) {
+        match key.cmp(name) {
+            Ordering::Less => first_schema = other_schemas.next(),
+            Ordering::Greater => first_member = other_members.next(),
+            Ordering::Equal => {
+                planned.push(Planned {
+                    chosen: Chosen::Below(Some(Step::Name(name)), schema),
+                    part: Part::Member(name),
+                    subject: Subject::Value(member),
+                })?;
+                first_schema = other_schemas.next();
+                first_member = other_members.next();
+            }
+        }
+    }
+    Ok(planned)
 }
 
 fn plan_each_member<'a>(
@@ -72,7 +140,7 @@ fn plan_each_member<'a>(
         → IfOk result (λ ps. map (planned_view k a) ps.items
         ≡ planned_at_names k a (members_value schemas.now) (members_value members.now)) }
 {
-    let mut planned = Vec::new(alloc);
+    let mut planned = Vec::with_capacity(alloc, min(schemas.len(), members.len()))?;
     for (name, member) in members.iter() {
         if let Some(schema) = schemas.get(name) {
             planned.push(Planned {
@@ -88,15 +156,15 @@ fn plan_each_member<'a>(
 fn plan_along_schemas<'a>(
     alloc: Global,
     schemas: &'a Members,
-    subject: Subject<'a>,
+    present: &'a Members,
 ) -> Result<Vec<Planned<'a>>, AllocError>
-    ensures { (a : Application) (k : Text) → a.instance ≡ subject_value subject.entry
+    ensures { (a : Application) (k : Text) → members a.instance ≡ members_value present.now
         → IfOk result (λ ps. map (planned_view k a) ps.items
         ≡ planned_members k a (members_value schemas.now)) }
 {
-    let mut planned = Vec::new(alloc);
+    let mut planned = Vec::with_capacity(alloc, min(schemas.len(), present.len()))?;
     for (name, schema) in schemas.iter() {
-        if let Some(member) = subject.get(name) {
+        if let Some(member) = present.get(name) {
             planned.push(Planned {
                 chosen: Chosen::Below(Some(Step::Name(name)), schema),
                 part: Part::Member(name),
@@ -132,7 +200,7 @@ fn plan_each_name<'a>(
         → IfOk result (λ ps. map (planned_view k a) ps.items
         ≡ planned_names k a (value schema.now) (members_value members.now)) }
 {
-    let mut planned = Vec::new(alloc);
+    let mut planned = Vec::with_capacity(alloc, members.len())?;
     for (name, _) in members.iter() {
         planned.push(Planned {
             chosen: Chosen::Below(None, schema),

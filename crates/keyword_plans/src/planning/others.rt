@@ -1,25 +1,30 @@
 //! Members that no keyword beside takes (JSON Schema 2020-12 Core, 10.3.2.3).
 
 ghost use Rattle.std.specs.Prelude.{◌≡◌, [], map, option_map, unwrap_or, is_some, IfOk, IfErr};
+ghost use Rattle.std.specs.Cmp.Lexicographic.{slice_cmp};
 ghost use Rattle.std.specs.List.{list_any};
+ghost use Rattle.std.specs.Ordering.{nat_cmp};
+ghost use Rattle.std.specs.declared.cmp.Ordering.TheVariants.{Greater};
 ghost use Rattle.definitions.specs.Values.{Text, entry, members};
 ghost use Rattle.definitions.specs.Patterns.{has_match};
 ghost use Rattle.definitions.specs.Schemas.{Schema};
 ghost use Rattle.definitions.specs.Applied.{Application, beside, is_taken};
 ghost use Rattle.json_doc.specs.Docs.{value, members_value};
-ghost use Rattle.keyword_plans.specs.Applications.{ArePatternsOf, planned_others};
+ghost use Rattle.keyword_plans.specs.Applications.{ArePatternsOf, planned_others, planned_unnamed};
 ghost use Rattle.keyword_plans.specs.Beside.{StandsBeside};
 ghost use Rattle.keyword_plans.specs.Plans.{planned_view};
 ghost use Rattle.keyword_plans.specs.Sites.{Shows, linked_rules};
 
 use crate::planned::{Chosen, Part, Planned};
 use crate::planning::matching::is_matched;
+use crate::planning::members::FAR_LONGER;
 use crate::site::Site;
 use crate::subject::{Subject, members_of};
 use faults::Fault;
 use json_doc::{Doc, Members};
 use linker::Linked;
-use std::alloc::Global;
+use std::alloc::{AllocError, Global};
+use std::cmp::Ordering;
 
 // The keywords beside `additionalProperties` that take members.
 #[derive(Clone, Copy)]
@@ -69,7 +74,76 @@ fn members_beside<'a>(schema: &'a Doc, keyword: &str) -> Option<&'a Members>
     }
 }
 
+// Along both `properties` and the members, where there are no patterns, unless there are far more schemas.
 fn plan_untaken<'a>(
+    alloc: Global,
+    beside: PropertyKeywords<'a>,
+    schema: &'a Doc,
+    members: &'a Members,
+) -> Result<Vec<Planned<'a>>, Fault>
+    ensures ok { (a : Application) (k : Text) → StandsBeside beside.entry a
+        → IfOk result (λ ps. map (planned_view k a) ps.items
+        ≡ planned_others beside.entry.linked.now k a (value schema.now)
+        (members_value members.now)) }
+    ensures err { IfErr result (λ f. f ≡ Fault.NoRoom) }
+{
+    match (beside.properties, beside.patterns) {
+        (Some(schemas), None) if schemas.len() / FAR_LONGER <= members.len() => {
+            Ok(plan_unnamed(alloc, schemas, schema, members)?)
+        }
+        _ => plan_each_untaken(alloc, beside, schema, members),
+    }
+}
+
+// Along both: a member whose name comes before that of the first schema that is left has no schema.
+fn plan_unnamed<'a>(
+    alloc: Global,
+    schemas: &Members,
+    schema: &'a Doc,
+    members: &'a Members,
+) -> Result<Vec<Planned<'a>>, AllocError>
+    ensures { (a : Application) (k : Text)
+        → IfOk result (λ ps. map (planned_view k a) ps.items
+        ≡ planned_unnamed k a (value schema.now) (members_value schemas.now)
+        (members_value members.now)) }
+{
+    let mut planned = Vec::new(alloc);
+    let mut other_schemas = schemas.iter();
+    let mut other_members = members.iter();
+    let mut first_schema = other_schemas.next();
+    let mut first_member = other_members.next();
+    'names: while let Some((name, member)) = first_member {
+        match order_of_first(first_schema, name) {
+            Ordering::Less => first_schema = other_schemas.next(),
+            Ordering::Equal => {
+                first_schema = other_schemas.next();
+                first_member = other_members.next();
+            }
+            Ordering::Greater => {
+                planned.push(Planned {
+                    chosen: Chosen::Below(None, schema),
+                    part: Part::Member(name),
+                    subject: Subject::Value(member),
+                })?;
+                first_member = other_members.next();
+            }
+        }
+    }
+    Ok(planned)
+}
+
+// How the name of the first schema that is left stands to this one, which comes before where none is left.
+fn order_of_first(first: Option<(&str, &Doc)>, name: &str) -> Ordering
+    ensures { result ≡ unwrap_or
+        (option_map (λ s. slice_cmp nat_cmp s.0.now name.now) first.entry) Greater }
+{
+    match first {
+        Some((key, _)) => key.cmp(name),
+        None => Ordering::Greater,
+    }
+}
+
+fn plan_each_untaken<'a>(
     alloc: Global,
     beside: PropertyKeywords<'a>,
     schema: &'a Doc,

@@ -7,4 +7,4 @@ use Rattle.keyword_plans.proofs.planning.members.plan_along_instance.Goals as go
 pub returns : goal.returns
 returns c a k same =
     let all = along_members k a (members_value c.args.schemas.now) (members_value c.args.present.now) same c.iter.ensures.ordered c.iter-2.ensures.ordered in
-    IfOk-weaker c.plan_each_member.result _ _ (λ ps e. e ∙ all) (c.plan_each_member.ensures a k)
+    IfOk-weaker c.plan_at_names.result _ _ (λ ps e. e ∙ all) (c.plan_at_names.ensures a k)

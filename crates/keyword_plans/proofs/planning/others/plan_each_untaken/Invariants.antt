@@ -6,7 +6,7 @@ use Rattle.json_doc.specs.Members.{members_left}
 use Rattle.keyword_plans.specs.Applications.{planned_others}
 use Rattle.keyword_plans.specs.Beside.{StandsBeside}
 use Rattle.keyword_plans.specs.Plans.{planned_view}
-use Rattle.keyword_plans.proofs.planning.others.plan_untaken.Given as goal
+use Rattle.keyword_plans.proofs.planning.others.plan_each_untaken.Given as goal
 
 -- what is planned, and what the members that are left add
 abbrev pub invariant-loop-name : goal.invariant-loop-name

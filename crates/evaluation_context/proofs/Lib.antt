@@ -1,3 +1,4 @@
 pub mod RunningLaws
 pub mod FrameLaws
+pub mod IdentifierLaws
 pub mod PlannedLaws

@@ -3,6 +3,7 @@
 #![tactic(auto)]
 
 mod context;
+mod identifier;
 mod moving;
 mod running;
 mod running_objects;

@@ -14,6 +14,7 @@ ghost use Rattle.evaluation_context.specs.Moves.{LeadsTo, Onward, at_schema, cho
 ghost use Rattle.evaluation_context.specs.Returns.{CameFrom};
 
 use crate::context::{Context, Return};
+use crate::identifier::identifier;
 use faults::Fault;
 use json_doc::Doc;
 use keyword_plans::{Chosen, Part, Planned};
@@ -124,7 +125,7 @@ impl<'a> Context<'a> {
         ensures onward { OnOk result (Onward (context_view self.old) (context_view self.new)) }
         ensures err { IfErr result (λ f. f ≡ Fault.NoRoom) }
     {
-        match schema.text_at("$id") {
+        match identifier(schema) {
             Some(id) => {
                 self.resource = linked.resource_opened(alloc, self.resource, id)?;
                 self.pointers.begin();

@@ -169,7 +169,9 @@ impl<'a> RunningObjects<'a> {
     }
 }
 
-// Whether the object is this schema, applied where the name at the instance location is this one.
+// Whether the object is this schema, applied where the name at the instance location is this one. It is called apart, since
+// few searches get so far.
+#[inline(never)]
 fn is_same(
     steps: &[Step<'_>],
     object: Running<'_>,

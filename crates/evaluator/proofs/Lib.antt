@@ -13,5 +13,6 @@ pub mod KeywordsLaws
 pub mod PartLaws
 pub mod SettlingLaws
 pub mod PresentLaws
+pub mod KeptLaws
 pub mod DollarLaws
 pub mod AssertedLaws

@@ -8,9 +8,9 @@ ghost use Rattle.std.specs.Prelude.{◌≡◌, ◌+◌, ◌<◌, ◌^◌, ◌&&�
 #[derive(Clone, Copy, Debug, PartialEq, Eq)]
 pub(crate) struct Found {
     pub(crate) valid: bool,
-    pub(crate) count: u64,
     pub(crate) looped: bool,
     pub(crate) deep: bool,
+    pub(crate) count: u64,
     pub(crate) passing: Option<u64>,
 }
 
@@ -129,11 +129,11 @@ impl Found {
 /// there were in all, and whether one looped or nested too deep.
 #[derive(Clone, Copy, Debug, PartialEq, Eq)]
 pub(crate) struct Applied {
+    pub(crate) looped: bool,
+    pub(crate) deep: bool,
     pub(crate) number: u64,
     pub(crate) passing: u64,
     pub(crate) count: u64,
-    pub(crate) looped: bool,
-    pub(crate) deep: bool,
 }
 
 impl Applied {

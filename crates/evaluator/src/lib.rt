@@ -10,6 +10,7 @@ mod dollar_names;
 mod found;
 mod groups;
 mod here;
+mod kept_values;
 mod log;
 mod object_keywords;
 mod one_keyword;

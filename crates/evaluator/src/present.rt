@@ -1,7 +1,9 @@
 //! Which keywords a schema object has, found in one walk over its members; of many, those whose names begin with `$`
 //! are passed over.
 
-ghost use Rattle.std.specs.Prelude.{◌≡◌, ◌≤◌, ◌<◌, ◌||◌, ℕ, None, [], false, true, codes, is_some, option_map};
+ghost use Rattle.std.specs.Prelude.{◌≡◌, ◌≤◌, ◌<◌, ◌||◌, ◌⊎◌, ℕ, None, Some, [], false, true, codes, is_some, option_map};
+ghost use Rattle.std.proofs.Props.{props};
+ghost use Rattle.std.specs.Borrow.{Bor};
 ghost use Rattle.std.specs.List.{list_any};
 ghost use Rattle.std.specs.Int.{bit_at};
 ghost use Rattle.definitions.specs.Values.{Text, get, members};
@@ -9,12 +11,15 @@ ghost use Rattle.definitions.specs.Uris.{begins};
 ghost use Rattle.definitions.specs.Applied.{Application};
 ghost use Rattle.definitions.specs.Outcomes.{other_annotations};
 ghost use Rattle.json_doc.specs.Docs.{value, members_value};
-ghost use Rattle.json_doc.specs.Members.{members_left};
-ghost use Rattle.keywords.specs.Rows.{row_of};
+ghost use Rattle.json_doc.specs.Members.{HasNamesInOrder, members_left};
+ghost use Rattle.json_doc.specs.declared.doc.Doc.{Doc};
+ghost use Rattle.keyword_plans.specs.ValueSets.{value_set};
+ghost use Rattle.keywords.specs.Rows.{row_named, row_of};
 ghost use Rattle.keywords.specs.declared.keyword.Keyword.TheVariants.{UnevaluatedItems, UnevaluatedProperties};
-ghost use Rattle.evaluator.specs.Presents.{AreMarked, has_mark, mark_of};
+ghost use Rattle.evaluator.specs.Presents.{AreKept, AreMarked, StandsAt, has_mark, mark_of, position};
 
 use crate::dollar_names::{are_many, cut_at_dollar_names};
+use crate::kept_values::KeptValues;
 use json_doc::{Doc, Members, MembersIter};
 use keywords::Keyword;
 
@@ -22,12 +27,15 @@ use keywords::Keyword;
 const ANNOTATES: usize = 63;
 
 /// A schema, and which names stand in it: a bit for each group of keywords, in the order of evaluation, one for keywords
-/// that are not evaluated, and the last for names that may annotate with their own value.
+/// that are not evaluated, and the last for names that may annotate with their own value; and the values of its first
+/// keywords, so that they needn't be looked up.
 #[derive(Drop)]
 pub(crate) struct Present<'a> {
     pub(crate) schema: &'a Doc,
     marks: u64,
+    kept: KeptValues<'a>,
     ghost marked: { AreMarked marks (value schema.now) },
+    ghost right: { AreKept kept (members (value schema.now)) } by { Prim.hlevel (props, value_set) },
 }
 
 impl<'a> Present<'a> {
@@ -35,9 +43,12 @@ impl<'a> Present<'a> {
     pub(crate) fn of(schema: &'a Doc) -> Present<'a>
         ensures { result.schema.now ≡ schema.now }
     {
+        let mut kept = KeptValues::new(schema);
+        let marks = marks_in(schema, &mut kept);
         Present {
             schema,
-            marks: marks_in(schema),
+            marks,
+            kept,
         }
     }
 
@@ -82,37 +93,79 @@ impl<'a> Present<'a> {
         ensures { option_map (λ d. value d.now) result
             ≡ get (row_of keyword).name (value self.now.schema.now) }
     {
-        self.schema.get(keyword.name())
+        match self.kept.find(keyword as usize) {
+            Some(found) => Some(found),
+            None => self.schema.get(keyword.name()),
+        }
     }
 }
 
-fn marks_in(schema: &Doc) -> u64
-    ensures { AreMarked result (value schema.now) }
+// The marks of the names, and the first values of keywords, where none are kept so far.
+fn marks_in<'a>(schema: &'a Doc, kept: &mut KeptValues<'a>) -> u64
+    requires { (i n : ℕ) (d : Bor Doc) → StandsAt kept.old i n d → n ≡ 64 }
+    ensures marks { AreMarked result (value schema.now) }
+    ensures kept { AreKept kept.new (members (value schema.now)) }
 {
     match schema.as_dict() {
-        Some(members) => marks_of(members),
+        Some(members) => marks_of(members, kept),
         None => 0,
     }
 }
 
-fn marks_of(members: &Members) -> u64
+fn marks_of<'a>(members: &'a Members, kept: &mut KeptValues<'a>) -> u64
+    requires { (i n : ℕ) (d : Bor Doc) → StandsAt kept.old i n d → n ≡ 64 }
+    ensures marks { (i : ℕ) → bit_at result i ≡ 0
+        → list_any (has_mark i) (members_value members.now) ≡ false }
+    ensures kept { AreKept kept.new (members_value members.now) }
+{
+    if are_many(members) {
+        marks_of_many(members)
+    } else {
+        marks_among(members.iter(), kept)
+    }
+}
+
+fn marks_of_many(members: &Members) -> u64
     ensures { (i : ℕ) → bit_at result i ≡ 0
         → list_any (has_mark i) (members_value members.now) ≡ false }
 {
-    if !are_many(members) {
-        return marks_among(members.iter());
-    }
     let cut = cut_at_dollar_names(members);
-    marks_among(cut.before) | dollar_marks() | marks_among(cut.after)
+    marks_without_values(cut.before) | dollar_marks() | marks_without_values(cut.after)
 }
 
-fn marks_among(members: MembersIter<'_>) -> u64
+fn marks_among<'a>(members: MembersIter<'a>, kept: &mut KeptValues<'a>) -> u64
+    requires none { (i n : ℕ) (d : Bor Doc) → StandsAt kept.old i n d → n ≡ 64 }
+    requires ordered { HasNamesInOrder (members_left members) }
+    ensures marks { (i : ℕ) → bit_at result i ≡ 0
+        → list_any (has_mark i) (members_left members.entry) ≡ false }
+    ensures kept { AreKept kept.new (members_left members.entry) }
+{
+    let mut marks: u64 = 0;
+    for (name, member) in members {
+        let keyword = Keyword::named(name);
+        marks |= 1u64 << mark_of(keyword);
+        keep(kept, keyword, member);
+    }
+    marks
+}
+
+// Keeps the value of a keyword.
+fn keep<'a>(kept: &mut KeptValues<'a>, keyword: Option<Keyword>, member: &'a Doc)
+    ensures { (i n : ℕ) (d : Bor Doc) → StandsAt kept.new i n d → StandsAt kept.old i n d
+        ⊎ ((option_map position keyword ≡ Some n) × (d ≡ member.entry)) }
+{
+    if let Some(keyword) = keyword {
+        kept.push(keyword as usize, member);
+    }
+}
+
+fn marks_without_values(members: MembersIter<'_>) -> u64
     ensures { (i : ℕ) → bit_at result i ≡ 0
         → list_any (has_mark i) (members_left members.entry) ≡ false }
 {
     let mut marks: u64 = 0;
     for (name, _) in members {
-        marks |= 1u64 << mark_of(name);
+        marks |= 1u64 << mark_of(Keyword::named(name));
     }
     marks
 }
@@ -128,11 +181,13 @@ fn dollar_marks() -> u64
     reference | dynamic_reference | declaration | 1u64 << ANNOTATES
 }
 
-fn mark_of(name: &str) -> usize
-    ensures mark { result ≡ mark_of name.now }
+// The mark of a name that is this keyword's, or else no keyword's.
+fn mark_of(keyword: Option<Keyword>) -> usize
+    ensures mark { (name : Text) → option_map row_of keyword ≡ row_named name
+        → result ≡ mark_of name }
     ensures within { result < 64 }
 {
-    match Keyword::named(name) {
+    match keyword {
         Some(keyword) => mark_of_keyword(keyword),
         None => ANNOTATES,
     }

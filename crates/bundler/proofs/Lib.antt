@@ -1,4 +1,3 @@
-pub mod ShortArrays
 pub mod Docs
 pub mod Puts
 pub mod Others

@@ -1,8 +1,6 @@
 -- Linked documents are as a bundle wants its documents.
-use Rattle.std.proofs.Common.{◌≡◌, true, List, [], ◌∷◌, None, Ok, map, Contains, refl, sym, ap, subst, ◌∙◌, inl, inr}
-use Rattle.std.specs.Global.{Global}
+use Rattle.std.proofs.Common.{◌≡◌, true, None, Ok, Contains, refl, sym, ap, ◌∙◌}
 use Rattle.std.specs.Str.{is_utf8}
-use Rattle.std.specs.declared.rc.Rc.{Rc}
 use Rattle.definitions.specs.Values.{Value, same_text}
 use Rattle.definitions.specs.Lists.{has_repeat}
 use Rattle.definitions.specs.Patterns.{regular_search}
@@ -12,7 +10,6 @@ use Rattle.definitions.specs.Searches.{is_regular}
 use Rattle.definitions.specs.Documents.{Ascend}
 use Rattle.definitions.specs.Bundles.{bundle}
 use Rattle.definition_laws.specs.Identities.{IsDefinite}
-use Rattle.definition_laws.proofs.Membership.{nothing_in, first_or_later}
 use Rattle.definition_laws.proofs.Resources.{table_uris}
 use Rattle.bundle_laws.specs.Registered.{AreIdentified}
 use Rattle.bundle_laws.proofs.CanonicalTexts.{canonical_uris_are_texts}
@@ -25,7 +22,7 @@ use Rattle.linker.specs.LinkedDocuments.{linked_uri, linked_documents}
 use Rattle.linker.specs.SharedDocuments.{shared_documents}
 use Rattle.linker.specs.declared.linked.Linked.{Linked}
 use Rattle.bundler.specs.Alone.{HaveIdentifiers, AnswersAlone}
-use Rattle.bundler.proofs.ShortArrays.{held_short}
+use Rattle.linker.proofs.Distinct.{compiled_definite, shared_each}
 
 -- ---- a compiled document
 compiled_scanned : (c : Compiled) → scan_fault (compiled_base c) (compiled_value c) ≡ None
@@ -35,10 +32,6 @@ compiled_scanned c = c.indexed.faultless
 compiled_regular : (c : Compiled) → is_regular regular_search (compiled_value c) ≡ true
 compiled_regular c = c.regular
 
-compiled_definite : (c : Compiled) → IsDefinite (compiled_value c)
-unfolding indexed_value
-compiled_definite c = record { well_formed = c.indexed.well_formed; short_arrays = held_short c.indexed.document }
-
 base_text : (c : Compiled) → is_utf8 (compiled_base c) ≡ true
 unfolding indexed_base
 base_text c = string_is_utf8 c.indexed.base
@@ -47,14 +40,6 @@ canonical_text : (c : Compiled) → is_utf8 (compiled_view c).canonical ≡ true
 canonical_text c = canonical_uris_are_texts (compiled_base c) (compiled_value c) (base_text c) (compiled_definite c)
 
 -- ---- those that are linked
-shared_each : (P : Document → Type 0) → ((c : Compiled) → P (compiled_view c)) → (ds : List (Rc Compiled Global)) (d : Document) → Contains (shared_documents ds) d → P d
-unfolding shared_documents
-shared_each P each [] d c = absurd (nothing_in d c)
-shared_each P each (x ∷ xs) d c = elim (first_or_later (compiled_view x.value) d (map (λ (y : Rc Compiled Global). compiled_view y.value) xs) c) [
-  | inl same ↦ subst P same (each x.value)
-  | inr later ↦ shared_each P each xs d later
-]
-
 pub linked_ascend : (l : Linked) → Ascend (linked_documents l)
 unfolding linked_documents
 linked_ascend l = l.ascend

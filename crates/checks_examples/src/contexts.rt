@@ -1,20 +1,18 @@
 //! Where applications stand, and loops by JSON Schema 2020-12 Core, 9.4.1: a schema that is applied again at the same
 //! place.
 
+use crate::documents::listed;
+use crate::texts::URI;
 use evaluation_context::Context;
-use json_doc::Doc;
-use schema_scan::Located;
+use linker::link;
 use std::test::Fail;
 
 #[test]
 fn knows_what_is_being_applied_and_where(rt: HostRuntime) -> Result<(), Fail> {
-    let schema = Doc::Bool(true);
-    let root = Located {
-        resource: "https://ex.org/s",
-        steps: Vec::new(rt.alloc()),
-        schema: &schema,
-    };
-    let mut context = Context::new(rt.alloc(), root)?;
+    let mut source = listed(rt.alloc(), &[(URI, "{}")])?;
+    let linked = link(rt.alloc(), &mut source, URI)?;
+    let root = linked.root(rt.alloc());
+    let mut context = Context::new(rt.alloc(), &linked, root)?;
     assert!(rt; !context.is_running());
     context.enter_object()?;
     assert!(rt; context.is_running() && context.scope().len() == 1);

@@ -21,6 +21,8 @@ mod linked_documents;
 #[cfg(test)]
 mod links;
 #[cfg(test)]
+mod long_enums;
+#[cfg(test)]
 mod outputs;
 #[cfg(test)]
 mod references;

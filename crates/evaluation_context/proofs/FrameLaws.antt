@@ -1,8 +1,6 @@
 -- Frames, field by field.
-use Rattle.std.proofs.Common.{◌≡◌, ◌≤◌, ◌<◌, ◌++◌, ◌∷◌, ◌&&◌, [], ℕ, true, List, Option, Some, None, length, map, take, drop, refl, sym, ap, ap₂, ◌∙◌, subst, arith, inl, inr}
-use Rattle.std.proofs.lemmas.Bool.{cases_lt, false≢true}
-use Rattle.std.proofs.lemmas.List.{map_push, same_from_push, append-nil, append_assoc, length-take, take-take, take_at, drop_at, take_all}
-use Rattle.std.specs.Option.{option_to_list, IsSome}
+use Rattle.std.proofs.Common.{◌≡◌, ◌≤◌, ◌++◌, ◌∷◌, ◌&&◌, [], true, List, None, length, take, drop, refl, sym, ap, ap₂, ◌∙◌, subst, arith}
+use Rattle.std.proofs.lemmas.List.{append-nil, append_assoc, length-take, take-take, take_at, drop_at, take_all}
 use Rattle.definitions.specs.Values.{Text, Value, is_object}
 use Rattle.definitions.specs.Pointers.{Pointer}
 use Rattle.definitions.specs.Schemas.{Schema, Identity, schema_at, opened_schema}
@@ -15,7 +13,6 @@ use Rattle.evaluation_context.specs.Standings.{Standing, application_at}
 use Rattle.evaluation_context.specs.Moves.{Onward, LeadsTo, frame_below, frame_at, at_schema, standing_at}
 use Rattle.evaluation_context.specs.Returns.{CameFrom}
 use Rattle.evaluation_context.specs.declared.context.Return.{Return}
-use Rattle.evaluation_context.proofs.RunningLaws.{none_popped}
 
 pub same_locations : {p q : InstanceLocation} → p.pointer ≡ q.pointer → p.name ≡ q.name → p ≡ q
 same_locations {p} {q} pointer name = ap₂ (λ t n. record { pointer = t; name = n }) pointer name
@@ -26,16 +23,6 @@ same_frames {f} {g} path outer resource pointer instance_location scope running 
     ∙ ap₂ (λ x y. record f { path = g.path; outer = g.outer; resource = x; pointer = y }) resource pointer
     ∙ ap₂ (λ x y. record f { path = g.path; outer = g.outer; resource = g.resource; pointer = g.pointer; instance_location = x; scope = y }) instance_location scope
     ∙ ap (λ x. record g { running = x }) running
-
--- what a `pop` leaves
-pub popped : {A B : Type 0} (g : A → B) (xs ys : List A) (o : Option A) (n : ℕ) → xs ≡ ys ++ option_to_list o → (0 < n → IsSome o) → n ≡ length xs
-    → (older : List B) (v : B) → map g xs ≡ older ++ v ∷ [] → map g ys ≡ older
-popped g xs ys None n e there size older v seen =
-    elim (cases_lt 0 n) [
-      | inl less ↦ absurd (false≢true (there less))
-      | inr none ↦ absurd (none_popped g xs (omega arith) older v seen)
-    ]
-popped g xs ys (Some x) n e there size older v seen = (same_from_push (map g ys) older (g x) v (sym (map_push g ys x) ∙ ap (map g) (sym e) ∙ seen)).0
 
 -- ---- moves
 pub stepped_nowhere : (f : Frame) → f ≡ frame_below [] f

@@ -1,9 +1,10 @@
 -- All that a context keeps, as lists of tokens; and where it stands.
-use Rattle.std.specs.Prelude.{List, ◌++◌, ◌∷◌, [], map, option_map}
+use Rattle.std.specs.Prelude.{List, ◌++◌, ◌∷◌, [], option_map}
 use Rattle.definitions.specs.Values.{Text}
 use Rattle.definitions.specs.Pointers.{Pointer}
 use Rattle.definitions.specs.Schemas.{Identity}
 use Rattle.definitions.specs.Applied.{InstanceLocation}
+use Rattle.keyword_plans.specs.ScopeViews.{scope_uris}
 use Rattle.evaluation_context.specs.Standings.{Standing}
 use Rattle.basic_output.specs.PointerViews.{last_pointer, outer_pointers}
 use Rattle.evaluation_context.specs.RunningViews.{instance_pointer, running_objects}
@@ -26,7 +27,7 @@ context_view c = record {
   resource = c.resource.now;
   pointer = last_pointer c.pointers;
   instance_location = record { pointer = instance_pointer c.running; name = option_map (λ n. n.now) c.name };
-  scope = map (λ uri. uri.now) c.scope.items;
+  scope = scope_uris c.scope;
   running = running_objects c.running;
 }
 

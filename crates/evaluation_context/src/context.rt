@@ -7,11 +7,14 @@ ghost use Rattle.definitions.specs.Outcomes.{is_running};
 ghost use Rattle.basic_output.specs.declared.says.Says as output;
 ghost use Rattle.basic_output.specs.Sayings.{says_value, unit_at};
 ghost use Rattle.json_doc.specs.Docs.{value};
+ghost use Rattle.keyword_plans.specs.ScopeViews.{scope_documents};
 ghost use Rattle.schema_index.specs.Locateds.{located_view};
 ghost use Rattle.evaluation_context.specs.Standings.{application_at, at_keyword, unit_there, within_object};
 
 use crate::running_objects::RunningObjects;
 use basic_output::{Location, Notation, Pointers};
+use keyword_plans::DynamicScope;
+use linker::Linked;
 use locations::Step;
 use schema_index::Located;
 use std::alloc::{AllocError, Global};
@@ -25,7 +28,8 @@ pub struct Context<'a> {
     pub(crate) pointers: Pointers<'a>,
     pub(crate) resource: &'a str,
     pub(crate) name: Option<&'a str>,
-    pub(crate) scope: Vec<&'a str>,
+    /// The dynamic scope.
+    pub scope: DynamicScope<'a>,
     pub(crate) running: RunningObjects<'a>,
 }
 
@@ -44,10 +48,15 @@ impl<'a> Context<'a> {
     ghost use Rattle.evaluation_context.specs.Frames.{Frame, context_view, frame_standing, keyword_frame, object_frame};
 
     /// Where the first application stands, of a schema to the whole instance. The only error is want of memory.
-    pub fn new(alloc: Global, root: Located<'a>) -> Result<Context<'a>, AllocError>
-        ensures { (x : Value) → IfOk result
+    pub fn new(
+        alloc: Global,
+        linked: &'a Linked,
+        root: Located<'a>,
+    ) -> Result<Context<'a>, AllocError>
+        ensures there { (x : Value) → IfOk result
             (λ c. application_at (frame_standing (context_view c)) (value root.entry.schema.now) x
             ≡ first_application (located_view root.entry) x) }
+        ensures documents { IfOk result (λ c. scope_documents c.scope ≡ linked.entry) }
     {
         let Located {
             resource,
@@ -59,7 +68,7 @@ impl<'a> Context<'a> {
             pointers: Pointers::new(alloc, Notation::Fragment, steps),
             resource,
             name: None,
-            scope: Vec::new(alloc),
+            scope: DynamicScope::new(alloc, linked),
             running: RunningObjects::new(alloc),
         })
     }
@@ -75,7 +84,7 @@ impl<'a> Context<'a> {
     pub fn scope(&self) -> &[&'a str]
         ensures { map (λ uri. uri.now) result.now ≡ (frame_standing (context_view self.now)).scope }
     {
-        &self.scope
+        self.scope.uris()
     }
 
     /// Whether a schema object that is applied here is being applied at this instance location already.
@@ -90,7 +99,8 @@ impl<'a> Context<'a> {
     /// Writes what the texts of the locations lack, so that a unit's text has only to copy them: `location` says the same
     /// before and after. The only error is want of memory.
     pub fn write_locations(&mut self) -> Result<(), AllocError>
-        ensures { context_view self.new ≡ context_view self.old }
+        ensures same { context_view self.new ≡ context_view self.old }
+        ensures documents { scope_documents self.new.scope ≡ scope_documents self.old.scope }
     {
         self.path.write()?;
         self.pointers.write()?;
@@ -118,6 +128,7 @@ impl<'a> Context<'a> {
             ≡ within_object (frame_standing (context_view self.old))) }
         ensures entered { OnOk result
             (context_view self.new ≡ object_frame (context_view self.old)) }
+        ensures documents { scope_documents self.new.scope ≡ scope_documents self.old.scope }
     {
         self.scope.push(self.resource)?;
         self.running
@@ -127,8 +138,9 @@ impl<'a> Context<'a> {
 
     /// It has been applied.
     pub fn leave_object(&mut self)
-        ensures { (older : Frame) → context_view self.old ≡ object_frame older
+        ensures left { (older : Frame) → context_view self.old ≡ object_frame older
             → context_view self.new ≡ older }
+        ensures documents { scope_documents self.new.scope ≡ scope_documents self.old.scope }
     {
         self.scope.pop();
         self.running.pop();
@@ -141,6 +153,7 @@ impl<'a> Context<'a> {
             ≡ at_keyword name.now (frame_standing (context_view self.old))) }
         ensures entered { OnOk result
             (context_view self.new ≡ keyword_frame name.now (context_view self.old)) }
+        ensures documents { scope_documents self.new.scope ≡ scope_documents self.old.scope }
     {
         self.path.push(Step::Name(name))?;
         self.pointers.push(Step::Name(name))?;
@@ -149,8 +162,9 @@ impl<'a> Context<'a> {
 
     /// Back from the keyword.
     pub fn leave_keyword(&mut self)
-        ensures { (older : Frame) (k : Text) → context_view self.old ≡ keyword_frame k older
+        ensures left { (older : Frame) (k : Text) → context_view self.old ≡ keyword_frame k older
             → context_view self.new ≡ older }
+        ensures documents { scope_documents self.new.scope ≡ scope_documents self.old.scope }
     {
         self.path.pop();
         self.pointers.pop();

@@ -6,6 +6,7 @@ ghost use Rattle.definitions.specs.Schemas.{schema_at};
 ghost use Rattle.definitions.specs.Applied.{Application, part_location};
 ghost use Rattle.json_doc.specs.Docs.{value};
 ghost use Rattle.keyword_plans.specs.Plans.{part_view, planned_view, step_view};
+ghost use Rattle.keyword_plans.specs.ScopeViews.{scope_documents};
 ghost use Rattle.linker.specs.LinkedDocuments.{linked_schemas};
 ghost use Rattle.schema_index.specs.Locateds.{located_view};
 ghost use Rattle.evaluation_context.specs.Standings.{at_keyword, standing_of};
@@ -39,6 +40,7 @@ impl<'a> Context<'a> {
         ensures entered { IfOk result
             (λ back. CameFrom back (context_view self.old) (context_view self.new)) }
         ensures err { IfErr result (λ f. f ≡ Fault.NoRoom) }
+        ensures documents { scope_documents self.new.scope ≡ scope_documents self.old.scope }
     {
         let back = self.way_back();
         self.enter_chosen(alloc, linked, &planned.chosen)?;
@@ -48,8 +50,9 @@ impl<'a> Context<'a> {
 
     /// Back to the keyword.
     pub fn leave_planned(&mut self, back: Return<'a>)
-        ensures { (older : Frame) → CameFrom back.entry older (context_view self.old)
+        ensures left { (older : Frame) → CameFrom back.entry older (context_view self.old)
             → context_view self.new ≡ older }
+        ensures documents { scope_documents self.new.scope ≡ scope_documents self.old.scope }
     {
         self.path.truncate(back.path);
         self.pointers.cut(back.steps, back.start);
@@ -83,6 +86,7 @@ impl<'a> Context<'a> {
             ≡ standing_at (chosen_way chosen.now) s (frame_standing (context_view self.old))) }
         ensures onward { OnOk result (Onward (context_view self.old) (context_view self.new)) }
         ensures err { IfErr result (λ f. f ≡ Fault.NoRoom) }
+        ensures documents { scope_documents self.new.scope ≡ scope_documents self.old.scope }
     {
         match chosen {
             Chosen::Below(step, schema) => {
@@ -97,8 +101,9 @@ impl<'a> Context<'a> {
     }
 
     fn enter_step(&mut self, step: Option<Step<'a>>) -> Result<(), AllocError>
-        ensures { OnOk result (context_view self.new
+        ensures moved { OnOk result (context_view self.new
             ≡ frame_below (step_view step.entry) (context_view self.old)) }
+        ensures documents { scope_documents self.new.scope ≡ scope_documents self.old.scope }
     {
         match step {
             Some(step) => {
@@ -124,6 +129,7 @@ impl<'a> Context<'a> {
             ≡ standing_at [] s (frame_standing (context_view self.old))) }
         ensures onward { OnOk result (Onward (context_view self.old) (context_view self.new)) }
         ensures err { IfErr result (λ f. f ≡ Fault.NoRoom) }
+        ensures documents { scope_documents self.new.scope ≡ scope_documents self.old.scope }
     {
         match identifier(schema) {
             Some(id) => {
@@ -136,8 +142,9 @@ impl<'a> Context<'a> {
     }
 
     fn enter_target(&mut self, located: &Located<'a>) -> Result<(), AllocError>
-        ensures { OnOk result (context_view self.new
+        ensures moved { OnOk result (context_view self.new
             ≡ at_schema (located_view located.now) (context_view self.old)) }
+        ensures documents { scope_documents self.new.scope ≡ scope_documents self.old.scope }
     {
         self.pointers.begin();
         self.pointers.append(&located.steps)?;
@@ -146,10 +153,11 @@ impl<'a> Context<'a> {
     }
 
     fn enter_part(&mut self, part: Part<'a>) -> Result<(), AllocError>
-        ensures { OnOk result (context_view self.new
+        ensures moved { OnOk result (context_view self.new
             ≡ frame_at (part_location (context_view self.old).instance_location
             (part_view part.entry))
             (context_view self.old)) }
+        ensures documents { scope_documents self.new.scope ≡ scope_documents self.old.scope }
     {
         match part {
             Part::Whole => {}

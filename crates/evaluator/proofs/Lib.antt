@@ -13,6 +13,7 @@ pub mod KeywordsLaws
 pub mod PartLaws
 pub mod SettlingLaws
 pub mod PresentLaws
+pub mod LeafLaws
 pub mod KeptLaws
 pub mod DollarLaws
 pub mod AssertedLaws

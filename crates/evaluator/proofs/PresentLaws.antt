@@ -133,7 +133,7 @@ no_uses rules run a i (k ∷ ks) all none =
     rw gone (no_uses rules run a i ks parts.1 none)
 
 -- it does nothing
-unused_at : (l : Linked) (left : ℕ) (a : Application) (i : ℕ) → i < length first_groups → list_any (has_mark i) (members a.schema.value) ≡ false
+pub unused_at : (l : Linked) (left : ℕ) (a : Application) (i : ℕ) → i < length first_groups → list_any (has_mark i) (members a.schema.value) ≡ false
     → group_uses l left a (get_or first_groups i (One Ref)) ≡ []
 unused_at l left a i within none =
     no_uses (linked_rules l) (linked_outcome l left) a i (rows_of (get_or first_groups i (One Ref)))

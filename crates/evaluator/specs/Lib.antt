@@ -7,3 +7,4 @@ pub mod Reports
 pub mod Annotations
 pub mod Applying
 pub mod Presents
+pub mod Leaves

@@ -13,6 +13,7 @@ ghost use Rattle.evaluator.specs.Annotations.{annotations_among};
 ghost use Rattle.evaluator.specs.Logs.{log_view};
 ghost use Rattle.evaluator.specs.Notes.{annotation_texts, no_notes, notes_of_both};
 ghost use Rattle.keyword_plans.specs.Subjects.{subject_value};
+ghost use Rattle.keyword_plans.specs.ScopeViews.{scope_documents};
 
 use crate::dollar_names::{are_many, cut_at_dollar_names};
 use crate::log::Log;
@@ -33,6 +34,7 @@ pub(crate) fn note_others<'a>(
     subject: Subject<'a>,
 ) -> Result<(), AllocError>
     ensures back { OnOk result (context_view context.new ≡ context_view context.old) }
+    ensures documents { scope_documents context.new.scope ≡ scope_documents context.old.scope }
     ensures noted { (a : Application) → frame_standing (context_view context.old) ≡ standing_of a
         → a.schema.value ≡ value present.now.schema.now
         → a.instance ≡ subject_value subject.entry
@@ -58,6 +60,7 @@ fn note_members<'a>(
     subject: Subject<'a>,
 ) -> Result<(), AllocError>
     ensures back { OnOk result (context_view context.new ≡ context_view context.old) }
+    ensures documents { scope_documents context.new.scope ≡ scope_documents context.old.scope }
     ensures noted { (a : Application) → frame_standing (context_view context.old) ≡ standing_of a
         → a.schema.value ≡ value schema.now → a.instance ≡ subject_value subject.entry
         → OnOk result (log_view log.new
@@ -82,6 +85,7 @@ fn note_among<'a>(
     subject: Subject<'a>,
 ) -> Result<(), AllocError>
     ensures back { OnOk result (context_view context.new ≡ context_view context.old) }
+    ensures documents { scope_documents context.new.scope ≡ scope_documents context.old.scope }
     ensures noted { (a : Application) → frame_standing (context_view context.old) ≡ standing_of a
         → a.schema.value ≡ value schema.now → a.instance ≡ subject_value subject.entry
         → OnOk result (log_view log.new
@@ -105,6 +109,7 @@ fn note_member<'a>(
     member: &'a Doc,
 ) -> Result<(), AllocError>
     ensures back { OnOk result (context_view context.new ≡ context_view context.old) }
+    ensures documents { scope_documents context.new.scope ≡ scope_documents context.old.scope }
     ensures noted { (a : Application) → frame_standing (context_view context.old) ≡ standing_of a
         → OnOk result (log_view log.new
         ≡ notes_of_both (log_view log.old) (record no_notes {

@@ -3,7 +3,8 @@
 ghost use Rattle.std.specs.Prelude.{◌≡◌};
 ghost use Rattle.definitions.specs.Values.{is_object};
 ghost use Rattle.json_doc.specs.Docs.{value};
-ghost use Rattle.keyword_plans.specs.FollowedIn.{followed_in};
+ghost use Rattle.keyword_plans.specs.EnumeratedIn.{enumerated_in};
+ghost use Rattle.keyword_plans.specs.ScopeViews.{scope_documents};
 
 use crate::found::Found;
 use crate::here::Here;
@@ -15,19 +16,20 @@ use basic_output::Says;
 use evaluation_context::Context;
 use faults::Fault;
 use json_doc::Doc;
-use keyword_plans::{FollowedReferences, Subject};
+use keyword_plans::{Enumerations, Subject};
 use linker::Linked;
 use std::alloc::Global;
 
-/// An evaluation under way: the linked documents, what it followed in them, where it stands, and what it noted.
+/// An evaluation under way: the linked documents, the long `enum`s that it met in them, where it stands, and what it noted.
 #[derive(Drop)]
 pub(crate) struct Evaluation<'a> {
     pub(crate) alloc: Global,
     pub(crate) linked: &'a Linked,
-    pub(crate) references: FollowedReferences<'a>,
+    pub(crate) enumerations: Enumerations<'a>,
     pub(crate) context: Context<'a>,
     pub(crate) log: Log<'a>,
-    ghost followed: { followed_in references ≡ linked },
+    ghost enumerated: { enumerated_in enumerations ≡ linked },
+    ghost followed: { scope_documents context.scope ≡ linked },
 }
 
 impl<'a> Evaluation<'a> {
@@ -177,9 +179,12 @@ impl<'a> Evaluation<'a> {
             → IfErr result (λ f. IsCostly f room.applications
             (object_said self.old.linked.now room.nesting a).count) }
     {
+        let present = Present::of(schema);
+        if present.applies_nothing() {
+            return self.apply_leaf(&present, subject);
+        }
         let mark = self.log.mark();
         self.context.enter_object()?;
-        let present = Present::of(schema);
         let here = Here {
             present: &present,
             subject,

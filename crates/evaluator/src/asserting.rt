@@ -1,6 +1,7 @@
 //! Keywords that look at their own value and the instance alone (JSON Schema 2020-12 Validation, section 6).
 
 ghost use Rattle.std.specs.Prelude.{◌≡◌};
+ghost use Rattle.json_doc.specs.Docs.{value};
 
 use crate::applying::Evaluation;
 use crate::found::Found;
@@ -8,13 +9,15 @@ use crate::here::Here;
 use assertions::Assertion;
 use basic_output::Says;
 use faults::Fault;
+use json_doc::Doc;
 use keyword_plans::holds_of;
 use keywords::Keyword;
 
 impl<'a> Evaluation<'a> {
     ghost use Rattle.std.specs.Prelude.{[], ◌∷◌, ◌++◌, ℕ, Some, None, false, IfOk, IfErr, OnOk, codes};
     ghost use Rattle.assertions.specs.AssertionView.{assertion_in, assertion_view};
-    ghost use Rattle.definitions.specs.Values.{string};
+    ghost use Rattle.definitions.specs.Assertions.{holds};
+    ghost use Rattle.definitions.specs.Values.{get, string};
     ghost use Rattle.definitions.specs.Applied.{Application};
     ghost use Rattle.definitions.specs.Outcomes.{unit};
     ghost use Rattle.keywords.specs.Rows.{row_of};
@@ -48,7 +51,7 @@ impl<'a> Evaluation<'a> {
     {
         match here.present.value(keyword) {
             Some(keyword_value) => {
-                let met = holds_of(self.alloc, assertion, keyword_value, here.subject)?;
+                let met = self.is_met(keyword, assertion, keyword_value, here)?;
                 if met {
                     Ok(Found::nothing())
                 } else {
@@ -56,6 +59,38 @@ impl<'a> Evaluation<'a> {
                 }
             }
             None => Ok(Found::nothing()),
+        }
+    }
+
+    // Whether the keyword with this value is met: a long `enum` by what the evaluation has sorted. The only error is want of
+    // memory.
+    fn is_met(
+        &mut self,
+        keyword: Keyword,
+        assertion: Assertion,
+        keyword_value: &Doc,
+        here: Here<'_, 'a>,
+    ) -> Result<bool, Fault>
+        requires asserts { Some (assertion_view assertion)
+            ≡ assertion_in (row_of keyword).meaning }
+        ensures linked { self.new.linked ≡ self.old.linked }
+        ensures back { self.new.context ≡ self.old.context }
+        ensures noted { self.new.log ≡ self.old.log }
+        ensures met { (a : Application) → IsHere self.old here.entry a
+            → get (row_of keyword).name a.schema.value ≡ Some (value keyword_value.now)
+            → IfOk result (λ b. b
+            ≡ holds (assertion_view assertion) (value keyword_value.now) a.instance) }
+        ensures err { IfErr result (λ f. f ≡ Fault.NoRoom) }
+    {
+        match keyword {
+            Keyword::Enum => self.enumerations.holds(
+                self.alloc,
+                self.context.resource(),
+                self.context.location().pointer.last(),
+                keyword_value,
+                here.subject,
+            ),
+            _ => Ok(holds_of(self.alloc, assertion, keyword_value, here.subject)?),
         }
     }
 

@@ -11,6 +11,7 @@ mod found;
 mod groups;
 mod here;
 mod kept_values;
+mod leaves;
 mod log;
 mod object_keywords;
 mod one_keyword;

@@ -95,7 +95,7 @@ impl<'a> Evaluation<'a> {
         beside: Beside,
     ) -> Result<Vec<Planned<'a>>, Fault>
         ensures linked { self.new.linked ≡ self.old.linked }
-        ensures back { self.new.context ≡ self.old.context }
+        ensures back { context_view self.new.context ≡ context_view self.old.context }
         ensures noted { self.new.log ≡ self.old.log }
         ensures planned { (a : Application) (left : ℕ) → IsHere self.old here.entry a
             → Knows self.old.linked.now left a (row_of keyword).meaning beside
@@ -115,11 +115,10 @@ impl<'a> Evaluation<'a> {
             resource: self.context.resource(),
             schema: here.present.schema,
             subject: here.subject,
-            scope: self.context.scope(),
         };
         plan(
             self.alloc,
-            &mut self.references,
+            &mut self.context.scope,
             site,
             keyword,
             keyword_value,
@@ -206,7 +205,6 @@ impl<'a> Evaluation<'a> {
             resource: self.context.resource(),
             schema: here.present.schema,
             subject: here.subject,
-            scope: self.context.scope(),
         };
         passes(
             self.alloc,

@@ -16,6 +16,7 @@ ghost use Rattle.json_doc.specs.declared.doc.Doc.{Doc};
 ghost use Rattle.keyword_plans.specs.ValueSets.{value_set};
 ghost use Rattle.keywords.specs.Rows.{row_named, row_of};
 ghost use Rattle.keywords.specs.declared.keyword.Keyword.TheVariants.{UnevaluatedItems, UnevaluatedProperties};
+ghost use Rattle.evaluator.specs.Leaves.{IsLeaf};
 ghost use Rattle.evaluator.specs.Presents.{AreKept, AreMarked, StandsAt, has_mark, mark_of, position};
 
 use crate::dollar_names::{are_many, cut_at_dollar_names};
@@ -25,6 +26,9 @@ use keywords::Keyword;
 
 /// The mark of names that may annotate with their own value.
 const ANNOTATES: usize = 63;
+
+/// The marks of the first groups that don't assert alone: of references, of `pattern`, and of all from `allOf` on.
+const APPLYING: u64 = 0x1_FFF0_1003;
 
 /// A schema, and which names stand in it: a bit for each group of keywords, in the order of evaluation, one for keywords
 /// that are not evaluated, and the last for names that may annotate with their own value; and the values of its first
@@ -70,6 +74,13 @@ impl<'a> Present<'a> {
             ≡ false }
     {
         self.may_have(Keyword::UnevaluatedItems) || self.may_have(Keyword::UnevaluatedProperties)
+    }
+
+    /// Whether its keywords, but those that only declare, look at their own values and the instance alone.
+    pub(crate) fn applies_nothing(&self) -> bool
+        ensures { result ≡ true → IsLeaf (value self.now.schema.now) }
+    {
+        self.marks & APPLYING == 0 && !self.looks_at_evaluated()
     }
 
     // Whether it may have this keyword, or one of its group.

@@ -21,7 +21,7 @@ use basic_output::output_text;
 use evaluation_context::Context;
 use faults::Fault;
 use json_doc::Doc;
-use keyword_plans::{FollowedReferences, Subject};
+use keyword_plans::{Enumerations, Subject};
 use linker::Linked;
 use std::alloc::Global;
 
@@ -85,11 +85,11 @@ pub fn evaluate<'a>(alloc: Global, linked: &'a Linked, instance: &'a Doc) -> Res
 {
     let root = linked.root(alloc);
     let schema = root.schema;
-    let context = Context::new(alloc, root)?;
+    let context = Context::new(alloc, linked, root)?;
     let mut evaluation = Evaluation {
         alloc,
         linked,
-        references: FollowedReferences::new(alloc, linked),
+        enumerations: Enumerations::new(alloc, linked),
         context,
         log: Log::new(alloc),
     };

@@ -9,6 +9,7 @@ ghost use Rattle.definitions.specs.Outcomes.{Use, own_annotation};
 ghost use Rattle.basic_output.specs.Units.{unit_texts};
 ghost use Rattle.evaluation_context.specs.Frames.{context_view};
 ghost use Rattle.keyword_plans.specs.Annotations.{annotation_names};
+ghost use Rattle.keyword_plans.specs.ScopeViews.{scope_documents};
 ghost use Rattle.keyword_plans.specs.Plans.{outcomes_of};
 ghost use Rattle.keywords.specs.Rows.{row_of};
 ghost use Rattle.keyword_plans.specs.Subjects.{subject_value};
@@ -36,6 +37,7 @@ pub(crate) fn settle<'a>(
     passes: bool,
 ) -> Result<(), Fault>
     ensures back { context_view context.new ≡ context_view context.old }
+    ensures documents { scope_documents context.new.scope ≡ scope_documents context.old.scope }
     ensures noted { (l : Linked) (left : ℕ) (a : Application) (names : List Text) (indexes : List ℕ)
         (v : Value) (older : Notes)
         → let u = use_there l left a keyword names indexes v in
@@ -84,6 +86,7 @@ fn note_own<'a>(
     applied: u64,
 ) -> Result<(), Fault>
     ensures back { context_view context.new ≡ context_view context.old }
+    ensures documents { scope_documents context.new.scope ≡ scope_documents context.old.scope }
     ensures noted { (l : Linked) (left : ℕ) (a : Application) (names : List Text) (indexes : List ℕ)
         (v : Value) (older more : Notes)
         → let u = use_there l left a keyword names indexes v in
@@ -140,6 +143,7 @@ fn insert_own<'a>(
     evaluated: Evaluated<'_, 'a>,
 ) -> Result<(), Fault>
     ensures back { context_view context.new ≡ context_view context.old }
+    ensures documents { scope_documents context.new.scope ≡ scope_documents context.old.scope }
     ensures noted { (l : Linked) (left : ℕ) (a : Application) (names : List Text) (indexes : List ℕ)
         (v : Value) (older more : List Text)
         → let u = use_there l left a keyword names indexes v in

@@ -10,6 +10,7 @@ ghost use Rattle.evaluation_context.specs.Standings.{application_at};
 ghost use Rattle.evaluator.specs.Logs.{log_view, mark_view};
 ghost use Rattle.evaluator.specs.Notes.{Notes, lengths, notes_of_both, outcome_notes, uses_notes};
 ghost use Rattle.keyword_plans.specs.Subjects.{subject_value};
+ghost use Rattle.keyword_plans.specs.ScopeViews.{scope_documents};
 
 use crate::annotating::note_others;
 use crate::log::{Log, LogMark};
@@ -29,6 +30,7 @@ pub(crate) fn settle_object<'a>(
     valid: bool,
 ) -> Result<(), AllocError>
     ensures back { OnOk result (context_view context.new ≡ context_view context.old) }
+    ensures documents { scope_documents context.new.scope ≡ scope_documents context.old.scope }
     ensures noted { (a : Application) (older : Notes) (us : List Use)
         → a ≡ application_at (frame_standing (context_view context.old))
         (value present.now.schema.now) (subject_value subject.entry)

@@ -12,3 +12,6 @@ pub mod Unevaluated
 pub mod Once
 pub mod Annotated
 pub mod Verdicts
+pub mod SearchedScopes
+pub mod PlaceOrders
+pub mod Enumerating

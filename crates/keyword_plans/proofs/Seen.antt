@@ -1,12 +1,13 @@
 -- Sets of keys: those that a loop has put in, and those that are left.
-use Rattle.std.proofs.Common.{◌≡◌, ℕ, List, [], ◌∷◌, ◌||◌, Bool, true, false, cond, ◌==◌, nat_cmp, Bor, map, refl, sym, ap, ap₂, ◌∙◌, rules}
+use Rattle.std.proofs.Common.{◌≡◌, ℕ, ◌<◌, List, [], ◌∷◌, ◌||◌, Bool, true, false, cond, ◌==◌, nat_cmp, Bor, map, length, get_or, refl, sym, ap, ap₂, ◌∙◌, rules}
 use Rattle.std.proofs.Math.Bool.{or-false}
+use Rattle.std.proofs.lemmas.List.Folds.{list_any_at}
 use Rattle.std.proofs.lemmas.Map.Text.{is_eq-slice_cmp}
 use Rattle.std.specs.List.{list_any}
 use Rattle.std.specs.Ordering.{eq_by_cmp}
-use Rattle.definitions.specs.Values.{Text}
+use Rattle.definitions.specs.Values.{Text, same_text}
 use Rattle.definitions.specs.Applied.{has}
-use Rattle.lemmas.proofs.Texts.{text_order, same_text_turned}
+use Rattle.lemmas.proofs.Texts.{text_order, text_order-same, same_text_turned}
 
 pub seen-all : {K : Type 0} (b : Bool) (test : K → Bool) (left : List K) (all : Bool) → left ≡ [] → (b || list_any test left) ≡ all → b ≡ all
 seen-all b test left all none same = sym (or-false b) ∙ ap (λ ks. b || list_any test ks) (sym none) ∙ same
@@ -26,6 +27,9 @@ seen-more old new test k left rest all e f same =
 pub has-by_order : (q : Bor Text) (ns : List (Bor Text)) → list_any (λ n. eq_by_cmp text_order n q) ns ≡ has q.now (map (λ (n : Bor Text). n.now) ns)
 has-by_order q [] = refl
 has-by_order q (n ∷ ns) = ap₂ (λ a b. a || b) (is_eq-slice_cmp n.now q.now ∙ same_text_turned n.now q.now) (has-by_order q ns)
+
+pub has-at : (q : Bor Text) (ns : List (Bor Text)) (i : ℕ) (d : Bor Text) → i < length ns → same_text (get_or ns i d).now q.now ≡ true → has q.now (map (λ (n : Bor Text). n.now) ns) ≡ true
+has-at q ns i d within same = sym (has-by_order q ns) ∙ list_any_at (λ n. eq_by_cmp text_order n q) ns i d within (text_order-same (get_or ns i d) q ∙ same)
 
 -- ---- indexes
 same_index : (i j : ℕ) → eq_by_cmp nat_cmp i j ≡ (i == j)

@@ -3,7 +3,12 @@ pub mod Sites
 pub mod ValueSets
 pub mod Followed
 pub mod FollowedIn
+pub mod Searched
+pub mod ScopeViews
 pub mod Plans
 pub mod Annotations
 pub mod Applications
 pub mod Beside
+pub mod Places
+pub mod Enumerated
+pub mod EnumeratedIn

@@ -6,6 +6,8 @@ use Rattle.definitions.specs.Keywords.{Meaning, consequence, min_contains, max_c
 use Rattle.definitions.specs.Applied as definition
 use Rattle.definitions.specs.Applied.{Application, Outcome, Rules, whole, named, indexed, name_of, keyword_applications, part_application, at_part}
 use Rattle.json_doc.specs.Docs.{value}
+use Rattle.keywords.specs.declared.keyword.Keyword.{Keyword}
+use Rattle.keywords.specs.declared.keyword.Keyword.TheVariants.{Ref, DynamicRef, AllOf, AnyOf, OneOf, Not, If, Then, Else, DependentSchemas}
 use Rattle.locations.specs.declared.step.Step.{Step}
 use Rattle.locations.specs.Steps.{token}
 use Rattle.keyword_plans.specs.Followed.{shared_view}
@@ -48,3 +50,21 @@ abbrev pub counts_contained : Meaning → Bool
 counts_contained min_contains = true
 counts_contained max_contains = true
 counts_contained _ = false
+
+-- applies the schema that it refers to
+abbrev pub follows_reference : Keyword → Bool
+follows_reference Ref = true
+follows_reference DynamicRef = true
+follows_reference _ = false
+
+-- applies schemas to the instance that it is applied to
+abbrev pub applies_in_place : Keyword → Bool
+applies_in_place AllOf = true
+applies_in_place AnyOf = true
+applies_in_place OneOf = true
+applies_in_place Not = true
+applies_in_place If = true
+applies_in_place Then = true
+applies_in_place Else = true
+applies_in_place DependentSchemas = true
+applies_in_place k = follows_reference k

@@ -1,5 +1,5 @@
 -- What the keywords of a schema object see of its application.
-use Rattle.std.specs.Prelude.{◌≡◌, map, Contains}
+use Rattle.std.specs.Prelude.{◌≡◌, Contains}
 use Rattle.definitions.specs.Patterns.{has_match}
 use Rattle.definitions.specs.Applied.{Application, Rules}
 use Rattle.definitions.specs.Answers.{rules_of}
@@ -18,5 +18,4 @@ pub record Shows (site : Site) (a : Application) : Type 0 where
   pub schema : a.schema.value ≡ value site.schema.now
   pub resource : a.schema.resource ≡ site.resource.now
   pub instance : a.instance ≡ subject_value site.subject
-  pub scope : a.scope ≡ map (λ uri. uri.now) site.scope.now
   pub inside : Contains (linked_schemas site.linked.now) a.schema

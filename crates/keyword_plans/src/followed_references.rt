@@ -1,13 +1,14 @@
 //! What the references that were followed last name.
 
-ghost use Rattle.std.specs.Prelude.{◌≡◌, ◌<◌, IfOk, IfErr, IfSome, option_map};
+ghost use Rattle.std.specs.Prelude.{◌≡◌, ◌<◌, List, IfOk, IfErr, IfSome, option_map};
 ghost use Rattle.std.specs.List.{All};
 ghost use Rattle.std.proofs.Props.{props};
 ghost use Rattle.definitions.specs.Resolution.{target_uri};
+ghost use Rattle.definitions.specs.Schemas.{Schema};
 ghost use Rattle.definitions.specs.Targets.{target};
+ghost use Rattle.definitions.specs.Values.{Text};
 ghost use Rattle.linker.specs.LinkedDocuments.{linked_schemas};
-ghost use Rattle.schema_index.specs.Locateds.{located_view};
-ghost use Rattle.keyword_plans.specs.Followed.{IsFollowed, shared_view};
+ghost use Rattle.keyword_plans.specs.Followed.{IsFollowed, IsNamed, shared_view};
 ghost use Rattle.keyword_plans.specs.ValueSets.{value_set};
 
 use faults::Fault;
@@ -19,12 +20,21 @@ use std::rc::Rc;
 /// How many references are kept.
 const MOST_KEPT: usize = 16;
 
+/// What a reference names first (JSON Schema 2020-12 Core, 8.2.3).
+#[derive(Drop)]
+pub(crate) struct Followed<'a> {
+    /// The schema.
+    pub(crate) target: Rc<Located<'a>>,
+    /// Its dynamic anchor, where the reference names it by that (8.2.3.2).
+    pub(crate) anchor: Option<&'a str>,
+}
+
 /// A reference that was followed, by its text and the URI of the resource that it stands in, and what it names.
 #[derive(Drop)]
 struct FollowedReference<'a> {
     resource: &'a str,
     reference: &'a str,
-    target: Option<Rc<Located<'a>>>,
+    named: Option<Followed<'a>>,
 }
 
 /// What the references that were followed last in an evaluation name: sixteen at most, of which the one that was kept first
@@ -69,18 +79,42 @@ impl<'a> FollowedReferences<'a> {
         ensures linked { followed_in self.new ≡ followed_in self.old }
         ensures err { IfErr result (λ f. f ≡ Fault.NoRoom) }
     {
+        match self.named(alloc, resource, reference)? {
+            Some(named) => Ok(Some(named.target)),
+            None => Ok(None),
+        }
+    }
+
+    /// What a reference names first, by its text and the URI of the resource that it stands in. The only error is want of
+    /// memory.
+    pub(crate) fn named(
+        &mut self,
+        alloc: Global,
+        resource: &'a str,
+        reference: &'a str,
+    ) -> Result<Option<Followed<'a>>, Fault>
+        ensures ok { IfOk result (λ n. IsNamed (linked_schemas (followed_in self.old).now)
+            (target_uri resource.now reference.now) n) }
+        ensures linked { followed_in self.new ≡ followed_in self.old }
+        ensures err { IfErr result (λ f. f ≡ Fault.NoRoom) }
+    {
         match self.find(resource, reference) {
-            Some(followed) => Ok(again(&followed.target)?),
+            Some(followed) => Ok(again(&followed.named)?),
             None => self.follow(alloc, resource, reference),
         }
     }
 
+    /// The documents that the references stand in.
+    pub(crate) fn linked(&self) -> &'a Linked
+        ensures { result ≡ followed_in self.now }
+    {
+        self.linked
+    }
+
     // The one of this text in this resource, where it is kept.
     fn find(&self, resource: &str, reference: &str) -> Option<&FollowedReference<'a>>
-        ensures { IfSome result
-            (λ f. option_map shared_view f.now.target
-            ≡ target (linked_schemas (followed_in self.now).now)
-            (target_uri resource.now reference.now)) }
+        ensures { IfSome result (λ f. IsNamed (linked_schemas (followed_in self.now).now)
+            (target_uri resource.now reference.now) f.now.named) }
     {
         for followed in &self.followed {
             if followed.reference == reference && followed.resource == resource {
@@ -96,20 +130,19 @@ impl<'a> FollowedReferences<'a> {
         alloc: Global,
         resource: &'a str,
         reference: &'a str,
-    ) -> Result<Option<Rc<Located<'a>>>, Fault>
-        ensures ok { IfOk result
-            (λ t. option_map shared_view t ≡ target (linked_schemas (followed_in self.old).now)
-            (target_uri resource.now reference.now)) }
+    ) -> Result<Option<Followed<'a>>, Fault>
+        ensures ok { IfOk result (λ n. IsNamed (linked_schemas (followed_in self.old).now)
+            (target_uri resource.now reference.now) n) }
         ensures linked { followed_in self.new ≡ followed_in self.old }
         ensures err { IfErr result (λ f. f ≡ Fault.NoRoom) }
     {
-        let target = shared(alloc, self.linked.target(alloc, resource, reference)?)?;
+        let named = named_first(alloc, self.linked, resource, reference)?;
         self.keep(FollowedReference {
             resource,
             reference,
-            target: again(&target)?,
+            named: again(&named)?,
         })?;
-        Ok(target)
+        Ok(named)
     }
 
     // In place of the oldest, where there are as many as are kept.
@@ -127,27 +160,36 @@ impl<'a> FollowedReferences<'a> {
     }
 }
 
-// The same schema once more.
-fn again<'a>(target: &Option<Rc<Located<'a>>>) -> Result<Option<Rc<Located<'a>>>, AllocError>
-    ensures { IfOk result
-        (λ t. option_map shared_view t ≡ option_map shared_view target.now) }
+// What the documents have under the reference.
+fn named_first<'a>(
+    alloc: Global,
+    linked: &'a Linked,
+    resource: &str,
+    reference: &str,
+) -> Result<Option<Followed<'a>>, Fault>
+    ensures ok { IfOk result (λ n. IsNamed (linked_schemas linked.entry.now)
+        (target_uri resource.now reference.now) n) }
+    ensures err { IfErr result (λ f. f ≡ Fault.NoRoom) }
 {
-    match target {
-        Some(schema) => Ok(Some(schema.clone()?)),
+    match linked.named(alloc, resource, reference)? {
+        Some(named) => Ok(Some(Followed {
+            target: Rc::new(alloc, named.target)?,
+            anchor: named.anchor,
+        })),
         None => Ok(None),
     }
 }
 
-/// The schema, to be shared.
-pub(crate) fn shared<'a>(
-    alloc: Global,
-    target: Option<Located<'a>>,
-) -> Result<Option<Rc<Located<'a>>>, AllocError>
-    ensures { IfOk result
-        (λ t. option_map shared_view t ≡ option_map located_view target.entry) }
+// The same once more.
+fn again<'a>(named: &Option<Followed<'a>>) -> Result<Option<Followed<'a>>, AllocError>
+    ensures { (table : List Schema) (text : Text) → IsNamed table text named.now
+        → IfOk result (λ n. IsNamed table text n) }
 {
-    match target {
-        Some(schema) => Ok(Some(Rc::new(alloc, schema)?)),
+    match named {
+        Some(followed) => Ok(Some(Followed {
+            target: followed.target.clone()?,
+            anchor: followed.anchor,
+        })),
         None => Ok(None),
     }
 }

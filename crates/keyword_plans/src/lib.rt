@@ -2,7 +2,10 @@
 #![tactic(auto)]
 
 mod annotating;
+mod dynamic_scope;
+mod enumerations;
 mod followed_references;
+mod places;
 mod planned;
 mod planning;
 mod searching;
@@ -11,6 +14,8 @@ mod subject;
 mod verdict;
 
 pub use annotating::{annotate, distinct_names};
+pub use dynamic_scope::DynamicScope;
+pub use enumerations::Enumerations;
 pub use faults::Fault;
 pub use followed_references::FollowedReferences;
 pub use planned::{Chosen, Part, Planned};

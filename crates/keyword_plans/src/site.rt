@@ -6,7 +6,7 @@ use linker::Linked;
 
 /// The application of a schema object, as its keywords see it.
 #[derive(Clone, Copy)]
-pub struct Site<'s, 'a> {
+pub struct Site<'a> {
     /// The documents that references lead to.
     pub linked: &'a Linked,
     /// The URI of the schema's resource.
@@ -15,8 +15,6 @@ pub struct Site<'s, 'a> {
     pub schema: &'a Doc,
     /// What it is applied to.
     pub subject: Subject<'a>,
-    /// The URIs of the resources of the dynamic scope, the outermost first, the schema's own last.
-    pub scope: &'s [&'a str],
 }
 
 /// The names and the indexes of the instance that the other keywords of a schema object evaluated (JSON Schema 2020-12

@@ -29,7 +29,7 @@ use std::alloc::{AllocError, Global};
 /// there. The only error is want of memory.
 pub fn passes<'a>(
     alloc: Global,
-    site: Site<'_, 'a>,
+    site: Site<'a>,
     keyword: Keyword,
     keyword_value: &'a Doc,
     applied: u64,
@@ -88,7 +88,7 @@ pub fn holds_of(
 }
 
 // Whether the pattern matches the subject, where it is a string (Validation, 6.3.3).
-fn is_pattern_met(alloc: Global, site: Site<'_, '_>, pattern: &Doc) -> Result<bool, Fault>
+fn is_pattern_met(alloc: Global, site: Site<'_>, pattern: &Doc) -> Result<bool, Fault>
     ensures ok { (a : Application) → Shows site.entry a
         → get (codes "pattern") a.schema.value ≡ Some (value pattern.now)
         → IfOk result (λ b. b ≡ pattern_holds has_match (value pattern.now) a.instance) }
@@ -105,7 +105,7 @@ fn is_pattern_met(alloc: Global, site: Site<'_, '_>, pattern: &Doc) -> Result<bo
 
 // Whether so many passing elements are enough for `contains` (Core, 10.3.1.3): one at least, unless `minContains` beside
 // is 0.
-fn contains_enough(passing: u64, site: Site<'_, '_>) -> bool
+fn contains_enough(passing: u64, site: Site<'_>) -> bool
     ensures { (a : Application) → Shows site.entry a
         → result ≡ (not (is_array a.instance)
         || (nat_lt 0 passing || needs_none (beside a (codes "minContains")))) }

@@ -14,3 +14,5 @@ pub mod Judged
 pub mod LinkFaults
 pub mod BothSources
 pub mod DynamicAnchors
+pub mod ShortArrays
+pub mod Distinct

@@ -2,6 +2,7 @@ pub mod SharedDocuments
 pub mod DocumentPatterns
 pub mod LinkedDocuments
 pub mod AbsoluteReferences
+pub mod DynamicTargets
 pub mod Sources
 pub mod ListedDocuments
 pub mod Positions

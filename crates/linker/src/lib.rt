@@ -12,6 +12,7 @@ mod linking;
 mod list_holding;
 mod list_source;
 mod lookups;
+mod named;
 mod source;
 mod visiting;
 
@@ -21,4 +22,5 @@ pub use faults::Fault;
 pub use linked::Linked;
 pub use linking::link;
 pub use list_source::ListSource;
+pub use named::Named;
 pub use source::Source;

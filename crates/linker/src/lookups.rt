@@ -1,16 +1,20 @@
 //! What the linked documents have under a URI, a reference and a pattern's text (JSON Schema 2020-12 Core, section 8.2).
 
-ghost use Rattle.std.specs.Prelude.{◌≡◌, [], Some, Ok, Err, IfOk, IfErr, IfSome, IsTrue, Contains, is_some, map, option_map, find, unwrap_or, string_bytes};
+ghost use Rattle.std.specs.Prelude.{◌≡◌, [], List, false, Some, Ok, Err, IfOk, IfErr, IfSome, IsTrue, Contains, codes, is_some, map, option_map, find, unwrap_or, string_bytes};
 ghost use Rattle.std.specs.BTreeSet.{contains_text};
+ghost use Rattle.std.specs.List.{position_or_len};
+ghost use Rattle.definitions.specs.Fragments.{tokens};
 ghost use Rattle.definitions.specs.Reach.{holds_resource};
 ghost use Rattle.definitions.specs.Resolution.{target_uri};
 ghost use Rattle.definitions.specs.Searches.{patterns_of};
-ghost use Rattle.definitions.specs.Schemas.{Document, Schema};
-ghost use Rattle.definitions.specs.Targets.{resource_root, target, target_by, is_dynamic_anchor, schema_with_dynamic_anchor, outermost, dynamic_by, dynamic_target};
+ghost use Rattle.definitions.specs.Schemas.{Document, Schema, identity};
+ghost use Rattle.definitions.specs.Targets.{resource_root, target, target_by, schema_with_dynamic_anchor, dynamic_by, dynamic_target};
 ghost use Rattle.definitions.specs.Uris.{without_fragment};
-ghost use Rattle.definitions.specs.Values.{Text};
+ghost use Rattle.definitions.specs.Values.{Text, same_text, text_at};
+ghost use Rattle.json_doc.specs.Docs.{value};
 ghost use Rattle.linker.specs.AbsoluteReferences.{dynamic_target_of, target_of};
 ghost use Rattle.linker.specs.DocumentPatterns.{HasPattern};
+ghost use Rattle.linker.specs.DynamicTargets.{first_target, is_anchored, target_by_anchor, target_in_scope};
 ghost use Rattle.linker.specs.SharedDocuments.{shared_documents};
 ghost use Rattle.linker.specs.LinkedDocuments.{linked_uri, linked_documents, linked_schemas};
 ghost use Rattle.schema_index.specs.Locateds.{located_view};
@@ -20,7 +24,9 @@ ghost use Rattle.uri_ref.specs.FragmentViews.{fragment_view};
 
 use crate::holders::holder;
 use crate::linked::Linked;
+use crate::named::Named;
 use faults::Fault;
+use json_doc::{Doc, Pointer};
 use patterns::Pattern;
 use schema_scan::{Compiled, Located};
 use std::alloc::Global;
@@ -40,50 +46,79 @@ impl Linked {
         }
     }
 
-    /// The schema that a reference names (JSON Schema 2020-12 Core, section 8.2.3): the reference's text, and the URI of the
+    /// What a reference names first (JSON Schema 2020-12 Core, section 8.2.3): the reference's text, and the URI of the
     /// resource that it stands in. The only error is want of memory.
-    pub fn target(
+    pub fn named(
         &self,
         alloc: Global,
         resource: &str,
         reference: &str,
-    ) -> Result<Option<Located<'_>>, Fault>
-        ensures ok { IfOk result
-            (λ t. option_map located_view t
+    ) -> Result<Option<Named<'_>>, Fault>
+        ensures first { IfOk result
+            (λ n. option_map first_target n
             ≡ target (linked_schemas self.now) (target_uri resource.now reference.now)) }
-        ensures err { IfErr result (λ f. f ≡ Fault.NoRoom) }
-    {
-        if let Some(named) = self.absolute_reference(resource, reference) {
-            return self.target_of(alloc, named);
-        }
-        match absolute_reference(alloc, resource, reference)? {
-            Some(named) => self.target_of(alloc, &named),
-            None => Ok(None),
-        }
-    }
-
-    /// The schema that a dynamic reference names in a dynamic scope (section 8.2.3.2): the URIs of the scope's resources,
-    /// the outermost first. The only error is want of memory.
-    pub fn dynamic_target(
-        &self,
-        alloc: Global,
-        scope: &[&str],
-        resource: &str,
-        reference: &str,
-    ) -> Result<Option<Located<'_>>, Fault>
-        ensures ok { IfOk result
-            (λ t. option_map located_view t
-            ≡ dynamic_target (linked_schemas self.now) (map (λ uri. uri.now) scope.now)
+        ensures dynamic { (scope : List Text) → IfOk result
+            (λ n. option_map (target_in_scope (linked_schemas self.now) scope) n
+            ≡ dynamic_target (linked_schemas self.now) scope
             (target_uri resource.now reference.now)) }
         ensures err { IfErr result (λ f. f ≡ Fault.NoRoom) }
     {
         if let Some(named) = self.absolute_reference(resource, reference) {
-            return self.dynamic_target_of(alloc, scope, named);
+            return self.named_by(alloc, named);
         }
         match absolute_reference(alloc, resource, reference)? {
-            Some(named) => self.dynamic_target_of(alloc, scope, &named),
+            Some(named) => self.named_by(alloc, &named),
             None => Ok(None),
         }
+    }
+
+    /// How many resources of a dynamic scope stand before the outermost that has this dynamic anchor (section 8.2.3.2), or
+    /// all of them where none has it: the URIs of the scope's resources, the outermost first.
+    pub fn outermost(&self, scope: &[&str], name: &str) -> usize
+        ensures { result ≡ position_or_len (is_anchored (linked_schemas self.now) name.now)
+            (map (λ uri. uri.now) scope.now) }
+    {
+        match self.dynamic_resources.get(name) {
+            Some(uris) => outermost_of(uris, scope),
+            None => scope.len(),
+        }
+    }
+
+    /// The schema with this dynamic anchor in the resource with this URI (section 8.2.2). The only error is want of memory.
+    pub fn dynamically_anchored(
+        &self,
+        alloc: Global,
+        uri: &str,
+        name: &str,
+    ) -> Result<Option<Located<'_>>, Fault>
+        ensures ok { IfOk result
+            (λ t. option_map located_view t
+            ≡ schema_with_dynamic_anchor (linked_schemas self.now) uri.now name.now) }
+        ensures err { IfErr result (λ f. f ≡ Fault.NoRoom) }
+    {
+        match self.holder(uri) {
+            Some(document) => document.dynamically_anchored(alloc, uri, name),
+            None => Ok(None),
+        }
+    }
+
+    /// The schema of this identity (section 8.2.1): the URI of the resource that it stands in, and the pointer from that
+    /// resource's root. The only error is want of memory.
+    pub fn schema_of(
+        &self,
+        alloc: Global,
+        resource: &str,
+        pointer: Pointer,
+    ) -> Result<Option<Located<'_>>, Fault>
+        ensures ok { IfOk result
+            (λ t. option_map located_view t
+            ≡ target_by (linked_schemas self.now) resource.now (tokens pointer)) }
+        ensures named { (s : Schema) → Contains (linked_schemas self.now) s
+            → identity s ≡ (resource.now, pointer)
+            → IfOk result (λ t. option_map located_view t ≡ Some s) }
+        ensures err { IfErr result (λ f. f ≡ Fault.NoRoom) }
+    {
+        self.target_by(alloc, resource, &FragmentKind::Pointer(pointer))
     }
 
     /// The URI of the resource that a schema opens by this `$id`, where the resource around it has this URI (section 8.2.1).
@@ -143,17 +178,23 @@ impl Linked {
         }
     }
 
-    // What an absolute reference names.
-    fn target_of(
-        &self,
-        alloc: Global,
-        named: &AbsoluteReference,
-    ) -> Result<Option<Located<'_>>, Fault>
-        ensures ok { IfOk result
-            (λ t. option_map located_view t ≡ target_of (linked_schemas self.now) named.now) }
+    // What an absolute reference names first.
+    fn named_by(&self, alloc: Global, named: &AbsoluteReference) -> Result<Option<Named<'_>>, Fault>
+        ensures first { IfOk result
+            (λ n. option_map first_target n ≡ target_of (linked_schemas self.now) named.now) }
+        ensures dynamic { (scope : List Text) → IfOk result
+            (λ n. option_map (target_in_scope (linked_schemas self.now) scope) n
+            ≡ dynamic_target_of (linked_schemas self.now) scope named.now) }
         ensures err { IfErr result (λ f. f ≡ Fault.NoRoom) }
     {
-        self.target_by(alloc, named.uri.as_str(), &named.fragment)
+        match self.target_by(alloc, named.uri.as_str(), &named.fragment) {
+            Ok(Some(target)) => {
+                let anchor = dynamic_anchor(&target, &named.fragment);
+                Ok(Some(Named { target, anchor }))
+            }
+            Ok(None) => Ok(None),
+            Err(fault) => Err(fault),
+        }
     }
 
     // What the fragment names in the resource with this URI.
@@ -174,24 +215,6 @@ impl Linked {
         }
     }
 
-    // The schema with this dynamic anchor in the resource with this URI.
-    fn dynamically_anchored(
-        &self,
-        alloc: Global,
-        uri: &str,
-        name: &str,
-    ) -> Result<Option<Located<'_>>, Fault>
-        ensures ok { IfOk result
-            (λ t. option_map located_view t
-            ≡ schema_with_dynamic_anchor (linked_schemas self.now) uri.now name.now) }
-        ensures err { IfErr result (λ f. f ≡ Fault.NoRoom) }
-    {
-        match self.holder(uri) {
-            Some(document) => document.dynamically_anchored(alloc, uri, name),
-            None => Ok(None),
-        }
-    }
-
     // The URI, as a text of the documents, where one of their resources has it, and else an empty text.
     fn resource_uri(&self, uri: &str) -> &str
         ensures { IsTrue (is_some (resource_root (linked_schemas self.now) uri.now))
@@ -205,110 +228,43 @@ impl Linked {
             None => "",
         }
     }
+}
 
-    // What a dynamic reference names.
-    fn dynamic_target_of(
-        &self,
-        alloc: Global,
-        scope: &[&str],
-        named: &AbsoluteReference,
-    ) -> Result<Option<Located<'_>>, Fault>
-        ensures ok { IfOk result
-            (λ t. option_map located_view t
-            ≡ dynamic_target_of (linked_schemas self.now)
-            (map (λ uri. uri.now) scope.now) named.now) }
-        ensures err { IfErr result (λ f. f ≡ Fault.NoRoom) }
-    {
-        match self.target_of(alloc, named) {
-            Ok(Some(first)) => match self.dynamic_by(alloc, scope, first, &named.fragment) {
-                Ok(target) => Ok(Some(target)),
-                Err(fault) => Err(fault),
-            },
-            Ok(None) => Ok(None),
-            Err(fault) => Err(fault),
-        }
-    }
-
-    // The schema that a dynamic reference names where it first names this one (section 8.2.3.2).
-    fn dynamic_by<'a>(
-        &'a self,
-        alloc: Global,
-        scope: &[&str],
-        first: Located<'a>,
-        fragment: &FragmentKind,
-    ) -> Result<Located<'a>, Fault>
-        ensures ok { IfOk result
-            (λ t. located_view t ≡ dynamic_by (linked_schemas self.now)
-            (map (λ uri. uri.now) scope.now) (located_view first.entry)
-            (Ok (fragment_view fragment.now))) }
-        ensures err { IfErr result (λ f. f ≡ Fault.NoRoom) }
-    {
-        match fragment {
-            FragmentKind::Name(name) => {
-                if has_dynamic_anchor(&first, name.as_str()) {
-                    match self.outermost(alloc, scope, name.as_str()) {
-                        Ok(Some(found)) => Ok(found),
-                        Ok(None) => Ok(first),
-                        Err(fault) => Err(fault),
-                    }
-                } else {
-                    Ok(first)
-                }
-            }
-            _ => Ok(first),
-        }
-    }
-
-    // The schema with this dynamic anchor in the outermost resource of the scope that has it.
-    fn outermost(
-        &self,
-        alloc: Global,
-        scope: &[&str],
-        name: &str,
-    ) -> Result<Option<Located<'_>>, Fault>
-        ensures ok { IfOk result
-            (λ t. (first : Schema) → unwrap_or (option_map located_view t) first
-            ≡ outermost (linked_schemas self.now) (map (λ uri. uri.now) scope.now) name.now first) }
-        ensures err { IfErr result (λ f. f ≡ Fault.NoRoom) }
-    {
-        match self.dynamic_resources.get(name) {
-            Some(uris) => self.outermost_of(alloc, uris, scope, name),
-            None => Ok(None),
-        }
-    }
-
-    // The same, where these are the URIs of the resources that have the anchor.
-    fn outermost_of(
-        &self,
-        alloc: Global,
-        uris: &BTreeSet<String>,
-        scope: &[&str],
-        name: &str,
-    ) -> Result<Option<Located<'_>>, Fault>
-        requires { (uri : Text) → contains_text uris.now uri
-            ≡ is_some (schema_with_dynamic_anchor (linked_schemas self.now) uri name.now) }
-        ensures ok { IfOk result
-            (λ t. (first : Schema) → unwrap_or (option_map located_view t) first
-            ≡ outermost (linked_schemas self.now) (map (λ uri. uri.now) scope.now) name.now first) }
-        ensures err { IfErr result (λ f. f ≡ Fault.NoRoom) }
-    {
-        for uri in scope {
-            if uris.contains(*uri) {
-                return self.dynamically_anchored(alloc, uri, name);
-            }
-        }
-        Ok(None)
+// The dynamic anchor by which the fragment names the schema, where it does (section 8.2.3.2).
+fn dynamic_anchor<'a>(target: &Located<'a>, fragment: &FragmentKind) -> Option<&'a str>
+    ensures { (table : List Schema) (scope : List Text)
+        → target_by_anchor table scope (option_map (λ a. a.now) result) (located_view target.now)
+        ≡ dynamic_by table scope (located_view target.now) (Ok (fragment_view fragment.now)) }
+{
+    match fragment {
+        FragmentKind::Name(name) => text_of_anchor(target.schema, name.as_str()),
+        _ => None,
     }
 }
 
-// Whether the schema has this dynamic anchor (section 8.2.2).
-fn has_dynamic_anchor(schema: &Located<'_>, name: &str) -> bool
-    ensures { result ≡ is_dynamic_anchor name.now (located_view schema.now) }
+// The schema's dynamic anchor, where it is this one (section 8.2.2).
+fn text_of_anchor<'a>(schema: &'a Doc, name: &str) -> Option<&'a str>
+    ensures same { IfSome result (λ a. a.now ≡ name.now) }
+    ensures there { is_some result ≡ unwrap_or (option_map (same_text name.now)
+        (text_at (codes "$dynamicAnchor") (value schema.now))) false }
 {
-    match schema.schema.get("$dynamicAnchor") {
-        Some(anchor) => anchor.as_str() == Some(name),
-        None => false,
+    match schema.text_at("$dynamicAnchor") {
+        Some(anchor) => { if anchor == name { Some(anchor) } else { None } }
+        None => None,
     }
+}
+
+// How many texts stand before the first that is one of these.
+fn outermost_of(uris: &BTreeSet<String>, scope: &[&str]) -> usize
+    ensures { result
+        ≡ position_or_len (contains_text uris.now) (map (λ uri. uri.now) scope.now) }
+{
+    for (at, uri) in scope.iter().enumerate() {
+        if uris.contains(*uri) {
+            return at;
+        }
+    }
+    scope.len()
 }
 
 // The first document's pattern with this text, of those that have one.

@@ -1,4 +1,5 @@
 pub mod Ordered
 pub mod Sorting
+pub mod Searching
 pub mod Ended
 pub mod Repeats

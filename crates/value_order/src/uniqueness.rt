@@ -2,15 +2,15 @@
 
 ghost use Rattle.std.specs.Prelude.{◌≡◌, ◌∷◌, IfOk, map, not};
 ghost use Rattle.std.specs.List.{list_any};
-ghost use Rattle.definitions.specs.Values.{same};
+ghost use Rattle.definitions.specs.Values.{integer, same, string};
 ghost use Rattle.definitions.specs.Lists.{has_repeat};
 ghost use Rattle.definitions.specs.Assertions.{is_unique};
 ghost use Rattle.definition_laws.specs.Uniqueness.{has_same_neighbours};
 ghost use Rattle.json_doc.specs.Docs.{value};
-ghost use Rattle.value_order.specs.Sorts.{values_behind, IsSortedFrom};
+ghost use Rattle.value_order.specs.Sorts.{values_behind, AreSortedFrom};
 
 use crate::ordering::compare;
-use json_doc::{Doc, same};
+use json_doc::{Doc, Whole, same};
 use std::alloc::{AllocError, Global};
 
 // So many elements are compared in pairs.
@@ -54,12 +54,46 @@ fn has_repeat(items: &[Doc]) -> bool
 pub fn has_same(doc: &Doc, others: &[Doc]) -> bool
     ensures { result ≡ list_any (λ d. same (value doc.now) (value d)) others.now }
 {
-    others.iter().any(|other| same(doc, other))
+    match doc {
+        Doc::Int(number) => has_number(*number, others),
+        Doc::Str(text) => has_text(text.as_str(), others),
+        _ => others.iter().any(|other| same(doc, other)),
+    }
 }
 
-// The items in the order of their values.
-fn sorted(alloc: Global, items: &[Doc]) -> Result<Vec<&Doc>, AllocError>
-    ensures { IfOk result (λ docs. IsSortedFrom (map value items.now) (values_behind docs.items)) }
+fn has_number(number: Whole, others: &[Doc]) -> bool
+    ensures { result ≡ list_any (λ d. same (integer number) (value d)) others.now }
+{
+    others.iter().any(|other| is_number(other, number))
+}
+
+fn is_number(doc: &Doc, number: Whole) -> bool
+    ensures { result ≡ same (integer number) (value doc.now) }
+{
+    match doc {
+        Doc::Int(other) => *other == number,
+        _ => false,
+    }
+}
+
+fn has_text(text: &str, others: &[Doc]) -> bool
+    ensures { result ≡ list_any (λ d. same (string text.now) (value d)) others.now }
+{
+    others.iter().any(|other| is_text(other, text))
+}
+
+fn is_text(doc: &Doc, text: &str) -> bool
+    ensures { result ≡ same (string text.now) (value doc.now) }
+{
+    match doc {
+        Doc::Str(other) => other.as_str() == text,
+        _ => false,
+    }
+}
+
+/// The items in the order of their values.
+pub(crate) fn sorted(alloc: Global, items: &[Doc]) -> Result<Vec<&Doc>, AllocError>
+    ensures { IfOk result (λ docs. AreSortedFrom (map value items.now) docs.items) }
 {
     let mut docs = references(alloc, items)?;
     docs.sort_unstable_by(|first, second| compare(first, second));

@@ -24,7 +24,7 @@ use std::alloc::Global;
 /// The schemas under the patterns that match a name of the instance, at that member.
 pub(crate) fn plan_patterns<'a>(
     alloc: Global,
-    site: Site<'_, 'a>,
+    site: Site<'a>,
     schemas: &'a Doc,
 ) -> Result<Vec<Planned<'a>>, Fault>
     ensures ok { (a : Application) (k : Text) → Shows site.entry a

@@ -38,7 +38,7 @@ struct PropertyKeywords<'a> {
 /// The schema, at each member of the instance that neither `properties` nor `patternProperties` beside takes.
 pub(crate) fn plan_others<'a>(
     alloc: Global,
-    site: Site<'_, 'a>,
+    site: Site<'a>,
     schema: &'a Doc,
 ) -> Result<Vec<Planned<'a>>, Fault>
     ensures ok { (a : Application) (k : Text) → Shows site.entry a
@@ -52,7 +52,7 @@ pub(crate) fn plan_others<'a>(
     }
 }
 
-fn keywords_beside<'a>(site: Site<'_, 'a>) -> PropertyKeywords<'a>
+fn keywords_beside<'a>(site: Site<'a>) -> PropertyKeywords<'a>
     ensures linked { result.linked.now ≡ site.entry.linked.now }
     ensures beside { (a : Application) → Shows site.entry a → StandsBeside result a }
 {

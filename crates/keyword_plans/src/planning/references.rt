@@ -8,12 +8,12 @@ ghost use Rattle.definitions.specs.Applied.{Application, to_target};
 ghost use Rattle.json_doc.specs.Docs.{value};
 ghost use Rattle.linker.specs.LinkedDocuments.{linked_schemas};
 ghost use Rattle.keyword_plans.specs.Followed.{shared_view};
-ghost use Rattle.keyword_plans.specs.FollowedIn.{followed_in};
+ghost use Rattle.keyword_plans.specs.ScopeViews.{scope_documents, scope_uris};
 ghost use Rattle.keyword_plans.specs.Plans.{planned_view};
 ghost use Rattle.keyword_plans.specs.Sites.{Shows};
 ghost use Rattle.keyword_plans.specs.Subjects.{subject_value};
 
-use crate::followed_references::{FollowedReferences, shared};
+use crate::dynamic_scope::DynamicScope;
 use crate::planned::{Chosen, Part, Planned};
 use crate::site::Site;
 use crate::subject::Subject;
@@ -26,22 +26,23 @@ use std::rc::Rc;
 /// What a reference names (8.2.3.1).
 pub(crate) fn plan_reference<'a>(
     alloc: Global,
-    references: &mut FollowedReferences<'a>,
-    site: Site<'_, 'a>,
+    scope: &mut DynamicScope<'a>,
+    site: Site<'a>,
     reference: &'a Doc,
 ) -> Result<Vec<Planned<'a>>, Fault>
     ensures ok { (a : Application) (k : Text) → Shows site.entry a
-        → followed_in references.old ≡ site.entry.linked
+        → scope_documents scope.old ≡ site.entry.linked
         → get k a.schema.value ≡ Some (value reference.now)
         → IfOk result (λ ps. map (planned_view k a) ps.items
         ≡ to_target a k (option_and_then (target (linked_schemas site.entry.linked.now))
         (reference_at k a.schema))) }
-    ensures linked { followed_in references.new ≡ followed_in references.old }
+    ensures uris { scope_uris scope.new ≡ scope_uris scope.old }
+    ensures documents { scope_documents scope.new ≡ scope_documents scope.old }
     ensures err { IfErr result (λ f. f ≡ Fault.NoRoom) }
 {
     match reference {
         Doc::Str(reference) => {
-            let target = references.target(alloc, site.resource, reference)?;
+            let target = scope.target(alloc, site.resource, reference)?;
             Ok(plan_target(alloc, target, site.subject)?)
         }
         _ => Ok(Vec::new(alloc)),
@@ -51,23 +52,26 @@ pub(crate) fn plan_reference<'a>(
 /// What a dynamic reference names, in the dynamic scope (8.2.3.2).
 pub(crate) fn plan_dynamic_reference<'a>(
     alloc: Global,
-    site: Site<'_, 'a>,
+    scope: &mut DynamicScope<'a>,
+    site: Site<'a>,
     reference: &'a Doc,
 ) -> Result<Vec<Planned<'a>>, Fault>
     ensures ok { (a : Application) (k : Text) → Shows site.entry a
+        → scope_documents scope.old ≡ site.entry.linked
+        → a.scope ≡ scope_uris scope.old
         → get k a.schema.value ≡ Some (value reference.now)
         → IfOk result (λ ps. map (planned_view k a) ps.items
         ≡ to_target a k (option_and_then
         (dynamic_target (linked_schemas site.entry.linked.now) a.scope)
         (reference_at k a.schema))) }
+    ensures uris { scope_uris scope.new ≡ scope_uris scope.old }
+    ensures documents { scope_documents scope.new ≡ scope_documents scope.old }
     ensures err { IfErr result (λ f. f ≡ Fault.NoRoom) }
 {
     match reference {
         Doc::Str(reference) => {
-            let target = site
-                .linked
-                .dynamic_target(alloc, site.scope, site.resource, reference)?;
-            Ok(plan_target(alloc, shared(alloc, target)?, site.subject)?)
+            let target = scope.dynamic_target(alloc, site.resource, reference)?;
+            Ok(plan_target(alloc, target, site.subject)?)
         }
         _ => Ok(Vec::new(alloc)),
     }

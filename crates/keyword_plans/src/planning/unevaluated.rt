@@ -1,21 +1,74 @@
 //! Elements and members that no other keyword evaluated (JSON Schema 2020-12 Core, 11).
 
-ghost use Rattle.std.specs.Prelude.{◌≡◌, map, IfOk};
+ghost use Rattle.std.specs.Prelude.{◌≡◌, map, IfOk, IfSome};
 ghost use Rattle.std.specs.BTreeSet.{contains};
+ghost use Rattle.std.specs.Borrow.{Bor};
 ghost use Rattle.std.specs.List.{list_any};
 ghost use Rattle.std.specs.Ordering.{eq_by_cmp};
+ghost use Rattle.std.proofs.Props.{props};
 ghost use Rattle.definitions.specs.Values.{Text, elements, members};
-ghost use Rattle.definitions.specs.Applied.{Application};
+ghost use Rattle.definitions.specs.Applied.{Application, has};
 ghost use Rattle.json_doc.specs.Docs.{value, members_value};
 ghost use Rattle.keyword_plans.specs.Applications.{planned_unevaluated_items, planned_unevaluated_properties};
 ghost use Rattle.keyword_plans.specs.Plans.{planned_view};
 ghost use Rattle.keyword_plans.specs.Subjects.{subject_value};
+ghost use Rattle.lemmas.proofs.Texts.{text_order};
 
 use crate::planned::{Chosen, Part, Planned};
 use crate::subject::Subject;
 use json_doc::{Doc, Members};
 use std::alloc::{AllocError, Global};
 use std::collections::BTreeSet;
+
+// Names, among which others are looked for: those that are asked for in the order in which they stand here are found at once,
+// and a set of all is made where the first other one is asked for.
+#[derive(Drop)]
+struct NamesInOrder<'n, 'a> {
+    alloc: Global,
+    names: &'n [&'a str],
+    // So many were asked for in order.
+    passed: usize,
+    all: Option<BTreeSet<&'a str>>,
+    ghost right: { IfSome all (λ s. (q : Bor Text)
+        → contains text_order s q ≡ list_any (λ n. eq_by_cmp text_order n q) names.now) } by { Prim.hlevel props },
+}
+
+impl<'n, 'a> NamesInOrder<'n, 'a> {
+    fn new(alloc: Global, names: &'n [&'a str]) -> NamesInOrder<'n, 'a>
+        ensures { result.names.now ≡ names.now }
+    {
+        NamesInOrder {
+            alloc,
+            names,
+            passed: 0,
+            all: None,
+        }
+    }
+
+    fn has(&mut self, name: &'a str) -> Result<bool, AllocError>
+        ensures has { IfOk result (λ b. b ≡ has name.now (map (λ n. n.now) self.old.names.now)) }
+        ensures names { self.new.names.now ≡ self.old.names.now }
+    {
+        if self.passed < self.names.len() && self.names[self.passed] == name {
+            self.passed += 1;
+            return Ok(true);
+        }
+        self.is_among_all(name)
+    }
+
+    fn is_among_all(&mut self, name: &'a str) -> Result<bool, AllocError>
+        ensures has { IfOk result (λ b. b ≡ has name.now (map (λ n. n.now) self.old.names.now)) }
+        ensures names { self.new.names.now ≡ self.old.names.now }
+    {
+        if let Some(all) = &self.all {
+            return Ok(is_in(all, name));
+        }
+        let all = set_of(self.alloc, self.names)?;
+        let found = is_in(&all, name);
+        self.all = Some(all);
+        Ok(found)
+    }
+}
 
 /// The schema, at each element whose index isn't among these (11.2).
 pub(crate) fn plan_unevaluated_items<'a>(
@@ -84,10 +137,10 @@ fn plan_unevaluated_members<'a>(
         ≡ planned_unevaluated_properties k a (value schema.now) (map (λ n. n.now) names.now)
         (members_value members.now)) }
 {
-    let evaluated = set_of(alloc, names)?;
+    let mut evaluated = NamesInOrder::new(alloc, names);
     let mut planned = Vec::new(alloc);
     for (name, member) in members.iter() {
-        if !is_in(&evaluated, name) {
+        if !evaluated.has(name)? {
             planned.push(Planned {
                 chosen: Chosen::Below(None, schema),
                 part: Part::Member(name),

@@ -14,6 +14,7 @@ use Rattle.evaluator.proofs.annotating.note_among.Goals as goal
 pub loop-name-preserved-in-Continue-1 : goal.loop-name-preserved-in-Continue-1
 loop-name-preserved-in-Continue-1 c = record {
   back = c.in_ok-note_member.ensures.back ∙ c.loop-name.invariant.back;
+  documents = c.in_ok-note_member.ensures.documents ∙ c.loop-name.invariant.documents;
   noted = λ a at s i.
       let n = log_view c.loop-name.log in
       let name = c.in-Some.name.now in

@@ -9,6 +9,7 @@ use Rattle.evaluator.proofs.annotating.note_others.Goals as goal
 pub returns-then-not-may_annotate : goal.returns-then-not-may_annotate
 returns-then-not-may_annotate c = record {
   back = refl;
+  documents = refl;
   noted = λ a at s i.
       sym (added_nothing (log_view c.args.log.now))
       ∙ ap (λ us. notes_of_both (log_view c.args.log.now) (annotated us)) (sym (c.may_annotate.ensures a s c.if-not-may_annotate.true));
@@ -17,6 +18,7 @@ returns-then-not-may_annotate c = record {
 pub returns-in-None : goal.returns-in-None
 returns-in-None c = record {
   back = refl;
+  documents = refl;
   noted = λ a at s i.
       sym (added_nothing (log_view c.args.log.now))
       ∙ ap (λ us. notes_of_both (log_view c.args.log.now) (annotated us)) (no_others a (value c.args.present.now.schema.now) s c.in-None.ensures);

@@ -13,7 +13,7 @@ pub returns-then-found-clause-err : goal.returns-then-found-clause-err
 returns-then-found-clause-err c other =
     let s = located_view c.root-root.result in
     let x = value c.args.instance.now in
-    let f = c.in-Ok.ensures.found (first_application s x) (first_is_at c.args.linked.now (context_view c.in_ok-context.context) s x c.root-root.ensures (c.in_ok-context.ensures x)) in
+    let f = c.in-Ok.ensures.found (first_application s x) (first_is_at c.args.linked.now (context_view c.in_ok-context.context) s x c.root-root.ensures (c.in_ok-context.ensures.there x)) in
     first_outcome c.args.linked.now s x c.root-root.ensures
     ∙ answer_loop 100000 (linked_outcome c.args.linked.now 1000 (first_application s x)) f.within (sym f.looped ∙ c.if-found.true)
 
@@ -21,7 +21,7 @@ pub returns-then-found-2-clause-err : goal.returns-then-found-2-clause-err
 returns-then-found-2-clause-err c other =
     let s = located_view c.root-root.result in
     let x = value c.args.instance.now in
-    let f = c.in-Ok.ensures.found (first_application s x) (first_is_at c.args.linked.now (context_view c.in_ok-context.context) s x c.root-root.ensures (c.in_ok-context.ensures x)) in
+    let f = c.in-Ok.ensures.found (first_application s x) (first_is_at c.args.linked.now (context_view c.in_ok-context.context) s x c.root-root.ensures (c.in_ok-context.ensures.there x)) in
     first_outcome c.args.linked.now s x c.root-root.ensures
     ∙ answer_deep 100000 (linked_outcome c.args.linked.now 1000 (first_application s x)) f.within (sym f.looped ∙ c.if-found.false) (sym f.deep ∙ c.if-found-2.true)
 
@@ -30,7 +30,7 @@ returns-in-Ok-clause-ok c =
     let s = located_view c.root-root.result in
     let x = value c.args.instance.now in
     let o = linked_outcome c.args.linked.now 1000 (first_application s x) in
-    let at = first_is_at c.args.linked.now (context_view c.in_ok-context.context) s x c.root-root.ensures (c.in_ok-context.ensures x) in
+    let at = first_is_at c.args.linked.now (context_view c.in_ok-context.context) s x c.root-root.ensures (c.in_ok-context.ensures.there x) in
     let f = c.in-Ok.ensures.found (first_application s x) at in
     let noted = noted_first (log_view c.apply.new.self.log) _ o c.new-3.ensures (c.in-Ok.ensures.noted (first_application s x) at) in
     let is = first_outcome c.args.linked.now s x c.root-root.ensures
@@ -41,7 +41,7 @@ pub returns-clause-err : goal.returns-clause-err
 returns-clause-err c other =
     let s = located_view c.root-root.result in
     let x = value c.args.instance.now in
-    let e = c.in-Err.ensures.err (first_application s x) (first_is_at c.args.linked.now (context_view c.in_ok-context.context) s x c.root-root.ensures (c.in_ok-context.ensures x)) other in
+    let e = c.in-Err.ensures.err (first_application s x) (first_is_at c.args.linked.now (context_view c.in_ok-context.context) s x c.root-root.ensures (c.in_ok-context.ensures.there x)) other in
     first_outcome c.args.linked.now s x c.root-root.ensures
     ∙ answer_costly 100000 (linked_outcome c.args.linked.now 1000 (first_application s x)) e.1 ∙ ap Err (ap fault_view (sym e.0))
 

@@ -26,5 +26,5 @@ returns-in_ok-insert-in-Some-clause-noted c l left a names indexes v older more 
     ∙ ap (λ ts. older ++ ts)
     (ap (λ (unit : OutputUnit). unit_text true unit ∷ more)
     (c.location.ensures says
-    ∙ unit_under (context_view c.args.context.now) (context_view c.write_locations.new.self) (row_of c.args.keyword).name a (says_value says) c.write_locations.ensures under)
+    ∙ unit_under (context_view c.args.context.now) (context_view c.write_locations.new.self) (row_of c.args.keyword).name a (says_value says) c.write_locations.ensures.same under)
     ∙ own_some a (use_there l left a c.args.keyword names indexes v) (says_value says) more (sym (ap (option_map says_value) c.in-Some.is) ∙ told))

@@ -35,6 +35,6 @@ returns-in_ok-insert_error-clause-noted c l left a names indexes v older inst co
     c.in_ok-insert_error.ensures older (record seen { annotations = [] }) m (c.cut_annotations.ensures older seen m (c.hide.ensures older (parts_notes meaning u.outcomes) m e))
     ∙ ap (λ (unit : OutputUnit). notes_of_both older (record seen { annotations = []; errors = unit_text false unit ∷ seen.errors }))
     (c.location.ensures (NotMet c.name.result)
-    ∙ unit_under (context_view c.args.context.now) (context_view c.write_locations.new.self) (row_of k).name a (says_value (NotMet c.name.result)) c.write_locations.ensures under
+    ∙ unit_under (context_view c.args.context.now) (context_view c.write_locations.new.self) (row_of k).name a (says_value (NotMet c.name.result)) c.write_locations.ensures.same under
     ∙ ap (λ n. unit a (row_of k).name (string (n ++ codes " is not met"))) c.name.ensures)
     ∙ ap (notes_of_both older) (failing_settled l left a k names indexes v (sym c.if-passes.false ∙ passes))

@@ -12,18 +12,18 @@ use Rattle.evaluation_context.proofs.context.Context.enter_chosen.Goals as goal
 
 pub returns-in_ok-enter_step-in-Below-clause-there : goal.returns-in_ok-enter_step-in-Below-clause-there
 returns-in_ok-enter_step-in-Below-clause-there c =
-    below_there c.enter_schema.result (linked_schemas c.args.linked.now) (context_view c.args.self.now) (context_view c.enter_step.new.self) (context_view c.enter_schema.new.self) c.args.chosen.now c.in-Below.step c.in-Below.schema c.in-Below.is c.in_ok-enter_step-in-Below.ensures c.enter_schema.ensures.there
+    below_there c.enter_schema.result (linked_schemas c.args.linked.now) (context_view c.args.self.now) (context_view c.enter_step.new.self) (context_view c.enter_schema.new.self) c.args.chosen.now c.in-Below.step c.in-Below.schema c.in-Below.is c.in_ok-enter_step-in-Below.ensures.moved c.enter_schema.ensures.there
 
 pub returns-in_ok-enter_step-in-Below-clause-onward : goal.returns-in_ok-enter_step-in-Below-clause-onward
 returns-in_ok-enter_step-in-Below-clause-onward c =
     let first : Onward (context_view c.args.self.now) (context_view c.enter_step.new.self) =
-    onward_at c.in_ok-enter_step-in-Below.ensures (onward_stepped (step_view c.in-Below.step) (context_view c.args.self.now)) in
+    onward_at c.in_ok-enter_step-in-Below.ensures.moved (onward_stepped (step_view c.in-Below.step) (context_view c.args.self.now)) in
     on_ok_weaker c.enter_schema.result (λ next. onward_onward first next) c.enter_schema.ensures.onward
 
 pub returns-in_ok-enter_target-in-Target-clause-there : goal.returns-in_ok-enter_target-in-Target-clause-there
 returns-in_ok-enter_target-in-Target-clause-there c = λ contains.
     target_there (context_view c.args.self.now) (context_view c.enter_target.new.self) c.args.chosen.now c.in-Target.located c.in-Target.is
-    (c.in_ok-enter_target-in-Target.ensures ∙ ap (λ (l : Located). at_schema (located_view l) (context_view c.args.self.now)) c.deref.ensures)
+    (c.in_ok-enter_target-in-Target.ensures.moved ∙ ap (λ (l : Located). at_schema (located_view l) (context_view c.args.self.now)) c.deref.ensures)
 
 pub returns-in_ok-enter_target-in-Target-clause-onward : goal.returns-in_ok-enter_target-in-Target-clause-onward
-returns-in_ok-enter_target-in-Target-clause-onward c = onward_at c.in_ok-enter_target-in-Target.ensures (onward_schema (located_view c.deref.result.now) (context_view c.args.self.now))
+returns-in_ok-enter_target-in-Target-clause-onward c = onward_at c.in_ok-enter_target-in-Target.ensures.moved (onward_schema (located_view c.deref.result.now) (context_view c.args.self.now))

@@ -3,9 +3,9 @@ use Rattle.evaluation_context.specs.Frames.{Frame, context_view, keyword_frame}
 use Rattle.evaluation_context.proofs.FrameLaws.{same_frames}
 use Rattle.evaluation_context.proofs.context.Context.leave_keyword.Goals as goal
 
-pub returns : goal.returns
+pub returns-clause-left : goal.returns-clause-left
 unfolding context_view keyword_frame
-returns c = λ older k h.
+returns-clause-left c = λ older k h.
     let old = c.args.self.now in
     same_frames
     (c.pop.ensures.last older.path k (ap (λ (f : Frame). f.path) h))

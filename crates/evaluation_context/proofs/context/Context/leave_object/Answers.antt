@@ -1,11 +1,11 @@
 use Rattle.std.proofs.Common.{refl, ap, ◌∙◌}
 use Rattle.evaluation_context.specs.Frames.{Frame, context_view, object_frame}
-use Rattle.evaluation_context.proofs.FrameLaws.{same_frames, same_locations, popped}
+use Rattle.evaluation_context.proofs.FrameLaws.{same_frames, same_locations}
 use Rattle.evaluation_context.proofs.context.Context.leave_object.Goals as goal
 
-pub returns : goal.returns
+pub returns-clause-left : goal.returns-clause-left
 unfolding context_view object_frame
-returns c = λ older h.
+returns-clause-left c = λ older h.
     let old = c.args.self.now in
     same_frames
     (ap (λ (f : Frame). f.path) h)
@@ -13,5 +13,5 @@ returns c = λ older h.
     (ap (λ (f : Frame). f.resource) h)
     (ap (λ (f : Frame). f.pointer) h)
     (same_locations c.pop-2.ensures.instance_location refl ∙ ap (λ (f : Frame). f.instance_location) h)
-    (popped (λ uri. uri.now) old.scope.items c.pop.new.self.items c.pop.result _ c.pop.ensures.items c.pop.ensures.variant.1 old.scope.ok.0 older.scope older.resource (ap (λ (f : Frame). f.scope) h))
+    (c.pop.ensures.popped older.scope older.resource (ap (λ (f : Frame). f.scope) h))
     (c.pop-2.ensures.running older.running _ (ap (λ (f : Frame). f.running) h))

@@ -3,9 +3,9 @@ use Rattle.evaluation_context.specs.Frames.{context_view}
 use Rattle.evaluation_context.proofs.FrameLaws.{same_frames, same_locations}
 use Rattle.evaluation_context.proofs.context.Context.leave_planned.Goals as goal
 
-pub returns : goal.returns
+pub returns-clause-left : goal.returns-clause-left
 unfolding context_view
-returns c = λ older h.
+returns-clause-left c = λ older h.
     let old = c.args.self.now in
     same_frames
     c.truncate.ensures.last

@@ -1,7 +1,6 @@
-use Rattle.std.proofs.Common.{map, ap}
 use Rattle.evaluation_context.specs.Frames.{context_view, frame_standing}
 use Rattle.evaluation_context.proofs.context.Context.scope.Goals as goal
 
 pub returns : goal.returns
 unfolding context_view frame_standing
-returns c = ap (map (λ uri. uri.now)) c.deref.ensures.value
+returns c = c.uris.ensures

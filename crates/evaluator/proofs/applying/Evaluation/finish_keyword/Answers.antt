@@ -19,4 +19,4 @@ returns-clause-found c a left budget names indexes at finds =
     c.in_ok-passes.passes finds (c.in_ok-passes.ensures.passes a left names indexes at finds.number finds.passing) c.under.ensures
 
 pub returns-clause-back : goal.returns-clause-back
-returns-clause-back c older e = c.leave_keyword.ensures older (row_of c.args.keyword).name (c.in_ok-settle.ensures.back ∙ ap context_view c.in_ok-passes.ensures.back ∙ e)
+returns-clause-back c older e = c.leave_keyword.ensures.left older (row_of c.args.keyword).name (c.in_ok-settle.ensures.back ∙ ap context_view c.in_ok-passes.ensures.back ∙ e)

@@ -19,4 +19,4 @@ returns-clause-noted c a s x e =
     rw c.if-allowed.false
     (c.in_ok-push_error.ensures
     ∙ ap (λ (u : OutputUnit). notes_of_both (log_view c.args.self.now.log) (record no_notes { errors = unit_text false u ∷ [] }))
-    (c.location.ensures NotAllowed ∙ ap (λ f. unit_there (frame_standing f) (says_value NotAllowed)) c.write_locations.ensures ∙ sym (ap false_unit e)))
+    (c.location.ensures NotAllowed ∙ ap (λ f. unit_there (frame_standing f) (says_value NotAllowed)) c.write_locations.ensures.same ∙ sym (ap false_unit e)))

@@ -10,7 +10,6 @@ returns-clause-passes c a left names indexes at number passing =
       schema = at.schema;
       resource = sym (ap (λ (s : Standing). s.resource) at.under) ∙ sym c.resource.ensures;
       instance = at.instance;
-      scope = sym (ap (λ (s : Standing). s.scope) at.under) ∙ sym c.scope.ensures;
       inside = at.inside;
     })
     at.valued at.knows.containing number passing

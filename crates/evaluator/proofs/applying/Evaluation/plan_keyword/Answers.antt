@@ -1,11 +1,12 @@
 use Rattle.std.proofs.Common.{◌∙◌, ap, sym, map, drop}
 use Rattle.definitions.specs.Applied.{Application}
+use Rattle.evaluation_context.specs.Frames.{context_view, frame_standing}
 use Rattle.evaluator.specs.Logs.{log_view}
 use Rattle.evaluator.specs.Rounds.{linked_outcome}
 use Rattle.evaluator.proofs.applying.Evaluation.plan_keyword.Goals as goal
 
 pub returns-clause-planned : goal.returns-clause-planned
-unfolding log_view
+unfolding log_view context_view frame_standing
 returns-clause-planned c a left at knows got =
     let names = c.evaluated_since-evaluated.ensures.names ∙ ap (λ ns. drop c.args.here.before.names (map (λ n. n.now) ns)) c.deref.ensures.value in
     let indexes = c.evaluated_since-evaluated.ensures.indexes ∙ ap (λ is. drop c.args.here.before.indexes is) c.deref-2.ensures.value in
@@ -15,7 +16,10 @@ returns-clause-planned c a left at knows got =
       schema = ap (λ (b : Application). b.schema.value) at.there;
       resource = ap (λ (b : Application). b.schema.resource) at.there ∙ sym c.resource.ensures;
       instance = ap (λ (b : Application). b.instance) at.there;
-      scope = ap (λ (b : Application). b.scope) at.there ∙ sym c.scope.ensures;
       inside = at.inside;
     })
-    c.args.self.now.followed got knows.condition)
+    c.args.self.now.followed (ap (λ (b : Application). b.scope) at.there) got knows.condition)
+
+pub returns-clause-back : goal.returns-clause-back
+unfolding context_view
+returns-clause-back c = ap (λ uris. record (context_view c.args.self.now.context) { scope = uris }) c.plan.ensures.uris

@@ -17,7 +17,7 @@ returns-clause-noted c a is =
     c.in_ok-push_error.ensures
     ∙ ap (λ (u : OutputUnit). notes_of_both (log_view c.args.self.now.log) (record no_notes { errors = unit_text false u ∷ [] }))
     (c.location.ensures (NotMet c.name-2.result)
-    ∙ ap (λ f. unit_there (frame_standing f) (says_value (NotMet c.name-2.result))) c.write_locations.ensures
+    ∙ ap (λ f. unit_there (frame_standing f) (says_value (NotMet c.name-2.result))) c.write_locations.ensures.same
     ∙ ap (λ (st : Standing). unit_there st (string (c.name-2.result.now ++ codes " is not met"))) (c.in_ok-enter_keyword.ensures.there ∙ ap (at_keyword c.name.result.now) is)
     ∙ ap (λ n. unit a c.name.result.now (string (n ++ codes " is not met"))) c.name-2.ensures
     ∙ ap (λ n. unit a n (string ((row_of c.args.keyword).name ++ codes " is not met"))) c.name.ensures)

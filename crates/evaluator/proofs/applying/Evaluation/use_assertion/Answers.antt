@@ -6,10 +6,15 @@ use Rattle.definitions.specs.Assertions.{holds}
 use Rattle.definitions.specs.Applied.{Application}
 use Rattle.json_doc.specs.Docs.{value}
 use Rattle.keywords.specs.Rows.{row_of}
+use Rattle.keywords.specs.declared.group.Group.TheVariants.{One}
+use Rattle.evaluation_context.specs.Frames.{context_view, frame_standing}
 use Rattle.evaluation_context.specs.Standings.{standing_of}
+use Rattle.evaluation_context.specs.declared.context.Context.{Context}
 use Rattle.evaluator.specs.Findings.{FindsUses}
 use Rattle.evaluator.specs.Logs.{log_view}
 use Rattle.evaluator.specs.Notes.{Notes, notes_of_both, uses_notes}
+use Rattle.evaluator.specs.Rounds.{group_uses}
+use Rattle.evaluator.specs.declared.log.Log.{Log}
 use Rattle.evaluator.proofs.AssertedLaws.{absent_found, absent_use, alone_found, asserted_use, failing_notes, passing_notes}
 use Rattle.evaluator.proofs.LogLaws.{added_nothing}
 use Rattle.evaluator.proofs.applying.Evaluation.use_assertion.Goals as goal
@@ -20,7 +25,7 @@ returns-then-met-clause-found c a left budget at =
     let x = assertion_view c.args.assertion in
     let v = value c.in-Some.keyword_value.now in
     let got : get (row_of k).name a.schema.value ≡ Some v = ap (λ (b : Application). get (row_of k).name b.schema.value) at.there ∙ sym c.in-Some.ensures in
-    let met : holds x v a.instance ≡ true = ap (λ (b : Application). holds x v b.instance) at.there ∙ sym c.in_ok-met-in-Some.ensures ∙ c.if-met.true in
+    let met : holds x v a.instance ≡ true = sym (c.in_ok-met-in-Some.ensures.met a at got) ∙ c.if-met.true in
     subst (FindsUses c.nothing.result budget) (sym (asserted_use c.args.self.now.linked.now left a k v x c.requires.asserts got))
     (alone_found c.nothing.result budget (row_of k).name x v a true met c.nothing.ensures)
 
@@ -30,8 +35,8 @@ returns-then-met-clause-noted c a left at =
     let x = assertion_view c.args.assertion in
     let v = value c.in-Some.keyword_value.now in
     let got : get (row_of k).name a.schema.value ≡ Some v = ap (λ (b : Application). get (row_of k).name b.schema.value) at.there ∙ sym c.in-Some.ensures in
-    let met : holds x v a.instance ≡ true = ap (λ (b : Application). holds x v b.instance) at.there ∙ sym c.in_ok-met-in-Some.ensures ∙ c.if-met.true in
-    sym (added_nothing (log_view c.args.self.now.log))
+    let met : holds x v a.instance ≡ true = sym (c.in_ok-met-in-Some.ensures.met a at got) ∙ c.if-met.true in
+    ap log_view c.in_ok-met-in-Some.ensures.noted ∙ sym (added_nothing (log_view c.args.self.now.log))
     ∙ ap (notes_of_both (log_view c.args.self.now.log)) (sym (ap (uses_notes a) (asserted_use c.args.self.now.linked.now left a k v x c.requires.asserts got) ∙ passing_notes (row_of k).name x v a met))
 
 pub returns-else-met-clause-found : goal.returns-else-met-clause-found
@@ -40,7 +45,7 @@ returns-else-met-clause-found c a left budget at =
     let x = assertion_view c.args.assertion in
     let v = value c.in-Some.keyword_value.now in
     let got : get (row_of k).name a.schema.value ≡ Some v = ap (λ (b : Application). get (row_of k).name b.schema.value) at.there ∙ sym c.in-Some.ensures in
-    let met : holds x v a.instance ≡ false = ap (λ (b : Application). holds x v b.instance) at.there ∙ sym c.in_ok-met-in-Some.ensures ∙ c.if-met.false in
+    let met : holds x v a.instance ≡ false = sym (c.in_ok-met-in-Some.ensures.met a at got) ∙ c.if-met.false in
     IfOk-weaker c.refuse.result _ _
     (λ f is. subst (FindsUses f budget) (sym (asserted_use c.args.self.now.linked.now left a k v x c.requires.asserts got)) (alone_found f budget (row_of k).name x v a false met is))
     c.refuse.ensures.found
@@ -51,10 +56,14 @@ returns-else-met-clause-noted c a left at =
     let x = assertion_view c.args.assertion in
     let v = value c.in-Some.keyword_value.now in
     let got : get (row_of k).name a.schema.value ≡ Some v = ap (λ (b : Application). get (row_of k).name b.schema.value) at.there ∙ sym c.in-Some.ensures in
-    let met : holds x v a.instance ≡ false = ap (λ (b : Application). holds x v b.instance) at.there ∙ sym c.in_ok-met-in-Some.ensures ∙ c.if-met.false in
-    subst (λ (n : Notes). OnOk c.refuse.result (log_view c.refuse.new.self.log ≡ notes_of_both (log_view c.args.self.now.log) n))
+    let met : holds x v a.instance ≡ false = sym (c.in_ok-met-in-Some.ensures.met a at got) ∙ c.if-met.false in
+    let standing : frame_standing (context_view c.is_met.new.self.context) ≡ standing_of a =
+    ap (λ (x : Context). frame_standing (context_view x)) c.in_ok-met-in-Some.ensures.back ∙ ap standing_of (sym at.there) in
+    let uses = group_uses c.args.self.now.linked.now left a (One k) in
+    subst (λ (g : Log). OnOk c.refuse.result (log_view c.refuse.new.self.log ≡ notes_of_both (log_view g) (uses_notes a uses))) c.in_ok-met-in-Some.ensures.noted
+    (subst (λ (n : Notes). OnOk c.refuse.result (log_view c.refuse.new.self.log ≡ notes_of_both (log_view c.is_met.new.self.log) n))
     (sym (ap (uses_notes a) (asserted_use c.args.self.now.linked.now left a k v x c.requires.asserts got) ∙ failing_notes (row_of k).name x v a met))
-    (c.refuse.ensures.noted a (ap standing_of (sym at.there)))
+    (c.refuse.ensures.noted a standing))
 
 pub returns-in-None-clause-found : goal.returns-in-None-clause-found
 returns-in-None-clause-found c a left budget at =

@@ -7,9 +7,11 @@ use Rattle.keyword_plans.specs.Applications.{planned_unevaluated_properties}
 use Rattle.keyword_plans.specs.Plans.{planned_view}
 use Rattle.keyword_plans.proofs.planning.unevaluated.plan_unevaluated_members.Given as goal
 
--- what is planned, and what the members that are left add
+-- the names stay those that are given; what is planned, and what the members that are left add
 abbrev pub invariant-loop-name : goal.invariant-loop-name
-invariant-loop-name l =
-    (a : Application) (k : Text)
-    → map (planned_view k a) l.planned.items ++ planned_unevaluated_properties k a (value l.schema) (map (λ n. n.now) l.names) (members_left l.name-iterator)
-    ≡ planned_unevaluated_properties k a (value l.schema) (map (λ n. n.now) l.names) (members_value l.members)
+invariant-loop-name l = record {
+  names : l.evaluated.names.now ≡ l.names;
+  planned : (a : Application) (k : Text)
+      → map (planned_view k a) l.planned.items ++ planned_unevaluated_properties k a (value l.schema) (map (λ n. n.now) l.names) (members_left l.name-iterator)
+      ≡ planned_unevaluated_properties k a (value l.schema) (map (λ n. n.now) l.names) (members_value l.members);
+}

@@ -43,7 +43,7 @@ apply_object-returns-in_ok-settle_object-in-Ok-clause-noted t c a at =
     let n = log_view c.args.self.now.log in
     let us = object_uses l c.args.room.nesting (application_within a) in
     let back : context_view c.leave_object.new.self ≡ context_view c.args.self.now.context =
-    c.leave_object.ensures (context_view c.args.self.now.context) (c.in-Ok.ensures.back ∙ c.in_ok-enter_object.ensures.entered) in
+    c.leave_object.ensures.left (context_view c.args.self.now.context) (c.in-Ok.ensures.back ∙ c.in_ok-enter_object.ensures.entered) in
     c.in_ok-settle_object-in-Ok.ensures.noted a n us (here.there ∙ ap (λ (f : Frame). application_at (frame_standing f) s x) (sym back)) c.mark-mark.ensures
     (c.in-Ok.ensures.noted (application_within a) inner ∙ ap (notes_of_both n) (entered_notes a us)) (c.in-Ok.ensures.found (application_within a) inner).valid
     ∙ ap (λ (o : Outcome). notes_of_both n (outcome_notes o)) (sym (object_by_groups l c.args.room.nesting a))

@@ -37,7 +37,7 @@ use_keyword-returns-in-Ok-clause-found t c a at knows got =
     let same = c.in_ok-planned.ensures.planned a left at knows got in
     let outcomes = planned_outcomes l left k a ps ∙ ap (map (λ (e : Part × Application). (e.0, linked_outcome l left e.1))) same in
     let there = c.in_ok-enter_keyword.ensures.there ∙ ap (λ n. at_keyword n (frame_standing (context_view c.plan_keyword.new.self.context))) c.name.ensures
-    ∙ ap (λ here. at_keyword k (frame_standing (context_view here))) c.in_ok-planned.ensures.back in
+    ∙ ap (λ here. at_keyword k (frame_standing here)) c.in_ok-planned.ensures.back in
     let here = at_keyword_of l left (context_view old.context) (context_view c.enter_keyword.new.self) s x keyword v c.args.beside a at there knows got in
     let known : (p : Planned) → Contains-use_keyword ps p → IsKnown c.plan_keyword.new.self.linked.now k a p =
     λ p inside. subst (λ (b : Bor Linked). IsKnown b.now k a p) (sym c.in_ok-planned.ensures.linked) (planned_known l left keyword a ps names indexes v at.inside got same p inside) in
@@ -68,7 +68,7 @@ use_keyword-returns-in-Ok-clause-noted t c a at knows got =
     let same = c.in_ok-planned.ensures.planned a left at knows got in
     let outcomes = planned_outcomes l left k a ps ∙ ap (map (λ (e : Part × Application). (e.0, linked_outcome l left e.1))) same in
     let there = c.in_ok-enter_keyword.ensures.there ∙ ap (λ n. at_keyword n (frame_standing (context_view c.plan_keyword.new.self.context))) c.name.ensures
-    ∙ ap (λ here. at_keyword k (frame_standing (context_view here))) c.in_ok-planned.ensures.back in
+    ∙ ap (λ here. at_keyword k (frame_standing here)) c.in_ok-planned.ensures.back in
     let here = at_keyword_of l left (context_view old.context) (context_view c.enter_keyword.new.self) s x keyword v c.args.beside a at there knows got in
     let known : (p : Planned) → Contains-use_keyword ps p → IsKnown c.plan_keyword.new.self.linked.now k a p =
     λ p inside. subst (λ (b : Bor Linked). IsKnown b.now k a p) (sym c.in_ok-planned.ensures.linked) (planned_known l left keyword a ps names indexes v at.inside got same p inside) in
@@ -107,7 +107,7 @@ use_keyword-returns-clause-err t c a at knows got other =
     let same = c.in_ok-planned.ensures.planned a left at knows got in
     let outcomes = planned_outcomes l left k a ps ∙ ap (map (λ (e : Part × Application). (e.0, linked_outcome l left e.1))) same in
     let there = c.in_ok-enter_keyword.ensures.there ∙ ap (λ n. at_keyword n (frame_standing (context_view c.plan_keyword.new.self.context))) c.name.ensures
-    ∙ ap (λ here. at_keyword k (frame_standing (context_view here))) c.in_ok-planned.ensures.back in
+    ∙ ap (λ here. at_keyword k (frame_standing here)) c.in_ok-planned.ensures.back in
     let here = at_keyword_of l left (context_view old.context) (context_view c.enter_keyword.new.self) s x keyword v c.args.beside a at there knows got in
     let known : (p : Planned) → Contains-use_keyword ps p → IsKnown c.plan_keyword.new.self.linked.now k a p =
     λ p inside. subst (λ (b : Bor Linked). IsKnown b.now k a p) (sym c.in_ok-planned.ensures.linked) (planned_known l left keyword a ps names indexes v at.inside got same p inside) in
@@ -199,7 +199,7 @@ apply_planned-returns-in-Err-clause-err t c a under known =
 
 pub apply_planned-returns-in_ok-settle_part-in-Ok-clause-back : goal.apply_planned-returns-in_ok-settle_part-in-Ok-clause-back
 apply_planned-returns-in_ok-settle_part-in-Ok-clause-back t c =
-    c.leave_planned.ensures (context_view c.args.self.now.context)
+    c.leave_planned.ensures.left (context_view c.args.self.now.context)
     (subst (CameFrom c.in_ok-back.back (context_view c.args.self.now.context)) (sym c.in-Ok.ensures.back) c.in_ok-back.ensures.entered)
 
 pub apply_planned-returns-in_ok-settle_part-in-Ok-clause-found : goal.apply_planned-returns-in_ok-settle_part-in-Ok-clause-found

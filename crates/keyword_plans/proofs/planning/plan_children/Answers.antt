@@ -1,8 +1,8 @@
-use Rattle.keyword_plans.proofs.planning.plan.Goals as goal
+use Rattle.keyword_plans.proofs.planning.plan_children.Goals as goal
 
 pub returns-in-PatternProperties-clause-ok : goal.returns-in-PatternProperties-clause-ok
-returns-in-PatternProperties-clause-ok c a run shows same beside passed =
+returns-in-PatternProperties-clause-ok c a run shows beside =
     rw c.in-PatternProperties.is (c.plan_patterns.ensures.ok a _ shows (rw c.in-PatternProperties.is at beside))
 
 pub returns-in-AdditionalProperties-clause-ok : goal.returns-in-AdditionalProperties-clause-ok
-returns-in-AdditionalProperties-clause-ok c a run shows same beside passed = rw c.in-AdditionalProperties.is (c.plan_others.ensures.ok a _ shows)
+returns-in-AdditionalProperties-clause-ok c a run shows beside = rw c.in-AdditionalProperties.is (c.plan_others.ensures.ok a _ shows)

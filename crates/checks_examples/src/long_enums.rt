@@ -1,0 +1,53 @@
+//! Long `enum`s that are applied so often that an evaluation sorts them.
+
+use crate::texts::{URI, answer};
+use std::alloc::Global;
+use std::test::Fail;
+
+// The numbers from one up to another, with commas between them.
+fn numbers(alloc: Global, from: u32, to: u32) -> Result<String, Fail> {
+    let mut text = format!(in alloc; "{from}")?;
+    for number in from..to {
+        let next = number + 1;
+        text.push_str(format!(in alloc; ",{next}")?.as_str())?;
+    }
+    Ok(text)
+}
+
+// Two resources, each with a list of its own at the same pointer: the elements have to be in both.
+fn listed_twice(alloc: Global) -> Result<String, Fail> {
+    let first = numbers(alloc, 0, 1999)?;
+    let second = numbers(alloc, 1, 2000)?;
+    Ok(format!(in alloc;
+        "{{\"$defs\":{{\"a\":{{\"$id\":\"a\",\"items\":{{\"enum\":[{first}]}}}},\"b\":{{\"$id\":\"b\",\"items\":{{\"enum\":[{second}]}}}}}},\"allOf\":[{{\"$ref\":\"a\"}},{{\"$ref\":\"b\"}}]}}"
+    )?)
+}
+
+// The last element, and the answer.
+const ANSWERS: &[(u32, &str)] = &[
+    (
+        1999,
+        r##"{"annotations":[{"absoluteKeywordLocation":"https://ex.org/a#/items","annotation":true,"instanceLocation":"","keywordLocation":"/allOf/0/$ref/items"},{"absoluteKeywordLocation":"https://ex.org/b#/items","annotation":true,"instanceLocation":"","keywordLocation":"/allOf/1/$ref/items"}],"valid":true}"##,
+    ),
+    (
+        0,
+        r##"{"errors":[{"absoluteKeywordLocation":"https://ex.org/s#/allOf","error":"allOf is not met","instanceLocation":"","keywordLocation":"/allOf"},{"absoluteKeywordLocation":"https://ex.org/s#/allOf/1/$ref","error":"$ref is not met","instanceLocation":"","keywordLocation":"/allOf/1/$ref"},{"absoluteKeywordLocation":"https://ex.org/b#/items","error":"items is not met","instanceLocation":"","keywordLocation":"/allOf/1/$ref/items"},{"absoluteKeywordLocation":"https://ex.org/b#/items/enum","error":"enum is not met","instanceLocation":"/600","keywordLocation":"/allOf/1/$ref/items/enum"}],"valid":false}"##,
+    ),
+    (
+        2000,
+        r##"{"errors":[{"absoluteKeywordLocation":"https://ex.org/s#/allOf","error":"allOf is not met","instanceLocation":"","keywordLocation":"/allOf"},{"absoluteKeywordLocation":"https://ex.org/s#/allOf/0/$ref","error":"$ref is not met","instanceLocation":"","keywordLocation":"/allOf/0/$ref"},{"absoluteKeywordLocation":"https://ex.org/a#/items","error":"items is not met","instanceLocation":"","keywordLocation":"/allOf/0/$ref/items"},{"absoluteKeywordLocation":"https://ex.org/a#/items/enum","error":"enum is not met","instanceLocation":"/600","keywordLocation":"/allOf/0/$ref/items/enum"}],"valid":false}"##,
+    ),
+];
+
+#[test]
+fn sorted_lists_are_those_of_their_schemas(rt: HostRuntime) -> Result<(), Fail> {
+    let alloc = rt.alloc();
+    let schema = listed_twice(alloc)?;
+    let elements = numbers(alloc, 1, 600)?;
+    for (last, text) in ANSWERS {
+        let instance = format!(in alloc; "[{elements},{last}]")?;
+        let found = answer(alloc, URI, schema.as_str(), instance.as_str())?;
+        assert_eq!(rt; found.as_str(), *text, "{last}");
+    }
+    Ok(())
+}

@@ -1,0 +1,116 @@
+//! Schema objects that apply nothing: they assert, and may annotate (JSON Schema 2020-12 Core, 7.6 and 7.7).
+
+ghost use Rattle.std.specs.Prelude.{◌≡◌};
+ghost use Rattle.json_doc.specs.Docs.{value};
+
+use crate::applying::Evaluation;
+use crate::found::Found;
+use crate::groups::first_groups;
+use crate::here::Here;
+use crate::present::Present;
+use crate::settling_object::settle_object;
+use assertions::Assertion;
+use faults::Fault;
+use keyword_plans::Subject;
+use keywords::Group;
+
+impl<'a> Evaluation<'a> {
+    ghost use Rattle.std.specs.Prelude.{◌<◌, [], ℕ, false, IfOk, IfErr, OnOk};
+    ghost use Rattle.std.specs.List.{list_all};
+    ghost use Rattle.definitions.specs.Applied.{Application};
+    ghost use Rattle.evaluation_context.specs.Frames.{context_view};
+    ghost use Rattle.evaluator.specs.Applying.{Adds, Applies, IsHere, object_said};
+    ghost use Rattle.evaluator.specs.Findings.{Finds};
+    ghost use Rattle.evaluator.specs.Groups.{asserts_alone, first_groups};
+    ghost use Rattle.evaluator.specs.Leaves.{IsLeaf};
+    ghost use Rattle.evaluator.specs.Notes.{outcome_notes, uses_notes};
+    ghost use Rattle.evaluator.specs.Rounds.{group_uses, groups_uses};
+
+    /// Such a schema object. Nothing is applied within it, so it takes no place among those that run, nor in the dynamic
+    /// scope. The only error is want of memory.
+    pub(crate) fn apply_leaf(
+        &mut self,
+        present: &Present<'a>,
+        subject: Subject<'a>,
+    ) -> Result<Found, Fault>
+        requires leaf { IsLeaf (value present.now.schema.now) }
+        ensures linked { self.new.linked ≡ self.old.linked }
+        ensures back { OnOk result (context_view self.new.context ≡ context_view self.old.context) }
+        ensures count { IfOk result (λ f. f.count ≡ 1) }
+        ensures found { (a : Application) (left budget : ℕ)
+            → Applies self.old present.now.schema.now subject.entry a → 0 < budget
+            → IfOk result (λ f. Finds f budget (object_said self.old.linked.now left a)) }
+        ensures noted { (a : Application) (left : ℕ)
+            → Applies self.old present.now.schema.now subject.entry a
+            → OnOk result (Adds self.old self.new (outcome_notes
+            (object_said self.old.linked.now left a))) }
+        ensures err { IfErr result (λ f. f ≡ Fault.NoRoom) }
+    {
+        let mark = self.log.mark();
+        let valid = self.use_assertions(Here {
+            present,
+            subject,
+            before: mark.before(),
+        })?;
+        settle_object(
+            &mut self.context,
+            &mut self.log,
+            &mark,
+            present,
+            subject,
+            valid,
+        )?;
+        Ok(Found::boolean(valid))
+    }
+
+    // The groups that the object may have, in order: whether all pass. The only error is want of memory.
+    fn use_assertions(&mut self, here: Here<'_, 'a>) -> Result<bool, Fault>
+        requires leaf { IsLeaf (value here.present.now.schema.now) }
+        ensures linked { self.new.linked ≡ self.old.linked }
+        ensures back { OnOk result (context_view self.new.context ≡ context_view self.old.context) }
+        ensures valid { (a : Application) (left : ℕ) → IsHere self.old here.entry a
+            → IfOk result (λ b. b ≡ list_all (λ u. u.passes)
+            (groups_uses self.old.linked.now left a first_groups)) }
+        ensures noted { (a : Application) (left : ℕ) → IsHere self.old here.entry a
+            → OnOk result (Adds self.old self.new
+            (uses_notes a (groups_uses self.old.linked.now left a first_groups))) }
+        ensures err { IfErr result (λ f. f ≡ Fault.NoRoom) }
+    {
+        let groups = first_groups();
+        let mut valid = true;
+        let mut next = here.present.first_mark(0);
+        while next < groups.len() {
+            let passes = self.use_asserting(groups[next], here)?;
+            valid &= passes;
+            next = here.present.first_mark(next + 1);
+        }
+        Ok(valid)
+    }
+
+    // A group that asserts, or that isn't there: whether it passes. The only error is want of memory.
+    fn use_asserting(&mut self, group: Group, here: Here<'_, 'a>) -> Result<bool, Fault>
+        ensures linked { self.new.linked ≡ self.old.linked }
+        ensures back { OnOk result (context_view self.new.context ≡ context_view self.old.context) }
+        ensures valid { (a : Application) (left : ℕ) → IsHere self.old here.entry a
+            → (asserts_alone group ≡ false → group_uses self.old.linked.now left a group ≡ [])
+            → IfOk result (λ b. b ≡ list_all (λ u. u.passes)
+            (group_uses self.old.linked.now left a group)) }
+        ensures noted { (a : Application) (left : ℕ) → IsHere self.old here.entry a
+            → (asserts_alone group ≡ false → group_uses self.old.linked.now left a group ≡ [])
+            → OnOk result (Adds self.old self.new
+            (uses_notes a (group_uses self.old.linked.now left a group))) }
+        ensures err { IfErr result (λ f. f ≡ Fault.NoRoom) }
+    {
+        match group {
+            Group::One(keyword) => match Assertion::of(keyword) {
+                Some(assertion) => {
+                    let found = self.use_assertion(keyword, assertion, here)?;
+                    Ok(found.valid)
+                }
+                None => Ok(true),
+            },
+            Group::Conditional => Ok(true),
+            Group::Counted => Ok(true),
+        }
+    }
+}

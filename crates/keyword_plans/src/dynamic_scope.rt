@@ -1,0 +1,335 @@
+//! The dynamic scope, and what references name in it.
+
+ghost use Rattle.std.specs.Prelude.{◌≡◌, ◌<◌, ◌≤◌, ◌++◌, [], ◌∷◌, List, IfOk, IfErr, IfSome, OnOk, length, map, option_map, unwrap_or};
+ghost use Rattle.std.specs.List.{All};
+ghost use Rattle.std.proofs.Props.{props};
+ghost use Rattle.definitions.specs.Resolution.{target_uri};
+ghost use Rattle.definitions.specs.Schemas.{Schema};
+ghost use Rattle.definitions.specs.Targets.{dynamic_target, outermost, schema_with_dynamic_anchor, target};
+ghost use Rattle.definitions.specs.Values.{Text};
+ghost use Rattle.linker.specs.LinkedDocuments.{linked_schemas};
+ghost use Rattle.linker.specs.declared.linked.Linked.{Linked};
+ghost use Rattle.keyword_plans.specs.Followed.{followed_in_scope, shared_view};
+ghost use Rattle.keyword_plans.specs.FollowedIn.{followed_in};
+ghost use Rattle.keyword_plans.specs.Searched.{IsSearched};
+ghost use Rattle.keyword_plans.specs.ValueSets.{value_set};
+
+use crate::followed_references::{Followed, FollowedReferences};
+use faults::Fault;
+use linker::Linked;
+use schema_index::Located;
+use std::alloc::{AllocError, Global};
+use std::rc::Rc;
+
+/// How many dynamic anchors are kept.
+const MOST_KEPT: usize = 16;
+
+/// A dynamic anchor that was looked for in the scope: so many resources are passed, from the outermost on, that don't have it;
+/// and the schema with the anchor in the next one, where that has it.
+#[derive(Drop)]
+struct SearchedAnchor<'a> {
+    name: &'a str,
+    passed: usize,
+    found: Option<Rc<Located<'a>>>,
+}
+
+/// The dynamic scope (JSON Schema 2020-12 Core, section 7.1), in which references are followed.
+///
+/// It keeps what the references that were followed last name, and, of sixteen dynamic anchors at most, how far the scope was
+/// searched for them: a resource that was passed isn't looked at again as long as it stays, whatever follows it.
+///
+/// Contracts see the URIs of its resources, the outermost first, by `scope_uris`, and the documents that the references stand
+/// in, by `scope_documents`.
+#[derive(Drop)]
+pub struct DynamicScope<'a> {
+    references: FollowedReferences<'a>,
+    uris: Vec<&'a str>,
+    searched: Vec<SearchedAnchor<'a>>,
+    // Where the one stands that gives way, once there are as many as are kept.
+    oldest: usize,
+    ghost within: { oldest < 16 },
+    ghost right: { All (IsSearched (followed_in references).now
+        (map (λ uri. uri.now) uris.items)) searched.items } by { Prim.hlevel (props, value_set) },
+}
+
+impl<'a> SearchedAnchor<'a> {
+    // So many resources are left.
+    fn cut(&mut self, left: usize)
+        ensures { (l : Linked) (older : List Text) (uri : Text) → left ≡ length older
+            → IsSearched l (older ++ uri ∷ []) self.old → IsSearched l older self.new }
+    {
+        if self.passed < left {
+            return;
+        }
+        self.passed = left;
+        self.found = None;
+    }
+}
+
+impl<'a> DynamicScope<'a> {
+    ghost use Rattle.keyword_plans.specs.ScopeViews.{scope_documents, scope_uris};
+
+    /// The scope that has no resource yet. This takes no memory.
+    pub fn new(alloc: Global, linked: &'a Linked) -> DynamicScope<'a>
+        ensures documents { scope_documents result ≡ linked.entry }
+        ensures uris { scope_uris result ≡ [] }
+    {
+        DynamicScope {
+            references: FollowedReferences::new(alloc, linked),
+            uris: Vec::new(alloc),
+            searched: Vec::new(alloc),
+            oldest: 0,
+        }
+    }
+
+    /// The URIs of its resources, the outermost first.
+    pub fn uris(&self) -> &[&'a str]
+        ensures { map (λ uri. uri.now) result.now ≡ scope_uris self.now }
+    {
+        &self.uris
+    }
+
+    /// A schema object of the resource with this URI is being applied. The only error is want of memory.
+    pub fn push(&mut self, uri: &'a str) -> Result<(), AllocError>
+        ensures pushed { OnOk result (scope_uris self.new ≡ scope_uris self.old ++ uri.now ∷ []) }
+        ensures documents { scope_documents self.new ≡ scope_documents self.old }
+    {
+        self.uris.push(uri)?;
+        Ok(())
+    }
+
+    /// It has been applied.
+    pub fn pop(&mut self)
+        ensures popped { (older : List Text) (uri : Text) → scope_uris self.old ≡ older ++ uri ∷ []
+            → scope_uris self.new ≡ older }
+        ensures documents { scope_documents self.new ≡ scope_documents self.old }
+    {
+        if self.uris.pop().is_some() {
+            cut(self.searched.as_mut_slice(), self.uris.len());
+        }
+    }
+
+    /// The schema that a reference names (section 8.2.3): the reference's text, and the URI of the resource that it stands in.
+    /// The only error is want of memory.
+    pub fn target(
+        &mut self,
+        alloc: Global,
+        resource: &'a str,
+        reference: &'a str,
+    ) -> Result<Option<Rc<Located<'a>>>, Fault>
+        ensures ok { IfOk result
+            (λ t. option_map shared_view t ≡ target (linked_schemas (scope_documents self.old).now)
+            (target_uri resource.now reference.now)) }
+        ensures uris { scope_uris self.new ≡ scope_uris self.old }
+        ensures documents { scope_documents self.new ≡ scope_documents self.old }
+        ensures err { IfErr result (λ f. f ≡ Fault.NoRoom) }
+    {
+        self.references.target(alloc, resource, reference)
+    }
+
+    /// The schema that a dynamic reference names here (section 8.2.3.2). The only error is want of memory.
+    pub fn dynamic_target(
+        &mut self,
+        alloc: Global,
+        resource: &'a str,
+        reference: &'a str,
+    ) -> Result<Option<Rc<Located<'a>>>, Fault>
+        ensures ok { IfOk result
+            (λ t. option_map shared_view t
+            ≡ dynamic_target (linked_schemas (scope_documents self.old).now) (scope_uris self.old)
+            (target_uri resource.now reference.now)) }
+        ensures uris { scope_uris self.new ≡ scope_uris self.old }
+        ensures documents { scope_documents self.new ≡ scope_documents self.old }
+        ensures err { IfErr result (λ f. f ≡ Fault.NoRoom) }
+    {
+        match self.references.named(alloc, resource, reference)? {
+            Some(first) => Ok(Some(self.in_scope(alloc, first)?)),
+            None => Ok(None),
+        }
+    }
+
+    // The schema that a dynamic reference names in this scope, of what it names first.
+    fn in_scope(&mut self, alloc: Global, first: Followed<'a>) -> Result<Rc<Located<'a>>, Fault>
+        ensures ok { IfOk result
+            (λ t. shared_view t
+            ≡ followed_in_scope (linked_schemas (scope_documents self.old).now) (scope_uris self.old)
+            first.entry) }
+        ensures uris { scope_uris self.new ≡ scope_uris self.old }
+        ensures documents { scope_documents self.new ≡ scope_documents self.old }
+        ensures err { IfErr result (λ f. f ≡ Fault.NoRoom) }
+    {
+        match first.anchor {
+            Some(name) => self.outermost_or(alloc, name, first.target),
+            None => Ok(first.target),
+        }
+    }
+
+    // The schema with this dynamic anchor in the outermost resource that has it, or else this one.
+    fn outermost_or(
+        &mut self,
+        alloc: Global,
+        name: &'a str,
+        first: Rc<Located<'a>>,
+    ) -> Result<Rc<Located<'a>>, Fault>
+        ensures ok { IfOk result
+            (λ t. shared_view t
+            ≡ outermost (linked_schemas (scope_documents self.old).now) (scope_uris self.old)
+            name.now (shared_view first.entry)) }
+        ensures uris { scope_uris self.new ≡ scope_uris self.old }
+        ensures documents { scope_documents self.new ≡ scope_documents self.old }
+        ensures err { IfErr result (λ f. f ≡ Fault.NoRoom) }
+    {
+        match self.outermost(alloc, name)? {
+            Some(found) => Ok(found),
+            None => Ok(first),
+        }
+    }
+
+    // The schema with this dynamic anchor in the outermost resource that has it.
+    fn outermost(&mut self, alloc: Global, name: &'a str) -> Result<Option<Rc<Located<'a>>>, Fault>
+        ensures ok { IfOk result
+            (λ t. (first : Schema) → unwrap_or (option_map shared_view t) first
+            ≡ outermost (linked_schemas (scope_documents self.old).now) (scope_uris self.old)
+            name.now first) }
+        ensures uris { scope_uris self.new ≡ scope_uris self.old }
+        ensures documents { scope_documents self.new ≡ scope_documents self.old }
+        ensures err { IfErr result (λ f. f ≡ Fault.NoRoom) }
+    {
+        let begun = self.begun(name)?;
+        if begun.found.is_some() {
+            return Ok(begun.found);
+        }
+        let searched = search(alloc, self.references.linked(), &self.uris, begun)?;
+        let found = again(&searched.found)?;
+        self.keep(searched)?;
+        Ok(found)
+    }
+
+    // How far the scope was searched for this dynamic anchor.
+    fn begun(&self, name: &'a str) -> Result<SearchedAnchor<'a>, AllocError>
+        ensures right { IfOk result
+            (λ s. IsSearched (scope_documents self.now).now (scope_uris self.now) s) }
+        ensures name { IfOk result (λ s. s.name.now ≡ name.now) }
+    {
+        for searched in &self.searched {
+            if searched.name == name {
+                return Ok(SearchedAnchor {
+                    name,
+                    passed: searched.passed,
+                    found: again(&searched.found)?,
+                });
+            }
+        }
+        Ok(SearchedAnchor {
+            name,
+            passed: 0,
+            found: None,
+        })
+    }
+
+    // In place of the one of the same name, or else of the oldest, where there are as many as are kept.
+    fn keep(&mut self, searched: SearchedAnchor<'a>) -> Result<(), AllocError>
+        requires { IsSearched (scope_documents self.old).now (scope_uris self.old) searched }
+        ensures uris { scope_uris self.new ≡ scope_uris self.old }
+        ensures documents { scope_documents self.new ≡ scope_documents self.old }
+    {
+        match position(&self.searched, searched.name) {
+            Some(at) => self.searched[at] = searched,
+            None => {
+                if self.searched.len() < MOST_KEPT {
+                    self.searched.push(searched)?;
+                } else {
+                    self.searched[self.oldest] = searched;
+                    self.oldest = (self.oldest + 1) % MOST_KEPT;
+                }
+            }
+        }
+        Ok(())
+    }
+}
+
+// Where the one of this name stands.
+fn position(searched: &[SearchedAnchor<'_>], name: &str) -> Option<usize>
+    ensures { IfSome result (λ at. at < length searched.now) }
+{
+    for (at, one) in searched.iter().enumerate() {
+        if one.name == name {
+            return Some(at);
+        }
+    }
+    None
+}
+
+// The scope has been searched to the outermost resource that has the anchor.
+fn search<'a>(
+    alloc: Global,
+    linked: &'a Linked,
+    uris: &[&'a str],
+    begun: SearchedAnchor<'a>,
+) -> Result<SearchedAnchor<'a>, Fault>
+    requires within { begun.passed ≤ length uris.now }
+    requires right { IsSearched linked.now (map (λ uri. uri.now) uris.now) begun }
+    ensures right { IfOk result
+        (λ s. IsSearched linked.entry.now (map (λ uri. uri.now) uris.entry.now) s) }
+    ensures found { IfOk result
+        (λ s. (first : Schema) → unwrap_or (option_map shared_view s.found) first
+        ≡ outermost (linked_schemas linked.entry.now) (map (λ uri. uri.now) uris.entry.now)
+        begun.entry.name.now first) }
+    ensures err { IfErr result (λ f. f ≡ Fault.NoRoom) }
+{
+    let name = begun.name;
+    let passed = begun.passed + linked.outermost(&uris[begun.passed..], name);
+    if passed < uris.len() {
+        let found = dynamically_anchored(alloc, linked, uris[passed], name)?;
+        return Ok(SearchedAnchor {
+            name,
+            passed,
+            found,
+        });
+    }
+    Ok(SearchedAnchor {
+        name,
+        passed,
+        found: None,
+    })
+}
+
+// The schema with this dynamic anchor in the resource with this URI, to be shared.
+fn dynamically_anchored<'a>(
+    alloc: Global,
+    linked: &'a Linked,
+    uri: &str,
+    name: &str,
+) -> Result<Option<Rc<Located<'a>>>, Fault>
+    ensures ok { IfOk result
+        (λ t. option_map shared_view t
+        ≡ schema_with_dynamic_anchor (linked_schemas linked.entry.now) uri.now name.now) }
+    ensures err { IfErr result (λ f. f ≡ Fault.NoRoom) }
+{
+    match linked.dynamically_anchored(alloc, uri, name)? {
+        Some(schema) => Ok(Some(Rc::new(alloc, schema)?)),
+        None => Ok(None),
+    }
+}
+
+// So many resources are left, of which no more are passed.
+fn cut(searched: &mut [SearchedAnchor<'_>], left: usize)
+    ensures { (l : Linked) (older : List Text) (uri : Text) → left ≡ length older
+        → All (IsSearched l (older ++ uri ∷ [])) searched.old
+        → All (IsSearched l older) searched.new }
+{
+    for one in searched.iter_mut() {
+        one.cut(left);
+    }
+}
+
+// The same schema once more.
+fn again<'a>(found: &Option<Rc<Located<'a>>>) -> Result<Option<Rc<Located<'a>>>, AllocError>
+    ensures { IfOk result
+        (λ t. option_map shared_view t ≡ option_map shared_view found.now) }
+{
+    match found {
+        Some(schema) => Ok(Some(schema.clone()?)),
+        None => Ok(None),
+    }
+}

@@ -1,16 +1,13 @@
 -- Laws of schema objects that apply nothing.
-use Rattle.std.proofs.Common.{◌≡◌, ◌<◌, ◌+◌, ℕ, zero, suc, List, [], ◌∷◌, ◌++◌, Bool, true, false, ◌&&◌, ◌||◌, Option, Some, None, is_some, length, get_or, flat_map, min, refl, sym, ap, ◌∙◌, arith}
+use Rattle.std.proofs.Common.{◌≡◌, ◌<◌, ◌≤◌, ◌+◌, ℕ, zero, suc, List, [], ◌∷◌, ◌++◌, Bool, true, false, ltb, leb, ◌&&◌, ◌||◌, Option, Some, None, inl, inr, is_some, length, get_or, flat_map, refl, sym, ap, ◌∙◌, arith}
 use Rattle.std.specs.Prelude.{◌==◌}
-use Rattle.std.specs.Int.{bit_at}
-use lib.Bits.{bit_and}
 use Rattle.std.specs.List.{list_all, list_any}
-use Rattle.std.proofs.lemmas.Bool.{and_parts}
+use Rattle.std.proofs.lemmas.Bool.{and_parts, leb-true, ltb-true, or_cases}
 use Rattle.std.proofs.lemmas.Bool.Decides.{Decides-eqb}
-use Rattle.std.proofs.lemmas.Nat.Bits.{bit_at-lt, bit_at-zero, bit_at_and}
 use Rattle.std.proofs.lemmas.List.Folds.{list_any-append}
 use Rattle.std.proofs.lemmas.List.Sums.{sum_by-append}
 use Rattle.definitions.specs.Assertions as meaning
-use Rattle.definitions.specs.Values.{Value, get}
+use Rattle.definitions.specs.Values.{Value, get, members}
 use Rattle.definitions.specs.Applied.{Application, application_within}
 use Rattle.definitions.specs.Outcomes.{Use}
 use Rattle.assertions.specs.AssertionView.{assertion_in}
@@ -20,53 +17,65 @@ use Rattle.keywords.specs.Rows.{row_of}
 use Rattle.keywords.specs.declared.group.Group.{Group}
 use Rattle.keywords.specs.declared.group.Group.TheVariants.{One, Conditional, Counted}
 use Rattle.keywords.specs.declared.keyword.Keyword.{Keyword}
-use Rattle.keywords.specs.declared.keyword.Keyword.TheVariants.{Ref, UnevaluatedItems, UnevaluatedProperties}
+use Rattle.keywords.specs.declared.keyword.Keyword.TheVariants.{AllOf, Pattern, Ref, «Type», UnevaluatedItems, UnevaluatedProperties}
 use Rattle.evaluator.specs.Findings.{FindsObject, use_count}
 use Rattle.evaluator.specs.Groups.{asserts_alone, first_groups}
 use Rattle.evaluator.specs.Leaves.{IsLeaf}
-use Rattle.evaluator.specs.Presents.{AreMarked}
+use Rattle.evaluator.specs.Presents.{has_mark}
 use Rattle.evaluator.specs.Rounds.{group_uses, groups_uses, object_uses}
 use Rattle.evaluator.specs.declared.found.Found.{Found}
 use Rattle.evaluator.proofs.AssertedLaws.{absent_use, asserted_use}
 use Rattle.evaluator.proofs.PresentLaws.{groups_alone, unused_at}
 
--- ---- the marks of the groups that don't assert alone
-abbrev pub applying : ℕ
-applying = 8588890115
+-- ---- where the groups stand that don't assert alone
+abbrev pub number : Keyword → ℕ
+number k = group_number (row_of k).name
 
-abbrev are_applying : ℕ → List Group → Bool
-are_applying i [] = true
-are_applying i (g ∷ gs) = (asserts_alone g || (bit_at applying i == 1)) && are_applying (suc i) gs
+abbrev stands_apart : ℕ → Bool
+stands_apart i = ltb i (number «Type») || ((i == number Pattern) || leb (number AllOf) i)
 
-all_applying : are_applying 0 first_groups ≡ true
+abbrev are_apart : ℕ → List Group → Bool
+are_apart i [] = true
+are_apart i (g ∷ gs) = (asserts_alone g || stands_apart i) && are_apart (suc i) gs
+
+all_apart : are_apart 0 first_groups ≡ true
 unfolding first_groups group_number groups_before in_order
-all_applying = refl
+all_apart = refl
 
 right_of : (p q : Bool) → p ≡ false → (p || q) ≡ true → q ≡ true
 right_of true q e h = absurd (cc)
 right_of false q e h = h
 
-applying_at : (gs : List Group) (start i : ℕ) (d : Group) → are_applying start gs ≡ true → i < length gs → asserts_alone (get_or gs i d) ≡ false → bit_at applying (start + i) ≡ 1
-applying_at [] start i d all h other = absurd (omega arith)
-applying_at (g ∷ gs) start zero d all h other =
+apart_at : (gs : List Group) (start i : ℕ) (d : Group) → are_apart start gs ≡ true → i < length gs → asserts_alone (get_or gs i d) ≡ false → stands_apart (start + i) ≡ true
+apart_at [] start i d all h other = absurd (omega arith)
+apart_at (g ∷ gs) start zero d all h other =
     let here : start + 0 ≡ start = omega arith in
-    ap (bit_at applying) here
-    ∙ (Decides-eqb (bit_at applying start) 1).0 (right_of (asserts_alone g) (bit_at applying start == 1) other (and_parts (asserts_alone g || (bit_at applying start == 1)) (are_applying (suc start) gs) all).0)
-applying_at (g ∷ gs) start (suc i) d all h other =
+    ap stands_apart here ∙ right_of (asserts_alone g) (stands_apart start) other (and_parts (asserts_alone g || stands_apart start) (are_apart (suc start) gs) all).0
+apart_at (g ∷ gs) start (suc i) d all h other =
     let here : start + suc i ≡ suc start + i = omega arith in
-    ap (bit_at applying) here ∙ applying_at gs (suc start) i d (and_parts (asserts_alone g || (bit_at applying start == 1)) (are_applying (suc start) gs) all).1 (omega arith) other
+    ap stands_apart here ∙ apart_at gs (suc start) i d (and_parts (asserts_alone g || stands_apart start) (are_apart (suc start) gs) all).1 (omega arith) other
 
-unmarked : (marks i : ℕ) → bit_and marks applying ≡ 0 → bit_at applying i ≡ 1 → bit_at marks i ≡ 0
-unmarked marks i none set =
-    let both : min (bit_at marks i) (bit_at applying i) ≡ 0 = sym (bit_at_and marks applying i) ∙ ap (λ n. bit_at n i) none ∙ bit_at-zero i in
-    let low = bit_at-lt marks i in
-    omega (arith, both, set, low)
+last_group : length first_groups ≡ number UnevaluatedItems
+unfolding first_groups group_number groups_before in_order
+last_group = refl
 
--- none of these groups is there
-pub marked_leaf : (marks : ℕ) (s : Value) → AreMarked marks s → bit_and marks applying ≡ 0
+-- none of them has a mark: none before `type`, not that of `pattern`, none from `allOf` on
+pub marked_leaf : (s : Value)
+    → ((i : ℕ) → 0 ≤ i → i < number «Type» → list_any (has_mark i) (members s) ≡ false)
+    → ((i : ℕ) → number Pattern ≤ i → i < number Pattern + 1 → list_any (has_mark i) (members s) ≡ false)
+    → ((i : ℕ) → number AllOf ≤ i → i < number UnevaluatedItems → list_any (has_mark i) (members s) ≡ false)
     → (is_some (get (row_of UnevaluatedItems).name s) || is_some (get (row_of UnevaluatedProperties).name s)) ≡ false → IsLeaf s
-marked_leaf marks s marked none last = record {
-  first = λ i h other. marked i (unmarked marks i none (ap (bit_at applying) (let e : i ≡ 0 + i = omega arith in e) ∙ applying_at first_groups 0 i (One Ref) all_applying h other));
+marked_leaf s none_before none_at none_after last = record {
+  first =
+      λ i h other.
+      let apart : stands_apart i ≡ true = ap stands_apart (let e : i ≡ 0 + i = omega arith in e) ∙ apart_at first_groups 0 i (One Ref) all_apart h other in
+      elim (or_cases (ltb i (number «Type»)) ((i == number Pattern) || leb (number AllOf) i) apart) [
+        | inl less ↦ none_before i (omega arith) (ltb-true i (number «Type») less)
+        | inr rest ↦ elim (or_cases (i == number Pattern) (leb (number AllOf) i) rest) [
+          | inl same ↦ let e = (Decides-eqb i (number Pattern)).0 same in none_at i (omega (arith, e)) (omega (arith, e))
+          | inr past ↦ none_after i (leb-true (number AllOf) i past) (omega (arith, h, last_group))
+        ]
+      ];
   last = last;
 }
 

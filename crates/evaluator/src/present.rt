@@ -27,9 +27,6 @@ use keywords::Keyword;
 /// The mark of names that may annotate with their own value.
 const ANNOTATES: usize = 63;
 
-/// The marks of the first groups that don't assert alone: of references, of `pattern`, and of all from `allOf` on.
-const APPLYING: u64 = 0x1_FFF0_1003;
-
 /// A schema, and which names stand in it: a bit for each group of keywords, in the order of evaluation, one for keywords
 /// that are not evaluated, and the last for names that may annotate with their own value; and the values of its first
 /// keywords, so that they needn't be looked up.
@@ -76,11 +73,29 @@ impl<'a> Present<'a> {
         self.may_have(Keyword::UnevaluatedItems) || self.may_have(Keyword::UnevaluatedProperties)
     }
 
-    /// Whether its keywords, but those that only declare, look at their own values and the instance alone.
+    /// Whether it surely has no keywords but those that look at their own values and the instance alone, and those that only
+    /// declare: none before `type`, not `pattern`, and none from `allOf` on.
     pub(crate) fn applies_nothing(&self) -> bool
         ensures { result ≡ true → IsLeaf (value self.now.schema.now) }
     {
-        self.marks & APPLYING == 0 && !self.looks_at_evaluated()
+        let pattern = Keyword::Pattern.group_number();
+        let lacks_references = self.lacks(0, Keyword::Type.group_number());
+        let lacks_pattern = self.lacks(pattern, pattern + 1);
+        let lacks_others = self.lacks(
+            Keyword::AllOf.group_number(),
+            Keyword::UnevaluatedItems.group_number(),
+        );
+        let looks_at_evaluated = self.looks_at_evaluated();
+        lacks_references & lacks_pattern & lacks_others & !looks_at_evaluated
+    }
+
+    // Whether it surely has none of the marks from the first to before the second.
+    fn lacks(&self, first: usize, second: usize) -> bool
+        requires { first < 64 }
+        ensures { result ≡ true → (i : ℕ) → first ≤ i → i < second
+            → list_any (has_mark i) (members (value self.now.schema.now)) ≡ false }
+    {
+        second <= self.first_mark(first)
     }
 
     // Whether it may have this keyword, or one of its group.

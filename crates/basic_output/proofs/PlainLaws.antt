@@ -13,13 +13,10 @@ use Rattle.json.proofs.Printed.Strings.{escape_byte_plain}
 use Rattle.definitions.specs.Bytes.{is_capital, is_small}
 use Rattle.definitions.specs.Pointers.{escaped_byte, fragment_text, hex_digit, is_fragment_byte, percent_encoded_text, pointer_text}
 use Rattle.definitions.specs.Values.{Text, same_text}
-use Rattle.basic_output.specs.Notations.{noted_text}
-use Rattle.basic_output.specs.declared.notation.Notation.{Notation}
-use Rattle.basic_output.specs.declared.notation.Notation.TheVariants as notation
 use Rattle.std.proofs.lemmas.Grind.{flat_map-append}
 use Rattle.locations.specs.Steps.{token, tokens}
 use Rattle.locations.specs.declared.step.Step.{Step}
-use Rattle.basic_output.specs.Pieces.{is_plain, is_unescaped, plain_text}
+use Rattle.basic_output.specs.Pieces.{are_plain, is_plain, is_unescaped, plain_text}
 
 -- what stands for each byte of a text is the byte itself
 kept : (f : ℕ → Text) (p : ℕ → Bool) → ((x : ℕ) → p x ≡ true → f x ≡ x ∷ []) → (xs : Text) → list_all p xs ≡ true → flat_map f xs ≡ xs
@@ -75,9 +72,9 @@ plain x h =
     record { in_pointer = (bytes_eq-Decides (escaped_byte x) (x ∷ [])).0 p.0; in_fragment = q.0; in_string = q.1 }
 
 abbrev ArePlain : List Text → Type 0
-ArePlain ts = list_all (λ t. list_all is_plain t) ts ≡ true
+ArePlain ts = are_plain ts ≡ true
 
-plain_pointer : (ts : List Text) → ArePlain ts → pointer_text ts ≡ plain_text ts
+pub plain_pointer : (ts : List Text) → ArePlain ts → pointer_text ts ≡ plain_text ts
 plain_pointer [] h = refl
 plain_pointer (t ∷ ts) h =
     let q = and_parts (list_all is_plain t) _ h in
@@ -99,31 +96,29 @@ all_pass p led h (t ∷ ts) e =
 abbrev percent_byte : ℕ → Text
 percent_byte c = cond (is_fragment_byte c) (c ∷ []) (37 ∷ hex_digit (c / 16) ∷ hex_digit (c % 16) ∷ [])
 
-plain_fragment : (ts : List Text) → ArePlain ts → fragment_text ts ≡ plain_text ts
+pub plain_fragment : (ts : List Text) → ArePlain ts → fragment_text ts ≡ plain_text ts
 plain_fragment ts h =
     ap percent_encoded_text (plain_pointer ts h)
     ∙ kept percent_byte is_fragment_byte (λ x e. rw e refl) (plain_text ts) (all_pass is_fragment_byte refl (λ x e. (plain x e).in_fragment) ts h)
 
--- ---- in either notation
-pub noted_append : (k : Notation) (ts us : List Text) → noted_text k (ts ++ us) ≡ noted_text k ts ++ noted_text k us
-noted_append notation.String ts us = flat_map-append (λ token. 47 ∷ flat_map escaped_byte token) ts us
-noted_append notation.Fragment ts us =
-    ap percent_encoded_text (flat_map-append (λ token. 47 ∷ flat_map escaped_byte token) ts us) ∙ flat_map-append percent_byte (pointer_text ts) (pointer_text us)
+-- ---- of both parts
+pub pointer_append : (ts us : List Text) → pointer_text (ts ++ us) ≡ pointer_text ts ++ pointer_text us
+pointer_append ts us = flat_map-append (λ token. 47 ∷ flat_map escaped_byte token) ts us
 
-pub noted_led : (k : Notation) (t : Text) (ts : List Text) → (rest : Text) × (noted_text k (t ∷ ts) ≡ 47 ∷ rest)
-noted_led notation.String t ts = (flat_map escaped_byte t ++ pointer_text ts, refl)
-noted_led notation.Fragment t ts = (percent_encoded_text (flat_map escaped_byte t ++ pointer_text ts), refl)
+pub fragment_append : (ts us : List Text) → fragment_text (ts ++ us) ≡ fragment_text ts ++ fragment_text us
+fragment_append ts us = ap percent_encoded_text (pointer_append ts us) ∙ flat_map-append percent_byte (pointer_text ts) (pointer_text us)
+
+pub pointer_led : (t : Text) (ts : List Text) → (rest : Text) × (pointer_text (t ∷ ts) ≡ 47 ∷ rest)
+pointer_led t ts = (flat_map escaped_byte t ++ pointer_text ts, refl)
 
 plain_one : (t : Text) → list_all is_plain t ≡ true → ArePlain (t ∷ [])
 plain_one t h = ap (λ b. b && true) h
 
-pub plain_noted : (k : Notation) (t : Text) → list_all is_plain t ≡ true → noted_text k (t ∷ []) ≡ 47 ∷ t
-plain_noted notation.String t h = plain_pointer (t ∷ []) (plain_one t h) ∙ append-nil (47 ∷ t)
-plain_noted notation.Fragment t h = plain_fragment (t ∷ []) (plain_one t h) ∙ append-nil (47 ∷ t)
+pub plain_noted : (t : Text) → list_all is_plain t ≡ true → pointer_text (t ∷ []) ≡ 47 ∷ t
+plain_noted t h = plain_pointer (t ∷ []) (plain_one t h) ∙ append-nil (47 ∷ t)
 
-pub location_as_it_is : (r f : Text) → list_all is_unescaped r ≡ true → list_all is_unescaped f ≡ true → quoted (r ++ (35 ∷ f)) ≡ 34 ∷ (r ++ 35 ∷ (f ++ 34 ∷ []))
-location_as_it_is r f h g =
-    as_it_is (r ++ (35 ∷ f)) (all_of_both is_unescaped r (35 ∷ f) h g) ∙ ap (λ s. 34 ∷ s) (append_assoc r (35 ∷ f) (34 ∷ []))
+pub plain_text_unescaped : (ts : List Text) → ArePlain ts → list_all is_unescaped (plain_text ts) ≡ true
+plain_text_unescaped = all_pass is_unescaped refl (λ x e. (plain x e).in_string)
 
 -- ---- a pointer of which a string of JSON escapes nothing
 escaped_by : (b d : Bool) (x : ℕ) → is_unescaped x ≡ true → list_all is_unescaped (cond b (126 ∷ 48 ∷ []) (cond d (126 ∷ 49 ∷ []) (x ∷ []))) ≡ true

@@ -4,6 +4,6 @@ pub mod Spans
 pub mod Units
 pub mod Pieces
 pub mod Outputs
-pub mod Notations
+pub mod PointerTexts
 pub mod Notes
 pub mod Written

@@ -5,7 +5,8 @@ use Rattle.json.specs.Print.{quoted}
 use Rattle.definitions.specs.Answers.{absolute_location}
 use Rattle.definitions.specs.Applied.{OutputUnit}
 use Rattle.definitions.specs.Bytes.{is_capital, is_digit, is_small, number_sign, slash}
-use Rattle.definitions.specs.Pointers.{pointer_text}
+use Rattle.definitions.specs.Pointers.{Pointer, fragment_text, pointer_text}
+use Rattle.definitions.specs.Schemas.{Identity}
 use Rattle.definitions.specs.Texts.{text}
 use Rattle.definitions.specs.Values.{Text}
 
@@ -20,6 +21,9 @@ is_plain c = is_small c || (is_capital c || (is_digit c || (c == 36 || (c == 45 
 -- tokens of which nothing is escaped, each led by a `/`
 abbrev pub plain_text : List Text → Text
 plain_text = flat_map (λ token. slash ∷ token)
+
+abbrev pub are_plain : List Text → Bool
+are_plain = list_all (λ t. list_all is_plain t)
 
 -- ---- an array of values with these texts
 abbrev pub later_texts : List Text → Text
@@ -47,12 +51,13 @@ valid_member true = codes ",\"valid\":true}"
 valid_member false = codes ",\"valid\":false}"
 
 -- ---- a unit's text, and that of all
--- how the text begins, up to the keyword's pointer, where the resource's URI stands in a string as it is
-abbrev pub unit_head : Text → Text
-unit_head uri = codes "{\"absoluteKeywordLocation\":\"" ++ (uri ++ number_sign ∷ [])
+-- how the text begins, up to what leads onward from a pointer in the resource with this URI
+abbrev pub unit_head : Text → Pointer → Text
+unit_head uri pointer = codes "{\"absoluteKeywordLocation\":\"" ++ (uri ++ (number_sign ∷ fragment_text pointer))
 
-abbrev pub IsHead : Text → Text → Type 0
-IsHead uri t = (t ≡ unit_head uri) × (list_all is_unescaped uri ≡ true)
+-- the text is that head, and the URI and the pointer stand in a string as they are
+abbrev pub IsHead : Identity → Text → Type 0
+IsHead origin t = (t ≡ unit_head origin.0 origin.1) × (list_all is_unescaped (origin.0 ++ (number_sign ∷ fragment_text origin.1)) ≡ true)
 
 unfoldable pub unit_text : Bool → OutputUnit → Text
 unit_text valid u =

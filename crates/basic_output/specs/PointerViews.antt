@@ -1,18 +1,23 @@
--- Pointers that stand one after the other, as lists of tokens.
-use Rattle.std.specs.Prelude.{◌≡◌, string_bytes, take, drop}
-use Rattle.definitions.specs.Pointers.{Pointer}
+-- Pointers as lists of tokens, and where they begin.
+use Rattle.std.specs.Prelude.{◌≡◌, ◌-◌, ℕ, drop, length, string_bytes}
+use Rattle.definitions.specs.Pointers.{Pointer, pointer_text}
+use Rattle.definitions.specs.Schemas.{Identity}
 use Rattle.locations.specs.Steps.{tokens}
-use Rattle.basic_output.specs.Notations.{noted_text}
-use Rattle.basic_output.specs.declared.notation.Notation.{Notation}
-use Rattle.basic_output.specs.declared.pointers.Pointers.{Pointers}
+use Rattle.basic_output.specs.declared.origin.Origin.{Origin}
+use Rattle.basic_output.specs.declared.written_pointer.WrittenPointer.{WrittenPointer}
 
-unfoldable pub last_pointer : Pointers → Pointer
-last_pointer p = tokens (drop p.start p.steps.items)
+unfoldable pub pointer_view : WrittenPointer → Pointer
+pointer_view p = tokens p.steps.items
 
--- those before it, one after the other
-unfoldable pub outer_pointers : Pointers → Pointer
-outer_pointers p = tokens (take p.start p.steps.items)
+-- the text is all of it, since each step is written
+pub record IsWritten (p : WrittenPointer) : Type 0 where
+  pub text : string_bytes p.text ≡ pointer_text (pointer_view p)
+  pub whole : length p.starts.items ≡ length p.steps.items
 
--- the text is all of the last one, in this notation
-abbrev pub IsWritten : Notation → Pointers → Type 0
-IsWritten k p = string_bytes p.text ≡ noted_text k (last_pointer p)
+-- the last steps, so many
+abbrev pub onward_pointer : WrittenPointer → ℕ → Pointer
+onward_pointer path onward = drop (length (pointer_view path) - onward) (pointer_view path)
+
+-- the URI of the resource, and the pointer from its root
+unfoldable pub origin_view : Origin → Identity
+origin_view o = (o.resource.now, tokens o.steps.items)

@@ -3,7 +3,7 @@ use Rattle.std.specs.Prelude.{◌++◌, map, pos, codes, true}
 use Rattle.definitions.specs.Values.{Value, boolean, integer, string, array, to_elements}
 use Rattle.definitions.specs.Applied.{OutputUnit}
 use Rattle.json_doc.specs.Docs.{value}
-use Rattle.basic_output.specs.PointerViews.{last_pointer}
+use Rattle.basic_output.specs.PointerViews.{onward_pointer, origin_view, pointer_view}
 use Rattle.basic_output.specs.declared.location.Location.{Location}
 use Rattle.basic_output.specs.declared.says.Says.{Says}
 use Rattle.basic_output.specs.declared.says.Says.TheVariants as says
@@ -20,9 +20,9 @@ says_value (says.Value doc) = value doc.now
 abbrev pub unit_at : Location → Says → OutputUnit
 unit_at location says =
     record {
-      path = last_pointer location.path.now;
-      resource = location.resource.now;
-      pointer = last_pointer location.pointer.now;
-      instance_location = last_pointer location.instance_location.now;
+      path = pointer_view location.path.now;
+      resource = (origin_view location.origin.now).0;
+      pointer = (origin_view location.origin.now).1 ++ onward_pointer location.path.now location.onward;
+      instance_location = pointer_view location.instance_location.now;
       says = says_value says;
     }

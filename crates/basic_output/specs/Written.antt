@@ -1,22 +1,24 @@
--- The texts of a unit's locations, as they were written beforehand, and the unit's text of them.
-use Rattle.std.specs.Prelude.{◌∷◌, ◌++◌, Bool, codes, string_bytes}
-use Rattle.definitions.specs.Texts.{text}
+-- A unit's text, in parts.
+use Rattle.std.specs.Prelude.{◌∷◌, ◌++◌, Bool, codes}
+use Rattle.json.specs.Print.{quoted}
+use Rattle.definitions.specs.Bytes.{number_sign}
+use Rattle.definitions.specs.Pointers.{fragment_text, pointer_text}
 use Rattle.definitions.specs.Values.{Text}
-use Rattle.basic_output.specs.PointerViews.{IsWritten}
+use Rattle.basic_output.specs.PointerViews.{onward_pointer, origin_view, pointer_view}
 use Rattle.basic_output.specs.Pieces.{kind_key}
-use Rattle.basic_output.specs.Sayings.{says_value}
 use Rattle.basic_output.specs.declared.location.Location.{Location}
-use Rattle.basic_output.specs.declared.notation.Notation.TheVariants as notation
-use Rattle.basic_output.specs.declared.says.Says.{Says}
 
-pub record AreWritten (location : Location) : Type 0 where
-  pub pointer : IsWritten notation.Fragment location.pointer.now
-  pub instance_location : IsWritten notation.String location.instance_location.now
-  pub path : IsWritten notation.String location.path.now
+-- the URI of the keyword's resource with the pointer from its root
+abbrev pub located_text : Location → Text
+located_text location =
+    (origin_view location.origin.now).0 ++ (number_sign ∷ fragment_text ((origin_view location.origin.now).1 ++ onward_pointer location.path.now location.onward))
 
--- behind a unit's head: the written texts stand in strings as they are
-abbrev pub written_unit : Bool → Location → Says → Text
-written_unit annotates location says =
-    string_bytes location.pointer.now.text ++ (34 ∷ (kind_key annotates ++ (text (says_value says)
-    ++ (codes ",\"instanceLocation\":\"" ++ (string_bytes location.instance_location.now.text
-    ++ (codes "\",\"keywordLocation\":\"" ++ (string_bytes location.path.now.text ++ codes "\"}")))))))
+-- up to what the unit says
+abbrev pub located_kind : Bool → Location → Text
+located_kind annotates location = codes "{\"absoluteKeywordLocation\":" ++ (quoted (located_text location) ++ kind_key annotates)
+
+-- behind what it says
+abbrev pub places_text : Location → Text
+places_text location =
+    codes ",\"instanceLocation\":" ++ (quoted (pointer_text (pointer_view location.instance_location.now))
+    ++ (codes ",\"keywordLocation\":" ++ (quoted (pointer_text (pointer_view location.path.now)) ++ codes "}")))

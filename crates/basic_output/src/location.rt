@@ -1,29 +1,38 @@
 //! Where a unit stands.
 
-ghost use Rattle.std.specs.Prelude.{◌≡◌, true};
-ghost use Rattle.basic_output.specs.Written.{AreWritten};
+use crate::origin::Origin;
+use crate::written_pointer::WrittenPointer;
+use locations::Step;
 
-use crate::notation::Notation;
-use crate::pointers::Pointers;
-
-/// Where a unit stands (JSON Schema 2020-12 Core, 12.3). Of each of the pointers the last counts.
+/// Where a unit stands (JSON Schema 2020-12 Core, 12.3).
 #[derive(Clone, Copy)]
 pub struct Location<'s, 'a> {
     /// The keyword's location along the evaluation path, through references.
-    pub path: &'s Pointers<'a>,
-    /// The URI of the schema resource that the keyword stands in.
-    pub resource: &'a str,
-    /// The keyword's location from the root of that resource.
-    pub pointer: &'s Pointers<'a>,
+    pub path: &'s WrittenPointer<'a>,
+    /// The schema at or below which the keyword stands.
+    pub origin: &'s Origin<'a>,
+    /// How many of the path's last steps lead from there to the keyword.
+    pub onward: usize,
     /// The instance's location.
-    pub instance_location: &'s Pointers<'a>,
+    pub instance_location: &'s WrittenPointer<'a>,
 }
 
-/// Whether the texts of all three pointers are written.
-pub(crate) fn are_written(location: Location<'_, '_>) -> bool
-    ensures { result ≡ true → AreWritten location.entry }
-{
-    location.pointer.is_written(Notation::Fragment)
-        && location.instance_location.is_written(Notation::String)
-        && location.path.is_written(Notation::String)
+impl<'s, 'a> Location<'s, 'a> {
+    ghost use Rattle.std.specs.Prelude.{◌≡◌, ◌-◌, length};
+    ghost use Rattle.locations.specs.Steps.{tokens};
+    ghost use Rattle.basic_output.specs.PointerViews.{onward_pointer, pointer_view};
+
+    /// How many of the path's steps lead to the origin.
+    pub(crate) fn inward(self) -> usize
+        ensures { result ≡ length (pointer_view self.entry.path.now) - self.entry.onward }
+    {
+        self.path.len().saturating_sub(self.onward)
+    }
+
+    /// The steps that lead from the origin to the keyword.
+    pub(crate) fn onward_steps(self) -> &'s [Step<'a>]
+        ensures { tokens result.now ≡ onward_pointer self.entry.path.now self.entry.onward }
+    {
+        &self.path.steps()[self.inward()..]
+    }
 }

@@ -19,7 +19,7 @@ const FRAME: usize = 40;
 
 /// The text of the basic output: compact JSON, with the names of each object in byte order. The units are the
 /// annotations of a valid instance, or the errors of another. The only error is want of memory, [`Fault::NoRoom`].
-pub fn output_text(alloc: Global, valid: bool, units: &Units<'_>) -> Result<String, Fault>
+pub fn output_text(alloc: Global, valid: bool, units: &Units) -> Result<String, Fault>
     ensures text { (us : List OutputUnit) → unit_texts units.now ≡ map (unit_text valid) us
         → IfOk result (λ s. string_bytes s ≡ text (units_output valid us)) }
     ensures answer { (o : Outcome) → o.valid ≡ valid
@@ -33,13 +33,13 @@ pub fn output_text(alloc: Global, valid: bool, units: &Units<'_>) -> Result<Stri
 }
 
 // How many bytes the output has at most, if an address holds the number.
-fn room_for(units: &Units<'_>) -> usize {
+fn room_for(units: &Units) -> usize {
     FRAME
         .saturating_add(units.text().len())
         .saturating_add(units.spans().len())
 }
 
-fn write_output(valid: bool, units: &Units<'_>, out: &mut String) -> Result<(), AllocError>
+fn write_output(valid: bool, units: &Units, out: &mut String) -> Result<(), AllocError>
     ensures { OnOk result (string_bytes out.new ≡ string_bytes out.old
         ++ (list_key valid ++ (array_text (unit_texts units.now) ++ valid_member valid))) }
 {

@@ -7,7 +7,9 @@ ghost use Rattle.definitions.specs.Bytes.{number_sign, slash};
 ghost use Rattle.definitions.specs.Pointers.{escaped_byte, fragment_text, pointer_text};
 ghost use Rattle.locations.specs.Steps.{token, tokens};
 ghost use Rattle.basic_output.specs.Pieces.{is_plain, is_unescaped, plain_text};
+ghost use Rattle.basic_output.specs.PointerViews.{origin_view};
 
+use crate::origin::Origin;
 use json::Writer;
 use locations::{Step, push_fragment, push_pointer};
 use std::alloc::AllocError;
@@ -37,20 +39,23 @@ pub(crate) fn push_quoted(out: &mut String, text: &str) -> Result<(), AllocError
     }
 }
 
-/// Appends the resource's URI, `#` and the pointer as a fragment, as one string.
+/// Appends the URI of the origin's resource, `#` and the pointer as a fragment, which leads onward from there, as one
+/// string.
 pub(crate) fn push_quoted_location(
     out: &mut String,
-    resource: &str,
-    steps: &[Step<'_>],
+    origin: &Origin<'_>,
+    onward: &[Step<'_>],
 ) -> Result<(), AllocError>
     ensures { OnOk result (string_bytes out.new
         ≡ string_bytes out.old
-        ++ quoted (resource.now ++ (number_sign ∷ fragment_text (tokens steps.now)))) }
+        ++ quoted ((origin_view origin.now).0 ++ (number_sign
+        ∷ fragment_text ((origin_view origin.now).1 ++ tokens onward.now)))) }
 {
     let mut location = String::with_capacity(*out.allocator(), MOST_OFTEN)?;
-    location.push_str(resource)?;
+    location.push_str(origin.resource())?;
     location.push_str("#")?;
-    push_fragment(&mut location, steps)?;
+    push_fragment(&mut location, origin.steps())?;
+    push_fragment(&mut location, onward)?;
     push_quoted(out, location.as_str())
 }
 

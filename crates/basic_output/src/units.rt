@@ -4,7 +4,6 @@ ghost use Rattle.std.specs.Prelude.{◌≡◌, ◌++◌, length, map, string_byt
 ghost use Rattle.std.specs.List.{All};
 ghost use Rattle.basic_output.specs.Spans.{IsSpan, ascends, last_reach, raise_from, span_text};
 
-use crate::kept_resource::KeptResource;
 use crate::location::Location;
 use crate::says::Says;
 use crate::unit::push_unit;
@@ -33,14 +32,13 @@ impl Span {
 ///
 /// Contracts see the texts, by `unit_texts`.
 #[derive(Drop)]
-pub struct Units<'a> {
+pub struct Units {
     // The texts, in the order in which they were made.
     text: String,
     // Where each stands, in the order of the units.
     spans: Vec<Span>,
     // The one that is being made.
     made: String,
-    resource: KeptResource<'a>,
     ghost are_spans: { All (IsSpan (string_bytes text)) spans.items },
     ghost ascend: { ascends 0 spans.items ≡ true },
 }
@@ -63,7 +61,7 @@ impl Model for Mark {
     ghost inverse = { λ n. record { units = n } };
 }
 
-impl<'a> Units<'a> {
+impl Units {
     ghost use Rattle.std.specs.Prelude.{[], ◌∷◌};
     ghost use Rattle.std.specs.List.{insert};
     ghost use Rattle.basic_output.specs.Pieces.{unit_text};
@@ -71,14 +69,13 @@ impl<'a> Units<'a> {
     ghost use Rattle.basic_output.specs.Units.{unit_texts};
 
     /// No units. This takes no memory; the units that come later take it from `alloc`.
-    pub fn new(alloc: Global) -> Units<'a>
+    pub fn new(alloc: Global) -> Units
         ensures { unit_texts result ≡ [] }
     {
         Units {
             text: String::new(alloc),
             spans: Vec::new(alloc),
             made: String::new(alloc),
-            resource: KeptResource::new(alloc),
         }
     }
 
@@ -96,8 +93,8 @@ impl<'a> Units<'a> {
     pub fn push(
         &mut self,
         annotates: bool,
-        location: Location<'_, 'a>,
-        says: Says<'_, 'a>,
+        location: Location<'_, '_>,
+        says: Says<'_, '_>,
     ) -> Result<(), AllocError>
         ensures ok { OnOk result (unit_texts self.new
             ≡ unit_texts self.old ++ unit_text annotates (unit_at location.entry says.entry) ∷ []) }
@@ -113,8 +110,8 @@ impl<'a> Units<'a> {
         &mut self,
         mark: Mark,
         annotates: bool,
-        location: Location<'_, 'a>,
-        says: Says<'_, 'a>,
+        location: Location<'_, '_>,
+        says: Says<'_, '_>,
     ) -> Result<(), AllocError>
         ensures ok { OnOk result (unit_texts self.new ≡ insert (unit_texts self.old) mark
             (unit_text annotates (unit_at location.entry says.entry))) }
@@ -128,21 +125,15 @@ impl<'a> Units<'a> {
     fn make(
         &mut self,
         annotates: bool,
-        location: Location<'_, 'a>,
-        says: Says<'_, 'a>,
+        location: Location<'_, '_>,
+        says: Says<'_, '_>,
     ) -> Result<(), AllocError>
         ensures made { OnOk result (string_bytes self.new.made
             ≡ unit_text annotates (unit_at location.entry says.entry)) }
         ensures unchanged { unit_texts self.new ≡ unit_texts self.old }
     {
         self.made.clear();
-        push_unit(
-            &mut self.made,
-            &mut self.resource,
-            annotates,
-            location,
-            says,
-        )
+        push_unit(&mut self.made, annotates, location, says)
     }
 
     // Puts the text that was made at a mark.

@@ -1,64 +1,94 @@
 -- Frames, field by field.
-use Rattle.std.proofs.Common.{◌≡◌, ◌≤◌, ◌++◌, ◌∷◌, ◌&&◌, [], true, List, None, length, take, drop, refl, sym, ap, ap₂, ◌∙◌, subst, arith}
-use Rattle.std.proofs.lemmas.List.{append-nil, append_assoc, length-take, take-take, take_at, drop_at, take_all}
+use Rattle.std.proofs.Common.{◌≡◌, ◌≤◌, ◌<◌, ◌+◌, ◌-◌, ◌^◌, ◌++◌, ◌∷◌, ◌&&◌, [], true, ℕ, List, None, length, take, drop, option_map, refl, sym, ap, ap₂, ◌∙◌, subst, arith}
+use Rattle.std.proofs.lemmas.List.{append-nil, append_assoc, length-append, length-map, length-take, take-take, take_at, take_all, drop_all, drop-append-le}
 use Rattle.definitions.specs.Values.{Text, Value, is_object}
 use Rattle.definitions.specs.Pointers.{Pointer}
 use Rattle.definitions.specs.Schemas.{Schema, Identity, schema_at, opened_schema}
 use Rattle.definitions.specs.Outcomes.{is_running}
 use Rattle.std.specs.List.{list_any}
+use Rattle.locations.specs.Steps.{token}
+use Rattle.basic_output.specs.PointerViews.{pointer_view}
+use Rattle.basic_output.specs.declared.written_pointer.WrittenPointer.{WrittenPointer}
 use Rattle.evaluation_context.specs.Runnings.{is_running_as, are_above}
 use Rattle.definitions.specs.Applied.{InstanceLocation, OutputUnit}
-use Rattle.evaluation_context.specs.Frames.{Frame, frame_standing}
-use Rattle.evaluation_context.specs.Standings.{Standing, application_at}
-use Rattle.evaluation_context.specs.Moves.{Onward, LeadsTo, frame_below, frame_at, at_schema, standing_at}
-use Rattle.evaluation_context.specs.Returns.{CameFrom}
+use Rattle.evaluation_context.specs.Frames.{Frame, context_view, frame_standing, keyword_frame}
+use Rattle.evaluation_context.specs.Standings.{Standing, application_at, at_keyword}
+use Rattle.evaluation_context.specs.Moves.{Onward, frame_below, frame_at, at_origin, standing_at}
+use Rattle.evaluation_context.specs.Returns.{CameFrom, origin_before}
+use Rattle.evaluation_context.specs.declared.context.Context.{Context}
 use Rattle.evaluation_context.specs.declared.context.Return.{Return}
 
 pub same_locations : {p q : InstanceLocation} → p.pointer ≡ q.pointer → p.name ≡ q.name → p ≡ q
 same_locations {p} {q} pointer name = ap₂ (λ t n. record { pointer = t; name = n }) pointer name
 
-pub same_frames : {f g : Frame} → f.path ≡ g.path → f.outer ≡ g.outer → f.resource ≡ g.resource → f.pointer ≡ g.pointer → f.instance_location ≡ g.instance_location → f.scope ≡ g.scope → f.running ≡ g.running → f ≡ g
-same_frames {f} {g} path outer resource pointer instance_location scope running =
-    ap₂ (λ x y. record f { path = x; outer = y }) path outer
-    ∙ ap₂ (λ x y. record f { path = g.path; outer = g.outer; resource = x; pointer = y }) resource pointer
-    ∙ ap₂ (λ x y. record f { path = g.path; outer = g.outer; resource = g.resource; pointer = g.pointer; instance_location = x; scope = y }) instance_location scope
-    ∙ ap (λ x. record g { running = x }) running
+pub same_identities : {i j : Identity} → i.0 ≡ j.0 → i.1 ≡ j.1 → i ≡ j
+same_identities {i} {j} resource pointer = ap₂ (λ r t. (r, t)) resource pointer
+
+pub same_frames : {f g : Frame} → f.path ≡ g.path → f.origin ≡ g.origin → f.onward ≡ g.onward → f.instance_location ≡ g.instance_location → f.scope ≡ g.scope → f.running ≡ g.running → f ≡ g
+same_frames {f} {g} path origin onward instance_location scope running =
+    ap₂ (λ x y. record f { path = x; origin = y }) path origin
+    ∙ ap₂ (λ x y. record f { path = g.path; origin = g.origin; onward = x; instance_location = y }) onward instance_location
+    ∙ ap₂ (λ x y. record g { scope = x; running = y }) scope running
+
+-- ---- how many steps lead on
+pub pointer_fits : (p : WrittenPointer) → length (pointer_view p) < 2 ^ 63
+unfolding pointer_view
+pointer_fits p = omega (arith, p.steps.ok.0, p.steps.ok.1, p.steps.small, length-map p.steps.items token)
+
+pub context_within : (c : Context) → (context_view c).onward ≤ length (context_view c).path
+unfolding context_view
+context_within c = c.within
+
+-- ---- where the pointer leads
+-- further, where the path does
+pub pointer_further : (start path way : Pointer) (onward : ℕ) → onward ≤ length path
+    → start ++ drop (length (path ++ way) - (onward + length way)) (path ++ way) ≡ (start ++ drop (length path - onward) path) ++ way
+pointer_further start path way onward within =
+    let same : length (path ++ way) - (onward + length way) ≡ length path - onward = omega (arith, length-append path way) in
+    ap (λ n. start ++ drop n (path ++ way)) same
+    ∙ ap (λ t. start ++ t) (drop-append-le (length path - onward) path way (omega arith))
+    ∙ sym (append_assoc start (drop (length path - onward) path) way)
+
+-- nowhere else, at an origin that was entered last
+pub pointer_begins : (start path : Pointer) → start ++ drop (length path - 0) path ≡ start
+pointer_begins start path = ap (λ t. start ++ t) (drop_all (length path - 0) path (omega arith)) ∙ append-nil start
+
+-- ---- a path with one step less
+split_last : {A : Type 0} (x : A) (xs : List A) → (older : List A) × (last : A) × (x ∷ xs ≡ older ++ last ∷ [])
+split_last x [] = ([], x, refl)
+split_last x (y ∷ ys) =
+    let split = split_last y ys in
+    (x ∷ split.0, split.1, ap (λ zs. x ∷ zs) split.2)
+
+pub popped_long : (path new : Pointer) → ((older : Pointer) (t : Text) → path ≡ older ++ t ∷ [] → new ≡ older) → length path ≤ length new + 1
+popped_long [] new popped = omega arith
+popped_long (t ∷ ts) new popped =
+    let split = split_last t ts in
+    omega (arith, ap length (popped split.0 split.1 split.2), ap length split.2, length-append split.0 (split.1 ∷ []))
 
 -- ---- moves
 pub stepped_nowhere : (f : Frame) → f ≡ frame_below [] f
 unfolding frame_below
-stepped_nowhere f = same_frames (sym (append-nil f.path)) refl refl (sym (append-nil f.pointer)) refl refl refl
+stepped_nowhere f = same_frames (sym (append-nil f.path)) refl (omega arith) refl refl refl
 
 front : {A : Type 0} (xs more : List A) → take (length xs) (xs ++ more) ≡ xs
 front xs more = take_at xs more (length xs) refl
-
-pub onward_itself : (f : Frame) → Onward f f
-onward_itself f =
-    record {
-      path = take_all (length f.path) f.path (omega arith);
-      steps = take_all (length (f.outer ++ f.pointer)) (f.outer ++ f.pointer) (omega arith);
-      instance_location = take_all (length f.instance_location.pointer) f.instance_location.pointer (omega arith);
-      scope = refl;
-      running = refl;
-    }
 
 pub onward_stepped : (way : Pointer) (f : Frame) → Onward f (frame_below way f)
 unfolding frame_below
 onward_stepped way f =
     record {
       path = front f.path way;
-      steps = ap (take (length (f.outer ++ f.pointer))) (sym (append_assoc f.outer f.pointer way)) ∙ front (f.outer ++ f.pointer) way;
       instance_location = take_all (length f.instance_location.pointer) f.instance_location.pointer (omega arith);
       scope = refl;
       running = refl;
     }
 
-pub onward_schema : (s : Schema) (f : Frame) → Onward f (at_schema s f)
-unfolding at_schema
-onward_schema s f =
+pub onward_origin : (i : Identity) (f : Frame) → Onward f (at_origin i f)
+unfolding at_origin
+onward_origin i f =
     record {
       path = take_all (length f.path) f.path (omega arith);
-      steps = front (f.outer ++ f.pointer) s.pointer;
       instance_location = take_all (length f.instance_location.pointer) f.instance_location.pointer (omega arith);
       scope = refl;
       running = refl;
@@ -69,7 +99,6 @@ unfolding frame_at
 onward_placed p f instance_location =
     record {
       path = take_all (length f.path) f.path (omega arith);
-      steps = take_all (length (f.outer ++ f.pointer)) (f.outer ++ f.pointer) (omega arith);
       instance_location = instance_location;
       scope = refl;
       running = refl;
@@ -84,39 +113,46 @@ pub onward_onward : {f g h : Frame} → Onward f g → Onward g h → Onward f h
 onward_onward {f} {g} {h} first second =
     record {
       path = front_of_front f.path g.path h.path first.path second.path;
-      steps = front_of_front (f.outer ++ f.pointer) (g.outer ++ g.pointer) (h.outer ++ h.pointer) first.steps second.steps;
       instance_location = front_of_front f.instance_location.pointer g.instance_location.pointer h.instance_location.pointer first.instance_location second.instance_location;
       scope = second.scope ∙ first.scope;
       running = second.running ∙ first.running;
     }
 
+pub onward_at : {f g h : Frame} → g ≡ h → Onward f h → Onward f g
+onward_at {f} {g} {h} e onward = subst (Onward f) (sym e) onward
+
+-- the origin stays on these
+pub origin_below : (way : Pointer) (f : Frame) → (frame_below way f).origin ≡ f.origin
+unfolding frame_below
+origin_below way f = refl
+
+pub origin_placed : (p : InstanceLocation) (f : Frame) → (frame_at p f).origin ≡ f.origin
+unfolding frame_at
+origin_placed p f = refl
+
 -- ---- the way back
-pub came_from : (back : Return) (older newer : Frame) → LeadsTo back older → Onward older newer → CameFrom back older newer
-came_from back older newer leads onward =
-    let all : take back.steps (newer.outer ++ newer.pointer) ≡ older.outer ++ older.pointer =
-    ap (λ n. take n (newer.outer ++ newer.pointer)) leads.steps ∙ onward.steps in
+-- it leads there
+pub record LeadsTo (back : Return) (f : Frame) : Type 0 where
+  pub path : back.path ≡ length f.path
+  pub onward : back.onward ≡ f.onward
+  pub within : f.onward ≤ length f.path
+  pub instance_location : back.instance_location ≡ length f.instance_location.pointer
+  pub name : option_map (λ n. n.now) back.name ≡ f.instance_location.name
+  pub above : are_above back.instance_location f.running ≡ true
+
+pub came_from : (back : Return) (older newer : Frame) → LeadsTo back older → Onward older newer → origin_before back.origin newer.origin ≡ older.origin → CameFrom back older newer
+came_from back older newer leads onward left =
+    let path : take back.path newer.path ≡ older.path = ap (λ n. take n newer.path) leads.path ∙ onward.path in
     record {
       cut = same_frames
-          (sym (ap (λ n. take n newer.path) leads.path ∙ onward.path))
-          (sym (ap₂ take leads.start all ∙ take_at older.outer older.pointer (length older.outer) refl))
-          (sym leads.resource)
-          (sym (ap₂ drop leads.start all ∙ drop_at older.outer older.pointer (length older.outer) refl))
+          (sym path)
+          (sym left)
+          (omega (arith, leads.onward, leads.within, ap length path))
           (same_locations (sym (ap (λ n. take n newer.instance_location.pointer) leads.instance_location ∙ onward.instance_location)) (sym leads.name))
           (sym onward.scope)
           (sym onward.running);
       above = ap (are_above back.instance_location) onward.running ∙ leads.above;
     }
-
--- ---- a schema
-pub schema_stays : (f : Frame) (v : Value) → opened_schema f.resource f.pointer v None ≡ schema_at f.resource f.pointer v → frame_standing f ≡ standing_at [] (schema_at f.resource f.pointer v) (frame_standing f)
-unfolding frame_standing standing_at
-schema_stays f v e =
-    ap₂ (λ p (s : Schema). record (frame_standing f) { path = p; resource = s.resource; pointer = s.pointer }) (sym (append-nil f.path)) e
-
-pub schema_opened : (f : Frame) (uri : Text) (s : Schema) → uri ≡ s.resource → s.pointer ≡ [] → frame_standing (record f { outer = f.outer ++ f.pointer; resource = uri; pointer = [] }) ≡ standing_at [] s (frame_standing f)
-unfolding frame_standing standing_at
-schema_opened f uri s same root =
-    ap₂ (λ p (q : Text × Pointer). record (frame_standing f) { path = p; resource = q.0; pointer = q.1 }) (sym (append-nil f.path)) (ap₂ (λ r t. (r, t)) same (sym root))
 
 -- ---- standings, units and objects, field by field
 pub same_standings : {s t : Standing} → s.path ≡ t.path → s.resource ≡ t.resource → s.pointer ≡ t.pointer → s.instance_location ≡ t.instance_location → s.scope ≡ t.scope → s.running ≡ t.running → s ≡ t
@@ -124,6 +160,29 @@ same_standings {s} {t} path resource pointer instance_location scope running =
     ap₂ (λ x y. record s { path = x; resource = y }) path resource
     ∙ ap₂ (λ x y. record s { path = t.path; resource = t.resource; pointer = x; instance_location = y }) pointer instance_location
     ∙ ap₂ (λ x y. record t { scope = x; running = y }) scope running
+
+-- further along the path, below the schema
+abbrev pub standing_below : Pointer → Standing → Standing
+standing_below way st = record st { path = st.path ++ way; pointer = st.pointer ++ way }
+
+pub stands_below : (way : Pointer) (f : Frame) → f.onward ≤ length f.path → frame_standing (frame_below way f) ≡ standing_below way (frame_standing f)
+unfolding frame_standing frame_below
+stands_below way f within = same_standings refl refl (pointer_further f.origin.1 f.path way f.onward within) refl refl refl
+
+-- at a keyword of the schema
+pub stands_at_keyword : (k : Text) (f g : Frame) → f.onward ≤ length f.path → g ≡ keyword_frame k f → frame_standing g ≡ at_keyword k (frame_standing f)
+unfolding frame_below keyword_frame
+stands_at_keyword k f g within e = ap frame_standing e ∙ stands_below (k ∷ []) f within
+
+-- at a schema with no resource of its own
+pub schema_stays : (st : Standing) (v : Value) → opened_schema st.resource st.pointer v None ≡ schema_at st.resource st.pointer v → st ≡ standing_at [] (schema_at st.resource st.pointer v) st
+unfolding standing_at
+schema_stays st v e = ap₂ (λ p (s : Schema). record st { path = p; resource = s.resource; pointer = s.pointer }) (sym (append-nil st.path)) e
+
+-- at the origin of this schema
+pub schema_entered : (i : Identity) (s : Schema) (f : Frame) → i.0 ≡ s.resource → i.1 ≡ s.pointer → frame_standing (at_origin i f) ≡ standing_at [] s (frame_standing f)
+unfolding frame_standing at_origin standing_at
+schema_entered i s f resource pointer = same_standings (sym (append-nil f.path)) resource (pointer_begins i.1 f.path ∙ pointer) refl refl refl
 
 pub same_units : {u v : OutputUnit} → u.path ≡ v.path → u.resource ≡ v.resource → u.pointer ≡ v.pointer → u.instance_location ≡ v.instance_location → u.says ≡ v.says → u ≡ v
 same_units {u} {v} path resource pointer instance_location says =
@@ -137,6 +196,3 @@ same_objects {i} {j} {p} {q} resource pointer instance_location name os =
 
 pub running_is : (s x : Value) (st : Standing) → is_object s ≡ true → list_any (is_running_as (st.resource, st.pointer) st.instance_location) st.running ≡ is_running (application_at st s x)
 running_is s x st object = sym (ap (λ b. b && list_any (is_running_as (st.resource, st.pointer) st.instance_location) st.running) object)
-
-pub onward_at : {f g h : Frame} → g ≡ h → Onward f h → Onward f g
-onward_at {f} {g} {h} e onward = subst (Onward f) (sym e) onward

@@ -1,7 +1,8 @@
 -- The schema objects that are being applied, beside the steps that are kept for them and those of the instance location.
 use Rattle.std.proofs.Common.{◌≡◌, ◌≤◌, ◌<◌, ◌+◌, ◌++◌, ◌∷◌, ◌&&◌, ◌||◌, [], ℕ, zero, suc, List, Bool, Option, Result, Ok, Err, OnOk, true, false, length, nat_le, map, option_map, get_or, take, drop, refl, sym, ap, ap₂, ◌∙◌, arith}
+use Rattle.std.proofs.Math.Bool.{and-true}
 use Rattle.std.proofs.lemmas.Bool.{and_parts, and_from, and_left, and_right, leb-true, le-leb}
-use Rattle.std.proofs.lemmas.List.{take-take, take_all, take_rest, map_push, map-append, same_from_push, length-append, length-map, length-take, length-take-le, get_or-map, nil_from_length, drop_at, take_at, take-append-drop, drop_more}
+use Rattle.std.proofs.lemmas.List.{take-take, take_all, take_rest, map_push, map-append, append_assoc, same_from_push, length-append, length-map, length-take, length-take-le, get_or-map, nil_from_length, drop_at, drop-map, take_at, take-map, take-append-drop, drop_more}
 use Rattle.std.proofs.lemmas.List.Folds.{list_any_at, list_any-append}
 use Rattle.std.specs.Prelude.{is_ok, slice_range, if◌then◌else◌}
 use Rattle.std.specs.List.{list_any, list_all}
@@ -12,11 +13,13 @@ use Rattle.definitions.specs.Applied.{InstanceLocation}
 use Rattle.definitions.specs.Outcomes.{same_name}
 use Rattle.lemmas.proofs.Lists.{range_same}
 use Rattle.lemmas.proofs.Texts.{same_text_itself}
-use Rattle.locations.specs.Steps.{tokens}
+use Rattle.locations.specs.Steps.{token, tokens}
 use Rattle.locations.specs.declared.step.Step.{Step}
-use Rattle.basic_output.proofs.PointerLaws.{no_push}
+use Rattle.basic_output.specs.PointerViews.{pointer_view}
 use Rattle.evaluation_context.specs.Runnings.{running_view, is_running_as, are_above, are_laid}
+use Rattle.evaluation_context.specs.RunningViews.{instance_pointer, running_objects}
 use Rattle.evaluation_context.specs.declared.running.Running.{Running}
+use Rattle.evaluation_context.specs.declared.running_objects.RunningObjects.{RunningObjects}
 
 -- where one stands
 pub record Laid (s e : Running → ℕ) (from to : ℕ) (r : Running) : Type 0 where
@@ -119,6 +122,13 @@ grown_laid s e es xs ys more is h = laid_more s e 0 (length xs) (length ys) es (
 front_same : {X : Type 0} (xs more : List X) → take (length xs) (xs ++ more) ≡ take (length xs) xs
 front_same xs more = take_at xs more (length xs) refl ∙ sym (take_all (length xs) xs (omega arith))
 
+-- the steps from the root to an origin, and those that lead on
+pub both_tokens : (first second : List Step) (start : Pointer) → tokens first ≡ start → tokens (first ++ second) ≡ start ++ tokens second
+both_tokens first second start is = map-append token first second ∙ ap (λ t. t ++ tokens second) is
+
+pub both_kept : {X : Type 0} (xs first second ys zs : List X) → ys ≡ xs ++ first → zs ≡ ys ++ second → zs ≡ xs ++ (first ++ second)
+both_kept xs first second ys zs e f = f ∙ ap (λ t. t ++ second) e ∙ append_assoc xs first second
+
 -- the steps of what is pushed
 pub record Pushed (xs ys : List Step) (place : Pointer) (p : List Step) (r : Running) : Type 0 where
   pub kept : ys ≡ xs ++ p
@@ -210,7 +220,16 @@ pub cut_views : (es : List Running) (xs : List Step) (place new : Pointer) (n de
 cut_views es xs place new n depth is le h laid =
     views_same xs xs new place 0 (length xs) 0 depth es refl (ap (take depth) is ∙ take-take depth n place le) laid h.enough
 
+-- ---- none of them stands below the instance location
+pub none_below : (o : RunningObjects) (n : ℕ) → n ≡ length (instance_pointer o) → are_above n (running_objects o) ≡ true
+unfolding instance_pointer running_objects
+none_below o n is = are_all_above o.steps.items (pointer_view o.instance_location) 0 (length (pointer_view o.instance_location)) n o.entries.items (omega (arith, is)) o.nested
+
 -- ---- what a pop leaves
+pub no_push : {A : Type 0} (xs : List A) (x : A) → [] ≡ xs ++ x ∷ [] → ⊥
+no_push [] x e = cc
+no_push (y ∷ ys) x e = cc
+
 pub popped_laid : (es new : List Running) (xs ys : List Step) (r : Running) → es ≡ new ++ r ∷ [] → ys ≡ take r.pointer xs → are_laid (λ r. r.pointer) (λ r. r.end) 0 (length xs) es ≡ true → are_laid (λ r. r.pointer) (λ r. r.end) 0 (length ys) new ≡ true
 popped_laid es new xs ys r e cut h =
     let p = laid_pop (λ r. r.pointer) (λ r. r.end) 0 (length xs) new r (ap (are_laid (λ r. r.pointer) (λ r. r.end) 0 (length xs)) (sym e) ∙ h) in
@@ -252,6 +271,30 @@ pointers_differ [] [] differ = absurd (differ refl)
 pointers_differ [] (u ∷ us) differ = refl
 pointers_differ (t ∷ ts) [] differ = refl
 pointers_differ (t ∷ ts) (u ∷ us) differ = and_right (same_text t u) (same_pointer ts us) (pointers_differ ts us (λ same. differ (ap suc same)))
+
+-- a pointer beside two, one after the other
+pub shorter_differs : (ts first second : Pointer) → length ts < length first → false ≡ same_pointer ts (first ++ second)
+shorter_differs ts first second less = sym (pointers_differ ts (first ++ second) (λ same. omega (arith, same, length-append first second)))
+
+and_swap : (a b c : Bool) → (b && (a && c)) ≡ (a && (b && c))
+and_swap true b c = refl
+and_swap false b c = and_right b false refl
+
+pub same_both : (ts first second : Pointer) → length first ≤ length ts
+    → (same_pointer (drop (length first) ts) second && same_pointer (take (length first) ts) first) ≡ same_pointer ts (first ++ second)
+same_both ts [] second le = and-true (same_pointer ts second)
+same_both [] (u ∷ us) second le = absurd (omega arith)
+same_both (t ∷ ts) (u ∷ us) second le =
+    and_swap (same_text t u) (same_pointer (drop (length us) ts) second) (same_pointer (take (length us) ts) us) ∙ ap (λ b. same_text t u && b) (same_both ts us second (omega arith))
+
+pub split_same : (steps first second front back : List Step) → front ≡ take (length first) steps → back ≡ drop (length first) steps → length first ≤ length steps
+    → (same_pointer (tokens back) (tokens second) && same_pointer (tokens front) (tokens first)) ≡ same_pointer (tokens steps) (tokens first ++ tokens second)
+split_same steps first second front back e f le =
+    let ts = tokens steps in
+    let long : length first ≡ length (tokens first) = sym (length-map first token) in
+    let last : tokens back ≡ drop (length (tokens first)) ts = ap tokens f ∙ sym (drop-map token (length first) steps) ∙ ap (λ n. drop n ts) long in
+    let before : tokens front ≡ take (length (tokens first)) ts = ap tokens e ∙ sym (take-map token (length first) steps) ∙ ap (λ n. take n ts) long in
+    ap₂ (λ b a. same_pointer b (tokens second) && same_pointer a (tokens first)) last before ∙ same_both ts (tokens first) (tokens second) (omega (arith, le, long, length-map steps token))
 
 -- none of those higher up stands at the instance location
 none_higher : (xs : List Step) (place : Pointer) (identity : Identity) (name : Option Text) (from to : ℕ) (rs : List Running) → to < length place → are_laid (λ r. r.depth) (λ r. r.depth) from to rs ≡ true

@@ -1,5 +1,5 @@
 -- A schema object that is being applied, beside the steps that are kept and those of the instance location.
-use Rattle.std.specs.Prelude.{◌&&◌, Bool, List, [], ◌∷◌, ℕ, length, nat_le, option_map, slice_range, take}
+use Rattle.std.specs.Prelude.{◌&&◌, ◌++◌, Bool, List, [], ◌∷◌, ℕ, length, nat_le, option_map, slice_range, take}
 use Rattle.std.specs.List.{list_all}
 use Rattle.definitions.specs.Pointers.{Pointer}
 use Rattle.definitions.specs.Schemas.{Identity, same_identity}
@@ -7,7 +7,13 @@ use Rattle.definitions.specs.Applied.{InstanceLocation}
 use Rattle.definitions.specs.Outcomes.{same_location}
 use Rattle.locations.specs.Steps.{tokens}
 use Rattle.locations.specs.declared.step.Step.{Step}
+use Rattle.basic_output.specs.PointerViews.{origin_view}
+use Rattle.basic_output.specs.declared.origin.Origin.{Origin}
 use Rattle.evaluation_context.specs.declared.running.Running.{Running}
+
+-- the schema that stands below the origin by these steps
+abbrev pub onward_identity : Origin → List Step → Identity
+onward_identity origin onward = ((origin_view origin).0, (origin_view origin).1 ++ tokens onward)
 
 -- its instance location is a beginning of the one where the context stands
 abbrev pub running_view : List Step → Pointer → Running → Identity × InstanceLocation

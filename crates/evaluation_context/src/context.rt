@@ -1,45 +1,51 @@
 //! Where an application of a schema stands.
 
-ghost use Rattle.std.specs.Prelude.{◌≡◌, true, IfOk, OnOk, map};
+ghost use Rattle.std.specs.Prelude.{◌≡◌, ◌≤◌, true, IfOk, OnOk, length, map};
 ghost use Rattle.definitions.specs.Values.{Text, Value, is_object};
 ghost use Rattle.definitions.specs.Answers.{first_application};
 ghost use Rattle.definitions.specs.Outcomes.{is_running};
+ghost use Rattle.basic_output.specs.PointerViews.{onward_pointer, pointer_view};
 ghost use Rattle.basic_output.specs.declared.says.Says as output;
 ghost use Rattle.basic_output.specs.Sayings.{says_value, unit_at};
 ghost use Rattle.json_doc.specs.Docs.{value};
+ghost use Rattle.locations.specs.Steps.{tokens};
 ghost use Rattle.keyword_plans.specs.ScopeViews.{scope_documents};
 ghost use Rattle.schema_index.specs.Locateds.{located_view};
 ghost use Rattle.evaluation_context.specs.Standings.{application_at, at_keyword, unit_there, within_object};
 
 use crate::running_objects::RunningObjects;
-use basic_output::{Location, Notation, Pointers};
+use basic_output::{Location, Origin, WrittenPointer};
 use keyword_plans::DynamicScope;
 use linker::Linked;
 use locations::Step;
 use schema_index::Located;
 use std::alloc::{AllocError, Global};
+use std::rc::Rc;
 
 /// Where an application of a schema stands.
 ///
 /// Contracts see all that it keeps by `context_view`, and where that stands by `frame_standing`.
 #[derive(Drop)]
 pub struct Context<'a> {
-    pub(crate) path: Pointers<'a>,
-    pub(crate) pointers: Pointers<'a>,
-    pub(crate) resource: &'a str,
+    pub(crate) path: WrittenPointer<'a>,
+    /// The schema that was entered last otherwise than by a step from the keyword above it.
+    pub(crate) origin: Rc<Origin<'a>>,
+    /// How many of the path's last steps lead on from there.
+    pub(crate) onward: usize,
     pub(crate) name: Option<&'a str>,
     /// The dynamic scope.
     pub scope: DynamicScope<'a>,
     pub(crate) running: RunningObjects<'a>,
+    ghost within: { onward ≤ length (pointer_view path) },
 }
 
 /// The way back from what a keyword applied.
-#[derive(Clone, Copy, Debug)]
+#[derive(Debug, Drop)]
 pub struct Return<'a> {
     pub(crate) path: usize,
-    pub(crate) steps: usize,
-    pub(crate) start: usize,
-    pub(crate) resource: &'a str,
+    /// The origin, where another one was entered.
+    pub(crate) origin: Option<Rc<Origin<'a>>>,
+    pub(crate) onward: usize,
     pub(crate) instance_location: usize,
     pub(crate) name: Option<&'a str>,
 }
@@ -64,9 +70,9 @@ impl<'a> Context<'a> {
             schema: _,
         } = root;
         Ok(Context {
-            path: Pointers::new(alloc, Notation::String, Vec::new(alloc)),
-            pointers: Pointers::new(alloc, Notation::Fragment, steps),
-            resource,
+            path: WrittenPointer::new(alloc),
+            origin: Rc::new(alloc, Origin::new(alloc, resource, steps)?)?,
+            onward: 0,
             name: None,
             scope: DynamicScope::new(alloc, linked),
             running: RunningObjects::new(alloc),
@@ -77,7 +83,7 @@ impl<'a> Context<'a> {
     pub fn resource(&self) -> &'a str
         ensures { result.now ≡ (frame_standing (context_view self.now)).resource }
     {
-        self.resource
+        self.origin.resource()
     }
 
     /// The URIs of the resources of the dynamic scope, the outermost first.
@@ -87,13 +93,30 @@ impl<'a> Context<'a> {
         self.scope.uris()
     }
 
+    /// The steps from the root of that resource to the schema, or to a keyword of it. The only error is want of memory.
+    pub fn pointer(&self, alloc: Global) -> Result<Vec<Step<'a>>, AllocError>
+        ensures { IfOk result
+            (λ p. tokens p.items ≡ (frame_standing (context_view self.now)).pointer) }
+    {
+        let mut pointer = Vec::from_slice(alloc, self.origin.steps())?;
+        pointer.extend_from_slice(self.onward_steps())?;
+        Ok(pointer)
+    }
+
+    // The steps that lead on from the origin.
+    fn onward_steps(&self) -> &[Step<'a>]
+        ensures { tokens result.now ≡ onward_pointer self.now.path self.now.onward }
+    {
+        onward_steps(&self.path, self.onward)
+    }
+
     /// Whether a schema object that is applied here is being applied at this instance location already.
     pub fn is_running(&self) -> bool
         ensures { (s x : Value) → is_object s ≡ true
             → result ≡ is_running (application_at (frame_standing (context_view self.now)) s x) }
     {
         self.running
-            .contains(self.resource, self.pointers.last(), self.name)
+            .contains(&self.origin, self.onward_steps(), self.name)
     }
 
     /// Writes what the texts of the locations lack, so that a unit's text has only to copy them: `location` says the same
@@ -102,9 +125,20 @@ impl<'a> Context<'a> {
         ensures same { context_view self.new ≡ context_view self.old }
         ensures documents { scope_documents self.new.scope ≡ scope_documents self.old.scope }
     {
+        self.write_origin()?;
         self.path.write()?;
-        self.pointers.write()?;
         self.running.write_instance_location()
+    }
+
+    // Writes the text of the origin, where that isn't written yet.
+    fn write_origin(&mut self) -> Result<(), AllocError>
+        ensures same { context_view self.new ≡ context_view self.old }
+        ensures documents { scope_documents self.new.scope ≡ scope_documents self.old.scope }
+    {
+        if self.origin.lacks_text() {
+            self.origin = self.origin.with_text()?;
+        }
+        Ok(())
     }
 
     /// The location of a unit of the output.
@@ -115,8 +149,8 @@ impl<'a> Context<'a> {
     {
         Location {
             path: &self.path,
-            resource: self.resource,
-            pointer: &self.pointers,
+            origin: &self.origin,
+            onward: self.onward,
             instance_location: self.running.instance_location(),
         }
     }
@@ -130,9 +164,10 @@ impl<'a> Context<'a> {
             (context_view self.new ≡ object_frame (context_view self.old)) }
         ensures documents { scope_documents self.new.scope ≡ scope_documents self.old.scope }
     {
-        self.scope.push(self.resource)?;
-        self.running
-            .push(self.resource, self.pointers.last(), self.name)?;
+        let resource = self.resource();
+        self.scope.push(resource)?;
+        let onward = onward_steps(&self.path, self.onward);
+        self.running.push(&self.origin, onward, self.name)?;
         Ok(())
     }
 
@@ -156,7 +191,7 @@ impl<'a> Context<'a> {
         ensures documents { scope_documents self.new.scope ≡ scope_documents self.old.scope }
     {
         self.path.push(Step::Name(name))?;
-        self.pointers.push(Step::Name(name))?;
+        self.onward += 1;
         Ok(())
     }
 
@@ -167,6 +202,14 @@ impl<'a> Context<'a> {
         ensures documents { scope_documents self.new.scope ≡ scope_documents self.old.scope }
     {
         self.path.pop();
-        self.pointers.pop();
+        self.onward = self.onward.saturating_sub(1);
     }
+}
+
+// The last steps of the path, so many.
+fn onward_steps<'s, 'a>(path: &'s WrittenPointer<'a>, onward: usize) -> &'s [Step<'a>]
+    ensures { tokens result.now ≡ onward_pointer path.now onward }
+{
+    let steps = path.steps();
+    &steps[steps.len().saturating_sub(onward)..]
 }

@@ -4,25 +4,27 @@ ghost use Rattle.std.specs.Prelude.{◌≡◌, ◌++◌, [], true, false, IfOk, 
 ghost use Rattle.definitions.specs.Values.{Text};
 ghost use Rattle.definitions.specs.Schemas.{schema_at};
 ghost use Rattle.definitions.specs.Applied.{Application, part_location};
+ghost use Rattle.basic_output.specs.PointerViews.{origin_view};
 ghost use Rattle.json_doc.specs.Docs.{value};
 ghost use Rattle.keyword_plans.specs.Plans.{part_view, planned_view, step_view};
 ghost use Rattle.keyword_plans.specs.ScopeViews.{scope_documents};
 ghost use Rattle.linker.specs.LinkedDocuments.{linked_schemas};
-ghost use Rattle.schema_index.specs.Locateds.{located_view};
 ghost use Rattle.evaluation_context.specs.Standings.{at_keyword, standing_of};
 ghost use Rattle.evaluation_context.specs.Frames.{Frame, context_view, frame_standing};
-ghost use Rattle.evaluation_context.specs.Moves.{LeadsTo, Onward, at_schema, chosen_schema, chosen_way, frame_at, frame_below, standing_at};
-ghost use Rattle.evaluation_context.specs.Returns.{CameFrom};
+ghost use Rattle.evaluation_context.specs.Moves.{Onward, at_origin, chosen_schema, chosen_way, frame_at, frame_below, standing_at};
+ghost use Rattle.evaluation_context.specs.Returns.{CameFrom, origin_before};
 
 use crate::context::{Context, Return};
 use crate::identifier::identifier;
+use basic_output::Origin;
 use faults::Fault;
 use json_doc::Doc;
 use keyword_plans::{Chosen, Part, Planned};
 use linker::Linked;
 use locations::Step;
-use schema_index::Located;
 use std::alloc::{AllocError, Global};
+use std::mem::replace;
+use std::rc::Rc;
 
 impl<'a> Context<'a> {
     /// From a keyword to what it applies. The only error is want of memory.
@@ -42,10 +44,19 @@ impl<'a> Context<'a> {
         ensures err { IfErr result (λ f. f ≡ Fault.NoRoom) }
         ensures documents { scope_documents self.new.scope ≡ scope_documents self.old.scope }
     {
-        let back = self.way_back();
-        self.enter_chosen(alloc, linked, &planned.chosen)?;
+        let path = self.path.len();
+        let onward = self.onward;
+        let instance_location = self.running.instance_location().len();
+        let name = self.name;
+        let origin = self.enter_chosen(alloc, linked, &planned.chosen)?;
         self.enter_part(planned.part)?;
-        Ok(back)
+        Ok(Return {
+            path,
+            origin,
+            onward,
+            instance_location,
+            name,
+        })
     }
 
     /// Back to the keyword.
@@ -54,37 +65,38 @@ impl<'a> Context<'a> {
             → context_view self.new ≡ older }
         ensures documents { scope_documents self.new.scope ≡ scope_documents self.old.scope }
     {
-        self.path.truncate(back.path);
-        self.pointers.cut(back.steps, back.start);
-        self.resource = back.resource;
-        self.running.cut(back.instance_location);
-        self.name = back.name;
-    }
-
-    fn way_back(&self) -> Return<'a>
-        ensures { LeadsTo result (context_view self.now) }
-    {
-        Return {
-            path: self.path.last_len(),
-            steps: self.pointers.len(),
-            start: self.pointers.start(),
-            resource: self.resource,
-            instance_location: self.running.instance_location().last_len(),
-            name: self.name,
+        let Return {
+            path,
+            origin,
+            onward,
+            instance_location,
+            name,
+        } = back;
+        self.path.truncate(path);
+        self.onward = onward.min(self.path.len());
+        if let Some(origin) = origin {
+            self.origin = origin;
         }
+        self.running.cut(instance_location);
+        self.name = name;
     }
 
+    // The origin that was left for another one, where it was.
     fn enter_chosen(
         &mut self,
         alloc: Global,
         linked: &'a Linked,
         chosen: &Chosen<'a>,
-    ) -> Result<(), Fault>
-        ensures there { let s = chosen_schema (context_view self.old).resource
-            (context_view self.old).pointer chosen.now in Contains (linked_schemas linked.now) s
+    ) -> Result<Option<Rc<Origin<'a>>>, Fault>
+        ensures there { let st = frame_standing (context_view self.old) in
+            let s = chosen_schema st.resource st.pointer chosen.now in
+            Contains (linked_schemas linked.now) s
             → OnOk result (frame_standing (context_view self.new)
-            ≡ standing_at (chosen_way chosen.now) s (frame_standing (context_view self.old))) }
+            ≡ standing_at (chosen_way chosen.now) s st) }
         ensures onward { OnOk result (Onward (context_view self.old) (context_view self.new)) }
+        ensures left { IfOk result
+            (λ left. origin_before left (context_view self.new).origin
+            ≡ (context_view self.old).origin) }
         ensures err { IfErr result (λ f. f ≡ Fault.NoRoom) }
         ensures documents { scope_documents self.new.scope ≡ scope_documents self.old.scope }
     {
@@ -93,9 +105,9 @@ impl<'a> Context<'a> {
                 self.enter_step(*step)?;
                 self.enter_schema(alloc, linked, schema)
             }
-            Chosen::Target(located) => {
-                self.enter_target(located)?;
-                Ok(())
+            Chosen::Target(target) => {
+                let left = self.enter_origin(target.origin.clone()?);
+                Ok(Some(left))
             }
         }
     }
@@ -108,48 +120,51 @@ impl<'a> Context<'a> {
         match step {
             Some(step) => {
                 self.path.push(step)?;
-                self.pointers.push(step)?;
+                self.onward += 1;
                 Ok(())
             }
             None => Ok(()),
         }
     }
 
-    // A schema with an `$id` opens a resource, whose pointers begin anew (JSON Schema 2020-12 Core, section 8.2.1).
+    // A schema with an `$id` opens a resource, whose pointers begin anew (JSON Schema 2020-12 Core, section 8.2.1). The origin
+    // that was left, where it does.
     fn enter_schema(
         &mut self,
         alloc: Global,
         linked: &'a Linked,
         schema: &'a Doc,
-    ) -> Result<(), Fault>
-        ensures there { let s = schema_at (context_view self.old).resource
-            (context_view self.old).pointer
-            (value schema.now) in Contains (linked_schemas linked.now) s
-            → OnOk result (frame_standing (context_view self.new)
-            ≡ standing_at [] s (frame_standing (context_view self.old))) }
+    ) -> Result<Option<Rc<Origin<'a>>>, Fault>
+        ensures there { let st = frame_standing (context_view self.old) in
+            let s = schema_at st.resource st.pointer (value schema.now) in
+            Contains (linked_schemas linked.now) s
+            → OnOk result (frame_standing (context_view self.new) ≡ standing_at [] s st) }
         ensures onward { OnOk result (Onward (context_view self.old) (context_view self.new)) }
+        ensures left { IfOk result
+            (λ left. origin_before left (context_view self.new).origin
+            ≡ (context_view self.old).origin) }
         ensures err { IfErr result (λ f. f ≡ Fault.NoRoom) }
         ensures documents { scope_documents self.new.scope ≡ scope_documents self.old.scope }
     {
         match identifier(schema) {
             Some(id) => {
-                self.resource = linked.resource_opened(alloc, self.resource, id)?;
-                self.pointers.begin();
-                Ok(())
+                let resource = linked.resource_opened(alloc, self.resource(), id)?;
+                let origin = Rc::new(alloc, Origin::root(alloc, resource))?;
+                Ok(Some(self.enter_origin(origin)))
             }
-            None => Ok(()),
+            None => Ok(None),
         }
     }
 
-    fn enter_target(&mut self, located: &Located<'a>) -> Result<(), AllocError>
-        ensures moved { OnOk result (context_view self.new
-            ≡ at_schema (located_view located.now) (context_view self.old)) }
+    // To another origin: the one that was left.
+    fn enter_origin(&mut self, origin: Rc<Origin<'a>>) -> Rc<Origin<'a>>
+        ensures moved { context_view self.new
+            ≡ at_origin (origin_view origin.entry.value) (context_view self.old) }
+        ensures left { origin_view result.value ≡ (context_view self.old).origin }
         ensures documents { scope_documents self.new.scope ≡ scope_documents self.old.scope }
     {
-        self.pointers.begin();
-        self.pointers.append(&located.steps)?;
-        self.resource = located.resource;
-        Ok(())
+        self.onward = 0;
+        replace(&mut self.origin, origin)
     }
 
     fn enter_part(&mut self, part: Part<'a>) -> Result<(), AllocError>

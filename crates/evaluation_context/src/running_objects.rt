@@ -2,15 +2,16 @@
 
 ghost use Rattle.std.specs.Prelude.{◌≡◌, ◌≤◌, ◌++◌, ◌∷◌, ◌&&◌, [], true, length, option_map, slice_range, take, ℕ, OnOk, List};
 ghost use Rattle.std.specs.List.{list_any};
+ghost use Rattle.definitions.specs.Pointers.{same_pointer};
 ghost use Rattle.definitions.specs.Schemas.{Identity, same_identity};
 ghost use Rattle.definitions.specs.Applied.{InstanceLocation};
 ghost use Rattle.definitions.specs.Outcomes.{same_name};
 ghost use Rattle.locations.specs.Steps.{token, tokens};
-ghost use Rattle.basic_output.specs.PointerViews.{last_pointer};
-ghost use Rattle.evaluation_context.specs.Runnings.{are_above, are_laid, is_running_as, running_view};
+ghost use Rattle.basic_output.specs.PointerViews.{pointer_view};
+ghost use Rattle.evaluation_context.specs.Runnings.{are_above, are_laid, is_running_as, onward_identity, running_view};
 
 use crate::running::Running;
-use basic_output::{Notation, Pointers};
+use basic_output::{Origin, WrittenPointer};
 use locations::{Step, same_steps};
 use std::alloc::{AllocError, Global};
 
@@ -24,11 +25,11 @@ use std::alloc::{AllocError, Global};
 pub(crate) struct RunningObjects<'a> {
     entries: Vec<Running<'a>>,
     steps: Vec<Step<'a>>,
-    instance_location: Pointers<'a>,
+    instance_location: WrittenPointer<'a>,
     ghost laid: { are_laid (λ r. r.pointer) (λ r. r.end) 0 (length steps.items) entries.items
         ≡ true },
     ghost nested: { are_laid (λ r. r.depth) (λ r. r.depth) 0
-        (length (last_pointer instance_location)) entries.items
+        (length (pointer_view instance_location)) entries.items
         ≡ true },
 }
 
@@ -43,13 +44,13 @@ impl<'a> RunningObjects<'a> {
         RunningObjects {
             entries: Vec::new(alloc),
             steps: Vec::new(alloc),
-            instance_location: Pointers::new(alloc, Notation::String, Vec::new(alloc)),
+            instance_location: WrittenPointer::new(alloc),
         }
     }
 
     /// The instance location.
-    pub(crate) fn instance_location(&self) -> &Pointers<'a>
-        ensures { last_pointer result.now ≡ instance_pointer self.now }
+    pub(crate) fn instance_location(&self) -> &WrittenPointer<'a>
+        ensures { pointer_view result.now ≡ instance_pointer self.now }
     {
         &self.instance_location
     }
@@ -83,7 +84,7 @@ impl<'a> RunningObjects<'a> {
 
     // How many steps the instance location of the innermost object has.
     fn depth(&self) -> usize
-        ensures within { result ≤ length (last_pointer self.now.instance_location) }
+        ensures within { result ≤ length (pointer_view self.now.instance_location) }
         ensures enough { are_laid (λ r. r.depth) (λ r. r.depth) 0 result self.now.entries.items
             ≡ true }
         ensures least { (n : ℕ) → are_above n (running_objects self.now) ≡ true → result ≤ n }
@@ -97,13 +98,13 @@ impl<'a> RunningObjects<'a> {
     /// One object more, the innermost, applied at the instance location.
     pub(crate) fn push(
         &mut self,
-        resource: &'a str,
-        pointer: &[Step<'a>],
+        origin: &Origin<'a>,
+        onward: &[Step<'a>],
         name: Option<&'a str>,
     ) -> Result<(), AllocError>
         ensures running { OnOk result (running_objects self.new ≡ running_objects self.old
             ++ (
-              (resource.now, tokens pointer.now),
+              onward_identity origin.now onward.now,
               record {
                 pointer = instance_pointer self.old;
                 name = option_map
@@ -114,13 +115,14 @@ impl<'a> RunningObjects<'a> {
         ensures instance_location { instance_pointer self.new ≡ instance_pointer self.old }
     {
         let start = self.steps.len();
-        self.steps.extend_from_slice(pointer)?;
+        self.steps.extend_from_slice(origin.steps())?;
+        self.steps.extend_from_slice(onward)?;
         self.entries.push(Running {
-            resource,
+            resource: origin.resource(),
             name,
             pointer: start,
             end: self.steps.len(),
-            depth: self.instance_location.last_len(),
+            depth: self.instance_location.len(),
         })?;
         Ok(())
     }
@@ -141,19 +143,23 @@ impl<'a> RunningObjects<'a> {
         }
     }
 
-    /// Whether one of them has this resource and this pointer, and is applied at the instance location with this name.
+    /// Whether one of them stands below the origin by these steps, and is applied at the instance location with this name.
     /// Objects higher up stand before those at the instance location, so that the search ends at the first of them.
-    pub(crate) fn contains(&self, resource: &str, pointer: &[Step<'_>], name: Option<&str>) -> bool
+    pub(crate) fn contains(
+        &self,
+        origin: &Origin<'_>,
+        onward: &[Step<'_>],
+        name: Option<&str>,
+    ) -> bool
         ensures { result ≡ list_any
-            (is_running_as (resource.now, tokens pointer.now)
-            (record {
+            (is_running_as (onward_identity origin.now onward.now) (record {
               pointer = instance_pointer self.now;
               name = option_map
                   (λ n. n.now) name.entry;
             }))
             (running_objects self.now) }
     {
-        let depth = self.instance_location.last_len();
+        let depth = self.instance_location.len();
         let mut left = self.entries.len();
         while left > 0 {
             left -= 1;
@@ -161,7 +167,7 @@ impl<'a> RunningObjects<'a> {
             if entry.depth < depth {
                 return false;
             }
-            if is_same(&self.steps, entry, resource, pointer, name) {
+            if is_same(&self.steps, entry, origin, onward, name) {
                 return true;
             }
         }
@@ -175,8 +181,8 @@ impl<'a> RunningObjects<'a> {
 fn is_same(
     steps: &[Step<'_>],
     object: Running<'_>,
-    resource: &str,
-    pointer: &[Step<'_>],
+    origin: &Origin<'_>,
+    onward: &[Step<'_>],
     name: Option<&str>,
 ) -> bool
     requires pointer { object.pointer ≤ object.end }
@@ -186,24 +192,26 @@ fn is_same(
       tokens
           (slice_range steps.now object.entry.pointer object.entry.end),
     )
-        (resource.now, tokens pointer.now)
+        (onward_identity origin.now onward.now)
         && same_name (option_map (λ n. n.now) object.entry.name)
         (option_map (λ n. n.now) name.entry)) }
 {
     let own_pointer = &steps[object.pointer..object.end];
-    same_identity(object.resource, own_pointer, resource, pointer) && same_name(object.name, name)
+    are_both(own_pointer, origin.steps(), onward)
+        && object.resource == origin.resource()
+        && same_name(object.name, name)
 }
 
-fn same_identity(
-    first: &str,
-    first_pointer: &[Step<'_>],
-    second: &str,
-    second_pointer: &[Step<'_>],
-) -> bool
-    ensures { result ≡ same_identity (first.now, tokens first_pointer.now)
-        (second.now, tokens second_pointer.now) }
+// Whether the steps are those of the first list and then those of the second. What differs mostly does so in the second.
+fn are_both(steps: &[Step<'_>], first: &[Step<'_>], second: &[Step<'_>]) -> bool
+    ensures { result ≡ same_pointer (tokens steps.now) (tokens first.now ++ tokens second.now) }
 {
-    same_steps(first_pointer, second_pointer) && first == second
+    let seam = first.len();
+    if steps.len() < seam {
+        return false;
+    }
+    let (front, back) = steps.split_at(seam);
+    same_steps(back, second) && same_steps(front, first)
 }
 
 fn same_name(first: Option<&str>, second: Option<&str>) -> bool

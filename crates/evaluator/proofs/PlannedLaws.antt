@@ -30,11 +30,11 @@ use Rattle.evaluator.proofs.LogLaws.{added_twice, same_notes}
 -- ---- where a planned application stands
 chosen_schema_value : (k : Text) (a : Application) (chosen : Chosen) (part : definition.Part) (x : Value) → (chosen_application k a chosen part x).schema.value ≡ chosen_value chosen
 chosen_schema_value k a (Below step schema) part x = value-opened a.schema.resource _ (value schema.now) _
-chosen_schema_value k a (Target located) part x = refl
+chosen_schema_value k a (Target target) part x = refl
 
 chosen_instance : (k : Text) (a : Application) (chosen : Chosen) (part : definition.Part) (x : Value) → (chosen_application k a chosen part x).instance ≡ x
 chosen_instance k a (Below step schema) part x = refl
-chosen_instance k a (Target located) part x = refl
+chosen_instance k a (Target target) part x = refl
 
 at_itself : (a : Application) → application_at (standing_of a) a.schema.value a.instance ≡ a
 at_itself a = refl

@@ -121,4 +121,4 @@ boolean_notes (suc n) a b = outcome_notes (boolean_outcome a b)
 
 abbrev pub chosen_value : Chosen → Value
 chosen_value (Below step schema) = value schema.now
-chosen_value (Target located) = value located.value.schema.now
+chosen_value (Target target) = value target.schema.now

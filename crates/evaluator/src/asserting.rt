@@ -16,7 +16,7 @@ use keywords::Keyword;
 impl<'a> Evaluation<'a> {
     ghost use Rattle.std.specs.Prelude.{[], ◌∷◌, ◌++◌, ℕ, Some, None, false, IfOk, IfErr, OnOk, codes};
     ghost use Rattle.assertions.specs.AssertionView.{assertion_in, assertion_view};
-    ghost use Rattle.definitions.specs.Assertions.{holds};
+    ghost use Rattle.definitions.specs.Assertions.{enum_of, holds};
     ghost use Rattle.definitions.specs.Values.{get, string};
     ghost use Rattle.definitions.specs.Applied.{Application};
     ghost use Rattle.definitions.specs.Outcomes.{unit};
@@ -83,15 +83,32 @@ impl<'a> Evaluation<'a> {
         ensures err { IfErr result (λ f. f ≡ Fault.NoRoom) }
     {
         match keyword {
-            Keyword::Enum => self.enumerations.holds(
-                self.alloc,
-                self.context.resource(),
-                self.context.location().pointer.last(),
-                keyword_value,
-                here.subject,
-            ),
+            Keyword::Enum if !self.enumerations.may_walk(keyword_value) => {
+                self.is_one_of(keyword_value, here)
+            }
             _ => Ok(holds_of(self.alloc, assertion, keyword_value, here.subject)?),
         }
+    }
+
+    // Whether the instance is one of the values of the schema's `enum`, by what the evaluation has sorted. The only error is
+    // want of memory.
+    fn is_one_of(&mut self, values: &Doc, here: Here<'_, 'a>) -> Result<bool, Fault>
+        ensures linked { self.new.linked ≡ self.old.linked }
+        ensures back { self.new.context ≡ self.old.context }
+        ensures noted { self.new.log ≡ self.old.log }
+        ensures met { (a : Application) → IsHere self.old here.entry a
+            → get (codes "enum") a.schema.value ≡ Some (value values.now)
+            → IfOk result (λ b. b ≡ holds enum_of (value values.now) a.instance) }
+        ensures err { IfErr result (λ f. f ≡ Fault.NoRoom) }
+    {
+        let pointer = self.context.pointer(self.alloc)?;
+        self.enumerations.holds(
+            self.alloc,
+            self.context.resource(),
+            &pointer,
+            values,
+            here.subject,
+        )
     }
 
     // The keyword isn't met. The only error is want of memory.

@@ -16,8 +16,8 @@ use std::alloc::{AllocError, Global};
 #[derive(Drop)]
 pub(crate) struct Log<'a> {
     pub(crate) alloc: Global,
-    pub(crate) errors: Units<'a>,
-    pub(crate) annotations: Units<'a>,
+    pub(crate) errors: Units,
+    pub(crate) annotations: Units,
     pub(crate) names: Vec<&'a str>,
     pub(crate) indexes: Vec<usize>,
 }

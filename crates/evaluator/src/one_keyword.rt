@@ -110,15 +110,16 @@ impl<'a> Evaluation<'a> {
     {
         let log = &self.log;
         let evaluated = evaluated_since(&log.names, &log.indexes, here.before);
+        let context = &mut self.context;
         let site = Site {
             linked: self.linked,
-            resource: self.context.resource(),
+            resource: context.resource(),
             schema: here.present.schema,
             subject: here.subject,
         };
         plan(
             self.alloc,
-            &mut self.context.scope,
+            &mut context.scope,
             site,
             keyword,
             keyword_value,
@@ -314,6 +315,6 @@ fn chosen_schema<'a>(chosen: &Chosen<'a>) -> &'a Doc
 {
     match chosen {
         Chosen::Below(_, schema) => *schema,
-        Chosen::Target(located) => located.schema,
+        Chosen::Target(target) => target.schema,
     }
 }

@@ -135,7 +135,7 @@ fn note_own<'a>(
 // The same among the annotations alone: of the names `evaluated` has those that the keyword annotates with.
 fn insert_own<'a>(
     context: &mut Context<'a>,
-    annotations: &mut Units<'a>,
+    annotations: &mut Units,
     mark: Mark,
     keyword: Keyword,
     subject: Subject<'a>,

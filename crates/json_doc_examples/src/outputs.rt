@@ -1,64 +1,70 @@
 //! Texts of outputs, by the rules of JSON Schema 2020-12 Core, 12.4, RFC 6901 and RFC 3986.
 
-use basic_output::{Location, Notation, Pointers, Says, Step, Units, output_text};
+use basic_output::{Location, Origin, Says, Step, Units, WrittenPointer, output_text};
 use json_doc::{Fault, read};
 use locations::same_steps;
 use std::alloc::Global;
 use std::test::Fail;
 
-/// The steps of a location, in one resource after the other.
+/// The steps of a location, which begin at the root of one resource after the other.
 #[derive(Drop)]
 struct Places<'a> {
-    path: Pointers<'a>,
-    pointer: Pointers<'a>,
-    instance_location: Pointers<'a>,
+    path: WrittenPointer<'a>,
+    origin: Origin<'a>,
+    instance_location: WrittenPointer<'a>,
 }
 
 impl<'a> Places<'a> {
-    fn new(alloc: Global) -> Places<'a> {
-        Places {
-            path: Pointers::new(alloc, Notation::String, Vec::new(alloc)),
-            pointer: Pointers::new(alloc, Notation::Fragment, Vec::new(alloc)),
-            instance_location: Pointers::new(alloc, Notation::String, Vec::new(alloc)),
-        }
+    /// At the root of this resource.
+    fn new(alloc: Global, resource: &'a str) -> Result<Places<'a>, Fault> {
+        Ok(Places {
+            path: WrittenPointer::new(alloc),
+            origin: root_of(alloc, resource)?,
+            instance_location: WrittenPointer::new(alloc),
+        })
     }
 
     /// To these steps in the schema, along the same path, and in the instance.
     fn turn_to(&mut self, path: &[Step<'a>], instance_location: &[Step<'a>]) -> Result<(), Fault> {
         turn_to(&mut self.path, path)?;
-        turn_to(&mut self.pointer, path)?;
         turn_to(&mut self.instance_location, instance_location)
     }
 
-    /// There, in this resource.
-    fn within(&self, resource: &'a str) -> Location<'_, 'a> {
+    /// There, where all steps of the path lead on from the resource's root.
+    fn here(&self) -> Location<'_, 'a> {
+        self.onward(self.path.len())
+    }
+
+    /// There, where so many of the path's last steps lead on from the origin.
+    fn onward(&self, onward: usize) -> Location<'_, 'a> {
         Location {
             path: &self.path,
-            resource,
-            pointer: &self.pointer,
+            origin: &self.origin,
+            onward,
             instance_location: &self.instance_location,
         }
     }
+}
 
-    fn here(&self) -> Location<'_, 'a> {
-        self.within("https://ex.org/s")
-    }
+/// The root of this resource.
+fn root_of<'a>(alloc: Global, resource: &'a str) -> Result<Origin<'a>, Fault> {
+    Ok(Origin::new(alloc, resource, Vec::new(alloc))?)
 }
 
 /// To these steps, of which those in front stay that are there already; then their text is written.
-fn turn_to<'a>(pointers: &mut Pointers<'a>, steps: &[Step<'a>]) -> Result<(), Fault> {
+fn turn_to<'a>(pointer: &mut WrittenPointer<'a>, steps: &[Step<'a>]) -> Result<(), Fault> {
     let mut shared: usize = 0;
-    for (old, new) in pointers.last().iter().zip(steps) {
+    for (old, new) in pointer.steps().iter().zip(steps) {
         if !same_steps(&[*old], &[*new]) {
             break;
         }
         shared = shared.saturating_add(1);
     }
-    pointers.truncate(shared);
+    pointer.truncate(shared);
     for step in steps.iter().skip(shared) {
-        pointers.push(*step)?;
+        pointer.push(*step)?;
     }
-    pointers.write()?;
+    pointer.write()?;
     Ok(())
 }
 
@@ -69,7 +75,7 @@ fn writes_annotations_or_errors(rt: HostRuntime) -> Result<(), Fail> {
     assert_eq!(rt; annotations.as_str(), r#"{"annotations":[],"valid":true}"#);
     let errors = output_text(rt.alloc(), false, &units)?;
     assert_eq!(rt; errors.as_str(), r#"{"errors":[],"valid":false}"#);
-    let mut places = Places::new(rt.alloc());
+    let mut places = Places::new(rt.alloc(), "https://ex.org/s")?;
     places.turn_to(&[Step::Name("required")], &[])?;
     units.push(false, places.here(), Says::NotMet("required"))?;
     let text = output_text(rt.alloc(), false, &units)?;
@@ -80,9 +86,10 @@ fn writes_annotations_or_errors(rt: HostRuntime) -> Result<(), Fail> {
     Ok(())
 }
 
-fn annotation<'a>(alloc: Global, says: Says<'_, 'a>) -> Result<String, Fault> {
+fn annotation(alloc: Global, says: Says<'_, '_>) -> Result<String, Fault> {
     let mut units = Units::new(alloc);
-    units.push(true, Places::new(alloc).here(), says)?;
+    let places = Places::new(alloc, "https://ex.org/s")?;
+    units.push(true, places.here(), says)?;
     output_text(alloc, true, &units)
 }
 
@@ -124,17 +131,17 @@ fn writes_what_units_say(rt: HostRuntime) -> Result<(), Fail> {
 #[test]
 fn escapes_locations(rt: HostRuntime) -> Result<(), Fail> {
     let mut units = Units::new(rt.alloc());
-    let mut places = Places::new(rt.alloc());
-    turn_to(&mut places.path, &[Step::Name("$ref"), Step::Name("~/%")])?;
-    turn_to(
-        &mut places.pointer,
-        &[Step::Name("~/%"), Step::Name("ä \""), Step::Name("\u{1}\n")],
-    )?;
-    turn_to(
-        &mut places.instance_location,
+    let mut places = Places::new(rt.alloc(), "urn:x")?;
+    let mut steps = Vec::new(rt.alloc());
+    for step in [Step::Name("~/%"), Step::Name("ä \""), Step::Name("\u{1}\n")] {
+        steps.push(step)?;
+    }
+    places.origin = Origin::new(rt.alloc(), "urn:x", steps)?;
+    places.turn_to(
+        &[Step::Name("$ref"), Step::Name("~/%")],
         &[Step::Name("ä \""), Step::Index(12), Step::Name("\u{1}\n")],
     )?;
-    units.push(false, places.within("urn:x"), Says::NotAllowed)?;
+    units.push(false, places.onward(0), Says::NotAllowed)?;
     let text = output_text(rt.alloc(), false, &units)?;
     assert_eq!(rt;
         text.as_str(),
@@ -147,7 +154,7 @@ fn escapes_locations(rt: HostRuntime) -> Result<(), Fail> {
 fn puts_units_at_marks_and_cuts_them_off(rt: HostRuntime) -> Result<(), Fail> {
     let mut units = Units::new(rt.alloc());
     let path = [Step::Name("anyOf"), Step::Index(1), Step::Name("type")];
-    let mut places = Places::new(rt.alloc());
+    let mut places = Places::new(rt.alloc(), "https://ex.org/s")?;
     let own = units.mark();
     places.turn_to(&path, &[])?;
     units.push(false, places.here(), Says::NotMet("type"))?;
@@ -309,12 +316,13 @@ fn resource_of(steps: &[Step<'_>]) -> &'static str {
 fn units_at(
     alloc: Global,
     locations: &[(&'static [Step<'static>], &'static str, &'static str)],
-) -> Result<Units<'static>, Fault> {
+) -> Result<Units, Fault> {
     let mut units = Units::new(alloc);
-    let mut places = Places::new(alloc);
+    let mut places = Places::new(alloc, resource_of(&[]))?;
     for ((path, _, _), (instance_location, _, _)) in locations.iter().zip(locations.iter().rev()) {
+        places.origin = root_of(alloc, resource_of(path))?;
         places.turn_to(path, instance_location)?;
-        units.push(false, places.within(resource_of(path)), Says::NotAllowed)?;
+        units.push(false, places.here(), Says::NotAllowed)?;
     }
     Ok(units)
 }
@@ -361,34 +369,58 @@ fn writes_locations_after_one_another(rt: HostRuntime) -> Result<(), Fail> {
     Ok(())
 }
 
-/// The text of an error at this pointer in the resource, and nowhere else.
-fn error_at(alloc: Global, pointer: &Pointers<'static>) -> Result<String, Fault> {
-    let places = Places::new(alloc);
+/// The text of an error there, where so many of the path's last steps lead on from the origin.
+fn error_at(alloc: Global, places: &Places<'_>, onward: usize) -> Result<String, Fault> {
     let mut units = Units::new(alloc);
-    let location = Location {
-        path: &places.path,
-        resource: "urn:x",
-        pointer,
-        instance_location: &places.instance_location,
-    };
-    units.push(false, location, Says::NotAllowed)?;
+    units.push(false, places.onward(onward), Says::NotAllowed)?;
     output_text(alloc, false, &units)
 }
 
 #[test]
 fn pointers_begin_and_end(rt: HostRuntime) -> Result<(), Fail> {
-    let mut pointers = Pointers::new(rt.alloc(), Notation::Fragment, Vec::new(rt.alloc()));
-    turn_to(&mut pointers, &[Step::Name("a"), Step::Index(7)])?;
-    pointers.begin();
-    turn_to(&mut pointers, &[Step::Name("b"), Step::Name("c")])?;
-    assert!(rt; pointers.len() == 4 && pointers.start() == 2 && pointers.last_len() == 2);
-    let inner = error_at(rt.alloc(), &pointers)?;
+    let mut places = Places::new(rt.alloc(), "urn:x")?;
+    let path = [
+        Step::Name("a"),
+        Step::Index(7),
+        Step::Name("b"),
+        Step::Name("c"),
+    ];
+    places.turn_to(&path, &[])?;
+    assert!(rt; places.path.len() == 4);
+    let inner = error_at(rt.alloc(), &places, 2)?;
     assert!(rt; inner.as_str().contains(r##""urn:x#/b/c""##), "{inner}");
-    pointers.pop();
-    let shorter = error_at(rt.alloc(), &pointers)?;
+    places.path.pop();
+    let shorter = error_at(rt.alloc(), &places, 1)?;
     assert!(rt; shorter.as_str().contains(r##""urn:x#/b""##), "{shorter}");
-    pointers.cut(2, 0);
-    let outer = error_at(rt.alloc(), &pointers)?;
+    places.path.truncate(2);
+    let outer = error_at(rt.alloc(), &places, 2)?;
     assert!(rt; outer.as_str().contains(r##""urn:x#/a/7""##), "{outer}");
+    Ok(())
+}
+
+/// The locations of an error behind a reference, as the example of JSON Schema 2020-12 Core, 12.4.2 has them.
+#[test]
+fn locations_lead_on_from_what_a_reference_names(rt: HostRuntime) -> Result<(), Fail> {
+    let mut units = Units::new(rt.alloc());
+    let mut places = Places::new(rt.alloc(), "https://example.com/polygon")?;
+    let mut steps = Vec::new(rt.alloc());
+    for step in [Step::Name("$defs"), Step::Name("point")] {
+        steps.push(step)?;
+    }
+    places.origin = Origin::new(rt.alloc(), "https://example.com/polygon", steps)?;
+    places.turn_to(
+        &[
+            Step::Name("items"),
+            Step::Name("$ref"),
+            Step::Name("required"),
+        ],
+        &[Step::Index(1)],
+    )?;
+    units.push(false, places.onward(1), Says::NotMet("required"))?;
+    let text = output_text(rt.alloc(), false, &units)?;
+    assert_eq!(rt;
+        text.as_str(),
+        r#"{"errors":[{"absoluteKeywordLocation":"https://example.com/polygon#/$defs/point/required","error":"required is not met","instanceLocation":"/1","keywordLocation":"/items/$ref/required"}],"valid":false}"#
+    );
     Ok(())
 }

@@ -10,7 +10,7 @@ use Rattle.keywords.specs.declared.keyword.Keyword.{Keyword}
 use Rattle.keywords.specs.declared.keyword.Keyword.TheVariants.{Ref, DynamicRef, AllOf, AnyOf, OneOf, Not, If, Then, Else, DependentSchemas}
 use Rattle.locations.specs.declared.step.Step.{Step}
 use Rattle.locations.specs.Steps.{token}
-use Rattle.keyword_plans.specs.Followed.{shared_view}
+use Rattle.keyword_plans.specs.Followed.{target_view}
 use Rattle.keyword_plans.specs.Subjects.{subject_value}
 use Rattle.keyword_plans.specs.declared.planned.Planned.{Planned}
 use Rattle.keyword_plans.specs.declared.planned.Chosen.{Chosen}
@@ -31,7 +31,7 @@ step_view (Some step) = token step ∷ []
 -- the application that is planned, under the keyword k of the application a
 abbrev pub chosen_application : Text → Application → Chosen → definition.Part → Value → Application
 chosen_application k a (Below step schema) part x = (at_part a (k ∷ step_view step) (value schema.now) part x).1
-chosen_application k a (Target located) part x = part_application a (k ∷ []) (shared_view located) part x
+chosen_application k a (Target target) part x = part_application a (k ∷ []) (target_view target) part x
 
 abbrev pub planned_view : Text → Application → Planned → definition.Part × Application
 planned_view k a p = (part_view p.part, chosen_application k a p.chosen (part_view p.part) (subject_value p.subject))

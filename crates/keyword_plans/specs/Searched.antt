@@ -8,7 +8,7 @@ use Rattle.definitions.specs.Values.{Text}
 use Rattle.linker.specs.DynamicTargets.{is_anchored}
 use Rattle.linker.specs.LinkedDocuments.{linked_schemas}
 use Rattle.linker.specs.declared.linked.Linked.{Linked}
-use Rattle.keyword_plans.specs.Followed.{shared_view}
+use Rattle.keyword_plans.specs.Followed.{target_view}
 use Rattle.keyword_plans.specs.declared.dynamic_scope.SearchedAnchor.{SearchedAnchor}
 
 -- how many resources stand before the outermost that has the anchor
@@ -23,4 +23,4 @@ AreSearched l uris name passed found =
     × (schema_with_dynamic_anchor (linked_schemas l) (slice_index_or uris passed []) name ≡ Some s))
 
 abbrev pub IsSearched : Linked → List Text → SearchedAnchor → Type 0
-IsSearched l uris s = AreSearched l uris s.name.now s.passed (option_map shared_view s.found)
+IsSearched l uris s = AreSearched l uris s.name.now s.passed (option_map target_view s.found)

@@ -9,17 +9,16 @@ ghost use Rattle.definitions.specs.Targets.{dynamic_target, outermost, schema_wi
 ghost use Rattle.definitions.specs.Values.{Text};
 ghost use Rattle.linker.specs.LinkedDocuments.{linked_schemas};
 ghost use Rattle.linker.specs.declared.linked.Linked.{Linked};
-ghost use Rattle.keyword_plans.specs.Followed.{followed_in_scope, shared_view};
+ghost use Rattle.keyword_plans.specs.Followed.{followed_in_scope, target_view};
 ghost use Rattle.keyword_plans.specs.FollowedIn.{followed_in};
 ghost use Rattle.keyword_plans.specs.Searched.{IsSearched};
 ghost use Rattle.keyword_plans.specs.ValueSets.{value_set};
 
 use crate::followed_references::{Followed, FollowedReferences};
+use crate::target::Target;
 use faults::Fault;
 use linker::Linked;
-use schema_index::Located;
 use std::alloc::{AllocError, Global};
-use std::rc::Rc;
 
 /// How many dynamic anchors are kept.
 const MOST_KEPT: usize = 16;
@@ -30,7 +29,7 @@ const MOST_KEPT: usize = 16;
 struct SearchedAnchor<'a> {
     name: &'a str,
     passed: usize,
-    found: Option<Rc<Located<'a>>>,
+    found: Option<Target<'a>>,
 }
 
 /// The dynamic scope (JSON Schema 2020-12 Core, section 7.1), in which references are followed.
@@ -116,9 +115,9 @@ impl<'a> DynamicScope<'a> {
         alloc: Global,
         resource: &'a str,
         reference: &'a str,
-    ) -> Result<Option<Rc<Located<'a>>>, Fault>
+    ) -> Result<Option<Target<'a>>, Fault>
         ensures ok { IfOk result
-            (λ t. option_map shared_view t ≡ target (linked_schemas (scope_documents self.old).now)
+            (λ t. option_map target_view t ≡ target (linked_schemas (scope_documents self.old).now)
             (target_uri resource.now reference.now)) }
         ensures uris { scope_uris self.new ≡ scope_uris self.old }
         ensures documents { scope_documents self.new ≡ scope_documents self.old }
@@ -133,9 +132,9 @@ impl<'a> DynamicScope<'a> {
         alloc: Global,
         resource: &'a str,
         reference: &'a str,
-    ) -> Result<Option<Rc<Located<'a>>>, Fault>
+    ) -> Result<Option<Target<'a>>, Fault>
         ensures ok { IfOk result
-            (λ t. option_map shared_view t
+            (λ t. option_map target_view t
             ≡ dynamic_target (linked_schemas (scope_documents self.old).now) (scope_uris self.old)
             (target_uri resource.now reference.now)) }
         ensures uris { scope_uris self.new ≡ scope_uris self.old }
@@ -149,9 +148,9 @@ impl<'a> DynamicScope<'a> {
     }
 
     // The schema that a dynamic reference names in this scope, of what it names first.
-    fn in_scope(&mut self, alloc: Global, first: Followed<'a>) -> Result<Rc<Located<'a>>, Fault>
+    fn in_scope(&mut self, alloc: Global, first: Followed<'a>) -> Result<Target<'a>, Fault>
         ensures ok { IfOk result
-            (λ t. shared_view t
+            (λ t. target_view t
             ≡ followed_in_scope (linked_schemas (scope_documents self.old).now) (scope_uris self.old)
             first.entry) }
         ensures uris { scope_uris self.new ≡ scope_uris self.old }
@@ -169,12 +168,12 @@ impl<'a> DynamicScope<'a> {
         &mut self,
         alloc: Global,
         name: &'a str,
-        first: Rc<Located<'a>>,
-    ) -> Result<Rc<Located<'a>>, Fault>
+        first: Target<'a>,
+    ) -> Result<Target<'a>, Fault>
         ensures ok { IfOk result
-            (λ t. shared_view t
+            (λ t. target_view t
             ≡ outermost (linked_schemas (scope_documents self.old).now) (scope_uris self.old)
-            name.now (shared_view first.entry)) }
+            name.now (target_view first.entry)) }
         ensures uris { scope_uris self.new ≡ scope_uris self.old }
         ensures documents { scope_documents self.new ≡ scope_documents self.old }
         ensures err { IfErr result (λ f. f ≡ Fault.NoRoom) }
@@ -186,9 +185,9 @@ impl<'a> DynamicScope<'a> {
     }
 
     // The schema with this dynamic anchor in the outermost resource that has it.
-    fn outermost(&mut self, alloc: Global, name: &'a str) -> Result<Option<Rc<Located<'a>>>, Fault>
+    fn outermost(&mut self, alloc: Global, name: &'a str) -> Result<Option<Target<'a>>, Fault>
         ensures ok { IfOk result
-            (λ t. (first : Schema) → unwrap_or (option_map shared_view t) first
+            (λ t. (first : Schema) → unwrap_or (option_map target_view t) first
             ≡ outermost (linked_schemas (scope_documents self.old).now) (scope_uris self.old)
             name.now first) }
         ensures uris { scope_uris self.new ≡ scope_uris self.old }
@@ -272,7 +271,7 @@ fn search<'a>(
     ensures right { IfOk result
         (λ s. IsSearched linked.entry.now (map (λ uri. uri.now) uris.entry.now) s) }
     ensures found { IfOk result
-        (λ s. (first : Schema) → unwrap_or (option_map shared_view s.found) first
+        (λ s. (first : Schema) → unwrap_or (option_map target_view s.found) first
         ≡ outermost (linked_schemas linked.entry.now) (map (λ uri. uri.now) uris.entry.now)
         begun.entry.name.now first) }
     ensures err { IfErr result (λ f. f ≡ Fault.NoRoom) }
@@ -300,14 +299,14 @@ fn dynamically_anchored<'a>(
     linked: &'a Linked,
     uri: &str,
     name: &str,
-) -> Result<Option<Rc<Located<'a>>>, Fault>
+) -> Result<Option<Target<'a>>, Fault>
     ensures ok { IfOk result
-        (λ t. option_map shared_view t
+        (λ t. option_map target_view t
         ≡ schema_with_dynamic_anchor (linked_schemas linked.entry.now) uri.now name.now) }
     ensures err { IfErr result (λ f. f ≡ Fault.NoRoom) }
 {
     match linked.dynamically_anchored(alloc, uri, name)? {
-        Some(schema) => Ok(Some(Rc::new(alloc, schema)?)),
+        Some(schema) => Ok(Some(Target::of(alloc, schema)?)),
         None => Ok(None),
     }
 }
@@ -324,12 +323,12 @@ fn cut(searched: &mut [SearchedAnchor<'_>], left: usize)
 }
 
 // The same schema once more.
-fn again<'a>(found: &Option<Rc<Located<'a>>>) -> Result<Option<Rc<Located<'a>>>, AllocError>
+fn again<'a>(found: &Option<Target<'a>>) -> Result<Option<Target<'a>>, AllocError>
     ensures { IfOk result
-        (λ t. option_map shared_view t ≡ option_map shared_view found.now) }
+        (λ t. option_map target_view t ≡ option_map target_view found.now) }
 {
     match found {
-        Some(schema) => Ok(Some(schema.clone()?)),
+        Some(schema) => Ok(Some(schema.again()?)),
         None => Ok(None),
     }
 }

@@ -117,9 +117,6 @@ impl<'a> Enumerations<'a> {
         ensures linked { enumerated_in self.new ≡ enumerated_in self.old }
         ensures err { IfErr result (λ f. f ≡ Fault.NoRoom) }
     {
-        if self.may_walk(values) {
-            return Ok(holds_of(alloc, Assertion::EnumOf, values, subject)?);
-        }
         match self.position(resource, steps) {
             Ok(at) => Ok(self.sorted[at].contains(alloc, subject)?),
             Err(at) => match self.enumeration(alloc, resource, steps)? {
@@ -143,10 +140,9 @@ impl<'a> Enumerations<'a> {
             .binary_search_by(|enumeration| enumeration.compare(resource, steps))
     }
 
-    // Whether the values are to be looked at one after the other, which is counted where they are many.
-    fn may_walk(&mut self, values: &Doc) -> bool
-        ensures linked { self.new.linked ≡ self.old.linked }
-        ensures sorted { self.new.sorted ≡ self.old.sorted }
+    /// Whether these values of an `enum` are to be looked at one after the other, which is counted where they are many.
+    pub fn may_walk(&mut self, values: &Doc) -> bool
+        ensures { enumerated_in self.new ≡ enumerated_in self.old }
     {
         let count = count_of(values);
         if count <= FEW {

@@ -8,14 +8,13 @@ ghost use Rattle.definitions.specs.Schemas.{Schema};
 ghost use Rattle.definitions.specs.Targets.{target};
 ghost use Rattle.definitions.specs.Values.{Text};
 ghost use Rattle.linker.specs.LinkedDocuments.{linked_schemas};
-ghost use Rattle.keyword_plans.specs.Followed.{IsFollowed, IsNamed, shared_view};
+ghost use Rattle.keyword_plans.specs.Followed.{IsFollowed, IsNamed, target_view};
 ghost use Rattle.keyword_plans.specs.ValueSets.{value_set};
 
+use crate::target::Target;
 use faults::Fault;
 use linker::Linked;
-use schema_index::Located;
 use std::alloc::{AllocError, Global};
-use std::rc::Rc;
 
 /// How many references are kept.
 const MOST_KEPT: usize = 16;
@@ -24,7 +23,7 @@ const MOST_KEPT: usize = 16;
 #[derive(Drop)]
 pub(crate) struct Followed<'a> {
     /// The schema.
-    pub(crate) target: Rc<Located<'a>>,
+    pub(crate) target: Target<'a>,
     /// Its dynamic anchor, where the reference names it by that (8.2.3.2).
     pub(crate) anchor: Option<&'a str>,
 }
@@ -72,9 +71,9 @@ impl<'a> FollowedReferences<'a> {
         alloc: Global,
         resource: &'a str,
         reference: &'a str,
-    ) -> Result<Option<Rc<Located<'a>>>, Fault>
+    ) -> Result<Option<Target<'a>>, Fault>
         ensures ok { IfOk result
-            (λ t. option_map shared_view t ≡ target (linked_schemas (followed_in self.old).now)
+            (λ t. option_map target_view t ≡ target (linked_schemas (followed_in self.old).now)
             (target_uri resource.now reference.now)) }
         ensures linked { followed_in self.new ≡ followed_in self.old }
         ensures err { IfErr result (λ f. f ≡ Fault.NoRoom) }
@@ -173,7 +172,7 @@ fn named_first<'a>(
 {
     match linked.named(alloc, resource, reference)? {
         Some(named) => Ok(Some(Followed {
-            target: Rc::new(alloc, named.target)?,
+            target: Target::of(alloc, named.target)?,
             anchor: named.anchor,
         })),
         None => Ok(None),
@@ -187,7 +186,7 @@ fn again<'a>(named: &Option<Followed<'a>>) -> Result<Option<Followed<'a>>, Alloc
 {
     match named {
         Some(followed) => Ok(Some(Followed {
-            target: followed.target.clone()?,
+            target: followed.target.again()?,
             anchor: followed.anchor,
         })),
         None => Ok(None),

@@ -11,6 +11,7 @@ mod planning;
 mod searching;
 mod site;
 mod subject;
+mod target;
 mod verdict;
 
 pub use annotating::{annotate, distinct_names};
@@ -22,4 +23,5 @@ pub use planned::{Chosen, Part, Planned};
 pub use planning::plan;
 pub use site::{Evaluated, Site};
 pub use subject::Subject;
+pub use target::Target;
 pub use verdict::{holds_of, passes};

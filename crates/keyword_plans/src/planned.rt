@@ -1,10 +1,9 @@
 //! Applications that a keyword plans.
 
 use crate::subject::Subject;
+use crate::target::Target;
 use json_doc::Doc;
 use locations::Step;
-use schema_index::Located;
-use std::rc::Rc;
 
 /// The part of the instance that a schema is applied to.
 #[derive(Clone, Copy, Debug)]
@@ -25,7 +24,7 @@ pub enum Chosen<'a> {
     /// The keyword's value, or what stands below it by this step.
     Below(Option<Step<'a>>, &'a Doc),
     /// What a reference names.
-    Target(Rc<Located<'a>>),
+    Target(Target<'a>),
 }
 
 /// A schema that is to be applied to a part of the instance.

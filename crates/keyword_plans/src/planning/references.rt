@@ -7,7 +7,7 @@ ghost use Rattle.definitions.specs.Targets.{target, dynamic_target};
 ghost use Rattle.definitions.specs.Applied.{Application, to_target};
 ghost use Rattle.json_doc.specs.Docs.{value};
 ghost use Rattle.linker.specs.LinkedDocuments.{linked_schemas};
-ghost use Rattle.keyword_plans.specs.Followed.{shared_view};
+ghost use Rattle.keyword_plans.specs.Followed.{target_view};
 ghost use Rattle.keyword_plans.specs.ScopeViews.{scope_documents, scope_uris};
 ghost use Rattle.keyword_plans.specs.Plans.{planned_view};
 ghost use Rattle.keyword_plans.specs.Sites.{Shows};
@@ -17,11 +17,10 @@ use crate::dynamic_scope::DynamicScope;
 use crate::planned::{Chosen, Part, Planned};
 use crate::site::Site;
 use crate::subject::Subject;
+use crate::target::Target;
 use faults::Fault;
 use json_doc::Doc;
-use schema_index::Located;
 use std::alloc::{AllocError, Global};
-use std::rc::Rc;
 
 /// What a reference names (8.2.3.1).
 pub(crate) fn plan_reference<'a>(
@@ -79,17 +78,17 @@ pub(crate) fn plan_dynamic_reference<'a>(
 
 fn plan_target<'a>(
     alloc: Global,
-    target: Option<Rc<Located<'a>>>,
+    target: Option<Target<'a>>,
     subject: Subject<'a>,
 ) -> Result<Vec<Planned<'a>>, AllocError>
     ensures { (a : Application) (k : Text) → a.instance ≡ subject_value subject.entry
         → IfOk result (λ ps. map (planned_view k a) ps.items
-        ≡ to_target a k (option_map shared_view target.entry)) }
+        ≡ to_target a k (option_map target_view target.entry)) }
 {
     let mut planned = Vec::new(alloc);
-    if let Some(located) = target {
+    if let Some(target) = target {
         planned.push(Planned {
-            chosen: Chosen::Target(located),
+            chosen: Chosen::Target(target),
             part: Part::Whole,
             subject,
         })?;

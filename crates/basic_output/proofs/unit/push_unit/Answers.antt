@@ -1,17 +1,21 @@
-use Rattle.std.proofs.Common.{◌≡◌, ◌++◌, string_bytes, ap, ◌∙◌}
+use Rattle.std.proofs.Common.{◌++◌, string_bytes, ap, ◌∙◌}
 use Rattle.std.proofs.lemmas.Result.{on_ok_weaker}
-use Rattle.basic_output.specs.Pieces.{unit_text}
-use Rattle.basic_output.specs.Sayings.{unit_at}
-use Rattle.basic_output.specs.Written.{written_unit}
-use Rattle.basic_output.proofs.UnitLaws.{written_is_unit}
+use Rattle.definitions.specs.Texts.{text}
+use Rattle.lemmas.proofs.Appended.{appended}
+use Rattle.basic_output.specs.Sayings.{says_value}
+use Rattle.basic_output.specs.Written.{located_kind, places_text}
+use Rattle.basic_output.proofs.UnitLaws.{unit_parts}
 use Rattle.basic_output.proofs.unit.push_unit.Goals as goal
 
-pub returns-then-branch : goal.returns-then-branch
-returns-then-branch c =
+pub returns : goal.returns
+returns c =
+    let old = string_bytes c.args.out.now in
+    let located = string_bytes c.push_located_kind.new.out in
+    let said = string_bytes c.push_says.new.out in
     let location = c.args.location in
-    let annotates = c.args.annotates in
-    let says = c.args.says in
-    let text : c.head.result.now ++ written_unit annotates location says ≡ unit_text annotates (unit_at location says) =
-    ap (λ t. t ++ written_unit annotates location says) c.head.ensures
-    ∙ written_is_unit (string_bytes c.keep.new.self.head) annotates location says (c.in_ok-keep.ensures c.if-branch.true) (c.are_written.ensures c.if-are_written.true) in
-    on_ok_weaker c.push_written_unit.result (λ e. e ∙ ap (λ t. string_bytes c.args.out.now ++ t) text) c.push_written_unit.ensures
+    let says = text (says_value c.args.says) in
+    on_ok_weaker c.push_places.result
+    (λ e. appended old located _ (located_kind c.args.annotates location) (says ++ places_text location) c.in_ok-push_located_kind.ensures
+    (appended located said _ says (places_text location) c.in_ok-push_says.ensures e)
+    ∙ ap (λ t. old ++ t) (unit_parts c.args.annotates location c.args.says))
+    c.push_places.ensures

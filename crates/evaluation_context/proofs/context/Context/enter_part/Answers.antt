@@ -10,26 +10,26 @@ pub returns-in-Whole-clause-moved : goal.returns-in-Whole-clause-moved
 unfolding context_view frame_at
 returns-in-Whole-clause-moved c =
     let old = c.args.self.now in
-    same_frames refl refl refl refl (refl) refl refl
+    same_frames refl refl refl refl refl refl
     ∙ ap (λ part. frame_at (part_location (context_view old).instance_location (part_view part)) (context_view old)) (sym c.in-Whole.is)
 
 pub returns-in_ok-deepen-in-Member-clause-moved : goal.returns-in_ok-deepen-in-Member-clause-moved
 unfolding context_view frame_at
 returns-in_ok-deepen-in-Member-clause-moved c =
     let old = c.args.self.now in
-    same_frames refl refl refl refl (same_locations c.in_ok-deepen-in-Member.ensures.instance_location refl) refl c.in_ok-deepen-in-Member.ensures.running
+    same_frames refl refl refl (same_locations c.in_ok-deepen-in-Member.ensures.instance_location refl) refl c.in_ok-deepen-in-Member.ensures.running
     ∙ ap (λ part. frame_at (part_location (context_view old).instance_location (part_view part)) (context_view old)) (sym c.in-Member.is)
 
 pub returns-in_ok-deepen-in-Element-clause-moved : goal.returns-in_ok-deepen-in-Element-clause-moved
 unfolding context_view frame_at
 returns-in_ok-deepen-in-Element-clause-moved c =
     let old = c.args.self.now in
-    same_frames refl refl refl refl (same_locations c.in_ok-deepen-in-Element.ensures.instance_location refl) refl c.in_ok-deepen-in-Element.ensures.running
+    same_frames refl refl refl (same_locations c.in_ok-deepen-in-Element.ensures.instance_location refl) refl c.in_ok-deepen-in-Element.ensures.running
     ∙ ap (λ part. frame_at (part_location (context_view old).instance_location (part_view part)) (context_view old)) (sym c.in-Element.is)
 
 pub returns-in-NameOf-clause-moved : goal.returns-in-NameOf-clause-moved
 unfolding context_view frame_at
 returns-in-NameOf-clause-moved c =
     let old = c.args.self.now in
-    same_frames refl refl refl refl (refl) refl refl
+    same_frames refl refl refl refl refl refl
     ∙ ap (λ part. frame_at (part_location (context_view old).instance_location (part_view part)) (context_view old)) (sym c.in-NameOf.is)

@@ -1,10 +1,13 @@
+use Rattle.std.proofs.Common.{◌≡◌, length, refl, ap, ◌∙◌}
 use Rattle.definitions.specs.Applied.{part_location}
 use Rattle.linker.specs.LinkedDocuments.{linked_schemas}
 use Rattle.keyword_plans.specs.Plans.{part_view}
 use Rattle.keyword_plans.specs.Subjects.{subject_value}
-use Rattle.evaluation_context.specs.Frames.{context_view}
+use Rattle.evaluation_context.specs.Frames.{Frame, context_view}
 use Rattle.evaluation_context.specs.Moves.{Onward}
-use Rattle.evaluation_context.proofs.FrameLaws.{onward_at, onward_placed, onward_onward, came_from}
+use Rattle.evaluation_context.specs.Returns.{origin_before}
+use Rattle.evaluation_context.proofs.FrameLaws.{LeadsTo, came_from, context_within, onward_at, onward_placed, onward_onward, origin_placed}
+use Rattle.evaluation_context.proofs.RunningLaws.{none_below}
 use Rattle.evaluation_context.proofs.PlannedLaws.{front_of_part, planned_there}
 use Rattle.evaluation_context.proofs.context.Context.enter_planned.Goals as goal
 
@@ -12,12 +15,29 @@ pub returns-clause-there : goal.returns-clause-there
 returns-clause-there c = λ a k here contains.
     let planned = c.args.planned.now in
     planned_there (linked_schemas c.args.linked.now) (context_view c.args.self.now) (context_view c.enter_chosen.new.self) (context_view c.enter_part.new.self) a k planned.chosen (part_view planned.part) (subject_value planned.subject)
-    here c.in_ok-enter_part.ensures.moved c.in_ok-enter_chosen.ensures.there contains
+    here c.in_ok-enter_part.ensures.moved c.in_ok-origin.ensures.there contains
+
+-- the way back leads to where the context stood
+leads : (c : goal.In_ok-enter_part) → LeadsTo (record { path = c.len-path.result; origin = c.in_ok-origin.origin; onward = c.args.self.now.onward; instance_location = c.len-instance_location.result; name = c.args.self.now.name }) (context_view c.args.self.now)
+unfolding context_view
+leads c =
+    let old = c.args.self.now in
+    let long = c.len-instance_location.ensures ∙ ap length c.instance_location.ensures in
+    record {
+      path = c.len-path.ensures;
+      onward = refl;
+      within = context_within old;
+      instance_location = long;
+      name = refl;
+      above = none_below old.running c.len-instance_location.result long;
+    }
 
 pub returns-clause-entered : goal.returns-clause-entered
 returns-clause-entered c =
     let f = context_view c.args.self.now in
     let g = context_view c.enter_chosen.new.self in
-    let instance_location = part_location g.instance_location (part_view c.args.planned.now.part) in
-    let last : Onward g (context_view c.enter_part.new.self) = onward_at c.in_ok-enter_part.ensures.moved (onward_placed instance_location g (front_of_part g.instance_location (part_view c.args.planned.now.part))) in
-    came_from c.way_back-back.result f (context_view c.enter_part.new.self) c.way_back-back.ensures (onward_onward c.in_ok-enter_chosen.ensures.onward last)
+    let h = context_view c.enter_part.new.self in
+    let place = part_location g.instance_location (part_view c.args.planned.now.part) in
+    let last : Onward g h = onward_at c.in_ok-enter_part.ensures.moved (onward_placed place g (front_of_part g.instance_location (part_view c.args.planned.now.part))) in
+    let stays : h.origin ≡ g.origin = ap (λ (x : Frame). x.origin) c.in_ok-enter_part.ensures.moved ∙ origin_placed place g in
+    came_from _ f h (leads c) (onward_onward c.in_ok-origin.ensures.onward last) (ap (origin_before c.in_ok-origin.origin) stays ∙ c.in_ok-origin.ensures.left)

@@ -9,9 +9,8 @@ returns-clause-left c = λ older h.
     let old = c.args.self.now in
     same_frames
     (ap (λ (f : Frame). f.path) h)
-    (ap (λ (f : Frame). f.outer) h)
-    (ap (λ (f : Frame). f.resource) h)
-    (ap (λ (f : Frame). f.pointer) h)
+    (ap (λ (f : Frame). f.origin) h)
+    (ap (λ (f : Frame). f.onward) h)
     (same_locations c.pop-2.ensures.instance_location refl ∙ ap (λ (f : Frame). f.instance_location) h)
-    (c.pop.ensures.popped older.scope older.resource (ap (λ (f : Frame). f.scope) h))
+    (c.pop.ensures.popped older.scope older.origin.0 (ap (λ (f : Frame). f.scope) h))
     (c.pop-2.ensures.running older.running _ (ap (λ (f : Frame). f.running) h))

@@ -1,9 +1,11 @@
-use Rattle.std.proofs.Common.{[], None, refl, ap, ◌∙◌}
+use Rattle.std.proofs.Common.{◌≡◌, [], None, refl, ap, ◌∙◌}
+use Rattle.definitions.specs.Schemas.{Identity}
 use Rattle.json_doc.specs.Docs.{value}
 use Rattle.locations.specs.Steps.{tokens}
+use Rattle.basic_output.specs.PointerViews.{origin_view, pointer_view}
 use Rattle.evaluation_context.specs.Standings.{Standing, application_at}
 use Rattle.evaluation_context.specs.Frames.{context_view, frame_standing}
-use Rattle.evaluation_context.proofs.FrameLaws.{same_locations, same_standings}
+use Rattle.evaluation_context.proofs.FrameLaws.{pointer_begins, same_locations, same_standings}
 use Rattle.evaluation_context.proofs.context.Context.new.Goals as goal
 
 pub returns-clause-there : goal.returns-clause-there
@@ -11,5 +13,12 @@ unfolding context_view frame_standing
 returns-clause-there c = λ x.
     let root = c.args.root in
     let start : Standing = record { path = []; resource = root.resource.now; pointer = tokens root.steps.items; instance_location = record { pointer = []; name = None }; scope = []; running = [] } in
+    let origin : origin_view c.in_ok-new-2.field-0.value ≡ (root.resource.now, tokens root.steps.items) = ap origin_view c.in_ok-new-2.ensures.ok ∙ c.in_ok-new.ensures in
     ap (λ st. application_at st (value root.schema.now) x)
-    (same_standings {t = start} (c.new-2.ensures.last ∙ ap tokens c.new.ensures.items) refl c.new-3.ensures.last (same_locations c.new-5.ensures.instance_location refl) c.new-4.ensures.uris c.new-5.ensures.running)
+    (same_standings {t = start}
+    c.new.ensures
+    (ap (λ (i : Identity). i.0) origin)
+    (pointer_begins (origin_view c.in_ok-new-2.field-0.value).1 (pointer_view c.new.result) ∙ ap (λ (i : Identity). i.1) origin)
+    (same_locations c.new-5.ensures.instance_location refl)
+    c.new-4.ensures.uris
+    c.new-5.ensures.running)

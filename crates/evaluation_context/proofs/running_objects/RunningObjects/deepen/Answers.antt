@@ -1,6 +1,6 @@
 use Rattle.std.proofs.Common.{◌∷◌, [], is_ok}
 use Rattle.locations.specs.Steps.{token}
-use Rattle.basic_output.specs.PointerViews.{last_pointer}
+use Rattle.basic_output.specs.PointerViews.{pointer_view}
 use Rattle.evaluation_context.specs.RunningViews.{instance_pointer, running_objects}
 use Rattle.evaluation_context.proofs.RunningLaws.{deepened_laid, deepened_views, on_push}
 use Rattle.evaluation_context.proofs.running_objects.RunningObjects.deepen.Goals as goal
@@ -10,16 +10,16 @@ invariant_of-self c =
     let old = c.args.self.now in
     record {
       laid = old.laid;
-      nested = deepened_laid (λ r. r.depth) (λ r. r.depth) (is_ok c.push.result) old.entries.items (last_pointer old.instance_location) (last_pointer c.push.new.self) (token c.args.step) c.push.ensures.last old.nested;
+      nested = deepened_laid (λ r. r.depth) (λ r. r.depth) (is_ok c.push.result) old.entries.items (pointer_view old.instance_location) (pointer_view c.push.new.self) (token c.args.step) c.push.ensures old.nested;
     }
 
 pub returns-clause-running : goal.returns-clause-running
 unfolding running_objects
 returns-clause-running c =
     let old = c.args.self.now in
-    on_push c.push.result (last_pointer c.push.new.self) _ _ c.push.ensures.last
-    (λ is. deepened_views old.entries.items old.steps.items (last_pointer old.instance_location) (last_pointer c.push.new.self) (token c.args.step ∷ []) is old.laid old.nested)
+    on_push c.push.result (pointer_view c.push.new.self) _ _ c.push.ensures
+    (λ is. deepened_views old.entries.items old.steps.items (pointer_view old.instance_location) (pointer_view c.push.new.self) (token c.args.step ∷ []) is old.laid old.nested)
 
 pub returns-clause-instance_location : goal.returns-clause-instance_location
 unfolding instance_pointer
-returns-clause-instance_location c = on_push c.push.result (last_pointer c.push.new.self) _ _ c.push.ensures.last (λ is. is)
+returns-clause-instance_location c = on_push c.push.result (pointer_view c.push.new.self) _ _ c.push.ensures (λ is. is)

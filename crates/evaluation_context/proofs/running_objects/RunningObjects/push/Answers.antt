@@ -1,25 +1,39 @@
-use Rattle.std.proofs.Common.{length, is_ok, refl, ◌∙◌}
-use Rattle.basic_output.specs.PointerViews.{last_pointer}
+use Rattle.std.proofs.Common.{◌++◌, length, is_ok, refl, ◌∙◌}
+use Rattle.basic_output.specs.PointerViews.{pointer_view}
 use Rattle.evaluation_context.specs.RunningViews.{instance_pointer, running_objects}
-use Rattle.evaluation_context.proofs.RunningLaws.{Pushed, pushed_own, pushed_deep, pushed_laid, pushed_views}
+use Rattle.evaluation_context.proofs.FrameLaws.{same_objects}
+use Rattle.evaluation_context.proofs.RunningLaws.{Pushed, both_kept, both_tokens, grown_laid, pushed_own, pushed_deep, pushed_laid, pushed_views}
 use Rattle.evaluation_context.proofs.running_objects.RunningObjects.push.Goals as goal
 
 pub returns-in_err-extend_from_slice-clause-instance_location : goal.returns-in_err-extend_from_slice-clause-instance_location
 unfolding instance_pointer
 returns-in_err-extend_from_slice-clause-instance_location c = refl
 
+pub invariant_of-self-in-Break-branch-2 : goal.invariant_of-self-in-Break-branch-2
+invariant_of-self-in-Break-branch-2 c =
+    let old = c.args.self.now in
+    record {
+      laid = grown_laid (λ r. r.pointer) (λ r. r.end) old.entries.items old.steps.items c.extend_from_slice-2.new.self.items c.steps.result.now (c.in_err-extend_from_slice-2.ensures.items ∙ c.in_ok-extend_from_slice.ensures.items) old.laid;
+      nested = old.nested;
+    }
+
+pub returns-in_err-extend_from_slice-2-clause-instance_location : goal.returns-in_err-extend_from_slice-2-clause-instance_location
+unfolding instance_pointer
+returns-in_err-extend_from_slice-2-clause-instance_location c = refl
+
 pub invariant_of-self-2 : goal.invariant_of-self-2
 invariant_of-self-2 c =
     let old = c.args.self.now in
-    let pushed : Pushed old.steps.items c.extend_from_slice.new.self.items (last_pointer old.instance_location) c.args.pointer.now _ = record {
-      kept = c.in_ok-extend_from_slice.ensures.items;
+    let steps = c.extend_from_slice-2.new.self.items in
+    let pushed : Pushed old.steps.items steps (pointer_view old.instance_location) (c.steps.result.now ++ c.args.onward.now) _ = record {
+      kept = both_kept old.steps.items c.steps.result.now c.args.onward.now c.extend_from_slice.new.self.items steps c.in_ok-extend_from_slice.ensures.items c.in_ok-extend_from_slice-2.ensures.items;
       pointer = c.len-start.ensures ∙ old.steps.ok.0;
-      end = c.len.ensures ∙ c.extend_from_slice.new.self.ok.0;
-      depth = c.last_len.ensures;
+      end = c.len.ensures ∙ c.extend_from_slice-2.new.self.ok.0;
+      depth = c.len-2.ensures;
     } in
     record {
-      laid = pushed_laid (λ r. r.pointer) (λ r. r.end) (is_ok c.push.result) old.entries.items c.push.new.self.items _ (length old.steps.items) (length c.extend_from_slice.new.self.items) c.push.ensures.items old.laid (pushed_own pushed);
-      nested = pushed_laid (λ r. r.depth) (λ r. r.depth) (is_ok c.push.result) old.entries.items c.push.new.self.items _ (length (last_pointer old.instance_location)) (length (last_pointer old.instance_location)) c.push.ensures.items old.nested (pushed_deep pushed);
+      laid = pushed_laid (λ r. r.pointer) (λ r. r.end) (is_ok c.push.result) old.entries.items c.push.new.self.items _ (length old.steps.items) (length steps) c.push.ensures.items old.laid (pushed_own pushed);
+      nested = pushed_laid (λ r. r.depth) (λ r. r.depth) (is_ok c.push.result) old.entries.items c.push.new.self.items _ (length (pointer_view old.instance_location)) (length (pointer_view old.instance_location)) c.push.ensures.items old.nested (pushed_deep pushed);
     }
 
 pub returns-in_err-push-clause-instance_location : goal.returns-in_err-push-clause-instance_location
@@ -30,13 +44,16 @@ pub returns-clause-running : goal.returns-clause-running
 unfolding running_objects instance_pointer
 returns-clause-running c =
     let old = c.args.self.now in
-    let pushed : Pushed old.steps.items c.extend_from_slice.new.self.items (last_pointer old.instance_location) c.args.pointer.now _ = record {
-      kept = c.in_ok-extend_from_slice.ensures.items;
+    let steps = c.extend_from_slice-2.new.self.items in
+    let both = c.steps.result.now ++ c.args.onward.now in
+    let pushed : Pushed old.steps.items steps (pointer_view old.instance_location) both _ = record {
+      kept = both_kept old.steps.items c.steps.result.now c.args.onward.now c.extend_from_slice.new.self.items steps c.in_ok-extend_from_slice.ensures.items c.in_ok-extend_from_slice-2.ensures.items;
       pointer = c.len-start.ensures ∙ old.steps.ok.0;
-      end = c.len.ensures ∙ c.extend_from_slice.new.self.ok.0;
-      depth = c.last_len.ensures;
+      end = c.len.ensures ∙ c.extend_from_slice-2.new.self.ok.0;
+      depth = c.len-2.ensures;
     } in
-    pushed_views old.entries.items c.push.new.self.items old.steps.items c.extend_from_slice.new.self.items (last_pointer old.instance_location) c.args.pointer.now _ c.in_ok-push.ensures.items pushed old.laid old.nested
+    pushed_views old.entries.items c.push.new.self.items old.steps.items steps (pointer_view old.instance_location) both _ c.in_ok-push.ensures.items pushed old.laid old.nested
+    ∙ same_objects c.resource.ensures (both_tokens c.steps.result.now c.args.onward.now _ c.steps.ensures) refl refl _
 
 pub returns-clause-instance_location : goal.returns-clause-instance_location
 unfolding instance_pointer

@@ -7,8 +7,8 @@ pub returns-clause-running : goal.returns-clause-running
 unfolding running_objects
 returns-clause-running c =
     let old = c.args.self.now in
-    ap (λ place. map (running_view old.steps.items place) old.entries.items) c.write.ensures.last
+    ap (λ place. map (running_view old.steps.items place) old.entries.items) c.write.ensures
 
 pub returns-clause-instance_location : goal.returns-clause-instance_location
 unfolding instance_pointer
-returns-clause-instance_location c = c.write.ensures.last
+returns-clause-instance_location c = c.write.ensures

@@ -1,0 +1,7 @@
+use Rattle.std.proofs.Common.{refl}
+use Rattle.basic_output.specs.PointerViews.{origin_view}
+use Rattle.basic_output.proofs.origin.Origin.new.Goals as goal
+
+pub returns : goal.returns
+unfolding origin_view
+returns c = refl

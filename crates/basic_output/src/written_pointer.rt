@@ -1,0 +1,253 @@
+//! A pointer that steps come to and go from, and its text.
+
+ghost use Rattle.std.specs.Prelude.{◌≡◌, ◌≤◌, ◌∷◌, ◌++◌, [], true, false, drop, length, string_bytes, take, IfOk, IfSome, OnOk};
+ghost use Rattle.std.specs.List.{list_all};
+ghost use Rattle.locations.specs.Steps.{token, tokens};
+ghost use Rattle.basic_output.specs.Notes.{IsPushed, new_starts};
+ghost use Rattle.basic_output.specs.Pieces.{are_plain, is_unescaped};
+ghost use Rattle.basic_output.specs.PointerTexts.{are_plain_steps, front_text, text_starts};
+
+use crate::quoting::{are_unescaped, is_plain_step, push_plain_step};
+use locations::{Step, push_pointer};
+use std::alloc::{AllocError, Global};
+
+/// How many bytes there is room for at once.
+const ROOM: usize = 128;
+
+/// A pointer (RFC 6901), as the steps of its tokens, and its text as far as it was written: it stays while steps come
+/// and go behind it, so that a step is written once for all units that stand below it.
+///
+/// Contracts see it by `pointer_view`.
+#[derive(Drop)]
+pub struct WrittenPointer<'a> {
+    steps: Vec<Step<'a>>,
+    // The text of so many of the first steps as `starts` has numbers.
+    text: String,
+    // Where the text of each of these steps starts.
+    starts: Vec<usize>,
+    // From this step on all whose text is written are plain: they stand as they are in a pointer, in its fragment and in a
+    // string.
+    plain_from: usize,
+    ghost written_within: { length starts.items ≤ length steps.items },
+    ghost are_starts: { starts.items ≡ text_starts (length starts.items) steps.items },
+    ghost is_text: { string_bytes text ≡ front_text (length starts.items) steps.items },
+    ghost unescaped: { list_all is_unescaped (string_bytes text) ≡ true },
+    ghost plain: { are_plain_steps (drop plain_from (take (length starts.items) steps.items))
+        ≡ true },
+}
+
+impl<'a> WrittenPointer<'a> {
+    ghost use Rattle.std.specs.Prelude.{◌+◌, ◌<◌, if◌then◌else◌, is_ok};
+    ghost use Rattle.definitions.specs.Pointers.{Pointer};
+    ghost use Rattle.definitions.specs.Values.{Text};
+    ghost use Rattle.basic_output.specs.Pieces.{plain_text};
+    ghost use Rattle.basic_output.specs.PointerViews.{IsWritten, pointer_view};
+
+    /// The whole document's. This takes no memory; steps and their text take it from `alloc`.
+    pub fn new(alloc: Global) -> WrittenPointer<'a>
+        ensures { pointer_view result ≡ [] }
+    {
+        WrittenPointer {
+            steps: Vec::new(alloc),
+            text: String::new(alloc),
+            starts: Vec::new(alloc),
+            plain_from: 0,
+        }
+    }
+
+    /// How many steps there are.
+    pub fn len(&self) -> usize
+        ensures { result ≡ length (pointer_view self.now) }
+    {
+        self.steps.len()
+    }
+
+    /// The steps.
+    pub fn steps(&self) -> &[Step<'a>]
+        ensures { tokens result.now ≡ pointer_view self.now }
+    {
+        self.steps.as_slice()
+    }
+
+    /// One step more. The only error is want of memory, and then the pointer stays as it was.
+    pub fn push(&mut self, step: Step<'a>) -> Result<(), AllocError>
+        ensures { pointer_view self.new
+            ≡ (if is_ok result then pointer_view self.old ++ token step.entry ∷ []
+            else pointer_view self.old) }
+    {
+        match self.steps.push(step) {
+            Ok(_) => Ok(()),
+            Err(error) => Err(error.into()),
+        }
+    }
+
+    /// One step less.
+    pub fn pop(&mut self)
+        ensures { (older : Pointer) (t : Text) → pointer_view self.old ≡ older ++ t ∷ []
+            → pointer_view self.new ≡ older }
+    {
+        let count = self.steps.len();
+        if count > 0 {
+            self.unwrite(count - 1);
+            self.steps.pop();
+        }
+    }
+
+    /// Only so many steps stay.
+    pub fn truncate(&mut self, len: usize)
+        ensures { pointer_view self.new ≡ take len (pointer_view self.old) }
+    {
+        if len < self.steps.len() {
+            self.unwrite(len);
+            self.steps.truncate(len);
+        }
+    }
+
+    /// Writes what the text lacks, up to a step of which a string of JSON escapes something. The only error is want of
+    /// memory.
+    pub fn write(&mut self) -> Result<(), AllocError>
+        ensures { pointer_view self.new ≡ pointer_view self.old }
+    {
+        while self.starts.len() < self.steps.len() {
+            if !self.write_next()? {
+                return Ok(());
+            }
+        }
+        Ok(())
+    }
+
+    // Appends the text of one step more, if a string of JSON escapes nothing of it: whether it was appended. Where memory is
+    // wanting no text is kept.
+    fn write_next(&mut self) -> Result<bool, AllocError>
+        requires { length self.old.starts.items < length self.old.steps.items }
+        ensures steps { self.new.steps ≡ self.old.steps }
+        ensures written { IfOk result (λ b. b ≡ true
+            → length self.new.starts.items ≡ length self.old.starts.items + 1) }
+    {
+        let written = self.starts.len();
+        let step = self.steps[written];
+        match push_next(&mut self.text, &mut self.starts, step) {
+            Ok(Pushed::Plain) => Ok(true),
+            Ok(Pushed::Other) => {
+                self.plain_from = written + 1;
+                Ok(true)
+            }
+            Ok(Pushed::Nothing) => Ok(false),
+            Err(error) => {
+                self.text.clear();
+                self.starts.clear();
+                Err(error)
+            }
+        }
+    }
+
+    // The text of so many steps at most stays.
+    fn unwrite(&mut self, len: usize)
+        ensures steps { self.new.steps ≡ self.old.steps }
+        ensures fewer { length self.new.starts.items ≤ len }
+    {
+        if len < self.starts.len() {
+            self.text.truncate(self.starts[len]);
+            self.starts.truncate(len);
+            self.plain_from = self.plain_from.min(len);
+        }
+    }
+
+    /// Whether the text is all of it.
+    pub(crate) fn is_written(&self) -> bool
+        ensures { result ≡ true → IsWritten self.now }
+    {
+        self.starts.len() == self.steps.len()
+    }
+
+    /// The text as far as it was written.
+    pub(crate) fn text(&self) -> &str
+        ensures { result.now ≡ string_bytes self.now.text }
+    {
+        self.text.as_str()
+    }
+
+    /// The text behind so many steps, where all steps from there on are written and plain.
+    pub(crate) fn plain_text_behind(&self, len: usize) -> Option<&str>
+        ensures text { IfSome result (λ t. t.now ≡ plain_text (drop len (pointer_view self.now))) }
+        ensures plain { IfSome result (λ t. are_plain (drop len (pointer_view self.now)) ≡ true) }
+    {
+        if self.is_written() && self.plain_from <= len {
+            Some(self.text_behind(len))
+        } else {
+            None
+        }
+    }
+
+    // The text behind so many steps.
+    fn text_behind(&self, len: usize) -> &str
+        requires { IsWritten self.now }
+        ensures { string_bytes self.now.text ≡ front_text len self.now.steps.items ++ result.now }
+    {
+        if len < self.starts.len() {
+            &self.text[self.starts[len]..]
+        } else {
+            ""
+        }
+    }
+}
+
+// What was appended of a step.
+#[derive(Clone, Copy, Drop)]
+enum Pushed {
+    // The step, which is plain.
+    Plain,
+    // Another step.
+    Other,
+    // Nothing, since a string of JSON escapes something of it.
+    Nothing,
+}
+
+// Appends the text of a step, and where it starts, if a string of JSON escapes nothing of it.
+fn push_next(
+    text: &mut String,
+    starts: &mut Vec<usize>,
+    step: Step<'_>,
+) -> Result<Pushed, AllocError>
+    ensures text { IfOk result (λ p.
+        IsPushed p (token step.entry) (string_bytes text.old) (string_bytes text.new)) }
+    ensures start { IfOk result (λ p. starts.new.items
+        ≡ starts.old.items ++ new_starts p (length (string_bytes text.old))) }
+{
+    let start = text.len();
+    let pushed = push_noted(text, step)?;
+    match pushed {
+        Pushed::Nothing => {}
+        _ => starts.push(start)?,
+    }
+    Ok(pushed)
+}
+
+// Appends the text of a step, if a string of JSON escapes nothing of it.
+fn push_noted(text: &mut String, step: Step<'_>) -> Result<Pushed, AllocError>
+    ensures { IfOk result (λ p.
+        IsPushed p (token step.entry) (string_bytes text.old) (string_bytes text.new)) }
+{
+    make_room(text)?;
+    if is_plain_step(step) {
+        push_plain_step(text, step)?;
+        return Ok(Pushed::Plain);
+    }
+    let mut piece = String::new(*text.allocator());
+    push_pointer(&mut piece, &[step])?;
+    if !are_unescaped(piece.as_bytes()) {
+        return Ok(Pushed::Nothing);
+    }
+    text.push_str(piece.as_str())?;
+    Ok(Pushed::Other)
+}
+
+// Room for the first steps at once.
+fn make_room(text: &mut String) -> Result<(), AllocError>
+    ensures { OnOk result (string_bytes text.new ≡ string_bytes text.old) }
+{
+    if text.is_empty() {
+        text.reserve(ROOM)?;
+    }
+    Ok(())
+}

@@ -3,6 +3,7 @@
 
 use crate::documents::listed;
 use crate::texts::URI;
+use basic_output::Step;
 use evaluation_context::Context;
 use linker::link;
 use std::test::Fail;
@@ -20,8 +21,10 @@ fn knows_what_is_being_applied_and_where(rt: HostRuntime) -> Result<(), Fail> {
     assert!(rt; !context.is_running());
     context.write_locations()?;
     let location = context.location();
-    assert!(rt; location.resource == context.resource() && location.path.last_len() == 1);
-    assert!(rt; location.pointer.last_len() == 1 && location.instance_location.last_len() == 0);
+    assert!(rt; location.origin.resource() == context.resource() && location.path.len() == 1);
+    assert!(rt; location.onward == 1 && location.instance_location.len() == 0);
+    let pointer = context.pointer(rt.alloc())?;
+    assert!(rt; pointer.len() == 1 && matches!(pointer.first(), Some(Step::Name("not"))));
     context.leave_keyword();
     assert!(rt; context.is_running());
     context.leave_object();

@@ -84,7 +84,10 @@ fn names<'a>(
 ) -> Result<bool, Fail> {
     match references.target(alloc, resource, reference)? {
         Some(target) => match named {
-            Some((uri, steps)) => Ok(target.resource == uri && target.steps.len() == steps),
+            Some((uri, steps)) => {
+                let origin = &target.origin;
+                Ok(origin.resource() == uri && origin.steps().len() == steps)
+            }
             None => Ok(false),
         },
         None => Ok(named.is_none()),

@@ -1,49 +1,55 @@
 //! Texts of outputs, by the rules of JSON Schema 2020-12 Core, 12.4, RFC 6901 and RFC 3986.
 
-use basic_output::{Location, Origin, Says, Step, Units, WrittenPointer, output_text};
+use basic_output::{Location, Mark, Origin, Says, Step, Units, WrittenPointer, output_text};
 use json_doc::{Fault, read};
 use locations::same_steps;
 use std::alloc::Global;
 use std::test::Fail;
 
-/// The steps of a location, which begin at the root of one resource after the other.
+/// The steps of a location.
 #[derive(Drop)]
 struct Places<'a> {
     path: WrittenPointer<'a>,
-    origin: Origin<'a>,
     instance_location: WrittenPointer<'a>,
 }
 
 impl<'a> Places<'a> {
-    /// At the root of this resource.
-    fn new(alloc: Global, resource: &'a str) -> Result<Places<'a>, Fault> {
-        Ok(Places {
+    fn new(alloc: Global) -> Places<'a> {
+        Places {
             path: WrittenPointer::new(alloc),
-            origin: root_of(alloc, resource)?,
             instance_location: WrittenPointer::new(alloc),
-        })
+        }
     }
 
-    /// To these steps in the schema, along the same path, and in the instance.
+    /// To these steps along the path, and in the instance.
     fn turn_to(&mut self, path: &[Step<'a>], instance_location: &[Step<'a>]) -> Result<(), Fault> {
         turn_to(&mut self.path, path)?;
         turn_to(&mut self.instance_location, instance_location)
     }
 
-    /// There, where all steps of the path lead on from the resource's root.
-    fn here(&self) -> Location<'_, 'a> {
-        self.onward(self.path.len())
+    /// There, where the whole path leads on from this origin.
+    fn within<'s>(&'s self, origin: &'s Origin<'a>) -> Location<'s, 'a> {
+        self.onward(origin, self.path.len())
     }
 
-    /// There, where so many of the path's last steps lead on from the origin.
-    fn onward(&self, onward: usize) -> Location<'_, 'a> {
+    /// There, where so many of the path's last steps lead on from this origin.
+    fn onward<'s>(&'s self, origin: &'s Origin<'a>, onward: usize) -> Location<'s, 'a> {
         Location {
             path: &self.path,
-            origin: &self.origin,
+            origin,
             onward,
             instance_location: &self.instance_location,
         }
     }
+}
+
+/// These steps below the root of this resource.
+fn origin_at<'a>(
+    alloc: Global,
+    resource: &'a str,
+    steps: &[Step<'a>],
+) -> Result<Origin<'a>, Fault> {
+    Ok(Origin::new(alloc, resource, Vec::from_slice(alloc, steps)?)?)
 }
 
 /// The root of this resource.
@@ -68,6 +74,31 @@ fn turn_to<'a>(pointer: &mut WrittenPointer<'a>, steps: &[Step<'a>]) -> Result<(
     Ok(())
 }
 
+/// Puts an error last, there in the resource of the examples.
+fn push_error(
+    alloc: Global,
+    units: &mut Units,
+    places: &Places<'static>,
+    says: Says<'static, 'static>,
+) -> Result<(), Fault> {
+    let origin = root_of(alloc, "https://ex.org/s")?;
+    units.push(false, places.within(&origin), says)?;
+    Ok(())
+}
+
+/// The same at a mark.
+fn insert_error(
+    alloc: Global,
+    units: &mut Units,
+    mark: Mark,
+    places: &Places<'static>,
+    says: Says<'static, 'static>,
+) -> Result<(), Fault> {
+    let origin = root_of(alloc, "https://ex.org/s")?;
+    units.insert(mark, false, places.within(&origin), says)?;
+    Ok(())
+}
+
 #[test]
 fn writes_annotations_or_errors(rt: HostRuntime) -> Result<(), Fail> {
     let mut units = Units::new(rt.alloc());
@@ -75,9 +106,9 @@ fn writes_annotations_or_errors(rt: HostRuntime) -> Result<(), Fail> {
     assert_eq!(rt; annotations.as_str(), r#"{"annotations":[],"valid":true}"#);
     let errors = output_text(rt.alloc(), false, &units)?;
     assert_eq!(rt; errors.as_str(), r#"{"errors":[],"valid":false}"#);
-    let mut places = Places::new(rt.alloc(), "https://ex.org/s")?;
+    let mut places = Places::new(rt.alloc());
     places.turn_to(&[Step::Name("required")], &[])?;
-    units.push(false, places.here(), Says::NotMet("required"))?;
+    push_error(rt.alloc(), &mut units, &places, Says::NotMet("required"))?;
     let text = output_text(rt.alloc(), false, &units)?;
     assert_eq!(rt;
         text.as_str(),
@@ -88,8 +119,8 @@ fn writes_annotations_or_errors(rt: HostRuntime) -> Result<(), Fail> {
 
 fn annotation(alloc: Global, says: Says<'_, '_>) -> Result<String, Fault> {
     let mut units = Units::new(alloc);
-    let places = Places::new(alloc, "https://ex.org/s")?;
-    units.push(true, places.here(), says)?;
+    let origin = root_of(alloc, "https://ex.org/s")?;
+    units.push(true, Places::new(alloc).within(&origin), says)?;
     output_text(alloc, true, &units)
 }
 
@@ -131,17 +162,14 @@ fn writes_what_units_say(rt: HostRuntime) -> Result<(), Fail> {
 #[test]
 fn escapes_locations(rt: HostRuntime) -> Result<(), Fail> {
     let mut units = Units::new(rt.alloc());
-    let mut places = Places::new(rt.alloc(), "urn:x")?;
-    let mut steps = Vec::new(rt.alloc());
-    for step in [Step::Name("~/%"), Step::Name("ä \""), Step::Name("\u{1}\n")] {
-        steps.push(step)?;
-    }
-    places.origin = Origin::new(rt.alloc(), "urn:x", steps)?;
+    let steps = [Step::Name("~/%"), Step::Name("ä \""), Step::Name("\u{1}\n")];
+    let origin = origin_at(rt.alloc(), "urn:x", &steps)?;
+    let mut places = Places::new(rt.alloc());
     places.turn_to(
         &[Step::Name("$ref"), Step::Name("~/%")],
         &[Step::Name("ä \""), Step::Index(12), Step::Name("\u{1}\n")],
     )?;
-    units.push(false, places.onward(0), Says::NotAllowed)?;
+    units.push(false, places.onward(&origin, 0), Says::NotAllowed)?;
     let text = output_text(rt.alloc(), false, &units)?;
     assert_eq!(rt;
         text.as_str(),
@@ -154,16 +182,16 @@ fn escapes_locations(rt: HostRuntime) -> Result<(), Fail> {
 fn puts_units_at_marks_and_cuts_them_off(rt: HostRuntime) -> Result<(), Fail> {
     let mut units = Units::new(rt.alloc());
     let path = [Step::Name("anyOf"), Step::Index(1), Step::Name("type")];
-    let mut places = Places::new(rt.alloc(), "https://ex.org/s")?;
+    let mut places = Places::new(rt.alloc());
     let own = units.mark();
     places.turn_to(&path, &[])?;
-    units.push(false, places.here(), Says::NotMet("type"))?;
+    push_error(rt.alloc(), &mut units, &places, Says::NotMet("type"))?;
     let later = units.mark();
     places.turn_to(&path[..2], &[])?;
-    units.push(false, places.here(), Says::NotAllowed)?;
+    push_error(rt.alloc(), &mut units, &places, Says::NotAllowed)?;
     units.cut_back(later);
     places.turn_to(&path[..1], &[])?;
-    units.insert(own, false, places.here(), Says::NotMet("anyOf"))?;
+    insert_error(rt.alloc(), &mut units, own, &places, Says::NotMet("anyOf"))?;
     let text = output_text(rt.alloc(), false, &units)?;
     assert_eq!(rt;
         text.as_str(),
@@ -318,11 +346,11 @@ fn units_at(
     locations: &[(&'static [Step<'static>], &'static str, &'static str)],
 ) -> Result<Units, Fault> {
     let mut units = Units::new(alloc);
-    let mut places = Places::new(alloc, resource_of(&[]))?;
+    let mut places = Places::new(alloc);
     for ((path, _, _), (instance_location, _, _)) in locations.iter().zip(locations.iter().rev()) {
-        places.origin = root_of(alloc, resource_of(path))?;
+        let origin = root_of(alloc, resource_of(path))?;
         places.turn_to(path, instance_location)?;
-        units.push(false, places.here(), Says::NotAllowed)?;
+        units.push(false, places.within(&origin), Says::NotAllowed)?;
     }
     Ok(units)
 }
@@ -369,31 +397,39 @@ fn writes_locations_after_one_another(rt: HostRuntime) -> Result<(), Fail> {
     Ok(())
 }
 
-/// The text of an error there, where so many of the path's last steps lead on from the origin.
-fn error_at(alloc: Global, places: &Places<'_>, onward: usize) -> Result<String, Fault> {
+/// The text of an error at the last steps of this pointer, so many.
+fn error_at(alloc: Global, path: &WrittenPointer<'static>, onward: usize) -> Result<String, Fault> {
+    let origin = root_of(alloc, "urn:x")?;
+    let instance_location = WrittenPointer::new(alloc);
     let mut units = Units::new(alloc);
-    units.push(false, places.onward(onward), Says::NotAllowed)?;
+    let location = Location {
+        path,
+        origin: &origin,
+        onward,
+        instance_location: &instance_location,
+    };
+    units.push(false, location, Says::NotAllowed)?;
     output_text(alloc, false, &units)
 }
 
 #[test]
 fn pointers_begin_and_end(rt: HostRuntime) -> Result<(), Fail> {
-    let mut places = Places::new(rt.alloc(), "urn:x")?;
-    let path = [
+    let mut pointer = WrittenPointer::new(rt.alloc());
+    let steps = [
         Step::Name("a"),
         Step::Index(7),
         Step::Name("b"),
         Step::Name("c"),
     ];
-    places.turn_to(&path, &[])?;
-    assert!(rt; places.path.len() == 4);
-    let inner = error_at(rt.alloc(), &places, 2)?;
+    turn_to(&mut pointer, &steps)?;
+    assert!(rt; pointer.len() == 4);
+    let inner = error_at(rt.alloc(), &pointer, 2)?;
     assert!(rt; inner.as_str().contains(r##""urn:x#/b/c""##), "{inner}");
-    places.path.pop();
-    let shorter = error_at(rt.alloc(), &places, 1)?;
+    pointer.pop();
+    let shorter = error_at(rt.alloc(), &pointer, 1)?;
     assert!(rt; shorter.as_str().contains(r##""urn:x#/b""##), "{shorter}");
-    places.path.truncate(2);
-    let outer = error_at(rt.alloc(), &places, 2)?;
+    pointer.truncate(2);
+    let outer = error_at(rt.alloc(), &pointer, 2)?;
     assert!(rt; outer.as_str().contains(r##""urn:x#/a/7""##), "{outer}");
     Ok(())
 }
@@ -402,12 +438,9 @@ fn pointers_begin_and_end(rt: HostRuntime) -> Result<(), Fail> {
 #[test]
 fn locations_lead_on_from_what_a_reference_names(rt: HostRuntime) -> Result<(), Fail> {
     let mut units = Units::new(rt.alloc());
-    let mut places = Places::new(rt.alloc(), "https://example.com/polygon")?;
-    let mut steps = Vec::new(rt.alloc());
-    for step in [Step::Name("$defs"), Step::Name("point")] {
-        steps.push(step)?;
-    }
-    places.origin = Origin::new(rt.alloc(), "https://example.com/polygon", steps)?;
+    let steps = [Step::Name("$defs"), Step::Name("point")];
+    let origin = origin_at(rt.alloc(), "https://example.com/polygon", &steps)?;
+    let mut places = Places::new(rt.alloc());
     places.turn_to(
         &[
             Step::Name("items"),
@@ -416,7 +449,7 @@ fn locations_lead_on_from_what_a_reference_names(rt: HostRuntime) -> Result<(), 
         ],
         &[Step::Index(1)],
     )?;
-    units.push(false, places.onward(1), Says::NotMet("required"))?;
+    units.push(false, places.onward(&origin, 1), Says::NotMet("required"))?;
     let text = output_text(rt.alloc(), false, &units)?;
     assert_eq!(rt;
         text.as_str(),

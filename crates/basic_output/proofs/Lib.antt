@@ -6,3 +6,4 @@ pub mod OriginLaws
 pub mod FrontLaws
 pub mod SpanLaws
 pub mod UnitLaws
+pub mod Written

@@ -1,6 +1,8 @@
 -- The pieces are the definitions' text.
 use Rattle.std.proofs.Common.{◌≡◌, Bool, true, false, Result, Ok, Err, OnOk, List, [], ◌∷◌, ◌++◌, codes, map, pos, ℕ, refl, sym, ap, ap₂, ◌∙◌, append_assoc}
+use Rattle.std.proofs.lemmas.Bool.{and_parts}
 use Rattle.std.specs.Borrow.{Bor}
+use Rattle.std.specs.List.{list_all}
 use Rattle.std.specs.Prelude.{if◌then◌else◌, is_ok}
 use Rattle.json.specs.Print.{escape_byte}
 use Rattle.serde_json.specs.Written.{items_text}
@@ -9,7 +11,8 @@ use Rattle.definitions.specs.Applied.{OutputUnit}
 use Rattle.definitions.specs.Texts.{items_of, text}
 use Rattle.definitions.specs.Values.{Text, Value, array, integer, string, to_elements}
 use Rattle.basic_output.specs.Outputs.{units_output}
-use Rattle.basic_output.specs.Pieces.{array_text, kind, later_texts, list_key, unit_text, valid_member}
+use Rattle.basic_output.specs.Pieces.{array_text, is_unescaped, kind, later_names, later_texts, list_key, plain_names_text, unit_text, valid_member}
+use Rattle.basic_output.proofs.PlainLaws.{as_it_is}
 
 -- what a text becomes where a piece is appended last
 pub pushed : {T E : Type 0} {P : Type 0} (r : Result T E) (new a b : Text) → new ≡ (if is_ok r then a else b) → (new ≡ a → P) → OnOk r P
@@ -64,3 +67,22 @@ pub output_pieces : (valid : Bool) (us : List OutputUnit)
 unfolding escape_byte
 output_pieces true us = ap (λ t. list_key true ++ (t ++ valid_member true)) (units_pieces true us)
 output_pieces false us = ap (λ t. list_key false ++ (t ++ valid_member false)) (units_pieces false us)
+
+-- ---- names that stand in strings as they are
+later_plain : (names : List (Bor Text)) → list_all (λ name. list_all is_unescaped name.now) names ≡ true
+    → 34 ∷ (later_texts (map (λ name. text (string name.now)) names) ++ 93 ∷ []) ≡ later_names names ++ codes "\"]"
+later_plain [] h = refl
+later_plain (n ∷ ns) h =
+    let both = and_parts (list_all is_unescaped n.now) (list_all (λ name. list_all is_unescaped name.now) ns) h in
+    let rest = later_texts (map (λ name. text (string name.now)) ns) in
+    ap (λ q. 34 ∷ 44 ∷ ((q ++ rest) ++ 93 ∷ [])) (as_it_is n.now both.0)
+    ∙ ap (λ t. 34 ∷ 44 ∷ 34 ∷ t) (append_assoc (n.now ++ 34 ∷ []) rest (93 ∷ []) ∙ append_assoc n.now (34 ∷ []) (rest ++ 93 ∷ []) ∙ ap (λ t. n.now ++ t) (later_plain ns both.1))
+    ∙ ap (λ t. 34 ∷ 44 ∷ 34 ∷ t) (sym (append_assoc n.now (later_names ns) (codes "\"]")))
+
+pub plain_names : (n : Bor Text) (ns : List (Bor Text)) → list_all (λ name. list_all is_unescaped name.now) (n ∷ ns) ≡ true
+    → plain_names_text n.now ns ≡ array_text (map (λ name. text (string name.now)) (n ∷ ns))
+plain_names n ns h =
+    let both = and_parts (list_all is_unescaped n.now) (list_all (λ name. list_all is_unescaped name.now) ns) h in
+    let rest = later_texts (map (λ name. text (string name.now)) ns) in
+    sym (ap (λ q. 91 ∷ (q ++ (rest ++ 93 ∷ []))) (as_it_is n.now both.0)
+    ∙ ap (λ t. 91 ∷ 34 ∷ t) (append_assoc n.now (34 ∷ []) (rest ++ 93 ∷ []) ∙ ap (λ t. n.now ++ t) (later_plain ns both.1)))

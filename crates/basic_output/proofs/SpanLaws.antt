@@ -1,16 +1,18 @@
 -- Spans as their text grows, as it is cut, and as one is put among them.
-use Rattle.std.proofs.Common.{◌≡◌, ◌≤◌, ◌<◌, ◌+◌, ◌-◌, ◌++◌, ◌∷◌, [], ℕ, zero, suc, List, true, length, map, nat_le, take, drop, get_or, set, Some, refl, sym, ap, ap₂, ◌∙◌, arith}
+use Rattle.std.proofs.Common.{◌≡◌, ◌≤◌, ◌<◌, ◌+◌, ◌-◌, ◌++◌, ◌∷◌, [], ℕ, zero, suc, List, true, length, map, nat_le, slice_range, take, drop, get_or, set, Some, refl, sym, ap, ap₂, append_assoc, ◌∙◌, arith}
 use Rattle.std.proofs.Math.Numerals.{add-one}
 use Rattle.std.proofs.Math.Seq.{drop-append_seam, take-append_seam, take-length}
 use Rattle.std.proofs.lemmas.Bool.{and_parts, le-leb, leb-true}
+use Rattle.std.proofs.lemmas.List.Folds.{drop_split}
 use Rattle.std.proofs.lemmas.List.{drop-take, length-append, length-take-le, take-append-le, take-take, take_all}
 use Rattle.std.proofs.lemmas.List.Elements.{All-append, All-cons, All-drop, All-head, All-map, All-nil, All-same, All-tail, All-take, All-weaker}
 use Rattle.std.proofs.lemmas.Option.{slice_get_within}
-use Rattle.std.proofs.lemmas.Str.{IsUtf8-nil, is_utf8-from_IsUtf8}
+use Rattle.std.proofs.lemmas.Str.{IsUtf8-append, IsUtf8-from_ascii, IsUtf8-nil, is_utf8-from_IsUtf8}
 use Rattle.std.specs.List.{All, insert, slice_get}
 use Rattle.std.specs.Str.{IsUtf8, is_utf8}
-use Rattle.lemmas.proofs.Lists.{map-insert}
+use Rattle.lemmas.proofs.Lists.{flat_map-push, map-insert, map-take_more, range_is, range_same}
 use Rattle.definitions.specs.Values.{Text}
+use Rattle.basic_output.specs.Pieces.{later_texts}
 use Rattle.basic_output.specs.Spans.{IsSpan, ascends, last_reach, raise_from, raised, span_text}
 use Rattle.basic_output.specs.declared.units.Span.{Span}
 
@@ -19,9 +21,7 @@ front_same t u h i same le = sym (take-take i h t le) ∙ ap (take i) same ∙ t
 
 text_of_front : (t : Text) (s : Span) → s.start ≤ s.end → span_text t s ≡ drop s.start (take s.end t)
 unfolding span_text
-text_of_front t s le =
-    let all : s.start + (s.end - s.start) ≡ s.end = omega (arith, le) in
-    sym (drop-take s.start (s.end - s.start) t) ∙ ap (λ i. drop s.start (take i t)) all
+text_of_front t s le = range_is t s.start s.end le
 
 -- ---- how far they reach
 low_le_last : (low : ℕ) (ss : List Span) → ascends low ss ≡ true → low ≤ last_reach low ss
@@ -53,6 +53,12 @@ pub record Moved (t u : Text) (ss : List Span) : Type 0 where
   pub are_spans : All (IsSpan u) ss
   pub same : map (span_text u) ss ≡ map (span_text t) ss
 
+-- the comma in front of a span
+comma_at_end : (t u : Text) (start : ℕ) → start ≡ length (t ++ 44 ∷ []) → take start u ≡ t ++ 44 ∷ [] → slice_range u (start - 1) start ≡ 44 ∷ []
+comma_at_end t u start is front =
+    let before : start - 1 ≡ length t = omega (arith, is, length-append t (44 ∷ [])) in
+    range_is u (start - 1) start (omega arith) ∙ ap₂ (λ n b. drop n b) before front ∙ drop-append_seam t (44 ∷ [])
+
 span_moved : (t u : Text) (h : ℕ) (s : Span) → take h t ≡ take h u → h ≤ length u → s.reach ≤ h → IsSpan t s → IsSpan u s × (span_text u s ≡ span_text t s)
 span_moved t u h s same within le is =
     let front = λ (i : ℕ) (l : i ≤ h). sym (front_same t u h i same l) in
@@ -64,6 +70,7 @@ span_moved t u h s same within le is =
         start_whole = ap is_utf8 (front s.start (omega (arith, le, is.reached, is.ordered))) ∙ is.start_whole;
         end_whole = ap is_utf8 end ∙ is.end_whole;
         reach_whole = ap is_utf8 (front s.reach le) ∙ is.reach_whole;
+        led = range_same u t s.start (s.start - 1) s.start (front s.start (omega (arith, le, is.reached, is.ordered))) (omega arith) (omega arith) ∙ is.led;
       },
       text_of_front u s is.ordered ∙ ap (drop s.start) end ∙ sym (text_of_front t s is.ordered),
     )
@@ -88,20 +95,32 @@ cut t ss up are =
     moved t (take h t) h 0 ss (sym (take-take h h t (omega arith))) (omega (arith, within)) (omega arith) up are
 
 -- ---- one more, and those behind it raised
-new_span : (t more u : Text) (s : Span) → u ≡ t ++ more → IsUtf8 t → IsUtf8 u → s.start ≡ length t → s.end ≡ length u → s.reach ≡ length u
+comma_ascii : (i : ℕ) → get_or (44 ∷ []) i 0 < 128
+comma_ascii zero = omega arith
+comma_ascii (suc i) = omega arith
+
+pub comma_whole : IsUtf8 (44 ∷ [])
+comma_whole = IsUtf8-from_ascii (44 ∷ []) comma_ascii
+
+new_span : (t more u : Text) (s : Span) → u ≡ t ++ 44 ∷ more → IsUtf8 t → IsUtf8 u → s.start ≡ length t + 1 → s.end ≡ length u → s.reach ≡ length u
     → IsSpan u s × (span_text u s ≡ more)
-new_span t more u s is whole both start end reach =
-    let ordered : s.start ≤ s.end = omega (arith, start, end, ap length is, length-append t more) in
+new_span t more u s text old_whole both at end reach =
+    let comma = t ++ 44 ∷ [] in
+    let is : u ≡ comma ++ more = text ∙ sym (append_assoc t (44 ∷ []) more) in
+    let whole : IsUtf8 comma = IsUtf8-append t (44 ∷ []) old_whole comma_whole in
+    let start : s.start ≡ length comma = omega (arith, at, length-append t (44 ∷ [])) in
+    let ordered : s.start ≤ s.end = omega (arith, start, end, ap length is, length-append comma more) in
     let up_to = λ (i : ℕ) (e : i ≡ length u). ap (λ j. is_utf8 (take j u)) e ∙ ap is_utf8 (take-length u) ∙ is_utf8-from_IsUtf8 u both in (
       record {
         ordered = ordered;
         reached = omega (arith, end, reach);
         within = omega (arith, reach);
-        start_whole = ap₂ (λ i b. is_utf8 (take i b)) start is ∙ ap is_utf8 (take-append_seam t more) ∙ is_utf8-from_IsUtf8 t whole;
+        start_whole = ap₂ (λ i b. is_utf8 (take i b)) start is ∙ ap is_utf8 (take-append_seam comma more) ∙ is_utf8-from_IsUtf8 comma whole;
         end_whole = up_to s.end end;
         reach_whole = up_to s.reach reach;
+        led = comma_at_end t u s.start start (ap₂ (λ i b. take i b) start is ∙ take-append_seam comma more);
       },
-      text_of_front u s ordered ∙ ap₂ (λ i j. drop i (take j u)) start end ∙ ap (drop (length t)) (take-length u ∙ is) ∙ drop-append_seam t more,
+      text_of_front u s ordered ∙ ap₂ (λ i j. drop i (take j u)) start end ∙ ap (drop (length comma)) (take-length u ∙ is) ∙ drop-append_seam comma more,
     )
 
 ascends_raised : (reach low : ℕ) (ss : List Span) → low ≤ reach → ascends low (map (raised reach) ss) ≡ true
@@ -131,6 +150,7 @@ raised_spans t zero reach ss all whole are =
       start_whole = is.start_whole;
       end_whole = is.end_whole;
       reach_whole = whole;
+      led = is.led;
     } in
     All-map (IsSpan t) (raised reach) ss (All-weaker (IsSpan t) (λ s. IsSpan t (raised reach s)) one ss are)
 raised_spans t (suc p) reach [] all whole are = All-nil (IsSpan t)
@@ -148,16 +168,16 @@ pub record Kept (t more : Text) (ss : List Span) (p : ℕ) (u : Text) (xs : List
   pub ascend : ascends 0 xs ≡ true
   pub texts : map (span_text u) xs ≡ insert (map (span_text t) ss) p more
 
-pub kept : (t more : Text) (ss : List Span) (p : ℕ) (u : Text) (xs : List Span) (s : Span) → u ≡ t ++ more → xs ≡ raise_from p s.reach (insert ss p s)
-    → IsUtf8 t → IsUtf8 u → s.start ≡ length t → s.end ≡ length u → s.reach ≡ length u → p ≤ length ss → ascends 0 ss ≡ true → All (IsSpan t) ss
+pub kept : (t more : Text) (ss : List Span) (p : ℕ) (u : Text) (xs : List Span) (s : Span) → u ≡ t ++ 44 ∷ more → xs ≡ raise_from p s.reach (insert ss p s)
+    → IsUtf8 t → IsUtf8 u → s.start ≡ length t + 1 → s.end ≡ length u → s.reach ≡ length u → p ≤ length ss → ascends 0 ss ≡ true → All (IsSpan t) ss
     → Kept t more ss p u xs
 kept t more ss p u xs s text spans whole both start end reach within up are =
     let new = new_span t more u s text whole both start end reach in
-    let old = grown t more u ss text up are in
+    let old = grown t (44 ∷ more) u ss text up are in
     let last = last_within t 0 ss (omega arith) are in
     record {
       are_spans = All-same (IsSpan u) xs (raise_from p s.reach (insert ss p s)) spans (inserted_spans u p ss s reach new.0 old.are_spans);
-      ascend = ap (ascends 0) spans ∙ ascends_inserted s.reach 0 p ss s within (omega (arith, reach, last, ap length text, length-append t more)) up;
+      ascend = ap (ascends 0) spans ∙ ascends_inserted s.reach 0 p ss s within (omega (arith, reach, last, ap length text, length-append t (44 ∷ more))) up;
       texts = ap (map (span_text u)) spans ∙ raised_texts u p s.reach (insert ss p s) ∙ map-insert (span_text u) ss p s ∙ ap₂ (λ ys x. insert ys p x) old.same new.1;
     }
 
@@ -176,10 +196,6 @@ raise_suc (suc p) reach (s ∷ ss) d less = ap (λ xs. s ∷ xs) (raise_suc p re
 pub raise_next : (p reach : ℕ) (ss : List Span) (d : Span) → p < length ss → raise_from (p + 1) reach (set ss p (raised reach (get_or ss p d))) ≡ raise_from p reach ss
 raise_next p reach ss d less = rw add-one (raise_suc p reach ss d less)
 
--- what was raised in a vector's place
-pub all_written : (n : ℕ) (xs ys : List Span) → n ≡ length xs → length ys ≡ length xs → take n (ys ++ drop (length ys) xs) ≡ ys
-all_written n xs ys len same = take-append-le n ys (drop (length ys) xs) (omega (arith, len, same)) ∙ take_all n ys (omega (arith, len, same))
-
 -- ---- the last one
 last_at : (low n : ℕ) (ss : List Span) (s : Span) → length ss ≡ suc n → slice_get ss n ≡ Some s → s.reach ≡ last_reach low ss
 last_at low n [] s len is = absurd (omega arith)
@@ -190,3 +206,44 @@ last_at low (suc n) (x ∷ y ∷ ss) s len is = last_at x.reach n (y ∷ ss) s (
 
 pub last_is : (low : ℕ) (ss : List Span) (s : Span) → slice_get ss (length ss - 1) ≡ Some s → s.reach ≡ last_reach low ss
 last_is low ss s is = last_at low (length ss - 1) ss s (omega (arith, slice_get_within ss (length ss - 1) s is)) is
+
+-- ---- spans that stand one behind the other
+pub merged : (t : Text) (a b : Span) → IsSpan t a → IsSpan t b → b.start - 1 ≡ a.end → IsSpan t (record { start = a.start; end = b.end; reach = b.reach })
+merged t a b first next is = record {
+  ordered = omega (arith, first.ordered, next.ordered, is);
+  reached = next.reached;
+  within = next.within;
+  start_whole = first.start_whole;
+  end_whole = next.end_whole;
+  reach_whole = next.reach_whole;
+  led = first.led;
+}
+
+range_split : (t : Text) (i j k : ℕ) → i ≤ j → j ≤ k → slice_range t i k ≡ slice_range t i j ++ slice_range t j k
+range_split t i j k first next =
+    range_is t i k (omega (arith, first, next)) ∙ drop_split (take k t) i j first
+    ∙ ap₂ (λ a b. a ++ b) (range_is (take k t) i j first ∙ ap (drop i) (take-take j k t next) ∙ sym (range_is t i j first)) (sym (range_is t j k next))
+
+some_in_front : (t : Text) (start : ℕ) → slice_range t (start - 1) start ≡ 44 ∷ [] → 0 < start
+some_in_front t zero led = cc
+some_in_front t (suc n) led = omega arith
+
+pub merged_text : (t : Text) (a b : Span) → IsSpan t a → IsSpan t b → b.start - 1 ≡ a.end
+    → span_text t (record { start = a.start; end = b.end; reach = b.reach }) ≡ span_text t a ++ 44 ∷ span_text t b
+unfolding span_text
+merged_text t a b first next is =
+    let some : 0 < b.start = some_in_front t b.start next.led in
+    range_split t a.start a.end b.end first.ordered (omega (arith, next.ordered, is))
+    ∙ ap (λ r. slice_range t a.start a.end ++ r) (range_split t a.end b.start b.end (omega (arith, is)) next.ordered ∙ ap (λ c. c ++ slice_range t b.start b.end) (ap (λ i. slice_range t i b.start) (sym is) ∙ next.led))
+
+-- ---- what was written of them
+-- a run that goes on, or another one that begins
+pub run_on : (t old out new run : Text) (a b : Span) (later : List Span) (i : ℕ) → i < length later → b ≡ get_or later i b
+    → out ++ span_text t a ≡ old ++ (run ++ later_texts (map (span_text t) (take i later))) → new ≡ (out ++ span_text t a) ++ 44 ∷ span_text t b
+    → new ≡ old ++ (run ++ later_texts (map (span_text t) (take (i + 1) later)))
+run_on t old out new run a b later i less there written is =
+    let texts = map (span_text t) (take i later) in
+    let next = 44 ∷ span_text t b in
+    let all : later_texts (map (span_text t) (take (i + 1) later)) ≡ later_texts texts ++ next =
+    ap later_texts (map-take_more (span_text t) later i b less there) ∙ flat_map-push (λ s. 44 ∷ s) texts (span_text t b) in
+    is ∙ ap (λ r. r ++ next) written ∙ append_assoc old (run ++ later_texts texts) next ∙ ap (λ r. old ++ r) (append_assoc run (later_texts texts) next ∙ ap (λ r. run ++ r) (sym all))

@@ -1,19 +1,22 @@
 -- Units' texts: put among others, and made of texts that were written beforehand.
-use Rattle.std.proofs.Common.{◌≡◌, ◌++◌, ◌∷◌, [], ℕ, Bool, List, codes, length, min, string_bytes, true, append_assoc, ap, ap₂, ◌∙◌, sym}
+use Rattle.std.proofs.Common.{◌≡◌, ◌++◌, ◌∷◌, [], ℕ, Bool, List, codes, length, min, string_bytes, true, append_assoc, ap, ap₂, ◌∙◌, refl, sym}
 use Rattle.std.proofs.lemmas.List.{drop_min, take_min}
 use Rattle.std.specs.List.{insert, list_all}
 use Rattle.json.specs.Print.{quoted}
 use Rattle.definitions.specs.Pointers.{Pointer, fragment_text, pointer_text}
 use Rattle.definitions.specs.Texts.{text}
-use Rattle.definitions.specs.Values.{Text}
+use Rattle.definitions.specs.Values.{Text, string}
 use Rattle.basic_output.specs.declared.location.Location.{Location}
 use Rattle.basic_output.specs.declared.says.Says.{Says}
 use Rattle.basic_output.specs.Pieces.{IsHead, are_plain, is_unescaped, kind_key, plain_text, unit_text}
 use Rattle.basic_output.specs.PointerViews.{IsWritten, pointer_view}
+use Rattle.basic_output.specs.Ready.{AreReady, IsPlainString, IsSaid, path_key, unit_end}
+use Rattle.basic_output.specs.declared.ready.ReadyLocation.{ReadyLocation}
+use Rattle.basic_output.specs.declared.ready.Said.{Said}
 use Rattle.basic_output.specs.Sayings.{says_value, unit_at}
 use Rattle.basic_output.specs.Written.{located_kind, located_text, places_text}
 use Rattle.basic_output.specs.declared.written_pointer.WrittenPointer.{WrittenPointer}
-use Rattle.basic_output.proofs.PlainLaws.{all_of_both, as_it_is, fragment_append, plain_fragment, plain_text_unescaped}
+use Rattle.basic_output.proofs.PlainLaws.{all_of_both, as_it_is, fragment_append, message, plain_fragment, plain_text_unescaped}
 
 -- a position past the end is the end
 pub insert_min : {A : Type 0} (xs : List A) (i : ℕ) (x : A) → insert xs (min i (length xs)) x ≡ insert xs i x
@@ -53,3 +56,53 @@ pub unit_parts : (annotates : Bool) (location : Location) (says : Says) → loca
 unfolding unit_text
 unit_parts annotates location says =
     ap (λ t. codes "{\"absoluteKeywordLocation\":" ++ t) (append_assoc (quoted (located_text location)) (kind_key annotates) (text (says_value says) ++ places_text location))
+
+-- ---- a unit of ready texts
+closed : (written q rest : Text) → 34 ∷ (written ++ 34 ∷ []) ≡ q → 34 ∷ (written ++ 34 ∷ rest) ≡ q ++ rest
+closed written q rest same = ap (λ s. 34 ∷ s) (sym (append_assoc written (34 ∷ []) rest)) ∙ ap (λ s. s ++ rest) same
+
+regrouped : (a b c d e : Text) → a ++ (b ++ c) ≡ d → a ++ (b ++ (c ++ e)) ≡ d ++ e
+regrouped a b c d e same = ap (λ t. a ++ t) (sym (append_assoc b c e)) ∙ sym (append_assoc a (b ++ c) e) ∙ ap (λ t. t ++ e) same
+
+-- the texts of the locations, from the key of the instance's on
+ready_places : (location : Location) (r : ReadyLocation) → AreReady location r
+    → codes ",\"instanceLocation\":\"" ++ (r.instance_location.now ++ (path_key ++ (r.path.now ++ unit_end))) ≡ places_text location
+ready_places location r are =
+    let instance_location = quoted (pointer_text (pointer_view location.instance_location.now)) in
+    ap (λ t. codes ",\"instanceLocation\":" ++ t) (closed r.instance_location.now instance_location (codes ",\"keywordLocation\":\"" ++ (r.path.now ++ unit_end)) are.instance_location)
+    ∙ ap (λ t. codes ",\"instanceLocation\":" ++ (instance_location ++ (codes ",\"keywordLocation\":" ++ t))) (closed r.path.now (quoted (pointer_text (pointer_view location.path.now))) (codes "}") are.path)
+
+pub ready_parts : (annotates : Bool) (location : Location) (says : Says) (r : ReadyLocation) (s : Said) → AreReady location r → IsSaid s annotates (text (says_value says))
+    → r.head.now ++ (r.onward.now ++ (s.opening.now ++ (s.said.now ++ (s.ending.now ++ (r.instance_location.now ++ (path_key ++ (r.path.now ++ unit_end)))))))
+    ≡ unit_text annotates (unit_at location says)
+unfolding unit_text
+ready_parts annotates location says r s are said =
+    let key = codes ",\"instanceLocation\":\"" in
+    let rest = r.instance_location.now ++ (path_key ++ (r.path.now ++ unit_end)) in
+    let says = text (says_value says) in
+    let kind = kind_key annotates in
+    let behind = kind ++ (says ++ places_text location) in
+    let from_opening : s.opening.now ++ (s.said.now ++ (s.ending.now ++ rest)) ≡ 34 ∷ behind =
+    regrouped s.opening.now s.said.now s.ending.now (34 ∷ (kind ++ (says ++ key))) rest said
+    ∙ ap (λ t. 34 ∷ t) (append_assoc kind (says ++ key) rest ∙ ap (λ t. kind ++ t) (append_assoc says key rest ∙ ap (λ t. says ++ t) (ready_places location r are))) in
+    ap (λ t. r.head.now ++ (r.onward.now ++ t)) from_opening
+    ∙ regrouped r.head.now r.onward.now (34 ∷ []) (codes "{\"absoluteKeywordLocation\":" ++ quoted (located_text location)) behind are.located
+    ∙ append_assoc (codes "{\"absoluteKeywordLocation\":") (quoted (located_text location)) behind
+
+-- what it says, where that is a string which stands as it is
+plain_string : (s : Said) (annotates : Bool) (said ending end : Text) → IsPlainString s annotates said ending → ending ≡ end ++ codes ",\"instanceLocation\":\""
+    → s.opening.now ++ (s.said.now ++ s.ending.now) ≡ 34 ∷ (kind_key annotates ++ (34 ∷ (said ++ end) ++ codes ",\"instanceLocation\":\""))
+plain_string s annotates said ending end is ends =
+    let kind = kind_key annotates in
+    let key = codes ",\"instanceLocation\":\"" in
+    ap₂ (λ a b. a ++ b) is.opening (ap₂ (λ a b. a ++ b) is.said (is.ending ∙ ends))
+    ∙ ap (λ t. 34 ∷ t) (append_assoc kind (34 ∷ []) (said ++ (end ++ key)) ∙ ap (λ t. kind ++ 34 ∷ t) (sym (append_assoc said end key)))
+
+pub said_message : (s : Said) (annotates : Bool) (keyword : Text) → IsPlainString s annotates keyword (codes " is not met\",\"instanceLocation\":\"")
+    → IsSaid s annotates (text (string (keyword ++ codes " is not met")))
+said_message s annotates keyword is =
+    plain_string s annotates keyword _ (codes " is not met\"") is refl ∙ ap (λ q. 34 ∷ (kind_key annotates ++ (q ++ codes ",\"instanceLocation\":\""))) (sym (message keyword is.unescaped))
+
+pub said_string : (s : Said) (annotates : Bool) (t : Text) → IsPlainString s annotates t (codes "\",\"instanceLocation\":\"") → IsSaid s annotates (text (string t))
+said_string s annotates t is =
+    plain_string s annotates t _ (34 ∷ []) is refl ∙ ap (λ q. 34 ∷ (kind_key annotates ++ (q ++ codes ",\"instanceLocation\":\""))) (sym (as_it_is t is.unescaped))

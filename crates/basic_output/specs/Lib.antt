@@ -7,3 +7,4 @@ pub mod Outputs
 pub mod PointerTexts
 pub mod Notes
 pub mod Written
+pub mod Ready

@@ -1,5 +1,6 @@
 -- The output's text, piece by piece.
 use Rattle.std.specs.Prelude.{◌≡◌, ℕ, List, [], ◌∷◌, ◌++◌, Bool, true, false, not, ◌&&◌, ◌||◌, ◌==◌, nat_le, codes, flat_map}
+use Rattle.std.specs.Borrow.{Bor}
 use Rattle.std.specs.List.{list_all}
 use Rattle.json.specs.Print.{quoted}
 use Rattle.definitions.specs.Answers.{absolute_location}
@@ -32,6 +33,13 @@ later_texts = flat_map (λ t. 44 ∷ t)
 abbrev pub array_text : List Text → Text
 array_text [] = codes "[]"
 array_text (t ∷ ts) = 91 ∷ (t ++ (later_texts ts ++ 93 ∷ []))
+
+-- names that stand in strings as they are
+abbrev pub later_names : List (Bor Text) → Text
+later_names = flat_map (λ name. codes "\",\"" ++ name.now)
+
+abbrev pub plain_names_text : Text → List (Bor Text) → Text
+plain_names_text first rest = codes "[\"" ++ (first ++ (later_names rest ++ codes "\"]"))
 
 -- ---- what the units are called
 abbrev pub kind : Bool → Text

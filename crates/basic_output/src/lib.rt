@@ -1,10 +1,12 @@
 //! The units of the basic output and their text (JSON Schema 2020-12 Core, 12.4.2).
 #![tactic(auto)]
 
+mod appending;
 mod location;
 mod origin;
 mod output;
 mod quoting;
+mod ready;
 mod saying;
 mod says;
 mod unit;

@@ -77,23 +77,29 @@ fn write_texts(text: &str, spans: &[Span], out: &mut String) -> Result<(), Alloc
     match spans.split_first() {
         Some((first, rest)) => {
             out.push_str("[")?;
-            out.push_str(first.text_in(text))?;
-            write_later_texts(text, rest, out)?;
+            write_runs(text, *first, rest, out)?;
             out.push_str("]")
         }
         None => out.push_str("[]"),
     }
 }
 
-// Each text behind a comma.
-fn write_later_texts(text: &str, spans: &[Span], out: &mut String) -> Result<(), AllocError>
-    requires { All (IsSpan text.now) spans.now }
-    ensures { OnOk result (string_bytes out.new
-        ≡ string_bytes out.old ++ later_texts (map (span_text text.now) spans.now)) }
+// A text, and each later one behind a comma: those that stand so already are written at once.
+fn write_runs(text: &str, first: Span, later: &[Span], out: &mut String) -> Result<(), AllocError>
+    requires first { IsSpan text.now first }
+    requires later { All (IsSpan text.now) later.now }
+    ensures { OnOk result (string_bytes out.new ≡ string_bytes out.old
+        ++ (span_text text.now first ++ later_texts (map (span_text text.now) later.now))) }
 {
-    for span in spans {
-        out.push_str(",")?;
-        out.push_str(span.text_in(text))?;
+    let mut run = first;
+    for span in later {
+        if run.leads_to(*span) {
+            run = run.up_to(*span);
+        } else {
+            out.push_str(run.text_in(text))?;
+            out.push_str(",")?;
+            run = *span;
+        }
     }
-    Ok(())
+    out.push_str(run.text_in(text))
 }

@@ -183,7 +183,7 @@ pub(crate) fn push_plain_step(out: &mut String, step: Step<'_>) -> Result<(), Al
     ensures { OnOk result (string_bytes out.new
         ≡ string_bytes out.old ++ slash ∷ token step.entry) }
 {
-    out.push_str("/")?;
+    out.push('/')?;
     match step {
         Step::Name(name) => out.push_str(name),
         Step::Index(index) => push_decimal(out, index),

@@ -1,13 +1,14 @@
 //! The text of what a unit says.
 
 ghost use Rattle.std.specs.Prelude.{◌≡◌, ◌++◌, map, pos, string_bytes, OnOk};
+ghost use Rattle.std.specs.List.{list_all};
 ghost use Rattle.definitions.specs.Texts.{text};
 ghost use Rattle.definitions.specs.Values.{integer, string};
 ghost use Rattle.json_doc.specs.Docs.{value};
-ghost use Rattle.basic_output.specs.Pieces.{array_text, later_texts};
+ghost use Rattle.basic_output.specs.Pieces.{array_text, is_unescaped, later_texts, plain_names_text};
 ghost use Rattle.basic_output.specs.Sayings.{says_value};
 
-use crate::quoting::{push_decimal, push_message, push_quoted, push_written};
+use crate::quoting::{are_unescaped, push_decimal, push_message, push_quoted, push_written};
 use crate::says::Says;
 use json::Writer;
 use json_doc::{Doc, write_doc};
@@ -50,6 +51,38 @@ fn push_other_value(out: &mut String, doc: &Doc) -> Result<(), AllocError>
 
 // The list of names.
 fn push_names(out: &mut String, names: &[&str]) -> Result<(), AllocError>
+    ensures { OnOk result (string_bytes out.new ≡ string_bytes out.old
+        ++ array_text (map (λ name. text (string name.now)) names.now)) }
+{
+    match names.split_first() {
+        Some((first, rest)) if are_all_unescaped(names) => push_plain_names(out, first, rest),
+        _ => push_other_names(out, names),
+    }
+}
+
+// Whether all of them stand in strings as they are.
+fn are_all_unescaped(names: &[&str]) -> bool
+    ensures { result ≡ list_all (λ name. list_all is_unescaped name.now) names.now }
+{
+    names.iter().all(|name| are_unescaped(name.as_bytes()))
+}
+
+// Names that stand as they are.
+fn push_plain_names(out: &mut String, first: &str, rest: &[&str]) -> Result<(), AllocError>
+    ensures { OnOk result (string_bytes out.new
+        ≡ string_bytes out.old ++ plain_names_text first.now rest.now) }
+{
+    out.push_str("[\"")?;
+    out.push_str(first)?;
+    for name in rest {
+        out.push_str("\",\"")?;
+        out.push_str(name)?;
+    }
+    out.push_str("\"]")
+}
+
+// Any names.
+fn push_other_names(out: &mut String, names: &[&str]) -> Result<(), AllocError>
     ensures { OnOk result (string_bytes out.new ≡ string_bytes out.old
         ++ array_text (map (λ name. text (string name.now)) names.now)) }
 {

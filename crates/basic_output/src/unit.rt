@@ -1,6 +1,6 @@
 //! The text of a unit (JSON Schema 2020-12 Core, 12.4.2).
 
-ghost use Rattle.std.specs.Prelude.{◌≡◌, ◌++◌, ◌∷◌, string_bytes, OnOk};
+ghost use Rattle.std.specs.Prelude.{◌≡◌, ◌++◌, string_bytes, OnOk};
 ghost use Rattle.basic_output.specs.Pieces.{kind_key, unit_text};
 ghost use Rattle.basic_output.specs.PointerViews.{IsWritten};
 ghost use Rattle.basic_output.specs.Sayings.{unit_at};
@@ -27,8 +27,7 @@ pub(crate) fn push_unit(
     push_places(out, location)
 }
 
-// Where the keyword stands in its resource, and what the unit is called. Where it can be, the text is put together of the
-// origin's and the path's.
+// Where the keyword stands in its resource, and what the unit is called.
 fn push_located_kind(
     out: &mut String,
     annotates: bool,
@@ -37,19 +36,9 @@ fn push_located_kind(
     ensures { OnOk result (string_bytes out.new
         ≡ string_bytes out.old ++ located_kind annotates location.entry) }
 {
-    let onward = location.path.plain_text_behind(location.inward());
-    match (location.origin.head(), onward) {
-        (Some(head), Some(onward)) => {
-            out.push_str(head)?;
-            out.push_str(onward)?;
-            out.push_str(closing_kind_key(annotates))
-        }
-        _ => {
-            out.push_str("{\"absoluteKeywordLocation\":")?;
-            push_quoted_location(out, location.origin, location.onward_steps())?;
-            out.push_str(kind_key(annotates))
-        }
-    }
+    out.push_str("{\"absoluteKeywordLocation\":")?;
+    push_quoted_location(out, location.origin, location.onward_steps())?;
+    out.push_str(kind_key(annotates))
 }
 
 // The locations of the instance and of the keyword.
@@ -97,16 +86,5 @@ fn kind_key(annotates: bool) -> &'static str
         ",\"annotation\":"
     } else {
         ",\"error\":"
-    }
-}
-
-// Behind the end of a string.
-fn closing_kind_key(annotates: bool) -> &'static str
-    ensures { result.now ≡ 34 ∷ kind_key annotates }
-{
-    if annotates {
-        "\",\"annotation\":"
-    } else {
-        "\",\"error\":"
     }
 }

@@ -1,17 +1,24 @@
 //! The units of the basic output, as they are collected (JSON Schema 2020-12 Core, 12.4.2).
 
-ghost use Rattle.std.specs.Prelude.{◌≡◌, ◌++◌, length, map, string_bytes, take, true, OnOk, OnErr};
+ghost use Rattle.std.specs.Prelude.{◌≡◌, ◌∷◌, ◌++◌, ◌-◌, if◌then◌else◌, is_ok, length, map, nat_eq, string_bytes, take, true, OnOk, OnErr};
 ghost use Rattle.std.specs.List.{All};
+ghost use Rattle.basic_output.specs.Pieces.{unit_text};
+ghost use Rattle.basic_output.specs.Ready.{AreReady};
+ghost use Rattle.basic_output.specs.Sayings.{unit_at};
+ghost use Rattle.basic_output.specs.declared.location.Location.{Location};
 ghost use Rattle.basic_output.specs.Spans.{IsSpan, ascends, last_reach, raise_from, span_text};
 
+use crate::appending::append_ready;
 use crate::location::Location;
+use crate::ready::{ReadyLocation, plain_said, ready_location, ready_unit, written_said};
+use crate::saying::push_says;
 use crate::says::Says;
 use crate::unit::push_unit;
 use std::alloc::{AllocError, Global};
 use std::marker::Model;
 
 /// Where the text of a unit stands, and how far the texts reach of this unit and of those before it.
-#[derive(Clone, Copy, Drop)]
+#[derive(Clone, Copy, Debug, Drop)]
 pub(crate) struct Span {
     start: usize,
     end: usize,
@@ -26,6 +33,24 @@ impl Span {
     {
         &text[self.start..self.end]
     }
+
+    /// Whether the other one's text stands behind a comma behind this one's.
+    pub(crate) fn leads_to(self, next: Span) -> bool
+        ensures { result ≡ nat_eq (next.start - 1) self.end }
+    {
+        next.start.saturating_sub(1) == self.end
+    }
+
+    /// From where this one's text starts to where the other one's ends.
+    pub(crate) fn up_to(self, last: Span) -> Span
+        ensures { result ≡ record { start = self.start; end = last.end; reach = last.reach } }
+    {
+        Span {
+            start: self.start,
+            end: last.end,
+            reach: last.reach,
+        }
+    }
 }
 
 /// Units in order, as their texts.
@@ -33,11 +58,11 @@ impl Span {
 /// Contracts see the texts, by `unit_texts`.
 #[derive(Drop)]
 pub struct Units {
-    // The texts, in the order in which they were made.
+    // The texts, in the order in which they were made, each behind a comma.
     text: String,
     // Where each stands, in the order of the units.
     spans: Vec<Span>,
-    // The one that is being made.
+    // What a unit says, or all of it, where that is made apart.
     made: String,
     ghost are_spans: { All (IsSpan (string_bytes text)) spans.items },
     ghost ascend: { ascends 0 spans.items ≡ true },
@@ -62,10 +87,8 @@ impl Model for Mark {
 }
 
 impl Units {
-    ghost use Rattle.std.specs.Prelude.{[], ◌∷◌};
+    ghost use Rattle.std.specs.Prelude.{[]};
     ghost use Rattle.std.specs.List.{insert};
-    ghost use Rattle.basic_output.specs.Pieces.{unit_text};
-    ghost use Rattle.basic_output.specs.Sayings.{unit_at};
     ghost use Rattle.basic_output.specs.Units.{unit_texts};
 
     /// No units. This takes no memory; the units that come later take it from `alloc`.
@@ -117,39 +140,14 @@ impl Units {
             (unit_text annotates (unit_at location.entry says.entry))) }
         ensures unchanged { OnErr result (unit_texts self.new ≡ unit_texts self.old) }
     {
-        self.make(annotates, location, says)?;
-        self.keep(mark)
-    }
-
-    // Writes the text of a unit anew.
-    fn make(
-        &mut self,
-        annotates: bool,
-        location: Location<'_, '_>,
-        says: Says<'_, '_>,
-    ) -> Result<(), AllocError>
-        ensures made { OnOk result (string_bytes self.new.made
-            ≡ unit_text annotates (unit_at location.entry says.entry)) }
-        ensures unchanged { unit_texts self.new ≡ unit_texts self.old }
-    {
-        self.made.clear();
-        push_unit(&mut self.made, annotates, location, says)
-    }
-
-    // Puts the text that was made at a mark.
-    fn keep(&mut self, mark: Mark) -> Result<(), AllocError>
-        ensures ok { OnOk result (unit_texts self.new
-            ≡ insert (unit_texts self.old) mark (string_bytes self.old.made)) }
-        ensures unchanged { OnErr result (unit_texts self.new ≡ unit_texts self.old) }
-    {
         let start = self.text.len();
-        self.text.push_str(self.made.as_str())?;
+        append_unit(&mut self.text, &mut self.made, annotates, location, says)?;
         let reach = self.text.len();
         let position = mark.units.min(self.spans.len());
         self.spans.insert(
             position,
             Span {
-                start,
+                start: start + 1,
                 end: reach,
                 reach,
             },
@@ -180,6 +178,54 @@ impl Units {
             ≡ unit_texts self.now }
     {
         self.spans.as_slice()
+    }
+}
+
+// Appends a comma and the text of a unit, of which a part may be made apart. The only error is want of memory, and then
+// nothing was appended.
+fn append_unit(
+    out: &mut String,
+    made: &mut String,
+    annotates: bool,
+    location: Location<'_, '_>,
+    says: Says<'_, '_>,
+) -> Result<(), AllocError>
+    ensures { string_bytes out.new ≡ (if is_ok result
+        then string_bytes out.old ++ 44 ∷ unit_text annotates (unit_at location.entry says.entry)
+        else string_bytes out.old) }
+{
+    match ready_location(location) {
+        Some(ready) => append_ready_unit(out, made, annotates, ready, says),
+        None => {
+            made.clear();
+            made.push_str(",")?;
+            push_unit(made, annotates, location, says)?;
+            out.push_str(made.as_str())
+        }
+    }
+}
+
+// The same at ready locations.
+fn append_ready_unit(
+    out: &mut String,
+    made: &mut String,
+    annotates: bool,
+    location: ReadyLocation<'_>,
+    says: Says<'_, '_>,
+) -> Result<(), AllocError>
+    ensures { (l : Location) → AreReady l location.entry
+        → string_bytes out.new ≡ (if is_ok result
+        then string_bytes out.old ++ 44 ∷ unit_text annotates (unit_at l says.entry)
+        else string_bytes out.old) }
+{
+    match plain_said(annotates, says) {
+        Some(said) => append_ready(out, ready_unit(location, said)),
+        None => {
+            made.clear();
+            push_says(made, says)?;
+            let said = written_said(annotates, made.as_str());
+            append_ready(out, ready_unit(location, said))
+        }
     }
 }
 

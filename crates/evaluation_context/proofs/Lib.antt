@@ -2,3 +2,4 @@ pub mod RunningLaws
 pub mod FrameLaws
 pub mod IdentifierLaws
 pub mod PlannedLaws
+pub mod EndLaws

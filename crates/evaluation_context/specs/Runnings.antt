@@ -1,6 +1,7 @@
 -- A schema object that is being applied, beside the steps that are kept and those of the instance location.
-use Rattle.std.specs.Prelude.{◌&&◌, ◌++◌, Bool, List, [], ◌∷◌, ℕ, length, nat_le, option_map, slice_range, take}
+use Rattle.std.specs.Prelude.{◌&&◌, ◌++◌, Bool, List, Option, None, Some, [], ◌∷◌, ℕ, length, nat_le, option_map, slice_range, take}
 use Rattle.std.specs.List.{list_all}
+use Rattle.definitions.specs.Values.{Text}
 use Rattle.definitions.specs.Pointers.{Pointer}
 use Rattle.definitions.specs.Schemas.{Identity, same_identity}
 use Rattle.definitions.specs.Applied.{InstanceLocation}
@@ -32,3 +33,9 @@ are_above n os = list_all (λ o. nat_le (length o.1.pointer) n) os
 abbrev pub are_laid : (Running → ℕ) → (Running → ℕ) → ℕ → ℕ → List Running → Bool
 are_laid start end from to [] = nat_le from to
 are_laid start end from to (r ∷ rs) = (nat_le from (start r) && nat_le (start r) (end r)) && are_laid start end (end r) to rs
+
+-- the last of the tokens, if there is one
+abbrev pub last_token : Pointer → Option Text
+last_token [] = None
+last_token (t ∷ []) = Some t
+last_token (t ∷ u ∷ ts) = last_token (u ∷ ts)

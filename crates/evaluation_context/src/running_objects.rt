@@ -1,14 +1,15 @@
 //! The instance location, and the schema objects that are being applied there and above it.
 
-ghost use Rattle.std.specs.Prelude.{◌≡◌, ◌≤◌, ◌++◌, ◌∷◌, ◌&&◌, [], true, length, option_map, slice_range, take, ℕ, OnOk, List};
+ghost use Rattle.std.specs.Prelude.{◌≡◌, ◌≤◌, ◌-◌, ◌++◌, ◌∷◌, ◌&&◌, [], false, true, Some, length, option_map, slice_index_or, slice_range, take, ℕ, IfSome, OnOk, List};
 ghost use Rattle.std.specs.List.{list_any};
 ghost use Rattle.definitions.specs.Pointers.{same_pointer};
+ghost use Rattle.definitions.specs.Values.{same_text};
 ghost use Rattle.definitions.specs.Schemas.{Identity, same_identity};
 ghost use Rattle.definitions.specs.Applied.{InstanceLocation};
 ghost use Rattle.definitions.specs.Outcomes.{same_name};
 ghost use Rattle.locations.specs.Steps.{token, tokens};
 ghost use Rattle.basic_output.specs.PointerViews.{pointer_view};
-ghost use Rattle.evaluation_context.specs.Runnings.{are_above, are_laid, is_running_as, onward_identity, running_view};
+ghost use Rattle.evaluation_context.specs.Runnings.{are_above, are_laid, is_running_as, last_token, onward_identity, running_view};
 
 use crate::running::Running;
 use basic_output::{Origin, WrittenPointer};
@@ -197,9 +198,58 @@ fn is_same(
         (option_map (λ n. n.now) name.entry)) }
 {
     let own_pointer = &steps[object.pointer..object.end];
-    are_both(own_pointer, origin.steps(), onward)
+    !ends_otherwise(own_pointer, origin.steps(), onward)
+        && are_both(own_pointer, origin.steps(), onward)
         && object.resource == origin.resource()
         && same_name(object.name, name)
+}
+
+// Whether the steps surely end otherwise than those of the first list and then those of the second.
+fn ends_otherwise(steps: &[Step<'_>], first: &[Step<'_>], second: &[Step<'_>]) -> bool
+    ensures { result ≡ true → same_pointer (tokens steps.now)
+        (tokens first.now ++ tokens second.now) ≡ false }
+{
+    match last_step(first, second) {
+        Some(step) => match steps.last() {
+            Some(own) => have_other_ends(*own, *step),
+            None => false,
+        },
+        None => false,
+    }
+}
+
+// The last of the steps of both lists.
+fn last_step<'s, 'a>(first: &'s [Step<'a>], second: &'s [Step<'a>]) -> Option<&'s Step<'a>>
+    ensures { IfSome result (λ s. last_token (tokens first.now ++ tokens second.now)
+        ≡ Some (token s.now)) }
+{
+    match second.last() {
+        Some(step) => Some(step),
+        None => first.last(),
+    }
+}
+
+// Whether both are names, whose last bytes differ.
+fn have_other_ends(first: Step<'_>, second: Step<'_>) -> bool
+    ensures { result ≡ true → same_text (token first.entry) (token second.entry) ≡ false }
+{
+    match first {
+        Step::Name(name) => match second {
+            Step::Name(other) => last_byte(name) != last_byte(other),
+            Step::Index(_) => false,
+        },
+        Step::Index(_) => false,
+    }
+}
+
+// The last byte, or 0 of no bytes.
+fn last_byte(text: &str) -> u8
+    ensures { result ≡ slice_index_or text.now (length text.now - 1) 0 }
+{
+    match text.as_bytes().last() {
+        Some(byte) => *byte,
+        None => 0,
+    }
 }
 
 // Whether the steps are those of the first list and then those of the second. What differs mostly does so in the second.

@@ -116,7 +116,11 @@ impl<'a> FollowedReferences<'a> {
             (target_uri resource.now reference.now) f.now.named) }
     {
         for followed in &self.followed {
-            if followed.reference == reference && followed.resource == resource {
+            // Most differ in their lengths, which are compared here without a call.
+            if followed.reference.len() == reference.len()
+                && followed.reference == reference
+                && followed.resource == resource
+            {
                 return Some(followed);
             }
         }

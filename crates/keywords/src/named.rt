@@ -8,7 +8,8 @@ use crate::keyword::Keyword;
 use crate::shape::Shape;
 
 impl Keyword {
-    /// The keyword of this name, if there is one. Few names have the same length.
+    /// The keyword of this name, if there is one. Few names have the same length, and of those the ones that schemas use most
+    /// are compared first.
     #[tactic(auto, unfolding(crate::specs::Rows::row_named))]
     pub fn named(name: &str) -> Option<Keyword>
         ensures { option_map row_of result ≡ row_named name.now }
@@ -24,45 +25,45 @@ impl Keyword {
                 _ => None,
             },
             4 => match name {
-                "$ref" => Some(Keyword::Ref),
                 "type" => Some(Keyword::Type),
+                "$ref" => Some(Keyword::Ref),
                 "enum" => Some(Keyword::Enum),
                 "then" => Some(Keyword::Then),
                 "else" => Some(Keyword::Else),
                 _ => None,
             },
             5 => match name {
-                "const" => Some(Keyword::Const),
-                "allOf" => Some(Keyword::AllOf),
-                "anyOf" => Some(Keyword::AnyOf),
-                "oneOf" => Some(Keyword::OneOf),
                 "items" => Some(Keyword::Items),
+                "allOf" => Some(Keyword::AllOf),
+                "const" => Some(Keyword::Const),
+                "oneOf" => Some(Keyword::OneOf),
+                "anyOf" => Some(Keyword::AnyOf),
                 "$defs" => Some(Keyword::Defs),
                 _ => None,
             },
             7 => match name {
-                "maximum" => Some(Keyword::Maximum),
-                "minimum" => Some(Keyword::Minimum),
                 "pattern" => Some(Keyword::Pattern),
+                "minimum" => Some(Keyword::Minimum),
+                "maximum" => Some(Keyword::Maximum),
                 "$anchor" => Some(Keyword::Anchor),
                 "$schema" => Some(Keyword::Schema),
                 _ => None,
             },
             8 => match name {
                 "required" => Some(Keyword::Required),
-                "maxItems" => Some(Keyword::MaxItems),
                 "minItems" => Some(Keyword::MinItems),
+                "maxItems" => Some(Keyword::MaxItems),
                 "contains" => Some(Keyword::Contains),
                 _ => None,
             },
             9 => match name {
-                "maxLength" => Some(Keyword::MaxLength),
                 "minLength" => Some(Keyword::MinLength),
+                "maxLength" => Some(Keyword::MaxLength),
                 _ => None,
             },
             10 => match name {
-                "multipleOf" => Some(Keyword::MultipleOf),
                 "properties" => Some(Keyword::Properties),
+                "multipleOf" => Some(Keyword::MultipleOf),
                 _ => None,
             },
             11 => match name {

@@ -79,6 +79,21 @@ pub const UNEVALUATED: &[(&str, &str, &str)] = &[
 pub const REFERENCES: &[(&str, &str, &str)] = &[
     (r##"{"$ref":"#"}"##, r#"1"#, r#"17 Loop"#),
     (
+        r##"{"allOf":[{"$ref":"#/allOf/0"}]}"##,
+        r#"1"#,
+        r#"17 Loop"#,
+    ),
+    (
+        r##"{"$ref":"#/$defs/x1","$defs":{"x1":{"$ref":"#/$defs/y1"},"y1":{"$ref":"#/$defs/x1"}}}"##,
+        r#"1"#,
+        r#"17 Loop"#,
+    ),
+    (
+        r##"{"$ref":"#/$defs/x1","$defs":{"x1":{"$ref":"#/$defs/y1"},"y1":{"type":"integer"}}}"##,
+        r#"1"#,
+        r#"{"annotations":[],"valid":true}"#,
+    ),
+    (
         r##"{"properties":{"a":{"$ref":"#"}}}"##,
         r#"{"a":{"a":1}}"#,
         r#"{"annotations":[{"absoluteKeywordLocation":"https://ex.org/s#/properties","annotation":["a"],"instanceLocation":"","keywordLocation":"/properties"},{"absoluteKeywordLocation":"https://ex.org/s#/properties","annotation":["a"],"instanceLocation":"/a","keywordLocation":"/properties/a/$ref/properties"}],"valid":true}"#,

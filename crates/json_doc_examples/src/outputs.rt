@@ -127,6 +127,8 @@ fn annotation(alloc: Global, says: Says<'_, '_>) -> Result<String, Fault> {
 #[test]
 fn writes_what_units_say(rt: HostRuntime) -> Result<(), Fail> {
     let title = read(rt.alloc(), br#"{"b":[1,null],"a":"x"}"#)?;
+    let plain = read(rt.alloc(), br#""x/y""#)?;
+    let quoted = read(rt.alloc(), br#""x\"y""#)?;
     for (says, text) in [
         (
             Says::NotAllowed,
@@ -145,12 +147,28 @@ fn writes_what_units_say(rt: HostRuntime) -> Result<(), Fail> {
             r#"{"annotations":[{"absoluteKeywordLocation":"https://ex.org/s#","annotation":["a","ä\"",""],"instanceLocation":"","keywordLocation":""}],"valid":true}"#,
         ),
         (
+            Says::Names(&["a", "ä", ""]),
+            r#"{"annotations":[{"absoluteKeywordLocation":"https://ex.org/s#","annotation":["a","ä",""],"instanceLocation":"","keywordLocation":""}],"valid":true}"#,
+        ),
+        (
+            Says::Names(&[]),
+            r#"{"annotations":[{"absoluteKeywordLocation":"https://ex.org/s#","annotation":[],"instanceLocation":"","keywordLocation":""}],"valid":true}"#,
+        ),
+        (
             Says::Indexes(&[0, 2]),
             r#"{"annotations":[{"absoluteKeywordLocation":"https://ex.org/s#","annotation":[0,2],"instanceLocation":"","keywordLocation":""}],"valid":true}"#,
         ),
         (
             Says::Value(&title),
             r#"{"annotations":[{"absoluteKeywordLocation":"https://ex.org/s#","annotation":{"a":"x","b":[1,null]},"instanceLocation":"","keywordLocation":""}],"valid":true}"#,
+        ),
+        (
+            Says::Value(&plain),
+            r#"{"annotations":[{"absoluteKeywordLocation":"https://ex.org/s#","annotation":"x/y","instanceLocation":"","keywordLocation":""}],"valid":true}"#,
+        ),
+        (
+            Says::Value(&quoted),
+            r#"{"annotations":[{"absoluteKeywordLocation":"https://ex.org/s#","annotation":"x\"y","instanceLocation":"","keywordLocation":""}],"valid":true}"#,
         ),
     ] {
         let found = annotation(rt.alloc(), says)?;

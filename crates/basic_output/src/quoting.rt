@@ -233,7 +233,11 @@ fn is_unescaped_index(index: usize) -> bool
 fn are_plain_bytes(bytes: &[u8]) -> bool
     ensures { result ≡ list_all is_plain bytes.now }
 {
-    bytes.iter().all(|byte| is_plain(*byte))
+    let mut plain = true;
+    for byte in bytes {
+        plain &= is_plain(*byte);
+    }
+    plain
 }
 
 fn is_plain(byte: u8) -> bool
@@ -246,7 +250,11 @@ fn is_plain(byte: u8) -> bool
 pub(crate) fn are_unescaped(bytes: &[u8]) -> bool
     ensures { result ≡ list_all is_unescaped bytes.now }
 {
-    bytes.iter().all(|byte| is_unescaped(*byte))
+    let mut unescaped = true;
+    for byte in bytes {
+        unescaped &= is_unescaped(*byte);
+    }
+    unescaped
 }
 
 fn is_unescaped(byte: u8) -> bool

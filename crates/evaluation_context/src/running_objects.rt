@@ -1,6 +1,6 @@
 //! The instance location, and the schema objects that are being applied there and above it.
 
-ghost use Rattle.std.specs.Prelude.{◌≡◌, ◌≤◌, ◌-◌, ◌++◌, ◌∷◌, ◌&&◌, [], false, true, Some, length, option_map, slice_index_or, slice_range, take, ℕ, IfSome, OnOk, List};
+ghost use Rattle.std.specs.Prelude.{◌≡◌, ◌≤◌, ◌-◌, ◌++◌, ◌∷◌, ◌&&◌, [], false, true, Some, if◌then◌else◌, is_ok, length, option_map, slice_index_or, slice_range, take, ℕ, IfSome, OnOk, List};
 ghost use Rattle.std.specs.List.{list_any};
 ghost use Rattle.definitions.specs.Pointers.{same_pointer};
 ghost use Rattle.definitions.specs.Values.{same_text};
@@ -116,8 +116,8 @@ impl<'a> RunningObjects<'a> {
         ensures instance_location { instance_pointer self.new ≡ instance_pointer self.old }
     {
         let start = self.steps.len();
-        self.steps.extend_from_slice(origin.steps())?;
-        self.steps.extend_from_slice(onward)?;
+        append(&mut self.steps, origin.steps())?;
+        append(&mut self.steps, onward)?;
         self.entries.push(Running {
             resource: origin.resource(),
             name,
@@ -174,6 +174,19 @@ impl<'a> RunningObjects<'a> {
         }
         false
     }
+}
+
+// Appends the steps. Often there are none, and then nothing is called.
+#[inline(always)]
+fn append<'a>(steps: &mut Vec<Step<'a>>, more: &[Step<'a>]) -> Result<(), AllocError>
+    ensures { steps.new.items ≡ (if is_ok result
+        then steps.old.items ++ more.now
+        else steps.old.items) }
+{
+    if more.is_empty() {
+        return Ok(());
+    }
+    steps.extend_from_slice(more)
 }
 
 // Whether the object is this schema, applied where the name at the instance location is this one. It is called apart, since

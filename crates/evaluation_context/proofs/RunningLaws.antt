@@ -2,7 +2,7 @@
 use Rattle.std.proofs.Common.{◌≡◌, ◌≤◌, ◌<◌, ◌+◌, ◌++◌, ◌∷◌, ◌&&◌, ◌||◌, [], ℕ, zero, suc, List, Bool, Option, Result, Ok, Err, OnOk, true, false, length, nat_le, map, option_map, get_or, take, drop, refl, sym, ap, ap₂, ◌∙◌, arith}
 use Rattle.std.proofs.Math.Bool.{and-true}
 use Rattle.std.proofs.lemmas.Bool.{and_parts, and_from, and_left, and_right, leb-true, le-leb}
-use Rattle.std.proofs.lemmas.List.{take-take, take_all, take_rest, map_push, map-append, append_assoc, same_from_push, length-append, length-map, length-take, length-take-le, get_or-map, nil_from_length, drop_at, drop-map, take_at, take-map, take-append-drop, drop_more}
+use Rattle.std.proofs.lemmas.List.{take-take, take_all, take_rest, map_push, map-append, same_from_push, length-append, length-map, length-take, length-take-le, get_or-map, nil_from_length, drop_at, drop-map, take_at, take-map, take-append-drop, drop_more}
 use Rattle.std.proofs.lemmas.List.Folds.{list_any_at, list_any-append}
 use Rattle.std.specs.Prelude.{is_ok, slice_range, if◌then◌else◌}
 use Rattle.std.specs.List.{list_any, list_all}
@@ -12,11 +12,11 @@ use Rattle.definitions.specs.Schemas.{Identity, same_identity}
 use Rattle.definitions.specs.Applied.{InstanceLocation}
 use Rattle.definitions.specs.Outcomes.{same_name}
 use Rattle.lemmas.proofs.Lists.{range_same}
-use Rattle.lemmas.proofs.Texts.{same_text_itself}
+use Rattle.lemmas.proofs.Texts.{same_text_itself, same_text_turned}
 use Rattle.locations.specs.Steps.{token, tokens}
 use Rattle.locations.specs.declared.step.Step.{Step}
 use Rattle.basic_output.specs.PointerViews.{pointer_view}
-use Rattle.evaluation_context.specs.Runnings.{running_view, is_running_as, are_above, are_laid}
+use Rattle.evaluation_context.specs.Runnings.{running_view, is_running_as, are_above, are_laid, onward_identity}
 use Rattle.evaluation_context.specs.RunningViews.{instance_pointer, running_objects}
 use Rattle.evaluation_context.specs.declared.running.Running.{Running}
 use Rattle.evaluation_context.specs.declared.running_objects.RunningObjects.{RunningObjects}
@@ -97,18 +97,18 @@ laid_front s e from to (r ∷ rs) (suc i) d less h =
 
 -- ---- the same beside any steps whose first ones are those that are kept
 pub views_same : (xs ys : List Step) (ps qs : Pointer) (from to low high : ℕ) (rs : List Running) → take to xs ≡ take to ys → take high ps ≡ take high qs
-    → are_laid (λ r. r.pointer) (λ r. r.end) from to rs ≡ true → are_laid (λ r. r.depth) (λ r. r.depth) low high rs ≡ true
+    → are_laid (λ r. r.start) (λ r. r.end) from to rs ≡ true → are_laid (λ r. r.depth) (λ r. r.depth) low high rs ≡ true
     → map (running_view xs ps) rs ≡ map (running_view ys qs) rs
 views_same xs ys ps qs from to low high [] same near h k = refl
 views_same xs ys ps qs from to low high (r ∷ rs) same near h k =
-    let p = parts (λ r. r.pointer) (λ r. r.end) from to r rs h in
+    let p = parts (λ r. r.start) (λ r. r.end) from to r rs h in
     let q = parts (λ r. r.depth) (λ r. r.depth) low high r rs k in
-    let within = laid_bound (λ r. r.pointer) (λ r. r.end) r.end to rs p.rest in
+    let within = laid_bound (λ r. r.start) (λ r. r.end) r.end to rs p.rest in
     let shallow = laid_bound (λ r. r.depth) (λ r. r.depth) r.depth high rs q.rest in
-    let pointer = range_same xs ys to r.pointer r.end same p.own.end within in
+    let pointer = range_same xs ys to r.start r.end same p.own.end within in
     let place : take r.depth ps ≡ take r.depth qs = sym (take-take r.depth high ps shallow) ∙ ap (take r.depth) near ∙ take-take r.depth high qs shallow in
     ap₂ (λ v vs. v ∷ vs)
-    (ap₂ (λ a b. ((r.resource.now, tokens a), record { pointer = b; name = option_map (λ n. n.now) r.name })) pointer place)
+    (ap₂ (λ a b. (onward_identity r.origin.value a, record { pointer = b; name = option_map (λ n. n.now) r.name })) pointer place)
     (views_same xs ys ps qs r.end to r.depth high rs same near p.rest q.rest)
 
 -- ---- what a push leaves
@@ -122,25 +122,18 @@ grown_laid s e es xs ys more is h = laid_more s e 0 (length xs) (length ys) es (
 front_same : {X : Type 0} (xs more : List X) → take (length xs) (xs ++ more) ≡ take (length xs) xs
 front_same xs more = take_at xs more (length xs) refl ∙ sym (take_all (length xs) xs (omega arith))
 
--- the steps from the root to an origin, and those that lead on
-pub both_tokens : (first second : List Step) (start : Pointer) → tokens first ≡ start → tokens (first ++ second) ≡ start ++ tokens second
-both_tokens first second start is = map-append token first second ∙ ap (λ t. t ++ tokens second) is
-
-pub both_kept : {X : Type 0} (xs first second ys zs : List X) → ys ≡ xs ++ first → zs ≡ ys ++ second → zs ≡ xs ++ (first ++ second)
-both_kept xs first second ys zs e f = f ∙ ap (λ t. t ++ second) e ∙ append_assoc xs first second
-
 -- the steps of what is pushed
 pub record Pushed (xs ys : List Step) (place : Pointer) (p : List Step) (r : Running) : Type 0 where
   pub kept : ys ≡ xs ++ p
-  pub pointer : r.pointer ≡ length xs
+  pub start : r.start ≡ length xs
   pub end : r.end ≡ length ys
   pub depth : r.depth ≡ length place
 
-pub pushed_own : {xs ys : List Step} {place : Pointer} {p : List Step} {r : Running} → Pushed xs ys place p r → Laid (λ r. r.pointer) (λ r. r.end) (length xs) (length ys) r
+pub pushed_own : {xs ys : List Step} {place : Pointer} {p : List Step} {r : Running} → Pushed xs ys place p r → Laid (λ r. r.start) (λ r. r.end) (length xs) (length ys) r
 pushed_own {xs} {ys} {place} {p} {r} h =
     record {
-      start = omega (arith, h.pointer);
-      end = omega (arith, h.pointer, h.end, ap length h.kept, length-append xs p);
+      start = omega (arith, h.start);
+      end = omega (arith, h.start, h.end, ap length h.kept, length-append xs p);
       within = omega (arith, h.end);
     }
 
@@ -148,20 +141,20 @@ pub pushed_deep : {xs ys : List Step} {place : Pointer} {p : List Step} {r : Run
 pushed_deep {xs} {ys} {place} {p} {r} h = record { start = omega (arith, h.depth); end = omega arith; within = omega (arith, h.depth) }
 
 pub pushed_views : (es new : List Running) (xs ys : List Step) (place : Pointer) (p : List Step) (r : Running) → new ≡ es ++ r ∷ [] → Pushed xs ys place p r
-    → are_laid (λ r. r.pointer) (λ r. r.end) 0 (length xs) es ≡ true → are_laid (λ r. r.depth) (λ r. r.depth) 0 (length place) es ≡ true
+    → are_laid (λ r. r.start) (λ r. r.end) 0 (length xs) es ≡ true → are_laid (λ r. r.depth) (λ r. r.depth) 0 (length place) es ≡ true
     → map (running_view ys place) new
-    ≡ map (running_view xs place) es ++ ((r.resource.now, tokens p), record { pointer = place; name = option_map (λ n. n.now) r.name }) ∷ []
+    ≡ map (running_view xs place) es ++ (onward_identity r.origin.value p, record { pointer = place; name = option_map (λ n. n.now) r.name }) ∷ []
 pushed_views es new xs ys place p r e h laid nested =
-    let pointer : slice_range ys r.pointer r.end ≡ p = ap₂ (slice_range ys) h.pointer h.end ∙ take_rest ys (length xs) ∙ ap (drop (length xs)) h.kept ∙ drop_at xs p (length xs) refl in
+    let pointer : slice_range ys r.start r.end ≡ p = ap₂ (slice_range ys) h.start h.end ∙ take_rest ys (length xs) ∙ ap (drop (length xs)) h.kept ∙ drop_at xs p (length xs) refl in
     let all : take r.depth place ≡ place = take_all r.depth place (omega (arith, h.depth)) in
     ap (map (running_view ys place)) e ∙ map_push (running_view ys place) es r
     ∙ ap₂ (λ vs v. vs ++ v ∷ [])
     (views_same ys xs place place 0 (length xs) 0 (length place) es (ap (take (length xs)) h.kept ∙ front_same xs p) refl laid nested)
-    (ap₂ (λ a b. ((r.resource.now, tokens a), record { pointer = b; name = option_map (λ n. n.now) r.name })) pointer all)
+    (ap₂ (λ a b. (onward_identity r.origin.value a, record { pointer = b; name = option_map (λ n. n.now) r.name })) pointer all)
 
 -- ---- a longer instance location
 pub deepened_views : (es : List Running) (xs : List Step) (place new more : Pointer) → new ≡ place ++ more
-    → are_laid (λ r. r.pointer) (λ r. r.end) 0 (length xs) es ≡ true → are_laid (λ r. r.depth) (λ r. r.depth) 0 (length place) es ≡ true
+    → are_laid (λ r. r.start) (λ r. r.end) 0 (length xs) es ≡ true → are_laid (λ r. r.depth) (λ r. r.depth) 0 (length place) es ≡ true
     → map (running_view xs new) es ≡ map (running_view xs place) es
 deepened_views es xs place new more is laid nested =
     views_same xs xs new place 0 (length xs) 0 (length place) es refl (ap (take (length place)) is ∙ front_same place more) laid nested
@@ -215,7 +208,7 @@ pub cut_laid : (es : List Running) (place new : Pointer) (n depth : ℕ) → new
 cut_laid es place new n depth is le h =
     laid_more (λ r. r.depth) (λ r. r.depth) 0 depth (length new) es (omega (arith, h.within, ap length is, length-take n place)) h.enough
 
-pub cut_views : (es : List Running) (xs : List Step) (place new : Pointer) (n depth : ℕ) → new ≡ take n place → depth ≤ n → Innermost es place depth → are_laid (λ r. r.pointer) (λ r. r.end) 0 (length xs) es ≡ true
+pub cut_views : (es : List Running) (xs : List Step) (place new : Pointer) (n depth : ℕ) → new ≡ take n place → depth ≤ n → Innermost es place depth → are_laid (λ r. r.start) (λ r. r.end) 0 (length xs) es ≡ true
     → map (running_view xs new) es ≡ map (running_view xs place) es
 cut_views es xs place new n depth is le h laid =
     views_same xs xs new place 0 (length xs) 0 depth es refl (ap (take depth) is ∙ take-take depth n place le) laid h.enough
@@ -230,24 +223,24 @@ pub no_push : {A : Type 0} (xs : List A) (x : A) → [] ≡ xs ++ x ∷ [] → �
 no_push [] x e = cc
 no_push (y ∷ ys) x e = cc
 
-pub popped_laid : (es new : List Running) (xs ys : List Step) (r : Running) → es ≡ new ++ r ∷ [] → ys ≡ take r.pointer xs → are_laid (λ r. r.pointer) (λ r. r.end) 0 (length xs) es ≡ true → are_laid (λ r. r.pointer) (λ r. r.end) 0 (length ys) new ≡ true
+pub popped_laid : (es new : List Running) (xs ys : List Step) (r : Running) → es ≡ new ++ r ∷ [] → ys ≡ take r.start xs → are_laid (λ r. r.start) (λ r. r.end) 0 (length xs) es ≡ true → are_laid (λ r. r.start) (λ r. r.end) 0 (length ys) new ≡ true
 popped_laid es new xs ys r e cut h =
-    let p = laid_pop (λ r. r.pointer) (λ r. r.end) 0 (length xs) new r (ap (are_laid (λ r. r.pointer) (λ r. r.end) 0 (length xs)) (sym e) ∙ h) in
-    let long : length ys ≡ r.pointer = ap length cut ∙ length-take-le r.pointer xs (omega (arith, p.1.end, p.1.within)) in
-    ap (λ n. are_laid (λ r. r.pointer) (λ r. r.end) 0 n new) long ∙ p.0
+    let p = laid_pop (λ r. r.start) (λ r. r.end) 0 (length xs) new r (ap (are_laid (λ r. r.start) (λ r. r.end) 0 (length xs)) (sym e) ∙ h) in
+    let long : length ys ≡ r.start = ap length cut ∙ length-take-le r.start xs (omega (arith, p.1.end, p.1.within)) in
+    ap (λ n. are_laid (λ r. r.start) (λ r. r.end) 0 n new) long ∙ p.0
 
 pub popped_nested : (es new : List Running) (place : Pointer) (r : Running) → es ≡ new ++ r ∷ [] → are_laid (λ r. r.depth) (λ r. r.depth) 0 (length place) es ≡ true → are_laid (λ r. r.depth) (λ r. r.depth) 0 (length place) new ≡ true
 popped_nested es new place r e h =
     let p = laid_pop (λ r. r.depth) (λ r. r.depth) 0 (length place) new r (ap (are_laid (λ r. r.depth) (λ r. r.depth) 0 (length place)) (sym e) ∙ h) in
     laid_more (λ r. r.depth) (λ r. r.depth) 0 r.depth (length place) new p.1.within p.0
 
-pub popped_views : (es new : List Running) (xs ys : List Step) (place : Pointer) (r : Running) → es ≡ new ++ r ∷ [] → ys ≡ take r.pointer xs
-    → are_laid (λ r. r.pointer) (λ r. r.end) 0 (length xs) es ≡ true → are_laid (λ r. r.depth) (λ r. r.depth) 0 (length place) es ≡ true
+pub popped_views : (es new : List Running) (xs ys : List Step) (place : Pointer) (r : Running) → es ≡ new ++ r ∷ [] → ys ≡ take r.start xs
+    → are_laid (λ r. r.start) (λ r. r.end) 0 (length xs) es ≡ true → are_laid (λ r. r.depth) (λ r. r.depth) 0 (length place) es ≡ true
     → (older : List (Identity × InstanceLocation)) (v : Identity × InstanceLocation) → map (running_view xs place) es ≡ older ++ v ∷ [] → map (running_view ys place) new ≡ older
 popped_views es new xs ys place r e cut h k older v seen =
-    let p = laid_pop (λ r. r.pointer) (λ r. r.end) 0 (length xs) new r (ap (are_laid (λ r. r.pointer) (λ r. r.end) 0 (length xs)) (sym e) ∙ h) in
-    let front : take r.pointer ys ≡ take r.pointer xs = ap (take r.pointer) cut ∙ take-take r.pointer r.pointer xs (omega arith) in
-    views_same ys xs place place 0 r.pointer 0 (length place) new front refl p.0 (popped_nested es new place r e k)
+    let p = laid_pop (λ r. r.start) (λ r. r.end) 0 (length xs) new r (ap (are_laid (λ r. r.start) (λ r. r.end) 0 (length xs)) (sym e) ∙ h) in
+    let front : take r.start ys ≡ take r.start xs = ap (take r.start) cut ∙ take-take r.start r.start xs (omega arith) in
+    views_same ys xs place place 0 r.start 0 (length place) new front refl p.0 (popped_nested es new place r e k)
     ∙ (same_from_push (map (running_view xs place) new) older (running_view xs place r) v (sym (map_push (running_view xs place) new r) ∙ ap (map (running_view xs place)) (sym e) ∙ seen)).0
 
 pub none_popped : {A B : Type 0} (f : A → B) (es : List A) → length es ≡ 0 → (older : List B) (v : B) → map f es ≡ older ++ v ∷ [] → ⊥
@@ -286,6 +279,30 @@ same_both ts [] second le = and-true (same_pointer ts second)
 same_both [] (u ∷ us) second le = absurd (omega arith)
 same_both (t ∷ ts) (u ∷ us) second le =
     and_swap (same_text t u) (same_pointer (drop (length us) ts) second) (same_pointer (take (length us) ts) us) ∙ ap (λ b. same_text t u && b) (same_both ts us second (omega arith))
+
+pub turned : (p q : Pointer) → same_pointer p q ≡ same_pointer q p
+turned [] [] = refl
+turned [] (u ∷ us) = refl
+turned (t ∷ ts) [] = refl
+turned (t ∷ ts) (u ∷ us) = ap₂ (λ a b. a && b) (same_text_turned t u) (turned ts us)
+
+joined : (a b c d : Pointer) → length a ≤ length c → (same_pointer b (drop (length a) c ++ d) && same_pointer a (take (length a) c)) ≡ same_pointer (a ++ b) (c ++ d)
+joined [] b c d le = and-true (same_pointer b (c ++ d))
+joined (t ∷ a) b [] d le = absurd (omega arith)
+joined (t ∷ a) b (u ∷ c) d le =
+    and_swap (same_text t u) (same_pointer b (drop (length a) c ++ d)) (same_pointer a (take (length a) c)) ∙ ap (λ s. same_text t u && s) (joined a b c d (omega arith))
+
+-- two lists beside two, where the first is no longer than the third
+pub joined_steps : (first second other_first other_second front rest : List Step) → front ≡ take (length first) other_first → rest ≡ drop (length first) other_first → length first ≤ length other_first
+    → (same_pointer (tokens second) (tokens rest ++ tokens other_second) && same_pointer (tokens first) (tokens front))
+    ≡ same_pointer (tokens first ++ tokens second) (tokens other_first ++ tokens other_second)
+joined_steps first second other_first other_second front rest e f le =
+    let ts = tokens other_first in
+    let long : length first ≡ length (tokens first) = sym (length-map first token) in
+    let behind : tokens rest ≡ drop (length (tokens first)) ts = ap tokens f ∙ sym (drop-map token (length first) other_first) ∙ ap (λ n. drop n ts) long in
+    let before : tokens front ≡ take (length (tokens first)) ts = ap tokens e ∙ sym (take-map token (length first) other_first) ∙ ap (λ n. take n ts) long in
+    ap₂ (λ b a. same_pointer (tokens second) (b ++ tokens other_second) && same_pointer (tokens first) a) behind before
+    ∙ joined (tokens first) (tokens second) ts (tokens other_second) (omega (arith, le, long, length-map other_first token))
 
 pub split_same : (steps first second front back : List Step) → front ≡ take (length first) steps → back ≡ drop (length first) steps → length first ≤ length steps
     → (same_pointer (tokens back) (tokens second) && same_pointer (tokens front) (tokens first)) ≡ same_pointer (tokens steps) (tokens first ++ tokens second)
@@ -334,12 +351,12 @@ here_same xs place identity name r deep =
     ap (λ b. same_identity v.0 identity && (b && same_name v.1.name name)) same
 
 -- ---- the same where the code reads
-pub laid_read : (es : List Running) (xs steps : List Step) (i : ℕ) (r : Running) → steps ≡ xs → i < length es → r ≡ get_or es i r → are_laid (λ r. r.pointer) (λ r. r.end) 0 (length xs) es ≡ true → Laid (λ r. r.pointer) (λ r. r.end) 0 (length steps) r
+pub laid_read : (es : List Running) (xs steps : List Step) (i : ℕ) (r : Running) → steps ≡ xs → i < length es → r ≡ get_or es i r → are_laid (λ r. r.start) (λ r. r.end) 0 (length xs) es ≡ true → Laid (λ r. r.start) (λ r. r.end) 0 (length steps) r
 laid_read es xs steps i r same less is h =
-    let own = laid_at (λ r. r.pointer) (λ r. r.end) 0 (length xs) es i r less h in
+    let own = laid_at (λ r. r.start) (λ r. r.end) 0 (length xs) es i r less h in
     record {
       start = omega arith;
-      end = omega (arith, own.end, ap (λ (x : Running). x.pointer) is, ap (λ (x : Running). x.end) is);
+      end = omega (arith, own.end, ap (λ (x : Running). x.start) is, ap (λ (x : Running). x.end) is);
       within = omega (arith, own.within, ap length same, ap (λ (x : Running). x.end) is);
     }
 

@@ -19,7 +19,7 @@ onward_identity origin onward = ((origin_view origin).0, (origin_view origin).1 
 -- its instance location is a beginning of the one where the context stands
 abbrev pub running_view : List Step → Pointer → Running → Identity × InstanceLocation
 running_view steps location r =
-    ((r.resource.now, tokens (slice_range steps r.pointer r.end)), record { pointer = take r.depth location; name = option_map (λ n. n.now) r.name })
+    (onward_identity r.origin.value (slice_range steps r.start r.end), record { pointer = take r.depth location; name = option_map (λ n. n.now) r.name })
 
 -- the same schema at the same instance location
 abbrev pub is_running_as : Identity → InstanceLocation → Identity × InstanceLocation → Bool

@@ -167,7 +167,7 @@ impl<'a> Context<'a> {
         let resource = self.resource();
         self.scope.push(resource)?;
         let onward = onward_steps(&self.path, self.onward);
-        self.running.push(&self.origin, onward, self.name)?;
+        self.running.push(self.origin.clone()?, onward, self.name)?;
         Ok(())
     }
 

@@ -15,10 +15,11 @@ use crate::running::Running;
 use basic_output::{Origin, WrittenPointer};
 use locations::{Step, same_steps};
 use std::alloc::{AllocError, Global};
+use std::rc::Rc;
 
 /// The instance location, and the schema objects that are being applied, the outermost first. Each is applied where the
-/// one before it is, or below, so that all their instance locations are beginnings of this one. Their pointers are
-/// copied, so that they stay while a context moves, into one list that all of them share.
+/// one before it is, or below, so that all their instance locations are beginnings of this one. The steps that lead from
+/// their origins to them are copied, so that they stay while a context moves, into one list that all of them share.
 ///
 /// Contracts see the identities and instance locations of the objects by `running_objects`, and the instance location
 /// by `instance_pointer`.
@@ -27,7 +28,7 @@ pub(crate) struct RunningObjects<'a> {
     entries: Vec<Running<'a>>,
     steps: Vec<Step<'a>>,
     instance_location: WrittenPointer<'a>,
-    ghost laid: { are_laid (λ r. r.pointer) (λ r. r.end) 0 (length steps.items) entries.items
+    ghost laid: { are_laid (λ r. r.start) (λ r. r.end) 0 (length steps.items) entries.items
         ≡ true },
     ghost nested: { are_laid (λ r. r.depth) (λ r. r.depth) 0
         (length (pointer_view instance_location)) entries.items
@@ -99,13 +100,13 @@ impl<'a> RunningObjects<'a> {
     /// One object more, the innermost, applied at the instance location.
     pub(crate) fn push(
         &mut self,
-        origin: &Origin<'a>,
+        origin: Rc<Origin<'a>>,
         onward: &[Step<'a>],
         name: Option<&'a str>,
     ) -> Result<(), AllocError>
         ensures running { OnOk result (running_objects self.new ≡ running_objects self.old
             ++ (
-              onward_identity origin.now onward.now,
+              onward_identity origin.entry.value onward.now,
               record {
                 pointer = instance_pointer self.old;
                 name = option_map
@@ -116,12 +117,11 @@ impl<'a> RunningObjects<'a> {
         ensures instance_location { instance_pointer self.new ≡ instance_pointer self.old }
     {
         let start = self.steps.len();
-        append(&mut self.steps, origin.steps())?;
         append(&mut self.steps, onward)?;
         self.entries.push(Running {
-            resource: origin.resource(),
+            origin,
             name,
-            pointer: start,
+            start,
             end: self.steps.len(),
             depth: self.instance_location.len(),
         })?;
@@ -136,10 +136,10 @@ impl<'a> RunningObjects<'a> {
         ensures instance_location { instance_pointer self.new ≡ instance_pointer self.old }
         ensures steps { (older : List Running) (e : Running)
             → self.old.entries.items ≡ older ++ e ∷ []
-            → self.new.steps.items ≡ take e.pointer self.old.steps.items }
+            → self.new.steps.items ≡ take e.start self.old.steps.items }
     {
         match self.entries.pop() {
-            Some(entry) => self.steps.truncate(entry.pointer),
+            Some(entry) => self.steps.truncate(entry.start),
             None => {}
         }
     }
@@ -164,7 +164,7 @@ impl<'a> RunningObjects<'a> {
         let mut left = self.entries.len();
         while left > 0 {
             left -= 1;
-            let entry = self.entries[left];
+            let entry = &self.entries[left];
             if entry.depth < depth {
                 return false;
             }
@@ -194,41 +194,76 @@ fn append<'a>(steps: &mut Vec<Step<'a>>, more: &[Step<'a>]) -> Result<(), AllocE
 #[inline(never)]
 fn is_same(
     steps: &[Step<'_>],
-    object: Running<'_>,
+    object: &Running<'_>,
     origin: &Origin<'_>,
     onward: &[Step<'_>],
     name: Option<&str>,
 ) -> bool
-    requires pointer { object.pointer ≤ object.end }
-    requires within { object.end ≤ length steps.now }
-    ensures { result ≡ (same_identity (
-      object.entry.resource.now,
-      tokens
-          (slice_range steps.now object.entry.pointer object.entry.end),
-    )
+    requires start { object.now.start ≤ object.now.end }
+    requires within { object.now.end ≤ length steps.now }
+    ensures { result ≡ (same_identity (onward_identity object.now.origin.value
+        (slice_range steps.now object.now.start object.now.end))
         (onward_identity origin.now onward.now)
-        && same_name (option_map (λ n. n.now) object.entry.name)
+        && same_name (option_map (λ n. n.now) object.now.name)
         (option_map (λ n. n.now) name.entry)) }
 {
-    let own_pointer = &steps[object.pointer..object.end];
-    !ends_otherwise(own_pointer, origin.steps(), onward)
-        && are_both(own_pointer, origin.steps(), onward)
-        && object.resource == origin.resource()
+    let own = &object.origin;
+    let own_onward = &steps[object.start..object.end];
+    !ends_otherwise(own.steps(), own_onward, origin.steps(), onward)
+        && are_joined(own.steps(), own_onward, origin.steps(), onward)
+        && own.resource() == origin.resource()
         && same_name(object.name, name)
 }
 
-// Whether the steps surely end otherwise than those of the first list and then those of the second.
-fn ends_otherwise(steps: &[Step<'_>], first: &[Step<'_>], second: &[Step<'_>]) -> bool
-    ensures { result ≡ true → same_pointer (tokens steps.now)
-        (tokens first.now ++ tokens second.now) ≡ false }
+// Whether the steps of the first two lists surely end otherwise than those of the others.
+fn ends_otherwise(
+    first: &[Step<'_>],
+    second: &[Step<'_>],
+    other_first: &[Step<'_>],
+    other_second: &[Step<'_>],
+) -> bool
+    ensures { result ≡ true → same_pointer (tokens first.now ++ tokens second.now)
+        (tokens other_first.now ++ tokens other_second.now) ≡ false }
 {
     match last_step(first, second) {
-        Some(step) => match steps.last() {
-            Some(own) => have_other_ends(*own, *step),
+        Some(own) => match last_step(other_first, other_second) {
+            Some(other) => have_other_ends(*own, *other),
             None => false,
         },
         None => false,
     }
+}
+
+// Whether the steps of the first two lists are those of the others.
+fn are_joined(
+    first: &[Step<'_>],
+    second: &[Step<'_>],
+    other_first: &[Step<'_>],
+    other_second: &[Step<'_>],
+) -> bool
+    ensures { result ≡ same_pointer (tokens first.now ++ tokens second.now)
+        (tokens other_first.now ++ tokens other_second.now) }
+{
+    if first.len() <= other_first.len() {
+        are_joined_within(first, second, other_first, other_second)
+    } else {
+        are_joined_within(other_first, other_second, first, second)
+    }
+}
+
+// The same, where the first list is no longer than the third. What differs mostly does so behind it.
+fn are_joined_within(
+    first: &[Step<'_>],
+    second: &[Step<'_>],
+    other_first: &[Step<'_>],
+    other_second: &[Step<'_>],
+) -> bool
+    requires { length first.now ≤ length other_first.now }
+    ensures { result ≡ same_pointer (tokens first.now ++ tokens second.now)
+        (tokens other_first.now ++ tokens other_second.now) }
+{
+    let (front, rest) = other_first.split_at(first.len());
+    are_both(second, rest, other_second) && same_steps(first, front)
 }
 
 // The last of the steps of both lists.

@@ -11,7 +11,7 @@ returns-clause-entered c =
     let old = context_view c.args.self.now in
     same_frames refl refl refl (same_locations c.in_ok-push-2.ensures.instance_location refl)
     (c.in_ok-push.ensures.pushed ∙ ap (λ uri. old.scope ++ uri ∷ []) c.resource-resource.ensures)
-    (c.in_ok-push-2.ensures.running ∙ same_objects (ap (λ (o : Origin). (origin_view o).0) c.deref.ensures) (ap₂ (λ (o : Origin) t. (origin_view o).1 ++ t) c.deref.ensures c.onward_steps-onward.ensures) refl refl _)
+    (c.in_ok-push-2.ensures.running ∙ same_objects (ap (λ (o : Origin). (origin_view o).0) c.in_ok-clone.ensures.cases) (ap₂ (λ (o : Origin) t. (origin_view o).1 ++ t) c.in_ok-clone.ensures.cases c.onward_steps-onward.ensures) refl refl _)
 
 pub returns-clause-there : goal.returns-clause-there
 unfolding frame_standing object_frame

@@ -17,8 +17,8 @@ returns-then-entry-depth c =
     ap (λ n. list_any f (map (running_view o.steps.items (pointer_view o.instance_location)) (drop n o.entries.items))) (sym next) ∙ c.loop-left.invariant.none in
     none_left o.steps.items (pointer_view o.instance_location) (onward_identity c.args.origin.now c.args.onward.now) (option_map (λ n. n.now) c.args.name) o.entries.items i c.index-entry.result.now (omega arith) c.index-entry.ensures (omega arith) o.nested later
 
-pub is_same-requires-clause-pointer : goal.is_same-requires-clause-pointer
-is_same-requires-clause-pointer c =
+pub is_same-requires-clause-start : goal.is_same-requires-clause-start
+is_same-requires-clause-start c =
     let o = c.args.self.now in
     (laid_read o.entries.items o.steps.items c.deref.result.now (c.loop-left.left - 1) c.index-entry.result.now c.deref.ensures.value (omega arith) c.index-entry.ensures o.laid).end
 

@@ -38,7 +38,7 @@ returns-in-None-clause-instance_location c = refl
 pub returns-in-Some-clause-steps : goal.returns-in-Some-clause-steps
 returns-in-Some-clause-steps c = λ older e seen.
     let old = c.args.self.now in
-    c.truncate.ensures.items ∙ ap (λ (r : Running). take r.pointer old.steps.items) (same_from_push c.pop.new.self.items older c.in-Some.entry e (sym c.in-Some.ensures.items ∙ seen)).1
+    c.truncate.ensures.items ∙ ap (λ (r : Running). take r.start old.steps.items) (same_from_push c.pop.new.self.items older c.in-Some.entry e (sym c.in-Some.ensures.items ∙ seen)).1
 
 pub returns-in-None-clause-steps : goal.returns-in-None-clause-steps
 returns-in-None-clause-steps c = λ older e seen.

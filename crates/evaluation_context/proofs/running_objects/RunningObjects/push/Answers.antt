@@ -1,38 +1,25 @@
-use Rattle.std.proofs.Common.{◌++◌, length, is_ok, refl, ◌∙◌}
+use Rattle.std.proofs.Common.{length, is_ok, refl, ◌∙◌}
 use Rattle.basic_output.specs.PointerViews.{pointer_view}
 use Rattle.evaluation_context.specs.RunningViews.{instance_pointer, running_objects}
-use Rattle.evaluation_context.proofs.FrameLaws.{same_objects}
-use Rattle.evaluation_context.proofs.RunningLaws.{Pushed, both_kept, both_tokens, grown_laid, pushed_own, pushed_deep, pushed_laid, pushed_views}
+use Rattle.evaluation_context.proofs.RunningLaws.{Pushed, pushed_own, pushed_deep, pushed_laid, pushed_views}
 use Rattle.evaluation_context.proofs.running_objects.RunningObjects.push.Goals as goal
 
 pub returns-in_err-append-clause-instance_location : goal.returns-in_err-append-clause-instance_location
 unfolding instance_pointer
 returns-in_err-append-clause-instance_location c = refl
 
-pub invariant_of-self-in-Break-branch-2 : goal.invariant_of-self-in-Break-branch-2
-invariant_of-self-in-Break-branch-2 c =
-    let old = c.args.self.now in
-    record {
-      laid = grown_laid (λ r. r.pointer) (λ r. r.end) old.entries.items old.steps.items c.append-2.new.steps.items c.steps.result.now (c.in_err-append-2.ensures ∙ c.in_ok-append.ensures) old.laid;
-      nested = old.nested;
-    }
-
-pub returns-in_err-append-2-clause-instance_location : goal.returns-in_err-append-2-clause-instance_location
-unfolding instance_pointer
-returns-in_err-append-2-clause-instance_location c = refl
-
 pub invariant_of-self-2 : goal.invariant_of-self-2
 invariant_of-self-2 c =
     let old = c.args.self.now in
-    let steps = c.append-2.new.steps.items in
-    let pushed : Pushed old.steps.items steps (pointer_view old.instance_location) (c.steps.result.now ++ c.args.onward.now) _ = record {
-      kept = both_kept old.steps.items c.steps.result.now c.args.onward.now c.append.new.steps.items steps c.in_ok-append.ensures c.in_ok-append-2.ensures;
-      pointer = c.len-start.ensures ∙ old.steps.ok.0;
-      end = c.len.ensures ∙ c.append-2.new.steps.ok.0;
+    let steps = c.append.new.steps.items in
+    let pushed : Pushed old.steps.items steps (pointer_view old.instance_location) c.args.onward.now _ = record {
+      kept = c.in_ok-append.ensures;
+      start = c.len-start.ensures ∙ old.steps.ok.0;
+      end = c.len.ensures ∙ c.append.new.steps.ok.0;
       depth = c.len-2.ensures;
     } in
     record {
-      laid = pushed_laid (λ r. r.pointer) (λ r. r.end) (is_ok c.push.result) old.entries.items c.push.new.self.items _ (length old.steps.items) (length steps) c.push.ensures.items old.laid (pushed_own pushed);
+      laid = pushed_laid (λ r. r.start) (λ r. r.end) (is_ok c.push.result) old.entries.items c.push.new.self.items _ (length old.steps.items) (length steps) c.push.ensures.items old.laid (pushed_own pushed);
       nested = pushed_laid (λ r. r.depth) (λ r. r.depth) (is_ok c.push.result) old.entries.items c.push.new.self.items _ (length (pointer_view old.instance_location)) (length (pointer_view old.instance_location)) c.push.ensures.items old.nested (pushed_deep pushed);
     }
 
@@ -44,16 +31,14 @@ pub returns-clause-running : goal.returns-clause-running
 unfolding running_objects instance_pointer
 returns-clause-running c =
     let old = c.args.self.now in
-    let steps = c.append-2.new.steps.items in
-    let both = c.steps.result.now ++ c.args.onward.now in
-    let pushed : Pushed old.steps.items steps (pointer_view old.instance_location) both _ = record {
-      kept = both_kept old.steps.items c.steps.result.now c.args.onward.now c.append.new.steps.items steps c.in_ok-append.ensures c.in_ok-append-2.ensures;
-      pointer = c.len-start.ensures ∙ old.steps.ok.0;
-      end = c.len.ensures ∙ c.append-2.new.steps.ok.0;
+    let steps = c.append.new.steps.items in
+    let pushed : Pushed old.steps.items steps (pointer_view old.instance_location) c.args.onward.now _ = record {
+      kept = c.in_ok-append.ensures;
+      start = c.len-start.ensures ∙ old.steps.ok.0;
+      end = c.len.ensures ∙ c.append.new.steps.ok.0;
       depth = c.len-2.ensures;
     } in
-    pushed_views old.entries.items c.push.new.self.items old.steps.items steps (pointer_view old.instance_location) both _ c.in_ok-push.ensures.items pushed old.laid old.nested
-    ∙ same_objects c.resource.ensures (both_tokens c.steps.result.now c.args.onward.now _ c.steps.ensures) refl refl _
+    pushed_views old.entries.items c.push.new.self.items old.steps.items steps (pointer_view old.instance_location) c.args.onward.now _ c.in_ok-push.ensures.items pushed old.laid old.nested
 
 pub returns-clause-instance_location : goal.returns-clause-instance_location
 unfolding instance_pointer

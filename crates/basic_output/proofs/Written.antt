@@ -1,5 +1,5 @@
 -- What stands in a vector behind a call that writes its slice.
-use Rattle.std.proofs.Common.{◌≡◌, ◌+◌, ◌-◌, ◌<◌, ◌++◌, ◌∷◌, [], ℕ, suc, List, drop, length, replicate, take, ap, ap₂, append_assoc, length-append, sym, ◌∙◌, arith}
+use Rattle.std.proofs.Common.{◌≡◌, ◌+◌, ◌-◌, ◌<◌, ◌++◌, ◌∷◌, [], ℕ, suc, List, drop, length, replicate, take, ap₂, append_assoc, length-append, sym, ◌∙◌, arith}
 use Rattle.std.proofs.Math.Seq.{take-append_seam}
 use Rattle.std.proofs.lemmas.List.{take-append-le, take_all}
 

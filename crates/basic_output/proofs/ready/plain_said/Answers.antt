@@ -1,8 +1,8 @@
-use Rattle.std.proofs.Common.{◌≡◌, Option, Some, None, IfSome, string_bytes, ap, sym, subst, ◌∙◌}
+use Rattle.std.proofs.Common.{◌≡◌, Option, Some, None, IfSome, ap, sym, subst}
 use Rattle.definitions.specs.Texts.{text}
 use Rattle.definitions.specs.Values.{Text, Value, as_string, string}
 use Rattle.json_doc.specs.Docs.{value}
-use Rattle.basic_output.specs.Ready.{IsPlainString, IsSaid}
+use Rattle.basic_output.specs.Ready.{IsSaid}
 use Rattle.basic_output.specs.Sayings.{says_value}
 use Rattle.lemmas.proofs.SomeValues.{none_some, some_same}
 use Rattle.basic_output.proofs.UnitLaws.{said_message, said_string}

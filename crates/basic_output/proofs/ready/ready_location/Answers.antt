@@ -1,4 +1,4 @@
-use Rattle.std.proofs.Common.{◌≡◌, ◌++◌, ◌∷◌, [], append-nil, codes, drop, true, string_bytes, ap, sym, ◌∙◌}
+use Rattle.std.proofs.Common.{◌≡◌, ◌++◌, ◌∷◌, [], append-nil, codes, drop, string_bytes, ap, sym, ◌∙◌}
 use Rattle.json.specs.Print.{quoted}
 use Rattle.definitions.specs.Pointers.{pointer_text}
 use Rattle.basic_output.specs.Pieces.{are_plain, plain_text}

@@ -1,12 +1,11 @@
-use Rattle.std.proofs.Common.{◌≡◌, ◌++◌, ◌∷◌, codes, drop, true, Option, Some, IfSome, string_bytes, ap, sym, ◌∙◌, subst}
+use Rattle.std.proofs.Common.{◌≡◌, ◌++◌, ◌∷◌, codes, string_bytes, ap, ◌∙◌}
 use Rattle.json.specs.Print.{quoted}
 use Rattle.definitions.specs.Pointers.{fragment_text}
 use Rattle.lemmas.proofs.Appended.{appended}
-use Rattle.basic_output.specs.Pieces.{IsHead, are_plain, kind_key, plain_text}
-use Rattle.basic_output.specs.PointerViews.{onward_pointer, origin_view, pointer_view}
+use Rattle.basic_output.specs.Pieces.{kind_key}
+use Rattle.basic_output.specs.PointerViews.{origin_view}
 use Rattle.basic_output.specs.Written.{located_text}
 use Rattle.basic_output.proofs.PieceLaws.{pushed}
-use Rattle.basic_output.proofs.UnitLaws.{located}
 use Rattle.basic_output.proofs.unit.push_located_kind.Goals as goal
 
 pub returns : goal.returns

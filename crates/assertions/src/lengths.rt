@@ -13,6 +13,7 @@ pub(crate) fn has_length_at_most(instance: &Doc, limit: &Doc) -> bool
 {
     match instance {
         Doc::Str(text) => is_length_at_most(text.as_str(), limit),
+        Doc::Short(text) => is_length_at_most(text.as_str(), limit),
         _ => true,
     }
 }
@@ -46,6 +47,7 @@ pub(crate) fn has_length_at_least(instance: &Doc, limit: &Doc) -> bool
 {
     match instance {
         Doc::Str(text) => is_length_at_least(text.as_str(), limit),
+        Doc::Short(text) => is_length_at_least(text.as_str(), limit),
         _ => true,
     }
 }

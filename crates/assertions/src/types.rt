@@ -29,6 +29,7 @@ fn is_of_type(instance: &Doc, name: &Doc) -> bool
 {
     match name {
         Doc::Str(name) => has_type(instance, name.as_str()),
+        Doc::Short(name) => has_type(instance, name.as_str()),
         _ => false,
     }
 }
@@ -41,7 +42,7 @@ fn has_type(instance: &Doc, name: &str) -> bool
         Doc::Null => name == "null",
         Doc::Bool(_) => name == "boolean",
         Doc::Int(_) => name == "number" || name == "integer",
-        Doc::Str(_) => name == "string",
+        Doc::Str(_) | Doc::Short(_) => name == "string",
         Doc::List(_) => name == "array",
         Doc::Dict(_) => name == "object",
     }

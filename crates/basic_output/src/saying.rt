@@ -37,6 +37,7 @@ fn push_value(out: &mut String, doc: &Doc) -> Result<(), AllocError>
 {
     match doc {
         Doc::Str(string) => push_quoted(out, string.as_str()),
+        Doc::Short(string) => push_quoted(out, string.as_str()),
         _ => push_other_value(out, doc),
     }
 }

@@ -36,8 +36,8 @@ fn under_its_uri(alloc: Global, document: &Constituent<'_>) -> Result<Doc, Fault
     ensures ok { IfOk result (λ d. value d ≡ under_its_uri (constituent_view document.now)) }
     ensures err { IfErr result (λ f. f ≡ Fault.NoRoom) }
 {
-    let id = String::from_str(alloc, document.uri)?;
-    with_member(alloc, copy(alloc, document.value)?, "$id", Doc::Str(id))
+    let id = Doc::string(alloc, document.uri)?;
+    with_member(alloc, copy(alloc, document.value)?, "$id", id)
 }
 
 // The value with a member of this name, if it is an object, and else as it is.
@@ -57,7 +57,7 @@ fn with_entry(alloc: Global, members: Members, name: &str, member: Doc) -> Resul
     ensures err { IfErr result (λ f. f ≡ Fault.NoRoom) }
 {
     let mut members = members;
-    members.insert(String::from_str(alloc, name)?, member)?;
+    members.insert(alloc, name, member)?;
     Ok(members)
 }
 

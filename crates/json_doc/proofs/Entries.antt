@@ -1,5 +1,5 @@
 -- The entries of a map beside the members that they stand for.
-use Rattle.std.proofs.Common.{◌≡◌, List, [], ◌∷◌, ◌++◌, map, length, Option, Some, None, option_map, String, Global, Ordering, Less, Equal, Greater, string_bytes, string_cmp, nat_cmp, is_eq, cond, Bool, true, false, refl, sym, ap, ◌∙◌}
+use Rattle.std.proofs.Common.{◌≡◌, List, [], ◌∷◌, ◌++◌, map, length, Option, Some, None, option_map, Ordering, Less, Equal, Greater, nat_cmp, String, Global, string_bytes, is_eq, cond, Bool, true, false, refl, sym, ap, ◌∙◌}
 use Rattle.std.proofs.lemmas.Cmp.{nat_list_cmp_total}
 use Rattle.std.proofs.lemmas.List.{map-append}
 use Rattle.std.proofs.lemmas.Str.{is_utf8-from_IsUtf8, IsUtf8-string_bytes}
@@ -14,7 +14,10 @@ use Rattle.std.specs.Str.{is_utf8}
 use Rattle.definitions.specs.Values.{Text, Value, entry}
 use Rattle.json_doc.specs.Docs.{value}
 use Rattle.json_doc.specs.Members.{member_value, members_with, is_below, AreBelow, AreNotBelow, HasNamesInOrder, HasTextsAsNames}
-use Rattle.json_doc.specs.NameMaps.{entry_named, IsAbove, IsAboveNone}
+use Rattle.json_doc.specs.SmallTexts.{text_view, text_cmp}
+use Rattle.json_doc.specs.declared.small_text.SmallText.{SmallText}
+use Rattle.json_doc.specs.declared.small_text.SmallText.TheVariants.{Short, Long}
+use Rattle.json_doc.specs.NameMaps.{entry_named, IsAbove, IsAboveNone, IsPut}
 use Rattle.json_doc.specs.declared.doc.Doc.{Doc}
 use Rattle.json_doc.proofs.Views.{Entry}
 
@@ -23,11 +26,11 @@ found_or : (b : Bool) (v : Doc) (rest : Option Doc) (d : Option Value) → optio
 found_or true v rest d e = refl
 found_or false v rest d e = e
 
-pub value-lookup : (name : Text) (es : List Entry) → option_map value (lookup (is_at (λ k. slice_cmp nat_cmp name (string_bytes k))) es) ≡ entry name (map member_value es)
+pub value-lookup : (name : Text) (es : List Entry) → option_map value (lookup (is_at (λ k. slice_cmp nat_cmp name (text_view k))) es) ≡ entry name (map member_value es)
 value-lookup name [] = refl
 value-lookup name (e ∷ es) =
-    found_or (is_eq (slice_cmp nat_cmp name (string_bytes e.0))) e.1 _ _ (value-lookup name es)
-    ∙ ap (λ b. cond b (Some (value e.1)) (entry name (map member_value es))) (is_eq-slice_cmp name (string_bytes e.0))
+    found_or (is_eq (slice_cmp nat_cmp name (text_view e.0))) e.1 _ _ (value-lookup name es)
+    ∙ ap (λ b. cond b (Some (value e.1)) (entry name (map member_value es))) (is_eq-slice_cmp name (text_view e.0))
 
 -- the name and the value of an entry that was found
 abbrev pub on_value : Text × Doc → Text × Value
@@ -38,14 +41,14 @@ named_value name None = refl
 named_value name (Some d) = refl
 
 pub entry_found : (name : Text) (es : List Entry) → option_map on_value (entry_named name es) ≡ option_map {U = Text × Value} (λ v. (name, v)) (entry name (map member_value es))
-entry_found name es = named_value name (lookup (is_at (λ k. slice_cmp nat_cmp name (string_bytes k))) es) ∙ ap (option_map {U = Text × Value} (λ v. (name, v))) (value-lookup name es)
+entry_found name es = named_value name (lookup (is_at (λ k. slice_cmp nat_cmp name (text_view k))) es) ∙ ap (option_map {U = Text × Value} (λ v. (name, v))) (value-lookup name es)
 
 unnamed : (name : Text) (found : Option Doc) → option_map (λ (p : Text × Value). p.1) (option_map on_value (option_map {U = Text × Doc} (λ v. (name, v)) found)) ≡ option_map value found
 unnamed name None = refl
 unnamed name (Some d) = refl
 
 pub value_found : (name : Text) (es : List Entry) → option_map (λ (p : Text × Value). p.1) (option_map on_value (entry_named name es)) ≡ entry name (map member_value es)
-value_found name es = unnamed name (lookup (is_at (λ k. slice_cmp nat_cmp name (string_bytes k))) es) ∙ value-lookup name es
+value_found name es = unnamed name (lookup (is_at (λ k. slice_cmp nat_cmp name (text_view k))) es) ∙ value-lookup name es
 
 -- ---- putting an entry in
 members-match_ordering : (o : Ordering) (a b c : List Entry) → map member_value (match_ordering o a b c) ≡ match_ordering o (map member_value a) (map member_value b) (map member_value c)
@@ -53,17 +56,20 @@ members-match_ordering Less a b c = refl
 members-match_ordering Equal a b c = refl
 members-match_ordering Greater a b c = refl
 
-pub put-insert_entry : (es : List Entry) (k : String Global) (d : Doc) → map member_value (insert_entry string_cmp es k d) ≡ members_with (string_bytes k) (value d) (map member_value es)
+pub put-insert_entry : (es : List Entry) (k : SmallText) (d : Doc) → map member_value (insert_entry text_cmp es k d) ≡ members_with (text_view k) (value d) (map member_value es)
 put-insert_entry [] k d = refl
-put-insert_entry (e ∷ es) k d = members-match_ordering (string_cmp k e.0) _ _ _ ∙ rw (put-insert_entry es k d)
+put-insert_entry (e ∷ es) k d = members-match_ordering (text_cmp k e.0) _ _ _ ∙ rw (put-insert_entry es k d)
+
+pub put_members : (name : Text) (d : Doc) (es fs : List Entry) → IsPut name d es fs → map member_value fs ≡ members_with name (value d) (map member_value es)
+put_members name d es fs p = ap (map member_value) p.put ∙ put-insert_entry es p.key d ∙ ap (λ n. members_with n (value d) (map member_value es)) p.is
 
 -- ---- the order of names
-above : (name : String Global) (es : List Entry) → AllByRecursion (λ k. string_cmp name k ≡ Less) (keys_of es)
-    → AllByRecursion (λ n. slice_cmp nat_cmp (string_bytes name) n ≡ Less) (map (λ m. m.0) (map member_value es))
+above : (name : SmallText) (es : List Entry) → AllByRecursion (λ k. text_cmp name k ≡ Less) (keys_of es)
+    → AllByRecursion (λ n. slice_cmp nat_cmp (text_view name) n ≡ Less) (map (λ m. m.0) (map member_value es))
 above name [] h = tt
 above name (e ∷ es) h = (h.0, above name es h.1)
 
-pub names_in_order : (es : List Entry) → IsStrictlySortedBy string_cmp (keys_of es) → HasNamesInOrder (map member_value es)
+pub names_in_order : (es : List Entry) → IsStrictlySortedBy text_cmp (keys_of es) → HasNamesInOrder (map member_value es)
 unfolding IsStrictlySortedBy
 names_in_order [] h = tt
 names_in_order (e ∷ es) h = (above e.0 es h.0, names_in_order es h.1)
@@ -80,11 +86,11 @@ below_is name other = ap is_lt (nat_list_cmp_total.antisymm name other) ∙ reve
 
 pub are_below : (name : Text) (es : List Entry) → IsAbove name es → AreBelow name (map member_value es)
 are_below name [] h = tt
-are_below name (e ∷ es) h = (below_is (string_bytes e.0) name ∙ ap is_gt h.0, are_below name es h.1)
+are_below name (e ∷ es) h = (below_is (text_view e.0) name ∙ ap is_gt h.0, are_below name es h.1)
 
 pub are_not_below : (name : Text) (es : List Entry) → IsAboveNone name es → AreNotBelow name (map member_value es)
 are_not_below name [] h = tt
-are_not_below name (e ∷ es) h = (below_is (string_bytes e.0) name ∙ h.0, are_not_below name es h.1)
+are_not_below name (e ∷ es) h = (below_is (text_view e.0) name ∙ h.0, are_not_below name es h.1)
 
 -- what is above no entry is above none of the first, nor of the others
 pub above_none_parts : (name : Text) (es fs : List Entry) → IsAboveNone name (es ++ fs) → IsAboveNone name es × IsAboveNone name fs
@@ -110,6 +116,10 @@ none_were_there f (x ∷ xs) e = cc
 pub string_is_utf8 : (s : String Global) → is_utf8 (string_bytes s) ≡ true
 string_is_utf8 s = is_utf8-from_IsUtf8 (string_bytes s) (IsUtf8-string_bytes s)
 
+pub text_is_utf8 : (t : SmallText) → is_utf8 (text_view t) ≡ true
+text_is_utf8 (Short s) = s.utf8
+text_is_utf8 (Long s) = string_is_utf8 s
+
 pub texts_as_names : (es : List Entry) → HasTextsAsNames (map member_value es)
 texts_as_names [] = tt
-texts_as_names (e ∷ es) = (string_is_utf8 e.0, texts_as_names es)
+texts_as_names (e ∷ es) = (text_is_utf8 e.0, texts_as_names es)

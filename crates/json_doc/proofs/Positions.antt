@@ -1,5 +1,5 @@
 -- Where a name stands among entries in order of names, and what an edit at that position does.
-use Rattle.std.proofs.Common.{◌≡◌, ℕ, zero, suc, ◌+◌, ◌-◌, ◌++◌, slice_get, slice_index_or, ◌<◌, ◌≤◌, List, [], ◌∷◌, length, take, drop, get_or, set, Option, Some, None, option_map, String, Global, Ordering, Less, Equal, Greater, string_bytes, string_cmp, nat_cmp, is_eq, true, refl, sym, ap, ◌∙◌, arith, add-one, subst}
+use Rattle.std.proofs.Common.{◌≡◌, ℕ, zero, suc, ◌+◌, ◌-◌, ◌++◌, slice_get, slice_index_or, ◌<◌, ◌≤◌, List, [], ◌∷◌, length, take, drop, get_or, set, Option, Some, None, option_map, Ordering, Less, Equal, Greater, nat_cmp, is_eq, true, refl, sym, ap, ◌∙◌, arith, add-one, subst}
 use Rattle.std.proofs.lemmas.Cmp.{nat_list_cmp_total}
 use Rattle.std.proofs.lemmas.List.{take_all}
 use Rattle.std.proofs.lemmas.Map.Text.{is_eq-slice_cmp}
@@ -13,6 +13,8 @@ use Rattle.std.specs.Map.{keys_of, lookup}
 use mathlib.Core.Bool.{true≢false}
 use Rattle.std.specs.Ordering.{ordering_reverse, is_gt}
 use Rattle.definitions.specs.Values.{Text}
+use Rattle.json_doc.specs.SmallTexts.{text_view, text_cmp}
+use Rattle.json_doc.specs.declared.small_text.SmallText.{SmallText}
 use Rattle.json_doc.specs.NameMaps.{order_to, entry_named, IsAbove, IsAboveNone, IsBelow, IsPositionOf, IsGapFor}
 
 abbrev compared : Text → Text → Ordering
@@ -34,22 +36,22 @@ same_above_lower name lower other h k =
     nat_list_cmp_total.congr name other lower k ∙ nat_list_cmp_total.antisymm other lower ∙ ap ordering_reverse h
 
 abbrev pub Entry : Type 0 → Type 0
-Entry T = String Global × T
+Entry T = SmallText × T
 
 abbrev pub InOrder : {T : Type 0} → List (Entry T) → Type 0
-InOrder es = IsStrictlySortedBy string_cmp (keys_of es)
+InOrder es = IsStrictlySortedBy text_cmp (keys_of es)
 
 module _ {T : Type 0} where
   -- the first of these is below the one at i
-  first_below : (first : String Global) (es : List (Entry T)) (i : ℕ) (d : Entry T) → i < length es → AllByRecursion (λ k. string_cmp first k ≡ Less) (keys_of es)
-      → compared (string_bytes first) (string_bytes (get_or es i d).0) ≡ Less
+  first_below : (first : SmallText) (es : List (Entry T)) (i : ℕ) (d : Entry T) → i < length es → AllByRecursion (λ k. text_cmp first k ≡ Less) (keys_of es)
+      → compared (text_view first) (text_view (get_or es i d).0) ≡ Less
   first_below first [] i d lt h = absurd (omega arith)
   first_below first (e ∷ es) zero d lt h = h.0
   first_below first (e ∷ es) (suc i) d lt h = first_below first es i d (omega arith) h.1
 
-  below_all : (name : Text) (first : String Global) (es : List (Entry T)) → compared name (string_bytes first) ≡ Less → AllByRecursion (λ k. string_cmp first k ≡ Less) (keys_of es) → IsBelow name es
+  below_all : (name : Text) (first : SmallText) (es : List (Entry T)) → compared name (text_view first) ≡ Less → AllByRecursion (λ k. text_cmp first k ≡ Less) (keys_of es) → IsBelow name es
   below_all name first [] l h = tt
-  below_all name first (e ∷ es) l h = (nat_list_cmp_total.trans name (string_bytes first) (string_bytes e.0) l h.0, below_all name first es l h.1)
+  below_all name first (e ∷ es) l h = (nat_list_cmp_total.trans name (text_view first) (text_view e.0) l h.0, below_all name first es l h.1)
 
   -- ---- a step of the search
   above_through : (name : Text) (es : List (Entry T)) (i : ℕ) (d : Entry T) → InOrder es → i < length es → order_to name (get_or es i d) ≡ Greater → IsAbove name (take (suc i) es)
@@ -80,9 +82,9 @@ module _ {T : Type 0} where
   none_above_below name [] h = tt
   none_above_below name (e ∷ es) h = (ap is_gt h.0, none_above_below name es h.1)
 
-  below_same : (name : Text) (first : String Global) (es : List (Entry T)) → compared name (string_bytes first) ≡ Equal → AllByRecursion (λ k. string_cmp first k ≡ Less) (keys_of es) → IsBelow name es
+  below_same : (name : Text) (first : SmallText) (es : List (Entry T)) → compared name (text_view first) ≡ Equal → AllByRecursion (λ k. text_cmp first k ≡ Less) (keys_of es) → IsBelow name es
   below_same name first [] same h = tt
-  below_same name first (e ∷ es) same h = (nat_list_cmp_total.congr name (string_bytes first) (string_bytes e.0) same ∙ h.0, below_same name first es same h.1)
+  below_same name first (e ∷ es) same h = (nat_list_cmp_total.congr name (text_view first) (text_view e.0) same ∙ h.0, below_same name first es same h.1)
 
   from_same : (name : Text) (es : List (Entry T)) (i : ℕ) → InOrder es → i < length es → ((d : Entry T) → order_to name (slice_index_or es i d) ≡ Equal) → IsAboveNone name (drop i es)
   unfolding IsStrictlySortedBy
@@ -102,7 +104,7 @@ module _ {T : Type 0} where
 
   -- ---- what is there
   abbrev named : Text → List (Entry T) → Option T
-  named name es = lookup (is_at (λ k. compared name (string_bytes k))) es
+  named name es = lookup (is_at (λ k. compared name (text_view k))) es
 
   none_below : (name : Text) (es : List (Entry T)) → IsBelow name es → named name es ≡ None
   none_below name [] h = refl
@@ -120,41 +122,41 @@ module _ {T : Type 0} where
   value_at_position name (e ∷ es) (suc i) d lt above h = rw above.0 (value_at_position name es i d (omega arith) above.1 h)
 
   -- ---- putting an entry in
-  pub put_at_gap : (name : String Global) (v : T) (es : List (Entry T)) (i : ℕ) → i ≤ length es → IsAbove (string_bytes name) (take i es) → IsBelow (string_bytes name) (drop i es)
-      → insert es i (name, v) ≡ insert_entry string_cmp es name v
+  pub put_at_gap : (name : SmallText) (v : T) (es : List (Entry T)) (i : ℕ) → i ≤ length es → IsAbove (text_view name) (take i es) → IsBelow (text_view name) (drop i es)
+      → insert es i (name, v) ≡ insert_entry text_cmp es name v
   put_at_gap name v [] zero le above below = refl
   put_at_gap name v [] (suc i) le above below = absurd (omega arith)
   put_at_gap name v (e ∷ es) zero le above below = rw below.0 refl
   put_at_gap name v (e ∷ es) (suc i) le above below = rw above.0 (ap (λ r. e ∷ r) (put_at_gap name v es i (omega arith) above.1 below))
 
-  pub put_at_position : (name : String Global) (v : T) (es : List (Entry T)) (i : ℕ) (d : Entry T) → i < length es → IsAbove (string_bytes name) (take i es) → order_to (string_bytes name) (get_or es i d) ≡ Equal
-      → set es i ((get_or es i d).0, v) ≡ insert_entry string_cmp es name v
+  pub put_at_position : (name : SmallText) (v : T) (es : List (Entry T)) (i : ℕ) (d : Entry T) → i < length es → IsAbove (text_view name) (take i es) → order_to (text_view name) (get_or es i d) ≡ Equal
+      → set es i ((get_or es i d).0, v) ≡ insert_entry text_cmp es name v
   put_at_position name v [] i d lt above h = absurd (omega arith)
   put_at_position name v (e ∷ es) zero d lt above h = rw h refl
   put_at_position name v (e ∷ es) (suc i) d lt above h = rw above.0 (ap (λ r. e ∷ r) (put_at_position name v es i d (omega arith) above.1 h))
 
-  still_below : (first name : String Global) (v : T) (es : List (Entry T)) → string_cmp first name ≡ Less → AllByRecursion (λ k. string_cmp first k ≡ Less) (keys_of es)
-      → AllByRecursion (λ k. string_cmp first k ≡ Less) (keys_of (insert_entry string_cmp es name v))
+  still_below : (first name : SmallText) (v : T) (es : List (Entry T)) → text_cmp first name ≡ Less → AllByRecursion (λ k. text_cmp first k ≡ Less) (keys_of es)
+      → AllByRecursion (λ k. text_cmp first k ≡ Less) (keys_of (insert_entry text_cmp es name v))
   still_below first name v [] l h = (l, tt)
-  still_below first name v (e ∷ es) l h = by_ordering (string_cmp name e.0)
+  still_below first name v (e ∷ es) l h = by_ordering (text_cmp name e.0)
       (λ o. rw o (l, h))
       (λ o. rw o h)
       (λ o. rw o (h.0, still_below first name v es l h.1))
 
-  pub in_order_put : (name : String Global) (v : T) (es : List (Entry T)) → InOrder es → InOrder (insert_entry string_cmp es name v)
+  pub in_order_put : (name : SmallText) (v : T) (es : List (Entry T)) → InOrder es → InOrder (insert_entry text_cmp es name v)
   unfolding IsStrictlySortedBy
   in_order_put name v [] order = (tt, tt)
-  in_order_put name v (e ∷ es) order = by_ordering (string_cmp name e.0)
+  in_order_put name v (e ∷ es) order = by_ordering (text_cmp name e.0)
       (λ o. rw o ((o, all_after e.0 es o order.0), order))
       (λ o. rw o order)
-      (λ o. rw o (still_below e.0 name v es (nat_list_cmp_total.antisymm (string_bytes e.0) (string_bytes name) ∙ ap ordering_reverse o) order.0, in_order_put name v es order.1))
+      (λ o. rw o (still_below e.0 name v es (nat_list_cmp_total.antisymm (text_view e.0) (text_view name) ∙ ap ordering_reverse o) order.0, in_order_put name v es order.1))
     where
-      all_after : (first : String Global) (rest : List (Entry T)) → string_cmp name first ≡ Less → AllByRecursion (λ k. string_cmp first k ≡ Less) (keys_of rest) → AllByRecursion (λ k. string_cmp name k ≡ Less) (keys_of rest)
+      all_after : (first : SmallText) (rest : List (Entry T)) → text_cmp name first ≡ Less → AllByRecursion (λ k. text_cmp first k ≡ Less) (keys_of rest) → AllByRecursion (λ k. text_cmp name k ≡ Less) (keys_of rest)
       all_after first [] l h = tt
-      all_after first (f ∷ rest) l h = (nat_list_cmp_total.trans (string_bytes name) (string_bytes first) (string_bytes f.0) l h.0, all_after first rest l h.1)
+      all_after first (f ∷ rest) l h = (nat_list_cmp_total.trans (text_view name) (text_view first) (text_view f.0) l h.0, all_after first rest l h.1)
 
 -- ---- what a comparison told
-pub told : {T : Type 0} (name text : Text) (at : Entry T) (r : Ordering) → text ≡ string_bytes at.0 → r ≡ compared name text → order_to name at ≡ r
+pub told : {T : Type 0} (name text : Text) (at : Entry T) (r : Ordering) → text ≡ text_view at.0 → r ≡ compared name text → order_to name at ≡ r
 told name text at r is answer = ap (compared name) (sym is) ∙ sym answer
 
 greater : (r : Ordering) → is_gt r ≡ true → r ≡ Greater
@@ -163,30 +165,35 @@ greater Equal e = absurd (true≢false (sym e))
 greater Greater e = refl
 
 -- ---- what a search found
-pub key_is : (name : Text) (k : String Global) → compared name (string_bytes k) ≡ Equal → string_bytes k ≡ name
-key_is name k e = sym ((bytes_eq-Decides name (string_bytes k)).0 (sym (is_eq-slice_cmp name (string_bytes k)) ∙ ap is_eq e))
+pub key_is : (name : Text) (k : SmallText) → compared name (text_view k) ≡ Equal → text_view k ≡ name
+key_is name k e = sym ((bytes_eq-Decides name (text_view k)).0 (sym (is_eq-slice_cmp name (text_view k)) ∙ ap is_eq e))
 
 module _ {T : Type 0} where
   pub shown_at_position : (name : Text) (es whole : List (Entry T)) (i : ℕ) (e : Entry T) → es ≡ whole → e ≡ get_or es i e → IsPositionOf name es i
-      → Some (string_bytes e.0, e.1) ≡ entry_named name whole
+      → Some (text_view e.0, e.1) ≡ entry_named name whole
   shown_at_position name es whole i e all at there =
       let same = there.same e in
-      ap (λ (f : Entry T). Some (string_bytes f.0, f.1)) at ∙ ap (λ (n : Text). Some (n, (get_or es i e).1)) (key_is name (get_or es i e).0 same)
+      ap (λ (f : Entry T). Some (text_view f.0, f.1)) at ∙ ap (λ (n : Text). Some (n, (get_or es i e).1)) (key_is name (get_or es i e).0 same)
       ∙ ap (option_map (λ v. (name, v))) (sym (value_at_position name es i e there.within there.above same)) ∙ ap (entry_named name) all
 
   pub none_shown : (name : Text) (es whole : List (Entry T)) (i : ℕ) → es ≡ whole → IsGapFor name es i → None ≡ entry_named name whole
   none_shown name es whole i all gap = ap (option_map (λ v. (name, v))) (sym (none_at_gap name es i gap.above gap.below)) ∙ ap (entry_named name) all
 
-  pub put_found : (text : Text) (name : String Global) (v : T) (seen es : List (Entry T)) (i : ℕ) (e : Entry T) → text ≡ string_bytes name → seen ≡ es → e ≡ get_or es i e → IsPositionOf text seen i
-      → set es i (e.0, v) ≡ insert_entry string_cmp es name v
+  pub key_found : (name : Text) (seen es : List (Entry T)) (i : ℕ) (e : Entry T) → seen ≡ es → e ≡ get_or es i e → IsPositionOf name seen i → text_view e.0 ≡ name
+  key_found name seen es i e all at there =
+      let h : IsPositionOf name es i = subst (λ l. IsPositionOf name l i) all there in
+      ap (λ (f : Entry T). text_view f.0) at ∙ key_is name (get_or es i e).0 (h.same e)
+
+  pub put_found : (text : Text) (name : SmallText) (v : T) (seen es : List (Entry T)) (i : ℕ) (e : Entry T) → text ≡ text_view name → seen ≡ es → e ≡ get_or es i e → IsPositionOf text seen i
+      → set es i (e.0, v) ≡ insert_entry text_cmp es name v
   put_found text name v seen es i e is all at there =
-      let h : IsPositionOf (string_bytes name) es i = subst (λ n. IsPositionOf n es i) is (subst (λ l. IsPositionOf text l i) all there) in
+      let h : IsPositionOf (text_view name) es i = subst (λ n. IsPositionOf n es i) is (subst (λ l. IsPositionOf text l i) all there) in
       ap (λ (f : Entry T). set es i (f.0, v)) at ∙ put_at_position name v es i e h.within h.above (h.same e)
 
-  pub put_missing : (text : Text) (name : String Global) (v : T) (seen es : List (Entry T)) (i : ℕ) → text ≡ string_bytes name → seen ≡ es → IsGapFor text seen i
-      → insert es i (name, v) ≡ insert_entry string_cmp es name v
+  pub put_missing : (text : Text) (name : SmallText) (v : T) (seen es : List (Entry T)) (i : ℕ) → text ≡ text_view name → seen ≡ es → IsGapFor text seen i
+      → insert es i (name, v) ≡ insert_entry text_cmp es name v
   put_missing text name v seen es i is all gap =
-      let h : IsGapFor (string_bytes name) es i = subst (λ n. IsGapFor n es i) is (subst (λ l. IsGapFor text l i) all gap) in
+      let h : IsGapFor (text_view name) es i = subst (λ n. IsGapFor n es i) is (subst (λ l. IsGapFor text l i) all gap) in
       put_at_gap name v es i h.within h.above h.below
 
   -- ---- a name above all
@@ -197,7 +204,7 @@ module _ {T : Type 0} where
       let is : get_or (e ∷ es) i last ≡ last = get_or_from_slice_get (e ∷ es) i last last (sym at) in
       subst (IsAbove name) (take_all (i + 1) (e ∷ es) (omega arith)) (above_next name (e ∷ es) i last order (omega arith) (ap (order_to name) is ∙ h))
 
-  pub above_last : (name text : Text) (es : List (Entry T)) (last : Entry T) (r : Ordering) → InOrder es → Some last ≡ slice_get es (length es - 1) → text ≡ string_bytes last.0 → r ≡ compared name text
+  pub above_last : (name text : Text) (es : List (Entry T)) (last : Entry T) (r : Ordering) → InOrder es → Some last ≡ slice_get es (length es - 1) → text ≡ text_view last.0 → r ≡ compared name text
       → is_gt r ≡ true → IsAbove name es
   above_last name text es last r order at is answer holds = above_all name es last order at (told name text last r is answer ∙ greater r holds)
 
@@ -208,18 +215,18 @@ module _ {T : Type 0} where
       none_is_some : {a : Entry T} → None ≡ Some a → ⊥
       none_is_some h = cc
 
-  pub put_above : (name : String Global) (v : T) (es : List (Entry T)) → IsAbove (string_bytes name) es → es ++ (name, v) ∷ [] ≡ insert_entry string_cmp es name v
+  pub put_above : (name : SmallText) (v : T) (es : List (Entry T)) → IsAbove (text_view name) es → es ++ (name, v) ∷ [] ≡ insert_entry text_cmp es name v
   put_above name v [] h = refl
   put_above name v (e ∷ es) h = rw h.0 (ap (λ r. e ∷ r) (put_above name v es h.1))
 
   -- ---- entries that come in order
-  above_first : (first : String Global) (es : List (Entry T)) (e : Entry T) (rest : List (Entry T)) → AllByRecursion (λ k. string_cmp first k ≡ Less) (keys_of (es ++ e ∷ rest)) → string_cmp first e.0 ≡ Less
+  above_first : (first : SmallText) (es : List (Entry T)) (e : Entry T) (rest : List (Entry T)) → AllByRecursion (λ k. text_cmp first k ≡ Less) (keys_of (es ++ e ∷ rest)) → text_cmp first e.0 ≡ Less
   above_first first [] e rest h = h.0
   above_first first (f ∷ es) e rest h = above_first first es e rest h.1
 
-  pub put_next : (done : List (Entry T)) (e : Entry T) (rest : List (Entry T)) → InOrder (done ++ e ∷ rest) → insert_entry string_cmp done e.0 e.1 ≡ done ++ e ∷ []
+  pub put_next : (done : List (Entry T)) (e : Entry T) (rest : List (Entry T)) → InOrder (done ++ e ∷ rest) → insert_entry text_cmp done e.0 e.1 ≡ done ++ e ∷ []
   unfolding IsStrictlySortedBy
   put_next [] e rest order = refl
   put_next (d ∷ done) e rest order =
-      let above : string_cmp e.0 d.0 ≡ Greater = nat_list_cmp_total.antisymm (string_bytes e.0) (string_bytes d.0) ∙ ap ordering_reverse (above_first d.0 done e rest order.0) in
+      let above : text_cmp e.0 d.0 ≡ Greater = nat_list_cmp_total.antisymm (text_view e.0) (text_view d.0) ∙ ap ordering_reverse (above_first d.0 done e rest order.0) in
       rw above (ap (λ r. d ∷ r) (put_next done e rest order.1))

@@ -7,20 +7,26 @@ use Rattle.definitions.specs.Assertions.{is_unique}
 use Rattle.lemmas.proofs.Members.{to_members-members_list}
 use Rattle.json_doc.specs.Docs.{value, value_step, members_step, object_members, members_view, members_value}
 use Rattle.json_doc.specs.Members.{member_value}
-use Rattle.json_doc.specs.declared.doc.Doc.{Doc, Str, List as DocList, Dict, the_lemmas}
+use Rattle.json_doc.specs.SmallTexts.{short_text}
+use Rattle.json_doc.specs.declared.small_text.SmallText.{SmallText}
+use Rattle.json_doc.specs.declared.short_text.ShortText.{ShortText}
+use Rattle.json_doc.specs.declared.doc.Doc.{Doc, Str, Short, List as DocList, Dict, the_lemmas}
 use Rattle.json_doc.specs.declared.doc.Doc.TheViews.{roll-Members, out-Members}
 use Rattle.json_doc.specs.declared.doc.Doc.TheFolds.{fold-roll-Members, fold_out-Members}
 use Rattle.json_doc.specs.declared.doc.Doc.TheOpen.{Members-F}
 use Rattle.json_doc.specs.declared.members.Members.{Members}
 
 abbrev pub Entry : Type 0
-Entry = String Global × Doc
+Entry = SmallText × Doc
 
 abbrev pub entries_view : List Entry → json.Members
 entries_view es = object_members (map (λ e. (e.0, value e.1)) es)
 
 pub value-Str : (s : String Global) → value (Str s) ≡ string (string_bytes s)
 value-Str s = search (rules, the_lemmas)
+
+pub value-Short : (s : ShortText) → value (Short s) ≡ string (short_text s)
+value-Short s = search (rules, the_lemmas)
 
 pub value-List : (v : Vec Doc Global) → value (DocList v) ≡ array (to_elements (map value v.items))
 value-List v = search (rules, the_lemmas)

@@ -2,6 +2,7 @@ pub mod Docs
 pub mod Escapes
 pub mod Indexes
 pub mod Members
+pub mod SmallTexts
 pub mod Kinds
 pub mod Wholes
 pub mod Tokens

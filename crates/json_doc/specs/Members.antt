@@ -1,8 +1,7 @@
 -- Members as a list of names and values, and what an iterator over them has left.
-use Rattle.std.specs.Prelude.{◌≡◌, Bool, true, false, List, [], ◌∷◌, map, String, string_bytes}
+use Rattle.std.specs.Prelude.{◌≡◌, Bool, true, false, List, [], ◌∷◌, map}
 use Rattle.std.specs.Borrow.{Bor}
 use Rattle.std.specs.Cmp.Lexicographic.{slice_cmp}
-use Rattle.std.specs.Global.{Global}
 use Rattle.std.specs.List.{AllByRecursion}
 use Rattle.std.specs.List.Sorted.{IsStrictlySortedBy}
 use Rattle.std.specs.Ordering.{is_lt, nat_cmp, match_ordering}
@@ -12,6 +11,8 @@ use Rattle.definitions.specs.Values.{Text, Value}
 use Rattle.json_doc.specs.Docs.{value}
 use Rattle.json_doc.specs.declared.doc.Doc.{Doc}
 use Rattle.json_doc.specs.declared.members.MembersIter.{MembersIter}
+use Rattle.json_doc.specs.declared.small_text.SmallText.{SmallText}
+use Rattle.json_doc.specs.SmallTexts.{text_view}
 
 -- the members, with the value at this name: it takes the place of the one there, or goes to its place in byte order
 abbrev pub members_with : Text → Value → List (Text × Value) → List (Text × Value)
@@ -39,8 +40,8 @@ abbrev pub AreNotBelow : Text → List (Text × Value) → Type 0
 AreNotBelow name ms = AllByRecursion (λ m. is_below m.0 name ≡ false) ms
 
 -- the name and the value of an entry of the map
-abbrev pub member_value : String Global × Doc → Text × Value
-member_value e = (string_bytes e.0, value e.1)
+abbrev pub member_value : SmallText × Doc → Text × Value
+member_value e = (text_view e.0, value e.1)
 
 -- the members that the iterator has left
 unfoldable pub members_left : MembersIter → List (Text × Value)

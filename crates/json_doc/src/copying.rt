@@ -27,6 +27,7 @@ pub fn copy(alloc: Global, doc: &Doc) -> Result<Doc, Fault>
             Ok(Doc::Int(*number))
         }
         Doc::Str(text) => Ok(Doc::Str(String::from_str(alloc, text.as_str())?)),
+        Doc::Short(text) => Ok(Doc::Short(*text)),
         Doc::List(items) => Ok(Doc::List(copy_items(alloc, items.as_slice())?)),
         Doc::Dict(members) => Ok(Doc::Dict(copy_members(alloc, members)?)),
     }
@@ -54,8 +55,7 @@ fn copy_members(alloc: Global, members: &Members) -> Result<Members, Fault>
 {
     let mut copies = Members::new(alloc);
     for (name, member) in members.iter() {
-        let name = String::from_str(alloc, name)?;
-        copies.insert(name, copy(alloc, member)?)?;
+        copies.insert(alloc, name, copy(alloc, member)?)?;
     }
     Ok(copies)
 }

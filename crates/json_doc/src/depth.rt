@@ -25,6 +25,7 @@ pub fn nesting(doc: &Doc) -> usize
             0
         }
         Doc::Str(_) => 0,
+        Doc::Short(_) => 0,
         Doc::List(items) => nesting_of_items(items.as_slice()).saturating_add(1),
         Doc::Dict(members) => nesting_of_members(members).saturating_add(1),
     }

@@ -1,12 +1,14 @@
 //! JSON values.
 
-ghost use Rattle.std.specs.Prelude.{◌≡◌, option_map, map, string_bytes};
-ghost use Rattle.definitions.specs.Values.{get, as_string, text_at};
+ghost use Rattle.std.specs.Prelude.{◌≡◌, IfOk, option_map, map, string_bytes};
+ghost use Rattle.definitions.specs.Values.{get, as_string, string, text_at};
 ghost use Rattle.json_doc.specs.Docs.{value, members_value};
 ghost use Rattle.json_doc.specs.Kinds.{as_boolean, as_integer, as_elements, as_members};
 
 use crate::members::Members;
+use crate::short_text::ShortText;
 use crate::whole::Whole;
+use std::alloc::{AllocError, Global};
 
 /// A JSON value (RFC 8259), whose numbers are whole.
 ///
@@ -22,6 +24,8 @@ pub enum Doc {
     Int(Whole),
     /// A string.
     Str(String),
+    /// A string of at most 24 bytes, which stand in the value itself.
+    Short(ShortText),
     /// An array.
     List(Vec<Doc>),
     /// An object.
@@ -32,6 +36,27 @@ pub enum Doc {
 const _: () = prove!(size_of::<Doc>() == 32);
 
 impl Doc {
+    /// The text as a string. The only error is want of memory, which no text of at most 24 bytes takes.
+    #[inline(always)]
+    pub fn string(alloc: Global, text: &str) -> Result<Doc, AllocError>
+        ensures { IfOk result (λ d. value d ≡ string text.now) }
+    {
+        match ShortText::of(text) {
+            Some(short) => Ok(Doc::Short(short)),
+            None => Ok(Doc::Str(String::from_str(alloc, text)?)),
+        }
+    }
+
+    /// The text of a `String`, whose memory is given back where the text has at most 24 bytes.
+    pub fn of_string(text: String) -> Doc
+        ensures { value result ≡ string (string_bytes text) }
+    {
+        match ShortText::of(text.as_str()) {
+            Some(short) => Doc::Short(short),
+            None => Doc::Str(text),
+        }
+    }
+
     /// The boolean, if the value is one.
     pub fn as_bool(&self) -> Option<bool>
         ensures { result ≡ as_boolean (value self.now) }
@@ -58,6 +83,7 @@ impl Doc {
     {
         match self {
             Doc::Str(text) => Some(text.as_str()),
+            Doc::Short(text) => Some(text.as_str()),
             _ => None,
         }
     }

@@ -1,13 +1,15 @@
 //! Members of an object as they are read, in any order of names.
 
-ghost use Rattle.std.specs.Prelude.{◌≡◌, [], IfOk, OnOk, string_bytes};
+ghost use Rattle.std.specs.Prelude.{◌≡◌, [], IfOk, OnOk};
 ghost use Rattle.json_doc.specs.Docs.{value, members_value};
 ghost use Rattle.json_doc.specs.Gathers.{gathered_view};
 ghost use Rattle.json_doc.specs.Members.{members_with};
+ghost use Rattle.json_doc.specs.NameMaps.{IsPut};
 
 use crate::doc::Doc;
 use crate::members::Members;
 use crate::name_map::NameMap;
+use crate::small_text::SmallText;
 use std::alloc::{AllocError, Global};
 use std::collections::BTreeMap;
 use std::mem;
@@ -24,7 +26,7 @@ pub(crate) enum Gathered {
     /// So few, or so much in order, that each goes to its place at little cost.
     Few(NameMap<Doc>),
     /// Any number in any order.
-    Many(BTreeMap<String, Doc>),
+    Many(BTreeMap<SmallText, Doc>),
 }
 
 impl Gathered {
@@ -38,21 +40,15 @@ impl Gathered {
     /// Puts a member in, in place of the one of the same name, if there is one. The time grows with the logarithm of
     /// the number of members. The only error is want of memory.
     #[inline(always)]
-    pub fn insert(&mut self, alloc: Global, name: String, member: Doc) -> Result<(), AllocError>
+    pub fn insert(&mut self, alloc: Global, name: &str, member: Doc) -> Result<(), AllocError>
         ensures { OnOk result
-            (gathered_view self.new ≡ members_with (string_bytes name) (value member)
+            (gathered_view self.new ≡ members_with name.now (value member)
             (gathered_view self.old)) }
     {
-        self.make_room(alloc, name.as_str())?;
+        self.make_room(alloc, name)?;
         match self {
-            Gathered::Few(few) => {
-                few.insert(name, member)?;
-                Ok(())
-            }
-            Gathered::Many(many) => {
-                drop(many.insert(name, member)?);
-                Ok(())
-            }
+            Gathered::Few(few) => few.insert(alloc, name, member),
+            Gathered::Many(many) => put_in_map(alloc, many, name, member),
         }
     }
 
@@ -106,4 +102,20 @@ impl Gathered {
             Gathered::Many(many) => Ok(Members::of(NameMap::from_map(alloc, many)?)),
         }
     }
+}
+
+// Puts a member into a map, in place of the one of the same name, if there is one.
+#[cold]
+#[inline(never)]
+fn put_in_map(
+    alloc: Global,
+    many: &mut BTreeMap<SmallText, Doc>,
+    name: &str,
+    member: Doc,
+) -> Result<(), AllocError>
+    ensures { OnOk result (IsPut name.now member many.old.entries many.new.entries) }
+{
+    let name = SmallText::from_str(alloc, name)?;
+    drop(many.insert(name, member)?);
+    Ok(())
 }

@@ -1,6 +1,6 @@
 //! The members of a JSON object.
 
-ghost use Rattle.std.specs.Prelude.{◌≡◌, ◌↔◌, [], ◌∷◌, ◌++◌, IsTrue, OnOk, OnErr, IfErr, length, map, option_map, string_bytes};
+ghost use Rattle.std.specs.Prelude.{◌≡◌, ◌↔◌, [], ◌∷◌, ◌++◌, IsTrue, OnOk, OnErr, IfErr, length, map, option_map};
 ghost use Rattle.std.specs.Iterator.{YieldsFirstBy, item_count};
 ghost use Rattle.definitions.specs.Values.{entry};
 ghost use Rattle.json_doc.specs.Docs.{value, members_value};
@@ -8,6 +8,7 @@ ghost use Rattle.json_doc.specs.Members.{members_with, member_view, member_value
 
 use crate::doc::Doc;
 use crate::name_map::{NameMap, split_at_name};
+use crate::small_text::SmallText;
 use faults::Fault;
 use std::alloc::Global;
 use std::slice;
@@ -103,14 +104,14 @@ impl Members {
 
     /// Puts a member in, in place of the one of the same name, if there is one: the last of repeated names wins
     /// (RFC 8259, section 4). The only error is want of memory, and then the members stay as they were.
-    pub fn insert(&mut self, name: String, member: Doc) -> Result<(), Fault>
+    pub fn insert(&mut self, alloc: Global, name: &str, member: Doc) -> Result<(), Fault>
         ensures ok { OnOk result
-            (members_value self.new ≡ members_with (string_bytes name) (value member)
+            (members_value self.new ≡ members_with name.now (value member)
             (members_value self.old)) }
         ensures unchanged { OnErr result (members_value self.new ≡ members_value self.old) }
         ensures room { IfErr result (λ f. f ≡ Fault.NoRoom) }
     {
-        self.entries.insert(name, member)?;
+        self.entries.insert(alloc, name, member)?;
         Ok(())
     }
 
@@ -127,13 +128,13 @@ impl Members {
 /// Contracts see them as a list of names and values, by `members_left`.
 #[derive(Drop)]
 pub struct MembersIter<'a> {
-    entries: slice::Iter<'a, (String, Doc)>,
+    entries: slice::Iter<'a, (SmallText, Doc)>,
 }
 
 impl<'a> MembersIter<'a> {
     // These entries as members.
     #[tactic(auto, unfolding(crate::specs::Members::members_left))]
-    fn of(entries: &'a [(String, Doc)]) -> MembersIter<'a>
+    fn of(entries: &'a [(SmallText, Doc)]) -> MembersIter<'a>
         ensures { members_left result ≡ map member_value entries.now }
     {
         MembersIter {

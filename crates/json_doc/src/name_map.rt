@@ -1,12 +1,13 @@
 //! Values by name, in one list.
 
-ghost use Rattle.std.specs.Prelude.{◌≡◌, ◌<◌, ◌↔◌, [], ◌++◌, IsTrue, length, IfOk, IfErr, OnOk, OnErr, option_map, string_bytes};
-ghost use Rattle.std.specs.BTreeMap.{insert_entry};
+ghost use Rattle.std.specs.Prelude.{◌≡◌, ◌<◌, ◌↔◌, [], ◌++◌, IsTrue, length, IfOk, IfErr, OnOk, OnErr, option_map};
 ghost use Rattle.std.specs.List.Sorted.{IsStrictlySortedBy};
 ghost use Rattle.std.specs.Map.{keys_of};
-ghost use Rattle.std.specs.String.{string_cmp};
-ghost use Rattle.json_doc.specs.NameMaps.{entry_view, entry_named, IsAbove, IsAboveNone, IsPositionOf, IsGapFor};
+ghost use Rattle.json_doc.specs.SmallTexts.{text_view, text_cmp};
+ghost use Rattle.json_doc.specs.NameMaps.{entry_view, entry_named, IsAbove, IsAboveNone, IsPositionOf, IsGapFor, IsPut};
 
+use crate::name_order::compare_names;
+use crate::small_text::SmallText;
 use std::alloc::{AllocError, Global};
 use std::cmp::Ordering;
 use std::collections::BTreeMap;
@@ -17,24 +18,24 @@ use std::marker::Model;
 /// Contracts see the list of the names and values.
 #[derive(Debug, Drop)]
 pub(crate) struct NameMap<T> {
-    entries: Vec<(String, T)>,
+    entries: Vec<(SmallText, T)>,
 }
 
 impl<T> Model for NameMap<T> {
-    ghost use Rattle.std.specs.Prelude.{List, String};
-    ghost use Rattle.std.specs.Global.{Global};
+    ghost use Rattle.std.specs.Prelude.{List};
     ghost use Rattle.std.specs.List.Sorted.{IsStrictlySortedBy};
     ghost use Rattle.std.specs.Map.{keys_of};
-    ghost use Rattle.std.specs.String.{string_cmp};
+    ghost use Rattle.json_doc.specs.SmallTexts.{text_cmp};
+    ghost use Rattle.json_doc.specs.declared.small_text.SmallText.{SmallText};
     ghost use Rattle.json_doc.specs.NameMaps.{name_map_code};
 
-    ghost Value = { List (String Global × T) };
+    ghost Value = { List (SmallText × T) };
 
     ghost coded = { name_map_code T.code };
 
     ghost view = { λ m. m.entries.items };
 
-    ghost invariant = { λ m. IsStrictlySortedBy string_cmp (keys_of m.entries.items) };
+    ghost invariant = { λ m. IsStrictlySortedBy text_cmp (keys_of m.entries.items) };
 }
 
 impl<T> NameMap<T> {
@@ -62,15 +63,15 @@ impl<T> NameMap<T> {
     }
 
     /// The names and values.
-    pub fn as_slice(&self) -> &[(String, T)]
+    pub fn as_slice(&self) -> &[(SmallText, T)]
         ensures all { result.now ≡ self.now }
-        ensures ordered { IsStrictlySortedBy string_cmp (keys_of self.now) }
+        ensures ordered { IsStrictlySortedBy text_cmp (keys_of self.now) }
     {
         self.entries.as_slice()
     }
 
     /// The value of this name, with the name as it stands here. The time grows with the logarithm of their number.
-    pub fn get_key_value(&self, name: &str) -> Option<&(String, T)>
+    pub fn get_key_value(&self, name: &str) -> Option<&(SmallText, T)>
         ensures { option_map entry_view result ≡ entry_named name.now self.now }
     {
         let entries = self.as_slice();
@@ -91,7 +92,7 @@ impl<T> NameMap<T> {
 
 impl<T: Drop> NameMap<T> {
     /// The same as a map that takes more names in any order. The only error is want of memory.
-    pub fn into_map(self, alloc: Global) -> Result<BTreeMap<String, T>, AllocError>
+    pub fn into_map(self, alloc: Global) -> Result<BTreeMap<SmallText, T>, AllocError>
         ensures { IfOk result (λ m. m.entries ≡ self) }
     {
         let NameMap { entries } = self;
@@ -103,7 +104,7 @@ impl<T: Drop> NameMap<T> {
     }
 
     /// The values of a map. The only error is want of memory.
-    pub fn from_map(alloc: Global, map: BTreeMap<String, T>) -> Result<NameMap<T>, AllocError>
+    pub fn from_map(alloc: Global, map: BTreeMap<SmallText, T>) -> Result<NameMap<T>, AllocError>
         ensures { IfOk result (λ m. m ≡ map.entries) }
     {
         let mut entries = Vec::with_capacity(alloc, map.len())?;
@@ -116,40 +117,42 @@ impl<T: Drop> NameMap<T> {
     /// Puts a value in, in place of the one of the same name, if there is one. The only error is want of memory, and
     /// then the map stays as it was.
     #[inline(always)]
-    pub fn insert(&mut self, name: String, value: T) -> Result<(), AllocError>
-        ensures ok { OnOk result (self.new ≡ insert_entry string_cmp self.old name value) }
+    pub fn insert(&mut self, alloc: Global, name: &str, value: T) -> Result<(), AllocError>
+        ensures ok { OnOk result (IsPut name.now value self.old self.new) }
         ensures unchanged { OnErr result (self.new ≡ self.old) }
     {
-        if self.ends_before(name.as_str()) {
-            return self.push(name, value);
+        if self.ends_before(name) {
+            return self.push(alloc, name, value);
         }
-        self.put(name, value)
+        self.put(alloc, name, value)
     }
 
     // The same, where the name comes after all that are here.
     #[inline(always)]
-    fn push(&mut self, name: String, value: T) -> Result<(), AllocError>
-        requires { IsAbove (string_bytes name) self.old }
-        ensures ok { OnOk result (self.new ≡ insert_entry string_cmp self.old name value) }
+    fn push(&mut self, alloc: Global, name: &str, value: T) -> Result<(), AllocError>
+        requires { IsAbove name.now self.old }
+        ensures ok { OnOk result (IsPut name.now value self.old self.new) }
         ensures unchanged { OnErr result (self.new ≡ self.old) }
     {
-        self.entries.push((name, value))?;
+        self.entries
+            .push((SmallText::from_str(alloc, name)?, value))?;
         Ok(())
     }
 
     // The same, wherever the name goes.
     #[inline(never)]
-    fn put(&mut self, name: String, value: T) -> Result<(), AllocError>
-        ensures ok { OnOk result (self.new ≡ insert_entry string_cmp self.old name value) }
+    fn put(&mut self, alloc: Global, name: &str, value: T) -> Result<(), AllocError>
+        ensures ok { OnOk result (IsPut name.now value self.old self.new) }
         ensures unchanged { OnErr result (self.new ≡ self.old) }
     {
-        match position_of(self.entries.as_slice(), name.as_str()) {
+        match position_of(self.entries.as_slice(), name) {
             Ok(position) => {
                 self.entries[position].1 = value;
                 Ok(())
             }
             Err(gap) => {
-                self.entries.insert(gap, (name, value))?;
+                self.entries
+                    .insert(gap, (SmallText::from_str(alloc, name)?, value))?;
                 Ok(())
             }
         }
@@ -158,14 +161,14 @@ impl<T: Drop> NameMap<T> {
 
 /// The entries whose names are below this one, and the others. The time grows with the logarithm of their number.
 pub(crate) fn split_at_name<'a, T>(
-    entries: &'a [(String, T)],
+    entries: &'a [(SmallText, T)],
     name: &str,
-) -> (&'a [(String, T)], &'a [(String, T)])
-    requires { IsStrictlySortedBy string_cmp (keys_of entries.now) }
+) -> (&'a [(SmallText, T)], &'a [(SmallText, T)])
+    requires { IsStrictlySortedBy text_cmp (keys_of entries.now) }
     ensures all { result.0.now ++ result.1.now ≡ entries.now }
     ensures below { IsAbove name.now result.0.now }
     ensures others { IsAboveNone name.now result.1.now }
-    ensures ordered { IsStrictlySortedBy string_cmp (keys_of result.1.now) }
+    ensures ordered { IsStrictlySortedBy text_cmp (keys_of result.1.now) }
 {
     match position_of(entries, name) {
         Ok(position) => entries.split_at(position),
@@ -174,19 +177,19 @@ pub(crate) fn split_at_name<'a, T>(
 }
 
 #[inline(always)]
-fn is_above_all<T>(entries: &[(String, T)], name: &str) -> bool
-    requires { IsStrictlySortedBy string_cmp (keys_of entries.now) }
+fn is_above_all<T>(entries: &[(SmallText, T)], name: &str) -> bool
+    requires { IsStrictlySortedBy text_cmp (keys_of entries.now) }
     ensures { IsTrue result → IsAbove name.now entries.now }
 {
     match entries.last() {
-        Some((last, _)) => name.cmp(last.as_str()).is_gt(),
+        Some((last, _)) => compare_names(name, last.as_str()).is_gt(),
         None => true,
     }
 }
 
 // Where the name stands, or where it would go.
-fn position_of<T>(entries: &[(String, T)], name: &str) -> Result<usize, usize>
-    requires { IsStrictlySortedBy string_cmp (keys_of entries.now) }
+fn position_of<T>(entries: &[(SmallText, T)], name: &str) -> Result<usize, usize>
+    requires { IsStrictlySortedBy text_cmp (keys_of entries.now) }
     ensures found { IfOk result (IsPositionOf name.now entries.now) }
     ensures gap { IfErr result (IsGapFor name.now entries.now) }
 {
@@ -194,7 +197,7 @@ fn position_of<T>(entries: &[(String, T)], name: &str) -> Result<usize, usize>
     let mut high = entries.len();
     while low < high {
         let middle = low + (high - low) / 2;
-        match name.cmp(entries[middle].0.as_str()) {
+        match compare_names(name, entries[middle].0.as_str()) {
             Ordering::Less => high = middle,
             Ordering::Equal => return Ok(middle),
             Ordering::Greater => low = middle + 1,

@@ -75,7 +75,7 @@ fn read_by_value(alloc: Global, text: &str) -> Result<Doc, Fault>
     }
 }
 
-// The value, with its texts moved and not copied.
+// The value, with its strings moved and not copied.
 #[cycle(read)]
 fn doc_of(alloc: Global, read: Value) -> Result<Doc, Fault>
     ensures ok { IfOk result (λ d. value_of (view read) ≡ Some (value d)) }
@@ -89,7 +89,7 @@ fn doc_of(alloc: Global, read: Value) -> Result<Doc, Fault>
             Some(whole) => Ok(Doc::Int(whole)),
             None => Err(Fault::BadNumber),
         },
-        Value::String(text) => Ok(Doc::Str(text)),
+        Value::String(text) => Ok(Doc::of_string(text)),
         Value::Array(items) => Ok(Doc::List(docs_of(alloc, items)?)),
         Value::Object(members) => Ok(Doc::Dict(dict_of(alloc, members)?)),
     }
@@ -120,7 +120,7 @@ fn dict_of(alloc: Global, members: Map<String, Value>) -> Result<Members, Fault>
 {
     let mut dict = Members::new(alloc);
     for (name, member) in members {
-        dict.insert(name, doc_of(alloc, member)?)?;
+        dict.insert(alloc, name.as_str(), doc_of(alloc, member)?)?;
     }
     Ok(dict)
 }

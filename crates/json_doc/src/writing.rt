@@ -40,6 +40,7 @@ pub fn write_doc(doc: &Doc, out: &mut Writer) -> Result<(), AllocError>
         Doc::Bool(boolean) => out.boolean(*boolean),
         Doc::Int(number) => write_whole(*number, out),
         Doc::Str(text) => out.string(text.as_str()),
+        Doc::Short(text) => out.string(text.as_str()),
         Doc::List(items) => {
             out.begin_array()?;
             write_items(items.as_slice(), out)

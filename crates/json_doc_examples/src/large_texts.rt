@@ -8,7 +8,7 @@ fn a_large_value_is_written_and_read_back(rt: HostRuntime) -> Result<(), Fail> {
     let alloc = rt.alloc();
     let mut items = Vec::new(alloc);
     for _ in 0..160_000 {
-        items.push(Doc::Str(String::from_str(alloc, "a\"b")?))?;
+        items.push(Doc::string(alloc, "a\"b")?)?;
     }
     let doc = Doc::List(items);
     let text = write(alloc, &doc)?;

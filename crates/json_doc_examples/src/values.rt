@@ -7,9 +7,9 @@ use std::test::Fail;
 fn the_last_of_repeated_names_wins(rt: HostRuntime) -> Result<(), Fail> {
     let alloc = rt.alloc();
     let mut members = Members::new(alloc);
-    members.insert(String::from_str(alloc, "b")?, Doc::Int(Whole::of(1)))?;
-    members.insert(String::from_str(alloc, "a")?, Doc::List(Vec::new(alloc)))?;
-    members.insert(String::from_str(alloc, "b")?, Doc::Bool(true))?;
+    members.insert(alloc, "b", Doc::Int(Whole::of(1)))?;
+    members.insert(alloc, "a", Doc::List(Vec::new(alloc)))?;
+    members.insert(alloc, "b", Doc::Bool(true))?;
     assert!(rt; members.len() == 2 && !members.is_empty());
     assert!(rt; members.iter().next().is_some_and(|(name, _)| name == "a"));
     let found = members.get_key_value("b");
@@ -30,7 +30,7 @@ fn a_value_tells_what_it_holds(rt: HostRuntime) -> Result<(), Fail> {
     assert!(rt; largest.as_i64().is_none() && smallest.as_u64().is_none());
     assert!(rt; Doc::Int(Whole::of(7)).as_int() == Some(Whole::of(7)));
     assert!(rt; Doc::Null.as_bool().is_none());
-    let text = Doc::Str(String::from_str(rt.alloc(), "a")?);
+    let text = Doc::string(rt.alloc(), "a")?;
     assert!(rt; text.as_str() == Some("a") && text.get("a").is_none());
     let named = read(rt.alloc(), br#"{"$id":"s","title":1}"#)?;
     assert!(rt; named.text_at("$id") == Some("s"));

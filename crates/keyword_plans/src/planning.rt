@@ -37,6 +37,7 @@ use std::alloc::Global;
 /// `then` and `else` need `condition`, which says whether `if` beside passed, where it is there; `evaluated` is what the
 /// keywords but `unevaluatedItems` and `unevaluatedProperties` evaluated. `scope` is the dynamic scope, the schema's own
 /// resource last, and keeps what is followed here. The only error is want of memory.
+#[inline(always)]
 pub fn plan<'a>(
     alloc: Global,
     scope: &mut DynamicScope<'a>,
@@ -67,6 +68,7 @@ pub fn plan<'a>(
 }
 
 // What a keyword applies that follows no reference.
+#[inline(always)]
 fn plan_subschemas<'a>(
     alloc: Global,
     site: Site<'a>,
@@ -101,6 +103,7 @@ fn plan_subschemas<'a>(
 }
 
 // What a keyword applies that applies nothing in place (Core, 10.3 and 11).
+#[inline(always)]
 fn plan_children<'a>(
     alloc: Global,
     site: Site<'a>,

@@ -81,7 +81,7 @@ pub fn holds_of(
     match subject {
         Subject::Value(doc) => holds(alloc, assertion, keyword_value, doc),
         Subject::Name(name) => {
-            let name = Doc::Str(String::from_str(alloc, name)?);
+            let name = Doc::string(alloc, name)?;
             holds(alloc, assertion, keyword_value, &name)
         }
     }

@@ -156,6 +156,7 @@ fn is_type_name(doc: &Doc) -> bool
 {
     match doc {
         Doc::Str(name) => is_type(name.as_str()),
+        Doc::Short(name) => is_type(name.as_str()),
         _ => false,
     }
 }
@@ -191,7 +192,7 @@ fn all_texts(docs: &[Doc]) -> bool
 fn is_text(doc: &Doc) -> bool
     ensures { result ≡ is_string (value doc.now) }
 {
-    matches!(doc, Doc::Str(_))
+    matches!(doc, Doc::Str(_) | Doc::Short(_))
 }
 
 fn are_text_lists(doc: &Doc) -> bool
@@ -248,6 +249,7 @@ fn is_anchor_name(doc: &Doc) -> bool
 {
     match doc {
         Doc::Str(name) => is_anchor_text(name.as_str()),
+        Doc::Short(name) => is_anchor_text(name.as_str()),
         _ => false,
     }
 }

@@ -78,6 +78,7 @@ fn is_reference(alloc: Global, doc: &Doc) -> Result<bool, AllocError>
 {
     match doc {
         Doc::Str(text) => has_readable_fragment(alloc, text.as_str()),
+        Doc::Short(text) => has_readable_fragment(alloc, text.as_str()),
         _ => Ok(false),
     }
 }
@@ -98,6 +99,7 @@ fn is_dialect(doc: &Doc) -> bool
 {
     match doc {
         Doc::Str(uri) => is_dialect_uri(uri.as_str()),
+        Doc::Short(uri) => is_dialect_uri(uri.as_str()),
         _ => false,
     }
 }

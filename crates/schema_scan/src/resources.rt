@@ -16,6 +16,7 @@ pub(crate) fn is_id(alloc: Global, base: &str, id: &Doc) -> Result<bool, AllocEr
 {
     match id {
         Doc::Str(id) => makes_identifier(alloc, base, id.as_str()),
+        Doc::Short(id) => makes_identifier(alloc, base, id.as_str()),
         _ => Ok(false),
     }
 }

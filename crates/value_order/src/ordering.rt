@@ -2,7 +2,7 @@
 
 ghost use Rattle.std.specs.Prelude.{◌≡◌, map};
 ghost use Rattle.std.specs.Ordering.{is_eq, nat_cmp};
-ghost use Rattle.definitions.specs.Values.{same, to_elements};
+ghost use Rattle.definitions.specs.Values.{same, string, to_elements};
 ghost use Rattle.json_doc.specs.Docs.{value, members_view};
 ghost use Rattle.value_order.specs.Orders.{kind, compared, compared_elements, compared_members};
 
@@ -33,10 +33,8 @@ fn compare_docs(first: &Doc, second: &Doc) -> Ordering
             Doc::Int(other) => number.number().cmp(&other.number()),
             _ => compare_kinds(first, second),
         },
-        Doc::Str(text) => match second {
-            Doc::Str(other) => text.cmp(other),
-            _ => compare_kinds(first, second),
-        },
+        Doc::Str(text) => compare_text(text.as_str(), second),
+        Doc::Short(text) => compare_text(text.as_str(), second),
         Doc::List(items) => match second {
             Doc::List(others) => compare_items(items.as_slice(), others.as_slice()),
             _ => compare_kinds(first, second),
@@ -45,6 +43,16 @@ fn compare_docs(first: &Doc, second: &Doc) -> Ordering
             Doc::Dict(others) => compare_members(members, others),
             _ => compare_kinds(first, second),
         },
+    }
+}
+
+fn compare_text(text: &str, doc: &Doc) -> Ordering
+    ensures { result ≡ compared (string text.now) (value doc.now) }
+{
+    match doc {
+        Doc::Str(other) => text.cmp(other.as_str()),
+        Doc::Short(other) => text.cmp(other.as_str()),
+        _ => 3.cmp(&kind_of(doc)),
     }
 }
 
@@ -106,7 +114,7 @@ fn kind_of(doc: &Doc) -> u8
         Doc::Null => 0,
         Doc::Bool(_) => 1,
         Doc::Int(_) => 2,
-        Doc::Str(_) => 3,
+        Doc::Str(_) | Doc::Short(_) => 3,
         Doc::List(_) => 4,
         Doc::Dict(_) => 5,
     }

@@ -57,6 +57,7 @@ pub fn has_same(doc: &Doc, others: &[Doc]) -> bool
     match doc {
         Doc::Int(number) => has_number(*number, others),
         Doc::Str(text) => has_text(text.as_str(), others),
+        Doc::Short(text) => has_text(text.as_str(), others),
         _ => others.iter().any(|other| same(doc, other)),
     }
 }
@@ -87,6 +88,7 @@ fn is_text(doc: &Doc, text: &str) -> bool
 {
     match doc {
         Doc::Str(other) => other.as_str() == text,
+        Doc::Short(other) => other.as_str() == text,
         _ => false,
     }
 }

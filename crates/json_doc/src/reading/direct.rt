@@ -69,7 +69,7 @@ fn doc_from(alloc: Global, reader: &mut Reader<'_>, depth: usize) -> Result<Doc,
 {
     let token = reader.next().ok_or(Unread::NotSure)?;
     match token {
-        Token::String(text) => Ok(Doc::Str(String::from_str(alloc, text)?)),
+        Token::String(text) => Ok(Doc::string(alloc, text)?),
         Token::Number(text) => match whole_from(text) {
             Some(whole) => Ok(Doc::Int(whole)),
             None => Err(Unread::NotSure),
@@ -116,9 +116,8 @@ fn dict_from(alloc: Global, reader: &mut Reader<'_>, depth: usize) -> Result<Mem
 {
     let mut gathered = Gathered::new(alloc);
     'members: while let Some(name) = reader.next_key()? {
-        let key = String::from_str(alloc, name)?;
         let member = doc_from(alloc, reader, depth)?;
-        gathered.insert(alloc, key, member)?;
+        gathered.insert(alloc, name, member)?;
     }
     Ok(gathered.into_members(alloc)?)
 }

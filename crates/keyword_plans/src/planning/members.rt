@@ -10,7 +10,7 @@ ghost use Rattle.keyword_plans.specs.Subjects.{subject_value};
 
 use crate::planned::{Chosen, Part, Planned};
 use crate::subject::Subject;
-use json_doc::{Doc, Members};
+use json_doc::{Doc, Members, compare_names};
 use locations::Step;
 use std::alloc::{AllocError, Global};
 use std::cmp::{Ordering, min};
@@ -114,7 +114,7 @@ fn plan_merged<'a>(
     let mut first_schema = other_schemas.next();
     let mut first_member = other_members.next();
     'names: while let (Some((key, schema)), Some((name, member))) = (first_schema, first_member) {
-        match key.cmp(name) {
+        match compare_names(key, name) {
             Ordering::Less => first_schema = other_schemas.next(),
             Ordering::Greater => first_member = other_members.next(),
             Ordering::Equal => {

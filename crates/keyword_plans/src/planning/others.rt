@@ -21,7 +21,7 @@ use crate::planning::members::FAR_LONGER;
 use crate::site::Site;
 use crate::subject::{Subject, members_of};
 use faults::Fault;
-use json_doc::{Doc, Members};
+use json_doc::{Doc, Members, compare_names};
 use linker::Linked;
 use std::alloc::{AllocError, Global};
 use std::cmp::Ordering;
@@ -138,7 +138,7 @@ fn order_of_first(first: Option<(&str, &Doc)>, name: &str) -> Ordering
         (option_map (λ s. slice_cmp nat_cmp s.0.now name.now) first.entry) Greater }
 {
     match first {
-        Some((key, _)) => key.cmp(name),
+        Some((key, _)) => compare_names(key, name),
         None => Ordering::Greater,
     }
 }

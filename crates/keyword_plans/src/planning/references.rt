@@ -39,12 +39,12 @@ pub(crate) fn plan_reference<'a>(
     ensures documents { scope_documents scope.new ≡ scope_documents scope.old }
     ensures err { IfErr result (λ f. f ≡ Fault.NoRoom) }
 {
-    match reference {
-        Doc::Str(reference) => {
+    match reference.as_str() {
+        Some(reference) => {
             let target = scope.target(alloc, site.resource, reference)?;
             Ok(plan_target(alloc, target, site.subject)?)
         }
-        _ => Ok(Vec::new(alloc)),
+        None => Ok(Vec::new(alloc)),
     }
 }
 
@@ -67,12 +67,12 @@ pub(crate) fn plan_dynamic_reference<'a>(
     ensures documents { scope_documents scope.new ≡ scope_documents scope.old }
     ensures err { IfErr result (λ f. f ≡ Fault.NoRoom) }
 {
-    match reference {
-        Doc::Str(reference) => {
+    match reference.as_str() {
+        Some(reference) => {
             let target = scope.dynamic_target(alloc, site.resource, reference)?;
             Ok(plan_target(alloc, target, site.subject)?)
         }
-        _ => Ok(Vec::new(alloc)),
+        None => Ok(Vec::new(alloc)),
     }
 }
 

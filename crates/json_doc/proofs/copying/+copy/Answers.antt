@@ -61,7 +61,7 @@ copy_members-loop-name-preserved t c =
     let all : members_value c.args.members.now ≡ done ++ first ∷ rest = c.loop-name.invariant.copies ∙ ap (λ ms. done ++ ms) step in
     let whole : HasNamesInOrder (done ++ first ∷ rest) = subst HasNamesInOrder all c.iter-name-items.ensures.ordered in
     let added : members_value c.insert.new.self ≡ done ++ first ∷ [] =
-    c.in_ok-insert.ensures.ok ∙ ap₂ (λ name v. members_with name v done) c.in_ok-name.ensures.ok c.in_ok-copy.ensures.ok ∙ put_last done first rest whole in
+    c.in_ok-insert.ensures.ok ∙ ap (λ v. members_with first.0 v done) c.in_ok-copy.ensures.ok ∙ put_last done first rest whole in
     let ordered : HasNamesInOrder (first ∷ rest) = rw step at c.loop-name.invariant.ordered in
     let utf8 : HasTextsAsNames (first ∷ rest) = rw step at c.loop-name.invariant.utf8 in
     record {

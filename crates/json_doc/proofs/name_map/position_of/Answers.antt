@@ -9,7 +9,7 @@ loop-low-preserved-in-Less g c =
     let l = c.loop-low in
     let middle : ℕ = l.low + (l.high - l.low) / 2 in
     let es = c.args.entries.now in
-    let here = told c.args.name.now c.as_str.result.now (get_or es middle c.index-entries-middle.result) _ c.as_str.ensures.value c.in-Less.ensures in
+    let here = told c.args.name.now c.as_str.result.now (get_or es middle c.index-entries-middle.result) _ c.as_str.ensures c.in-Less.ensures in
     record {
       order = omega arith;
       within = omega (arith, l.invariant.within);
@@ -23,7 +23,7 @@ returns-in-Equal-clause-found g c =
     let middle : ℕ = l.low + (l.high - l.low) / 2 in
     let es = c.args.entries.now in
     let there : middle < length es = omega (arith, l.invariant.within, c.loop-low-test.true) in
-    let here = told c.args.name.now c.as_str.result.now (get_or es middle c.index-entries-middle.result) _ c.as_str.ensures.value c.in-Equal.ensures in
+    let here = told c.args.name.now c.as_str.result.now (get_or es middle c.index-entries-middle.result) _ c.as_str.ensures c.in-Equal.ensures in
     record {
       within = there;
       above = above_before c.args.name.now es middle c.index-entries-middle.result c.requires there here;
@@ -36,7 +36,7 @@ loop-low-preserved g c =
     let middle : ℕ = l.low + (l.high - l.low) / 2 in
     let es = c.args.entries.now in
     let there : middle < length es = omega (arith, l.invariant.within, c.loop-low-test.true) in
-    let here = told c.args.name.now c.as_str.result.now (get_or es middle c.index-entries-middle.result) _ c.as_str.ensures.value c.in-Greater.ensures in
+    let here = told c.args.name.now c.as_str.result.now (get_or es middle c.index-entries-middle.result) _ c.as_str.ensures c.in-Greater.ensures in
     record {
       order = omega (arith, c.loop-low-test.true);
       within = l.invariant.within;

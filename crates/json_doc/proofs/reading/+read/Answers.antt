@@ -7,6 +7,7 @@ use Rattle.std.specs.String.{string_cmp}
 use Rattle.std.specs.Vec.Iter.{into_iter_items}
 use Rattle.lemmas.proofs.Members.{to_members-members_list}
 use Rattle.json_doc.specs.Docs.{value, members_view, members_value}
+use Rattle.json_doc.specs.Members.{members_with}
 use Rattle.json_doc.proofs.Converted.{Entry, AreItems-snoc, AreItems-whole, AreItems-none, AreMembers, AreMembers-snoc, AreMembers-whole, AreMembers-none, next_is_last}
 use Rattle.json_doc.proofs.reading.+read.Goals as goal
 
@@ -65,7 +66,7 @@ dict_of-loop-name-preserved t c =
     record {
       all = append_assoc l.yielded (e ∷ []) left ∙ sym (ap (λ es. l.yielded ++ es) c.in-Some.ensures.steps) ∙ l.invariant.all;
       read =
-          let put : members_value c.insert.new.self ≡ members_value l.dict ++ (string_bytes e.0, v) ∷ [] = c.in_ok-insert.ensures.ok ∙ next_is_last l.yielded e left (members_value l.dict) v sorted l.invariant.read in
+          let put : members_value c.insert.new.self ≡ members_value l.dict ++ (string_bytes e.0, v) ∷ [] = c.in_ok-insert.ensures.ok ∙ ap (λ name. members_with name v (members_value l.dict)) c.as_str.ensures.value ∙ next_is_last l.yielded e left (members_value l.dict) v sorted l.invariant.read in
           subst (AreMembers (l.yielded ++ e ∷ [])) (sym put) (AreMembers-snoc l.yielded (members_value l.dict) e v l.invariant.read c.in_ok-doc_of.ensures.ok);
     }
 

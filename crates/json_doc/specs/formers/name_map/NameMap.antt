@@ -13,20 +13,20 @@ use denote.Model.Placed.{view_places}
 use denote.Struct.Tuple.{Tuple, tuple_type}
 use Rattle.std.specs.List.Sorted.{IsStrictlySortedBy-prop}
 use Rattle.std.specs.Map.{keys_of, values_of}
-use Rattle.std.specs.String.{string_cmp}
-use Rattle.std.specs.declared.string.String.{String}
-use Rattle.std.specs.contracts.string.String as string
 use Rattle.std.specs.declared.alloc.Global.{Global}
 use Rattle.std.specs.contracts.alloc.Global as heap
 use Rattle.std.specs.contracts.impls.GlobalAllocator.TheImpl.{ghosts}
 use Rattle.std.specs.formers.vec.Vec as vec
+use Rattle.json_doc.specs.SmallTexts.{text_cmp}
+use Rattle.json_doc.specs.declared.small_text.SmallText.{SmallText}
+use Rattle.json_doc.specs.contracts.small_text.SmallText as small_text
 use Rattle.json_doc.specs.declared.name_map.NameMap.TheInside.{Inside}
 use Rattle.json_doc.specs.declared.name_map.NameMap.TheView.{view, invariant}
 use Rattle.json_doc.specs.contracts.name_map.NameMap as C
 use Rattle.json_doc.specs.contracts.name_map.NameMap.TheInside as I
 
 abbrev Name : Type 0
-Name = String Global
+Name = SmallText
 
 -- a name beside one of g's values
 abbrev entry : Former {0} → Former {0}
@@ -62,7 +62,7 @@ abbrev fields : Former {0}
 fields = via (vec.the_former (entry this) Global) Inside (λ X a. a.entries) (λ X v. record { entries = v }) (λ X a. refl) (λ X v. refl)
 
 abbrev name : RattleType
-name = string.the_row heap.the_row ghosts
+name = small_text.the_row
 
 module _ (R S : RattleType) (h : R.Denot → S.Denot) where
   pair_places : Alike R S h → Alike (Tuple (name ∷ R ∷ [])) (Tuple (name ∷ S ∷ [])) (on_value h)
@@ -70,7 +70,7 @@ module _ (R S : RattleType) (h : R.Denot → S.Denot) where
 
   pub the_places : Alike R S h → Alike (C.the_row R) (C.the_row S) ((the_former this).map R.Denot S.Denot h)
   the_places a = view_places fields (the_former this) view (λ X Y k u. refl) (λ X u. refl) R.Denot S.Denot h (C.the_row R).coded (C.the_row S).coded
-      (invariant R.Denot) (invariant S.Denot) (λ u. IsStrictlySortedBy-prop string_cmp _) (λ u. IsStrictlySortedBy-prop string_cmp _)
+      (invariant R.Denot) (invariant S.Denot) (λ u. IsStrictlySortedBy-prop text_cmp _) (λ u. IsStrictlySortedBy-prop text_cmp _)
       (λ u s. rw (keys_on_values h u.entries.items) s) (λ u s. rw (keys_on_values h u.entries.items) at s)
       (over (I.the_row R)) (over (I.the_row S))
       (struct_places (I.the_type R) (I.the_type S) (vec.mapped (on_value h), tt) _ (λ d. refl) refl

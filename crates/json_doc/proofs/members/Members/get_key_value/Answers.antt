@@ -14,7 +14,7 @@ returns-in-None-clause-ordered c = rw members_value-out (names_in_order c.args.s
 pub returns-in-Some-clause-found : goal.returns-in-Some-clause-found
 returns-in-Some-clause-found c =
     rw members_value-out
-    (ap (λ (name : Text). Some (name, value c.in-Some.field-0.now.1)) c.as_str.ensures.value ∙ ap (option_map on_value) c.in-Some.ensures ∙ entry_found c.args.name.now c.args.self.now.entries)
+    (ap (λ (name : Text). Some (name, value c.in-Some.field-0.now.1)) c.as_str.ensures ∙ ap (option_map on_value) c.in-Some.ensures ∙ entry_found c.args.name.now c.args.self.now.entries)
 
 pub returns-in-Some-clause-ordered : goal.returns-in-Some-clause-ordered
 returns-in-Some-clause-ordered c = rw members_value-out (names_in_order c.args.self.now.entries c.as_slice.ensures.ordered)

@@ -1,6 +1,7 @@
-use Rattle.std.proofs.Common.{◌≡◌, [], ◌∷◌, ◌++◌, length, string_cmp, sym, ap, ◌∙◌, subst, append_assoc, arith}
+use Rattle.std.proofs.Common.{◌≡◌, [], ◌∷◌, ◌++◌, length, sym, ap, ◌∙◌, subst, append_assoc, arith}
 use Rattle.std.specs.BTreeMap.{insert_entry}
 use Rattle.std.specs.Vec.Iter.{into_iter_items}
+use Rattle.json_doc.specs.SmallTexts.{text_cmp}
 use Rattle.json_doc.proofs.Positions.{Entry, InOrder, put_next}
 use Rattle.json_doc.proofs.name_map.NameMap.into_map.Goals as goal
 
@@ -14,7 +15,7 @@ loop-name-preserved g c =
     record {
       all = append_assoc l.yielded (e ∷ []) rest ∙ rw (← step) l.invariant.all;
       put =
-          c.in_ok-insert.ensures.entries ∙ ap (λ es. insert_entry string_cmp es e.0 e.1) l.invariant.put
+          c.in_ok-insert.ensures.entries ∙ ap (λ es. insert_entry text_cmp es e.0 e.1) l.invariant.put
           ∙ put_next l.yielded e rest (subst InOrder all c.self.invariant);
       left =
           let was = l.invariant.left in

@@ -1,4 +1,4 @@
-use Rattle.std.proofs.Common.{refl, ◌≡◌, ◌-◌, ◌<◌, ◌∷◌, length, Some, None, string_bytes, sym, ap, ◌∙◌, subst, arith, rules}
+use Rattle.std.proofs.Common.{refl, ◌≡◌, ◌-◌, ◌<◌, ◌∷◌, length, Some, None, sym, ap, ◌∙◌, subst, arith, rules}
 use Rattle.json.specs.Token.{Token}
 use Rattle.json.specs.Json.{parse_map, after_end_array, read_key, items, members}
 use Rattle.json.specs.Json as grammar
@@ -7,7 +7,7 @@ use Rattle.json.proofs.Grammar.{value_is, value-begin_array, value-begin_object,
 use Rattle.serde_json.specs.Data as json
 use Rattle.serde_json.specs.Read.{of_json, of_items, of_members, converted}
 use Rattle.json_doc.proofs.Grammar.{converted-array, converted-object}
-use Rattle.definitions.specs.Values.{null, boolean, integer, string, array, object}
+use Rattle.definitions.specs.Values.{null, boolean, integer, array, object}
 use Rattle.definitions.specs.Texts.{value_of, elements_of, members_of}
 use Rattle.definitions.specs.Values.{to_members}
 use Rattle.json_doc.specs.Docs.{value, members_view}
@@ -15,18 +15,17 @@ use Rattle.json_doc.specs.Gathers.{gathered_view}
 use Rattle.json_doc.specs.Members.{members_with}
 use Rattle.json_doc.specs.Reads.{elements_at}
 use Rattle.json_doc.specs.declared.doc.Doc.{Int, Bool, Null, the_lemmas}
-use Rattle.json_doc.proofs.Views.{value-Str, value-List, value-Dict}
+use Rattle.json_doc.proofs.Views.{value-List, value-Dict}
 use Rattle.lemmas.proofs.Members.{to_members-members_list}
 use Rattle.json_doc.proofs.TokenReads.{converted-List, converted-Dict, element_read, elements_over, elements_before, elements_before-no_elements, one_more_element, none_before, AreRead, AreRead-put, member_put, members_read, number_at}
 use Rattle.json_doc.proofs.reading.direct.+tokens.Goals as goal
 
-pub doc_from-returns-in_ok-from_str-in-String-clause-ok : goal.doc_from-returns-in_ok-from_str-in-String-clause-ok
-doc_from-returns-in_ok-from_str-in-String-clause-ok t c =
+pub doc_from-returns-in_ok-string-in-String-clause-ok : goal.doc_from-returns-in_ok-string-in-String-clause-ok
+doc_from-returns-in_ok-string-in-String-clause-ok t c =
     let first : c.args.reader.now ≡ token_of c.in_ok-token.token ∷ c.next.new.self = grind arith in
     let is : c.args.reader.now ≡ Token.string c.in-String.text.now ∷ c.next.new.self = grind (arith, first) in
-    let copied : string_bytes c.in_ok-from_str-in-String.field-0 ≡ c.in-String.text.now = search rules in
     ap (λ o. converted value_of (converted of_json o)) (ap (grammar.value c.args.depth) is ∙ value_is c.args.depth _)
-    ∙ ap (λ v. Some (v, c.next.new.self)) (ap string (sym copied) ∙ sym (value-Str c.in_ok-from_str-in-String.field-0))
+    ∙ ap (λ v. Some (v, c.next.new.self)) (sym c.in_ok-string-in-String.ensures)
 
 pub doc_from-returns-in-Bool-clause-ok : goal.doc_from-returns-in-Bool-clause-ok
 doc_from-returns-in-Bool-clause-ok t c =
@@ -123,9 +122,8 @@ dict_from-members-preserved t c =
     let r = c.doc_from.new.reader in
     let less = read_key-shorter l.reader (Some k) s named in
     let lesser = done.shorter in
-    let copied : string_bytes c.in_ok-key.key ≡ k = search rules in
     let turn = member_put p old n k l.reader s r v (omega (arith, l.invariant.2)) named done.ok in
-    let inserted : gathered_view c.insert.new.self ≡ members_with k v (gathered_view l.gathered) = c.in_ok-insert.ensures ∙ ap (λ name. members_with name v (gathered_view l.gathered)) copied in (
+    let inserted : gathered_view c.insert.new.self ≡ members_with k v (gathered_view l.gathered) = c.in_ok-insert.ensures in (
       n - 1,
       json.put k turn.0 old,
       omega (arith, l.invariant.2),

@@ -28,7 +28,7 @@ names-preserved-in-Less c =
       members = c.names.invariant.members;
       planned = λ a k.
           skipped (map (planned_view k a) c.names.planned.items) _ _ _
-          (ap₂ (planned_at_names k a) schemas members ∙ past-schema k a s m ss ms h ordered (sym c.cmp.ensures ∙ c.in-Less.is) ∙ ap₂ (planned_at_names k a) (sym left) (sym members))
+          (ap₂ (planned_at_names k a) schemas members ∙ past-schema k a s m ss ms h ordered (sym c.compare_names.ensures ∙ c.in-Less.is) ∙ ap₂ (planned_at_names k a) (sym left) (sym members))
           (c.names.invariant.planned a k);
     }
 
@@ -48,7 +48,7 @@ names-preserved-in-Greater c =
       members = subst HasNamesInOrder (sym left) (in_order_rest m ms ordered);
       planned = λ a k.
           skipped (map (planned_view k a) c.names.planned.items) _ _ _
-          (ap₂ (planned_at_names k a) schemas members ∙ past-member k a s m ss ms h ordered (sym c.cmp.ensures ∙ c.in-Greater.is) ∙ ap₂ (planned_at_names k a) (sym schemas) (sym left))
+          (ap₂ (planned_at_names k a) schemas members ∙ past-member k a s m ss ms h ordered (sym c.compare_names.ensures ∙ c.in-Greater.is) ∙ ap₂ (planned_at_names k a) (sym schemas) (sym left))
           (c.names.invariant.planned a k);
     }
 
@@ -71,7 +71,7 @@ names-preserved c =
           let here = at_part a (k ∷ m.0 ∷ []) s.1 (named m.0) m.1 in
           grown (map (planned_view k a) c.names.planned.items) _ (here ∷ []) _ _ _
           (ap (map (planned_view k a)) c.in_ok-push-in-Equal.ensures.items ∙ map-append (planned_view k a) c.names.planned.items _)
-          (ap₂ (planned_at_names k a) schemas members ∙ of-both k a s m ss ms h ordered (sym c.cmp.ensures ∙ c.in-Equal.is)
+          (ap₂ (planned_at_names k a) schemas members ∙ of-both k a s m ss ms h ordered (sym c.compare_names.ensures ∙ c.in-Equal.is)
           ∙ ap (λ ys. here ∷ ys) (ap₂ (planned_at_names k a) (sym schemas_left) (sym members_left)))
           (c.names.invariant.planned a k);
     }

@@ -1,0 +1,59 @@
+//! Short texts, which stand in the value itself.
+
+ghost use Rattle.std.specs.Prelude.{◌≡◌, ◌≤◌, length, take, true};
+ghost use Rattle.std.specs.Str.{is_utf8};
+
+use std::str;
+
+// How many bytes stand in the value itself.
+const SHORT: usize = 24;
+
+/// A text of at most 24 bytes, which stand in the value itself.
+///
+/// Contracts see its bytes, by `short_text`.
+#[derive(Clone, Copy, Debug)]
+pub struct ShortText {
+    len: u32,
+    bytes: [u8; SHORT],
+    ghost within: { len ≤ 24 },
+    ghost utf8: { is_utf8 (take len bytes) ≡ true },
+}
+
+impl ShortText {
+    ghost use Rattle.std.specs.Prelude.{IfSome};
+    ghost use Rattle.json_doc.specs.SmallTexts.{short_text};
+
+    /// The text, if it has at most 24 bytes.
+    #[inline(always)]
+    pub fn of(text: &str) -> Option<ShortText>
+        ensures { IfSome result (λ s. short_text s ≡ text.now) }
+    {
+        let len = text.len();
+        if len > SHORT {
+            return None;
+        }
+        Some(ShortText {
+            len: len as u32,
+            bytes: padded(text),
+        })
+    }
+
+    /// The text.
+    #[inline(always)]
+    pub fn as_str(&self) -> &str
+        ensures { result.now ≡ short_text self.now }
+    {
+        unsafe { str::from_utf8_unchecked(&self.bytes[..self.len as usize]) }
+    }
+}
+
+// The bytes of the text, and zeros.
+#[inline(always)]
+fn padded(text: &str) -> [u8; SHORT]
+    requires { length text.now ≤ 24 }
+    ensures { take (length text.now) result ≡ text.now }
+{
+    let mut bytes = [0; SHORT];
+    bytes[..text.len()].copy_from_slice(text.as_bytes());
+    bytes
+}

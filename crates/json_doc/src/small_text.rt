@@ -1,0 +1,88 @@
+//! Names, of which short ones stand in the value itself.
+
+ghost use Rattle.std.specs.Prelude.{◌≡◌, Some, IfOk, nat_eq, refl};
+ghost use Rattle.std.specs.Cmp.{on_equiv, on_total, on_po, on_per, partial_equiv_from_equiv};
+ghost use Rattle.std.specs.Cmp.Lexicographic.{pointwise, slice_cmp, nat_list_eq_equiv, nat_list_cmp_total, texts_po, texts_ties};
+ghost use Rattle.std.specs.Ordering.{nat_cmp};
+ghost use Rattle.json_doc.specs.SmallTexts.{text_view};
+
+use crate::short_text::ShortText;
+use std::alloc::{AllocError, Global};
+use std::cmp::Ordering;
+
+/// A text, which stands in the value itself where it has at most 24 bytes, as most names of members do: those take no
+/// memory of their own.
+///
+/// Contracts see its bytes, by `text_view`.
+#[derive(Debug, Drop)]
+pub(crate) enum SmallText {
+    /// At most 24 bytes.
+    Short(ShortText),
+    /// Any number of bytes.
+    Long(String),
+}
+
+// What a name takes beside its value.
+const _: () = prove!(size_of::<SmallText>() == 32);
+
+impl SmallText {
+    /// This text. The only error is want of memory, which no text of at most 24 bytes takes.
+    #[inline(always)]
+    pub fn from_str(alloc: Global, text: &str) -> Result<SmallText, AllocError>
+        ensures { IfOk result (λ t. text_view t ≡ text.now) }
+    {
+        match ShortText::of(text) {
+            Some(short) => Ok(SmallText::Short(short)),
+            None => Ok(SmallText::Long(String::from_str(alloc, text)?)),
+        }
+    }
+
+    /// The text.
+    #[inline(always)]
+    pub fn as_str(&self) -> &str
+        ensures { result.now ≡ text_view self.now }
+    {
+        match self {
+            SmallText::Short(short) => short.as_str(),
+            SmallText::Long(string) => string.as_str(),
+        }
+    }
+}
+
+impl PartialEq for SmallText {
+    ghost eq = { λ s t. pointwise nat_eq (text_view s) (text_view t) };
+
+    ghost laws = { on_per text_view (partial_equiv_from_equiv nat_list_eq_equiv) };
+
+    fn eq(&self, other: &SmallText) -> bool {
+        self.as_str() == other.as_str()
+    }
+}
+
+impl Eq for SmallText {
+    ghost laws = { on_equiv text_view nat_list_eq_equiv };
+}
+
+impl PartialOrd for SmallText {
+    ghost partial_cmp = { λ s t. Some (slice_cmp nat_cmp (text_view s) (text_view t)) };
+
+    ghost laws = { on_po text_view texts_po };
+
+    fn partial_cmp(&self, other: &SmallText) -> Option<Ordering> {
+        Some(self.cmp(other))
+    }
+}
+
+impl Ord for SmallText {
+    ghost cmp = { λ s t. slice_cmp nat_cmp (text_view s) (text_view t) };
+
+    ghost total = { on_total text_view nat_list_cmp_total };
+
+    ghost matches_partial_cmp = { λ s t. refl };
+
+    ghost matches_eq = { λ s t. texts_ties (text_view s) (text_view t) };
+
+    fn cmp(&self, other: &SmallText) -> Ordering {
+        self.as_str().cmp(other.as_str())
+    }
+}

@@ -52,9 +52,102 @@ const VALID: &[(&str, &str, bool)] = &[
     ),
 ];
 
+// The same, of texts of 24 letters and of 25: the former stand in the value itself.
+const LENGTHS: &[(&str, &str, bool)] = &[
+    (
+        r#"{"const":"abcdefghijklmnopqrstuvwx"}"#,
+        r#""abcdefghijklmnopqrstuvwx""#,
+        true,
+    ),
+    (
+        r#"{"const":"abcdefghijklmnopqrstuvwx"}"#,
+        r#""abcdefghijklmnopqrstuvwxy""#,
+        false,
+    ),
+    (
+        r#"{"const":"abcdefghijklmnopqrstuvwxy"}"#,
+        r#""abcdefghijklmnopqrstuvwxy""#,
+        true,
+    ),
+    (
+        r#"{"const":"abcdefghijklmnopqrstuvwxy"}"#,
+        r#""abcdefghijklmnopqrstuvwx""#,
+        false,
+    ),
+    (
+        r#"{"enum":["abcdefghijklmnopqrstuvwx","abcdefghijklmnopqrstuvwxy"]}"#,
+        r#""abcdefghijklmnopqrstuvwxy""#,
+        true,
+    ),
+    (
+        r#"{"type":"string","maxLength":24}"#,
+        r#""abcdefghijklmnopqrstuvwx""#,
+        true,
+    ),
+    (
+        r#"{"type":"string","maxLength":24}"#,
+        r#""abcdefghijklmnopqrstuvwxy""#,
+        false,
+    ),
+    (
+        r#"{"minLength":25}"#,
+        r#""abcdefghijklmnopqrstuvwx""#,
+        false,
+    ),
+    (
+        r#"{"minLength":25}"#,
+        r#""abcdefghijklmnopqrstuvwxy""#,
+        true,
+    ),
+    (
+        r#"{"uniqueItems":true}"#,
+        r#"["abcdefghijklmnopqrstuvwx","abcdefghijklmnopqrstuvwxy"]"#,
+        true,
+    ),
+    (
+        r#"{"uniqueItems":true}"#,
+        r#"["abcdefghijklmnopqrstuvwxy","abcdefghijklmnopqrstuvwxy"]"#,
+        false,
+    ),
+    (
+        r#"{"uniqueItems":true}"#,
+        r#"["abcdefghijklmnopqrstuvwx","abcdefghijklmnopqrstuvwx"]"#,
+        false,
+    ),
+    (
+        r#"{"required":["abcdefghijklmnopqrstuvwxy"]}"#,
+        r#"{"abcdefghijklmnopqrstuvwxy":1}"#,
+        true,
+    ),
+    (
+        r#"{"required":["abcdefghijklmnopqrstuvwxy"]}"#,
+        r#"{"abcdefghijklmnopqrstuvwx":1}"#,
+        false,
+    ),
+    (
+        r#"{"properties":{"abcdefghijklmnopqrstuvwxy":false}}"#,
+        r#"{"abcdefghijklmnopqrstuvwxy":1}"#,
+        false,
+    ),
+    (
+        r#"{"properties":{"abcdefghijklmnopqrstuvwxy":false}}"#,
+        r#"{"abcdefghijklmnopqrstuvwx":1}"#,
+        true,
+    ),
+];
+
 #[test]
 fn keywords_on_one_value(rt: HostRuntime) -> Result<(), Fail> {
     for (schema, instance, valid) in VALID {
+        let report = check_bytes(rt.alloc(), URI, schema.as_bytes(), instance.as_bytes())?;
+        assert_eq!(rt; report.valid(), *valid, "{instance} by {schema}");
+    }
+    Ok(())
+}
+
+#[test]
+fn keywords_on_texts_of_24_letters_and_of_25(rt: HostRuntime) -> Result<(), Fail> {
+    for (schema, instance, valid) in LENGTHS {
         let report = check_bytes(rt.alloc(), URI, schema.as_bytes(), instance.as_bytes())?;
         assert_eq!(rt; report.valid(), *valid, "{instance} by {schema}");
     }

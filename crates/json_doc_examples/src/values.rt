@@ -1,7 +1,8 @@
 //! Values, their members, their nesting, and equality.
 
-use json_doc::{Doc, Members, Whole, copy, nesting, read, same};
+use json_doc::{Doc, Members, Whole, copy, nesting, read, same, write};
 use std::test::Fail;
+use value_order::compare;
 
 #[test]
 fn the_last_of_repeated_names_wins(rt: HostRuntime) -> Result<(), Fail> {
@@ -35,6 +36,53 @@ fn a_value_tells_what_it_holds(rt: HostRuntime) -> Result<(), Fail> {
     let named = read(rt.alloc(), br#"{"$id":"s","title":1}"#)?;
     assert!(rt; named.text_at("$id") == Some("s"));
     assert!(rt; named.text_at("title").is_none() && named.text_at("a").is_none());
+    Ok(())
+}
+
+// Texts in byte order: those of 24 bytes are the longest that stand in the value itself.
+const TEXTS: &[&str] = &[
+    "",
+    "abcdefghijklmnopqrstuvw",
+    "abcdefghijklmnopqrstuvwx",
+    "abcdefghijklmnopqrstuvwxy",
+    "abcdefghijklmnopqrstuvwxyz",
+    "ääääääääääää",
+    "äääääääääääää",
+];
+
+#[test]
+fn texts_and_names_are_short_or_long(rt: HostRuntime) -> Result<(), Fail> {
+    let alloc = rt.alloc();
+    for text in TEXTS {
+        let string = Doc::string(alloc, text)?;
+        assert!(rt; string.as_str() == Some(*text), "{text}");
+        let mut members = Members::new(alloc);
+        members.insert(alloc, text, string)?;
+        let doc = Doc::Dict(members);
+        assert!(rt; doc.text_at(text) == Some(*text), "{text}");
+        let again = read(alloc, write(alloc, &doc)?.as_bytes())?;
+        assert!(rt;
+            same(&again, &doc) && same(&copy(alloc, &doc)?, &doc),
+            "{text}"
+        );
+    }
+    Ok(())
+}
+
+#[test]
+fn short_texts_stand_among_long_ones(rt: HostRuntime) -> Result<(), Fail> {
+    let alloc = rt.alloc();
+    for (index, text) in TEXTS.iter().enumerate() {
+        let string = Doc::of_string(String::from_str(alloc, text)?);
+        for (other_index, other) in TEXTS.iter().enumerate() {
+            let other = Doc::string(alloc, other)?;
+            assert_eq!(rt; same(&string, &other), index == other_index, "{text}");
+            assert!(rt;
+                compare(&string, &other) == index.cmp(&other_index),
+                "{text}"
+            );
+        }
+    }
     Ok(())
 }
 

@@ -1,11 +1,12 @@
 -- A value that is held has short arrays.
-use Rattle.std.proofs.Common.{◌≡◌, ◌<◌, ◌^◌, ◌&&◌, ℕ, List, [], ◌∷◌, true, false, Bool, map, length, String, Vec, Global, nat_lt, refl, ap, subst, ◌∙◌, arith}
+use Rattle.std.proofs.Common.{◌≡◌, ◌<◌, ◌^◌, ◌&&◌, ℕ, List, [], ◌∷◌, true, false, Bool, map, length, Vec, Global, nat_lt, refl, ap, subst, ◌∙◌, arith}
 use Rattle.std.proofs.lemmas.List.{length-map}
 use Rattle.std.proofs.lemmas.Bool.{ltb-false}
 use Rattle.definitions.specs.Values as json
 use Rattle.definitions.specs.Values.{Value, elements_list, to_elements}
 use Rattle.definition_laws.specs.Identities.{has_short_arrays, have_short_arrays, members_have_short_arrays}
 use Rattle.json_doc.specs.Docs.{value, value_step, members_step, members_view}
+use Rattle.json_doc.proofs.Positions.{Entry}
 use Rattle.json_doc.proofs.Views.{elements_list-to_elements}
 use Rattle.json_doc.specs.declared.doc.Doc.{Doc, map-Doc}
 use Rattle.json_doc.specs.declared.doc.Doc.TheFolds.{ind-Doc, fold-roll-Doc, fold-roll-Members}
@@ -54,13 +55,14 @@ layer Doc-F.Null = refl
 layer (Doc-F.Bool b) = refl
 layer (Doc-F.Int n) = refl
 layer (Doc-F.Str s) = refl
+layer (Doc-F.Short s) = refl
 layer (Doc-F.List v) =
     let vs = map value (map (λ (e : ShortDoc). e.0) v.items) in
     both_hold (nat_lt (length (elements_list (to_elements vs))) (2 ^ 64)) (have_short_arrays (to_elements vs))
     (length_small vs v (length-map (map (λ (e : ShortDoc). e.0) v.items) value ∙ length-map v.items (λ (e : ShortDoc). e.0))) (elements_short v.items)
 layer (Doc-F.Dict m) = m.1
 
-entries_short : (es : List (String Global × ShortDoc))
+entries_short : (es : List (Entry ShortDoc))
     → members_have_short_arrays (members_step (map-Members Doc Members Value json.Members value members_view (map-Members ShortDoc ShortMembers Doc Members (λ e. e.0) (λ e. e.0) (record { entries = es })))) ≡ true
 entries_short [] = refl
 entries_short (e ∷ es) = both_hold (has_short_arrays (value (e.1).0)) _ (e.1).1 (entries_short es)

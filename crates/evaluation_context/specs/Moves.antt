@@ -14,7 +14,7 @@ use Rattle.evaluation_context.specs.Standings.{Standing}
 
 -- further by these tokens
 unfoldable pub frame_below : Pointer → Frame → Frame
-frame_below way f = record f { path = f.path ++ way; onward = f.onward + length way }
+frame_below way f = record f { path = f.path ++ way; onward = f.onward + length way; beyond = f.beyond + length way }
 
 -- at this instance location
 unfoldable pub frame_at : InstanceLocation → Frame → Frame
@@ -43,3 +43,5 @@ pub record Onward (older newer : Frame) : Type 0 where
   pub instance_location : take (length older.instance_location.pointer) newer.instance_location.pointer ≡ older.instance_location.pointer
   pub scope : newer.scope ≡ older.scope
   pub running : newer.running ≡ older.running
+  pub between : newer.between ≡ older.between
+  pub beyond : newer.beyond + length older.path ≡ older.beyond + length newer.path

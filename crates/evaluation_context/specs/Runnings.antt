@@ -1,25 +1,27 @@
--- A schema object that is being applied, beside the steps that are kept and those of the instance location.
-use Rattle.std.specs.Prelude.{◌&&◌, ◌++◌, Bool, List, Option, None, Some, [], ◌∷◌, ℕ, length, nat_le, option_map, slice_range, take}
+-- A schema object that is being applied, beside the path and the instance location.
+use Rattle.std.specs.Prelude.{◌&&◌, ◌++◌, ◌-◌, Bool, List, Option, None, Some, [], ◌∷◌, ℕ, drop, length, nat_le, option_map, take}
 use Rattle.std.specs.List.{list_all}
 use Rattle.definitions.specs.Values.{Text}
 use Rattle.definitions.specs.Pointers.{Pointer}
 use Rattle.definitions.specs.Schemas.{Identity, same_identity}
 use Rattle.definitions.specs.Applied.{InstanceLocation}
 use Rattle.definitions.specs.Outcomes.{same_location}
-use Rattle.locations.specs.Steps.{tokens}
-use Rattle.locations.specs.declared.step.Step.{Step}
 use Rattle.basic_output.specs.PointerViews.{origin_view}
 use Rattle.basic_output.specs.declared.origin.Origin.{Origin}
 use Rattle.evaluation_context.specs.declared.running.Running.{Running}
 
--- the schema that stands below the origin by these steps
-abbrev pub onward_identity : Origin → List Step → Identity
-onward_identity origin onward = ((origin_view origin).0, (origin_view origin).1 ++ tokens onward)
+-- the last tokens, so many
+abbrev pub last_steps : ℕ → Pointer → Pointer
+last_steps n p = drop (length p - n) p
 
--- its instance location is a beginning of the one where the context stands
-abbrev pub running_view : List Step → Pointer → Running → Identity × InstanceLocation
-running_view steps location r =
-    (onward_identity r.origin.value (slice_range steps r.start r.end), record { pointer = take r.depth location; name = option_map (λ n. n.now) r.name })
+-- the schema to which these tokens lead on from the origin
+abbrev pub onward_identity : Origin → Pointer → Identity
+onward_identity origin onward = ((origin_view origin).0, (origin_view origin).1 ++ onward)
+
+-- the path and the instance location begin with those of the object
+abbrev pub running_view : Pointer → Pointer → Running → Identity × InstanceLocation
+running_view path location r =
+    (onward_identity r.origin.value (last_steps r.onward (take r.reach path)), record { pointer = take r.depth location; name = option_map (λ n. n.now) r.name })
 
 -- the same schema at the same instance location
 abbrev pub is_running_as : Identity → InstanceLocation → Identity × InstanceLocation → Bool
@@ -29,10 +31,20 @@ is_running_as identity instance_location e = same_identity e.0 identity && same_
 abbrev pub are_above : ℕ → List (Identity × InstanceLocation) → Bool
 are_above n os = list_all (λ o. nat_le (length o.1.pointer) n) os
 
--- each stands from its start to its end, one after the other, between the two numbers
-abbrev pub are_laid : (Running → ℕ) → (Running → ℕ) → ℕ → ℕ → List Running → Bool
-are_laid start end from to [] = nat_le from to
-are_laid start end from to (r ∷ rs) = (nat_le from (start r) && nat_le (start r) (end r)) && are_laid start end (end r) to rs
+-- each ends where the one before it does, or further on, between the two numbers
+abbrev pub are_laid : (Running → ℕ) → ℕ → ℕ → List Running → Bool
+are_laid end from to [] = nat_le from to
+are_laid end from to (r ∷ rs) = nat_le from (end r) && are_laid end (end r) to rs
+
+-- the last of the ends, if there is one; or else the start
+abbrev pub last_end : ℕ → List ℕ → ℕ
+last_end from [] = from
+last_end from (n ∷ ns) = last_end n ns
+
+-- how far each end is from the one before it, and the first from the start
+abbrev pub steps_between : ℕ → List ℕ → List ℕ
+steps_between from [] = []
+steps_between from (n ∷ ns) = (n - from) ∷ steps_between n ns
 
 -- the last of the tokens, if there is one
 abbrev pub last_token : Pointer → Option Text

@@ -4,17 +4,17 @@ ghost use Rattle.std.specs.Prelude.{◌≡◌, ◌≤◌, true, IfOk, OnOk, leng
 ghost use Rattle.definitions.specs.Values.{Text, Value, is_object};
 ghost use Rattle.definitions.specs.Answers.{first_application};
 ghost use Rattle.definitions.specs.Outcomes.{is_running};
-ghost use Rattle.basic_output.specs.PointerViews.{onward_pointer, pointer_view};
 ghost use Rattle.basic_output.specs.declared.says.Says as output;
 ghost use Rattle.basic_output.specs.Sayings.{says_value, unit_at};
 ghost use Rattle.json_doc.specs.Docs.{value};
 ghost use Rattle.locations.specs.Steps.{tokens};
 ghost use Rattle.keyword_plans.specs.ScopeViews.{scope_documents};
 ghost use Rattle.schema_index.specs.Locateds.{located_view};
+ghost use Rattle.evaluation_context.specs.RunningViews.{path_pointer};
 ghost use Rattle.evaluation_context.specs.Standings.{application_at, at_keyword, unit_there, within_object};
 
 use crate::running_objects::RunningObjects;
-use basic_output::{Location, Origin, WrittenPointer};
+use basic_output::{Location, Origin};
 use keyword_plans::DynamicScope;
 use linker::Linked;
 use locations::Step;
@@ -27,7 +27,6 @@ use std::rc::Rc;
 /// Contracts see all that it keeps by `context_view`, and where that stands by `frame_standing`.
 #[derive(Drop)]
 pub struct Context<'a> {
-    pub(crate) path: WrittenPointer<'a>,
     /// The schema that was entered last otherwise than by a step from the keyword above it.
     pub(crate) origin: Rc<Origin<'a>>,
     /// How many of the path's last steps lead on from there.
@@ -36,7 +35,7 @@ pub struct Context<'a> {
     /// The dynamic scope.
     pub scope: DynamicScope<'a>,
     pub(crate) running: RunningObjects<'a>,
-    ghost within: { onward ≤ length (pointer_view path) },
+    ghost within: { onward ≤ length (path_pointer running) },
 }
 
 /// The way back from what a keyword applied.
@@ -70,7 +69,6 @@ impl<'a> Context<'a> {
             schema: _,
         } = root;
         Ok(Context {
-            path: WrittenPointer::new(alloc),
             origin: Rc::new(alloc, Origin::new(alloc, resource, steps)?)?,
             onward: 0,
             name: None,
@@ -99,15 +97,8 @@ impl<'a> Context<'a> {
             (λ p. tokens p.items ≡ (frame_standing (context_view self.now)).pointer) }
     {
         let mut pointer = Vec::from_slice(alloc, self.origin.steps())?;
-        pointer.extend_from_slice(self.onward_steps())?;
+        pointer.extend_from_slice(self.running.last_steps(self.onward))?;
         Ok(pointer)
-    }
-
-    // The steps that lead on from the origin.
-    fn onward_steps(&self) -> &[Step<'a>]
-        ensures { tokens result.now ≡ onward_pointer self.now.path self.now.onward }
-    {
-        onward_steps(&self.path, self.onward)
     }
 
     /// Whether a schema object that is applied here is being applied at this instance location already.
@@ -115,8 +106,7 @@ impl<'a> Context<'a> {
         ensures { (s x : Value) → is_object s ≡ true
             → result ≡ is_running (application_at (frame_standing (context_view self.now)) s x) }
     {
-        self.running
-            .contains(&self.origin, self.onward_steps(), self.name)
+        self.running.contains(&self.origin, self.onward, self.name)
     }
 
     /// Writes what the texts of the locations lack, so that a unit's text has only to copy them: `location` says the same
@@ -126,8 +116,7 @@ impl<'a> Context<'a> {
         ensures documents { scope_documents self.new.scope ≡ scope_documents self.old.scope }
     {
         self.write_origin()?;
-        self.path.write()?;
-        self.running.write_instance_location()
+        self.running.write()
     }
 
     // Writes the text of the origin, where that isn't written yet.
@@ -148,7 +137,7 @@ impl<'a> Context<'a> {
             (says_value says) }
     {
         Location {
-            path: &self.path,
+            path: self.running.path(),
             origin: &self.origin,
             onward: self.onward,
             instance_location: self.running.instance_location(),
@@ -166,8 +155,8 @@ impl<'a> Context<'a> {
     {
         let resource = self.resource();
         self.scope.push(resource)?;
-        let onward = onward_steps(&self.path, self.onward);
-        self.running.push(self.origin.clone()?, onward, self.name)?;
+        self.running
+            .push(self.origin.clone()?, self.onward, self.name)?;
         Ok(())
     }
 
@@ -190,7 +179,7 @@ impl<'a> Context<'a> {
             (context_view self.new ≡ keyword_frame name.now (context_view self.old)) }
         ensures documents { scope_documents self.new.scope ≡ scope_documents self.old.scope }
     {
-        self.path.push(Step::Name(name))?;
+        self.running.lengthen(Step::Name(name))?;
         self.onward += 1;
         Ok(())
     }
@@ -201,15 +190,7 @@ impl<'a> Context<'a> {
             → context_view self.new ≡ older }
         ensures documents { scope_documents self.new.scope ≡ scope_documents self.old.scope }
     {
-        self.path.pop();
+        self.running.step_back();
         self.onward = self.onward.saturating_sub(1);
     }
-}
-
-// The last steps of the path, so many.
-fn onward_steps<'s, 'a>(path: &'s WrittenPointer<'a>, onward: usize) -> &'s [Step<'a>]
-    ensures { tokens result.now ≡ onward_pointer path.now onward }
-{
-    let steps = path.steps();
-    &steps[steps.len().saturating_sub(onward)..]
 }

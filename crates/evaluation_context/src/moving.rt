@@ -44,7 +44,7 @@ impl<'a> Context<'a> {
         ensures err { IfErr result (λ f. f ≡ Fault.NoRoom) }
         ensures documents { scope_documents self.new.scope ≡ scope_documents self.old.scope }
     {
-        let path = self.path.len();
+        let path = self.running.path().len();
         let onward = self.onward;
         let instance_location = self.running.instance_location().len();
         let name = self.name;
@@ -72,12 +72,11 @@ impl<'a> Context<'a> {
             instance_location,
             name,
         } = back;
-        self.path.truncate(path);
-        self.onward = onward.min(self.path.len());
+        self.running.cut(path, instance_location);
+        self.onward = onward.min(self.running.path().len());
         if let Some(origin) = origin {
             self.origin = origin;
         }
-        self.running.cut(instance_location);
         self.name = name;
     }
 
@@ -119,7 +118,7 @@ impl<'a> Context<'a> {
     {
         match step {
             Some(step) => {
-                self.path.push(step)?;
+                self.running.lengthen(step)?;
                 self.onward += 1;
                 Ok(())
             }

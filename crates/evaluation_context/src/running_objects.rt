@@ -1,6 +1,6 @@
-//! The instance location, and the schema objects that are being applied there and above it.
+//! The evaluation path and the instance location, and the schema objects that are being applied along them.
 
-ghost use Rattle.std.specs.Prelude.{◌≡◌, ◌≤◌, ◌-◌, ◌++◌, ◌∷◌, ◌&&◌, [], false, true, Some, if◌then◌else◌, is_ok, length, option_map, slice_index_or, slice_range, take, ℕ, IfSome, OnOk, List};
+ghost use Rattle.std.specs.Prelude.{◌≡◌, ◌≤◌, ◌-◌, ◌++◌, ◌∷◌, ◌&&◌, [], false, true, Some, if◌then◌else◌, is_ok, length, map, max, option_map, slice_index_or, take, ℕ, IfSome, OnOk, List};
 ghost use Rattle.std.specs.List.{list_any};
 ghost use Rattle.definitions.specs.Pointers.{same_pointer};
 ghost use Rattle.definitions.specs.Values.{same_text};
@@ -9,7 +9,7 @@ ghost use Rattle.definitions.specs.Applied.{InstanceLocation};
 ghost use Rattle.definitions.specs.Outcomes.{same_name};
 ghost use Rattle.locations.specs.Steps.{token, tokens};
 ghost use Rattle.basic_output.specs.PointerViews.{pointer_view};
-ghost use Rattle.evaluation_context.specs.Runnings.{are_above, are_laid, is_running_as, last_token, onward_identity, running_view};
+ghost use Rattle.evaluation_context.specs.Runnings.{are_above, are_laid, is_running_as, last_end, last_steps, last_token, onward_identity, running_view};
 
 use crate::running::Running;
 use basic_output::{Origin, WrittenPointer};
@@ -17,37 +17,52 @@ use locations::{Step, same_steps};
 use std::alloc::{AllocError, Global};
 use std::rc::Rc;
 
-/// The instance location, and the schema objects that are being applied, the outermost first. Each is applied where the
-/// one before it is, or below, so that all their instance locations are beginnings of this one. The steps that lead from
-/// their origins to them are copied, so that they stay while a context moves, into one list that all of them share.
+/// The evaluation path and the instance location, and the schema objects that are being applied, the outermost first. Each is
+/// applied where the one before it is, or below, so that the paths to all of them are beginnings of this path, and their
+/// instance locations beginnings of this one.
 ///
-/// Contracts see the identities and instance locations of the objects by `running_objects`, and the instance location
-/// by `instance_pointer`.
+/// Contracts see the identities and instance locations of the objects by `running_objects`, how long the paths to them are
+/// by `path_ends`, the path by `path_pointer` and the instance location by `instance_pointer`.
 #[derive(Drop)]
 pub(crate) struct RunningObjects<'a> {
     entries: Vec<Running<'a>>,
-    steps: Vec<Step<'a>>,
+    path: WrittenPointer<'a>,
     instance_location: WrittenPointer<'a>,
-    ghost laid: { are_laid (λ r. r.start) (λ r. r.end) 0 (length steps.items) entries.items
-        ≡ true },
-    ghost nested: { are_laid (λ r. r.depth) (λ r. r.depth) 0
-        (length (pointer_view instance_location)) entries.items
+    ghost laid: { are_laid (λ r. r.reach) 0 (length (pointer_view path)) entries.items ≡ true },
+    ghost nested: { are_laid (λ r. r.depth) 0 (length (pointer_view instance_location))
+        entries.items
         ≡ true },
 }
 
 impl<'a> RunningObjects<'a> {
-    ghost use Rattle.evaluation_context.specs.RunningViews.{instance_pointer, running_objects};
+    ghost use Rattle.evaluation_context.specs.RunningViews.{instance_pointer, path_ends, path_pointer, running_objects};
 
     /// None, at the whole instance. This takes no memory; what comes later takes it from `alloc`.
     pub(crate) fn new(alloc: Global) -> RunningObjects<'a>
         ensures running { running_objects result ≡ [] }
+        ensures ends { path_ends result ≡ [] }
+        ensures path { path_pointer result ≡ [] }
         ensures instance_location { instance_pointer result ≡ [] }
     {
         RunningObjects {
             entries: Vec::new(alloc),
-            steps: Vec::new(alloc),
+            path: WrittenPointer::new(alloc),
             instance_location: WrittenPointer::new(alloc),
         }
+    }
+
+    /// The evaluation path.
+    pub(crate) fn path(&self) -> &WrittenPointer<'a>
+        ensures { pointer_view result.now ≡ path_pointer self.now }
+    {
+        &self.path
+    }
+
+    /// The last steps of the path, so many.
+    pub(crate) fn last_steps(&self, count: usize) -> &[Step<'a>]
+        ensures { tokens result.now ≡ last_steps count (path_pointer self.now) }
+    {
+        last_steps(self.path.steps(), count)
     }
 
     /// The instance location.
@@ -57,56 +72,90 @@ impl<'a> RunningObjects<'a> {
         &self.instance_location
     }
 
-    /// Writes what the text of the instance location lacks. The only error is want of memory.
-    pub(crate) fn write_instance_location(&mut self) -> Result<(), AllocError>
+    /// Writes what the texts of the path and of the instance location lack. The only error is want of memory.
+    pub(crate) fn write(&mut self) -> Result<(), AllocError>
         ensures running { running_objects self.new ≡ running_objects self.old }
+        ensures ends { path_ends self.new ≡ path_ends self.old }
+        ensures path { path_pointer self.new ≡ path_pointer self.old }
         ensures instance_location { instance_pointer self.new ≡ instance_pointer self.old }
     {
+        self.path.write()?;
         self.instance_location.write()
+    }
+
+    /// The path is one step longer. The only error is want of memory, and then it stays as it was.
+    pub(crate) fn lengthen(&mut self, step: Step<'a>) -> Result<(), AllocError>
+        ensures running { running_objects self.new ≡ running_objects self.old }
+        ensures ends { path_ends self.new ≡ path_ends self.old }
+        ensures path { path_pointer self.new
+            ≡ (if is_ok result then path_pointer self.old ++ token step.entry ∷ []
+            else path_pointer self.old) }
+        ensures instance_location { instance_pointer self.new ≡ instance_pointer self.old }
+    {
+        self.path.push(step)
+    }
+
+    /// The path is one step shorter, where no object needs that step.
+    pub(crate) fn step_back(&mut self)
+        ensures running { running_objects self.new ≡ running_objects self.old }
+        ensures ends { path_ends self.new ≡ path_ends self.old }
+        ensures path { path_pointer self.new
+            ≡ take (max (length (path_pointer self.old) - 1) (last_end 0 (path_ends self.old)))
+            (path_pointer self.old) }
+        ensures instance_location { instance_pointer self.new ≡ instance_pointer self.old }
+    {
+        if self.needed().0 < self.path.len() {
+            self.path.pop();
+        }
     }
 
     /// The instance location is one step longer.
     pub(crate) fn deepen(&mut self, step: Step<'a>) -> Result<(), AllocError>
         ensures running { OnOk result (running_objects self.new ≡ running_objects self.old) }
+        ensures ends { path_ends self.new ≡ path_ends self.old }
+        ensures path { path_pointer self.new ≡ path_pointer self.old }
         ensures instance_location { OnOk result
             (instance_pointer self.new ≡ instance_pointer self.old ++ token step.entry ∷ []) }
     {
         self.instance_location.push(step)
     }
 
-    /// Only so many steps of the instance location stay, and those that an object needs.
-    pub(crate) fn cut(&mut self, steps: usize)
+    /// Only so many steps of the path and so many of the instance location stay, and those that an object needs.
+    pub(crate) fn cut(&mut self, steps: usize, instance_steps: usize)
         ensures running { running_objects self.new ≡ running_objects self.old }
-        ensures instance_location { are_above steps (running_objects self.old) ≡ true
-            → instance_pointer self.new ≡ take steps (instance_pointer self.old) }
+        ensures ends { path_ends self.new ≡ path_ends self.old }
+        ensures path { path_pointer self.new
+            ≡ take (max steps (last_end 0 (path_ends self.old))) (path_pointer self.old) }
+        ensures instance_location { are_above instance_steps (running_objects self.old) ≡ true
+            → instance_pointer self.new ≡ take instance_steps (instance_pointer self.old) }
     {
-        let needed = self.depth();
-        self.instance_location.truncate(steps.max(needed));
+        let (reach, depth) = self.needed();
+        self.path.truncate(steps.max(reach));
+        self.instance_location.truncate(instance_steps.max(depth));
     }
 
-    // How many steps the instance location of the innermost object has.
-    fn depth(&self) -> usize
-        ensures within { result ≤ length (pointer_view self.now.instance_location) }
-        ensures enough { are_laid (λ r. r.depth) (λ r. r.depth) 0 result self.now.entries.items
-            ≡ true }
-        ensures least { (n : ℕ) → are_above n (running_objects self.now) ≡ true → result ≤ n }
+    // How many steps of the path and of the instance location lead to the innermost object.
+    fn needed(&self) -> (usize, usize)
+        ensures reach { result.0 ≡ last_end 0 (path_ends self.now) }
+        ensures depth { result.1 ≡ last_end 0 (map (λ r. r.depth) self.now.entries.items) }
     {
         match self.entries.last() {
-            Some(entry) => entry.depth,
-            None => 0,
+            Some(entry) => (entry.reach, entry.depth),
+            None => (0, 0),
         }
     }
 
-    /// One object more, the innermost, applied at the instance location.
+    /// One object more, the innermost, applied at the end of the path and at the instance location. So many of the path's last
+    /// steps lead on to it from the origin. The only error is want of memory.
     pub(crate) fn push(
         &mut self,
         origin: Rc<Origin<'a>>,
-        onward: &[Step<'a>],
+        onward: usize,
         name: Option<&'a str>,
     ) -> Result<(), AllocError>
         ensures running { OnOk result (running_objects self.new ≡ running_objects self.old
             ++ (
-              onward_identity origin.entry.value onward.now,
+              onward_identity origin.entry.value (last_steps onward (path_pointer self.old)),
               record {
                 pointer = instance_pointer self.old;
                 name = option_map
@@ -114,46 +163,41 @@ impl<'a> RunningObjects<'a> {
               },
             )
             ∷ []) }
+        ensures ends { OnOk result (path_ends self.new
+            ≡ path_ends self.old ++ length (path_pointer self.old) ∷ []) }
+        ensures path { path_pointer self.new ≡ path_pointer self.old }
         ensures instance_location { instance_pointer self.new ≡ instance_pointer self.old }
     {
-        let start = self.steps.len();
-        append(&mut self.steps, onward)?;
         self.entries.push(Running {
             origin,
             name,
-            start,
-            end: self.steps.len(),
+            reach: self.path.len(),
+            onward,
             depth: self.instance_location.len(),
         })?;
         Ok(())
     }
 
-    /// One object less, the innermost, with the steps that were kept for it.
+    /// One object less, the innermost.
     pub(crate) fn pop(&mut self)
         ensures running { (older : List (Identity × InstanceLocation))
             (e : Identity × InstanceLocation)
             → running_objects self.old ≡ older ++ e ∷ [] → running_objects self.new ≡ older }
+        ensures ends { (older : List ℕ) (end : ℕ) → path_ends self.old ≡ older ++ end ∷ []
+            → path_ends self.new ≡ older }
+        ensures path { path_pointer self.new ≡ path_pointer self.old }
         ensures instance_location { instance_pointer self.new ≡ instance_pointer self.old }
-        ensures steps { (older : List Running) (e : Running)
-            → self.old.entries.items ≡ older ++ e ∷ []
-            → self.new.steps.items ≡ take e.start self.old.steps.items }
     {
-        match self.entries.pop() {
-            Some(entry) => self.steps.truncate(entry.start),
-            None => {}
-        }
+        self.entries.pop();
     }
 
-    /// Whether one of them stands below the origin by these steps, and is applied at the instance location with this name.
-    /// Objects higher up stand before those at the instance location, so that the search ends at the first of them.
-    pub(crate) fn contains(
-        &self,
-        origin: &Origin<'_>,
-        onward: &[Step<'_>],
-        name: Option<&str>,
-    ) -> bool
+    /// Whether one of them stands below the origin by the last steps of the path, so many, and is applied at the instance
+    /// location with this name. Objects higher up stand before those at the instance location, so that the search ends at the
+    /// first of them.
+    pub(crate) fn contains(&self, origin: &Origin<'_>, onward: usize, name: Option<&str>) -> bool
         ensures { result ≡ list_any
-            (is_running_as (onward_identity origin.now onward.now) (record {
+            (is_running_as (onward_identity origin.now (last_steps onward (path_pointer self.now)))
+            (record {
               pointer = instance_pointer self.now;
               name = option_map
                   (λ n. n.now) name.entry;
@@ -168,7 +212,7 @@ impl<'a> RunningObjects<'a> {
             if entry.depth < depth {
                 return false;
             }
-            if is_same(&self.steps, entry, origin, onward, name) {
+            if is_same(self.path.steps(), entry, origin, onward, name) {
                 return true;
             }
         }
@@ -176,43 +220,49 @@ impl<'a> RunningObjects<'a> {
     }
 }
 
-// Appends the steps. Often there are none, and then nothing is called.
-#[inline(always)]
-fn append<'a>(steps: &mut Vec<Step<'a>>, more: &[Step<'a>]) -> Result<(), AllocError>
-    ensures { steps.new.items ≡ (if is_ok result
-        then steps.old.items ++ more.now
-        else steps.old.items) }
+// The last steps, so many.
+fn last_steps<'s, 'a>(steps: &'s [Step<'a>], count: usize) -> &'s [Step<'a>]
+    ensures { tokens result.now ≡ last_steps count (tokens steps.now) }
 {
-    if more.is_empty() {
-        return Ok(());
-    }
-    steps.extend_from_slice(more)
+    &steps[steps.len().saturating_sub(count)..]
 }
 
-// Whether the object is this schema, applied where the name at the instance location is this one. It is called apart, since
-// few searches get so far.
+// Whether the object is the schema to which the last steps of the path, so many, lead from the origin, applied where the name
+// at the instance location is this one. It is called apart, since few searches get so far.
 #[inline(never)]
 fn is_same(
-    steps: &[Step<'_>],
+    path: &[Step<'_>],
     object: &Running<'_>,
     origin: &Origin<'_>,
-    onward: &[Step<'_>],
+    onward: usize,
     name: Option<&str>,
 ) -> bool
-    requires start { object.now.start ≤ object.now.end }
-    requires within { object.now.end ≤ length steps.now }
+    requires { object.now.reach ≤ length path.now }
     ensures { result ≡ (same_identity (onward_identity object.now.origin.value
-        (slice_range steps.now object.now.start object.now.end))
-        (onward_identity origin.now onward.now)
+        (last_steps object.now.onward (take object.now.reach (tokens path.now))))
+        (onward_identity origin.now (last_steps onward (tokens path.now)))
         && same_name (option_map (λ n. n.now) object.now.name)
         (option_map (λ n. n.now) name.entry)) }
 {
-    let own = &object.origin;
-    let own_onward = &steps[object.start..object.end];
-    !ends_otherwise(own.steps(), own_onward, origin.steps(), onward)
-        && are_joined(own.steps(), own_onward, origin.steps(), onward)
-        && own.resource() == origin.resource()
-        && same_name(object.name, name)
+    let (to_object, _) = path.split_at(object.reach);
+    let own_onward = last_steps(to_object, object.onward);
+    let onward = last_steps(path, onward);
+    is_same_schema(&object.origin, own_onward, origin, onward) && same_name(object.name, name)
+}
+
+// Whether the steps lead from the origin to the schema to which the others lead from the other origin.
+fn is_same_schema(
+    origin: &Origin<'_>,
+    onward: &[Step<'_>],
+    other: &Origin<'_>,
+    other_onward: &[Step<'_>],
+) -> bool
+    ensures { result ≡ same_identity (onward_identity origin.now (tokens onward.now))
+        (onward_identity other.now (tokens other_onward.now)) }
+{
+    !ends_otherwise(origin.steps(), onward, other.steps(), other_onward)
+        && are_joined(origin.steps(), onward, other.steps(), other_onward)
+        && origin.resource() == other.resource()
 }
 
 // Whether the steps of the first two lists surely end otherwise than those of the others.

@@ -10,7 +10,7 @@ use Rattle.evaluation_context.proofs.context.Context.enter_origin.Goals as goal
 
 pub returns-clause-moved : goal.returns-clause-moved
 unfolding context_view at_origin
-returns-clause-moved c = same_frames refl (ap (λ (o : Rc Origin Global). origin_view o.value) c.replace.ensures.after) refl refl refl refl
+returns-clause-moved c = same_frames refl (ap (λ (o : Rc Origin Global). origin_view o.value) c.replace.ensures.after) refl refl refl refl refl refl
 
 pub returns-clause-left : goal.returns-clause-left
 unfolding context_view

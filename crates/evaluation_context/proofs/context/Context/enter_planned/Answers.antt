@@ -24,7 +24,7 @@ leads c =
     let old = c.args.self.now in
     let long = c.len-instance_location.ensures ∙ ap length c.instance_location.ensures in
     record {
-      path = c.len-path.ensures;
+      path = c.len-path.ensures ∙ ap length c.path.ensures;
       onward = refl;
       within = context_within old;
       instance_location = long;

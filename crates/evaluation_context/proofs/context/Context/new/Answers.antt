@@ -2,7 +2,8 @@ use Rattle.std.proofs.Common.{◌≡◌, [], None, refl, ap, ◌∙◌}
 use Rattle.definitions.specs.Schemas.{Identity}
 use Rattle.json_doc.specs.Docs.{value}
 use Rattle.locations.specs.Steps.{tokens}
-use Rattle.basic_output.specs.PointerViews.{origin_view, pointer_view}
+use Rattle.basic_output.specs.PointerViews.{origin_view}
+use Rattle.evaluation_context.specs.RunningViews.{path_pointer}
 use Rattle.evaluation_context.specs.Standings.{Standing, application_at}
 use Rattle.evaluation_context.specs.Frames.{context_view, frame_standing}
 use Rattle.evaluation_context.proofs.FrameLaws.{pointer_begins, same_locations, same_standings}
@@ -16,9 +17,9 @@ returns-clause-there c = λ x.
     let origin : origin_view c.in_ok-new-2.field-0.value ≡ (root.resource.now, tokens root.steps.items) = ap origin_view c.in_ok-new-2.ensures.ok ∙ c.in_ok-new.ensures in
     ap (λ st. application_at st (value root.schema.now) x)
     (same_standings {t = start}
-    c.new.ensures
+    c.new-4.ensures.path
     (ap (λ (i : Identity). i.0) origin)
-    (pointer_begins (origin_view c.in_ok-new-2.field-0.value).1 (pointer_view c.new.result) ∙ ap (λ (i : Identity). i.1) origin)
-    (same_locations c.new-5.ensures.instance_location refl)
-    c.new-4.ensures.uris
-    c.new-5.ensures.running)
+    (pointer_begins (origin_view c.in_ok-new-2.field-0.value).1 (path_pointer c.new-4.result) ∙ ap (λ (i : Identity). i.1) origin)
+    (same_locations c.new-4.ensures.instance_location refl)
+    c.new-3.ensures.uris
+    c.new-4.ensures.running)

@@ -10,6 +10,6 @@ pub returns : goal.returns
 unfolding context_view frame_standing
 returns c =
     let first = c.in_ok-pointer.pointer.items in
-    let second = c.onward_steps.result.now in
+    let second = c.last_steps.result.now in
     ap tokens c.in_ok-extend_from_slice.ensures.items ∙ map-append token first second
-    ∙ ap₂ (λ a b. a ++ b) (ap tokens c.in_ok-pointer.ensures.items ∙ c.steps.ensures ∙ ap (λ (o : Origin). (origin_view o).1) c.deref.ensures) c.onward_steps.ensures
+    ∙ ap₂ (λ a b. a ++ b) (ap tokens c.in_ok-pointer.ensures.items ∙ c.steps.ensures ∙ ap (λ (o : Origin). (origin_view o).1) c.deref.ensures) c.last_steps.ensures

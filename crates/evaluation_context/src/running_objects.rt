@@ -250,7 +250,8 @@ fn is_same(
     is_same_schema(&object.origin, own_onward, origin, onward) && same_name(object.name, name)
 }
 
-// Whether the steps lead from the origin to the schema to which the others lead from the other origin.
+// Whether the steps lead from the origin to the schema to which the others lead from the other origin. Ends are compared
+// before anything longer: those of the pointers, and those of the URIs.
 fn is_same_schema(
     origin: &Origin<'_>,
     onward: &[Step<'_>],
@@ -261,6 +262,7 @@ fn is_same_schema(
         (onward_identity other.now (tokens other_onward.now)) }
 {
     !ends_otherwise(origin.steps(), onward, other.steps(), other_onward)
+        && last_byte(origin.resource()) == last_byte(other.resource())
         && are_joined(origin.steps(), onward, other.steps(), other_onward)
         && origin.resource() == other.resource()
 }

@@ -91,7 +91,8 @@ impl<'a> Evaluation<'a> {
     }
 
     // Whether the instance is one of the values of the schema's `enum`, by what the evaluation has sorted. The only error is
-    // want of memory.
+    // want of memory. It is called apart, since few assertions get so far.
+    #[inline(never)]
     fn is_one_of(&mut self, values: &Doc, here: Here<'_, 'a>) -> Result<bool, Fault>
         ensures linked { self.new.linked ≡ self.old.linked }
         ensures back { self.new.context ≡ self.old.context }
@@ -112,6 +113,7 @@ impl<'a> Evaluation<'a> {
     }
 
     // The keyword isn't met. The only error is want of memory.
+    #[inline(never)]
     fn refuse(&mut self, keyword: Keyword) -> Result<Found, Fault>
         ensures linked { self.new.linked ≡ self.old.linked }
         ensures back { OnOk result (context_view self.new.context ≡ context_view self.old.context) }

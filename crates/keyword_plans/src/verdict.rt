@@ -2,7 +2,7 @@
 
 ghost use Rattle.std.specs.Prelude.{◌≡◌, ◌||◌, ℕ, List, Option, Some, true, IfOk, IfErr, codes, count_by, length, nat_lt, not, option_map};
 ghost use Rattle.assertions.specs.AssertionView.{assertion_view};
-ghost use Rattle.definitions.specs.Values.{Text, get, integer, is_array};
+ghost use Rattle.definitions.specs.Values.{Text, get, integer, is_array, string};
 ghost use Rattle.definitions.specs.Assertions.{holds, is_at_least, is_at_most};
 ghost use Rattle.definitions.specs.Patterns.{has_match};
 ghost use Rattle.definitions.specs.Applied.{Application, Outcome, beside, contains_outcomes};
@@ -68,6 +68,7 @@ pub fn passes<'a>(
 
 /// Whether the keyword that makes this assertion, with this value, holds of what the schema is applied to. The only error
 /// is want of memory.
+#[inline(always)]
 pub fn holds_of(
     alloc: Global,
     assertion: Assertion,
@@ -80,11 +81,23 @@ pub fn holds_of(
 {
     match subject {
         Subject::Value(doc) => holds(alloc, assertion, keyword_value, doc),
-        Subject::Name(name) => {
-            let name = Doc::string(alloc, name)?;
-            holds(alloc, assertion, keyword_value, &name)
-        }
+        Subject::Name(name) => holds_of_name(alloc, assertion, keyword_value, name),
     }
+}
+
+// The same of a name alone. It is called apart, since few assertions are made of names.
+#[inline(never)]
+fn holds_of_name(
+    alloc: Global,
+    assertion: Assertion,
+    keyword_value: &Doc,
+    name: &str,
+) -> Result<bool, AllocError>
+    ensures { IfOk result (λ b. b
+        ≡ holds (assertion_view assertion) (value keyword_value.now) (string name.now)) }
+{
+    let name = Doc::string(alloc, name)?;
+    holds(alloc, assertion, keyword_value, &name)
 }
 
 // Whether the pattern matches the subject, where it is a string (Validation, 6.3.3).

@@ -23,10 +23,11 @@ CALLS = b"""{"before":[["put","https://ex.org/s",{"type":"null"}]],
 NO_CALL = b'{"before":[["get","https://ex.org/s"]],"repeat":[]}'
 STREAM = b"GET /bundle?uri=https://ex.org/s HTTP/1.1\r\n\r\n"
 
-USAGE = b"usage: benchmark read|compile|validate|check|ask TIMES, benchmark feed SIZE"
+USAGE = b"usage: benchmark syntax|read|compile|validate|check|ask TIMES, benchmark feed SIZE"
 
 # A name, the words, standard input, the status, and a part of what is printed: of standard output, all of it.
 CASES = [
+    ("tests the syntax", ["syntax", "3"], VALID, 0, b"3\n"),
     ("reads", ["read", "3"], VALID, 0, b"3\n"),
     ("compiles", ["compile", "3"], VALID, 0, b"3\n"),
     ("validates", ["validate", "3"], VALID, 0, b"3\n"),

@@ -13,6 +13,8 @@ if it isn't said):
     validate  the instance is evaluated by the linked schema, up to the text of the output
     check     all of it, from the text that holds both
 
+Beside them instructions are counted of `syntax`, which tests that the instance's text is JSON and keeps nothing of it.
+
 The time of one turn is the processor's time of many turns less that of none, so that the start of the program doesn't
 count. Of three such times the least is taken. Another program that runs beside makes times longer all the same, but not
 the numbers of instructions.
@@ -117,7 +119,7 @@ class Bench:
             row["valid"] = self.took("validate", it.name, 1)[1] == 1
             for part in PARTS:
                 row[part] = self.turn(part, it.name)
-            for part in ("read", "validate"):
+            for part in ("syntax", "read", "validate"):
                 row[f"{part} instructions"] = self.instructions(part, it.name)
             return row
         finally:
@@ -158,7 +160,8 @@ def print_table(head, rows):
 
 def workload_row(name, row):
     read, validate = row["read"], row["validate"]
-    counted, alone = row["validate instructions"], row["read instructions"]
+    counted, alone, bare = (row[f"{part} instructions"] for part in ("validate", "read", "syntax"))
+    road = None if counted is None or alone is None else counted + alone
     return [
         name + ("" if row["valid"] else " (invalid)"),
         amount(row["bytes"]),
@@ -170,6 +173,7 @@ def workload_row(name, row):
         rate(row["check"]),
         amount(counted),
         ratio(counted, alone),
+        ratio(road, bare),
     ]
 
 
@@ -184,6 +188,7 @@ HEAD = [
     "Whole checks a second",
     "Instructions to validate",
     "To those to read",
+    "Both to those to test the syntax",
 ]
 
 

@@ -3,7 +3,9 @@
 use crate::asking::repeat_calls;
 use crate::failure::Failure;
 use crate::feeding::feed_pieces;
-use crate::repeating::{linked, repeat_check, repeat_evaluate, repeat_link, repeat_read};
+use crate::repeating::{
+    linked, repeat_check, repeat_evaluate, repeat_link, repeat_read, repeat_syntax,
+};
 use crate::workload::{Workload, named};
 use checks::DEFAULT_URI;
 use faults::Fault;
@@ -91,6 +93,9 @@ fn count_of_check(
 ) -> Result<u32, Fault> {
     let schema = member(input, "schema")?;
     let instance = member(input, "instance")?;
+    if workload == Workload::Syntax {
+        return repeat_syntax(alloc, write(alloc, instance)?.as_str(), times);
+    }
     if workload == Workload::Read {
         return repeat_read(alloc, write(alloc, instance)?.as_bytes(), times);
     }

@@ -12,12 +12,27 @@ ghost use Rattle.benchmark.specs.Counts.{valid_count};
 use checks::check_input;
 use evaluator::evaluate;
 use faults::Fault;
+use json::is_valid;
 use json_doc::{Doc, Scratch, read_with};
 use linker::{Linked, ListSource, link};
 use schema_scan::{canonical, compile, scan};
 use std::alloc::Global;
 use std::rc::Rc;
 use uri_ref::split;
+
+/// Tests the syntax of the text so often, in memory that is kept from one turn to the next, and answers how often; a text that
+/// isn't JSON is BadJson.
+pub fn repeat_syntax(alloc: Global, text: &str, times: u32) -> Result<u32, Fault>
+    ensures { IfOk result (λ count. count ≡ times) }
+{
+    let mut scratch = Scratch::new(alloc);
+    for _ in 0..times {
+        if !is_valid(text, &mut scratch)? {
+            return Err(Fault::BadJson);
+        }
+    }
+    Ok(times)
+}
 
 /// Reads the text so often, in memory that is kept from one turn to the next, and answers how often.
 pub fn repeat_read(alloc: Global, text: &[u8], times: u32) -> Result<u32, Fault>

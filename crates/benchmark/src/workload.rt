@@ -3,6 +3,8 @@
 /// A part of a check, or of the service, that is done again and again.
 #[derive(Clone, Copy, Debug, PartialEq, Eq)]
 pub enum Workload {
+    /// The syntax of the instance's text is tested, and nothing is kept of it.
+    Syntax,
     /// The text of the instance is read.
     Read,
     /// The schema is scanned, compiled and linked.
@@ -20,6 +22,7 @@ pub enum Workload {
 /// The workload that has this name.
 pub fn named(name: &str) -> Option<Workload> {
     match name {
+        "syntax" => Some(Workload::Syntax),
         "read" => Some(Workload::Read),
         "compile" => Some(Workload::Compile),
         "validate" => Some(Workload::Validate),

@@ -1,7 +1,8 @@
 //! JSON values.
 
-ghost use Rattle.std.specs.Prelude.{◌≡◌, IfOk, option_map, map, string_bytes};
-ghost use Rattle.definitions.specs.Values.{get, as_string, string, text_at};
+ghost use Rattle.std.specs.Prelude.{◌≡◌, ◌≤◌, IfOk, length, option_map, map, string_bytes};
+ghost use Rattle.std.specs.Result.{IsOk};
+ghost use Rattle.definitions.specs.Values.{get, as_string, same, string, text_at};
 ghost use Rattle.json_doc.specs.Docs.{value, members_value};
 ghost use Rattle.json_doc.specs.Kinds.{as_boolean, as_integer, as_elements, as_members};
 
@@ -39,7 +40,8 @@ impl Doc {
     /// The text as a string. The only error is want of memory, which no text of at most 24 bytes takes.
     #[inline(always)]
     pub fn string(alloc: Global, text: &str) -> Result<Doc, AllocError>
-        ensures { IfOk result (λ d. value d ≡ string text.now) }
+        ensures ok { IfOk result (λ d. value d ≡ string text.now) }
+        ensures short { length text.now ≤ 24 → IsOk result }
     {
         match ShortText::of(text) {
             Some(short) => Ok(Doc::Short(short)),
@@ -85,6 +87,19 @@ impl Doc {
             Doc::Str(text) => Some(text.as_str()),
             Doc::Short(text) => Some(text.as_str()),
             _ => None,
+        }
+    }
+
+    /// Whether the value is this text.
+    #[inline(always)]
+    pub fn is_text(&self, text: &str) -> bool
+        ensures { result ≡ same (string text.now) (value self.now) }
+    {
+        match self {
+            // Most texts differ in their lengths, which are compared here without a call.
+            Doc::Str(own) => own.len() == text.len() && own.as_str() == text,
+            Doc::Short(own) => own.len() == text.len() && own.as_str() == text,
+            _ => false,
         }
     }
 

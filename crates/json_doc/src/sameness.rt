@@ -1,7 +1,7 @@
 //! Equality by content.
 
 ghost use Rattle.std.specs.Prelude.{◌≡◌, ◌↔◌, IsTrue, map};
-ghost use Rattle.definitions.specs.Values.{same, same_elements, same_members, string, to_elements};
+ghost use Rattle.definitions.specs.Values.{same, same_elements, same_members, to_elements};
 ghost use Rattle.json_doc.specs.Docs.{value, members_view};
 
 use crate::doc::Doc;
@@ -30,8 +30,8 @@ fn are_same(first: &Doc, second: &Doc) -> bool
             Doc::Int(other) => number == other,
             _ => false,
         },
-        Doc::Str(text) => is_text(second, text.as_str()),
-        Doc::Short(text) => is_text(second, text.as_str()),
+        Doc::Str(text) => second.is_text(text.as_str()),
+        Doc::Short(text) => second.is_text(text.as_str()),
         Doc::List(items) => match second {
             Doc::List(others) => are_items_same(items.as_slice(), others.as_slice()),
             _ => false,
@@ -40,17 +40,6 @@ fn are_same(first: &Doc, second: &Doc) -> bool
             Doc::Dict(others) => are_members_same(members, others),
             _ => false,
         },
-    }
-}
-
-// Whether the value is this text.
-fn is_text(doc: &Doc, text: &str) -> bool
-    ensures { result ≡ same (string text.now) (value doc.now) }
-{
-    match doc {
-        Doc::Str(other) => text == other.as_str(),
-        Doc::Short(other) => text == other.as_str(),
-        _ => false,
     }
 }
 

@@ -1,6 +1,7 @@
 //! Short texts, which stand in the value itself.
 
-ghost use Rattle.std.specs.Prelude.{◌≡◌, ◌≤◌, length, take, true};
+ghost use Rattle.std.specs.Prelude.{◌≡◌, ◌≤◌, ◌<◌, length, take, true};
+ghost use Rattle.std.specs.Option.{MatchOption};
 ghost use Rattle.std.specs.Str.{is_utf8};
 
 use std::str;
@@ -20,13 +21,12 @@ pub struct ShortText {
 }
 
 impl ShortText {
-    ghost use Rattle.std.specs.Prelude.{IfSome};
     ghost use Rattle.json_doc.specs.SmallTexts.{short_text};
 
     /// The text, if it has at most 24 bytes.
     #[inline(always)]
     pub fn of(text: &str) -> Option<ShortText>
-        ensures { IfSome result (λ s. short_text s ≡ text.now) }
+        ensures { MatchOption result (24 < length text.now) (λ s. short_text s ≡ text.now) }
     {
         let len = text.len();
         if len > SHORT {
@@ -36,6 +36,14 @@ impl ShortText {
             len: len as u32,
             bytes: padded(text),
         })
+    }
+
+    /// How many bytes it has.
+    #[inline(always)]
+    pub fn len(&self) -> usize
+        ensures { result ≡ length (short_text self.now) }
+    {
+        self.len as usize
     }
 
     /// The text.

@@ -1,6 +1,7 @@
 //! Names, of which short ones stand in the value itself.
 
-ghost use Rattle.std.specs.Prelude.{◌≡◌, Some, IfOk, nat_eq, refl};
+ghost use Rattle.std.specs.Prelude.{◌≡◌, ◌≤◌, Some, IfOk, length, nat_eq, refl};
+ghost use Rattle.std.specs.Result.{IsOk};
 ghost use Rattle.std.specs.Cmp.{on_equiv, on_total, on_po, on_per, partial_equiv_from_equiv};
 ghost use Rattle.std.specs.Cmp.Lexicographic.{pointwise, slice_cmp, nat_list_eq_equiv, nat_list_cmp_total, texts_po, texts_ties};
 ghost use Rattle.std.specs.Ordering.{nat_cmp};
@@ -29,7 +30,8 @@ impl SmallText {
     /// This text. The only error is want of memory, which no text of at most 24 bytes takes.
     #[inline(always)]
     pub fn from_str(alloc: Global, text: &str) -> Result<SmallText, AllocError>
-        ensures { IfOk result (λ t. text_view t ≡ text.now) }
+        ensures ok { IfOk result (λ t. text_view t ≡ text.now) }
+        ensures short { length text.now ≤ 24 → IsOk result }
     {
         match ShortText::of(text) {
             Some(short) => Ok(SmallText::Short(short)),

@@ -56,6 +56,10 @@ fn texts_and_names_are_short_or_long(rt: HostRuntime) -> Result<(), Fail> {
     for text in TEXTS {
         let string = Doc::string(alloc, text)?;
         assert!(rt; string.as_str() == Some(*text), "{text}");
+        assert!(rt;
+            string.is_text(text) && !string.is_text("none of them"),
+            "{text}"
+        );
         let mut members = Members::new(alloc);
         members.insert(alloc, text, string)?;
         let doc = Doc::Dict(members);

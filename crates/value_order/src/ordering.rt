@@ -9,6 +9,9 @@ ghost use Rattle.value_order.specs.Orders.{kind, compared, compared_elements, co
 use json_doc::{Doc, Members};
 use std::cmp::Ordering;
 
+// The place of texts among the kinds.
+const TEXT: u8 = 3;
+
 /// The order of values: by kind (null, booleans, numbers, texts, lists, objects), then by content. Numbers stand in
 /// their order, texts in that of their bytes, lists by their elements, the first that differ deciding, and objects so by
 /// their names and values. Two values are alike exactly if they are equal. This takes no memory.
@@ -52,7 +55,7 @@ fn compare_text(text: &str, doc: &Doc) -> Ordering
     match doc {
         Doc::Str(other) => text.cmp(other.as_str()),
         Doc::Short(other) => text.cmp(other.as_str()),
-        _ => 3.cmp(&kind_of(doc)),
+        _ => TEXT.cmp(&kind_of(doc)),
     }
 }
 
@@ -114,7 +117,7 @@ fn kind_of(doc: &Doc) -> u8
         Doc::Null => 0,
         Doc::Bool(_) => 1,
         Doc::Int(_) => 2,
-        Doc::Str(_) | Doc::Short(_) => 3,
+        Doc::Str(_) | Doc::Short(_) => TEXT,
         Doc::List(_) => 4,
         Doc::Dict(_) => 5,
     }

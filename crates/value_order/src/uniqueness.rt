@@ -80,17 +80,7 @@ fn is_number(doc: &Doc, number: Whole) -> bool
 fn has_text(text: &str, others: &[Doc]) -> bool
     ensures { result ≡ list_any (λ d. same (string text.now) (value d)) others.now }
 {
-    others.iter().any(|other| is_text(other, text))
-}
-
-fn is_text(doc: &Doc, text: &str) -> bool
-    ensures { result ≡ same (string text.now) (value doc.now) }
-{
-    match doc {
-        Doc::Str(other) => other.as_str() == text,
-        Doc::Short(other) => other.as_str() == text,
-        _ => false,
-    }
+    others.iter().any(|other| other.is_text(text))
 }
 
 /// The items in the order of their values.

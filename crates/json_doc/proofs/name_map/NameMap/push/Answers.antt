@@ -12,9 +12,9 @@ returns-clause-ok g c =
     let above : IsAbove c.args.name.now es = subst (IsAbove c.args.name.now) (sym c.self.view_is) c.requires in
     record {
       key = key;
-      is = c.in_ok-from_str.ensures;
+      is = c.in_ok-from_str.ensures.ok;
       put =
-          c.in_ok-push.ensures.items ∙ put_above key c.args.value es (subst (λ name. IsAbove name es) (sym c.in_ok-from_str.ensures) above)
+          c.in_ok-push.ensures.items ∙ put_above key c.args.value es (subst (λ name. IsAbove name es) (sym c.in_ok-from_str.ensures.ok) above)
           ∙ ap (λ es. insert_entry text_cmp es key c.args.value) c.self.view_is;
     }
 
@@ -24,5 +24,5 @@ invariant_of-self-2 g c =
     let key = c.in_ok-from_str.field-0 in
     let above : IsAbove c.args.name.now es = subst (IsAbove c.args.name.now) (sym c.self.view_is) c.requires in
     subst InOrder
-    (sym (c.in_ok-push.ensures.items ∙ put_above key c.args.value es (subst (λ name. IsAbove name es) (sym c.in_ok-from_str.ensures) above)))
+    (sym (c.in_ok-push.ensures.items ∙ put_above key c.args.value es (subst (λ name. IsAbove name es) (sym c.in_ok-from_str.ensures.ok) above)))
     (in_order_put key c.args.value es c.self.invariant)

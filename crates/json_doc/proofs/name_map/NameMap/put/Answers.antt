@@ -18,7 +18,7 @@ invariant_of-self-in-Err g c =
     let es = c.self.inside.entries.items in
     let key = c.in_ok-from_str-in-Err.field-0 in
     subst InOrder
-    (sym (c.in_ok-insert-in-Err.ensures.items ∙ put_missing c.args.name.now key c.args.value c.as_slice.result.now es c.in-Err.gap (sym c.in_ok-from_str-in-Err.ensures) c.as_slice.ensures.value c.in-Err.ensures.gap))
+    (sym (c.in_ok-insert-in-Err.ensures.items ∙ put_missing c.args.name.now key c.args.value c.as_slice.result.now es c.in-Err.gap (sym c.in_ok-from_str-in-Err.ensures.ok) c.as_slice.ensures.value c.in-Err.ensures.gap))
     (in_order_put key c.args.value es c.self.invariant)
 
 pub returns-in-Ok-clause-ok : goal.returns-in-Ok-clause-ok
@@ -40,9 +40,9 @@ returns-in_ok-insert-in-Err-clause-ok g c =
     let key = c.in_ok-from_str-in-Err.field-0 in
     record {
       key = key;
-      is = c.in_ok-from_str-in-Err.ensures;
+      is = c.in_ok-from_str-in-Err.ensures.ok;
       put =
           c.in_ok-insert-in-Err.ensures.items
-          ∙ put_missing c.args.name.now key c.args.value c.as_slice.result.now es c.in-Err.gap (sym c.in_ok-from_str-in-Err.ensures) c.as_slice.ensures.value c.in-Err.ensures.gap
+          ∙ put_missing c.args.name.now key c.args.value c.as_slice.result.now es c.in-Err.gap (sym c.in_ok-from_str-in-Err.ensures.ok) c.as_slice.ensures.value c.in-Err.ensures.gap
           ∙ ap (λ es. insert_entry text_cmp es key c.args.value) c.self.view_is;
     }

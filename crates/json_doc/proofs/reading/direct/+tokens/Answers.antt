@@ -25,7 +25,7 @@ doc_from-returns-in_ok-string-in-String-clause-ok t c =
     let first : c.args.reader.now ≡ token_of c.in_ok-token.token ∷ c.next.new.self = grind arith in
     let is : c.args.reader.now ≡ Token.string c.in-String.text.now ∷ c.next.new.self = grind (arith, first) in
     ap (λ o. converted value_of (converted of_json o)) (ap (grammar.value c.args.depth) is ∙ value_is c.args.depth _)
-    ∙ ap (λ v. Some (v, c.next.new.self)) (sym c.in_ok-string-in-String.ensures)
+    ∙ ap (λ v. Some (v, c.next.new.self)) (sym c.in_ok-string-in-String.ensures.ok)
 
 pub doc_from-returns-in-Bool-clause-ok : goal.doc_from-returns-in-Bool-clause-ok
 doc_from-returns-in-Bool-clause-ok t c =

@@ -1,3 +1,4 @@
 pub mod ShapeLists
 pub mod Names
 pub mod Grouped
+pub mod Likely

@@ -1,27 +1,81 @@
 -- What the definitions' table has under a name.
-use Rattle.std.proofs.Common.{◌≡◌, ◌==◌, ℕ, List, [], ◌∷◌, None, Option, option_map, unwrap_or, length, refl, sym, ap}
-use Rattle.definitions.specs.Values.{Text}
+use Rattle.std.proofs.Common.{◌≡◌, List, [], ◌∷◌, None, Some, Option, option_map, unwrap_or, false, refl, sym, ap}
+use Rattle.definitions.specs.Values.{Text, same_text}
 use Rattle.definitions.specs.Shapes.{any_value}
-use Rattle.definitions.specs.Keywords.{Keyword, keyword_named, keywords, shape_in}
-use Rattle.lemmas.proofs.Texts.{DifferIf, differs_by}
-use Rattle.keywords.specs.Rows.{row_named, shape_named}
+use Rattle.definitions.specs.Keywords as table
+use Rattle.definitions.specs.Keywords.{keyword_named, keywords, shape_in}
+use Rattle.lemmas.proofs.Texts.{same_text_differs}
+use Rattle.keywords.specs.Rows.{row_named, row_of, shape_named}
+use Rattle.keywords.specs.declared.keyword.Keyword.{Keyword}
+use Rattle.keywords.specs.declared.keyword.Keyword.TheVariants.{Ref, DynamicRef, «Type», Enum, Const, MultipleOf, Maximum, ExclusiveMaximum, Minimum, ExclusiveMinimum, MaxLength, MinLength, Pattern, MaxProperties, MinProperties, Required, DependentRequired, MaxItems, MinItems, UniqueItems, AllOf, AnyOf, OneOf, Not, If, Then, Else, DependentSchemas, PrefixItems, Items, Contains, MinContains, MaxContains, Properties, PatternProperties, AdditionalProperties, PropertyNames, UnevaluatedItems, UnevaluatedProperties, Defs, Definitions, ContentSchema, Id, Anchor, DynamicAnchor, Schema}
 
--- a name of n bytes is none of those of n bytes
-abbrev pub Avoids : ℕ → Text → List Keyword → Type 0
-Avoids n name [] = Unit {0}
-Avoids n name (k ∷ ks) = DifferIf (length k.name == n) name k.name × Avoids n name ks
-
-no_row : (n : ℕ) (name : Text) (ks : List Keyword) → length name ≡ n → Avoids n name ks → keyword_named name ks ≡ None
-no_row n name [] e h = refl
-no_row n name (k ∷ ks) e h = rw (differs_by (length k.name == n) n name k.name refl e h.0, no_row n name ks e h.1) refl
-
-pub no_row_named : (n : ℕ) (name : Text) → length name ≡ n → Avoids n name keywords → None ≡ row_named name
+pub row_there : (k : Keyword) → Some (row_of k) ≡ row_named (row_of k).name
 unfolding row_named
-no_row_named n name e h = sym (no_row n name keywords e h)
+row_there Ref = refl
+row_there DynamicRef = refl
+row_there «Type» = refl
+row_there Enum = refl
+row_there Const = refl
+row_there MultipleOf = refl
+row_there Maximum = refl
+row_there ExclusiveMaximum = refl
+row_there Minimum = refl
+row_there ExclusiveMinimum = refl
+row_there MaxLength = refl
+row_there MinLength = refl
+row_there Pattern = refl
+row_there MaxProperties = refl
+row_there MinProperties = refl
+row_there Required = refl
+row_there DependentRequired = refl
+row_there MaxItems = refl
+row_there MinItems = refl
+row_there UniqueItems = refl
+row_there AllOf = refl
+row_there AnyOf = refl
+row_there OneOf = refl
+row_there Not = refl
+row_there If = refl
+row_there Then = refl
+row_there Else = refl
+row_there DependentSchemas = refl
+row_there PrefixItems = refl
+row_there Items = refl
+row_there Contains = refl
+row_there MinContains = refl
+row_there MaxContains = refl
+row_there Properties = refl
+row_there PatternProperties = refl
+row_there AdditionalProperties = refl
+row_there PropertyNames = refl
+row_there UnevaluatedItems = refl
+row_there UnevaluatedProperties = refl
+row_there Defs = refl
+row_there Definitions = refl
+row_there ContentSchema = refl
+row_there Id = refl
+row_there Anchor = refl
+row_there DynamicAnchor = refl
+row_there Schema = refl
 
-pub shape_there : (name : Text) (k : Option Keyword) → k ≡ row_named name → unwrap_or (option_map (λ (r : Keyword). r.shape) k) any_value ≡ shape_named name
+-- a name that differs from those of all rows
+abbrev pub IsNone : Text → List table.Keyword → Type 0
+IsNone name [] = Unit {0}
+IsNone name (k ∷ ks) = (same_text name k.name ≡ false) × IsNone name ks
+
+no_row : (name : Text) (ks : List table.Keyword) → IsNone name ks → keyword_named name ks ≡ None
+no_row name [] h = refl
+no_row name (k ∷ ks) h = rw (h.0, no_row name ks h.1) refl
+
+pub no_row_named : (name : Text) → ((k : Keyword) → name ≡ (row_of k).name → ⊥) → None ≡ row_named name
+unfolding row_named
+no_row_named name h =
+    let d : (k : Keyword) → same_text name (row_of k).name ≡ false = λ k. same_text_differs name (row_of k).name (h k) in
+    sym (no_row name keywords (d Ref, (d DynamicRef, (d «Type», (d Enum, (d Const, (d MultipleOf, (d Maximum, (d ExclusiveMaximum, (d Minimum, (d ExclusiveMinimum, (d MaxLength, (d MinLength, (d Pattern, (d MaxProperties, (d MinProperties, (d Required, (d DependentRequired, (d MaxItems, (d MinItems, (d UniqueItems, (d AllOf, (d AnyOf, (d OneOf, (d Not, (d If, (d Then, (d Else, (d DependentSchemas, (d PrefixItems, (d Items, (d Contains, (d MinContains, (d MaxContains, (d Properties, (d PatternProperties, (d AdditionalProperties, (d PropertyNames, (d UnevaluatedItems, (d UnevaluatedProperties, (d Defs, (d Definitions, (d ContentSchema, (d Id, (d Anchor, (d DynamicAnchor, (d Schema, tt)))))))))))))))))))))))))))))))))))))))))))))))
+
+pub shape_there : (name : Text) (k : Option table.Keyword) → k ≡ row_named name → unwrap_or (option_map (λ (r : table.Keyword). r.shape) k) any_value ≡ shape_named name
 unfolding row_named shape_named
-shape_there name k e = ap (λ o. unwrap_or (option_map (λ (r : Keyword). r.shape) o) any_value) e
+shape_there name k e = ap (λ o. unwrap_or (option_map (λ (r : table.Keyword). r.shape) o) any_value) e
 
 pub shape_named-row : (name : Text) → shape_in keywords name ≡ shape_named name
 unfolding shape_named

@@ -1,114 +1,181 @@
 //! The keyword of a name.
 
-ghost use Rattle.std.specs.Prelude.{◌≡◌, option_map};
+ghost use Rattle.std.specs.Prelude.{◌≡◌, ◌≤◌, length, option_map};
+ghost use Rattle.keywords.specs.declared.keyword.Keyword.{Keyword};
 ghost use Rattle.keywords.specs.Rows.{row_named, row_of, shape_named};
 ghost use Rattle.keywords.specs.Shapes.{shape_view};
 
 use crate::keyword::Keyword;
 use crate::shape::Shape;
 
+/// How many bytes the shortest names have, and the longest.
+const SHORTEST: usize = 2;
+
+const LONGEST: usize = 21;
+
+/// The one keyword that a name may be, at the place that its length and two of its bytes give: no two keywords have the same
+/// place. Where no keyword has a place, any stands there.
+static LIKELY: [Keyword; 128] = [
+    Keyword::Ref,
+    Keyword::If,
+    Keyword::If,
+    Keyword::UniqueItems,
+    Keyword::If,
+    Keyword::If,
+    Keyword::PatternProperties,
+    Keyword::Schema,
+    Keyword::If,
+    Keyword::If,
+    Keyword::Properties,
+    Keyword::AllOf,
+    Keyword::If,
+    Keyword::If,
+    Keyword::If,
+    Keyword::If,
+    Keyword::UnevaluatedProperties,
+    Keyword::If,
+    Keyword::If,
+    Keyword::MinItems,
+    Keyword::If,
+    Keyword::If,
+    Keyword::If,
+    Keyword::Required,
+    Keyword::If,
+    Keyword::Enum,
+    Keyword::If,
+    Keyword::ContentSchema,
+    Keyword::MinContains,
+    Keyword::If,
+    Keyword::Anchor,
+    Keyword::If,
+    Keyword::If,
+    Keyword::If,
+    Keyword::AdditionalProperties,
+    Keyword::If,
+    Keyword::Pattern,
+    Keyword::If,
+    Keyword::If,
+    Keyword::If,
+    Keyword::Maximum,
+    Keyword::MaxLength,
+    Keyword::If,
+    Keyword::PrefixItems,
+    Keyword::Then,
+    Keyword::If,
+    Keyword::MinProperties,
+    Keyword::If,
+    Keyword::If,
+    Keyword::DependentRequired,
+    Keyword::If,
+    Keyword::If,
+    Keyword::If,
+    Keyword::If,
+    Keyword::Type,
+    Keyword::If,
+    Keyword::If,
+    Keyword::If,
+    Keyword::Contains,
+    Keyword::If,
+    Keyword::If,
+    Keyword::If,
+    Keyword::ExclusiveMinimum,
+    Keyword::If,
+    Keyword::If,
+    Keyword::If,
+    Keyword::Not,
+    Keyword::MaxItems,
+    Keyword::PropertyNames,
+    Keyword::Else,
+    Keyword::MultipleOf,
+    Keyword::If,
+    Keyword::ExclusiveMaximum,
+    Keyword::If,
+    Keyword::If,
+    Keyword::Const,
+    Keyword::MaxContains,
+    Keyword::If,
+    Keyword::If,
+    Keyword::If,
+    Keyword::If,
+    Keyword::If,
+    Keyword::If,
+    Keyword::If,
+    Keyword::If,
+    Keyword::If,
+    Keyword::If,
+    Keyword::If,
+    Keyword::If,
+    Keyword::If,
+    Keyword::DependentSchemas,
+    Keyword::If,
+    Keyword::If,
+    Keyword::If,
+    Keyword::MaxProperties,
+    Keyword::AnyOf,
+    Keyword::If,
+    Keyword::If,
+    Keyword::DynamicAnchor,
+    Keyword::Items,
+    Keyword::If,
+    Keyword::If,
+    Keyword::If,
+    Keyword::If,
+    Keyword::If,
+    Keyword::If,
+    Keyword::If,
+    Keyword::If,
+    Keyword::If,
+    Keyword::OneOf,
+    Keyword::Minimum,
+    Keyword::If,
+    Keyword::If,
+    Keyword::If,
+    Keyword::If,
+    Keyword::If,
+    Keyword::Definitions,
+    Keyword::UnevaluatedItems,
+    Keyword::If,
+    Keyword::If,
+    Keyword::If,
+    Keyword::MinLength,
+    Keyword::If,
+    Keyword::If,
+    Keyword::Id,
+    Keyword::If,
+    Keyword::Defs,
+    Keyword::DynamicRef,
+];
+
 impl Keyword {
-    /// The keyword of this name, if there is one. Few names have the same length, and of those the ones that schemas use most
-    /// are compared first.
-    #[tactic(auto, unfolding(crate::specs::Rows::row_named))]
+    /// The keyword of this name, if there is one. It is compared with one keyword's name at most.
     pub fn named(name: &str) -> Option<Keyword>
         ensures { option_map row_of result ≡ row_named name.now }
     {
-        match name.len() {
-            2 => match name {
-                "if" => Some(Keyword::If),
-                _ => None,
-            },
-            3 => match name {
-                "not" => Some(Keyword::Not),
-                "$id" => Some(Keyword::Id),
-                _ => None,
-            },
-            4 => match name {
-                "type" => Some(Keyword::Type),
-                "$ref" => Some(Keyword::Ref),
-                "enum" => Some(Keyword::Enum),
-                "then" => Some(Keyword::Then),
-                "else" => Some(Keyword::Else),
-                _ => None,
-            },
-            5 => match name {
-                "items" => Some(Keyword::Items),
-                "allOf" => Some(Keyword::AllOf),
-                "const" => Some(Keyword::Const),
-                "oneOf" => Some(Keyword::OneOf),
-                "anyOf" => Some(Keyword::AnyOf),
-                "$defs" => Some(Keyword::Defs),
-                _ => None,
-            },
-            7 => match name {
-                "pattern" => Some(Keyword::Pattern),
-                "minimum" => Some(Keyword::Minimum),
-                "maximum" => Some(Keyword::Maximum),
-                "$anchor" => Some(Keyword::Anchor),
-                "$schema" => Some(Keyword::Schema),
-                _ => None,
-            },
-            8 => match name {
-                "required" => Some(Keyword::Required),
-                "minItems" => Some(Keyword::MinItems),
-                "maxItems" => Some(Keyword::MaxItems),
-                "contains" => Some(Keyword::Contains),
-                _ => None,
-            },
-            9 => match name {
-                "minLength" => Some(Keyword::MinLength),
-                "maxLength" => Some(Keyword::MaxLength),
-                _ => None,
-            },
-            10 => match name {
-                "properties" => Some(Keyword::Properties),
-                "multipleOf" => Some(Keyword::MultipleOf),
-                _ => None,
-            },
-            11 => match name {
-                "$dynamicRef" => Some(Keyword::DynamicRef),
-                "uniqueItems" => Some(Keyword::UniqueItems),
-                "prefixItems" => Some(Keyword::PrefixItems),
-                "minContains" => Some(Keyword::MinContains),
-                "maxContains" => Some(Keyword::MaxContains),
-                "definitions" => Some(Keyword::Definitions),
-                _ => None,
-            },
-            13 => match name {
-                "maxProperties" => Some(Keyword::MaxProperties),
-                "minProperties" => Some(Keyword::MinProperties),
-                "propertyNames" => Some(Keyword::PropertyNames),
-                "contentSchema" => Some(Keyword::ContentSchema),
-                _ => None,
-            },
-            14 => match name {
-                "$dynamicAnchor" => Some(Keyword::DynamicAnchor),
-                _ => None,
-            },
-            16 => match name {
-                "exclusiveMaximum" => Some(Keyword::ExclusiveMaximum),
-                "exclusiveMinimum" => Some(Keyword::ExclusiveMinimum),
-                "dependentSchemas" => Some(Keyword::DependentSchemas),
-                "unevaluatedItems" => Some(Keyword::UnevaluatedItems),
-                _ => None,
-            },
-            17 => match name {
-                "dependentRequired" => Some(Keyword::DependentRequired),
-                "patternProperties" => Some(Keyword::PatternProperties),
-                _ => None,
-            },
-            20 => match name {
-                "additionalProperties" => Some(Keyword::AdditionalProperties),
-                _ => None,
-            },
-            21 => match name {
-                "unevaluatedProperties" => Some(Keyword::UnevaluatedProperties),
-                _ => None,
-            },
-            _ => None,
+        if name.len() < SHORTEST || name.len() > LONGEST {
+            return None;
+        }
+        let keyword = likely(name);
+        let likely_name = keyword.name();
+        // Of names that are no keyword's most differ in their lengths, which are compared here without a call.
+        if likely_name.len() == name.len() && likely_name == name {
+            Some(keyword)
+        } else {
+            None
         }
     }
+}
+
+// The one keyword that may have this name.
+fn likely(name: &str) -> Keyword
+    requires shortest { 2 ≤ length name.now }
+    requires longest { length name.now ≤ 21 }
+    ensures { (k : Keyword) → name.now ≡ (row_of k).name → result ≡ k }
+{
+    let bytes = name.as_bytes();
+    let len = bytes.len();
+    let second = bytes[1] as usize;
+    let fifth_last = bytes[len.saturating_sub(5)] as usize;
+    LIKELY[(74 * len + 106 * second + fifth_last) % LIKELY.len()]
 }
 
 /// The shape that the keyword of this name asks of its value: any, where there is no such keyword.

@@ -1,48 +1,29 @@
-use Rattle.std.proofs.Common.{rules}
-use Rattle.keywords.proofs.Names.{no_row_named}
+use Rattle.std.proofs.Common.{◌≡◌, ◌∙◌, true, length, ap, sym}
+use Rattle.definitions.specs.Values.{same_text}
+use Rattle.lemmas.proofs.Texts.{same_text_is, same_text_itself}
+use Rattle.keywords.specs.Rows.{row_named, row_of}
+use Rattle.keywords.proofs.Likely.{no_length}
+use Rattle.keywords.proofs.Names.{no_row_named, row_there}
 use Rattle.keywords.proofs.keyword.Keyword.named.Goals as goal
+use Rattle.keywords.proofs.keyword.Keyword.named.Goals.{else-likely_name-name-via-then-likely_name-name+else-eq, else-likely_name-name-via-else-likely_name-name}
 
-pub returns-in_default-name : goal.returns-in_default-name
-returns-in_default-name c = no_row_named 2 c.args.name.now (search rules) (search rules)
+pub returns-then-name-lt-SHORTEST : goal.returns-then-name-lt-SHORTEST
+returns-then-name-lt-SHORTEST c = no_row_named c.args.name.now (no_length c.args.name.now c.then-name-lt-SHORTEST.either)
 
-pub returns-in_default-name-2 : goal.returns-in_default-name-2
-returns-in_default-name-2 c = no_row_named 3 c.args.name.now (search rules) (search rules)
+pub returns-then-eq : goal.returns-then-eq
+returns-then-eq c =
+    row_there c.likely-keyword.result
+    ∙ ap row_named (sym c.name-likely_name.ensures ∙ same_text_is c.name-likely_name.result.now c.args.name.now (sym c.eq.ensures ∙ c.if-eq.true))
 
-pub returns-in_default-name-3 : goal.returns-in_default-name-3
-returns-in_default-name-3 c = no_row_named 4 c.args.name.now (search rules) (search rules)
-
-pub returns-in_default-name-4 : goal.returns-in_default-name-4
-returns-in_default-name-4 c = no_row_named 5 c.args.name.now (search rules) (search rules)
-
-pub returns-in_default-name-5 : goal.returns-in_default-name-5
-returns-in_default-name-5 c = no_row_named 7 c.args.name.now (search rules) (search rules)
-
-pub returns-in_default-name-6 : goal.returns-in_default-name-6
-returns-in_default-name-6 c = no_row_named 8 c.args.name.now (search rules) (search rules)
-
-pub returns-in_default-name-7 : goal.returns-in_default-name-7
-returns-in_default-name-7 c = no_row_named 9 c.args.name.now (search rules) (search rules)
-
-pub returns-in_default-name-8 : goal.returns-in_default-name-8
-returns-in_default-name-8 c = no_row_named 10 c.args.name.now (search rules) (search rules)
-
-pub returns-in_default-name-9 : goal.returns-in_default-name-9
-returns-in_default-name-9 c = no_row_named 11 c.args.name.now (search rules) (search rules)
-
-pub returns-in_default-name-10 : goal.returns-in_default-name-10
-returns-in_default-name-10 c = no_row_named 13 c.args.name.now (search rules) (search rules)
-
-pub returns-in_default-name-11 : goal.returns-in_default-name-11
-returns-in_default-name-11 c = no_row_named 14 c.args.name.now (search rules) (search rules)
-
-pub returns-in_default-name-12 : goal.returns-in_default-name-12
-returns-in_default-name-12 c = no_row_named 16 c.args.name.now (search rules) (search rules)
-
-pub returns-in_default-name-13 : goal.returns-in_default-name-13
-returns-in_default-name-13 c = no_row_named 17 c.args.name.now (search rules) (search rules)
-
-pub returns-in_default-name-14 : goal.returns-in_default-name-14
-returns-in_default-name-14 c = no_row_named 20 c.args.name.now (search rules) (search rules)
-
-pub returns-in_default-name-15 : goal.returns-in_default-name-15
-returns-in_default-name-15 c = no_row_named 21 c.args.name.now (search rules) (search rules)
+pub returns-else-likely_name-name : goal.returns-else-likely_name-name
+returns-else-likely_name-name c =
+    no_row_named c.args.name.now (λ k e.
+    let is : c.name-likely_name.result.now ≡ c.args.name.now =
+    c.name-likely_name.ensures ∙ ap (λ k. (row_of k).name) (c.likely-keyword.ensures k e) ∙ sym e in
+    elim c.else-likely_name-name.branch [
+      | else-likely_name-name-via-then-likely_name-name+else-eq w ↦
+          let met : w.eq.result ≡ true = w.eq.ensures ∙ ap (λ t. same_text t c.args.name.now) is ∙ same_text_itself c.args.name.now in
+          let unmet = w.if-eq.false in
+          cc
+      | else-likely_name-name-via-else-likely_name-name w ↦ w.if-likely_name-name.false (ap length is)
+    ])

@@ -2,9 +2,11 @@
 #![tactic(auto)]
 
 mod appending;
+mod keeping;
 mod location;
 mod origin;
 mod output;
+mod pointer_memory;
 mod quoting;
 mod ready;
 mod saying;
@@ -18,6 +20,7 @@ pub use location::Location;
 pub use locations::Step;
 pub use origin::Origin;
 pub use output::output_text;
+pub use pointer_memory::PointerMemory;
 pub use says::Says;
 pub use units::{Mark, Units};
 pub use written_pointer::WrittenPointer;

@@ -9,6 +9,7 @@ ghost use Rattle.basic_output.specs.declared.location.Location.{Location};
 ghost use Rattle.basic_output.specs.Spans.{IsSpan, ascends, last_reach, raise_from, span_text};
 
 use crate::appending::append_ready;
+use crate::keeping::is_kept;
 use crate::location::Location;
 use crate::ready::{ReadyLocation, plain_said, ready_location, ready_unit, written_said};
 use crate::saying::push_says;
@@ -162,6 +163,19 @@ impl Units {
     {
         self.spans.truncate(mark.units);
         self.text.truncate(reach_of(self.spans.as_slice()));
+    }
+
+    /// No units any more. Their memory is kept for the texts of later ones; where a text took more than 1,048,576 bytes, all
+    /// of it is given back.
+    pub fn clear(&mut self)
+        ensures { unit_texts self.new ≡ [] }
+    {
+        if is_kept(&self.text) && is_kept(&self.made) {
+            self.spans.clear();
+            self.text.clear();
+        } else {
+            *self = Units::new(*self.text.allocator());
+        }
     }
 
     /// The text in which those of the units stand.

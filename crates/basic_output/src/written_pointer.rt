@@ -7,6 +7,8 @@ ghost use Rattle.basic_output.specs.Notes.{IsPushed, new_starts};
 ghost use Rattle.basic_output.specs.Pieces.{are_plain, is_unescaped};
 ghost use Rattle.basic_output.specs.PointerTexts.{are_plain_steps, front_text, text_starts};
 
+use crate::keeping::is_kept;
+use crate::pointer_memory::PointerMemory;
 use crate::quoting::{are_unescaped, is_plain_step, push_plain_step};
 use locations::{Step, push_pointer};
 use std::alloc::{AllocError, Global};
@@ -47,11 +49,36 @@ impl<'a> WrittenPointer<'a> {
     pub fn new(alloc: Global) -> WrittenPointer<'a>
         ensures { pointer_view result ≡ [] }
     {
+        WrittenPointer::within(alloc, PointerMemory::new(alloc))
+    }
+
+    /// The whole document's, which is written in memory that was kept. This takes no memory; steps take it from `alloc`, and
+    /// their text too, where it finds too little in what was kept.
+    pub fn within(alloc: Global, memory: PointerMemory) -> WrittenPointer<'a>
+        ensures { pointer_view result ≡ [] }
+    {
+        let PointerMemory {
+            mut text,
+            mut starts,
+        } = memory;
+        text.clear();
+        starts.clear();
         WrittenPointer {
             steps: Vec::new(alloc),
-            text: String::new(alloc),
-            starts: Vec::new(alloc),
+            text,
+            starts,
             plain_from: 0,
+        }
+    }
+
+    /// The memory that it was written in, for the next pointer. Where the text took more than 1,048,576 bytes, all of it is
+    /// given back.
+    pub fn into_memory(self) -> PointerMemory {
+        let WrittenPointer { text, starts, .. } = self;
+        if is_kept(&text) {
+            PointerMemory { text, starts }
+        } else {
+            PointerMemory::new(*text.allocator())
         }
     }
 

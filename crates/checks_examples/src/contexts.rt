@@ -4,7 +4,7 @@
 use crate::documents::listed;
 use crate::texts::URI;
 use basic_output::Step;
-use evaluation_context::Context;
+use evaluation_context::{Context, ContextMemory};
 use linker::link;
 use std::test::Fail;
 
@@ -13,7 +13,8 @@ fn knows_what_is_being_applied_and_where(rt: HostRuntime) -> Result<(), Fail> {
     let mut source = listed(rt.alloc(), &[(URI, "{}")])?;
     let linked = link(rt.alloc(), &mut source, URI)?;
     let root = linked.root(rt.alloc());
-    let mut context = Context::new(rt.alloc(), &linked, root)?;
+    let memory = ContextMemory::new(rt.alloc());
+    let mut context = Context::new(rt.alloc(), &linked, root, memory)?;
     assert!(rt; !context.is_running());
     context.enter_object()?;
     assert!(rt; context.is_running() && context.scope().len() == 1);

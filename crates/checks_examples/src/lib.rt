@@ -13,6 +13,8 @@ mod documents;
 #[cfg(test)]
 mod examples;
 #[cfg(test)]
+mod kept_memory;
+#[cfg(test)]
 mod large_reports;
 #[cfg(test)]
 mod limits;

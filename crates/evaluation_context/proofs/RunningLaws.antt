@@ -1,10 +1,10 @@
 -- The schema objects that are being applied, beside the path and the instance location.
-use Rattle.std.proofs.Common.{◌≡◌, ◌≤◌, ◌<◌, ◌+◌, ◌-◌, ◌++◌, ◌∷◌, ◌&&◌, ◌||◌, [], ℕ, zero, suc, List, Bool, Option, Result, None, Some, Ok, Err, OnOk, true, false, length, max, nat_le, map, option_map, get_or, take, drop, refl, sym, ap, ap₂, ◌∙◌, arith}
+use Rattle.std.proofs.Common.{◌≡◌, ◌≢◌, ◌≤◌, ◌<◌, ◌+◌, ◌-◌, ◌++◌, ◌∷◌, ◌&&◌, ◌||◌, [], ℕ, zero, suc, List, Bool, Option, Result, None, Some, Ok, Err, OnOk, true, false, length, max, nat_le, map, option_map, get_or, take, drop, refl, sym, ap, ap₂, ◌∙◌, arith}
 use Rattle.std.proofs.Math.Bool.{and-true}
-use Rattle.std.proofs.lemmas.Bool.{and_parts, and_from, and_left, and_right, leb-true, le-leb}
-use Rattle.std.proofs.lemmas.List.{take-take, take_all, map_push, map-append, length-append, length-map, length-take, length-take-le, get_or-map, drop-map, take_at, take-map, take-append-drop, drop_more}
+use Rattle.std.proofs.lemmas.Bool.{and_parts, and_from, and_left, and_right, eqb-false, leb-true, le-leb}
+use Rattle.std.proofs.lemmas.List.{take-take, take_all, map_push, map-append, length-append, length-map, length-take, length-take-le, get_or-map, drop-map, take_at, take-map, take-append-drop}
 use Rattle.std.proofs.lemmas.List.Folds.{list_any_at, list_any-append}
-use Rattle.std.specs.Prelude.{is_ok, if◌then◌else◌}
+use Rattle.std.specs.Prelude.{◌==◌, is_ok, if◌then◌else◌}
 use Rattle.std.specs.List.{list_any, slice_get}
 use Rattle.definitions.specs.Values.{Text, same_text}
 use Rattle.definitions.specs.Pointers.{Pointer, same_pointer}
@@ -183,6 +183,12 @@ pub deepened_views : (es : List Running) (path place new more : Pointer) → new
 deepened_views es path place new more is laid nested =
     views_same path path new place 0 (length path) 0 (length place) es refl (ap (take (length place)) is ∙ front place more) laid nested
 
+pub deepened_either : (b : Bool) (es : List Running) (path place new : Pointer) (step : Text) → new ≡ (if b then place ++ step ∷ [] else place)
+    → are_laid (λ r. r.reach) 0 (length path) es ≡ true → are_laid (λ r. r.depth) 0 (length place) es ≡ true
+    → map (running_view path new) es ≡ map (running_view path place) es
+deepened_either true es path place new step is laid nested = deepened_views es path place new (step ∷ []) is laid nested
+deepened_either false es path place new step is laid nested = ap (λ p. map (running_view path p) es) is
+
 -- what holds where the push succeeds
 pub on_push : {X E P : Type 0} (r : Result X E) (new a b : Pointer) → new ≡ (if is_ok r then a else b) → (new ≡ a → P) → OnOk r P
 on_push (Ok x) new a b is f = f is
@@ -261,9 +267,6 @@ any_split : {A B : Type 0} (f : B → Bool) (g : A → B) (n : ℕ) (es : List A
 any_split f g n es =
     ap (λ rs. list_any f (map g rs)) (sym (take-append-drop n es)) ∙ ap (list_any f) (map-append g (take n es) (drop n es)) ∙ list_any-append f (map g (take n es)) (map g (drop n es))
 
-pub any_more : {A B : Type 0} (f : B → Bool) (g : A → B) (es : List A) (i : ℕ) (x : A) → i < length es → x ≡ get_or es i x → list_any f (map g (drop i es)) ≡ (f (g x) || list_any f (map g (drop (i + 1) es)))
-any_more f g es i x less is = ap (λ rs. list_any f (map g rs)) (drop_more es i x less) ∙ ap (λ y. f (g y) || list_any f (map g (drop (i + 1) es))) (sym is)
-
 pub found_at : {A B : Type 0} (f : B → Bool) (g : A → B) (es : List A) (i : ℕ) (x : A) → i < length es → x ≡ get_or es i x → f (g x) ≡ true → list_any f (map g es) ≡ true
 found_at f g es i x less is here =
     list_any_at f (map g es) i (g x) (omega (arith, length-map es g)) (ap f (get_or-map g es i x (g x) less) ∙ ap (λ y. f (g y)) (sym is) ∙ here)
@@ -336,6 +339,16 @@ none_higher path place identity name from to (r ∷ rs) less h =
     ap₂ (λ a b. a || b)
     (and_right (same_identity v.0 identity) _ (and_left (same_pointer (take r.depth place) place) (same_name v.1.name name) shorter))
     (none_higher path place identity name r.depth to rs less p.rest)
+
+-- nor any at all, where the innermost stands higher up
+pub none_here : (path place : Pointer) (identity : Identity) (name : Option Text) (es : List Running) (here : ℕ) → (last_end 0 (map (λ r. r.depth) es) == here) ≡ false → here ≡ length place
+    → are_laid (λ r. r.depth) 0 (length place) es ≡ true
+    → list_any (is_running_as identity (record { pointer = place; name = name })) (map (running_view path place) es) ≡ false
+none_here path place identity name es here apart same nested =
+    let last = last_end 0 (map (λ r. r.depth) es) in
+    let within = last_within (λ r. r.depth) 0 (length place) es nested in
+    let differ : last ≢ here = eqb-false last here apart in
+    none_higher path place identity name 0 last es (omega (arith, within, differ, same)) (laid_to_last (λ r. r.depth) 0 (length place) es nested)
 
 pub none_left : (path place : Pointer) (identity : Identity) (name : Option Text) (es : List Running) (i : ℕ) (r : Running) → i < length es → r ≡ get_or es i r → r.depth < length place
     → are_laid (λ r. r.depth) 0 (length place) es ≡ true

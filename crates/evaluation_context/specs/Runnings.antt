@@ -1,7 +1,6 @@
 -- A schema object that is being applied, beside the path and the instance location.
-use Rattle.std.specs.Prelude.{◌&&◌, ◌++◌, ◌-◌, Bool, List, Option, None, Some, [], ◌∷◌, ℕ, drop, length, nat_le, option_map, take}
+use Rattle.std.specs.Prelude.{◌&&◌, ◌++◌, ◌-◌, Bool, List, [], ◌∷◌, ℕ, drop, length, nat_le, option_map, take}
 use Rattle.std.specs.List.{list_all}
-use Rattle.definitions.specs.Values.{Text}
 use Rattle.definitions.specs.Pointers.{Pointer}
 use Rattle.definitions.specs.Schemas.{Identity, same_identity}
 use Rattle.definitions.specs.Applied.{InstanceLocation}
@@ -18,10 +17,14 @@ last_steps n p = drop (length p - n) p
 abbrev pub onward_identity : Origin → Pointer → Identity
 onward_identity origin onward = ((origin_view origin).0, (origin_view origin).1 ++ onward)
 
+-- the schema of the object, whose path the path begins with
+abbrev pub running_identity : Pointer → Running → Identity
+running_identity path r = onward_identity r.origin.value (last_steps r.onward (take r.reach path))
+
 -- the path and the instance location begin with those of the object
 abbrev pub running_view : Pointer → Pointer → Running → Identity × InstanceLocation
 running_view path location r =
-    (onward_identity r.origin.value (last_steps r.onward (take r.reach path)), record { pointer = take r.depth location; name = option_map (λ n. n.now) r.name })
+    (running_identity path r, record { pointer = take r.depth location; name = option_map (λ n. n.now) r.name })
 
 -- the same schema at the same instance location
 abbrev pub is_running_as : Identity → InstanceLocation → Identity × InstanceLocation → Bool
@@ -45,9 +48,3 @@ last_end from (n ∷ ns) = last_end n ns
 abbrev pub steps_between : ℕ → List ℕ → List ℕ
 steps_between from [] = []
 steps_between from (n ∷ ns) = (n - from) ∷ steps_between n ns
-
--- the last of the tokens, if there is one
-abbrev pub last_token : Pointer → Option Text
-last_token [] = None
-last_token (t ∷ []) = Some t
-last_token (t ∷ u ∷ ts) = last_token (u ∷ ts)

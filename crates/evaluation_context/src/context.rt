@@ -13,6 +13,7 @@ ghost use Rattle.schema_index.specs.Locateds.{located_view};
 ghost use Rattle.evaluation_context.specs.RunningViews.{path_pointer};
 ghost use Rattle.evaluation_context.specs.Standings.{application_at, at_keyword, unit_there, within_object};
 
+use crate::context_memory::ContextMemory;
 use crate::running_objects::RunningObjects;
 use basic_output::{Location, Origin};
 use keyword_plans::DynamicScope;
@@ -52,11 +53,13 @@ pub struct Return<'a> {
 impl<'a> Context<'a> {
     ghost use Rattle.evaluation_context.specs.Frames.{Frame, context_view, frame_standing, keyword_frame, object_frame};
 
-    /// Where the first application stands, of a schema to the whole instance. The only error is want of memory.
+    /// Where the first application stands, of a schema to the whole instance: its locations are written in memory that was kept.
+    /// The only error is want of memory.
     pub fn new(
         alloc: Global,
         linked: &'a Linked,
         root: Located<'a>,
+        memory: ContextMemory,
     ) -> Result<Context<'a>, AllocError>
         ensures there { (x : Value) → IfOk result
             (λ c. application_at (frame_standing (context_view c)) (value root.entry.schema.now) x
@@ -73,8 +76,15 @@ impl<'a> Context<'a> {
             onward: 0,
             name: None,
             scope: DynamicScope::new(alloc, linked),
-            running: RunningObjects::new(alloc),
+            running: RunningObjects::within(alloc, memory),
         })
+    }
+
+    /// The memory that its locations were written in, for the next context. Where the text of a location took more than
+    /// 1,048,576 bytes, all of that location's is given back.
+    pub fn into_memory(self) -> ContextMemory {
+        let Context { running, .. } = self;
+        running.into_memory()
     }
 
     /// The URI of the resource of the schema that is applied.

@@ -3,9 +3,12 @@
 #![tactic(auto)]
 
 mod context;
+mod context_memory;
+mod ends;
 mod identifier;
 mod moving;
 mod running;
 mod running_objects;
 
 pub use context::{Context, Return};
+pub use context_memory::ContextMemory;

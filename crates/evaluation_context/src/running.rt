@@ -15,4 +15,6 @@ pub(crate) struct Running<'a> {
     pub(crate) onward: usize,
     /// How many steps its instance location has.
     pub(crate) depth: usize,
+    /// How its identity ends, by `end_of`, or 0 where that isn't known.
+    pub(crate) end: u32,
 }

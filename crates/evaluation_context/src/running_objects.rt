@@ -1,16 +1,19 @@
 //! The evaluation path and the instance location, and the schema objects that are being applied along them.
 
-ghost use Rattle.std.specs.Prelude.{◌≡◌, ◌≤◌, ◌-◌, ◌++◌, ◌∷◌, ◌&&◌, [], false, true, Some, if◌then◌else◌, is_ok, length, map, max, option_map, slice_index_or, take, ℕ, IfSome, OnOk, List};
+ghost use Rattle.std.specs.Prelude.{◌≡◌, ◌≤◌, ◌-◌, ◌++◌, ◌∷◌, ◌&&◌, [], false, true, Some, if◌then◌else◌, is_ok, length, map, max, option_map, take, ℕ, IfSome, OnOk, List, Option};
 ghost use Rattle.std.specs.List.{list_any};
 ghost use Rattle.definitions.specs.Pointers.{same_pointer};
-ghost use Rattle.definitions.specs.Values.{same_text};
+ghost use Rattle.definitions.specs.Values.{Text};
 ghost use Rattle.definitions.specs.Schemas.{Identity, same_identity};
 ghost use Rattle.definitions.specs.Applied.{InstanceLocation};
 ghost use Rattle.definitions.specs.Outcomes.{same_name};
 ghost use Rattle.locations.specs.Steps.{token, tokens};
 ghost use Rattle.basic_output.specs.PointerViews.{pointer_view};
-ghost use Rattle.evaluation_context.specs.Runnings.{are_above, are_laid, is_running_as, last_end, last_steps, last_token, onward_identity, running_view};
+ghost use Rattle.evaluation_context.specs.Ends.{identity_end, tell_ends, tells_end};
+ghost use Rattle.evaluation_context.specs.Runnings.{are_above, are_laid, is_running_as, last_end, last_steps, onward_identity, running_identity, running_view};
 
+use crate::context_memory::ContextMemory;
+use crate::ends::{are_other_ends, end_of};
 use crate::running::Running;
 use basic_output::{Origin, WrittenPointer};
 use locations::{Step, same_steps};
@@ -32,13 +35,17 @@ pub(crate) struct RunningObjects<'a> {
     ghost nested: { are_laid (λ r. r.depth) 0 (length (pointer_view instance_location))
         entries.items
         ≡ true },
+    ghost told: { tell_ends entries.items
+        (map (running_view (pointer_view path) (pointer_view instance_location)) entries.items)
+        ≡ true },
 }
 
 impl<'a> RunningObjects<'a> {
     ghost use Rattle.evaluation_context.specs.RunningViews.{instance_pointer, path_ends, path_pointer, running_objects};
 
-    /// None, at the whole instance. This takes no memory; what comes later takes it from `alloc`.
-    pub(crate) fn new(alloc: Global) -> RunningObjects<'a>
+    /// None, at the whole instance. This takes no memory; what comes later takes it from `alloc`, and texts where they find too
+    /// little in what was kept.
+    pub(crate) fn within(alloc: Global, memory: ContextMemory) -> RunningObjects<'a>
         ensures running { running_objects result ≡ [] }
         ensures ends { path_ends result ≡ [] }
         ensures path { path_pointer result ≡ [] }
@@ -46,8 +53,21 @@ impl<'a> RunningObjects<'a> {
     {
         RunningObjects {
             entries: Vec::new(alloc),
-            path: WrittenPointer::new(alloc),
-            instance_location: WrittenPointer::new(alloc),
+            path: WrittenPointer::within(alloc, memory.path),
+            instance_location: WrittenPointer::within(alloc, memory.instance_location),
+        }
+    }
+
+    /// The memory that the path and the instance location were written in.
+    pub(crate) fn into_memory(self) -> ContextMemory {
+        let RunningObjects {
+            path,
+            instance_location,
+            ..
+        } = self;
+        ContextMemory {
+            path: path.into_memory(),
+            instance_location: instance_location.into_memory(),
         }
     }
 
@@ -168,12 +188,14 @@ impl<'a> RunningObjects<'a> {
         ensures path { path_pointer self.new ≡ path_pointer self.old }
         ensures instance_location { instance_pointer self.new ≡ instance_pointer self.old }
     {
+        let end = end_of(&origin, self.last_steps(onward));
         self.entries.push(Running {
             origin,
             name,
             reach: self.path.len(),
             onward,
             depth: self.instance_location.len(),
+            end,
         })?;
         Ok(())
     }
@@ -192,9 +214,49 @@ impl<'a> RunningObjects<'a> {
     }
 
     /// Whether one of them stands below the origin by the last steps of the path, so many, and is applied at the instance
-    /// location with this name. Objects higher up stand before those at the instance location, so that the search ends at the
-    /// first of them.
+    /// location with this name.
     pub(crate) fn contains(&self, origin: &Origin<'_>, onward: usize, name: Option<&str>) -> bool
+        ensures { result ≡ list_any
+            (is_running_as (onward_identity origin.now (last_steps onward (path_pointer self.now)))
+            (record {
+              pointer = instance_pointer self.now;
+              name = option_map
+                  (λ n. n.now) name.entry;
+            }))
+            (running_objects self.now) }
+    {
+        if !self.may_have_one_here() {
+            return false;
+        }
+        let end = end_of(origin, self.last_steps(onward));
+        self.contains_here(origin, onward, end, name)
+    }
+
+    // Whether one of them may be applied at the instance location: mostly none is.
+    fn may_have_one_here(&self) -> bool
+        ensures { (identity : Identity) (name : Option Text) → result ≡ false → list_any
+            (is_running_as identity (record {
+              pointer = instance_pointer self.now;
+              name = name;
+            }))
+            (running_objects self.now)
+            ≡ false }
+    {
+        self.needed().1 == self.instance_location.len()
+    }
+
+    // The same as `contains`, of an identity that ends so. Objects higher up stand before those at the instance location, so
+    // that the search ends at the first of them.
+    fn contains_here(
+        &self,
+        origin: &Origin<'_>,
+        onward: usize,
+        end: u32,
+        name: Option<&str>,
+    ) -> bool
+        requires { tells_end end (identity_end
+            (onward_identity origin.now (last_steps onward (path_pointer self.now))))
+            ≡ true }
         ensures { result ≡ list_any
             (is_running_as (onward_identity origin.now (last_steps onward (path_pointer self.now)))
             (record {
@@ -212,7 +274,7 @@ impl<'a> RunningObjects<'a> {
             if entry.depth < depth {
                 return false;
             }
-            if is_same(self.path.steps(), entry, origin, onward, name) {
+            if is_same(self.path.steps(), entry, origin, onward, end, name) {
                 return true;
             }
         }
@@ -228,9 +290,34 @@ fn last_steps<'s, 'a>(steps: &'s [Step<'a>], count: usize) -> &'s [Step<'a>]
 }
 
 // Whether the object is the schema to which the last steps of the path, so many, lead from the origin, applied where the name
-// at the instance location is this one. It is called apart, since few searches get so far.
-#[inline(never)]
+// at the instance location is this one. The schema's identity ends so: mostly that alone tells.
+#[inline(always)]
 fn is_same(
+    path: &[Step<'_>],
+    object: &Running<'_>,
+    origin: &Origin<'_>,
+    onward: usize,
+    end: u32,
+    name: Option<&str>,
+) -> bool
+    requires reach { object.now.reach ≤ length path.now }
+    requires told { tells_end object.now.end
+        (identity_end (running_identity (tokens path.now) object.now))
+        ≡ true }
+    requires own { tells_end end (identity_end
+        (onward_identity origin.now (last_steps onward (tokens path.now))))
+        ≡ true }
+    ensures { result ≡ (same_identity (running_identity (tokens path.now) object.now)
+        (onward_identity origin.now (last_steps onward (tokens path.now)))
+        && same_name (option_map (λ n. n.now) object.now.name)
+        (option_map (λ n. n.now) name.entry)) }
+{
+    !are_other_ends(object.end, end) && is_same_throughout(path, object, origin, onward, name)
+}
+
+// The same, whatever the ends are. It is called apart, since few searches get so far.
+#[inline(never)]
+fn is_same_throughout(
     path: &[Step<'_>],
     object: &Running<'_>,
     origin: &Origin<'_>,
@@ -238,8 +325,7 @@ fn is_same(
     name: Option<&str>,
 ) -> bool
     requires { object.now.reach ≤ length path.now }
-    ensures { result ≡ (same_identity (onward_identity object.now.origin.value
-        (last_steps object.now.onward (take object.now.reach (tokens path.now))))
+    ensures { result ≡ (same_identity (running_identity (tokens path.now) object.now)
         (onward_identity origin.now (last_steps onward (tokens path.now)))
         && same_name (option_map (λ n. n.now) object.now.name)
         (option_map (λ n. n.now) name.entry)) }
@@ -250,8 +336,8 @@ fn is_same(
     is_same_schema(&object.origin, own_onward, origin, onward) && same_name(object.name, name)
 }
 
-// Whether the steps lead from the origin to the schema to which the others lead from the other origin. Ends are compared
-// before anything longer: those of the pointers, and those of the URIs.
+// Whether the steps lead from the origin to the schema to which the others lead from the other origin. Resources differ
+// less often than pointers.
 fn is_same_schema(
     origin: &Origin<'_>,
     onward: &[Step<'_>],
@@ -261,29 +347,8 @@ fn is_same_schema(
     ensures { result ≡ same_identity (onward_identity origin.now (tokens onward.now))
         (onward_identity other.now (tokens other_onward.now)) }
 {
-    !ends_otherwise(origin.steps(), onward, other.steps(), other_onward)
-        && last_byte(origin.resource()) == last_byte(other.resource())
-        && are_joined(origin.steps(), onward, other.steps(), other_onward)
+    are_joined(origin.steps(), onward, other.steps(), other_onward)
         && origin.resource() == other.resource()
-}
-
-// Whether the steps of the first two lists surely end otherwise than those of the others.
-fn ends_otherwise(
-    first: &[Step<'_>],
-    second: &[Step<'_>],
-    other_first: &[Step<'_>],
-    other_second: &[Step<'_>],
-) -> bool
-    ensures { result ≡ true → same_pointer (tokens first.now ++ tokens second.now)
-        (tokens other_first.now ++ tokens other_second.now) ≡ false }
-{
-    match last_step(first, second) {
-        Some(own) => match last_step(other_first, other_second) {
-            Some(other) => have_other_ends(*own, *other),
-            None => false,
-        },
-        None => false,
-    }
 }
 
 // Whether the steps of the first two lists are those of the others.
@@ -316,40 +381,6 @@ fn are_joined_within(
 {
     let (front, rest) = other_first.split_at(first.len());
     are_both(second, rest, other_second) && same_steps(first, front)
-}
-
-// The last of the steps of both lists.
-fn last_step<'s, 'a>(first: &'s [Step<'a>], second: &'s [Step<'a>]) -> Option<&'s Step<'a>>
-    ensures { IfSome result (λ s. last_token (tokens first.now ++ tokens second.now)
-        ≡ Some (token s.now)) }
-{
-    match second.last() {
-        Some(step) => Some(step),
-        None => first.last(),
-    }
-}
-
-// Whether both are names, whose last bytes differ.
-fn have_other_ends(first: Step<'_>, second: Step<'_>) -> bool
-    ensures { result ≡ true → same_text (token first.entry) (token second.entry) ≡ false }
-{
-    match first {
-        Step::Name(name) => match second {
-            Step::Name(other) => last_byte(name) != last_byte(other),
-            Step::Index(_) => false,
-        },
-        Step::Index(_) => false,
-    }
-}
-
-// The last byte, or 0 of no bytes.
-fn last_byte(text: &str) -> u8
-    ensures { result ≡ slice_index_or text.now (length text.now - 1) 0 }
-{
-    match text.as_bytes().last() {
-        Some(byte) => *byte,
-        None => 0,
-    }
 }
 
 // Whether the steps are those of the first list and then those of the second. What differs mostly does so in the second.

@@ -1,9 +1,10 @@
 -- Laws of the answer, and of the report of it.
-use Rattle.std.proofs.Common.{◌≡◌, ◌<◌, ◌≤◌, ℕ, List, [], Bool, ◌&&◌, true, false, Some, Ok, Err, refl, sym, ap, ◌∙◌, map, Result, IfOk, IfErr}
-use Rattle.std.proofs.lemmas.Bool.{lt-ltb, le-ltb}
+use Rattle.std.proofs.Common.{◌≡◌, ◌≢◌, ◌≤◌, ℕ, List, [], Bool, ◌&&◌, true, false, Some, Ok, Err, refl, subst, sym, ap, ◌∙◌, map, Result, IfOk, IfErr, OnOk}
+use Rattle.std.proofs.lemmas.Bool.{le-ltb}
 use Rattle.definitions.specs.Values.{Value, same_text}
 use Rattle.definitions.specs.Faults as meaning
 use Rattle.faults.specs.declared.Fault.{Fault}
+use Rattle.faults.specs.View.{fault_view}
 use Rattle.definitions.specs.Faults.{costly, loop, deep}
 use Rattle.definitions.specs.Reach.{missing_references, reach}
 use Rattle.definitions.specs.Schemas.{Document, Schema, is_root}
@@ -12,7 +13,7 @@ use Rattle.definition_laws.proofs.ReachedTables.{reach_is_enough}
 use Rattle.definitions.specs.Targets.{resource_root}
 use Rattle.definitions.specs.Patterns.{has_match}
 use Rattle.definitions.specs.Applied.{Outcome}
-use Rattle.definitions.specs.Answers.{answer, answer_of, answer_from, first_application, output_text}
+use Rattle.definitions.specs.Answers.{answer, answer_of, answer_from, first_application}
 use Rattle.definitions.specs.Limits.{limits}
 use Rattle.definition_laws.proofs.Membership.{found_there}
 use Rattle.basic_output.specs.Outputs as output
@@ -25,6 +26,7 @@ use Rattle.evaluation_context.specs.Frames.{Frame, frame_standing}
 use Rattle.evaluation_context.specs.Standings.{application_at}
 use Rattle.evaluator.specs.Logs.{log_view}
 use Rattle.evaluator.specs.Notes.{Notes, no_notes, notes_of_both, outcome_notes}
+use Rattle.evaluator.specs.declared.found.Found.{Found}
 use Rattle.evaluator.specs.declared.report.Report.{Report}
 use Rattle.evaluator.specs.Reports.{Gives, is_valid, report_or_fault, report_text}
 use Rattle.evaluator.specs.Rounds.{IsAt, linked_outcome}
@@ -32,12 +34,6 @@ use Rattle.evaluator.specs.declared.log.Log.{Log}
 use Rattle.evaluator.proofs.LogLaws.{nothing_added}
 
 -- ---- the answer of an outcome
-pub answer_ok : (most : ℕ) (o : Outcome) → o.count ≤ most → o.looped ≡ false → o.deep ≡ false → answer_of most o ≡ Ok o
-answer_ok most o h l d = rw (le-ltb most o.count h, l, d) refl
-
-pub answer_costly : (most : ℕ) (o : Outcome) → most < o.count → answer_of most o ≡ Err costly
-answer_costly most o h = rw (lt-ltb most o.count h) refl
-
 pub answer_loop : (most : ℕ) (o : Outcome) → o.count ≤ most → o.looped ≡ true → answer_of most o ≡ Err loop
 answer_loop most o h l = rw (le-ltb most o.count h, l) refl
 
@@ -57,8 +53,9 @@ first_is_at l f s x e there = record {
 }
 
 -- ---- what was noted from nothing on
-pub noted_first : (n older : Notes) (o : Outcome) → older ≡ no_notes → n ≡ notes_of_both older (outcome_notes o) → n ≡ outcome_notes o
-noted_first n older o e h = h ∙ ap (λ m. notes_of_both m (outcome_notes o)) e ∙ nothing_added (outcome_notes o)
+pub noted_first : (r : Result Found Fault) (n older : Notes) (o : Outcome) → older ≡ no_notes → OnOk r (n ≡ notes_of_both older (outcome_notes o)) → OnOk r (n ≡ outcome_notes o)
+noted_first (Ok f) n older o e h = h ∙ ap (λ m. notes_of_both m (outcome_notes o)) e ∙ nothing_added (outcome_notes o)
+noted_first (Err f) n older o e h = tt
 
 pub logged_annotations : (l : Log) (o : Outcome) (valid : Bool) → log_view l ≡ outcome_notes o → o.valid ≡ true → valid ≡ true
     → unit_texts l.annotations ≡ map (unit_text valid) (output.reported_units o)
@@ -70,14 +67,17 @@ pub logged_errors : (l : Log) (o : Outcome) (valid : Bool) → log_view l ≡ ou
 unfolding log_view
 logged_errors l o valid e v w = rw (v, w) (ap (λ (n : Notes). n.errors) e)
 
--- ---- the report
-pub reported_ok : (o : Outcome) (r : Report) → is_valid r ≡ o.valid → output_text o ≡ report_text r → report_or_fault (Ok o) ≡ Ok (is_valid r, report_text r)
-reported_ok o r v t = rw (v, sym t) refl
+-- ---- what gives an answer
+pub gives_same : (e : Result Report Fault) {a b : Result Outcome meaning.Fault} → b ≡ a → Gives e a → Gives e b
+gives_same e is g = subst (λ a. Gives e a) (sym is) g
 
-pub made_ok : (e : Result Report Fault) (o : Outcome) (b : Bool) {answered : Result Outcome meaning.Fault} → b ≡ o.valid → answered ≡ Ok o
-    → IfOk e (λ r. output_text o ≡ report_text r) → IfOk e (λ r. is_valid r ≡ b) → IfOk e (λ r. report_or_fault answered ≡ Ok (is_valid r, report_text r))
-made_ok (Ok r) o b f is t v = ap report_or_fault is ∙ reported_ok o r (v ∙ f) t
-made_ok (Err f) o b g is t v = tt
+pub gives_ok : (e : Result Report Fault) (a : Result Outcome meaning.Fault) → Gives e a → IfOk e (λ r. report_or_fault a ≡ Ok (is_valid r, report_text r))
+gives_ok (Ok r) a g = g
+gives_ok (Err f) a g = tt
+
+pub gives_err : (e : Result Report Fault) (a : Result Outcome meaning.Fault) → Gives e a → IfErr e (λ f. f ≢ Fault.NoRoom → a ≡ Err (fault_view f))
+gives_err (Ok r) a g = tt
+gives_err (Err f) a g = g
 
 -- ---- what isn't reached
 none_missing : (l : Linked) → missing_references (linked_documents l) ≡ []
@@ -88,8 +88,3 @@ pub unreached_changes_nothing : (l : Linked) (G : List Document) (x : Value) →
     → answer has_match G (linked_uri l) x ≡ answer has_match (linked_documents l) (linked_uri l) x
 unreached_changes_nothing l G x distinct same =
     reach_is_enough has_match G (linked_uri l) x distinct (ap missing_references (sym same) ∙ none_missing l) ∙ ap (λ ds. answer has_match ds (linked_uri l) x) (sym same)
-
-pub made_gives : (e : Result Report Fault) {answered : Result Outcome meaning.Fault} (a : Result Outcome meaning.Fault) → a ≡ answered
-    → IfOk e (λ r. report_or_fault answered ≡ Ok (is_valid r, report_text r)) → IfErr e (λ f. f ≡ Fault.NoRoom) → Gives e a
-made_gives (Ok r) a same is err = ap report_or_fault same ∙ is
-made_gives (Err f) a same is err = λ other. absurd (other err)

@@ -1,9 +1,11 @@
 //! The names of a schema object that annotate with their own value.
 
-ghost use Rattle.std.specs.Prelude.{◌≡◌, [], ◌∷◌, OnOk};
+ghost use Rattle.std.specs.Prelude.{◌≡◌, ◌||◌, [], ◌∷◌, false, codes, not, OnOk};
 ghost use Rattle.definitions.specs.Applied.{Application};
 ghost use Rattle.definitions.specs.Evaluated.{is_annotation};
 ghost use Rattle.definitions.specs.Keywords.{is_keyword_of, keywords};
+ghost use Rattle.definitions.specs.Uris.{begins};
+ghost use Rattle.definitions.specs.Values.{same_text};
 ghost use Rattle.definitions.specs.Outcomes.{other_annotations, unit};
 ghost use Rattle.json_doc.specs.Docs.{value, members_value};
 ghost use Rattle.json_doc.specs.Members.{members_left};
@@ -129,12 +131,40 @@ fn note_member<'a>(
 fn annotates(name: &str, schema: &Doc, subject: Subject<'_>) -> bool
     ensures { result ≡ is_annotation (value schema.now) (subject_value subject.entry) name.now }
 {
+    if may_be_of_contents(name) {
+        annotates_by_name(name, schema, subject)
+    } else {
+        is_unknown(name)
+    }
+}
+
+// The same, by comparing the name.
+fn annotates_by_name(name: &str, schema: &Doc, subject: Subject<'_>) -> bool
+    ensures { result ≡ is_annotation (value schema.now) (subject_value subject.entry) name.now }
+{
     match name {
         "contentSchema" => subject.as_str().is_some() && schema.get("contentMediaType").is_some(),
         "contentEncoding" => subject.as_str().is_some(),
         "contentMediaType" => subject.as_str().is_some(),
-        _ => !(is_keyword(name) || name.as_bytes().starts_with(b"$")),
+        _ => is_unknown(name),
     }
+}
+
+// Whether the name may be one of the three of the contents of strings: few others are as long.
+fn may_be_of_contents(name: &str) -> bool
+    ensures schema { result ≡ false → same_text name.now (codes "contentSchema") ≡ false }
+    ensures encoding { result ≡ false → same_text name.now (codes "contentEncoding") ≡ false }
+    ensures media_type { result ≡ false → same_text name.now (codes "contentMediaType") ≡ false }
+{
+    matches!(name.len(), 13 | 15 | 16)
+}
+
+// Whether the name is no keyword's and doesn't begin with `$`.
+fn is_unknown(name: &str) -> bool
+    ensures { result
+        ≡ not (is_keyword_of keywords name.now || begins name.now (codes "$")) }
+{
+    !(is_keyword(name) || name.as_bytes().starts_with(b"$"))
 }
 
 fn is_keyword(name: &str) -> bool

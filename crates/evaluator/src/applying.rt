@@ -9,6 +9,7 @@ ghost use Rattle.keyword_plans.specs.ScopeViews.{scope_documents};
 use crate::found::Found;
 use crate::here::Here;
 use crate::log::Log;
+use crate::memory::EvaluationMemory;
 use crate::present::Present;
 use crate::room::Room;
 use crate::settling_object::settle_object;
@@ -44,6 +45,15 @@ impl<'a> Evaluation<'a> {
     ghost use Rattle.evaluator.specs.Findings.{Finds, IsWithin};
     ghost use Rattle.evaluator.specs.Notes.{outcome_notes};
     ghost use Rattle.evaluator.specs.Rounds.{boolean_found, boolean_notes, linked_outcome};
+
+    /// The memory that it worked in, for the next evaluation.
+    pub(crate) fn into_memory(self) -> EvaluationMemory {
+        let Evaluation { context, log, .. } = self;
+        EvaluationMemory {
+            log: log.into_memory(),
+            context: context.into_memory(),
+        }
+    }
 
     /// Applies a schema to what stands here. Where there is no room for one more application in all, it is Costly.
     #[cycle(apply)]

@@ -30,6 +30,7 @@ impl<'a> Evaluation<'a> {
     ghost use Rattle.evaluator.specs.Rounds.{group_uses};
 
     /// A keyword that makes this assertion: it applies nothing. The only error is want of memory.
+    #[inline(always)]
     pub(crate) fn use_assertion(
         &mut self,
         keyword: Keyword,

@@ -52,6 +52,7 @@ impl<'a> KeptValues<'a> {
     }
 
     /// The value of the keyword of this number, where it is kept.
+    #[inline(always)]
     pub(crate) fn find(&self, number: usize) -> Option<&'a Doc>
         ensures { IfSome result (λ d. (i : ℕ) × StandsAt self.now i number d) }
     {

@@ -13,6 +13,7 @@ mod here;
 mod kept_values;
 mod leaves;
 mod log;
+mod memory;
 mod object_keywords;
 mod one_keyword;
 mod present;
@@ -22,4 +23,5 @@ mod settling;
 mod settling_object;
 
 pub use faults::Fault;
-pub use report::{Report, evaluate};
+pub use memory::EvaluationMemory;
+pub use report::{Report, evaluate, evaluate_with};

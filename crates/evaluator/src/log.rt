@@ -1,6 +1,7 @@
 //! The units of an evaluation so far, and what it evaluated of the instance.
 
-ghost use Rattle.std.specs.Prelude.{◌≡◌, ◌&&◌, not};
+ghost use Rattle.std.specs.Prelude.{◌≡◌, ◌&&◌, [], not};
+ghost use Rattle.basic_output.specs.Units.{unit_texts};
 ghost use Rattle.keywords.specs.Rows.{row_of};
 ghost use Rattle.evaluator.specs.Notes.{needs_to_pass};
 
@@ -20,6 +21,25 @@ pub(crate) struct Log<'a> {
     pub(crate) annotations: Units,
     pub(crate) names: Vec<&'a str>,
     pub(crate) indexes: Vec<usize>,
+}
+
+/// The memory of the texts of a log's units, to be kept for the next log.
+#[derive(Drop)]
+pub(crate) struct LogMemory {
+    errors: Units,
+    annotations: Units,
+    ghost no_errors: { unit_texts errors ≡ [] },
+    ghost no_annotations: { unit_texts annotations ≡ [] },
+}
+
+impl LogMemory {
+    /// None yet. This takes no memory.
+    pub(crate) fn new(alloc: Global) -> LogMemory {
+        LogMemory {
+            errors: Units::new(alloc),
+            annotations: Units::new(alloc),
+        }
+    }
 }
 
 /// How much there is of each, so that what comes later can be cut off.
@@ -51,7 +71,7 @@ impl LogMark {
 }
 
 impl<'a> Log<'a> {
-    ghost use Rattle.std.specs.Prelude.{◌≡◌, [], ◌∷◌, ◌++◌, true, false, OnOk};
+    ghost use Rattle.std.specs.Prelude.{◌∷◌, ◌++◌, true, false, OnOk};
     ghost use Rattle.basic_output.specs.Pieces.{unit_text};
     ghost use Rattle.basic_output.specs.Sayings.{unit_at};
     ghost use Rattle.definitions.specs.Applied.{Outcome};
@@ -59,16 +79,37 @@ impl<'a> Log<'a> {
     ghost use Rattle.evaluator.specs.Notes.{Notes, lengths, no_notes, notes_of_both, outcome_notes, part_notes};
     ghost use Rattle.evaluator.specs.Logs.{log_view, mark_view};
 
-    /// Nothing yet.
-    pub(crate) fn new(alloc: Global) -> Log<'a>
+    /// Nothing yet. This takes no memory; what is noted takes it from `alloc`, and texts of units where they find too little in
+    /// what was kept.
+    pub(crate) fn within(alloc: Global, memory: LogMemory) -> Log<'a>
         ensures { log_view result ≡ no_notes }
     {
+        let LogMemory {
+            errors,
+            annotations,
+        } = memory;
         Log {
             alloc,
-            errors: Units::new(alloc),
-            annotations: Units::new(alloc),
+            errors,
+            annotations,
             names: Vec::new(alloc),
             indexes: Vec::new(alloc),
+        }
+    }
+
+    /// The memory of the texts, for the next log. That of the errors is given back where a text took more than 1,048,576
+    /// bytes, and so is that of the annotations.
+    pub(crate) fn into_memory(self) -> LogMemory {
+        let Log {
+            mut errors,
+            mut annotations,
+            ..
+        } = self;
+        errors.clear();
+        annotations.clear();
+        LogMemory {
+            errors,
+            annotations,
         }
     }
 

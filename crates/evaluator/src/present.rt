@@ -115,6 +115,7 @@ impl<'a> Present<'a> {
     }
 
     /// The value of the keyword, where it is there.
+    #[inline(always)]
     pub(crate) fn value(&self, keyword: Keyword) -> Option<&'a Doc>
         ensures { option_map (λ d. value d.now) result
             ≡ get (row_of keyword).name (value self.now.schema.now) }

@@ -1,7 +1,8 @@
 //! What a schema says of an instance.
 
-ghost use Rattle.std.specs.Prelude.{◌≡◌, ◌≢◌, List, Ok, Err, IfOk, IfErr, string_bytes};
-ghost use Rattle.definitions.specs.Answers.{answer, output_text};
+ghost use Rattle.std.specs.Prelude.{◌≡◌, ◌≢◌, List, Ok, Err, IfOk, IfErr, string_bytes, OnOk};
+ghost use Rattle.definitions.specs.Answers.{answer, answer_of, output_text};
+ghost use Rattle.definitions.specs.Limits.{limits};
 ghost use Rattle.definitions.specs.Reach.{reach};
 ghost use Rattle.definitions.specs.Schemas.{Document};
 ghost use Rattle.definitions.specs.Applied.{Outcome};
@@ -10,12 +11,16 @@ ghost use Rattle.definition_laws.specs.Reaching.{HaveDistinctResources};
 ghost use Rattle.faults.specs.View.{fault_view};
 ghost use Rattle.json_doc.specs.Docs.{value};
 ghost use Rattle.linker.specs.LinkedDocuments.{linked_documents, linked_uri};
+ghost use Rattle.evaluator.specs.Applying.{IsCostly};
+ghost use Rattle.evaluator.specs.Findings.{Finds};
 ghost use Rattle.evaluator.specs.Logs.{log_view};
 ghost use Rattle.evaluator.specs.Notes.{outcome_notes};
 ghost use Rattle.evaluator.specs.Reports.{Gives, is_valid, report_or_fault, report_text};
 
 use crate::applying::Evaluation;
+use crate::found::Found;
 use crate::log::Log;
+use crate::memory::EvaluationMemory;
 use crate::room::Room;
 use basic_output::output_text;
 use evaluation_context::Context;
@@ -24,6 +29,7 @@ use json_doc::Doc;
 use keyword_plans::{Enumerations, Subject};
 use linker::Linked;
 use std::alloc::Global;
+use std::mem::replace;
 
 /// How many applications may nest, the root's among them.
 const MOST_NESTED: u32 = 1000;
@@ -83,24 +89,60 @@ pub fn evaluate<'a>(alloc: Global, linked: &'a Linked, instance: &'a Doc) -> Res
         → linked_documents linked.now ≡ reach G (linked_uri linked.now)
         → Gives result (answer has_match G (linked_uri linked.now) (value instance.now)) }
 {
+    evaluate_with(alloc, linked, instance, &mut EvaluationMemory::new(alloc))
+}
+
+/// The same, in memory that was kept from earlier evaluations, which the next one can use again, whether this one answers with
+/// a report or with a fault. Nothing of it shows in an answer.
+pub fn evaluate_with<'a>(
+    alloc: Global,
+    linked: &'a Linked,
+    instance: &'a Doc,
+    memory: &mut EvaluationMemory,
+) -> Result<Report, Fault>
+    ensures ok { IfOk result
+        (λ r. report_or_fault (answer has_match (linked_documents linked.now)
+        (linked_uri linked.now)
+        (value instance.now)) ≡ Ok (is_valid r, report_text r)) }
+    ensures err { IfErr result
+        (λ f. f ≢ Fault.NoRoom → answer has_match (linked_documents linked.now)
+        (linked_uri linked.now) (value instance.now) ≡ Err (fault_view f)) }
+    ensures whole { (G : List Document) → HaveDistinctResources G
+        → linked_documents linked.now ≡ reach G (linked_uri linked.now)
+        → Gives result (answer has_match G (linked_uri linked.now) (value instance.now)) }
+{
     let root = linked.root(alloc);
     let schema = root.schema;
-    let context = Context::new(alloc, linked, root)?;
+    let EvaluationMemory { log, context } = replace(memory, EvaluationMemory::new(alloc));
+    let context = Context::new(alloc, linked, root, context)?;
     let mut evaluation = Evaluation {
         alloc,
         linked,
         enumerations: Enumerations::new(alloc, linked),
         context,
-        log: Log::new(alloc),
+        log: Log::within(alloc, log),
     };
-    match evaluation.apply(
+    let found = evaluation.apply(
         schema,
         Subject::Value(instance),
         Room {
             nesting: MOST_NESTED,
             applications: MOST_APPLICATIONS,
         },
-    ) {
+    );
+    let report = reported(alloc, found, &evaluation.log);
+    *memory = evaluation.into_memory();
+    report
+}
+
+// The report of what was found and noted.
+fn reported(alloc: Global, found: Result<Found, Fault>, log: &Log<'_>) -> Result<Report, Fault>
+    ensures { (o : Outcome) → IfOk found (λ f. Finds f limits.applications o)
+        → OnOk found (log_view log.now ≡ outcome_notes o)
+        → IfErr found (λ f. IsCostly f limits.applications o.count)
+        → Gives result (answer_of limits.applications o) }
+{
+    match found {
         Ok(found) => {
             if found.looped {
                 return Err(Fault::Loop);
@@ -108,7 +150,7 @@ pub fn evaluate<'a>(alloc: Global, linked: &'a Linked, instance: &'a Doc) -> Res
             if found.deep {
                 return Err(Fault::Deep);
             }
-            made(alloc, found.valid, &evaluation.log)
+            made(alloc, found.valid, log)
         }
         Err(fault) => Err(fault),
     }

@@ -17,9 +17,9 @@ returns-clause-there c = λ x.
     let origin : origin_view c.in_ok-new-2.field-0.value ≡ (root.resource.now, tokens root.steps.items) = ap origin_view c.in_ok-new-2.ensures.ok ∙ c.in_ok-new.ensures in
     ap (λ st. application_at st (value root.schema.now) x)
     (same_standings {t = start}
-    c.new-4.ensures.path
+    c.within.ensures.path
     (ap (λ (i : Identity). i.0) origin)
-    (pointer_begins (origin_view c.in_ok-new-2.field-0.value).1 (path_pointer c.new-4.result) ∙ ap (λ (i : Identity). i.1) origin)
-    (same_locations c.new-4.ensures.instance_location refl)
+    (pointer_begins (origin_view c.in_ok-new-2.field-0.value).1 (path_pointer c.within.result) ∙ ap (λ (i : Identity). i.1) origin)
+    (same_locations c.within.ensures.instance_location refl)
     c.new-3.ensures.uris
-    c.new-4.ensures.running)
+    c.within.ensures.running)

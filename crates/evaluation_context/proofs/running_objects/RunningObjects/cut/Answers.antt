@@ -2,6 +2,7 @@ use Rattle.std.proofs.Common.{◌≡◌, max, take, refl, arith, ap, ◌∙◌}
 use Rattle.basic_output.specs.PointerViews.{pointer_view}
 use Rattle.evaluation_context.specs.RunningViews.{instance_pointer, path_ends, path_pointer, running_objects}
 use Rattle.evaluation_context.proofs.RunningLaws.{cut_laid, cut_views, last_least}
+use Rattle.evaluation_context.proofs.EndLaws.{ends_stay}
 use Rattle.evaluation_context.proofs.running_objects.RunningObjects.cut.Goals as goal
 
 pub invariant_of-self : goal.invariant_of-self
@@ -12,6 +13,7 @@ invariant_of-self c =
     record {
       laid = cut_laid (λ r. r.reach) rs (pointer_view old.path) _ _ c.truncate.ensures (omega (arith, c.needed-reach.ensures.reach)) old.laid;
       nested = cut_laid (λ r. r.depth) rs (pointer_view old.instance_location) _ _ c.truncate-2.ensures (omega (arith, c.needed-reach.ensures.depth)) old.nested;
+      told = ends_stay rs _ _ (cut_views rs (pointer_view old.path) _ (pointer_view old.instance_location) _ _ _ c.truncate.ensures c.truncate-2.ensures (omega (arith, c.needed-reach.ensures.reach)) (omega (arith, c.needed-reach.ensures.depth)) old.laid old.nested) old.told;
     }
 
 pub returns-clause-running : goal.returns-clause-running

@@ -4,6 +4,7 @@ use Rattle.evaluation_context.specs.RunningViews.{instance_pointer, path_ends, p
 use Rattle.evaluation_context.specs.Runnings.{running_view}
 use Rattle.evaluation_context.specs.declared.running.Running.{Running}
 use Rattle.evaluation_context.proofs.RunningLaws.{popped, popped_laid}
+use Rattle.evaluation_context.proofs.EndLaws.{popped_ends}
 use Rattle.evaluation_context.proofs.running_objects.RunningObjects.pop.Goals as goal
 
 pub invariant_of-self : goal.invariant_of-self
@@ -12,6 +13,7 @@ invariant_of-self c =
     record {
       laid = popped_laid (λ r. r.reach) old.entries.items c.pop.new.self.items _ _ c.pop.ensures.rest old.laid;
       nested = popped_laid (λ r. r.depth) old.entries.items c.pop.new.self.items _ _ c.pop.ensures.rest old.nested;
+      told = popped_ends (running_view (pointer_view old.path) (pointer_view old.instance_location)) old.entries.items c.pop.new.self.items _ c.pop.ensures.rest old.told;
     }
 
 pub returns-clause-running : goal.returns-clause-running

@@ -4,6 +4,7 @@ use Rattle.basic_output.specs.PointerViews.{pointer_view}
 use Rattle.evaluation_context.specs.RunningViews.{instance_pointer, path_ends, path_pointer, running_objects}
 use Rattle.evaluation_context.specs.Runnings.{last_end}
 use Rattle.evaluation_context.proofs.RunningLaws.{cut_laid, popped_path, shortened_views}
+use Rattle.evaluation_context.proofs.EndLaws.{ends_stay}
 use Rattle.evaluation_context.proofs.running_objects.RunningObjects.step_back.Goals as goal
 
 pub invariant_of-self : goal.invariant_of-self
@@ -14,6 +15,7 @@ invariant_of-self c =
     record {
       laid = cut_laid (λ r. r.reach) old.entries.items (pointer_view old.path) (pointer_view c.pop.new.self) _ shorter (omega arith) old.laid;
       nested = old.nested;
+      told = ends_stay old.entries.items _ _ (shortened_views old.entries.items (pointer_view old.path) (pointer_view c.pop.new.self) (pointer_view old.instance_location) _ shorter (omega arith) old.laid old.nested) old.told;
     }
 
 pub returns-then-needed-len-clause-running : goal.returns-then-needed-len-clause-running

@@ -2,7 +2,7 @@ use Rattle.std.proofs.Common.{◌≡◌, ◌≤◌, false, map, drop, length, op
 use Rattle.std.specs.List.{list_any}
 use Rattle.basic_output.specs.PointerViews.{pointer_view}
 use Rattle.evaluation_context.specs.Runnings.{is_running_as, last_steps, onward_identity, running_view}
-use Rattle.evaluation_context.proofs.running_objects.RunningObjects.contains.Given as goal
+use Rattle.evaluation_context.proofs.running_objects.RunningObjects.contains_here.Given as goal
 
 abbrev pub invariant-loop-left : goal.invariant-loop-left
 invariant-loop-left l =

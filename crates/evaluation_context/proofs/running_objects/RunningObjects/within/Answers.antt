@@ -3,11 +3,11 @@ use Rattle.basic_output.specs.PointerViews.{pointer_view}
 use Rattle.evaluation_context.specs.RunningViews.{instance_pointer, path_ends, path_pointer, running_objects}
 use Rattle.evaluation_context.specs.Runnings.{running_view}
 use Rattle.evaluation_context.specs.declared.running.Running.{Running}
-use Rattle.evaluation_context.proofs.running_objects.RunningObjects.new.Goals as goal
+use Rattle.evaluation_context.proofs.running_objects.RunningObjects.within.Goals as goal
 
 pub returns-clause-running : goal.returns-clause-running
 unfolding running_objects
-returns-clause-running c = ap (map (running_view (pointer_view c.new-2.result) (pointer_view c.new-3.result))) c.new.ensures.items
+returns-clause-running c = ap (map (running_view (pointer_view c.within.result) (pointer_view c.within-2.result))) c.new.ensures.items
 
 pub returns-clause-ends : goal.returns-clause-ends
 unfolding path_ends
@@ -15,8 +15,8 @@ returns-clause-ends c = ap (map (λ (r : Running). r.reach)) c.new.ensures.items
 
 pub returns-clause-path : goal.returns-clause-path
 unfolding path_pointer
-returns-clause-path c = c.new-2.ensures
+returns-clause-path c = c.within.ensures
 
 pub returns-clause-instance_location : goal.returns-clause-instance_location
 unfolding instance_pointer
-returns-clause-instance_location c = c.new-3.ensures
+returns-clause-instance_location c = c.within-2.ensures

@@ -1,0 +1,21 @@
+//! The memory that a pointer is written in.
+
+use std::alloc::Global;
+
+/// The memory that a pointer is written in, to be kept for the next one: at most 1,048,576 bytes for its text, and some for
+/// each step of it. No pointer depends on what is in it.
+#[derive(Debug, Drop)]
+pub struct PointerMemory {
+    pub(crate) text: String,
+    pub(crate) starts: Vec<usize>,
+}
+
+impl PointerMemory {
+    /// None yet. This takes no memory; what is written takes it from `alloc`.
+    pub fn new(alloc: Global) -> PointerMemory {
+        PointerMemory {
+            text: String::new(alloc),
+            starts: Vec::new(alloc),
+        }
+    }
+}

@@ -1,0 +1,23 @@
+//! The memory that an evaluation works in.
+
+use crate::log::LogMemory;
+use evaluation_context::ContextMemory;
+use std::alloc::Global;
+
+/// The memory that an evaluation works in, to be kept for the next one: that of the texts of its units, of its evaluation path
+/// and of its instance location, for each at most 1,048,576 bytes. No answer depends on what is in it.
+#[derive(Drop)]
+pub struct EvaluationMemory {
+    pub(crate) log: LogMemory,
+    pub(crate) context: ContextMemory,
+}
+
+impl EvaluationMemory {
+    /// None yet. This takes no memory; an evaluation takes it from its own allocator.
+    pub fn new(alloc: Global) -> EvaluationMemory {
+        EvaluationMemory {
+            log: LogMemory::new(alloc),
+            context: ContextMemory::new(alloc),
+        }
+    }
+}

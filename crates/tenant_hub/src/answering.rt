@@ -102,6 +102,7 @@ fn answer_once(
             validation_reply(
                 alloc,
                 &mut workspace.scratch,
+                &mut workspace.evaluation,
                 &mut source,
                 uri.as_str(),
                 body.as_slice(),

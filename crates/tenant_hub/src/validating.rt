@@ -9,7 +9,7 @@ ghost use Rattle.faults.specs.View.{fault_view};
 ghost use Rattle.requests.specs.Views.{reply_view};
 ghost use Rattle.tenant_hub.specs.SourceReplies.{validation_over};
 
-use evaluator::evaluate;
+use evaluator::{EvaluationMemory, evaluate_with};
 use json_doc::Scratch;
 use linker::{Source, link};
 use requests::{Fault, Reply};
@@ -24,6 +24,7 @@ use uri_ref::base_form;
 pub(crate) fn validation_reply<S: Source>(
     alloc: Global,
     scratch: &mut Scratch,
+    memory: &mut EvaluationMemory,
     source: &mut S,
     uri: &str,
     body: &[u8],
@@ -32,7 +33,7 @@ pub(crate) fn validation_reply<S: Source>(
         → IsAnswer regular_search g (validate uri.now body.now) (reply_view result) g }
     ensures same { S.documents source.new ≡ S.documents source.old }
 {
-    match output_text(alloc, scratch, source, uri, body) {
+    match output_text(alloc, scratch, memory, source, uri, body) {
         Ok(text) => Reply::Output(text),
         Err(fault) => Reply::Refused(fault),
     }
@@ -41,6 +42,7 @@ pub(crate) fn validation_reply<S: Source>(
 fn output_text<S: Source>(
     alloc: Global,
     scratch: &mut Scratch,
+    memory: &mut EvaluationMemory,
     source: &mut S,
     uri: &str,
     body: &[u8],
@@ -54,6 +56,6 @@ fn output_text<S: Source>(
     let base = base_form(alloc, uri)?;
     let instance = read_body_with(alloc, scratch, body)?;
     let linked = link(alloc, source, base.as_str())?;
-    let report = evaluate(alloc, &linked, &instance)?;
+    let report = evaluate_with(alloc, &linked, &instance, memory)?;
     Ok(report.into_text())
 }

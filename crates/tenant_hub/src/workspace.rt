@@ -3,16 +3,19 @@
 ghost use Rattle.std.specs.Prelude.{◌≡◌, ◌≢◌, [], false, IfErr};
 ghost use Rattle.definitions.specs.Caches.{is_capacity};
 
+use evaluator::EvaluationMemory;
 use json_doc::Scratch;
 use requests::Fault;
 use shared_cache::Cache;
 use std::alloc::Global;
 
-// Compiled documents, and the memory that instances are read in: it grows to the length of the longest.
+// Compiled documents, the memory that instances are read in, which grows to the length of the longest, and the memory that they
+// are evaluated in.
 #[derive(Drop)]
 pub(crate) struct Workspace {
     pub(crate) cache: Cache,
     pub(crate) scratch: Scratch,
+    pub(crate) evaluation: EvaluationMemory,
 }
 
 impl Workspace {
@@ -23,14 +26,16 @@ impl Workspace {
         Ok(Workspace {
             cache: Cache::new(alloc, capacity)?,
             scratch: Scratch::new(alloc),
+            evaluation: EvaluationMemory::new(alloc),
         })
     }
 
-    // Gives the memory back: no document is kept, and the next instance finds no memory to be read in.
+    // Gives the memory back: no document is kept, and the next instance finds no memory to be read in or evaluated in.
     pub(crate) fn clear(&mut self, alloc: Global)
         ensures { self.new.cache ≡ record { keys = []; capacity = self.old.cache.capacity } }
     {
         self.cache.clear();
         self.scratch = Scratch::new(alloc);
+        self.evaluation = EvaluationMemory::new(alloc);
     }
 }

@@ -5,11 +5,12 @@ use Rattle.std.proofs.lemmas.List.{drop-append-le, drop_all, drop_at, drop_more,
 use Rattle.std.proofs.lemmas.Str.{IsCharBoundary-from_take, IsUtf8-drop, IsUtf8-from_is_utf8, is_utf8-from_IsUtf8}
 use Rattle.std.specs.Str.{IsCharBoundary, IsUtf8, is_utf8}
 use Rattle.definitions.specs.Values.{Text}
+use Rattle.keywords.specs.Rows.{row_of}
 use Rattle.locations.specs.Hops.{Hop, step_hop, step_hops, to_member, to_element}
 use Rattle.locations.specs.OwnedSteps.{are_cut, hops_along, is_cut, names_after, owned_hop}
 use Rattle.locations.specs.Ways.{owned_step, step_name}
 use Rattle.locations.specs.declared.step.Step.{Step}
-use Rattle.locations.specs.declared.step.Step.TheVariants.{Name, Index}
+use Rattle.locations.specs.declared.step.Step.TheVariants.{Name, Index, Keyword}
 use Rattle.locations.specs.declared.owned_way.OwnedStep.{OwnedStep}
 use Rattle.locations.specs.declared.owned_way.OwnedStep.TheVariants as owned
 
@@ -17,16 +18,21 @@ none_left : (names : Text) → nat_eq (length names) 0 ≡ true → names ≡ []
 none_left [] e = refl
 none_left (b ∷ bs) e = absurd (omega (arith, eqb-true _ _ e))
 
+one_name_cut : (name : Text) → is_utf8 name ≡ true → are_cut (owned.Name (length name) ∷ []) name ≡ true
+one_name_cut name e =
+    let n = length name in
+    and_from _ _ (and_from _ _ (le-leb n n (omega arith)) (ap is_utf8 (take_all n name (omega arith)) ∙ e))
+    (eq-eqb _ 0 (ap length (drop_all n name (omega arith))))
+
 one_cut : (s : Step) → is_utf8 (step_name s) ≡ true → are_cut (owned_step s ∷ []) (step_name s) ≡ true
-one_cut (Name name) e =
-    let n = length name.now in
-    and_from _ _ (and_from _ _ (le-leb n n (omega arith)) (ap is_utf8 (take_all n name.now (omega arith)) ∙ e))
-    (eq-eqb _ 0 (ap length (drop_all n name.now (omega arith))))
+one_cut (Name name) e = one_name_cut name.now e
 one_cut (Index index) e = refl
+one_cut (Keyword k) e = one_name_cut (row_of k).name e
 
 one_hop : (s : Step) → hops_along (owned_step s ∷ []) (step_name s) ≡ step_hop s ∷ []
 one_hop (Name name) = ap (λ t. to_member t ∷ []) (take_all (length name.now) name.now (omega arith))
 one_hop (Index index) = refl
+one_hop (Keyword k) = ap (λ t. to_member t ∷ []) (take_all (length (row_of k).name) (row_of k).name (omega arith))
 
 pub more_cut : (ss : List OwnedStep) (names : Text) (s : Step) → are_cut ss names ≡ true → is_utf8 (step_name s) ≡ true
     → are_cut (ss ++ owned_step s ∷ []) (names ++ step_name s) ≡ true

@@ -2,8 +2,9 @@
 use Rattle.std.specs.Prelude.{ℕ, List, [], ◌∷◌, Option, Some, option_and_then, slice_get, map, decimal}
 use Rattle.definitions.specs.Values.{Text, Value, elements, get}
 use Rattle.definitions.specs.Pointers.{Pointer}
+use Rattle.keywords.specs.Rows.{row_of}
 use Rattle.locations.specs.declared.step.Step.{Step}
-use Rattle.locations.specs.declared.step.Step.TheVariants.{Name, Index}
+use Rattle.locations.specs.declared.step.Step.TheVariants.{Name, Index, Keyword}
 
 -- to a member by its name, or to an element by its index
 pub data Hop : Type 0 where
@@ -30,6 +31,7 @@ follow (h ∷ hs) v = option_and_then (follow hs) (hop_value h v)
 abbrev pub step_hop : Step → Hop
 step_hop (Name name) = to_member name.now
 step_hop (Index index) = to_element index
+step_hop (Keyword k) = to_member (row_of k).name
 
 abbrev pub step_hops : List Step → List Hop
 step_hops steps = map step_hop steps

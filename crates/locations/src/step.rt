@@ -6,10 +6,11 @@ ghost use Rattle.definitions.specs.Pointers.{escaped_byte, fragment_text, percen
 ghost use Rattle.locations.specs.Steps.{token, tokens};
 
 use json_doc::{push_fragment_token, push_token};
+use keywords::Keyword;
 use std::alloc::AllocError;
 
 /// One step of a location: to the member of this name, or to the element of this index. As a token of a JSON Pointer
-/// (RFC 6901) an index is written in decimal.
+/// (RFC 6901) an index is written in decimal. A member whose name is a keyword's may be named by the keyword.
 ///
 /// Contracts see the token, by `token`.
 #[derive(Clone, Copy, Debug)]
@@ -18,6 +19,8 @@ pub enum Step<'a> {
     Name(&'a str),
     /// The element of this index.
     Index(usize),
+    /// The member of this keyword's name.
+    Keyword(Keyword),
 }
 
 /// Appends the text of the pointer with these steps (RFC 6901, section 3).
@@ -52,6 +55,7 @@ fn push_step(text: &mut String, step: Step<'_>) -> Result<(), AllocError>
             let mut digits = itoa::Buffer::new();
             push_token(text, digits.format(index))
         }
+        Step::Keyword(keyword) => push_token(text, keyword.name()),
     }
 }
 
@@ -66,5 +70,6 @@ fn push_fragment_step(text: &mut String, step: Step<'_>) -> Result<(), AllocErro
             let mut digits = itoa::Buffer::new();
             push_fragment_token(text, digits.format(index))
         }
+        Step::Keyword(keyword) => push_fragment_token(text, keyword.name()),
     }
 }

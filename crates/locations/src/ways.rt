@@ -4,6 +4,7 @@ ghost use Rattle.std.specs.Prelude.{◌≡◌, ◌++◌, IfOk, OnOk, drop, lengt
 ghost use Rattle.json_doc.specs.Docs.{value};
 ghost use Rattle.locations.specs.Hops.{follow, hop_value, step_hop, step_hops};
 ghost use Rattle.locations.specs.Ways.{owned_hops, owned_step, step_name, step_names};
+ghost use Rattle.locations.specs.declared.owned_way.OwnedStep.TheVariants as owned;
 
 use crate::owned_way::{OwnedStep, OwnedWay, cut_step};
 use crate::step::Step;
@@ -43,6 +44,7 @@ fn name_len(step: Step<'_>) -> usize
     match step {
         Step::Name(name) => name.len(),
         Step::Index(_) => 0,
+        Step::Keyword(keyword) => keyword.name().len(),
     }
 }
 
@@ -53,12 +55,18 @@ fn keep_step(names: &mut String, step: Step<'_>) -> Result<OwnedStep, AllocError
         (string_bytes names.new ≡ string_bytes names.old ++ step_name step.entry) }
 {
     match step {
-        Step::Name(name) => {
-            names.push_str(name)?;
-            Ok(OwnedStep::Name(in_32_bits(name.len())?))
-        }
+        Step::Name(name) => keep_name(names, name),
         Step::Index(index) => Ok(OwnedStep::Index(in_32_bits(index)?)),
+        Step::Keyword(keyword) => keep_name(names, keyword.name()),
     }
+}
+
+fn keep_name(names: &mut String, name: &str) -> Result<OwnedStep, AllocError>
+    ensures kept { IfOk result (λ kept. kept ≡ owned.Name (length name.now)) }
+    ensures names { OnOk result (string_bytes names.new ≡ string_bytes names.old ++ name.now) }
+{
+    names.push_str(name)?;
+    Ok(OwnedStep::Name(in_32_bits(name.len())?))
 }
 
 // The same number, where it has no more bits. It fails as for want of memory where it has.
@@ -92,6 +100,7 @@ fn child<'a>(step: Step<'_>, doc: &'a Doc) -> Option<&'a Doc>
     match step {
         Step::Name(name) => doc.get(name),
         Step::Index(index) => doc.as_list()?.get(index),
+        Step::Keyword(keyword) => doc.get(keyword.name()),
     }
 }
 

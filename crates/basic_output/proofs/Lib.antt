@@ -1,4 +1,5 @@
 pub mod PlainLaws
+pub mod KeywordNames
 pub mod PieceLaws
 pub mod OutputTexts
 pub mod PointerLaws

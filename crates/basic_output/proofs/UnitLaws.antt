@@ -90,19 +90,20 @@ ready_parts annotates location says r s are said =
     ∙ append_assoc (codes "{\"absoluteKeywordLocation\":") (quoted (located_text location)) behind
 
 -- what it says, where that is a string which stands as it is
-plain_string : (s : Said) (annotates : Bool) (said ending end : Text) → IsPlainString s annotates said ending → ending ≡ end ++ codes ",\"instanceLocation\":\""
-    → s.opening.now ++ (s.said.now ++ s.ending.now) ≡ 34 ∷ (kind_key annotates ++ (34 ∷ (said ++ end) ++ codes ",\"instanceLocation\":\""))
-plain_string s annotates said ending end is ends =
+plain_string : (annotates : Bool) (opening written ending said end : Text) → opening ≡ 34 ∷ (kind_key annotates ++ 34 ∷ []) → written ≡ said → ending ≡ end ++ codes ",\"instanceLocation\":\""
+    → opening ++ (written ++ ending) ≡ 34 ∷ (kind_key annotates ++ (34 ∷ (said ++ end) ++ codes ",\"instanceLocation\":\""))
+plain_string annotates opening written ending said end opens same ends =
     let kind = kind_key annotates in
     let key = codes ",\"instanceLocation\":\"" in
-    ap₂ (λ a b. a ++ b) is.opening (ap₂ (λ a b. a ++ b) is.said (is.ending ∙ ends))
+    ap₂ (λ a b. a ++ b) opens (ap₂ (λ a b. a ++ b) same ends)
     ∙ ap (λ t. 34 ∷ t) (append_assoc kind (34 ∷ []) (said ++ (end ++ key)) ∙ ap (λ t. kind ++ 34 ∷ t) (sym (append_assoc said end key)))
 
-pub said_message : (s : Said) (annotates : Bool) (keyword : Text) → IsPlainString s annotates keyword (codes " is not met\",\"instanceLocation\":\"")
-    → IsSaid s annotates (text (string (keyword ++ codes " is not met")))
-said_message s annotates keyword is =
-    plain_string s annotates keyword _ (codes " is not met\"") is refl ∙ ap (λ q. 34 ∷ (kind_key annotates ++ (q ++ codes ",\"instanceLocation\":\""))) (sym (message keyword is.unescaped))
+pub said_not_met : (annotates : Bool) (opening written keyword : Text) → opening ≡ 34 ∷ (kind_key annotates ++ 34 ∷ []) → written ≡ keyword → list_all is_unescaped keyword ≡ true
+    → opening ++ (written ++ codes " is not met\",\"instanceLocation\":\"") ≡ 34 ∷ (kind_key annotates ++ (text (string (keyword ++ codes " is not met")) ++ codes ",\"instanceLocation\":\""))
+said_not_met annotates opening written keyword opens same unescaped =
+    plain_string annotates opening written (codes " is not met\",\"instanceLocation\":\"") keyword (codes " is not met\"") opens same refl
+    ∙ ap (λ q. 34 ∷ (kind_key annotates ++ (q ++ codes ",\"instanceLocation\":\""))) (sym (message keyword unescaped))
 
 pub said_string : (s : Said) (annotates : Bool) (t : Text) → IsPlainString s annotates t (codes "\",\"instanceLocation\":\"") → IsSaid s annotates (text (string t))
 said_string s annotates t is =
-    plain_string s annotates t _ (34 ∷ []) is refl ∙ ap (λ q. 34 ∷ (kind_key annotates ++ (q ++ codes ",\"instanceLocation\":\""))) (sym (as_it_is t is.unescaped))
+    plain_string annotates s.opening.now s.said.now s.ending.now t (34 ∷ []) is.opening is.said is.ending ∙ ap (λ q. 34 ∷ (kind_key annotates ++ (q ++ codes ",\"instanceLocation\":\""))) (sym (as_it_is t is.unescaped))

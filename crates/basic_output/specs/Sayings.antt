@@ -3,13 +3,14 @@ use Rattle.std.specs.Prelude.{◌++◌, map, pos, codes, true}
 use Rattle.definitions.specs.Values.{Value, boolean, integer, string, array, to_elements}
 use Rattle.definitions.specs.Applied.{OutputUnit}
 use Rattle.json_doc.specs.Docs.{value}
+use Rattle.keywords.specs.Rows.{row_of}
 use Rattle.basic_output.specs.PointerViews.{onward_pointer, origin_view, pointer_view}
 use Rattle.basic_output.specs.declared.location.Location.{Location}
 use Rattle.basic_output.specs.declared.says.Says.{Says}
 use Rattle.basic_output.specs.declared.says.Says.TheVariants as says
 
 abbrev pub says_value : Says → Value
-says_value (says.NotMet keyword) = string (keyword.now ++ codes " is not met")
+says_value (says.NotMet k) = string ((row_of k).name ++ codes " is not met")
 says_value says.NotAllowed = string (codes "no value is allowed")
 says_value says.True = boolean true
 says_value (says.Index index) = integer (pos index)

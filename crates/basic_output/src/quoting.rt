@@ -5,12 +5,14 @@ ghost use Rattle.std.specs.List.{list_all};
 ghost use Rattle.json.specs.Print.{print, quoted};
 ghost use Rattle.definitions.specs.Bytes.{number_sign, slash};
 ghost use Rattle.definitions.specs.Pointers.{escaped_byte, fragment_text, pointer_text};
+ghost use Rattle.keywords.specs.Rows.{row_of};
 ghost use Rattle.locations.specs.Steps.{token, tokens};
 ghost use Rattle.basic_output.specs.Pieces.{is_plain, is_unescaped, plain_text};
 ghost use Rattle.basic_output.specs.PointerViews.{origin_view};
 
 use crate::origin::Origin;
 use json::Writer;
+use keywords::Keyword;
 use locations::{Step, push_fragment, push_pointer};
 use std::alloc::AllocError;
 
@@ -71,16 +73,12 @@ pub(crate) fn push_quoted_pointer(out: &mut String, steps: &[Step<'_>]) -> Resul
     }
 }
 
-/// Appends as a string that the keyword of this name is not met.
-pub(crate) fn push_message(out: &mut String, keyword: &str) -> Result<(), AllocError>
+/// Appends as a string that the keyword is not met.
+pub(crate) fn push_message(out: &mut String, keyword: Keyword) -> Result<(), AllocError>
     ensures { OnOk result (string_bytes out.new
-        ≡ string_bytes out.old ++ quoted (keyword.now ++ codes " is not met")) }
+        ≡ string_bytes out.old ++ quoted ((row_of keyword).name ++ codes " is not met")) }
 {
-    if are_unescaped(keyword.as_bytes()) {
-        push_plain_message(out, keyword)
-    } else {
-        push_other_message(out, keyword)
-    }
+    push_plain_message(out, keyword.name())
 }
 
 /// Appends the number in decimal.
@@ -126,16 +124,6 @@ fn push_plain_message(out: &mut String, keyword: &str) -> Result<(), AllocError>
     out.push_str("\"")?;
     out.push_str(keyword)?;
     out.push_str(" is not met\"")
-}
-
-fn push_other_message(out: &mut String, keyword: &str) -> Result<(), AllocError>
-    ensures { OnOk result (string_bytes out.new
-        ≡ string_bytes out.old ++ quoted (keyword.now ++ codes " is not met")) }
-{
-    let mut message = String::new(*out.allocator());
-    message.push_str(keyword)?;
-    message.push_str(" is not met")?;
-    push_quoted(out, message.as_str())
 }
 
 // Tokens that stand in a string as they are, but for what a pointer escapes.
@@ -187,6 +175,7 @@ pub(crate) fn push_plain_step(out: &mut String, step: Step<'_>) -> Result<(), Al
     match step {
         Step::Name(name) => out.push_str(name),
         Step::Index(index) => push_decimal(out, index),
+        Step::Keyword(keyword) => out.push_str(keyword.name()),
     }
 }
 
@@ -202,6 +191,7 @@ fn is_unescaped_step(step: Step<'_>) -> bool
     match step {
         Step::Name(name) => are_unescaped(name.as_bytes()),
         Step::Index(index) => is_unescaped_index(index),
+        Step::Keyword(keyword) => is_unescaped_keyword(keyword),
     }
 }
 
@@ -212,6 +202,7 @@ pub(crate) fn is_plain_step(step: Step<'_>) -> bool
     match step {
         Step::Name(name) => are_plain_bytes(name.as_bytes()),
         Step::Index(index) => is_plain_index(index),
+        Step::Keyword(keyword) => is_plain_keyword(keyword),
     }
 }
 
@@ -227,6 +218,21 @@ fn is_unescaped_index(index: usize) -> bool
     ensures { result ≡ list_all is_unescaped (decimal index) }
 {
     let _index = index;
+    true
+}
+
+// A keyword's name has letters alone, and `$`.
+fn is_plain_keyword(keyword: Keyword) -> bool
+    ensures { result ≡ list_all is_plain (row_of keyword).name }
+{
+    let _keyword = keyword;
+    true
+}
+
+fn is_unescaped_keyword(keyword: Keyword) -> bool
+    ensures { result ≡ list_all is_unescaped (row_of keyword).name }
+{
+    let _keyword = keyword;
     true
 }
 

@@ -7,10 +7,12 @@ ghost use Rattle.basic_output.specs.Ready.{AreReady, IsPlainString, IsSaid, read
 ghost use Rattle.basic_output.specs.Sayings.{says_value, unit_at};
 ghost use Rattle.basic_output.specs.declared.location.Location.{Location};
 ghost use Rattle.basic_output.specs.declared.says.Says.{Says};
+ghost use Rattle.basic_output.specs.declared.says.Says.TheVariants as says;
 
 use crate::location::Location;
 use crate::quoting::are_unescaped;
 use crate::says::Says;
+use keywords::Keyword;
 
 /// A unit, but for what is the same in all: the texts stand in strings as they are.
 #[derive(Clone, Copy)]
@@ -68,11 +70,20 @@ pub(crate) fn plain_said<'s>(annotates: bool, says: Says<'s, 's>) -> Option<Said
     ensures { IfSome result (λ said. IsSaid said annotates (text (says_value says.entry))) }
 {
     match says {
-        Says::NotMet(keyword) => {
-            plain_string(annotates, keyword, " is not met\",\"instanceLocation\":\"")
-        }
+        Says::NotMet(keyword) => Some(not_met(annotates, keyword)),
         Says::Value(doc) => plain_string(annotates, doc.as_str()?, "\",\"instanceLocation\":\""),
         _ => None,
+    }
+}
+
+// That the keyword isn't met, whose name stands in a string as it is.
+fn not_met<'s>(annotates: bool, keyword: Keyword) -> Said<'s>
+    ensures { IsSaid result annotates (text (says_value (says.NotMet keyword))) }
+{
+    Said {
+        opening: opening_kind_key(annotates),
+        said: keyword.name(),
+        ending: " is not met\",\"instanceLocation\":\"",
     }
 }
 

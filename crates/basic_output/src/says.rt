@@ -1,14 +1,15 @@
 //! What a unit says.
 
 use json_doc::Doc;
+use keywords::Keyword;
 
 /// What a unit says: an error's message, or an annotation's value.
 ///
 /// Contracts see the JSON value that is written, by `says_value`.
 #[derive(Clone, Copy)]
 pub enum Says<'s, 'a> {
-    /// The keyword of this name is not met.
-    NotMet(&'a str),
+    /// The keyword is not met.
+    NotMet(Keyword),
     /// The schema is `false`.
     NotAllowed,
     /// `true`

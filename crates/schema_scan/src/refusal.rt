@@ -104,6 +104,7 @@ fn text_up(alloc: Global, mut steps: Vec<Step<'_>>) -> Result<String, Fault>
         match step {
             Step::Name(name) => pointer.push(name)?,
             Step::Index(index) => pointer.push(format!(in alloc; "{index}")?.as_str())?,
+            Step::Keyword(keyword) => pointer.push(keyword.name())?,
         }
     }
     pointer.text(alloc)

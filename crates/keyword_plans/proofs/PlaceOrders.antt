@@ -1,5 +1,5 @@
 -- The order of places.
-use Rattle.std.proofs.Common.{◌≡◌, ◌<◌, ◌≤◌, ℕ, List, [], ◌∷◌, length, drop, Ordering, Less, Equal, Greater, refl, sym, ap, ap₂, ◌∙◌, arith}
+use Rattle.std.proofs.Common.{◌≡◌, ◌<◌, ◌≤◌, ℕ, List, [], ◌∷◌, length, drop, decimal, Ordering, Less, Equal, Greater, refl, sym, ap, ap₂, ◌∙◌, arith}
 use Rattle.std.proofs.lemmas.Cmp.{ranked}
 use Rattle.std.proofs.lemmas.List.{length-drop}
 use Rattle.std.proofs.lemmas.Map.Text.{is_eq-slice_cmp}
@@ -7,10 +7,11 @@ use Rattle.std.specs.Cmp.Lexicographic.{slice_cmp}
 use Rattle.std.specs.Ordering.{is_eq, nat_cmp, ordering_then}
 use Rattle.definitions.specs.Values.{Text}
 use Rattle.lemmas.proofs.Texts.{same_text_is}
+use Rattle.keywords.specs.Rows.{row_of}
 use Rattle.locations.specs.Steps.{token, tokens}
 use Rattle.locations.specs.declared.step.Step.{Step}
-use Rattle.locations.specs.declared.step.Step.TheVariants.{Name, Index}
-use Rattle.keyword_plans.specs.Places.{step_order, steps_order}
+use Rattle.locations.specs.declared.step.Step.TheVariants.{Name, Index, Keyword}
+use Rattle.keyword_plans.specs.Places.{index_order, name_order, step_order, steps_order}
 
 -- ---- places of which one ends before the other
 none_before_some : (ss ts : List Step) → length ss ≤ 0 → 0 < length ts → steps_order ss ts ≡ Less
@@ -41,11 +42,20 @@ equal_texts t u e = same_text_is t u (sym (is_eq-slice_cmp t u) ∙ ap is_eq e)
 equal_numbers : (m n : ℕ) → nat_cmp m n ≡ Equal → m ≡ n
 equal_numbers m n e = ranked m n Equal (sym e)
 
+equal_name : (n : Text) (t : Step) → name_order n t ≡ Equal → n ≡ token t
+equal_name n (Name m) e = equal_texts n m.now e
+equal_name n (Index j) e = absurd (cc)
+equal_name n (Keyword k) e = equal_texts n (row_of k).name e
+
+equal_index : (i : ℕ) (t : Step) → index_order i t ≡ Equal → decimal i ≡ token t
+equal_index i (Name m) e = absurd (cc)
+equal_index i (Index j) e = ap decimal (equal_numbers i j e)
+equal_index i (Keyword k) e = absurd (cc)
+
 equal_step : (s t : Step) → step_order s t ≡ Equal → token s ≡ token t
-equal_step (Name n) (Name m) e = equal_texts n.now m.now e
-equal_step (Name n) (Index j) e = absurd (cc)
-equal_step (Index i) (Name m) e = absurd (cc)
-equal_step (Index i) (Index j) e = ap (λ k. token (Index k)) (equal_numbers i j e)
+equal_step (Name n) t e = equal_name n.now t e
+equal_step (Index i) t e = equal_index i t e
+equal_step (Keyword k) t e = equal_name (row_of k).name t e
 
 pub equal_steps : (ss ts : List Step) → steps_order ss ts ≡ Equal → tokens ss ≡ tokens ts
 equal_steps [] [] e = refl

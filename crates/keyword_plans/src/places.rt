@@ -2,7 +2,7 @@
 
 ghost use Rattle.std.specs.Prelude.{◌≡◌, ◌∷◌, ◌++◌, [], IfOk, OnOk, IfErr};
 ghost use Rattle.locations.specs.Steps.{token, tokens};
-ghost use Rattle.keyword_plans.specs.Places.{step_order, steps_order};
+ghost use Rattle.keyword_plans.specs.Places.{index_order, name_order, step_order, steps_order};
 
 use faults::Fault;
 use json_doc::Pointer;
@@ -35,14 +35,29 @@ fn compare_step(first: Step<'_>, second: Step<'_>) -> Ordering
     ensures { result ≡ step_order first.entry second.entry }
 {
     match first {
-        Step::Name(name) => match second {
-            Step::Name(other) => name.cmp(other),
-            Step::Index(_) => Ordering::Less,
-        },
-        Step::Index(index) => match second {
-            Step::Name(_) => Ordering::Greater,
-            Step::Index(other) => index.cmp(&other),
-        },
+        Step::Name(name) => compare_name(name, second),
+        Step::Index(index) => compare_index(index, second),
+        Step::Keyword(keyword) => compare_name(keyword.name(), second),
+    }
+}
+
+fn compare_name(name: &str, step: Step<'_>) -> Ordering
+    ensures { result ≡ name_order name.now step.entry }
+{
+    match step {
+        Step::Name(other) => name.cmp(other),
+        Step::Index(_) => Ordering::Less,
+        Step::Keyword(keyword) => name.cmp(keyword.name()),
+    }
+}
+
+fn compare_index(index: usize, step: Step<'_>) -> Ordering
+    ensures { result ≡ index_order index step.entry }
+{
+    match step {
+        Step::Name(_) => Ordering::Greater,
+        Step::Index(other) => index.cmp(&other),
+        Step::Keyword(_) => Ordering::Greater,
     }
 }
 
@@ -68,5 +83,6 @@ fn push_token_of(pointer: &mut Pointer, step: Step<'_>) -> Result<(), Fault>
             let mut digits = itoa::Buffer::new();
             pointer.push(digits.format(index))
         }
+        Step::Keyword(keyword) => pointer.push(keyword.name()),
     }
 }

@@ -7,7 +7,8 @@ ghost use Rattle.definitions.specs.Outcomes.{is_running};
 ghost use Rattle.basic_output.specs.declared.says.Says as output;
 ghost use Rattle.basic_output.specs.Sayings.{says_value, unit_at};
 ghost use Rattle.json_doc.specs.Docs.{value};
-ghost use Rattle.locations.specs.Steps.{tokens};
+ghost use Rattle.keywords.specs.Rows.{row_of};
+ghost use Rattle.locations.specs.Steps.{token, tokens};
 ghost use Rattle.keyword_plans.specs.ScopeViews.{scope_documents};
 ghost use Rattle.schema_index.specs.Locateds.{located_view};
 ghost use Rattle.evaluation_context.specs.RunningViews.{path_pointer};
@@ -17,6 +18,7 @@ use crate::context_memory::ContextMemory;
 use crate::running_objects::RunningObjects;
 use basic_output::{Location, Origin};
 use keyword_plans::DynamicScope;
+use keywords::Keyword;
 use linker::Linked;
 use locations::Step;
 use schema_index::Located;
@@ -180,8 +182,21 @@ impl<'a> Context<'a> {
         self.running.pop();
     }
 
-    /// To the keyword of this name. The only error is want of memory.
-    pub fn enter_keyword(&mut self, name: &'a str) -> Result<(), AllocError>
+    /// To this keyword. The only error is want of memory.
+    pub fn enter_keyword(&mut self, keyword: Keyword) -> Result<(), AllocError>
+        ensures there { OnOk result
+            (frame_standing (context_view self.new)
+            ≡ at_keyword (row_of keyword).name (frame_standing (context_view self.old))) }
+        ensures entered { OnOk result
+            (context_view self.new
+            ≡ keyword_frame (row_of keyword).name (context_view self.old)) }
+        ensures documents { scope_documents self.new.scope ≡ scope_documents self.old.scope }
+    {
+        self.enter_member(Step::Keyword(keyword))
+    }
+
+    /// To the keyword of this name, or to another member of the schema. The only error is want of memory.
+    pub fn enter_name(&mut self, name: &'a str) -> Result<(), AllocError>
         ensures there { OnOk result
             (frame_standing (context_view self.new)
             ≡ at_keyword name.now (frame_standing (context_view self.old))) }
@@ -189,12 +204,24 @@ impl<'a> Context<'a> {
             (context_view self.new ≡ keyword_frame name.now (context_view self.old)) }
         ensures documents { scope_documents self.new.scope ≡ scope_documents self.old.scope }
     {
-        self.running.lengthen(Step::Name(name))?;
+        self.enter_member(Step::Name(name))
+    }
+
+    // To the member of the schema to which the step leads.
+    fn enter_member(&mut self, step: Step<'a>) -> Result<(), AllocError>
+        ensures there { OnOk result
+            (frame_standing (context_view self.new)
+            ≡ at_keyword (token step.entry) (frame_standing (context_view self.old))) }
+        ensures entered { OnOk result
+            (context_view self.new ≡ keyword_frame (token step.entry) (context_view self.old)) }
+        ensures documents { scope_documents self.new.scope ≡ scope_documents self.old.scope }
+    {
+        self.running.lengthen(step)?;
         self.onward += 1;
         Ok(())
     }
 
-    /// Back from the keyword.
+    /// Back from there.
     pub fn leave_keyword(&mut self)
         ensures left { (older : Frame) (k : Text) → context_view self.old ≡ keyword_frame k older
             → context_view self.new ≡ older }

@@ -38,6 +38,7 @@ fn step_end(step: Step<'_>) -> u32
     match step {
         Step::Name(name) => text_end(name),
         Step::Index(index) => index_end(index),
+        Step::Keyword(keyword) => text_end(keyword.name()),
     }
 }
 

@@ -9,3 +9,7 @@ returns-in-Name c = tells_own c.text_end.result _ (c.text_end.ensures ∙ ap (λ
 
 pub returns-in-Index : goal.returns-in-Index
 returns-in-Index c = ap (λ s. tells_end c.index_end.result (text_end (token s))) c.in-Index.is ∙ c.index_end.ensures
+
+pub returns-in-Keyword : goal.returns-in-Keyword
+returns-in-Keyword c =
+    tells_own c.text_end-in-Keyword.result _ (c.text_end-in-Keyword.ensures ∙ ap text_end c.name.ensures ∙ ap (λ s. text_end (token s)) (sym c.in-Keyword.is))

@@ -119,7 +119,7 @@ fn note_member<'a>(
               (unit a name.now (value member.now) ∷ []);
         })) }
 {
-    context.enter_keyword(name)?;
+    context.enter_name(name)?;
     context.write_locations()?;
     log.push_annotation(context.location(), Says::Value(member))?;
     context.leave_keyword();

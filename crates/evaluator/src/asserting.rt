@@ -129,10 +129,10 @@ impl<'a> Evaluation<'a> {
             })) }
         ensures err { IfErr result (λ f. f ≡ Fault.NoRoom) }
     {
-        self.context.enter_keyword(keyword.name())?;
+        self.context.enter_keyword(keyword)?;
         self.context.write_locations()?;
         self.log
-            .push_error(self.context.location(), Says::NotMet(keyword.name()))?;
+            .push_error(self.context.location(), Says::NotMet(keyword))?;
         self.context.leave_keyword();
         Ok(Found::unmet())
     }

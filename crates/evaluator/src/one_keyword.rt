@@ -72,7 +72,7 @@ impl<'a> Evaluation<'a> {
     {
         let mark = self.log.mark();
         let planned = self.plan_keyword(keyword, keyword_value, here, beside)?;
-        self.context.enter_keyword(keyword.name())?;
+        self.context.enter_keyword(keyword)?;
         match self.apply_all(keyword, &planned, room) {
             Ok(applied) => self.finish_keyword(
                 keyword,

@@ -55,7 +55,7 @@ pub(crate) fn settle<'a>(
     } else {
         log.cut_annotations(mark);
         context.write_locations()?;
-        log.insert_error(mark, context.location(), Says::NotMet(keyword.name()))?;
+        log.insert_error(mark, context.location(), Says::NotMet(keyword))?;
         Ok(())
     }
 }

@@ -15,4 +15,4 @@ returns-clause-noted c a is =
     ∙ ap (λ (u : OutputUnit). notes_of_both (log_view c.args.log.now) (record no_notes { annotations = unit_text true u ∷ [] }))
     (c.location.ensures (Value c.args.member)
     ∙ ap (λ f. unit_there (frame_standing f) (value c.args.member.now)) c.write_locations.ensures.same
-    ∙ ap (λ (st : Standing). unit_there st (value c.args.member.now)) (c.in_ok-enter_keyword.ensures.there ∙ ap (at_keyword c.args.name.now) is))
+    ∙ ap (λ (st : Standing). unit_there st (value c.args.member.now)) (c.in_ok-enter_name.ensures.there ∙ ap (at_keyword c.args.name.now) is))

@@ -1,8 +1,5 @@
-use Rattle.std.proofs.Common.{◌≡◌, [], ◌∷◌, ◌∙◌, ◌++◌, false, ap, sym, subst, OnOk}
-use Rattle.std.specs.Prelude.{codes}
-use Rattle.definitions.specs.Values.{string}
+use Rattle.std.proofs.Common.{◌≡◌, [], ◌∷◌, ◌∙◌, false, ap, sym, subst, OnOk}
 use Rattle.definitions.specs.Applied.{OutputUnit}
-use Rattle.definitions.specs.Outcomes.{unit}
 use Rattle.basic_output.specs.Pieces.{unit_text}
 use Rattle.basic_output.specs.Sayings.{says_value}
 use Rattle.basic_output.specs.declared.says.Says.TheVariants.{NotMet}
@@ -34,7 +31,6 @@ returns-in_ok-insert_error-clause-noted c l left a names indexes v older inst co
     let seen = visible_notes meaning (parts_notes meaning u.outcomes) in
     c.in_ok-insert_error.ensures older (record seen { annotations = [] }) m (c.cut_annotations.ensures older seen m (c.hide.ensures older (parts_notes meaning u.outcomes) m e))
     ∙ ap (λ (unit : OutputUnit). notes_of_both older (record seen { annotations = []; errors = unit_text false unit ∷ seen.errors }))
-    (c.location.ensures (NotMet c.name.result)
-    ∙ unit_under (context_view c.args.context.now) (context_view c.write_locations.new.self) (row_of k).name a (says_value (NotMet c.name.result)) c.write_locations.ensures.same under
-    ∙ ap (λ n. unit a (row_of k).name (string (n ++ codes " is not met"))) c.name.ensures)
+    (c.location.ensures (NotMet k)
+    ∙ unit_under (context_view c.args.context.now) (context_view c.write_locations.new.self) (row_of k).name a (says_value (NotMet k)) c.write_locations.ensures.same under)
     ∙ ap (notes_of_both older) (failing_settled l left a k names indexes v (sym c.if-passes.false ∙ passes))

@@ -1,7 +1,5 @@
-use Rattle.std.proofs.Common.{[], ◌∷◌, ◌++◌, ◌∙◌, false, ap, codes}
-use Rattle.definitions.specs.Values.{string}
+use Rattle.std.proofs.Common.{[], ◌∷◌, ◌∙◌, false, ap}
 use Rattle.definitions.specs.Applied.{OutputUnit}
-use Rattle.definitions.specs.Outcomes.{unit}
 use Rattle.basic_output.specs.Pieces.{unit_text}
 use Rattle.basic_output.specs.Sayings.{says_value}
 use Rattle.basic_output.specs.declared.says.Says.TheVariants.{NotMet}
@@ -16,8 +14,6 @@ pub returns-clause-noted : goal.returns-clause-noted
 returns-clause-noted c a is =
     c.in_ok-push_error.ensures
     ∙ ap (λ (u : OutputUnit). notes_of_both (log_view c.args.self.now.log) (record no_notes { errors = unit_text false u ∷ [] }))
-    (c.location.ensures (NotMet c.name-2.result)
-    ∙ ap (λ f. unit_there (frame_standing f) (says_value (NotMet c.name-2.result))) c.write_locations.ensures.same
-    ∙ ap (λ (st : Standing). unit_there st (string (c.name-2.result.now ++ codes " is not met"))) (c.in_ok-enter_keyword.ensures.there ∙ ap (at_keyword c.name.result.now) is)
-    ∙ ap (λ n. unit a c.name.result.now (string (n ++ codes " is not met"))) c.name-2.ensures
-    ∙ ap (λ n. unit a n (string ((row_of c.args.keyword).name ++ codes " is not met"))) c.name.ensures)
+    (c.location.ensures (NotMet c.args.keyword)
+    ∙ ap (λ f. unit_there (frame_standing f) (says_value (NotMet c.args.keyword))) c.write_locations.ensures.same
+    ∙ ap (λ (st : Standing). unit_there st (says_value (NotMet c.args.keyword))) (c.in_ok-enter_keyword.ensures.there ∙ ap (at_keyword (row_of c.args.keyword).name) is))

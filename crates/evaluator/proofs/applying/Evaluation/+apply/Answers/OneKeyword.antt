@@ -36,8 +36,7 @@ use_keyword-returns-in-Ok-clause-found t c a at knows got =
     let ps = c.in_ok-planned.planned.items in
     let same = c.in_ok-planned.ensures.planned a left at knows got in
     let outcomes = planned_outcomes l left k a ps ∙ ap (map (λ (e : Part × Application). (e.0, linked_outcome l left e.1))) same in
-    let there = c.in_ok-enter_keyword.ensures.there ∙ ap (λ n. at_keyword n (frame_standing (context_view c.plan_keyword.new.self.context))) c.name.ensures
-    ∙ ap (λ here. at_keyword k (frame_standing here)) c.in_ok-planned.ensures.back in
+    let there = c.in_ok-enter_keyword.ensures.there ∙ ap (λ here. at_keyword k (frame_standing here)) c.in_ok-planned.ensures.back in
     let here = at_keyword_of l left (context_view old.context) (context_view c.enter_keyword.new.self) s x keyword v c.args.beside a at there knows got in
     let known : (p : Planned) → Contains-use_keyword ps p → IsKnown c.plan_keyword.new.self.linked.now k a p =
     λ p inside. subst (λ (b : Bor Linked). IsKnown b.now k a p) (sym c.in_ok-planned.ensures.linked) (planned_known l left keyword a ps names indexes v at.inside got same p inside) in
@@ -67,8 +66,7 @@ use_keyword-returns-in-Ok-clause-noted t c a at knows got =
     let ps = c.in_ok-planned.planned.items in
     let same = c.in_ok-planned.ensures.planned a left at knows got in
     let outcomes = planned_outcomes l left k a ps ∙ ap (map (λ (e : Part × Application). (e.0, linked_outcome l left e.1))) same in
-    let there = c.in_ok-enter_keyword.ensures.there ∙ ap (λ n. at_keyword n (frame_standing (context_view c.plan_keyword.new.self.context))) c.name.ensures
-    ∙ ap (λ here. at_keyword k (frame_standing here)) c.in_ok-planned.ensures.back in
+    let there = c.in_ok-enter_keyword.ensures.there ∙ ap (λ here. at_keyword k (frame_standing here)) c.in_ok-planned.ensures.back in
     let here = at_keyword_of l left (context_view old.context) (context_view c.enter_keyword.new.self) s x keyword v c.args.beside a at there knows got in
     let known : (p : Planned) → Contains-use_keyword ps p → IsKnown c.plan_keyword.new.self.linked.now k a p =
     λ p inside. subst (λ (b : Bor Linked). IsKnown b.now k a p) (sym c.in_ok-planned.ensures.linked) (planned_known l left keyword a ps names indexes v at.inside got same p inside) in
@@ -106,8 +104,7 @@ use_keyword-returns-clause-err t c a at knows got other =
     let ps = c.in_ok-planned.planned.items in
     let same = c.in_ok-planned.ensures.planned a left at knows got in
     let outcomes = planned_outcomes l left k a ps ∙ ap (map (λ (e : Part × Application). (e.0, linked_outcome l left e.1))) same in
-    let there = c.in_ok-enter_keyword.ensures.there ∙ ap (λ n. at_keyword n (frame_standing (context_view c.plan_keyword.new.self.context))) c.name.ensures
-    ∙ ap (λ here. at_keyword k (frame_standing here)) c.in_ok-planned.ensures.back in
+    let there = c.in_ok-enter_keyword.ensures.there ∙ ap (λ here. at_keyword k (frame_standing here)) c.in_ok-planned.ensures.back in
     let here = at_keyword_of l left (context_view old.context) (context_view c.enter_keyword.new.self) s x keyword v c.args.beside a at there knows got in
     let known : (p : Planned) → Contains-use_keyword ps p → IsKnown c.plan_keyword.new.self.linked.now k a p =
     λ p inside. subst (λ (b : Bor Linked). IsKnown b.now k a p) (sym c.in_ok-planned.ensures.linked) (planned_known l left keyword a ps names indexes v at.inside got same p inside) in

@@ -2,6 +2,7 @@
 
 use basic_output::{Location, Mark, Origin, Says, Step, Units, WrittenPointer, output_text};
 use json_doc::{Fault, read};
+use keywords::Keyword;
 use locations::same_steps;
 use std::alloc::Global;
 use std::test::Fail;
@@ -108,7 +109,12 @@ fn writes_annotations_or_errors(rt: HostRuntime) -> Result<(), Fail> {
     assert_eq!(rt; errors.as_str(), r#"{"errors":[],"valid":false}"#);
     let mut places = Places::new(rt.alloc());
     places.turn_to(&[Step::Name("required")], &[])?;
-    push_error(rt.alloc(), &mut units, &places, Says::NotMet("required"))?;
+    push_error(
+        rt.alloc(),
+        &mut units,
+        &places,
+        Says::NotMet(Keyword::Required),
+    )?;
     let text = output_text(rt.alloc(), false, &units)?;
     assert_eq!(rt;
         text.as_str(),
@@ -203,13 +209,19 @@ fn puts_units_at_marks_and_cuts_them_off(rt: HostRuntime) -> Result<(), Fail> {
     let mut places = Places::new(rt.alloc());
     let own = units.mark();
     places.turn_to(&path, &[])?;
-    push_error(rt.alloc(), &mut units, &places, Says::NotMet("type"))?;
+    push_error(rt.alloc(), &mut units, &places, Says::NotMet(Keyword::Type))?;
     let later = units.mark();
     places.turn_to(&path[..2], &[])?;
     push_error(rt.alloc(), &mut units, &places, Says::NotAllowed)?;
     units.cut_back(later);
     places.turn_to(&path[..1], &[])?;
-    insert_error(rt.alloc(), &mut units, own, &places, Says::NotMet("anyOf"))?;
+    insert_error(
+        rt.alloc(),
+        &mut units,
+        own,
+        &places,
+        Says::NotMet(Keyword::AnyOf),
+    )?;
     let text = output_text(rt.alloc(), false, &units)?;
     assert_eq!(rt;
         text.as_str(),
@@ -225,7 +237,7 @@ const ALL: Step<'static> = Step::Name("all");
 
 const ONE: Step<'static> = Step::Name("one");
 
-const TYPE: Step<'static> = Step::Name("type");
+const TYPE: Step<'static> = Step::Keyword(Keyword::Type);
 
 const ENUM: Step<'static> = Step::Name("enum");
 
@@ -467,7 +479,11 @@ fn locations_lead_on_from_what_a_reference_names(rt: HostRuntime) -> Result<(), 
         ],
         &[Step::Index(1)],
     )?;
-    units.push(false, places.onward(&origin, 1), Says::NotMet("required"))?;
+    units.push(
+        false,
+        places.onward(&origin, 1),
+        Says::NotMet(Keyword::Required),
+    )?;
     let text = output_text(rt.alloc(), false, &units)?;
     assert_eq!(rt;
         text.as_str(),

@@ -5,6 +5,7 @@ use crate::documents::listed;
 use crate::texts::URI;
 use basic_output::Step;
 use evaluation_context::{Context, ContextMemory};
+use keywords::Keyword;
 use linker::link;
 use std::test::Fail;
 
@@ -18,14 +19,14 @@ fn knows_what_is_being_applied_and_where(rt: HostRuntime) -> Result<(), Fail> {
     assert!(rt; !context.is_running());
     context.enter_object()?;
     assert!(rt; context.is_running() && context.scope().len() == 1);
-    context.enter_keyword("not")?;
+    context.enter_keyword(Keyword::Not)?;
     assert!(rt; !context.is_running());
     context.write_locations()?;
     let location = context.location();
     assert!(rt; location.origin.resource() == context.resource() && location.path.len() == 1);
     assert!(rt; location.onward == 1 && location.instance_location.len() == 0);
     let pointer = context.pointer(rt.alloc())?;
-    assert!(rt; pointer.len() == 1 && matches!(pointer.first(), Some(Step::Name("not"))));
+    assert!(rt; pointer.len() == 1 && matches!(pointer.first(), Some(Step::Keyword(Keyword::Not))));
     context.leave_keyword();
     assert!(rt; context.is_running());
     context.leave_object();

@@ -69,19 +69,40 @@ fn applications_are_limited(rt: HostRuntime) -> Result<(), Fail> {
     Ok(())
 }
 
-// How many elements, and the beginning of the answer: each element is an application.
-const ELEMENTS: &[(u32, &str)] = &[(99_999, r#"{"annotations":["#), (100_000, "16 Costly")];
+// The schema, how many elements, and the beginning of the answer: each element is an application.
+const ELEMENTS: &[(&str, u32, &str)] = &[
+    (r#"{"items":true}"#, 99_999, r#"{"annotations":["#),
+    (r#"{"items":true}"#, 100_000, "16 Costly"),
+    (r#"{"items":{"minimum":0}}"#, 99_999, r#"{"annotations":["#),
+    (r#"{"items":{"minimum":0}}"#, 100_000, "16 Costly"),
+    (r#"{"items":{"minimum":1}}"#, 100_000, "16 Costly"),
+];
 
 #[test]
 fn each_element_is_an_application(rt: HostRuntime) -> Result<(), Fail> {
     let alloc = rt.alloc();
-    for (count, text) in ELEMENTS {
+    for (schema, count, text) in ELEMENTS {
         let mut zeros = String::from_str(alloc, "[0")?;
         for _ in 1..*count {
             zeros.push_str(",0")?;
         }
         zeros.push(']')?;
-        let found = answer(alloc, URI, r#"{"items":true}"#, zeros.as_str())?;
+        let found = answer(alloc, URI, schema, zeros.as_str())?;
+        assert!(rt; found.as_str().starts_with(*text), "{schema} {count}");
+    }
+    Ok(())
+}
+
+// How many definitions, each with a reference to the next one, and the beginning of the answer: what an element of the instance
+// is checked by nests one deeper than the last of them.
+const DEEPEST_ELEMENTS: &[(u32, &str)] = &[(998, r#"{"annotations":["#), (999, "18 Deep")];
+
+#[test]
+fn the_schema_of_an_element_nests(rt: HostRuntime) -> Result<(), Fail> {
+    let alloc = rt.alloc();
+    for (count, text) in DEEPEST_ELEMENTS {
+        let schema = chained(alloc, FIRST, ONE, *count, r#"{"items":{"type":"integer"}}"#)?;
+        let found = answer(alloc, URI, schema.as_str(), "[1]")?;
         assert!(rt; found.as_str().starts_with(*text), "{count}");
     }
     Ok(())

@@ -52,6 +52,22 @@ const OUTPUTS: &[(&str, &str, &str)] = &[
         r#"{"ä%":1}"#,
         r#"{"errors":[{"absoluteKeywordLocation":"https://ex.org/s#/properties","error":"properties is not met","instanceLocation":"","keywordLocation":"/properties"},{"absoluteKeywordLocation":"https://ex.org/s#/properties/%C3%A4%25","error":"no value is allowed","instanceLocation":"/ä%","keywordLocation":"/properties/ä%"}],"valid":false}"#,
     ),
+    // Schemas that assert alone: some pass without a word, and others don't.
+    (
+        r#"{"items":{"type":"integer"}}"#,
+        r#"[1,"a",2,3,"b","c",4]"#,
+        r#"{"errors":[{"absoluteKeywordLocation":"https://ex.org/s#/items","error":"items is not met","instanceLocation":"","keywordLocation":"/items"},{"absoluteKeywordLocation":"https://ex.org/s#/items/type","error":"type is not met","instanceLocation":"/1","keywordLocation":"/items/type"},{"absoluteKeywordLocation":"https://ex.org/s#/items/type","error":"type is not met","instanceLocation":"/4","keywordLocation":"/items/type"},{"absoluteKeywordLocation":"https://ex.org/s#/items/type","error":"type is not met","instanceLocation":"/5","keywordLocation":"/items/type"}],"valid":false}"#,
+    ),
+    (
+        r#"{"properties":{"a":{"type":"integer"},"b":{"title":"B","type":"integer"},"c":{"type":"integer"}}}"#,
+        r#"{"a":1,"b":2,"c":3}"#,
+        r#"{"annotations":[{"absoluteKeywordLocation":"https://ex.org/s#/properties","annotation":["a","b","c"],"instanceLocation":"","keywordLocation":"/properties"},{"absoluteKeywordLocation":"https://ex.org/s#/properties/b/title","annotation":"B","instanceLocation":"/b","keywordLocation":"/properties/b/title"}],"valid":true}"#,
+    ),
+    (
+        r#"{"items":{"$id":"https://ex.org/i","type":"integer"}}"#,
+        r#"[1,"a"]"#,
+        r#"{"errors":[{"absoluteKeywordLocation":"https://ex.org/s#/items","error":"items is not met","instanceLocation":"","keywordLocation":"/items"},{"absoluteKeywordLocation":"https://ex.org/i#/type","error":"type is not met","instanceLocation":"/1","keywordLocation":"/items/type"}],"valid":false}"#,
+    ),
 ];
 
 #[test]

@@ -3,3 +3,4 @@ pub mod FrameLaws
 pub mod IdentifierLaws
 pub mod PlannedLaws
 pub mod EndLaws
+pub mod LowerLaws

@@ -272,7 +272,7 @@ found_at f g es i x less is here =
     list_any_at f (map g es) i (g x) (omega (arith, length-map es g)) (ap f (get_or-map g es i x (g x) less) ∙ ap (λ y. f (g y)) (sym is) ∙ here)
 
 -- pointers of two lengths differ
-pointers_differ : (ts us : Pointer) → (length ts ≡ length us → ⊥) → same_pointer ts us ≡ false
+pub pointers_differ : (ts us : Pointer) → (length ts ≡ length us → ⊥) → same_pointer ts us ≡ false
 pointers_differ [] [] differ = absurd (differ refl)
 pointers_differ [] (u ∷ us) differ = refl
 pointers_differ (t ∷ ts) [] differ = refl

@@ -6,6 +6,7 @@ mod context;
 mod context_memory;
 mod ends;
 mod identifier;
+mod lower_parts;
 mod moving;
 mod running;
 mod running_objects;

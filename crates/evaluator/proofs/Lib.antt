@@ -17,3 +17,4 @@ pub mod LeafLaws
 pub mod KeptLaws
 pub mod DollarLaws
 pub mod AssertedLaws
+pub mod SilenceLaws

@@ -28,11 +28,11 @@ use Rattle.evaluator.specs.declared.found.Applied as found
 use Rattle.evaluator.proofs.LogLaws.{added_twice, same_notes}
 
 -- ---- where a planned application stands
-chosen_schema_value : (k : Text) (a : Application) (chosen : Chosen) (part : definition.Part) (x : Value) → (chosen_application k a chosen part x).schema.value ≡ chosen_value chosen
+pub chosen_schema_value : (k : Text) (a : Application) (chosen : Chosen) (part : definition.Part) (x : Value) → (chosen_application k a chosen part x).schema.value ≡ chosen_value chosen
 chosen_schema_value k a (Below step schema) part x = value-opened a.schema.resource _ (value schema.now) _
 chosen_schema_value k a (Target target) part x = refl
 
-chosen_instance : (k : Text) (a : Application) (chosen : Chosen) (part : definition.Part) (x : Value) → (chosen_application k a chosen part x).instance ≡ x
+pub chosen_instance : (k : Text) (a : Application) (chosen : Chosen) (part : definition.Part) (x : Value) → (chosen_application k a chosen part x).instance ≡ x
 chosen_instance k a (Below step schema) part x = refl
 chosen_instance k a (Target target) part x = refl
 

@@ -8,3 +8,4 @@ pub mod Annotations
 pub mod Applying
 pub mod Presents
 pub mod Leaves
+pub mod Silences

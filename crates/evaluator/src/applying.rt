@@ -29,6 +29,8 @@ pub(crate) struct Evaluation<'a> {
     pub(crate) enumerations: Enumerations<'a>,
     pub(crate) context: Context<'a>,
     pub(crate) log: Log<'a>,
+    /// Whether what was applied last passed.
+    pub(crate) last_passed: bool,
     ghost enumerated: { enumerated_in enumerations ≡ linked },
     ghost followed: { scope_documents context.scope ≡ linked },
 }
@@ -59,29 +61,29 @@ impl<'a> Evaluation<'a> {
     #[cycle(apply)]
     pub(crate) fn apply(
         &mut self,
-        schema: &'a Doc,
+        present: &Present<'a>,
         subject: Subject<'a>,
         room: Room,
     ) -> Result<Found, Fault>
         ensures linked { self.new.linked ≡ self.old.linked }
         ensures back { OnOk result (context_view self.new.context ≡ context_view self.old.context) }
         ensures within { IfOk result (λ f. IsWithin f room.applications) }
-        ensures found { (a : Application) → Applies self.old schema.now subject.entry a
+        ensures found { (a : Application) → Applies self.old present.now.schema.now subject.entry a
             → IfOk result (λ f. Finds f room.applications
             (linked_outcome self.old.linked.now room.nesting a)) }
-        ensures noted { (a : Application) → Applies self.old schema.now subject.entry a
+        ensures noted { (a : Application) → Applies self.old present.now.schema.now subject.entry a
             → OnOk result (Adds self.old self.new (outcome_notes
             (linked_outcome self.old.linked.now room.nesting a))) }
-        ensures err { (a : Application) → Applies self.old schema.now subject.entry a
+        ensures err { (a : Application) → Applies self.old present.now.schema.now subject.entry a
             → IfErr result (λ f. IsCostly f room.applications
             (linked_outcome self.old.linked.now room.nesting a).count) }
     {
         if room.applications == 0 {
             return Err(Fault::Costly);
         }
-        match schema.as_bool() {
+        match present.schema.as_bool() {
             Some(allowed) => self.apply_boolean(allowed, room.nesting),
-            None => self.apply_other(schema, subject, room),
+            None => self.apply_other(present, subject, room),
         }
     }
 
@@ -123,33 +125,33 @@ impl<'a> Evaluation<'a> {
     #[cycle(apply)]
     fn apply_other(
         &mut self,
-        schema: &'a Doc,
+        present: &Present<'a>,
         subject: Subject<'a>,
         room: Room,
     ) -> Result<Found, Fault>
         requires some { 0 < room.applications }
-        requires other { as_boolean (value schema.now) ≡ None }
+        requires other { as_boolean (value present.now.schema.now) ≡ None }
         ensures linked { self.new.linked ≡ self.old.linked }
         ensures back { OnOk result (context_view self.new.context ≡ context_view self.old.context) }
         ensures within { IfOk result (λ f. IsWithin f room.applications) }
-        ensures found { (a : Application) → Applies self.old schema.now subject.entry a
+        ensures found { (a : Application) → Applies self.old present.now.schema.now subject.entry a
             → IfOk result (λ f. Finds f room.applications
             (linked_outcome self.old.linked.now room.nesting a)) }
-        ensures noted { (a : Application) → Applies self.old schema.now subject.entry a
+        ensures noted { (a : Application) → Applies self.old present.now.schema.now subject.entry a
             → OnOk result (Adds self.old self.new (outcome_notes
             (linked_outcome self.old.linked.now room.nesting a))) }
-        ensures err { (a : Application) → Applies self.old schema.now subject.entry a
+        ensures err { (a : Application) → Applies self.old present.now.schema.now subject.entry a
             → IfErr result (λ f. IsCostly f room.applications
             (linked_outcome self.old.linked.now room.nesting a).count) }
     {
-        if self.is_looping(schema) {
+        if self.is_looping(present.schema) {
             return Ok(Found::leaf(true, false));
         }
         if room.nesting == 0 {
             return Ok(Found::leaf(false, true));
         }
         self.apply_object(
-            schema,
+            present,
             subject,
             Room {
                 nesting: room.nesting - 1,
@@ -171,7 +173,7 @@ impl<'a> Evaluation<'a> {
     #[cycle(apply)]
     fn apply_object(
         &mut self,
-        schema: &'a Doc,
+        present: &Present<'a>,
         subject: Subject<'a>,
         room: Room,
     ) -> Result<Found, Fault>
@@ -179,24 +181,23 @@ impl<'a> Evaluation<'a> {
         ensures linked { self.new.linked ≡ self.old.linked }
         ensures back { OnOk result (context_view self.new.context ≡ context_view self.old.context) }
         ensures within { IfOk result (λ f. IsWithin f room.applications) }
-        ensures found { (a : Application) → Applies self.old schema.now subject.entry a
+        ensures found { (a : Application) → Applies self.old present.now.schema.now subject.entry a
             → IfOk result (λ f. Finds f room.applications
             (object_said self.old.linked.now room.nesting a)) }
-        ensures noted { (a : Application) → Applies self.old schema.now subject.entry a
+        ensures noted { (a : Application) → Applies self.old present.now.schema.now subject.entry a
             → OnOk result (Adds self.old self.new (outcome_notes
             (object_said self.old.linked.now room.nesting a))) }
-        ensures err { (a : Application) → Applies self.old schema.now subject.entry a
+        ensures err { (a : Application) → Applies self.old present.now.schema.now subject.entry a
             → IfErr result (λ f. IsCostly f room.applications
             (object_said self.old.linked.now room.nesting a).count) }
     {
-        let present = Present::of(schema);
         if present.applies_nothing() {
-            return self.apply_leaf(&present, subject);
+            return self.apply_leaf(present, subject);
         }
         let mark = self.log.mark();
         self.context.enter_object()?;
         let here = Here {
-            present: &present,
+            present,
             subject,
             before: mark.before(),
         };
@@ -207,7 +208,7 @@ impl<'a> Evaluation<'a> {
                     &mut self.context,
                     &mut self.log,
                     &mark,
-                    &present,
+                    present,
                     subject,
                     found.valid,
                 )?;

@@ -21,6 +21,7 @@ mod report;
 mod room;
 mod settling;
 mod settling_object;
+mod silent;
 
 pub use faults::Fault;
 pub use memory::EvaluationMemory;

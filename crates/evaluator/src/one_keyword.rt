@@ -9,6 +9,7 @@ use crate::beside::Beside;
 use crate::found::{Applied, Found};
 use crate::here::Here;
 use crate::log::LogMark;
+use crate::present::Present;
 use crate::room::Room;
 use crate::settling::{evaluated_since, settle};
 use faults::Fault;
@@ -30,7 +31,7 @@ impl<'a> Evaluation<'a> {
     ghost use Rattle.evaluator.specs.Applying.{Adds, AreKnown, IsCostly, IsHere};
     ghost use Rattle.evaluator.specs.Findings.{AreWithin, Finds, FindsAll, FindsUse, IsWithin, count_of, use_count};
     ghost use Rattle.evaluator.specs.Logs.{log_view, mark_view};
-    ghost use Rattle.evaluator.specs.Notes.{Notes, lengths, notes_of_both, part_notes, parts_notes, uses_notes};
+    ghost use Rattle.evaluator.specs.Notes.{Notes, lengths, notes_of_both, outcome_notes, part_notes, parts_notes, uses_notes};
     ghost use Rattle.evaluator.specs.Rounds.{IsAtKeyword, IsKnown, IsUnder, Knows, indexes_since, linked_outcome, names_since, part_outcome, part_outcomes, use_there, uses_with};
 
     /// A keyword with this value: what it applies, and whether it passes.
@@ -294,14 +295,43 @@ impl<'a> Evaluation<'a> {
             (row_of keyword).name a planned.now).1.count) }
     {
         let mark = self.log.mark();
+        let found = self.apply_chosen(planned, room)?;
+        self.log
+            .settle_part(keyword, planned.part, &mark, found.valid)?;
+        Ok(found)
+    }
+
+    // Applies the schema that is planned: it is entered, but where it passes without a word.
+    #[cycle(apply)]
+    fn apply_chosen(&mut self, planned: &Planned<'a>, room: Room) -> Result<Found, Fault>
+        ensures linked { self.new.linked ≡ self.old.linked }
+        ensures back { OnOk result (context_view self.new.context ≡ context_view self.old.context) }
+        ensures within { IfOk result (λ f. IsWithin f room.applications) }
+        ensures found { (a : Application) (k : Text) → IsUnder (context_view self.old.context) k a
+            → IsKnown self.old.linked.now k a planned.now
+            → IfOk result (λ f. Finds f room.applications
+            (part_outcome self.old.linked.now room.nesting k a planned.now).1) }
+        ensures noted { (a : Application) (k : Text) → IsUnder (context_view self.old.context) k a
+            → IsKnown self.old.linked.now k a planned.now
+            → OnOk result (Adds self.old self.new (outcome_notes
+            (part_outcome self.old.linked.now room.nesting k a planned.now).1)) }
+        ensures err { (a : Application) (k : Text) → IsUnder (context_view self.old.context) k a
+            → IsKnown self.old.linked.now k a planned.now
+            → IfErr result (λ f. IsCostly f room.applications
+            (part_outcome self.old.linked.now room.nesting k a planned.now).1.count) }
+    {
+        let present = Present::of(chosen_schema(&planned.chosen));
+        let passes = self.passes_silently(&present, planned, room)?;
+        if passes {
+            return Ok(Found::boolean(true));
+        }
         let back = self
             .context
             .enter_planned(self.alloc, self.linked, planned)?;
-        match self.apply(chosen_schema(&planned.chosen), planned.subject, room) {
+        match self.apply(&present, planned.subject, room) {
             Ok(found) => {
                 self.context.leave_planned(back);
-                self.log
-                    .settle_part(keyword, planned.part, &mark, found.valid)?;
+                self.last_passed = found.valid;
                 Ok(found)
             }
             Err(fault) => Err(fault),

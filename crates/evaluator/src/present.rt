@@ -11,6 +11,7 @@ ghost use Rattle.definitions.specs.Uris.{begins};
 ghost use Rattle.definitions.specs.Applied.{Application};
 ghost use Rattle.definitions.specs.Outcomes.{other_annotations};
 ghost use Rattle.json_doc.specs.Docs.{value, members_value};
+ghost use Rattle.json_doc.specs.Kinds.{as_boolean};
 ghost use Rattle.json_doc.specs.Members.{HasNamesInOrder, members_left};
 ghost use Rattle.json_doc.specs.declared.doc.Doc.{Doc};
 ghost use Rattle.keyword_plans.specs.ValueSets.{value_set};
@@ -41,6 +42,7 @@ pub(crate) struct Present<'a> {
 
 impl<'a> Present<'a> {
     /// What this schema has.
+    #[inline(always)]
     pub(crate) fn of(schema: &'a Doc) -> Present<'a>
         ensures { result.schema.now ≡ schema.now }
     {
@@ -87,6 +89,19 @@ impl<'a> Present<'a> {
         );
         let looks_at_evaluated = self.looks_at_evaluated();
         lacks_references & lacks_pattern & lacks_others & !looks_at_evaluated
+    }
+
+    /// Whether it surely is an object, or no schema at all, that applies nothing, and of which no name annotates with its own value.
+    pub(crate) fn only_asserts(&self) -> bool
+        ensures other { result ≡ true → as_boolean (value self.now.schema.now) ≡ None }
+        ensures leaf { result ≡ true → IsLeaf (value self.now.schema.now) }
+        ensures silent { (a : Application) → a.schema.value ≡ value self.now.schema.now
+            → result ≡ true → other_annotations a ≡ [] }
+    {
+        let is_other = self.schema.as_bool().is_none();
+        let applies_nothing = self.applies_nothing();
+        let annotates = self.may_annotate();
+        is_other & applies_nothing & !annotates
     }
 
     // Whether it surely has none of the marks from the first to before the second.

@@ -21,6 +21,7 @@ use crate::applying::Evaluation;
 use crate::found::Found;
 use crate::log::Log;
 use crate::memory::EvaluationMemory;
+use crate::present::Present;
 use crate::room::Room;
 use basic_output::output_text;
 use evaluation_context::Context;
@@ -112,7 +113,7 @@ pub fn evaluate_with<'a>(
         → Gives result (answer has_match G (linked_uri linked.now) (value instance.now)) }
 {
     let root = linked.root(alloc);
-    let schema = root.schema;
+    let present = Present::of(root.schema);
     let EvaluationMemory { log, context } = replace(memory, EvaluationMemory::new(alloc));
     let context = Context::new(alloc, linked, root, context)?;
     let mut evaluation = Evaluation {
@@ -121,9 +122,10 @@ pub fn evaluate_with<'a>(
         enumerations: Enumerations::new(alloc, linked),
         context,
         log: Log::within(alloc, log),
+        last_passed: true,
     };
     let found = evaluation.apply(
-        schema,
+        &present,
         Subject::Value(instance),
         Room {
             nesting: MOST_NESTED,

@@ -21,6 +21,7 @@ use std::alloc::AllocError;
 
 /// Of a schema object whose keywords were used since the mark: where all pass, the names annotate that are no keywords;
 /// else the errors alone stay (JSON Schema 2020-12 Core, 7.7.1.1). The only error is want of memory.
+#[inline(always)]
 pub(crate) fn settle_object<'a>(
     context: &mut Context<'a>,
     log: &mut Log<'a>,

@@ -138,17 +138,14 @@ apply_all-returns-clause-found = one_keyword.apply_all-returns-clause-found
 pub apply_all-returns-clause-noted : goal.apply_all-returns-clause-noted
 apply_all-returns-clause-noted = one_keyword.apply_all-returns-clause-noted
 
-pub apply_planned-returns-in-Err-clause-err : goal.apply_planned-returns-in-Err-clause-err
-apply_planned-returns-in-Err-clause-err = one_keyword.apply_planned-returns-in-Err-clause-err
+pub apply_chosen-returns-then-passes-clause-noted : goal.apply_chosen-returns-then-passes-clause-noted
+apply_chosen-returns-then-passes-clause-noted = one_keyword.apply_chosen-returns-then-passes-clause-noted
 
-pub apply_planned-returns-in_ok-settle_part-in-Ok-clause-back : goal.apply_planned-returns-in_ok-settle_part-in-Ok-clause-back
-apply_planned-returns-in_ok-settle_part-in-Ok-clause-back = one_keyword.apply_planned-returns-in_ok-settle_part-in-Ok-clause-back
+pub apply_chosen-returns-in-Ok-clause-found : goal.apply_chosen-returns-in-Ok-clause-found
+apply_chosen-returns-in-Ok-clause-found = one_keyword.apply_chosen-returns-in-Ok-clause-found
 
-pub apply_planned-returns-in_ok-settle_part-in-Ok-clause-found : goal.apply_planned-returns-in_ok-settle_part-in-Ok-clause-found
-apply_planned-returns-in_ok-settle_part-in-Ok-clause-found = one_keyword.apply_planned-returns-in_ok-settle_part-in-Ok-clause-found
-
-pub apply_planned-returns-in_ok-settle_part-in-Ok-clause-noted : goal.apply_planned-returns-in_ok-settle_part-in-Ok-clause-noted
-apply_planned-returns-in_ok-settle_part-in-Ok-clause-noted = one_keyword.apply_planned-returns-in_ok-settle_part-in-Ok-clause-noted
+pub apply_chosen-returns-in-Err-clause-err : goal.apply_chosen-returns-in-Err-clause-err
+apply_chosen-returns-in-Err-clause-err = one_keyword.apply_chosen-returns-in-Err-clause-err
 
 pub apply-returns-then-room-eq0-clause-err : goal.apply-returns-then-room-eq0-clause-err
 apply-returns-then-room-eq0-clause-err = applying.apply-returns-then-room-eq0-clause-err

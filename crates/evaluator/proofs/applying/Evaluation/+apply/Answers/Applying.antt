@@ -22,41 +22,35 @@ use Rattle.evaluator.proofs.applying.Evaluation.+apply.Goals as goal
 pub apply_object-returns-in_ok-settle_object-in-Ok-clause-found : goal.apply_object-returns-in_ok-settle_object-in-Ok-clause-found
 apply_object-returns-in_ok-settle_object-in-Ok-clause-found t c a at =
     let l = c.args.self.now.linked.now in
-    let s = value c.of-present.result.schema.now in
+    let s = value c.args.present.now.schema.now in
     let x = subject_value c.args.subject in
-    let here : IsAt l (context_view c.args.self.now.context) s x a =
-    subst (λ v. IsAt l (context_view c.args.self.now.context) v x a) (ap value (sym c.of-present.ensures)) at in
     let inner : IsAt l (context_view c.enter_object.new.self) s x (application_within a) =
-    entered_at l (context_view c.args.self.now.context) (context_view c.enter_object.new.self) s x a here c.in_ok-enter_object.ensures.there in
+    entered_at l (context_view c.args.self.now.context) (context_view c.enter_object.new.self) s x a at c.in_ok-enter_object.ensures.there in
     subst (Finds c.in-Ok.found c.args.room.applications) (sym (object_by_groups l c.args.room.nesting a))
     (object_found c.in-Ok.found c.args.room.applications a (object_uses l c.args.room.nesting (application_within a)) (c.in-Ok.ensures.found (application_within a) inner))
 
 pub apply_object-returns-in_ok-settle_object-in-Ok-clause-noted : goal.apply_object-returns-in_ok-settle_object-in-Ok-clause-noted
 apply_object-returns-in_ok-settle_object-in-Ok-clause-noted t c a at =
     let l = c.args.self.now.linked.now in
-    let s = value c.of-present.result.schema.now in
+    let s = value c.args.present.now.schema.now in
     let x = subject_value c.args.subject in
-    let here : IsAt l (context_view c.args.self.now.context) s x a =
-    subst (λ v. IsAt l (context_view c.args.self.now.context) v x a) (ap value (sym c.of-present.ensures)) at in
     let inner : IsAt l (context_view c.enter_object.new.self) s x (application_within a) =
-    entered_at l (context_view c.args.self.now.context) (context_view c.enter_object.new.self) s x a here c.in_ok-enter_object.ensures.there in
+    entered_at l (context_view c.args.self.now.context) (context_view c.enter_object.new.self) s x a at c.in_ok-enter_object.ensures.there in
     let n = log_view c.args.self.now.log in
     let us = object_uses l c.args.room.nesting (application_within a) in
     let back : context_view c.leave_object.new.self ≡ context_view c.args.self.now.context =
     c.leave_object.ensures.left (context_view c.args.self.now.context) (c.in-Ok.ensures.back ∙ c.in_ok-enter_object.ensures.entered) in
-    c.in_ok-settle_object-in-Ok.ensures.noted a n us (here.there ∙ ap (λ (f : Frame). application_at (frame_standing f) s x) (sym back)) c.mark-mark.ensures
+    c.in_ok-settle_object-in-Ok.ensures.noted a n us (at.there ∙ ap (λ (f : Frame). application_at (frame_standing f) s x) (sym back)) c.mark-mark.ensures
     (c.in-Ok.ensures.noted (application_within a) inner ∙ ap (notes_of_both n) (entered_notes a us)) (c.in-Ok.ensures.found (application_within a) inner).valid
     ∙ ap (λ (o : Outcome). notes_of_both n (outcome_notes o)) (sym (object_by_groups l c.args.room.nesting a))
 
 pub apply_object-returns-in-Err-clause-err : goal.apply_object-returns-in-Err-clause-err
 apply_object-returns-in-Err-clause-err t c a at other =
     let l = c.args.self.now.linked.now in
-    let s = value c.of-present.result.schema.now in
+    let s = value c.args.present.now.schema.now in
     let x = subject_value c.args.subject in
-    let here : IsAt l (context_view c.args.self.now.context) s x a =
-    subst (λ v. IsAt l (context_view c.args.self.now.context) v x a) (ap value (sym c.of-present.ensures)) at in
     let inner : IsAt l (context_view c.enter_object.new.self) s x (application_within a) =
-    entered_at l (context_view c.args.self.now.context) (context_view c.enter_object.new.self) s x a here c.in_ok-enter_object.ensures.there in
+    entered_at l (context_view c.args.self.now.context) (context_view c.enter_object.new.self) s x a at c.in_ok-enter_object.ensures.there in
     let fault = c.in-Err.ensures.err (application_within a) inner other in
     (fault.0, subst (λ (o : Outcome). c.args.room.applications < o.count) (sym (object_by_groups l c.args.room.nesting a)) fault.1)
 
@@ -76,7 +70,7 @@ apply-returns-in-Some-clause-noted t c a at =
     let is : Some c.in-Some.allowed ≡ as_boolean a.schema.value = c.in-Some.ensures ∙ ap (λ (b : Application). as_boolean b.schema.value) (sym at.there) in
     subst (λ (n : Notes). OnOk c.apply_boolean.result (log_view c.apply_boolean.new.self.log ≡ notes_of_both (log_view c.args.self.now.log) n))
     (boolean_noted (linked_rules c.args.self.now.linked.now) c.args.room.nesting a c.in-Some.allowed is)
-    (c.apply_boolean.ensures.noted a (value c.args.schema.now) (subject_value c.args.subject) at.there)
+    (c.apply_boolean.ensures.noted a (value c.args.present.now.schema.now) (subject_value c.args.subject) at.there)
 
 pub apply_other-returns-then-is_looping-clause-found : goal.apply_other-returns-then-is_looping-clause-found
 apply_other-returns-then-is_looping-clause-found t c a at =

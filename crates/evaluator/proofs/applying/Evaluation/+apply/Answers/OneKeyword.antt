@@ -17,7 +17,6 @@ use Rattle.definitions.specs.Evaluated.{pass_count}
 use Rattle.keyword_plans.specs.declared.planned.Planned.{Planned}
 use Rattle.evaluator.proofs.SettlingLaws.{at_keyword_of, planned_known, planned_outcomes, use_over}
 use Rattle.evaluator.proofs.PlannedLaws.{none_found, none_within, within_more, child_more, child_noted, child_over, planned_at}
-use Rattle.evaluation_context.specs.Returns.{CameFrom}
 use Rattle.keyword_plans.specs.Plans.{planned_view}
 use Rattle.evaluator.proofs.applying.Evaluation.+apply.Goals as goal
 
@@ -186,33 +185,30 @@ apply_all-returns-clause-noted t c a under known =
     (part_outcomes c.args.self.now.linked.now c.args.room.nesting (row_of c.args.keyword).name a ps))) whole
     (c.loop-one.invariant.noted a under known)
 
-pub apply_planned-returns-in-Err-clause-err : goal.apply_planned-returns-in-Err-clause-err
-apply_planned-returns-in-Err-clause-err t c a under known =
-    let k = (row_of c.args.keyword).name in
-    let p = c.args.planned.now in
-    let at : IsAt c.args.self.now.linked.now (context_view c.enter_planned.new.self) (value c.chosen_schema.result.now) (subject_value p.subject) (planned_view k a p).1 =
-    planned_at c.args.self.now.linked.now (context_view c.enter_planned.new.self) k a p (value c.chosen_schema.result.now) (c.in_ok-back.ensures.there a k under known) c.chosen_schema.ensures known in
-    c.in-Err.ensures.err (planned_view k a p).1 at
+pub apply_chosen-returns-then-passes-clause-noted : goal.apply_chosen-returns-then-passes-clause-noted
+apply_chosen-returns-then-passes-clause-noted t c a k under known =
+    let n = log_view c.args.self.now.log in
+    ap log_view c.in_ok-passes.ensures.noted ∙ sym (added_nothing n) ∙ ap (notes_of_both n) (sym (c.in_ok-passes.ensures.silent a k under c.if-passes.true).noted)
 
-pub apply_planned-returns-in_ok-settle_part-in-Ok-clause-back : goal.apply_planned-returns-in_ok-settle_part-in-Ok-clause-back
-apply_planned-returns-in_ok-settle_part-in-Ok-clause-back t c =
-    c.leave_planned.ensures.left (context_view c.args.self.now.context)
-    (subst (CameFrom c.in_ok-back.back (context_view c.args.self.now.context)) (sym c.in-Ok.ensures.back) c.in_ok-back.ensures.entered)
-
-pub apply_planned-returns-in_ok-settle_part-in-Ok-clause-found : goal.apply_planned-returns-in_ok-settle_part-in-Ok-clause-found
-apply_planned-returns-in_ok-settle_part-in-Ok-clause-found t c a under known =
-    let k = (row_of c.args.keyword).name in
-    let p = c.args.planned.now in
-    let at : IsAt c.args.self.now.linked.now (context_view c.enter_planned.new.self) (value c.chosen_schema.result.now) (subject_value p.subject) (planned_view k a p).1 =
-    planned_at c.args.self.now.linked.now (context_view c.enter_planned.new.self) k a p (value c.chosen_schema.result.now) (c.in_ok-back.ensures.there a k under known) c.chosen_schema.ensures known in
-    c.in-Ok.ensures.found (planned_view k a p).1 at
-
-pub apply_planned-returns-in_ok-settle_part-in-Ok-clause-noted : goal.apply_planned-returns-in_ok-settle_part-in-Ok-clause-noted
-apply_planned-returns-in_ok-settle_part-in-Ok-clause-noted t c a under known =
-    let k = (row_of c.args.keyword).name in
+pub apply_chosen-returns-in-Ok-clause-found : goal.apply_chosen-returns-in-Ok-clause-found
+apply_chosen-returns-in-Ok-clause-found t c a k under known =
     let p = c.args.planned.now in
     let child = (planned_view k a p).1 in
-    let at : IsAt c.args.self.now.linked.now (context_view c.enter_planned.new.self) (value c.chosen_schema.result.now) (subject_value p.subject) (planned_view k a p).1 =
-    planned_at c.args.self.now.linked.now (context_view c.enter_planned.new.self) k a p (value c.chosen_schema.result.now) (c.in_ok-back.ensures.there a k under known) c.chosen_schema.ensures known in
-    c.in_ok-settle_part-in-Ok.ensures (log_view c.args.self.now.log) (linked_outcome c.args.self.now.linked.now c.args.room.nesting child) c.mark-mark.ensures (c.in-Ok.ensures.noted child at)
-    (c.in-Ok.ensures.found child at).valid
+    let same : c.passes_silently.new.self.linked ≡ c.args.self.now.linked = c.in_ok-passes.ensures.linked in
+    let at : IsAt c.passes_silently.new.self.linked.now (context_view c.enter_planned.new.self) (value c.of-present.result.schema.now) (subject_value p.subject) child =
+    planned_at c.passes_silently.new.self.linked.now (context_view c.enter_planned.new.self) k a p (value c.of-present.result.schema.now)
+    (c.in_ok-back.ensures.there a k (ap (λ x. frame_standing (context_view x)) c.in_ok-passes.ensures.back ∙ under) (subst (λ (b : Bor Linked). IsKnown b.now k a p) (sym same) known))
+    (ap value c.of-present.ensures ∙ c.chosen_schema.ensures) (subst (λ (b : Bor Linked). IsKnown b.now k a p) (sym same) known) in
+    subst (λ (b : Bor Linked). Finds c.in-Ok.found c.args.room.applications (linked_outcome b.now c.args.room.nesting child)) same (c.in-Ok.ensures.found child at)
+
+pub apply_chosen-returns-in-Err-clause-err : goal.apply_chosen-returns-in-Err-clause-err
+apply_chosen-returns-in-Err-clause-err t c a k under known other =
+    let p = c.args.planned.now in
+    let child = (planned_view k a p).1 in
+    let same : c.passes_silently.new.self.linked ≡ c.args.self.now.linked = c.in_ok-passes.ensures.linked in
+    let at : IsAt c.passes_silently.new.self.linked.now (context_view c.enter_planned.new.self) (value c.of-present.result.schema.now) (subject_value p.subject) child =
+    planned_at c.passes_silently.new.self.linked.now (context_view c.enter_planned.new.self) k a p (value c.of-present.result.schema.now)
+    (c.in_ok-back.ensures.there a k (ap (λ x. frame_standing (context_view x)) c.in_ok-passes.ensures.back ∙ under) (subst (λ (b : Bor Linked). IsKnown b.now k a p) (sym same) known))
+    (ap value c.of-present.ensures ∙ c.chosen_schema.ensures) (subst (λ (b : Bor Linked). IsKnown b.now k a p) (sym same) known) in
+    let fault = c.in-Err.ensures.err child at other in
+    (fault.0, subst (λ (b : Bor Linked). c.args.room.applications < (linked_outcome b.now c.args.room.nesting child).count) same fault.1)

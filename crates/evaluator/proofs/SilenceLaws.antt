@@ -9,7 +9,7 @@ use Rattle.definitions.specs.Values.{Text, Value, get, is_object}
 use Rattle.definitions.specs.Applied as definition
 use Rattle.definitions.specs.Applied.{Application, Outcome, part_location}
 use Rattle.definitions.specs.Schemas.{Identity, identity}
-use Rattle.definitions.specs.Outcomes.{Use, is_running, other_annotations, outcome_of_uses}
+use Rattle.definitions.specs.Outcomes.{boolean_outcome, Use, is_running, other_annotations, outcome_of_uses}
 use Rattle.assertions.specs.AssertionView.{assertion_in}
 use Rattle.json_doc.specs.Kinds.{as_boolean}
 use Rattle.linker.specs.declared.linked.Linked.{Linked}
@@ -34,7 +34,7 @@ use Rattle.evaluator.proofs.CombinedLaws.{object_found, passing_object}
 use Rattle.evaluator.proofs.LeafLaws.{leaf_found, leaf_quiet, leaf_uses}
 use Rattle.evaluator.proofs.LogLaws.{added_nothing, annotated}
 use Rattle.evaluator.proofs.ObjectLaws.{object_by_groups}
-use Rattle.evaluator.proofs.OutcomeLaws.{outcome-object}
+use Rattle.evaluator.proofs.OutcomeLaws.{finds_same, outcome-boolean, outcome-object}
 use Rattle.evaluator.proofs.UseLaws.{flat_more, uses_more_notes}
 
 pub none_silent : (a : Application) (us : List Use) → us ≡ [] → AreSilent a us
@@ -87,3 +87,8 @@ leaf_silent l left budget a s same leaf other apart nests some quiet silent =
       found = object_found _ budget a us (leaf_found _ true budget us refl (sym silent.passes) (leaf_quiet l (left - 1) a s same leaf) some);
       noted = sym (passing_object a us silent.passes) ∙ ap₂ (λ n us. notes_of_both n (annotated us)) silent.noted quiet ∙ added_nothing no_notes;
     })
+
+-- ---- the schema `true`
+pub true_silent : (l : Linked) (left budget : ℕ) (a : Application) → Some true ≡ as_boolean a.schema.value → 0 < left → 0 < budget → IsSilent budget (linked_outcome l left a)
+true_silent l left budget a is nests some =
+    rw (outcome-boolean (linked_rules l) left a true is nests) (record { found = finds_same _ budget (boolean_outcome a true) refl some; noted = refl })

@@ -320,7 +320,11 @@ impl<'a> Evaluation<'a> {
             → IfErr result (λ f. IsCostly f room.applications
             (part_outcome self.old.linked.now room.nesting k a planned.now).1.count) }
     {
-        let present = Present::of(chosen_schema(&planned.chosen));
+        let schema = chosen_schema(&planned.chosen);
+        if self.is_true(schema, planned, room) {
+            return Ok(Found::boolean(true));
+        }
+        let present = Present::of(schema);
         let passes = self.passes_silently(&present, planned, room)?;
         if passes {
             return Ok(Found::boolean(true));

@@ -1,7 +1,7 @@
-//! Schema objects that pass without a word: they apply nothing, all that they assert holds, and nothing of them annotates. They
-//! are not entered, so that no location is kept for them.
+//! Schemas that pass without a word: `true`, and schema objects that apply nothing, of which all that they assert holds and
+//! nothing annotates. They are not entered, so that no location is kept for them.
 
-ghost use Rattle.std.specs.Prelude.{◌≡◌};
+ghost use Rattle.std.specs.Prelude.{◌≡◌, ◌<◌, true};
 ghost use Rattle.json_doc.specs.Docs.{value};
 
 use crate::applying::Evaluation;
@@ -15,7 +15,7 @@ use keywords::{Group, Keyword};
 use std::alloc::AllocError;
 
 impl<'a> Evaluation<'a> {
-    ghost use Rattle.std.specs.Prelude.{◌<◌, ℕ, [], Some, true, false, IfOk};
+    ghost use Rattle.std.specs.Prelude.{ℕ, [], Some, false, IfOk};
     ghost use Rattle.assertions.specs.AssertionView.{assertion_in, assertion_view};
     ghost use Rattle.definitions.specs.Assertions.{holds};
     ghost use Rattle.definitions.specs.Applied.{Application};
@@ -28,6 +28,21 @@ impl<'a> Evaluation<'a> {
     ghost use Rattle.evaluator.specs.Leaves.{IsLeaf};
     ghost use Rattle.evaluator.specs.Rounds.{IsUnder, chosen_value, group_uses, groups_uses, part_outcome};
     ghost use Rattle.evaluator.specs.Silences.{AreSilent, IsSilent};
+
+    /// Whether the schema that is planned is `true`, which passes without a word, and there is room to apply it.
+    #[inline(always)]
+    pub(crate) fn is_true(&self, schema: &Doc, planned: &Planned<'a>, room: Room) -> bool
+        requires { value schema.now ≡ chosen_value planned.now.chosen }
+        ensures some { result ≡ true → 0 < room.applications }
+        ensures silent { (a : Application) (k : Text) → IsUnder (context_view self.now.context) k a
+            → result ≡ true → IsSilent room.applications
+            (part_outcome self.now.linked.now room.nesting k a planned.now).1 }
+    {
+        match schema.as_bool() {
+            Some(allowed) => allowed && has_room(room),
+            None => false,
+        }
+    }
 
     /// Whether the schema object that is planned surely passes without a word at a part of the instance below this one. It isn't
     /// tried where what was applied last failed, since what fails is judged twice. The only error is want of memory.
@@ -162,4 +177,15 @@ impl<'a> Evaluation<'a> {
             _ => holds_of(self.alloc, assertion, keyword_value, subject),
         }
     }
+}
+
+// Whether one more application may nest, and there may be one more in all.
+fn has_room(room: Room) -> bool
+    ensures nests { result ≡ true → 0 < room.nesting }
+    ensures some { result ≡ true → 0 < room.applications }
+{
+    if room.nesting == 0 {
+        return false;
+    }
+    room.applications > 0
 }

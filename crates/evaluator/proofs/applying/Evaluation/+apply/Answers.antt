@@ -138,6 +138,9 @@ apply_all-returns-clause-found = one_keyword.apply_all-returns-clause-found
 pub apply_all-returns-clause-noted : goal.apply_all-returns-clause-noted
 apply_all-returns-clause-noted = one_keyword.apply_all-returns-clause-noted
 
+pub apply_chosen-returns-then-is_true-clause-noted : goal.apply_chosen-returns-then-is_true-clause-noted
+apply_chosen-returns-then-is_true-clause-noted = one_keyword.apply_chosen-returns-then-is_true-clause-noted
+
 pub apply_chosen-returns-then-passes-clause-noted : goal.apply_chosen-returns-then-passes-clause-noted
 apply_chosen-returns-then-passes-clause-noted = one_keyword.apply_chosen-returns-then-passes-clause-noted
 

@@ -185,6 +185,11 @@ apply_all-returns-clause-noted t c a under known =
     (part_outcomes c.args.self.now.linked.now c.args.room.nesting (row_of c.args.keyword).name a ps))) whole
     (c.loop-one.invariant.noted a under known)
 
+pub apply_chosen-returns-then-is_true-clause-noted : goal.apply_chosen-returns-then-is_true-clause-noted
+apply_chosen-returns-then-is_true-clause-noted t c a k under known =
+    let n = log_view c.args.self.now.log in
+    sym (added_nothing n) ∙ ap (notes_of_both n) (sym (c.is_true.ensures.silent a k under c.if-is_true.true).noted)
+
 pub apply_chosen-returns-then-passes-clause-noted : goal.apply_chosen-returns-then-passes-clause-noted
 apply_chosen-returns-then-passes-clause-noted t c a k under known =
     let n = log_view c.args.self.now.log in
@@ -198,7 +203,7 @@ apply_chosen-returns-in-Ok-clause-found t c a k under known =
     let at : IsAt c.passes_silently.new.self.linked.now (context_view c.enter_planned.new.self) (value c.of-present.result.schema.now) (subject_value p.subject) child =
     planned_at c.passes_silently.new.self.linked.now (context_view c.enter_planned.new.self) k a p (value c.of-present.result.schema.now)
     (c.in_ok-back.ensures.there a k (ap (λ x. frame_standing (context_view x)) c.in_ok-passes.ensures.back ∙ under) (subst (λ (b : Bor Linked). IsKnown b.now k a p) (sym same) known))
-    (ap value c.of-present.ensures ∙ c.chosen_schema.ensures) (subst (λ (b : Bor Linked). IsKnown b.now k a p) (sym same) known) in
+    (ap value c.of-present.ensures ∙ c.chosen_schema-schema.ensures) (subst (λ (b : Bor Linked). IsKnown b.now k a p) (sym same) known) in
     subst (λ (b : Bor Linked). Finds c.in-Ok.found c.args.room.applications (linked_outcome b.now c.args.room.nesting child)) same (c.in-Ok.ensures.found child at)
 
 pub apply_chosen-returns-in-Err-clause-err : goal.apply_chosen-returns-in-Err-clause-err
@@ -209,6 +214,6 @@ apply_chosen-returns-in-Err-clause-err t c a k under known other =
     let at : IsAt c.passes_silently.new.self.linked.now (context_view c.enter_planned.new.self) (value c.of-present.result.schema.now) (subject_value p.subject) child =
     planned_at c.passes_silently.new.self.linked.now (context_view c.enter_planned.new.self) k a p (value c.of-present.result.schema.now)
     (c.in_ok-back.ensures.there a k (ap (λ x. frame_standing (context_view x)) c.in_ok-passes.ensures.back ∙ under) (subst (λ (b : Bor Linked). IsKnown b.now k a p) (sym same) known))
-    (ap value c.of-present.ensures ∙ c.chosen_schema.ensures) (subst (λ (b : Bor Linked). IsKnown b.now k a p) (sym same) known) in
+    (ap value c.of-present.ensures ∙ c.chosen_schema-schema.ensures) (subst (λ (b : Bor Linked). IsKnown b.now k a p) (sym same) known) in
     let fault = c.in-Err.ensures.err child at other in
     (fault.0, subst (λ (b : Bor Linked). c.args.room.applications < (linked_outcome b.now c.args.room.nesting child).count) same fault.1)

@@ -35,7 +35,8 @@ def long_reference(n):
 
 
 def long_identifier(n):
-    return {"items": {"$id": "i/" * (n // 2), "type": "integer"}}, [0] * n
+    # It applies something, since a schema object that only asserts isn't entered where it holds.
+    return {"items": {"$id": "i/" * (n // 2), "allOf": [{"type": "integer"}]}}, [0] * n
 
 
 def dynamic(n):

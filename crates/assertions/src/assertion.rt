@@ -18,7 +18,8 @@ use crate::names::{has_dependents, has_names};
 use crate::numbers::{is_below, is_multiple_if, is_not_above};
 use crate::types::is_of_types;
 use json_doc::{Doc, same};
-use keywords::{Keyword, Shape, fits};
+use keyword_shapes::fits;
+use keywords::{Keyword, Shape};
 use std::alloc::{AllocError, Global};
 
 /// A keyword that looks at its own value and the instance.

@@ -1,5 +1,6 @@
 -- Laws of keywords that look at their own value and the instance alone.
-use Rattle.std.proofs.Common.{◌≡◌, ℕ, [], ◌∷◌, ◌++◌, ◌∙◌, map, Bool, true, false, Some, None, codes, refl, sym, ap, append-nil, arith}
+use Rattle.std.proofs.Common.{◌≡◌, ℕ, [], ◌∷◌, ◌++◌, ◌∙◌, map, Bool, true, false, Some, None, codes, refl, sym, ap, append-nil}
+use Rattle.std.specs.List.{list_all}
 use Rattle.std.proofs.Math.Bool.{and-true}
 use Rattle.definitions.specs.Values.{Text, Value, string, get}
 use Rattle.definitions.specs.Keywords as table
@@ -14,10 +15,8 @@ use Rattle.keywords.specs.Rows.{row_of}
 use Rattle.keywords.specs.declared.keyword.Keyword.{Keyword}
 use Rattle.keywords.specs.declared.group.Group.TheVariants.{One}
 use Rattle.keyword_plans.specs.Sites.{linked_rules}
-use Rattle.evaluator.specs.Findings.{FindsUses}
 use Rattle.evaluator.specs.Notes.{error_texts, no_notes, uses_notes}
 use Rattle.evaluator.specs.Rounds.{group_uses, linked_outcome}
-use Rattle.evaluator.specs.declared.found.Found.{Found}
 use Rattle.evaluator.proofs.LogLaws.{same_notes}
 
 meaning_is : (m : Meaning) (x : meaning.Assertion) → Some x ≡ assertion_in m → m ≡ asserts x
@@ -44,17 +43,13 @@ module _ (l : Linked) (left : ℕ) (a : Application) (k : Keyword) where
   pub absent_use : get (row_of k).name a.schema.value ≡ None → group_uses l left a (One k) ≡ []
   absent_use gone = rw gone refl
 
--- ---- what it finds, and what it notes
-pub alone_found : (f : Found) (budget : ℕ) (name : Text) (x : meaning.Assertion) (v : Value) (a : Application) (b : Bool) → holds x v a.instance ≡ b
-    → f ≡ record { valid = b; count = 0; looped = false; deep = false; passing = None } → FindsUses f budget (assertion_use name x v a ∷ [])
-alone_found f budget name x v a b e is = rw is (record { valid = sym (and-true (holds x v a.instance) ∙ e); count = refl; looped = refl; deep = refl; within = omega arith })
-
-pub absent_found : (f : Found) (budget : ℕ) → f ≡ record { valid = true; count = 0; looped = false; deep = false; passing = None } → FindsUses f budget []
-absent_found f budget is = rw is (record { valid = refl; count = refl; looped = refl; deep = refl; within = omega arith })
+-- ---- whether it passes, and what it notes
+pub alone_valid : (name : Text) (x : meaning.Assertion) (v : Value) (a : Application) (b : Bool) → holds x v a.instance ≡ b → b ≡ list_all (λ u. u.passes) (assertion_use name x v a ∷ [])
+alone_valid name x v a b e = sym (and-true (holds x v a.instance) ∙ e)
 
 pub passing_notes : (name : Text) (x : meaning.Assertion) (v : Value) (a : Application) → holds x v a.instance ≡ true → uses_notes a (assertion_use name x v a ∷ []) ≡ no_notes
-passing_notes name x v a e = same_notes (rw e refl) (rw e refl) refl refl
+passing_notes name x v a e = same_notes (rw e refl) (rw e refl) refl refl refl
 
 pub failing_notes : (name : Text) (x : meaning.Assertion) (v : Value) (a : Application) → holds x v a.instance ≡ false
     → uses_notes a (assertion_use name x v a ∷ []) ≡ record no_notes { errors = error_texts (unit a name (string (name ++ codes " is not met")) ∷ []) }
-failing_notes name x v a e = same_notes (rw e refl) (rw e refl) refl refl
+failing_notes name x v a e = same_notes (rw e refl) (rw e refl) refl refl refl

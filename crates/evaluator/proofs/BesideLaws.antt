@@ -9,12 +9,11 @@ use Rattle.keywords.specs.Rows.{row_of}
 use Rattle.keyword_plans.specs.Sites.{linked_rules}
 use Rattle.keywords.specs.declared.keyword.Keyword.{Keyword}
 use Rattle.keywords.specs.declared.keyword.Keyword.TheVariants.{If, Then, Else, Contains, MinContains, MaxContains}
-use Rattle.evaluator.specs.Findings.{FindsUse, passing_first}
+use Rattle.evaluator.specs.Findings.{passing_first}
 use Rattle.keyword_plans.specs.Plans.{is_consequence, counts_contained}
 use Rattle.evaluator.specs.Notes.{Notes, notes_of_both, uses_notes}
 use Rattle.evaluator.specs.Rounds.{Knows, group_uses, indexes_since, keyword_uses, linked_outcome, names_since, two_uses, uses_since}
 use Rattle.evaluator.specs.declared.beside.Beside.{Beside}
-use Rattle.evaluator.specs.declared.found.Found.{Found}
 use Rattle.keywords.specs.declared.group.Group.TheVariants.{Conditional, Counted}
 use Rattle.evaluator.specs.declared.log.Before.{Before}
 use Rattle.evaluator.proofs.AloneLaws.{same_used}
@@ -49,21 +48,21 @@ knows_nothing l left a m beside e f = record {
   containing = λ is. absurd (let g = sym f ∙ is in cc);
 }
 
-pub knows_condition : (l : Linked) (left budget : ℕ) (a : Application) (u : Found) (wanted : Bool) (before : Before) (n : Notes) (beside : Beside)
-    → FindsUse u budget (uses_since l left a If before n) → beside.condition ≡ option_map (λ n. nat_lt 0 n) u.passing → Knows l left a (consequence wanted) beside
-knows_condition l left budget a u wanted before n beside found is = record {
+pub knows_condition : (l : Linked) (left : ℕ) (a : Application) (passing : Option ℕ) (wanted : Bool) (before : Before) (n : Notes) (beside : Beside)
+    → passing ≡ passing_first (uses_since l left a If before n) → beside.condition ≡ option_map (λ n. nat_lt 0 n) passing → Knows l left a (consequence wanted) beside
+knows_condition l left a passing wanted before n beside told is = record {
   condition =
-      λ t. sym (is ∙ ap (option_map (λ n. nat_lt 0 n)) found.passing
+      λ t. sym (is ∙ ap (option_map (λ n. nat_lt 0 n)) told
       ∙ condition_told (linked_rules l) (linked_outcome l left) (names_since before n) (indexes_since before n) a (get (codes "if") a.schema.value));
   containing = λ t. absurd (let g : false ≡ true = t in cc);
 }
 
-pub knows_containing : (l : Linked) (left budget : ℕ) (a : Application) (u : Found) (m : Meaning) (before : Before) (n : Notes) (beside : Beside)
-    → FindsUse u budget (uses_since l left a Contains before n) → beside.containing ≡ u.passing → is_consequence m ≡ false → Knows l left a m beside
-knows_containing l left budget a u m before n beside found is apart = record {
+pub knows_containing : (l : Linked) (left : ℕ) (a : Application) (passing : Option ℕ) (m : Meaning) (before : Before) (n : Notes) (beside : Beside)
+    → passing ≡ passing_first (uses_since l left a Contains before n) → beside.containing ≡ passing → is_consequence m ≡ false → Knows l left a m beside
+knows_containing l left a passing m before n beside told is apart = record {
   condition = λ t. absurd (let g = sym apart ∙ t in cc);
   containing =
-      λ t. sym (is ∙ found.passing
+      λ t. sym (is ∙ told
       ∙ containing_told (linked_rules l) (linked_outcome l left) (names_since before n) (indexes_since before n) a (get (codes "contains") a.schema.value));
 }
 

@@ -1,5 +1,5 @@
 -- Laws of the outcome of a schema object, from the uses of its keywords.
-use Rattle.std.proofs.Common.{◌≡◌, ℕ, List, [], ◌∷◌, ◌++◌, true, false, refl, sym, ap, ◌∙◌, arith, append-nil, flat_map}
+use Rattle.std.proofs.Common.{◌≡◌, ◌+◌, length, List, [], ◌∷◌, ◌++◌, true, false, refl, sym, ap, ◌∙◌, arith, append-nil, flat_map}
 use Rattle.std.proofs.lemmas.Bool.{and_parts}
 use Rattle.std.proofs.lemmas.List.{map-append}
 use Rattle.std.specs.List.{list_all}
@@ -10,11 +10,10 @@ use Rattle.basic_output.specs.Pieces.{unit_text}
 use Rattle.linker.specs.declared.linked.Linked.{Linked}
 use Rattle.evaluation_context.specs.Frames.{Frame, frame_standing}
 use Rattle.evaluation_context.specs.Standings.{Standing, application_at, standing_of, within_object}
-use Rattle.evaluator.specs.Findings.{Finds, FindsObject}
-use Rattle.evaluator.specs.Notes.{annotation_texts, error_texts, kept_annotations, notes_of_both, outcome_notes, uses_notes}
+use Rattle.evaluator.specs.Notes.{IsOver, Notes, annotation_texts, error_texts, lengths, kept_annotations, notes_of_both, object_notes, one_application, outcome_notes, uses_notes}
+use Rattle.evaluator.specs.Tallies.{no_tally, outcome_tally, tally_of_both, uses_tally}
 use Rattle.evaluator.specs.Rounds.{IsAt}
-use Rattle.evaluator.specs.declared.found.Found.{Found}
-use Rattle.evaluator.proofs.LogLaws.{annotated, mapped_all, same_notes}
+use Rattle.evaluator.proofs.LogLaws.{added_twice, annotated, mapped_all, same_lengths, same_notes, same_tallies, tallied_nothing}
 
 -- ---- uses that all pass
 no_errors : (a : Application) (us : List Use) → list_all (λ u. u.passes) us ≡ true → flat_map (λ u. error_texts (use_errors a u)) us ≡ []
@@ -27,29 +26,23 @@ all_kept a (u ∷ us) h =
     rw (and_parts u.passes (list_all (λ u. u.passes) us) h).0
     (ap (λ l. annotation_texts (use_annotations a u) ++ l) (all_kept a us (and_parts u.passes (list_all (λ u. u.passes) us) h).1))
 
--- ---- what the object notes
+-- ---- what the object notes: it counts itself
+object_tally : (a : Application) (us : List Use) → tally_of_both (record no_tally { count = 1 }) (uses_tally us) ≡ outcome_tally (outcome_of_uses a us)
+object_tally a us = same_tallies (omega arith) refl refl
+
 pub passing_object : (a : Application) (us : List Use) → list_all (λ u. u.passes) us ≡ true
-    → notes_of_both (uses_notes a us) (annotated (other_annotations a)) ≡ outcome_notes (outcome_of_uses a us)
+    → notes_of_both (object_notes a us) (annotated (other_annotations a)) ≡ outcome_notes (outcome_of_uses a us)
 unfolding notes_of_both
 passing_object a us h =
     same_notes (append-nil _ ∙ no_errors a us h)
     (ap (λ l. l ++ annotation_texts (other_annotations a)) (all_kept a us h ∙ sym (mapped_all (unit_text true) (use_annotations a) us))
     ∙ sym (map-append (unit_text true) (flat_map (use_annotations a) us) (other_annotations a)))
-    (append-nil _) (append-nil _) ∙ rw h refl
+    (append-nil _) (append-nil _) (tallied_nothing _ ∙ object_tally a us) ∙ rw h refl
 
 pub failing_object : (a : Application) (us : List Use) → list_all (λ u. u.passes) us ≡ false
-    → record (uses_notes a us) { annotations = []; names = []; indexes = [] } ≡ outcome_notes (outcome_of_uses a us)
-failing_object a us h = rw h (same_notes (sym (mapped_all (unit_text false) (use_errors a) us)) refl refl refl)
-
--- ---- what was found
-pub object_found : (f : Found) (budget : ℕ) (a : Application) (us : List Use) → FindsObject f budget us → Finds f budget (outcome_of_uses a us)
-object_found f budget a us h = record {
-  valid = h.valid;
-  count = h.count;
-  looped = h.looped;
-  deep = h.deep;
-  within = omega (arith, h.count, h.within);
-}
+    → record (object_notes a us) { annotations = []; names = []; indexes = [] } ≡ outcome_notes (outcome_of_uses a us)
+unfolding notes_of_both
+failing_object a us h = rw h (same_notes (sym (mapped_all (unit_text false) (use_errors a) us)) refl refl refl (object_tally a us))
 
 -- ---- within the object
 entered_there : (st : Standing) (s x : Value) → application_within (application_at st s x) ≡ application_at (within_object st) s x
@@ -67,3 +60,20 @@ stands_there st s x a e = sym (ap standing_of e)
 -- the same units, and the same names and indexes
 pub entered_notes : (a : Application) (us : List Use) → uses_notes (application_within a) us ≡ uses_notes a us
 entered_notes a us = refl
+
+-- after the object counted itself
+pub counted_noted : (a : Application) (n mid new : Notes) (us : List Use) → mid ≡ notes_of_both n one_application → new ≡ notes_of_both mid (uses_notes (application_within a) us)
+    → new ≡ notes_of_both n (object_notes a us)
+counted_noted a n mid new us e f =
+    f ∙ ap (notes_of_both mid) (entered_notes a us) ∙ ap (λ (k : Notes). notes_of_both k (uses_notes a us)) e ∙ added_twice n one_application (uses_notes a us)
+
+pub counted_over : (a : Application) (n mid : Notes) (us : List Use) → mid ≡ notes_of_both n one_application → IsOver mid (uses_notes (application_within a) us)
+    → IsOver n (outcome_notes (outcome_of_uses a us))
+unfolding notes_of_both
+counted_over a n mid us e h =
+    let c : mid.tally.count ≡ n.tally.count + 1 = ap (λ (k : Notes). k.tally.count) e in omega (arith, c, h)
+
+-- the same lengths before and after
+pub counted_lengths : (n mid : Notes) → mid ≡ notes_of_both n one_application → lengths mid ≡ lengths n
+unfolding notes_of_both
+counted_lengths n mid e = ap lengths e ∙ same_lengths (ap length (append-nil n.errors)) (ap length (append-nil n.annotations)) (ap length (append-nil n.names)) (ap length (append-nil n.indexes))

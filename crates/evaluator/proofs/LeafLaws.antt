@@ -1,15 +1,12 @@
 -- Laws of schema objects that apply nothing.
 use Rattle.std.proofs.Common.{◌≡◌, ◌<◌, ◌≤◌, ◌+◌, ℕ, zero, suc, List, [], ◌∷◌, ◌++◌, Bool, true, false, ltb, leb, ◌&&◌, ◌||◌, Option, Some, None, inl, inr, is_some, length, get_or, flat_map, refl, sym, ap, ◌∙◌, arith}
 use Rattle.std.specs.Prelude.{◌==◌}
-use Rattle.std.specs.List.{list_all, list_any}
+use Rattle.std.specs.List.{list_any}
 use Rattle.std.proofs.lemmas.Bool.{and_parts, leb-true, ltb-true, or_cases}
 use Rattle.std.proofs.lemmas.Bool.Decides.{Decides-eqb}
-use Rattle.std.proofs.lemmas.List.Folds.{list_any-append}
-use Rattle.std.proofs.lemmas.List.Sums.{sum_by-append}
 use Rattle.definitions.specs.Assertions as meaning
 use Rattle.definitions.specs.Values.{Value, get, members}
 use Rattle.definitions.specs.Applied.{Application, application_within}
-use Rattle.definitions.specs.Outcomes.{Use}
 use Rattle.assertions.specs.AssertionView.{assertion_in}
 use Rattle.linker.specs.declared.linked.Linked.{Linked}
 use Rattle.keywords.specs.Groups.{group_number, groups_before, in_order}
@@ -18,12 +15,10 @@ use Rattle.keywords.specs.declared.group.Group.{Group}
 use Rattle.keywords.specs.declared.group.Group.TheVariants.{One, Conditional, Counted}
 use Rattle.keywords.specs.declared.keyword.Keyword.{Keyword}
 use Rattle.keywords.specs.declared.keyword.Keyword.TheVariants.{AllOf, Pattern, Ref, «Type», UnevaluatedItems, UnevaluatedProperties}
-use Rattle.evaluator.specs.Findings.{FindsObject, use_count}
 use Rattle.evaluator.specs.Groups.{asserts_alone, first_groups}
 use Rattle.evaluator.specs.Leaves.{IsLeaf}
 use Rattle.evaluator.specs.Presents.{has_mark}
 use Rattle.evaluator.specs.Rounds.{group_uses, groups_uses, object_uses}
-use Rattle.evaluator.specs.declared.found.Found.{Found}
 use Rattle.evaluator.proofs.AssertedLaws.{absent_use, asserted_use}
 use Rattle.evaluator.proofs.PresentLaws.{groups_alone, unused_at}
 
@@ -79,84 +74,39 @@ marked_leaf s none_before none_at none_after last = record {
   last = last;
 }
 
--- ---- uses that applied nothing
-pub record AreQuiet (us : List Use) : Type 0 where
-  pub count : use_count us ≡ 0
-  pub looped : list_any (λ u. list_any (λ o. o.1.looped) u.outcomes) us ≡ false
-  pub deep : list_any (λ u. list_any (λ o. o.1.deep) u.outcomes) us ≡ false
-
-quiet_none : AreQuiet []
-quiet_none = record { count = refl; looped = refl; deep = refl }
-
-quiet_both : (us vs : List Use) → AreQuiet us → AreQuiet vs → AreQuiet (us ++ vs)
-quiet_both us vs h k = record {
-  count = (let c : use_count (us ++ vs) ≡ use_count us + use_count vs = sum_by-append _ us vs in omega (arith, c, h.count, k.count));
-  looped = list_any-append _ us vs ∙ rw (h.looped, k.looped) refl;
-  deep = list_any-append _ us vs ∙ rw (h.deep, k.deep) refl;
-}
-
-quiet_all : {X : Type 0} (f : X → List Use) (xs : List X) (d : X) → ((i : ℕ) → i < length xs → AreQuiet (f (get_or xs i d))) → AreQuiet (flat_map f xs)
-quiet_all f [] d each = quiet_none
-quiet_all f (x ∷ xs) d each = quiet_both (f x) (flat_map f xs) (each 0 (omega arith)) (quiet_all f xs d (λ i h. each (suc i) (omega (arith, h))))
-
+-- ---- a group that asserts says the same within the object
 alike_all : {X Y : Type 0} (f g : X → List Y) (xs : List X) (d : X) → ((i : ℕ) → i < length xs → f (get_or xs i d) ≡ g (get_or xs i d)) → flat_map f xs ≡ flat_map g xs
 alike_all f g [] d each = refl
 alike_all f g (x ∷ xs) d each =
     ap (λ ys. ys ++ flat_map f xs) (each 0 (omega arith)) ∙ ap (λ ys. g x ++ ys) (alike_all f g xs d (λ i h. each (suc i) (omega (arith, h))))
 
--- ---- a group that asserts says the same within the object, and applies nothing
-record IsSettled (l : Linked) (left : ℕ) (a : Application) (g : Group) : Type 0 where
-  pub alike : group_uses l left a g ≡ group_uses l left (application_within a) g
-  pub quiet : AreQuiet (group_uses l left a g)
+alike_keyword : (l : Linked) (left : ℕ) (a : Application) (k : Keyword) (o : Option Value) (m : Option meaning.Assertion) → get (row_of k).name a.schema.value ≡ o
+    → assertion_in (row_of k).meaning ≡ m → is_some m ≡ true → group_uses l left a (One k) ≡ group_uses l left (application_within a) (One k)
+alike_keyword l left a k o None got in_table some = absurd (cc)
+alike_keyword l left a k None (Some x) got in_table some = absent_use l left a k got ∙ sym (absent_use l left (application_within a) k got)
+alike_keyword l left a k (Some v) (Some x) got in_table some =
+    asserted_use l left a k v x (sym in_table) got ∙ sym (asserted_use l left (application_within a) k v x (sym in_table) got)
 
-settled_keyword : (l : Linked) (left : ℕ) (a : Application) (k : Keyword) (o : Option Value) (m : Option meaning.Assertion) → get (row_of k).name a.schema.value ≡ o
-    → assertion_in (row_of k).meaning ≡ m → is_some m ≡ true → IsSettled l left a (One k)
-settled_keyword l left a k o None got in_table some = absurd (cc)
-settled_keyword l left a k None (Some x) got in_table some = record {
-  alike = absent_use l left a k got ∙ sym (absent_use l left (application_within a) k got);
-  quiet = rw (absent_use l left a k got) quiet_none;
-}
-settled_keyword l left a k (Some v) (Some x) got in_table some = record {
-  alike = asserted_use l left a k v x (sym in_table) got ∙ sym (asserted_use l left (application_within a) k v x (sym in_table) got);
-  quiet = rw (asserted_use l left a k v x (sym in_table) got) (record { count = refl; looped = refl; deep = refl });
-}
-
-settled_group : (l : Linked) (left : ℕ) (a : Application) (g : Group) → asserts_alone g ≡ true → IsSettled l left a g
-settled_group l left a (One k) asserts = settled_keyword l left a k (get (row_of k).name a.schema.value) (assertion_in (row_of k).meaning) refl refl asserts
-settled_group l left a Conditional asserts = absurd (cc)
-settled_group l left a Counted asserts = absurd (cc)
+alike_group : (l : Linked) (left : ℕ) (a : Application) (g : Group) → asserts_alone g ≡ true → group_uses l left a g ≡ group_uses l left (application_within a) g
+alike_group l left a (One k) asserts = alike_keyword l left a k (get (row_of k).name a.schema.value) (assertion_in (row_of k).meaning) refl refl asserts
+alike_group l left a Conditional asserts = absurd (cc)
+alike_group l left a Counted asserts = absurd (cc)
 
 -- ---- a group that doesn't is not there
 pub leaf_group : (l : Linked) (left : ℕ) (a : Application) (s : Value) (i : ℕ) → a.schema.value ≡ s → IsLeaf s → i < length first_groups
     → asserts_alone (get_or first_groups i (One Ref)) ≡ false → group_uses l left a (get_or first_groups i (One Ref)) ≡ []
 leaf_group l left a s i same leaf h other = unused_at l left a i h (rw same (leaf.first i h other))
 
-settled_at : (l : Linked) (left : ℕ) (a : Application) (s : Value) (i : ℕ) (b : Bool) → a.schema.value ≡ s → IsLeaf s → i < length first_groups
-    → asserts_alone (get_or first_groups i (One Ref)) ≡ b → IsSettled l left a (get_or first_groups i (One Ref))
-settled_at l left a s i true same leaf h is = settled_group l left a (get_or first_groups i (One Ref)) is
-settled_at l left a s i false same leaf h is = record {
-  alike = leaf_group l left a s i same leaf h is ∙ sym (leaf_group l left (application_within a) s i same leaf h is);
-  quiet = rw (leaf_group l left a s i same leaf h is) quiet_none;
-}
+alike_at : (l : Linked) (left : ℕ) (a : Application) (s : Value) (i : ℕ) (b : Bool) → a.schema.value ≡ s → IsLeaf s → i < length first_groups
+    → asserts_alone (get_or first_groups i (One Ref)) ≡ b
+    → group_uses l left a (get_or first_groups i (One Ref)) ≡ group_uses l left (application_within a) (get_or first_groups i (One Ref))
+alike_at l left a s i true same leaf h is = alike_group l left a (get_or first_groups i (One Ref)) is
+alike_at l left a s i false same leaf h is = leaf_group l left a s i same leaf h is ∙ sym (leaf_group l left (application_within a) s i same leaf h is)
 
 -- ---- the object
 pub leaf_uses : (l : Linked) (left : ℕ) (a : Application) (s : Value) → a.schema.value ≡ s → IsLeaf s
     → groups_uses l left a first_groups ≡ object_uses l left (application_within a)
 leaf_uses l left a s same leaf =
     alike_all (group_uses l left a) (group_uses l left (application_within a)) first_groups (One Ref)
-    (λ i h. (settled_at l left a s i (asserts_alone (get_or first_groups i (One Ref))) same leaf h refl).alike)
+    (λ i h. alike_at l left a s i (asserts_alone (get_or first_groups i (One Ref))) same leaf h refl)
     ∙ groups_alone l left (application_within a) s same leaf.last
-
-pub leaf_quiet : (l : Linked) (left : ℕ) (a : Application) (s : Value) → a.schema.value ≡ s → IsLeaf s → AreQuiet (groups_uses l left a first_groups)
-leaf_quiet l left a s same leaf =
-    quiet_all (group_uses l left a) first_groups (One Ref) (λ i h. (settled_at l left a s i (asserts_alone (get_or first_groups i (One Ref))) same leaf h refl).quiet)
-
-pub leaf_found : (f : Found) (valid : Bool) (budget : ℕ) (us : List Use) → f ≡ record { valid = valid; count = 1; looped = false; deep = false; passing = None }
-    → valid ≡ list_all (λ u. u.passes) us → AreQuiet us → 0 < budget → FindsObject f budget us
-leaf_found f valid budget us is all quiet some = rw is (record {
-  valid = all;
-  count = ap suc (sym quiet.count);
-  looped = sym quiet.looped;
-  deep = sym quiet.deep;
-  within = omega (arith, some);
-})

@@ -14,7 +14,7 @@ pub mod PartLaws
 pub mod SettlingLaws
 pub mod PresentLaws
 pub mod LeafLaws
-pub mod KeptLaws
 pub mod DollarLaws
 pub mod AssertedLaws
 pub mod SilenceLaws
+pub mod CountLaws

@@ -1,16 +1,19 @@
 -- Laws of notes: what is put last, put at a mark, and cut off; and of the texts of units.
-use Rattle.std.proofs.Common.{◌≡◌, ℕ, List, [], ◌∷◌, ◌++◌, true, length, map, flat_map, take, drop, refl, sym, ap, ◌∙◌, append-nil, append_assoc}
+use Rattle.std.proofs.Common.{◌≡◌, ◌+◌, ◌||◌, ℕ, List, [], ◌∷◌, ◌++◌, Bool, true, length, map, flat_map, take, drop, refl, sym, ap, ◌∙◌, append-nil, append_assoc, arith}
+use Rattle.std.proofs.Math.Bool.{or-false, or_assoc}
 use Rattle.std.proofs.Math.Seq.{take-append_seam, drop-append_seam}
 use Rattle.std.proofs.lemmas.List.{map-append}
 use Rattle.std.specs.List.{insert}
 use Rattle.definitions.specs.Values.{Text}
 use Rattle.definitions.specs.Applied.{Outcome, OutputUnit}
+use Rattle.definitions.specs.Outcomes.{leaf}
 use Rattle.basic_output.specs.Pieces.{unit_text}
-use Rattle.evaluator.specs.Notes.{Notes, Lengths, annotation_texts, notes_of_both, no_notes, outcome_notes}
+use Rattle.evaluator.specs.Notes.{IsOver, Notes, Lengths, annotation_texts, notes_of_both, no_notes, one_application, outcome_notes}
+use Rattle.evaluator.specs.Tallies.{Tally, no_tally, tally_of_both}
 
-pub same_notes : {es fs us vs ns ms : List Text} {is js : List ℕ} → es ≡ fs → us ≡ vs → ns ≡ ms → is ≡ js
-    → ◌≡◌ {A = Notes} (record { errors = es; annotations = us; names = ns; indexes = is }) (record { errors = fs; annotations = vs; names = ms; indexes = js })
-same_notes e u n i = rw (e, u, n, i) refl
+pub same_notes : {es fs us vs ns ms : List Text} {is js : List ℕ} {t s : Tally} → es ≡ fs → us ≡ vs → ns ≡ ms → is ≡ js → t ≡ s
+    → ◌≡◌ {A = Notes} (record { errors = es; annotations = us; names = ns; indexes = is; tally = t }) (record { errors = fs; annotations = vs; names = ms; indexes = js; tally = s })
+same_notes e u n i t = rw (e, u, n, i, t) refl
 
 pub same_lengths : {a b c d e f g h : ℕ} → a ≡ b → c ≡ d → e ≡ f → g ≡ h
     → ◌≡◌ {A = Lengths} (record { errors = a; annotations = c; names = e; indexes = g }) (record { errors = b; annotations = d; names = f; indexes = h })
@@ -31,20 +34,33 @@ pub mapped_all : {X Y Z : Type 0} (f : Y → Z) (g : X → List Y) (xs : List X)
 mapped_all f g [] = refl
 mapped_all f g (x ∷ xs) = map-append f (g x) (flat_map g xs) ∙ ap (λ zs. map f (g x) ++ zs) (mapped_all f g xs)
 
+-- ---- tallies
+pub same_tallies : {a b : ℕ} {c d e f : Bool} → a ≡ b → c ≡ d → e ≡ f → ◌≡◌ {A = Tally} (record { count = a; looped = c; deep = e }) (record { count = b; looped = d; deep = f })
+same_tallies n l d = rw (n, l, d) refl
+
+pub tallied_nothing : (t : Tally) → tally_of_both t no_tally ≡ t
+tallied_nothing t = same_tallies (omega arith) (or-false t.looped) (or-false t.deep)
+
+nothing_tallied : (t : Tally) → tally_of_both no_tally t ≡ t
+nothing_tallied t = same_tallies (omega arith) refl refl
+
+tallied_twice : (r s t : Tally) → tally_of_both (tally_of_both r s) t ≡ tally_of_both r (tally_of_both s t)
+tallied_twice r s t = same_tallies (omega arith) (or_assoc r.looped s.looped t.looped) (or_assoc r.deep s.deep t.deep)
+
 -- ---- notes
 pub added_nothing : (n : Notes) → notes_of_both n no_notes ≡ n
 unfolding notes_of_both
-added_nothing n = same_notes (append-nil n.errors) (append-nil n.annotations) (append-nil n.names) (append-nil n.indexes)
+added_nothing n = same_notes (append-nil n.errors) (append-nil n.annotations) (append-nil n.names) (append-nil n.indexes) (tallied_nothing n.tally)
 
 pub nothing_added : (n : Notes) → notes_of_both no_notes n ≡ n
 unfolding notes_of_both
-nothing_added n = refl
+nothing_added n = same_notes refl refl refl refl (nothing_tallied n.tally)
 
 pub added_twice : (k m n : Notes) → notes_of_both (notes_of_both k m) n ≡ notes_of_both k (notes_of_both m n)
 unfolding notes_of_both
 added_twice k m n =
     same_notes (append_assoc k.errors m.errors n.errors) (append_assoc k.annotations m.annotations n.annotations) (append_assoc k.names m.names n.names)
-    (append_assoc k.indexes m.indexes n.indexes)
+    (append_assoc k.indexes m.indexes n.indexes) (tallied_twice k.tally m.tally n.tally)
 
 -- ---- what came after
 pub errors_of : (n older more : Notes) → n ≡ notes_of_both older more → n.errors ≡ older.errors ++ more.errors
@@ -63,18 +79,37 @@ pub indexes_of : (n older more : Notes) → n ≡ notes_of_both older more → n
 unfolding notes_of_both
 indexes_of n older more e = ap (λ (n : Notes). n.indexes) e
 
+pub tally_of : (n older more : Notes) → n ≡ notes_of_both older more → n.tally ≡ tally_of_both older.tally more.tally
+unfolding notes_of_both
+tally_of n older more e = ap (λ (n : Notes). n.tally) e
+
 -- ---- what takes the place of what was evaluated
 pub name_after : (older : Notes) (o : Outcome) (name : Text) → notes_of_both (notes_of_both older (record (outcome_notes o) { names = []; indexes = [] })) (record no_notes { names = name ∷ [] })
     ≡ notes_of_both older (record (outcome_notes o) { names = name ∷ []; indexes = [] })
 unfolding notes_of_both
 name_after older o name =
-    same_notes (append-nil _) (append-nil _) (append_assoc older.names [] (name ∷ [])) (append-nil _)
+    same_notes (append-nil _) (append-nil _) (append_assoc older.names [] (name ∷ [])) (append-nil _) (tallied_nothing _)
 
 pub index_after : (older : Notes) (o : Outcome) (index : ℕ) → notes_of_both (notes_of_both older (record (outcome_notes o) { names = []; indexes = [] })) (record no_notes { indexes = index ∷ [] })
     ≡ notes_of_both older (record (outcome_notes o) { names = []; indexes = index ∷ [] })
 unfolding notes_of_both
 index_after older o index =
-    same_notes (append-nil _) (append-nil _) (append-nil _) (append_assoc older.indexes [] (index ∷ []))
+    same_notes (append-nil _) (append-nil _) (append-nil _) (append_assoc older.indexes [] (index ∷ [])) (tallied_nothing _)
+
+-- ---- an application's own error
+pub error_after : (n mid : Notes) (t : Text) → mid ≡ notes_of_both n one_application
+    → notes_of_both mid (record no_notes { errors = t ∷ [] }) ≡ notes_of_both n (record one_application { errors = t ∷ [] })
+unfolding notes_of_both
+error_after n mid t e =
+    ap (λ (m : Notes). notes_of_both m (record no_notes { errors = t ∷ [] })) e ∙ added_twice n one_application (record no_notes { errors = t ∷ [] })
+
+-- ---- a schema that was not applied
+pub unapplied_after : (n mid : Notes) (looped deep : Bool) → mid ≡ notes_of_both n one_application
+    → record mid { tally = record mid.tally { looped = mid.tally.looped || looped; deep = mid.tally.deep || deep } } ≡ notes_of_both n (outcome_notes (leaf looped deep))
+unfolding notes_of_both
+unapplied_after n mid looped deep e =
+    ap (λ (m : Notes). record m { tally = record m.tally { looped = m.tally.looped || looped; deep = m.tally.deep || deep } }) e
+    ∙ same_notes refl refl refl refl (same_tallies refl (ap (λ b. b || looped) (or-false n.tally.looped)) (ap (λ b. b || deep) (or-false n.tally.deep)))
 
 -- ---- annotations alone
 abbrev pub annotated : List OutputUnit → Notes
@@ -84,3 +119,15 @@ pub annotated_then : (n : Notes) (us vs : List OutputUnit) → notes_of_both (no
 unfolding notes_of_both
 annotated_then n us vs =
     added_twice n (annotated us) (annotated vs) ∙ ap (λ ts. notes_of_both n (record no_notes { annotations = ts })) (sym (map-append (unit_text true) us vs))
+
+-- ---- more applications than there may be
+-- also with what would come later
+pub first_over : (n m k : Notes) → IsOver n m → IsOver n (notes_of_both m k)
+unfolding notes_of_both
+first_over n m k h = omega (arith, h)
+
+-- also with what came before
+pub then_over : (n mid m k : Notes) → mid ≡ notes_of_both n m → IsOver mid k → IsOver n (notes_of_both m k)
+unfolding notes_of_both
+then_over n mid m k e h =
+    let c : mid.tally.count ≡ n.tally.count + m.tally.count = ap (λ (x : Notes). x.tally.count) e in omega (arith, h, c)

@@ -16,7 +16,7 @@ use Rattle.linker.specs.declared.linked.Linked.{Linked}
 use Rattle.keywords.specs.Rows.{row_of}
 use Rattle.keyword_plans.specs.Sites.{linked_rules}
 use Rattle.keywords.specs.declared.keyword.Keyword.TheVariants.{UnevaluatedItems, UnevaluatedProperties}
-use Rattle.evaluator.specs.Findings.{use_count}
+use Rattle.evaluator.specs.Tallies.{uses_tally}
 use Rattle.evaluator.specs.Groups.{first_groups, rows_of}
 use Rattle.keywords.specs.Groups.{group_number, groups_before, in_order}
 use Rattle.evaluator.specs.Rounds.{groups_uses, linked_outcome, object_uses, unevaluated_uses}
@@ -28,7 +28,7 @@ pub record Idle (a : Application) (us : List Use) : Type 0 where
   pub indexes : flat_map (λ u. u.indexes) us ≡ []
   pub errors : flat_map (use_errors a) us ≡ []
   pub annotations : flat_map (use_annotations a) us ≡ []
-  pub count : use_count us ≡ 0
+  pub count : (uses_tally us).count ≡ 0
   pub looped : list_any (λ u. list_any (λ o. o.1.looped) u.outcomes) us ≡ false
   pub deep : list_any (λ u. list_any (λ o. o.1.deep) u.outcomes) us ≡ false
 
@@ -55,7 +55,7 @@ sum_between f us ds vs e = omega (arith, sum_by-append f (us ++ ds) vs, sum_by-a
 combined_same : (a : Application) (us vs : List Use) → list_all (λ u. u.passes) us ≡ list_all (λ u. u.passes) vs
     → flat_map (λ u. u.names) us ≡ flat_map (λ u. u.names) vs → flat_map (λ u. u.indexes) us ≡ flat_map (λ u. u.indexes) vs
     → flat_map (use_errors a) us ≡ flat_map (use_errors a) vs → flat_map (use_annotations a) us ≡ flat_map (use_annotations a) vs
-    → use_count us ≡ use_count vs
+    → (uses_tally us).count ≡ (uses_tally vs).count
     → list_any (λ u. list_any (λ o. o.1.looped) u.outcomes) us ≡ list_any (λ u. list_any (λ o. o.1.looped) u.outcomes) vs
     → list_any (λ u. list_any (λ o. o.1.deep) u.outcomes) us ≡ list_any (λ u. list_any (λ o. o.1.deep) u.outcomes) vs
     → outcome_of_uses a us ≡ outcome_of_uses a vs

@@ -1,14 +1,10 @@
--- Laws of outcomes, and of what was found so far.
-use Rattle.std.proofs.Common.{◌≡◌, ℕ, zero, suc, ◌-◌, ◌<◌, ◌≤◌, Some, None, cond, Bool, true, false, refl, sym, ap, ◌∙◌, arith}
+-- Laws of outcomes.
+use Rattle.std.proofs.Common.{◌≡◌, ℕ, zero, suc, ◌-◌, ◌<◌, Some, None, cond, Bool, true, false, refl, sym, ap, ◌∙◌, arith}
 use Rattle.std.proofs.Math.Numerals.{sub-one}
 use Rattle.definitions.specs.Values.{Value, null, boolean, integer, string, array, object, is_object}
 use Rattle.definitions.specs.Applied.{Application, Outcome, Rules}
 use Rattle.definitions.specs.Outcomes.{outcome, schema_outcome, object_outcome, boolean_outcome, leaf, is_running}
-use Rattle.evaluator.specs.Findings.{Finds}
-use Rattle.evaluator.proofs.LogLaws.{added_nothing}
-use Rattle.evaluator.specs.Notes.{Notes, notes_of_both, outcome_notes}
-use Rattle.evaluator.specs.Rounds.{boolean_found, boolean_notes}
-use Rattle.evaluator.specs.declared.found.Found.{Found}
+use Rattle.evaluator.specs.Rounds.{boolean_at}
 use Rattle.json_doc.specs.Kinds.{as_boolean}
 
 -- ---- one outcome
@@ -90,34 +86,15 @@ pub outcome-object : (rules : Rules) (n : ℕ) (a : Application) → is_running 
     → outcome rules n a ≡ object_outcome rules (outcome rules (n - 1)) a
 outcome-object rules n a r e l = outcome-suc rules n a r l ∙ at_other rules (outcome rules (n - 1)) a a.schema.value e
 
-pub finds_same : (f : Found) (budget : ℕ) (o : Outcome) → f ≡ record { valid = o.valid; count = o.count; looped = o.looped; deep = o.deep; passing = None } → o.count ≤ budget → Finds f budget o
-finds_same f budget o e h = record {
-  valid = ap (λ (f : Found). f.valid) e;
-  count = ap (λ (f : Found). f.count) e;
-  looped = ap (λ (f : Found). f.looped) e;
-  deep = ap (λ (f : Found). f.deep) e;
-  within = h;
-}
-
 -- ---- boolean schemas
-pub deep_found : (n : ℕ) (b : Bool) → n ≡ 0 → boolean_found n b ≡ record { valid = false; count = 1; looped = false; deep = true; passing = None }
-deep_found zero b e = refl
-deep_found (suc n) b e = absurd (omega arith)
+pub boolean_is : (rules : Rules) (n : ℕ) (a : Application) (b : Bool) → Some b ≡ as_boolean a.schema.value → boolean_at n a b ≡ outcome rules n a
+boolean_is rules zero a b e = sym (outcome-deep-boolean rules 0 a b e refl)
+boolean_is rules (suc n) a b e = sym (outcome-boolean rules (suc n) a b e (omega arith))
 
-pub boolean_finds : (rules : Rules) (f : Found) (budget n : ℕ) (a : Application) (b : Bool) → Some b ≡ as_boolean a.schema.value → 0 < budget → f ≡ boolean_found n b
-    → Finds f budget (outcome rules n a)
-boolean_finds rules f budget zero a b e l is = rw (outcome-deep-boolean rules 0 a b e refl) (finds_same f budget (leaf false true) is l)
-boolean_finds rules f budget (suc n) a b e l is =
-    rw (outcome-boolean rules (suc n) a b e (omega arith)) (finds_same f budget (boolean_outcome a b) is l)
+pub deep_boolean : (n : ℕ) (a : Application) (b : Bool) → n ≡ 0 → leaf false true ≡ boolean_at n a b
+deep_boolean zero a b e = refl
+deep_boolean (suc n) a b e = absurd (omega arith)
 
-pub boolean_noted : (rules : Rules) (n : ℕ) (a : Application) (b : Bool) → Some b ≡ as_boolean a.schema.value → boolean_notes n a b ≡ outcome_notes (outcome rules n a)
-boolean_noted rules zero a b e = rw (outcome-deep-boolean rules 0 a b e refl) refl
-boolean_noted rules (suc n) a b e = rw (outcome-boolean rules (suc n) a b e (omega arith)) refl
-
-pub deep_noted : (m : Notes) (n : ℕ) (a : Application) (b : Bool) → n ≡ 0 → m ≡ notes_of_both m (boolean_notes n a b)
-deep_noted m zero a b e = sym (added_nothing m)
-deep_noted m (suc n) a b e = absurd (omega arith)
-
-pub shallow_noted : (n : ℕ) (a : Application) (b : Bool) → (n ≡ 0 → ⊥) → outcome_notes (boolean_outcome a b) ≡ boolean_notes n a b
-shallow_noted zero a b h = absurd (h refl)
-shallow_noted (suc n) a b h = refl
+pub shallow_boolean : (n : ℕ) (a : Application) (b : Bool) → (n ≡ 0 → ⊥) → boolean_outcome a b ≡ boolean_at n a b
+shallow_boolean zero a b h = absurd (h refl)
+shallow_boolean (suc n) a b h = refl

@@ -1,5 +1,5 @@
 -- Laws of planned applications, and of what they found and noted so far.
-use Rattle.std.proofs.Common.{◌≡◌, ℕ, ◌+◌, ◌-◌, ◌<◌, ◌≤◌, List, [], ◌∷◌, ◌++◌, map, length, cond, Bool, true, false, ◌||◌, refl, sym, ap, ◌∙◌, arith, length-append, append_assoc, take, drop, get_or}
+use Rattle.std.proofs.Common.{◌≡◌, ℕ, ◌+◌, ◌<◌, ◌≤◌, List, [], ◌∷◌, ◌++◌, map, length, cond, Bool, true, false, ◌||◌, refl, sym, ap, ◌∙◌, arith, length-append, append_assoc, take, drop, get_or}
 use Rattle.std.proofs.Math.Bool.{or-false, or_assoc}
 use Rattle.std.specs.List.{list_any}
 use Rattle.std.proofs.lemmas.List.{map-append, take_more, take-append-drop}
@@ -20,12 +20,12 @@ use Rattle.keyword_plans.specs.declared.planned.Chosen.{Chosen}
 use Rattle.keyword_plans.specs.declared.planned.Chosen.TheVariants.{Below, Target}
 use Rattle.evaluation_context.specs.Frames.{Frame, frame_standing}
 use Rattle.evaluation_context.specs.Standings.{Standing, application_at, standing_of}
-use Rattle.evaluator.specs.Findings.{Finds, IsWithin, AreWithin, FindsAll, Outcomes, count_of}
-use Rattle.evaluator.specs.Notes.{Notes, notes_of_both, part_notes, parts_notes}
+use Rattle.evaluator.specs.Findings.{FindsAll, Outcomes}
+use Rattle.evaluator.specs.Notes.{IsOver, Notes, notes_of_both, part_notes, parts_notes}
+use Rattle.evaluator.specs.Tallies.{Tally, outcome_tally, parts_tally, tally_of_both}
 use Rattle.evaluator.specs.Rounds.{IsAt, IsKnown, chosen_value}
-use Rattle.evaluator.specs.declared.found.Found.{Found}
-use Rattle.evaluator.specs.declared.found.Applied as found
-use Rattle.evaluator.proofs.LogLaws.{added_twice, same_notes}
+use Rattle.evaluator.specs.declared.applied.Applied.{Applied}
+use Rattle.evaluator.proofs.LogLaws.{added_twice, same_notes, same_tallies, tally_of}
 
 -- ---- where a planned application stands
 pub chosen_schema_value : (k : Text) (a : Application) (chosen : Chosen) (part : definition.Part) (x : Value) → (chosen_application k a chosen part x).schema.value ≡ chosen_value chosen
@@ -64,32 +64,21 @@ at_most_one : (b : Bool) → cond {A = ℕ} b 1 0 ≤ 1
 at_most_one true = omega arith
 at_most_one false = omega arith
 
-pub finds_more : (a : found.Applied) (f : Found) (budget : ℕ) (os : Outcomes) (e : definition.Part × Outcome) → FindsAll a budget os → Finds f (budget - a.count) e.1
-    → FindsAll (record { number = a.number + 1; passing = cond f.valid (a.passing + 1) a.passing; count = a.count + f.count; looped = a.looped || f.looped; deep = a.deep || f.deep }) budget (os ++ e ∷ [])
-finds_more a f budget os (part, o) all one =
-    let c : count_of (os ++ (part, o) ∷ []) ≡ count_of os + (0 + o.count) = sum_by-append _ os ((part, o) ∷ []) in
+pub finds_more : (a : Applied) (valid : Bool) (os : Outcomes) (e : definition.Part × Outcome) → FindsAll a os → valid ≡ e.1.valid
+    → FindsAll (record { number = a.number + 1; passing = cond valid (a.passing + 1) a.passing }) (os ++ e ∷ [])
+finds_more a valid os (part, o) all one =
     let l : length (os ++ (part, o) ∷ []) ≡ length os + 1 = length-append os ((part, o) ∷ []) in
     let p : pass_count (os ++ (part, o) ∷ []) ≡ pass_count os + (0 + cond o.valid 1 0) = sum_by-append _ os ((part, o) ∷ []) in
-    let v : cond f.valid (a.passing + 1) a.passing ≡ a.passing + cond f.valid 1 0 = passing_more f.valid a.passing in
-    let w : ◌≡◌ {A = ℕ} (cond f.valid 1 0) (cond o.valid 1 0) = ap (λ b. cond b 1 0) one.valid in
+    let v : cond valid (a.passing + 1) a.passing ≡ a.passing + cond valid 1 0 = passing_more valid a.passing in
+    let w : ◌≡◌ {A = ℕ} (cond valid 1 0) (cond o.valid 1 0) = ap (λ b. cond b 1 0) one in
     record {
       number = omega (arith, all.number, l);
       passing = omega (arith, all.passing, p, v, w);
-      count = omega (arith, all.count, one.count, c);
-      looped = rw (all.looped, one.looped) (sym (list_any-snoc _ os (part, o)));
-      deep = rw (all.deep, one.deep) (sym (list_any-snoc _ os (part, o)));
-      within = omega (arith, all.count, all.within, one.within, c);
     }
 
-pub within_more : (a : found.Applied) (f : Found) (budget : ℕ) → AreWithin a budget → IsWithin f (budget - a.count)
-    → AreWithin (record { number = a.number + 1; passing = cond f.valid (a.passing + 1) a.passing; count = a.count + f.count; looped = a.looped || f.looped; deep = a.deep || f.deep }) budget
-within_more a f budget all one =
-    let v : cond f.valid (a.passing + 1) a.passing ≡ a.passing + cond f.valid 1 0 = passing_more f.valid a.passing in
-    record {
-      passing = omega (arith, all.passing, v, at_most_one f.valid);
-      number = omega (arith, all.number, one.some);
-      within = omega (arith, all.within, one.within);
-    }
+pub passing_within : (b : Bool) (passing number : ℕ) → passing ≤ number → cond b (passing + 1) passing ≤ number + 1
+passing_within b passing number h =
+    let v : cond b (passing + 1) passing ≡ passing + cond b 1 0 = passing_more b passing in omega (arith, h, v, at_most_one b)
 
 pub split_at : {X : Type 0} (xs : List X) (i : ℕ) (d : X) → i < length xs → take i xs ++ get_or xs i d ∷ drop (i + 1) xs ≡ xs
 split_at xs i d h =
@@ -99,30 +88,24 @@ pub map_split : {X Y : Type 0} (g : X → Y) (xs : List X) (i : ℕ) (x : X) →
 map_split g xs i x h is =
     sym (ap (map g) (split_at xs i x h)) ∙ map-append g (take i xs) _ ∙ ap (λ y. map g (take i xs) ++ g y ∷ map g (drop (i + 1) xs)) (sym is)
 
--- where one is over what is left, all are over the budget
-pub over : (a : found.Applied) (budget : ℕ) (before : Outcomes) (e : definition.Part × Outcome) (after : Outcomes) → FindsAll a budget before → budget - a.count < e.1.count
-    → budget < count_of (before ++ e ∷ after)
-over a budget before e after all h =
-    let c : count_of (before ++ e ∷ after) ≡ count_of before + count_of (e ∷ after) = sum_by-append _ before (e ∷ after) in
-    let d : count_of (e ∷ after) ≡ e.1.count + count_of after = sum_by-cons _ e after in
-    omega (arith, all.count, all.within, c, d)
+tally_more : (es : Outcomes) (e : definition.Part × Outcome) → tally_of_both (parts_tally es) (outcome_tally e.1) ≡ parts_tally (es ++ e ∷ [])
+tally_more es (part, o) =
+    let c : (parts_tally (es ++ (part, o) ∷ [])).count ≡ (parts_tally es).count + (0 + o.count) = sum_by-append _ es ((part, o) ∷ []) in
+    same_tallies (omega (arith, c)) (sym (list_any-snoc _ es (part, o))) (sym (list_any-snoc _ es (part, o)))
 
 pub notes_more : (m : Meaning) (es : Outcomes) (e : definition.Part × Outcome) → notes_of_both (parts_notes m es) (part_notes m e) ≡ parts_notes m (es ++ e ∷ [])
 unfolding notes_of_both
-notes_more m es e = same_notes (sym (flat_map-push _ es e)) (sym (flat_map-push _ es e)) (sym (flat_map-push _ es e)) (sym (flat_map-push _ es e))
+notes_more m es e =
+    same_notes (sym (flat_map-push _ es e)) (sym (flat_map-push _ es e)) (sym (flat_map-push _ es e)) (sym (flat_map-push _ es e)) (tally_more es e)
 
 -- ---- the loop over what a keyword applies
-pub none_found : (a : found.Applied) (budget : ℕ) → a ≡ record { number = 0; passing = 0; count = 0; looped = false; deep = false } → FindsAll a budget []
-none_found a budget e = rw e (record { number = refl; passing = refl; count = refl; looped = refl; deep = refl; within = omega arith })
+pub none_found : (a : Applied) → a ≡ record { number = 0; passing = 0 } → FindsAll a []
+none_found a e = rw e (record { number = refl; passing = refl })
 
-pub none_within : (a : found.Applied) (budget : ℕ) → a ≡ record { number = 0; passing = 0; count = 0; looped = false; deep = false } → AreWithin a budget
-none_within a budget e = rw e (record { passing = omega arith; number = omega arith; within = omega arith })
-
-pub child_more : {X : Type 0} (a b : found.Applied) (f : Found) (budget : ℕ) (g : X → definition.Part × Outcome) (xs : List X) (i : ℕ) (x : X) → i < length xs → x ≡ get_or xs i x
-    → FindsAll a budget (map g (take i xs)) → Finds f (budget - a.count) (g x).1
-    → b ≡ record { number = a.number + 1; passing = cond f.valid (a.passing + 1) a.passing; count = a.count + f.count; looped = a.looped || f.looped; deep = a.deep || f.deep }
-    → FindsAll b budget (map g (take (i + 1) xs))
-child_more a b f budget g xs i x h is all one e = rw (e, map-take_more g xs i x h is) (finds_more a f budget (map g (take i xs)) (g x) all one)
+pub child_more : {X : Type 0} (a b : Applied) (valid : Bool) (g : X → definition.Part × Outcome) (xs : List X) (i : ℕ) (x : X) → i < length xs → x ≡ get_or xs i x
+    → FindsAll a (map g (take i xs)) → valid ≡ (g x).1.valid → b ≡ record { number = a.number + 1; passing = cond valid (a.passing + 1) a.passing }
+    → FindsAll b (map g (take (i + 1) xs))
+child_more a b valid g xs i x h is all one e = rw (e, map-take_more g xs i x h is) (finds_more a valid (map g (take i xs)) (g x) all one)
 
 pub child_noted : {X : Type 0} (m : Meaning) (older old new : Notes) (g : X → definition.Part × Outcome) (xs : List X) (i : ℕ) (x : X) → i < length xs → x ≡ get_or xs i x
     → old ≡ notes_of_both older (parts_notes m (map g (take i xs))) → new ≡ notes_of_both old (part_notes m (g x)) → new ≡ notes_of_both older (parts_notes m (map g (take (i + 1) xs)))
@@ -130,6 +113,14 @@ child_noted m older old new g xs i x h is e f =
     f ∙ ap (λ n. notes_of_both n (part_notes m (g x))) e ∙ added_twice older (parts_notes m (map g (take i xs))) (part_notes m (g x))
     ∙ ap (notes_of_both older) (notes_more m (map g (take i xs)) (g x) ∙ ap (parts_notes m) (sym (map-take_more g xs i x h is)))
 
-pub child_over : {X : Type 0} (a : found.Applied) (budget : ℕ) (g : X → definition.Part × Outcome) (xs : List X) (i : ℕ) (x : X) → i < length xs → x ≡ get_or xs i x
-    → FindsAll a budget (map g (take i xs)) → budget - a.count < (g x).1.count → budget < count_of (map g xs)
-child_over a budget g xs i x h is all more = rw (map_split g xs i x h is) (over a budget (map g (take i xs)) (g x) (map g (drop (i + 1) xs)) all more)
+-- where one is over what there may be, all are
+pub child_over : {X : Type 0} (m : Meaning) (older old : Notes) (g : X → definition.Part × Outcome) (xs : List X) (i : ℕ) (x : X) → i < length xs → x ≡ get_or xs i x
+    → old ≡ notes_of_both older (parts_notes m (map g (take i xs))) → IsOver old (part_notes m (g x)) → IsOver older (parts_notes m (map g xs))
+child_over m older old g xs i x h is e over =
+    let before = map g (take i xs) in
+    let after = map g (drop (i + 1) xs) in
+    let a : old.tally.count ≡ older.tally.count + (parts_tally before).count = ap (λ (t : Tally). t.count) (tally_of old older (parts_notes m before) e) in
+    let b : (parts_tally (map g xs)).count ≡ (parts_tally (before ++ g x ∷ after)).count = ap (λ os. (parts_tally os).count) (map_split g xs i x h is) in
+    let c : (parts_tally (before ++ g x ∷ after)).count ≡ (parts_tally before).count + (parts_tally (g x ∷ after)).count = sum_by-append _ before (g x ∷ after) in
+    let d : (parts_tally (g x ∷ after)).count ≡ (g x).1.count + (parts_tally after).count = sum_by-cons _ (g x) after in
+    omega (arith, over, a, b, c, d)

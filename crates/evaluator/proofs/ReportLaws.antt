@@ -1,5 +1,5 @@
 -- Laws of the answer, and of the report of it.
-use Rattle.std.proofs.Common.{◌≡◌, ◌≢◌, ◌≤◌, ℕ, List, [], Bool, ◌&&◌, true, false, Some, Ok, Err, refl, subst, sym, ap, ◌∙◌, map, Result, IfOk, IfErr, OnOk}
+use Rattle.std.proofs.Common.{◌≡◌, ◌≢◌, ◌<◌, ◌≤◌, ℕ, arith, List, [], Bool, ◌&&◌, true, false, Some, Ok, Err, refl, subst, sym, ap, ap₂, ◌∙◌, map, Result, IfOk, IfErr, OnOk}
 use Rattle.std.proofs.lemmas.Bool.{le-ltb}
 use Rattle.definitions.specs.Values.{Value, same_text}
 use Rattle.definitions.specs.Faults as meaning
@@ -13,7 +13,7 @@ use Rattle.definition_laws.proofs.ReachedTables.{reach_is_enough}
 use Rattle.definitions.specs.Targets.{resource_root}
 use Rattle.definitions.specs.Patterns.{has_match}
 use Rattle.definitions.specs.Applied.{Outcome}
-use Rattle.definitions.specs.Answers.{answer, answer_of, answer_from, first_application}
+use Rattle.definitions.specs.Answers.{answer, answer_of, answer_from, first_application, output_text}
 use Rattle.definitions.specs.Limits.{limits}
 use Rattle.definition_laws.proofs.Membership.{found_there}
 use Rattle.basic_output.specs.Outputs as output
@@ -25,8 +25,7 @@ use Rattle.keyword_plans.specs.Sites.{linked_rules}
 use Rattle.evaluation_context.specs.Frames.{Frame, frame_standing}
 use Rattle.evaluation_context.specs.Standings.{application_at}
 use Rattle.evaluator.specs.Logs.{log_view}
-use Rattle.evaluator.specs.Notes.{Notes, no_notes, notes_of_both, outcome_notes}
-use Rattle.evaluator.specs.declared.found.Found.{Found}
+use Rattle.evaluator.specs.Notes.{IsOver, Notes, no_notes, notes_of_both, outcome_notes}
 use Rattle.evaluator.specs.declared.report.Report.{Report}
 use Rattle.evaluator.specs.Reports.{Gives, is_valid, report_or_fault, report_text}
 use Rattle.evaluator.specs.Rounds.{IsAt, linked_outcome}
@@ -39,6 +38,9 @@ answer_loop most o h l = rw (le-ltb most o.count h, l) refl
 
 pub answer_deep : (most : ℕ) (o : Outcome) → o.count ≤ most → o.looped ≡ false → o.deep ≡ true → answer_of most o ≡ Err deep
 answer_deep most o h l d = rw (le-ltb most o.count h, l, d) refl
+
+pub answer_made : (most : ℕ) (o : Outcome) → o.count ≤ most → o.looped ≡ false → o.deep ≡ false → answer_of most o ≡ Ok o
+answer_made most o h l d = rw (le-ltb most o.count h, l, d) refl
 
 -- ---- the first application
 pub first_outcome : (l : Linked) (s : Schema) (x : Value) → resource_root (linked_schemas l) (linked_uri l) ≡ Some s
@@ -53,9 +55,31 @@ first_is_at l f s x e there = record {
 }
 
 -- ---- what was noted from nothing on
-pub noted_first : (r : Result Found Fault) (n older : Notes) (o : Outcome) → older ≡ no_notes → OnOk r (n ≡ notes_of_both older (outcome_notes o)) → OnOk r (n ≡ outcome_notes o)
+pub noted_first : (r : Result Bool Fault) (n older : Notes) (o : Outcome) → older ≡ no_notes → OnOk r (n ≡ notes_of_both older (outcome_notes o)) → OnOk r (n ≡ outcome_notes o)
 noted_first (Ok f) n older o e h = h ∙ ap (λ m. notes_of_both m (outcome_notes o)) e ∙ nothing_added (outcome_notes o)
 noted_first (Err f) n older o e h = tt
+
+pub costly_first : (r : Result Bool Fault) (older : Notes) (o : Outcome) → older ≡ no_notes → IfErr r (λ f. f ≢ Fault.NoRoom → (f ≡ Fault.Costly) × IsOver older (outcome_notes o))
+    → IfErr r (λ f. f ≢ Fault.NoRoom → (f ≡ Fault.Costly) × (100000 < o.count))
+costly_first (Ok b) older o e h = tt
+costly_first (Err f) older o e h =
+    λ other. let costly = h other in (costly.0, let c : older.tally.count ≡ 0 = ap (λ (n : Notes). n.tally.count) e in omega (arith, costly.1, c))
+
+-- ---- what was counted
+pub counted : (l : Log) (o : Outcome) → log_view l ≡ outcome_notes o → l.count ≡ o.count
+unfolding log_view
+counted l o e = ap (λ (n : Notes). n.tally.count) e
+
+pub within_most : (l : Log) (o : Outcome) → log_view l ≡ outcome_notes o → o.count ≤ 100000
+within_most l o e = omega (arith, counted l o e, l.within)
+
+pub looped_so : (l : Log) (o : Outcome) → log_view l ≡ outcome_notes o → o.looped ≡ l.looped
+unfolding log_view
+looped_so l o e = sym (ap (λ (n : Notes). n.tally.looped) e)
+
+pub deep_so : (l : Log) (o : Outcome) → log_view l ≡ outcome_notes o → o.deep ≡ l.deep
+unfolding log_view
+deep_so l o e = sym (ap (λ (n : Notes). n.tally.deep) e)
 
 pub logged_annotations : (l : Log) (o : Outcome) (valid : Bool) → log_view l ≡ outcome_notes o → o.valid ≡ true → valid ≡ true
     → unit_texts l.annotations ≡ map (unit_text valid) (output.reported_units o)
@@ -78,6 +102,11 @@ gives_ok (Err f) a g = tt
 pub gives_err : (e : Result Report Fault) (a : Result Outcome meaning.Fault) → Gives e a → IfErr e (λ f. f ≢ Fault.NoRoom → a ≡ Err (fault_view f))
 gives_err (Ok r) a g = tt
 gives_err (Err f) a g = g
+
+pub gives_made : (r : Result Report Fault) (o : Outcome) (valid : Bool) → valid ≡ o.valid → IfOk r (λ r. is_valid r ≡ valid) → IfOk r (λ r. output_text o ≡ report_text r)
+    → IfErr r (λ f. f ≡ Fault.NoRoom) → Gives r (Ok o)
+gives_made (Ok r) o valid same v t e = ap₂ (λ b text. Ok (b, text)) (sym (v ∙ same)) t
+gives_made (Err f) o valid same v t e = λ other. absurd (other e)
 
 -- ---- what isn't reached
 none_missing : (l : Linked) → missing_references (linked_documents l) ≡ []

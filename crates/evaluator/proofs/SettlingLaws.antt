@@ -1,9 +1,11 @@
 -- Laws of what a keyword itself notes, once its schemas were applied.
-use Rattle.std.proofs.Common.{◌≡◌, ◌<◌, ℕ, List, [], ◌∷◌, ◌++◌, map, if◌then◌else◌, Bool, true, false, Contains, refl, sym, ap, ◌∙◌, append-nil, subst, flat_map, arith}
+use Rattle.std.proofs.Common.{◌≡◌, ℕ, List, [], ◌∷◌, ◌++◌, map, if◌then◌else◌, Bool, true, false, Contains, refl, sym, ap, ◌∙◌, append-nil, subst, flat_map, arith}
 use Rattle.std.proofs.Math.Bool.{and-true, or-false}
 use Rattle.std.proofs.lemmas.List.{map-append}
-use Rattle.std.specs.Prelude.{Some, None, codes}
+use Rattle.std.specs.Prelude.{Option, Some, None, codes}
+use Rattle.std.specs.List.{list_all}
 use Rattle.definitions.specs.Values.{Text, Value, string, get}
+use Rattle.definitions.specs.Keywords.{Meaning}
 use Rattle.definitions.specs.Applied.{Application, Outcome, OutputUnit, Part, keyword_applications}
 use Rattle.definitions.specs.Evaluated.{may_annotate, once, outcomes_that_fail, outcomes_that_pass}
 use Rattle.definitions.specs.Outcomes.{Use, own_annotation, unit}
@@ -24,19 +26,23 @@ use Rattle.keywords.specs.declared.keyword.Keyword.TheVariants.{PatternPropertie
 use Rattle.keyword_plans.specs.declared.planned.Planned.{Planned}
 use Rattle.evaluation_context.specs.Frames.{Frame, frame_standing}
 use Rattle.evaluation_context.specs.Standings.{at_keyword, standing_of, unit_there}
-use Rattle.evaluator.specs.Findings.{FindsAll, FindsUse, count_of, use_count}
-use Rattle.evaluator.specs.declared.found.Applied as found
-use Rattle.evaluator.specs.declared.found.Found.{Found}
+use Rattle.evaluator.specs.Findings.{FindsAll, passing_first}
+use Rattle.evaluator.specs.Tallies.{Tally, parts_tally, uses_tally}
+use Rattle.evaluator.specs.declared.applied.Applied.{Applied}
 use Rattle.evaluator.specs.declared.beside.Beside.{Beside}
-use Rattle.evaluator.specs.Notes.{Notes, annotation_texts, error_texts, parts_notes, uses_notes, visible_notes}
+use Rattle.evaluator.specs.Notes.{IsOver, Notes, annotation_texts, error_texts, parts_notes, uses_notes, visible_notes}
 use Rattle.evaluator.specs.Rounds.{IsAt, IsAtKeyword, IsKnown, IsUnder, Knows, linked_outcome, part_outcomes, use_there}
-use Rattle.evaluator.proofs.LogLaws.{mapped_all, same_notes}
+use Rattle.evaluator.proofs.LogLaws.{mapped_all, same_notes, same_tallies}
 use Rattle.evaluator.proofs.PartLaws.{annotations_of_passed, errors_of_failed, indexes_of_use, names_of_use}
 
 -- the texts of units, where they are seen
 shown_texts : (b : Bool) (ts : List Text) (us : List OutputUnit) → ts ≡ annotation_texts us → (if b then ts else []) ≡ annotation_texts (if b then us else [])
 shown_texts true ts us e = e
 shown_texts false ts us e = refl
+
+-- the applications of one use
+tally_of_one : (u : Use) → parts_tally u.outcomes ≡ uses_tally (u ∷ [])
+tally_of_one u = same_tallies (omega arith) (sym (or-false _)) (sym (or-false _))
 
 module _ (l : Linked) (left : ℕ) (a : Application) (keyword : Keyword) (names : List Text) (indexes : List ℕ) (v : Value) where
   abbrev this : Use
@@ -66,14 +72,14 @@ module _ (l : Linked) (left : ℕ) (a : Application) (keyword : Keyword) (names 
       → record noted { errors = []; annotations = annotation_texts (own_annotation a this this.annotation) ++ noted.annotations } ≡ uses_notes a (this ∷ [])
   passing_settled e =
       same_notes (rw (← e) refl) (rw (← e) (ap (λ ts. annotation_texts (own_annotation a this this.annotation) ++ ts) annotations_settled ∙ sym (map-append (unit_text true) (own_annotation a this this.annotation) _) ∙ sym (append-nil _)))
-      (names_settled ∙ sym (append-nil this.names)) (indexes_settled ∙ sym (append-nil this.indexes))
+      (names_settled ∙ sym (append-nil this.names)) (indexes_settled ∙ sym (append-nil this.indexes)) (tally_of_one this)
 
   pub failing_settled : false ≡ this.passes
       → record noted { errors = unit_text false (unit a (row_of keyword).name (string ((row_of keyword).name ++ codes " is not met"))) ∷ noted.errors; annotations = [] } ≡ uses_notes a (this ∷ [])
   failing_settled e =
       same_notes
       (rw (← e) (ap (λ ts. unit_text false (unit a (row_of keyword).name (string ((row_of keyword).name ++ codes " is not met"))) ∷ ts) (errors_settled ∙ sym (append-nil _))))
-      (rw (← e) refl) (names_settled ∙ sym (append-nil this.names)) (indexes_settled ∙ sym (append-nil this.indexes))
+      (rw (← e) refl) (names_settled ∙ sym (append-nil this.names)) (indexes_settled ∙ sym (append-nil this.indexes)) (tally_of_one this)
 
 -- ---- what it says itself
 pub unit_under : (f g : Frame) (k : Text) (a : Application) (v : Value) → g ≡ f → IsUnder f k a → unit_there (frame_standing g) v ≡ unit a k v
@@ -112,22 +118,14 @@ planned_known l left keyword a ps names indexes v inside found same p here =
     (subst (λ es. Contains es e) same there)
 
 -- ---- one use
-pub use_found : (all : found.Applied) (f : Found) (budget : ℕ) (this : Use) (passes : Bool) → FindsAll all budget this.outcomes → passes ≡ this.passes
-    → f ≡ record { valid = passes; count = all.count; looped = all.looped; deep = all.deep; passing = Some all.passing } → FindsUse f budget (this ∷ [])
-use_found all f budget this passes finds same e =
-    rw e (record {
-      found = record {
-        valid = same ∙ sym (and-true this.passes);
-        count = omega (arith, finds.count);
-        looped = finds.looped ∙ sym (or-false _);
-        deep = finds.deep ∙ sym (or-false _);
-        within = omega (arith, finds.within);
-      };
-      passing = ap Some finds.passing;
-    })
+pub use_valid : (b : Bool) (u : Use) → b ≡ u.passes → b ≡ list_all (λ u. u.passes) (u ∷ [])
+use_valid b u e = e ∙ sym (and-true u.passes)
 
-pub use_over : (budget : ℕ) (this : Use) → budget < count_of this.outcomes → budget < use_count (this ∷ [])
-use_over budget this h = omega (arith, h)
+pub use_passing : (p : Option ℕ) (applied : Applied) (u : Use) → p ≡ Some applied.passing → FindsAll applied u.outcomes → p ≡ passing_first (u ∷ [])
+use_passing p applied u e found = e ∙ ap Some found.passing
+
+pub use_over : (a : Application) (n : Notes) (m : Meaning) (u : Use) → IsOver n (parts_notes m u.outcomes) → IsOver n (uses_notes a (u ∷ []))
+use_over a n m u h = let c : (parts_tally u.outcomes).count ≡ (uses_tally (u ∷ [])).count = ap (λ (t : Tally). t.count) (tally_of_one u) in omega (arith, h, c)
 
 -- ---- at the keyword
 pub at_keyword_of : (l : Linked) (left : ℕ) (f g : Frame) (s x : Value) (keyword : Keyword) (v : Value) (beside : Beside) (a : Application)

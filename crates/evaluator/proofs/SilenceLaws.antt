@@ -9,7 +9,7 @@ use Rattle.definitions.specs.Values.{Text, Value, get, is_object}
 use Rattle.definitions.specs.Applied as definition
 use Rattle.definitions.specs.Applied.{Application, Outcome, part_location}
 use Rattle.definitions.specs.Schemas.{Identity, identity}
-use Rattle.definitions.specs.Outcomes.{boolean_outcome, Use, is_running, other_annotations, outcome_of_uses}
+use Rattle.definitions.specs.Outcomes.{Use, is_running, other_annotations, outcome_of_uses}
 use Rattle.assertions.specs.AssertionView.{assertion_in}
 use Rattle.json_doc.specs.Kinds.{as_boolean}
 use Rattle.linker.specs.declared.linked.Linked.{Linked}
@@ -26,15 +26,15 @@ use Rattle.evaluation_context.specs.Runnings.{is_running_as}
 use Rattle.evaluation_context.specs.Standings.{Standing, at_keyword, standing_of}
 use Rattle.evaluator.specs.Groups.{first_groups}
 use Rattle.evaluator.specs.Leaves.{IsLeaf}
-use Rattle.evaluator.specs.Notes.{no_notes, notes_of_both}
+use Rattle.evaluator.specs.Notes.{no_notes, notes_of_both, one_application}
 use Rattle.evaluator.specs.Rounds.{group_uses, groups_uses, linked_outcome}
 use Rattle.evaluator.specs.Silences.{AreSilent, IsSilent}
 use Rattle.evaluator.proofs.AssertedLaws.{absent_use, asserted_use, passing_notes}
-use Rattle.evaluator.proofs.CombinedLaws.{object_found, passing_object}
-use Rattle.evaluator.proofs.LeafLaws.{leaf_found, leaf_quiet, leaf_uses}
+use Rattle.evaluator.proofs.CombinedLaws.{passing_object}
+use Rattle.evaluator.proofs.LeafLaws.{leaf_uses}
 use Rattle.evaluator.proofs.LogLaws.{added_nothing, annotated}
 use Rattle.evaluator.proofs.ObjectLaws.{object_by_groups}
-use Rattle.evaluator.proofs.OutcomeLaws.{finds_same, outcome-boolean, outcome-object}
+use Rattle.evaluator.proofs.OutcomeLaws.{outcome-boolean, outcome-object}
 use Rattle.evaluator.proofs.UseLaws.{flat_more, uses_more_notes}
 
 pub none_silent : (a : Application) (us : List Use) → us ≡ [] → AreSilent a us
@@ -77,18 +77,19 @@ apart_below st k a p under none =
     (subst (λ (s : Standing). list_any (is_running_as (identity b.schema) (part_location s.instance_location (part_view p.part))) s.running ≡ false) under (none (identity b.schema)))
 
 -- ---- the object
-pub leaf_silent : (l : Linked) (left budget : ℕ) (a : Application) (s : Value) → a.schema.value ≡ s → IsLeaf s → None ≡ as_boolean a.schema.value → is_running a ≡ false
-    → 0 < left → 0 < budget → other_annotations a ≡ [] → AreSilent a (groups_uses l (left - 1) a first_groups) → IsSilent budget (linked_outcome l left a)
-leaf_silent l left budget a s same leaf other apart nests some quiet silent =
+pub leaf_silent : (l : Linked) (left : ℕ) (a : Application) (s : Value) → a.schema.value ≡ s → IsLeaf s → None ≡ as_boolean a.schema.value → is_running a ≡ false
+    → 0 < left → other_annotations a ≡ [] → AreSilent a (groups_uses l (left - 1) a first_groups) → IsSilent (linked_outcome l left a)
+leaf_silent l left a s same leaf other apart nests quiet silent =
     let us = groups_uses l (left - 1) a first_groups in
     let is : linked_outcome l left a ≡ outcome_of_uses a us =
     outcome-object (linked_rules l) left a apart other nests ∙ object_by_groups l (left - 1) a ∙ ap (outcome_of_uses a) (sym (leaf_uses l (left - 1) a s same leaf)) in
     rw is (record {
-      found = object_found _ budget a us (leaf_found _ true budget us refl (sym silent.passes) (leaf_quiet l (left - 1) a s same leaf) some);
-      noted = sym (passing_object a us silent.passes) ∙ ap₂ (λ n us. notes_of_both n (annotated us)) silent.noted quiet ∙ added_nothing no_notes;
+      passes = silent.passes;
+      noted =
+          sym (passing_object a us silent.passes) ∙ ap₂ (λ n us. notes_of_both (notes_of_both one_application n) (annotated us)) silent.noted quiet
+          ∙ added_nothing (notes_of_both one_application no_notes) ∙ added_nothing one_application;
     })
 
 -- ---- the schema `true`
-pub true_silent : (l : Linked) (left budget : ℕ) (a : Application) → Some true ≡ as_boolean a.schema.value → 0 < left → 0 < budget → IsSilent budget (linked_outcome l left a)
-true_silent l left budget a is nests some =
-    rw (outcome-boolean (linked_rules l) left a true is nests) (record { found = finds_same _ budget (boolean_outcome a true) refl some; noted = refl })
+pub true_silent : (l : Linked) (left : ℕ) (a : Application) → Some true ≡ as_boolean a.schema.value → 0 < left → IsSilent (linked_outcome l left a)
+true_silent l left a is nests = rw (outcome-boolean (linked_rules l) left a true is nests) (record { passes = refl; noted = refl })

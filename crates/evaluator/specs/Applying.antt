@@ -1,5 +1,5 @@
 -- What the contracts of an evaluation under way say.
-use Rattle.std.specs.Prelude.{◌≡◌, ◌≢◌, ◌<◌, ℕ, List, Contains}
+use Rattle.std.specs.Prelude.{◌≡◌, ◌≢◌, ℕ, List, Contains}
 use Rattle.definitions.specs.Values.{Text}
 use Rattle.definitions.specs.Applied.{Application, Outcome}
 use Rattle.definitions.specs.Outcomes.{object_outcome}
@@ -13,7 +13,7 @@ use Rattle.keyword_plans.specs.declared.planned.Planned.{Planned}
 use Rattle.keyword_plans.specs.declared.subject.Subject.{Subject}
 use Rattle.evaluation_context.specs.Frames.{context_view}
 use Rattle.evaluator.specs.Logs.{log_view}
-use Rattle.evaluator.specs.Notes.{Notes, notes_of_both}
+use Rattle.evaluator.specs.Notes.{IsOver, Notes, notes_of_both}
 use Rattle.evaluator.specs.Rounds.{IsAt, IsKnown, linked_outcome}
 use Rattle.evaluator.specs.declared.applying.Evaluation.{Evaluation}
 use Rattle.evaluator.specs.declared.here.Here.{Here}
@@ -30,9 +30,9 @@ IsHere e h a = Applies e h.present.now.schema.now h.subject a
 abbrev pub Adds : Evaluation → Evaluation → Notes → Type 0
 Adds older newer n = log_view newer.log ≡ notes_of_both (log_view older.log) n
 
--- want of memory aside, the fault is Costly, and so many applications are over the budget
-abbrev pub IsCostly : code.Fault → ℕ → ℕ → Type 0
-IsCostly f budget count = f ≢ code.Fault.NoRoom → (f ≡ code.Fault.Costly) × (budget < count)
+-- want of memory aside, the fault is Costly, and this too would be more applications than there may be
+abbrev pub IsCostly : code.Fault → Evaluation → Notes → Type 0
+IsCostly f older n = f ≢ code.Fault.NoRoom → (f ≡ code.Fault.Costly) × IsOver (log_view older.log) n
 
 -- the schemas that the keyword of this name applies are all linked
 abbrev pub AreKnown : Linked → Text → Application → List Planned → Type 0

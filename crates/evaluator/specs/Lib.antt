@@ -1,3 +1,4 @@
+pub mod Tallies
 pub mod Notes
 pub mod Logs
 pub mod Findings

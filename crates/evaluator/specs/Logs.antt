@@ -11,6 +11,7 @@ log_view l = record {
   annotations = unit_texts l.annotations;
   names = map (λ name. name.now) l.names.items;
   indexes = l.indexes.items;
+  tally = record { count = l.count; looped = l.looped; deep = l.deep };
 }
 
 abbrev pub mark_view : LogMark → Lengths

@@ -1,17 +1,21 @@
--- What an evaluation notes: the texts of units of the output, and the names and indexes that were evaluated.
-use Rattle.std.specs.Prelude.{ℕ, List, [], ◌∷◌, ◌++◌, Bool, true, false, ◌&&◌, not, if◌then◌else◌, length, map, flat_map}
+-- What an evaluation notes: the texts of units of the output, the names and indexes that were evaluated, and the tally of
+-- applications.
+use Rattle.std.specs.Prelude.{◌+◌, ◌<◌, ℕ, List, [], ◌∷◌, ◌++◌, Bool, true, false, ◌&&◌, not, if◌then◌else◌, length, map, flat_map}
 use Rattle.definitions.specs.Values.{Text}
 use Rattle.definitions.specs.Keywords.{Meaning, contains, negation}
 use Rattle.definitions.specs.Applied.{Application, Outcome, OutputUnit, Part, whole, named, indexed}
 use Rattle.definitions.specs.Evaluated.{may_annotate}
 use Rattle.definitions.specs.Outcomes.{Use, use_annotations, use_errors}
+use Rattle.definitions.specs.Limits.{limits}
 use Rattle.basic_output.specs.Pieces.{unit_text}
+use Rattle.evaluator.specs.Tallies.{Tally, no_tally, outcome_tally, parts_tally, tally_of_both, uses_tally}
 
 pub record Notes : Type 0 where
   pub errors : List Text
   pub annotations : List Text
   pub names : List Text
   pub indexes : List ℕ
+  pub tally : Tally
 
 -- ---- the texts of units
 abbrev pub error_texts : List OutputUnit → List Text
@@ -22,7 +26,7 @@ annotation_texts us = map (unit_text true) us
 
 -- ---- nothing, and one after the other
 abbrev pub no_notes : Notes
-no_notes = record { errors = []; annotations = []; names = []; indexes = [] }
+no_notes = record { errors = []; annotations = []; names = []; indexes = []; tally = no_tally }
 
 -- these, and then those
 unfoldable pub notes_of_both : Notes → Notes → Notes
@@ -31,15 +35,24 @@ notes_of_both older newer = record {
   annotations = older.annotations ++ newer.annotations;
   names = older.names ++ newer.names;
   indexes = older.indexes ++ newer.indexes;
+  tally = tally_of_both older.tally newer.tally;
 }
 
--- ---- of an application
+-- with those, these would count more applications than there may be
+abbrev pub IsOver : Notes → Notes → Type 0
+IsOver older newer = limits.applications < older.tally.count + newer.tally.count
+
+-- ---- of an application: it counts itself
+abbrev pub one_application : Notes
+one_application = record no_notes { tally = record no_tally { count = 1 } }
+
 abbrev pub outcome_notes : Outcome → Notes
 outcome_notes o = record {
   errors = error_texts o.errors;
   annotations = annotation_texts o.annotations;
   names = o.names;
   indexes = o.indexes;
+  tally = outcome_tally o;
 }
 
 -- ---- of what a keyword applied: its units, and what of the instance it evaluated
@@ -64,6 +77,7 @@ part_notes meaning e = record {
   annotations = annotation_texts e.1.annotations;
   names = names_from e.0 e.1;
   indexes = indexes_from meaning e.0 e.1;
+  tally = outcome_tally e.1;
 }
 
 abbrev pub parts_notes : Meaning → List (Part × Outcome) → Notes
@@ -72,6 +86,7 @@ parts_notes meaning es = record {
   annotations = flat_map (λ e. annotation_texts e.1.annotations) es;
   names = flat_map (λ e. names_from e.0 e.1) es;
   indexes = flat_map (λ e. indexes_from meaning e.0 e.1) es;
+  tally = parts_tally es;
 }
 
 -- `not` evaluates nothing
@@ -97,7 +112,12 @@ uses_notes a us = record {
   annotations = flat_map (kept_annotations a) us;
   names = flat_map (λ u. u.names) us;
   indexes = flat_map (λ u. u.indexes) us;
+  tally = uses_tally us;
 }
+
+-- a schema object with these uses
+abbrev pub object_notes : Application → List Use → Notes
+object_notes a us = notes_of_both one_application (uses_notes a us)
 
 -- ---- how much there is
 pub record Lengths : Type 0 where

@@ -1,10 +1,10 @@
 -- Where an evaluation stands, and what it does there, as the definitions have it.
-use Rattle.std.specs.Prelude.{◌≡◌, ℕ, zero, suc, false, List, [], ◌∷◌, Bool, true, Option, Some, None, count_by, ◌++◌, drop, flat_map, length, map, option_map, Contains}
+use Rattle.std.specs.Prelude.{◌≡◌, ℕ, zero, suc, false, List, [], ◌∷◌, Bool, true, Option, Some, count_by, ◌++◌, drop, flat_map, length, map, option_map, Contains}
 use Rattle.definitions.specs.Values.{Text, Value, get}
 use Rattle.definitions.specs.Keywords.{Meaning}
 use Rattle.definitions.specs.Applied as definition
 use Rattle.definitions.specs.Applied.{Application, Outcome, condition_outcome, contains_outcomes}
-use Rattle.definitions.specs.Outcomes.{Use, boolean_outcome, outcome, use_of, uses_by_keyword, uses_of}
+use Rattle.definitions.specs.Outcomes.{Use, boolean_outcome, leaf, outcome, use_of, uses_by_keyword, uses_of}
 use Rattle.json_doc.specs.Docs.{value}
 use Rattle.linker.specs.LinkedDocuments.{linked_schemas}
 use Rattle.linker.specs.declared.linked.Linked.{Linked}
@@ -20,9 +20,8 @@ use Rattle.evaluation_context.specs.Frames.{Frame, frame_standing}
 use Rattle.evaluation_context.specs.Standings.{application_at, at_keyword, standing_of}
 use Rattle.evaluator.specs.Findings.{Outcomes}
 use Rattle.evaluator.specs.Groups.{first_groups, rows_of}
-use Rattle.evaluator.specs.Notes.{Notes, no_notes, notes_of_both, outcome_notes, uses_notes}
+use Rattle.evaluator.specs.Notes.{Notes, notes_of_both, uses_notes}
 use Rattle.evaluator.specs.declared.beside.Beside.{Beside}
-use Rattle.evaluator.specs.declared.found.Found.{Found}
 use Rattle.keywords.specs.declared.group.Group.{Group}
 use Rattle.evaluator.specs.declared.log.Before.{Before}
 
@@ -111,13 +110,10 @@ abbrev pub evaluated_in : Notes → Before
 evaluated_in n = record { names = length n.names; indexes = length n.indexes }
 
 -- ---- boolean schemas, and what a keyword chose
-abbrev pub boolean_found : ℕ → Bool → Found
-boolean_found zero b = record { valid = false; count = 1; looped = false; deep = true; passing = None }
-boolean_found (suc n) b = record { valid = b; count = 1; looped = false; deep = false; passing = None }
-
-abbrev pub boolean_notes : ℕ → Application → Bool → Notes
-boolean_notes zero a b = no_notes
-boolean_notes (suc n) a b = outcome_notes (boolean_outcome a b)
+-- where so many applications may nest
+abbrev pub boolean_at : ℕ → Application → Bool → Outcome
+boolean_at zero a b = leaf false true
+boolean_at (suc n) a b = boolean_outcome a b
 
 abbrev pub chosen_value : Chosen → Value
 chosen_value (Below step schema) = value schema.now

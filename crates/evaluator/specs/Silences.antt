@@ -1,15 +1,14 @@
--- What passes without a word: it has no errors and no annotations, and evaluates nothing.
-use Rattle.std.specs.Prelude.{◌≡◌, ℕ, List, true, false, None}
+-- What passes without a word: it has no errors and no annotations, and evaluates and applies nothing.
+use Rattle.std.specs.Prelude.{◌≡◌, List, true}
 use Rattle.std.specs.List.{list_all}
 use Rattle.definitions.specs.Applied.{Application, Outcome}
 use Rattle.definitions.specs.Outcomes.{Use}
-use Rattle.evaluator.specs.Findings.{Finds}
-use Rattle.evaluator.specs.Notes.{no_notes, outcome_notes, uses_notes}
+use Rattle.evaluator.specs.Notes.{no_notes, one_application, outcome_notes, uses_notes}
 
 -- the outcome of a schema that applies nothing
-pub record IsSilent (budget : ℕ) (o : Outcome) : Type 0 where
-  pub found : Finds (record { valid = true; count = 1; looped = false; deep = false; passing = None }) budget o
-  pub noted : outcome_notes o ≡ no_notes
+pub record IsSilent (o : Outcome) : Type 0 where
+  pub passes : o.valid ≡ true
+  pub noted : outcome_notes o ≡ one_application
 
 -- the uses of its keywords
 pub record AreSilent (a : Application) (us : List Use) : Type 0 where

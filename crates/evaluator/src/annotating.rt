@@ -9,6 +9,7 @@ ghost use Rattle.definitions.specs.Values.{same_text};
 ghost use Rattle.definitions.specs.Outcomes.{other_annotations, unit};
 ghost use Rattle.json_doc.specs.Docs.{value, members_value};
 ghost use Rattle.json_doc.specs.Members.{members_left};
+ghost use Rattle.json_doc.specs.NamedMembers.{name_text};
 ghost use Rattle.evaluation_context.specs.Frames.{context_view, frame_standing};
 ghost use Rattle.evaluation_context.specs.Standings.{standing_of};
 ghost use Rattle.evaluator.specs.Annotations.{annotations_among};
@@ -22,9 +23,8 @@ use crate::log::Log;
 use crate::present::Present;
 use basic_output::Says;
 use evaluation_context::Context;
-use json_doc::{Doc, Members, MembersIter};
+use json_doc::{Doc, Members, MembersIter, Name};
 use keyword_plans::Subject;
-use keywords::Keyword;
 use std::alloc::AllocError;
 
 /// The annotations of the names of a schema object that annotate with their own value, in byte order. The only error is
@@ -96,9 +96,9 @@ fn note_among<'a>(
               (annotations_among a (members_left members.entry));
         })) }
 {
-    for (name, member) in members {
+    for (name, member) in members.named() {
         if annotates(name, schema, subject) {
-            note_member(context, log, name, member)?;
+            note_member(context, log, name.as_str(), member)?;
         }
     }
     Ok(())
@@ -128,10 +128,11 @@ fn note_member<'a>(
 
 // Whether a name of the schema object annotates with its value: those of the contents of strings (JSON Schema 2020-12
 // Validation, 8), and all that are no keywords and don't begin with `$` (Core, 6.5).
-fn annotates(name: &str, schema: &Doc, subject: Subject<'_>) -> bool
-    ensures { result ≡ is_annotation (value schema.now) (subject_value subject.entry) name.now }
+fn annotates(name: Name<'_>, schema: &Doc, subject: Subject<'_>) -> bool
+    ensures { result
+        ≡ is_annotation (value schema.now) (subject_value subject.entry) (name_text name.entry) }
 {
-    if may_be_of_contents(name) {
+    if may_be_of_contents(name.as_str()) {
         annotates_by_name(name, schema, subject)
     } else {
         is_unknown(name)
@@ -139,10 +140,11 @@ fn annotates(name: &str, schema: &Doc, subject: Subject<'_>) -> bool
 }
 
 // The same, by comparing the name.
-fn annotates_by_name(name: &str, schema: &Doc, subject: Subject<'_>) -> bool
-    ensures { result ≡ is_annotation (value schema.now) (subject_value subject.entry) name.now }
+fn annotates_by_name(name: Name<'_>, schema: &Doc, subject: Subject<'_>) -> bool
+    ensures { result
+        ≡ is_annotation (value schema.now) (subject_value subject.entry) (name_text name.entry) }
 {
-    match name {
+    match name.as_str() {
         "contentSchema" => subject.as_str().is_some() && schema.get("contentMediaType").is_some(),
         "contentEncoding" => subject.as_str().is_some(),
         "contentMediaType" => subject.as_str().is_some(),
@@ -160,15 +162,15 @@ fn may_be_of_contents(name: &str) -> bool
 }
 
 // Whether the name is no keyword's and doesn't begin with `$`.
-fn is_unknown(name: &str) -> bool
-    ensures { result
-        ≡ not (is_keyword_of keywords name.now || begins name.now (codes "$")) }
+fn is_unknown(name: Name<'_>) -> bool
+    ensures { result ≡ not (is_keyword_of keywords (name_text name.entry)
+        || begins (name_text name.entry) (codes "$")) }
 {
-    !(is_keyword(name) || name.as_bytes().starts_with(b"$"))
+    !(is_keyword(name) || name.as_str().as_bytes().starts_with(b"$"))
 }
 
-fn is_keyword(name: &str) -> bool
-    ensures { result ≡ is_keyword_of keywords name.now }
+fn is_keyword(name: Name<'_>) -> bool
+    ensures { result ≡ is_keyword_of keywords (name_text name.entry) }
 {
-    Keyword::named(name).is_some()
+    name.keyword().is_some()
 }

@@ -6,12 +6,10 @@ ghost use Rattle.json_doc.specs.Docs.{value};
 ghost use Rattle.keyword_plans.specs.EnumeratedIn.{enumerated_in};
 ghost use Rattle.keyword_plans.specs.ScopeViews.{scope_documents};
 
-use crate::found::Found;
 use crate::here::Here;
 use crate::log::Log;
 use crate::memory::EvaluationMemory;
 use crate::present::Present;
-use crate::room::Room;
 use crate::settling_object::settle_object;
 use basic_output::Says;
 use evaluation_context::Context;
@@ -29,6 +27,8 @@ pub(crate) struct Evaluation<'a> {
     pub(crate) enumerations: Enumerations<'a>,
     pub(crate) context: Context<'a>,
     pub(crate) log: Log<'a>,
+    /// Of the last keyword that may apply schemas, how many passed of those that it applied, where it is there.
+    pub(crate) passing: Option<u64>,
     /// Whether what was applied last passed.
     pub(crate) last_passed: bool,
     ghost enumerated: { enumerated_in enumerations ≡ linked },
@@ -39,14 +39,14 @@ impl<'a> Evaluation<'a> {
     ghost use Rattle.std.specs.Prelude.{◌<◌, None, IfOk, IfErr, OnOk};
     ghost use Rattle.definitions.specs.Values.{Value};
     ghost use Rattle.definitions.specs.Applied.{Application};
+    ghost use Rattle.definitions.specs.Limits.{limits};
     ghost use Rattle.definitions.specs.Outcomes.{is_running, boolean_outcome};
     ghost use Rattle.json_doc.specs.Kinds.{as_boolean};
     ghost use Rattle.evaluation_context.specs.Frames.{context_view, frame_standing};
     ghost use Rattle.evaluation_context.specs.Standings.{application_at};
     ghost use Rattle.evaluator.specs.Applying.{Adds, Applies, IsCostly, object_said};
-    ghost use Rattle.evaluator.specs.Findings.{Finds, IsWithin};
     ghost use Rattle.evaluator.specs.Notes.{outcome_notes};
-    ghost use Rattle.evaluator.specs.Rounds.{boolean_found, boolean_notes, linked_outcome};
+    ghost use Rattle.evaluator.specs.Rounds.{boolean_at, linked_outcome};
 
     /// The memory that it worked in, for the next evaluation.
     pub(crate) fn into_memory(self) -> EvaluationMemory {
@@ -57,54 +57,56 @@ impl<'a> Evaluation<'a> {
         }
     }
 
-    /// Applies a schema to what stands here. Where there is no room for one more application in all, it is Costly.
+    /// Applies a schema to what stands here. Where there were as many applications as there may be, it is Costly.
     #[cycle(apply)]
     pub(crate) fn apply(
         &mut self,
         present: &Present<'a>,
         subject: Subject<'a>,
-        room: Room,
-    ) -> Result<Found, Fault>
+        nesting: u32,
+    ) -> Result<bool, Fault>
         ensures linked { self.new.linked ≡ self.old.linked }
         ensures back { OnOk result (context_view self.new.context ≡ context_view self.old.context) }
-        ensures within { IfOk result (λ f. IsWithin f room.applications) }
-        ensures found { (a : Application) → Applies self.old present.now.schema.now subject.entry a
-            → IfOk result (λ f. Finds f room.applications
-            (linked_outcome self.old.linked.now room.nesting a)) }
+        ensures valid { (a : Application) → Applies self.old present.now.schema.now subject.entry a
+            → IfOk result (λ b. b ≡ (linked_outcome self.old.linked.now nesting a).valid) }
         ensures noted { (a : Application) → Applies self.old present.now.schema.now subject.entry a
             → OnOk result (Adds self.old self.new (outcome_notes
-            (linked_outcome self.old.linked.now room.nesting a))) }
+            (linked_outcome self.old.linked.now nesting a))) }
         ensures err { (a : Application) → Applies self.old present.now.schema.now subject.entry a
-            → IfErr result (λ f. IsCostly f room.applications
-            (linked_outcome self.old.linked.now room.nesting a).count) }
+            → IfErr result (λ f. IsCostly f self.old (outcome_notes
+            (linked_outcome self.old.linked.now nesting a))) }
     {
-        if room.applications == 0 {
+        if self.log.is_full() {
             return Err(Fault::Costly);
         }
         match present.schema.as_bool() {
-            Some(allowed) => self.apply_boolean(allowed, room.nesting),
-            None => self.apply_other(present, subject, room),
+            Some(allowed) => self.apply_boolean(allowed, nesting),
+            None => self.apply_other(present, subject, nesting),
         }
     }
 
     /// A boolean schema: `false` has a unit of its own (Core, 4.3.2).
-    fn apply_boolean(&mut self, allowed: bool, left: u32) -> Result<Found, Fault>
+    fn apply_boolean(&mut self, allowed: bool, nesting: u32) -> Result<bool, Fault>
+        requires room { self.old.log.count < limits.applications }
         ensures linked { self.new.linked ≡ self.old.linked }
         ensures back { OnOk result (context_view self.new.context ≡ context_view self.old.context) }
-        ensures found { IfOk result (λ f. f ≡ boolean_found left allowed) }
+        ensures valid { (a : Application)
+            → IfOk result (λ b. b ≡ (boolean_at nesting a allowed).valid) }
         ensures noted { (a : Application) (s x : Value)
             → a ≡ application_at (frame_standing (context_view self.old.context)) s x
-            → OnOk result (Adds self.old self.new (boolean_notes left a allowed)) }
+            → OnOk result (Adds self.old self.new (outcome_notes (boolean_at nesting a allowed))) }
         ensures err { IfErr result (λ f. f ≡ Fault.NoRoom) }
     {
-        if left == 0 {
-            return Ok(Found::leaf(false, true));
+        if nesting == 0 {
+            self.log.count_unapplied(false, true);
+            return Ok(false);
         }
         self.note_boolean(allowed)?;
-        Ok(Found::boolean(allowed))
+        Ok(allowed)
     }
 
     fn note_boolean(&mut self, allowed: bool) -> Result<(), Fault>
+        requires room { self.old.log.count < limits.applications }
         ensures linked { self.new.linked ≡ self.old.linked }
         ensures back { context_view self.new.context ≡ context_view self.old.context }
         ensures noted { (a : Application) (s x : Value)
@@ -112,6 +114,7 @@ impl<'a> Evaluation<'a> {
             → OnOk result (Adds self.old self.new (outcome_notes (boolean_outcome a allowed))) }
         ensures err { IfErr result (λ f. f ≡ Fault.NoRoom) }
     {
+        self.log.count_one();
         if allowed {
             return Ok(());
         }
@@ -127,37 +130,30 @@ impl<'a> Evaluation<'a> {
         &mut self,
         present: &Present<'a>,
         subject: Subject<'a>,
-        room: Room,
-    ) -> Result<Found, Fault>
-        requires some { 0 < room.applications }
+        nesting: u32,
+    ) -> Result<bool, Fault>
+        requires room { self.old.log.count < limits.applications }
         requires other { as_boolean (value present.now.schema.now) ≡ None }
         ensures linked { self.new.linked ≡ self.old.linked }
         ensures back { OnOk result (context_view self.new.context ≡ context_view self.old.context) }
-        ensures within { IfOk result (λ f. IsWithin f room.applications) }
-        ensures found { (a : Application) → Applies self.old present.now.schema.now subject.entry a
-            → IfOk result (λ f. Finds f room.applications
-            (linked_outcome self.old.linked.now room.nesting a)) }
+        ensures valid { (a : Application) → Applies self.old present.now.schema.now subject.entry a
+            → IfOk result (λ b. b ≡ (linked_outcome self.old.linked.now nesting a).valid) }
         ensures noted { (a : Application) → Applies self.old present.now.schema.now subject.entry a
             → OnOk result (Adds self.old self.new (outcome_notes
-            (linked_outcome self.old.linked.now room.nesting a))) }
+            (linked_outcome self.old.linked.now nesting a))) }
         ensures err { (a : Application) → Applies self.old present.now.schema.now subject.entry a
-            → IfErr result (λ f. IsCostly f room.applications
-            (linked_outcome self.old.linked.now room.nesting a).count) }
+            → IfErr result (λ f. IsCostly f self.old (outcome_notes
+            (linked_outcome self.old.linked.now nesting a))) }
     {
         if self.is_looping(present.schema) {
-            return Ok(Found::leaf(true, false));
+            self.log.count_unapplied(true, false);
+            return Ok(false);
         }
-        if room.nesting == 0 {
-            return Ok(Found::leaf(false, true));
+        if nesting == 0 {
+            self.log.count_unapplied(false, true);
+            return Ok(false);
         }
-        self.apply_object(
-            present,
-            subject,
-            Room {
-                nesting: room.nesting - 1,
-                applications: room.applications,
-            },
-        )
+        self.apply_object(present, subject, nesting - 1)
     }
 
     /// Whether this schema is being applied here already.
@@ -175,25 +171,24 @@ impl<'a> Evaluation<'a> {
         &mut self,
         present: &Present<'a>,
         subject: Subject<'a>,
-        room: Room,
-    ) -> Result<Found, Fault>
-        requires some { 0 < room.applications }
+        nesting: u32,
+    ) -> Result<bool, Fault>
+        requires room { self.old.log.count < limits.applications }
         ensures linked { self.new.linked ≡ self.old.linked }
         ensures back { OnOk result (context_view self.new.context ≡ context_view self.old.context) }
-        ensures within { IfOk result (λ f. IsWithin f room.applications) }
-        ensures found { (a : Application) → Applies self.old present.now.schema.now subject.entry a
-            → IfOk result (λ f. Finds f room.applications
-            (object_said self.old.linked.now room.nesting a)) }
+        ensures valid { (a : Application) → Applies self.old present.now.schema.now subject.entry a
+            → IfOk result (λ b. b ≡ (object_said self.old.linked.now nesting a).valid) }
         ensures noted { (a : Application) → Applies self.old present.now.schema.now subject.entry a
             → OnOk result (Adds self.old self.new (outcome_notes
-            (object_said self.old.linked.now room.nesting a))) }
+            (object_said self.old.linked.now nesting a))) }
         ensures err { (a : Application) → Applies self.old present.now.schema.now subject.entry a
-            → IfErr result (λ f. IsCostly f room.applications
-            (object_said self.old.linked.now room.nesting a).count) }
+            → IfErr result (λ f. IsCostly f self.old (outcome_notes
+            (object_said self.old.linked.now nesting a))) }
     {
         if present.applies_nothing() {
             return self.apply_leaf(present, subject);
         }
+        self.log.count_one();
         let mark = self.log.mark();
         self.context.enter_object()?;
         let here = Here {
@@ -201,8 +196,8 @@ impl<'a> Evaluation<'a> {
             subject,
             before: mark.before(),
         };
-        match self.use_keywords(here, room) {
-            Ok(found) => {
+        match self.use_keywords(here, nesting) {
+            Ok(valid) => {
                 self.context.leave_object();
                 settle_object(
                     &mut self.context,
@@ -210,9 +205,9 @@ impl<'a> Evaluation<'a> {
                     &mark,
                     present,
                     subject,
-                    found.valid,
+                    valid,
                 )?;
-                Ok(found)
+                Ok(valid)
             }
             Err(fault) => Err(fault),
         }

@@ -4,7 +4,6 @@ ghost use Rattle.std.specs.Prelude.{◌≡◌};
 ghost use Rattle.json_doc.specs.Docs.{value};
 
 use crate::applying::Evaluation;
-use crate::found::Found;
 use crate::here::Here;
 use assertions::Assertion;
 use basic_output::Says;
@@ -14,7 +13,8 @@ use keyword_plans::holds_of;
 use keywords::Keyword;
 
 impl<'a> Evaluation<'a> {
-    ghost use Rattle.std.specs.Prelude.{[], ◌∷◌, ◌++◌, ℕ, Some, None, false, IfOk, IfErr, OnOk, codes};
+    ghost use Rattle.std.specs.Prelude.{[], ◌∷◌, ◌++◌, ℕ, Some, false, IfOk, IfErr, OnOk, codes};
+    ghost use Rattle.std.specs.List.{list_all};
     ghost use Rattle.assertions.specs.AssertionView.{assertion_in, assertion_view};
     ghost use Rattle.definitions.specs.Assertions.{enum_of, holds};
     ghost use Rattle.definitions.specs.Values.{get, string};
@@ -25,7 +25,6 @@ impl<'a> Evaluation<'a> {
     ghost use Rattle.evaluation_context.specs.Frames.{context_view, frame_standing};
     ghost use Rattle.evaluation_context.specs.Standings.{standing_of};
     ghost use Rattle.evaluator.specs.Applying.{Adds, IsHere};
-    ghost use Rattle.evaluator.specs.Findings.{FindsUses};
     ghost use Rattle.evaluator.specs.Notes.{error_texts, no_notes, uses_notes};
     ghost use Rattle.evaluator.specs.Rounds.{group_uses};
 
@@ -36,14 +35,13 @@ impl<'a> Evaluation<'a> {
         keyword: Keyword,
         assertion: Assertion,
         here: Here<'_, 'a>,
-    ) -> Result<Found, Fault>
+    ) -> Result<bool, Fault>
         requires asserts { Some (assertion_view assertion)
             ≡ assertion_in (row_of keyword).meaning }
         ensures linked { self.new.linked ≡ self.old.linked }
         ensures back { OnOk result (context_view self.new.context ≡ context_view self.old.context) }
-        ensures count { IfOk result (λ f. f.count ≡ 0) }
-        ensures found { (a : Application) (left budget : ℕ) → IsHere self.old here.entry a
-            → IfOk result (λ f. FindsUses f budget
+        ensures valid { (a : Application) (left : ℕ) → IsHere self.old here.entry a
+            → IfOk result (λ b. b ≡ list_all (λ u. u.passes)
             (group_uses self.old.linked.now left a (One keyword))) }
         ensures noted { (a : Application) (left : ℕ) → IsHere self.old here.entry a
             → OnOk result (Adds self.old self.new
@@ -53,13 +51,9 @@ impl<'a> Evaluation<'a> {
         match here.present.value(keyword) {
             Some(keyword_value) => {
                 let met = self.is_met(keyword, assertion, keyword_value, here)?;
-                if met {
-                    Ok(Found::nothing())
-                } else {
-                    self.refuse(keyword)
-                }
+                if met { Ok(true) } else { self.refuse(keyword) }
             }
-            None => Ok(Found::nothing()),
+            None => Ok(true),
         }
     }
 
@@ -115,11 +109,10 @@ impl<'a> Evaluation<'a> {
 
     // The keyword isn't met. The only error is want of memory.
     #[inline(never)]
-    fn refuse(&mut self, keyword: Keyword) -> Result<Found, Fault>
+    fn refuse(&mut self, keyword: Keyword) -> Result<bool, Fault>
         ensures linked { self.new.linked ≡ self.old.linked }
         ensures back { OnOk result (context_view self.new.context ≡ context_view self.old.context) }
-        ensures found { IfOk result (λ f. f
-            ≡ record { valid = false; count = 0; looped = false; deep = false; passing = None }) }
+        ensures refused { IfOk result (λ b. b ≡ false) }
         ensures noted { (a : Application)
             → frame_standing (context_view self.old.context) ≡ standing_of a
             → OnOk result (Adds self.old self.new (record no_notes {
@@ -134,6 +127,6 @@ impl<'a> Evaluation<'a> {
         self.log
             .push_error(self.context.location(), Says::NotMet(keyword))?;
         self.context.leave_keyword();
-        Ok(Found::unmet())
+        Ok(false)
     }
 }

@@ -1,6 +1,6 @@
 //! What the keywords beside a keyword said.
 
-ghost use Rattle.std.specs.Prelude.{◌≡◌, None};
+ghost use Rattle.std.specs.Prelude.{◌≡◌, None, nat_lt, option_map};
 
 /// What the keywords beside said that a keyword may ask for.
 #[derive(Clone, Copy, Debug, PartialEq, Eq)]
@@ -19,6 +19,33 @@ impl Beside {
         Beside {
             condition: None,
             containing: None,
+        }
+    }
+
+    /// `if` said whether its schema passed: so many of the schemas passed that it applied, where it is there.
+    pub(crate) fn after_if(passing: Option<u64>) -> Beside
+        ensures { result ≡ record {
+          condition = option_map (λ n. nat_lt 0 n) passing;
+          containing = None;
+        } }
+    {
+        let condition = match passing {
+            Some(passing) => Some(passing > 0),
+            None => None,
+        };
+        Beside {
+            condition,
+            containing: None,
+        }
+    }
+
+    /// `contains` found so many elements, where it is there.
+    pub(crate) fn after_contains(passing: Option<u64>) -> Beside
+        ensures { result ≡ record { condition = None; containing = passing } }
+    {
+        Beside {
+            condition: None,
+            containing: passing,
         }
     }
 }

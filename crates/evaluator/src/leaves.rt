@@ -4,7 +4,6 @@ ghost use Rattle.std.specs.Prelude.{◌≡◌};
 ghost use Rattle.json_doc.specs.Docs.{value};
 
 use crate::applying::Evaluation;
-use crate::found::Found;
 use crate::groups::first_groups;
 use crate::here::Here;
 use crate::present::Present;
@@ -18,9 +17,9 @@ impl<'a> Evaluation<'a> {
     ghost use Rattle.std.specs.Prelude.{◌<◌, [], ℕ, false, IfOk, IfErr, OnOk};
     ghost use Rattle.std.specs.List.{list_all};
     ghost use Rattle.definitions.specs.Applied.{Application};
+    ghost use Rattle.definitions.specs.Limits.{limits};
     ghost use Rattle.evaluation_context.specs.Frames.{context_view};
     ghost use Rattle.evaluator.specs.Applying.{Adds, Applies, IsHere, object_said};
-    ghost use Rattle.evaluator.specs.Findings.{Finds};
     ghost use Rattle.evaluator.specs.Groups.{asserts_alone, first_groups};
     ghost use Rattle.evaluator.specs.Leaves.{IsLeaf};
     ghost use Rattle.evaluator.specs.Notes.{outcome_notes, uses_notes};
@@ -32,20 +31,21 @@ impl<'a> Evaluation<'a> {
         &mut self,
         present: &Present<'a>,
         subject: Subject<'a>,
-    ) -> Result<Found, Fault>
+    ) -> Result<bool, Fault>
         requires leaf { IsLeaf (value present.now.schema.now) }
+        requires room { self.old.log.count < limits.applications }
         ensures linked { self.new.linked ≡ self.old.linked }
         ensures back { OnOk result (context_view self.new.context ≡ context_view self.old.context) }
-        ensures count { IfOk result (λ f. f.count ≡ 1) }
-        ensures found { (a : Application) (left budget : ℕ)
-            → Applies self.old present.now.schema.now subject.entry a → 0 < budget
-            → IfOk result (λ f. Finds f budget (object_said self.old.linked.now left a)) }
+        ensures valid { (a : Application) (left : ℕ)
+            → Applies self.old present.now.schema.now subject.entry a
+            → IfOk result (λ b. b ≡ (object_said self.old.linked.now left a).valid) }
         ensures noted { (a : Application) (left : ℕ)
             → Applies self.old present.now.schema.now subject.entry a
             → OnOk result (Adds self.old self.new (outcome_notes
             (object_said self.old.linked.now left a))) }
         ensures err { IfErr result (λ f. f ≡ Fault.NoRoom) }
     {
+        self.log.count_one();
         let mark = self.log.mark();
         let valid = self.use_assertions(Here {
             present,
@@ -60,7 +60,7 @@ impl<'a> Evaluation<'a> {
             subject,
             valid,
         )?;
-        Ok(Found::boolean(valid))
+        Ok(valid)
     }
 
     // The groups that the object may have, in order: whether all pass. The only error is want of memory.
@@ -103,10 +103,7 @@ impl<'a> Evaluation<'a> {
     {
         match group {
             Group::One(keyword) => match Assertion::of(keyword) {
-                Some(assertion) => {
-                    let found = self.use_assertion(keyword, assertion, here)?;
-                    Ok(found.valid)
-                }
+                Some(assertion) => self.use_assertion(keyword, assertion, here),
                 None => Ok(true),
             },
             Group::Conditional => Ok(true),

@@ -3,14 +3,13 @@
 #![tactic(auto)]
 
 mod annotating;
+mod applied;
 mod applying;
 mod asserting;
 mod beside;
 mod dollar_names;
-mod found;
 mod groups;
 mod here;
-mod kept_values;
 mod leaves;
 mod log;
 mod memory;
@@ -18,7 +17,6 @@ mod object_keywords;
 mod one_keyword;
 mod present;
 mod report;
-mod room;
 mod settling;
 mod settling_object;
 mod silent;

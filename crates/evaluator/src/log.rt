@@ -1,7 +1,8 @@
 //! The units of an evaluation so far, and what it evaluated of the instance.
 
-ghost use Rattle.std.specs.Prelude.{◌≡◌, ◌&&◌, [], not};
+ghost use Rattle.std.specs.Prelude.{◌≡◌, ◌≤◌, ◌&&◌, [], not};
 ghost use Rattle.basic_output.specs.Units.{unit_texts};
+ghost use Rattle.definitions.specs.Limits.{limits};
 ghost use Rattle.keywords.specs.Rows.{row_of};
 ghost use Rattle.evaluator.specs.Notes.{needs_to_pass};
 
@@ -10,10 +11,14 @@ use keyword_plans::Part;
 use keywords::Keyword;
 use std::alloc::{AllocError, Global};
 
-/// The errors, should what is being applied fail; the annotations, should it pass; and the names and the indexes of the
-/// instance that were evaluated.
+/// How many applications of schemas there may be in all.
+pub(crate) const MOST_APPLICATIONS: u64 = 100_000;
+
+/// The errors, should what is being applied fail; the annotations, should it pass; the names and the indexes of the
+/// instance that were evaluated; and how many applications of schemas there were, and whether one of them looped or nested
+/// too deep.
 ///
-/// Contracts see all four by `log_view`, the units as their texts.
+/// Contracts see all of it by `log_view`, the units as their texts.
 #[derive(Drop)]
 pub(crate) struct Log<'a> {
     pub(crate) alloc: Global,
@@ -21,6 +26,10 @@ pub(crate) struct Log<'a> {
     pub(crate) annotations: Units,
     pub(crate) names: Vec<&'a str>,
     pub(crate) indexes: Vec<usize>,
+    pub(crate) count: u64,
+    pub(crate) looped: bool,
+    pub(crate) deep: bool,
+    ghost within: { count ≤ limits.applications },
 }
 
 /// The memory of the texts of a log's units, to be kept for the next log.
@@ -71,12 +80,13 @@ impl LogMark {
 }
 
 impl<'a> Log<'a> {
-    ghost use Rattle.std.specs.Prelude.{◌∷◌, ◌++◌, true, false, OnOk};
+    ghost use Rattle.std.specs.Prelude.{◌<◌, ◌∷◌, ◌++◌, true, false, OnOk};
     ghost use Rattle.basic_output.specs.Pieces.{unit_text};
     ghost use Rattle.basic_output.specs.Sayings.{unit_at};
     ghost use Rattle.definitions.specs.Applied.{Outcome};
+    ghost use Rattle.definitions.specs.Outcomes.{leaf};
     ghost use Rattle.keyword_plans.specs.Plans.{part_view};
-    ghost use Rattle.evaluator.specs.Notes.{Notes, lengths, no_notes, notes_of_both, outcome_notes, part_notes};
+    ghost use Rattle.evaluator.specs.Notes.{Notes, lengths, no_notes, notes_of_both, one_application, outcome_notes, part_notes};
     ghost use Rattle.evaluator.specs.Logs.{log_view, mark_view};
 
     /// Nothing yet. This takes no memory; what is noted takes it from `alloc`, and texts of units where they find too little in
@@ -94,6 +104,9 @@ impl<'a> Log<'a> {
             annotations,
             names: Vec::new(alloc),
             indexes: Vec::new(alloc),
+            count: 0,
+            looped: false,
+            deep: false,
         }
     }
 
@@ -123,6 +136,34 @@ impl<'a> Log<'a> {
             names: self.names.len(),
             indexes: self.indexes.len(),
         }
+    }
+
+    /// Whether there were as many applications as there may be.
+    pub(crate) fn is_full(&self) -> bool
+        ensures full { result ≡ true → limits.applications ≤ self.now.count }
+        ensures room { result ≡ false → self.now.count < limits.applications }
+    {
+        self.count >= MOST_APPLICATIONS
+    }
+
+    /// One more application.
+    pub(crate) fn count_one(&mut self)
+        requires room { self.old.count < limits.applications }
+        ensures { log_view self.new ≡ notes_of_both (log_view self.old) one_application }
+    {
+        self.count += 1;
+    }
+
+    /// One more schema that was not applied, since it is being applied at this instance location, or else since the
+    /// applications nest too deep.
+    pub(crate) fn count_unapplied(&mut self, looped: bool, deep: bool)
+        requires room { self.old.count < limits.applications }
+        ensures { log_view self.new
+            ≡ notes_of_both (log_view self.old) (outcome_notes (leaf looped deep)) }
+    {
+        self.count_one();
+        self.looped |= looped;
+        self.deep |= deep;
     }
 
     /// Puts an error last. The only error is want of memory.

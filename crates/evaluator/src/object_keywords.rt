@@ -5,61 +5,55 @@ ghost use Rattle.json_doc.specs.Docs.{value};
 
 use crate::applying::Evaluation;
 use crate::beside::Beside;
-use crate::found::Found;
 use crate::groups::first_groups;
 use crate::here::Here;
-use crate::room::Room;
 use assertions::Assertion;
 use faults::Fault;
 use keywords::{Group, Keyword};
 
 impl<'a> Evaluation<'a> {
-    ghost use Rattle.std.specs.Prelude.{◌<◌, ◌≤◌, suc, true, IfOk, IfErr, OnOk};
+    ghost use Rattle.std.specs.Prelude.{true, IfOk, IfErr, OnOk};
+    ghost use Rattle.std.specs.List.{list_all};
     ghost use Rattle.definitions.specs.Applied.{Application};
     ghost use Rattle.keywords.specs.Rows.{row_of};
     ghost use Rattle.evaluation_context.specs.Frames.{context_view};
     ghost use Rattle.evaluator.specs.Applying.{Adds, IsCostly, IsHere};
-    ghost use Rattle.evaluator.specs.Findings.{FindsObject, FindsUse, FindsUses, IsWithin, use_count};
+    ghost use Rattle.evaluator.specs.Findings.{passing_first};
     ghost use Rattle.evaluator.specs.Groups.{first_groups, stands_alone};
     ghost use Rattle.keywords.specs.declared.group.Group.TheVariants.{One, Conditional, Counted};
     ghost use Rattle.evaluator.specs.Logs.{log_view};
     ghost use Rattle.evaluator.specs.Notes.{uses_notes};
     ghost use Rattle.evaluator.specs.Rounds.{Knows, evaluated_in, group_uses, groups_uses, object_uses, two_uses, uses_since};
 
-    /// All keywords of a schema object, and last those that look at what the others evaluated; the object counts itself.
+    /// All keywords of a schema object, and last those that look at what the others evaluated: whether all pass.
     #[cycle(apply)]
-    pub(crate) fn use_keywords(&mut self, here: Here<'_, 'a>, room: Room) -> Result<Found, Fault>
-        requires some { 0 < room.applications }
+    pub(crate) fn use_keywords(&mut self, here: Here<'_, 'a>, nesting: u32) -> Result<bool, Fault>
         requires before { here.before ≡ evaluated_in (log_view self.old.log) }
         ensures linked { self.new.linked ≡ self.old.linked }
         ensures back { OnOk result (context_view self.new.context ≡ context_view self.old.context) }
-        ensures within { IfOk result (λ f. IsWithin f room.applications) }
-        ensures found { (a : Application) → IsHere self.old here.entry a
-            → IfOk result (λ f. FindsObject f room.applications
-            (object_uses self.old.linked.now room.nesting a)) }
+        ensures valid { (a : Application) → IsHere self.old here.entry a
+            → IfOk result (λ b. b ≡ list_all (λ u. u.passes)
+            (object_uses self.old.linked.now nesting a)) }
         ensures noted { (a : Application) → IsHere self.old here.entry a
             → OnOk result (Adds self.old self.new
-            (uses_notes a (object_uses self.old.linked.now room.nesting a))) }
+            (uses_notes a (object_uses self.old.linked.now nesting a))) }
         ensures err { (a : Application) → IsHere self.old here.entry a
-            → IfErr result (λ f. IsCostly f room.applications (suc
-            (use_count (object_uses self.old.linked.now room.nesting a)))) }
+            → IfErr result (λ f. IsCostly f self.old
+            (uses_notes a (object_uses self.old.linked.now nesting a))) }
     {
-        match self.use_groups(here, room) {
-            Ok(found) => {
+        match self.use_groups(here, nesting) {
+            Ok(valid) => {
                 if !here.present.looks_at_evaluated() {
-                    return Ok(found);
+                    return Ok(valid);
                 }
                 match self.use_two(
                     Keyword::UnevaluatedItems,
                     Keyword::UnevaluatedProperties,
                     here,
                     Beside::nothing(),
-                    Room {
-                        nesting: room.nesting,
-                        applications: room.applications - found.count,
-                    },
+                    nesting,
                 ) {
-                    Ok(last) => Ok(found.and(last)),
+                    Ok(last) => Ok(valid & last),
                     Err(fault) => Err(fault),
                 }
             }
@@ -67,122 +61,98 @@ impl<'a> Evaluation<'a> {
         }
     }
 
-    /// The groups of keywords that the schema may have, in order; the object counts itself.
+    /// The groups of keywords that the schema may have, in order: whether all pass.
     #[cycle(apply)]
-    fn use_groups(&mut self, here: Here<'_, 'a>, room: Room) -> Result<Found, Fault>
-        requires some { 0 < room.applications }
+    fn use_groups(&mut self, here: Here<'_, 'a>, nesting: u32) -> Result<bool, Fault>
         ensures linked { self.new.linked ≡ self.old.linked }
         ensures back { OnOk result (context_view self.new.context ≡ context_view self.old.context) }
-        ensures within { IfOk result (λ f. IsWithin f room.applications) }
-        ensures found { (a : Application) → IsHere self.old here.entry a
-            → IfOk result (λ f. FindsObject f room.applications
-            (groups_uses self.old.linked.now room.nesting a first_groups)) }
+        ensures valid { (a : Application) → IsHere self.old here.entry a
+            → IfOk result (λ b. b ≡ list_all (λ u. u.passes)
+            (groups_uses self.old.linked.now nesting a first_groups)) }
         ensures noted { (a : Application) → IsHere self.old here.entry a
             → OnOk result (Adds self.old self.new
-            (uses_notes a (groups_uses self.old.linked.now room.nesting a first_groups))) }
+            (uses_notes a (groups_uses self.old.linked.now nesting a first_groups))) }
         ensures err { (a : Application) → IsHere self.old here.entry a
-            → IfErr result (λ f. IsCostly f room.applications (suc
-            (use_count (groups_uses self.old.linked.now room.nesting a first_groups)))) }
+            → IfErr result (λ f. IsCostly f self.old
+            (uses_notes a (groups_uses self.old.linked.now nesting a first_groups))) }
     {
         let groups = first_groups();
-        let mut found = Found::boolean(true);
+        let mut valid = true;
         let mut next = here.present.first_mark(0);
         while next < groups.len() {
-            match self.use_group(
-                groups[next],
-                here,
-                Room {
-                    nesting: room.nesting,
-                    applications: room.applications - found.count,
-                },
-            ) {
-                Ok(used) => found = found.and(used),
+            match self.use_group(groups[next], here, nesting) {
+                Ok(passes) => valid &= passes,
                 Err(fault) => return Err(fault),
             }
             next = here.present.first_mark(next + 1);
         }
-        Ok(found)
+        Ok(valid)
     }
 
     #[cycle(apply)]
-    fn use_group(&mut self, group: Group, here: Here<'_, 'a>, room: Room) -> Result<Found, Fault>
+    fn use_group(&mut self, group: Group, here: Here<'_, 'a>, nesting: u32) -> Result<bool, Fault>
         requires alone { stands_alone group ≡ true }
         ensures linked { self.new.linked ≡ self.old.linked }
         ensures back { OnOk result (context_view self.new.context ≡ context_view self.old.context) }
-        ensures within { IfOk result (λ f. f.count ≤ room.applications) }
-        ensures found { (a : Application) → IsHere self.old here.entry a
-            → IfOk result (λ f. FindsUses f room.applications
-            (group_uses self.old.linked.now room.nesting a group)) }
+        ensures valid { (a : Application) → IsHere self.old here.entry a
+            → IfOk result (λ b. b ≡ list_all (λ u. u.passes)
+            (group_uses self.old.linked.now nesting a group)) }
         ensures noted { (a : Application) → IsHere self.old here.entry a
             → OnOk result (Adds self.old self.new
-            (uses_notes a (group_uses self.old.linked.now room.nesting a group))) }
+            (uses_notes a (group_uses self.old.linked.now nesting a group))) }
         ensures err { (a : Application) → IsHere self.old here.entry a
-            → IfErr result (λ f. IsCostly f room.applications
-            (use_count (group_uses self.old.linked.now room.nesting a group))) }
+            → IfErr result (λ f. IsCostly f self.old
+            (uses_notes a (group_uses self.old.linked.now nesting a group))) }
     {
         match group {
-            Group::One(keyword) => self.use_one(keyword, here, room),
-            Group::Conditional => self.use_conditional(here, room),
-            Group::Counted => self.use_counted(here, room),
+            Group::One(keyword) => self.use_one(keyword, here, nesting),
+            Group::Conditional => self.use_conditional(here, nesting),
+            Group::Counted => self.use_counted(here, nesting),
         }
     }
 
     /// A keyword that asks for nothing that keywords beside say.
     #[cycle(apply)]
-    fn use_one(&mut self, keyword: Keyword, here: Here<'_, 'a>, room: Room) -> Result<Found, Fault>
+    fn use_one(&mut self, keyword: Keyword, here: Here<'_, 'a>, nesting: u32) -> Result<bool, Fault>
         requires alone { stands_alone (One keyword) ≡ true }
         ensures linked { self.new.linked ≡ self.old.linked }
         ensures back { OnOk result (context_view self.new.context ≡ context_view self.old.context) }
-        ensures within { IfOk result (λ f. f.count ≤ room.applications) }
-        ensures found { (a : Application) → IsHere self.old here.entry a
-            → IfOk result (λ f. FindsUses f room.applications
-            (group_uses self.old.linked.now room.nesting a (One keyword))) }
+        ensures valid { (a : Application) → IsHere self.old here.entry a
+            → IfOk result (λ b. b ≡ list_all (λ u. u.passes)
+            (group_uses self.old.linked.now nesting a (One keyword))) }
         ensures noted { (a : Application) → IsHere self.old here.entry a
             → OnOk result (Adds self.old self.new
-            (uses_notes a (group_uses self.old.linked.now room.nesting a (One keyword)))) }
+            (uses_notes a (group_uses self.old.linked.now nesting a (One keyword)))) }
         ensures err { (a : Application) → IsHere self.old here.entry a
-            → IfErr result (λ f. IsCostly f room.applications
-            (use_count (group_uses self.old.linked.now room.nesting a (One keyword)))) }
+            → IfErr result (λ f. IsCostly f self.old
+            (uses_notes a (group_uses self.old.linked.now nesting a (One keyword)))) }
     {
         match Assertion::of(keyword) {
             Some(assertion) => self.use_assertion(keyword, assertion, here),
-            None => self.use_named(keyword, here, Beside::nothing(), room),
+            None => self.use_named(keyword, here, Beside::nothing(), nesting),
         }
     }
 
     /// `if`, and then `then` and `else` (Core, 10.2.2).
     #[cycle(apply)]
-    fn use_conditional(&mut self, here: Here<'_, 'a>, room: Room) -> Result<Found, Fault>
+    fn use_conditional(&mut self, here: Here<'_, 'a>, nesting: u32) -> Result<bool, Fault>
         ensures linked { self.new.linked ≡ self.old.linked }
         ensures back { OnOk result (context_view self.new.context ≡ context_view self.old.context) }
-        ensures within { IfOk result (λ f. f.count ≤ room.applications) }
-        ensures found { (a : Application) → IsHere self.old here.entry a
-            → IfOk result (λ f. FindsUses f room.applications
-            (group_uses self.old.linked.now room.nesting a Conditional)) }
+        ensures valid { (a : Application) → IsHere self.old here.entry a
+            → IfOk result (λ b. b ≡ list_all (λ u. u.passes)
+            (group_uses self.old.linked.now nesting a Conditional)) }
         ensures noted { (a : Application) → IsHere self.old here.entry a
             → OnOk result (Adds self.old self.new
-            (uses_notes a (group_uses self.old.linked.now room.nesting a Conditional))) }
+            (uses_notes a (group_uses self.old.linked.now nesting a Conditional))) }
         ensures err { (a : Application) → IsHere self.old here.entry a
-            → IfErr result (λ f. IsCostly f room.applications
-            (use_count (group_uses self.old.linked.now room.nesting a Conditional))) }
+            → IfErr result (λ f. IsCostly f self.old
+            (uses_notes a (group_uses self.old.linked.now nesting a Conditional))) }
     {
-        match self.use_named(Keyword::If, here, Beside::nothing(), room) {
-            Ok(used) => {
-                let beside = Beside {
-                    condition: used.some_passed(),
-                    containing: None,
-                };
-                match self.use_two(
-                    Keyword::Then,
-                    Keyword::Else,
-                    here,
-                    beside,
-                    Room {
-                        nesting: room.nesting,
-                        applications: room.applications - used.count,
-                    },
-                ) {
-                    Ok(found) => Ok(used.and(found)),
+        match self.use_named(Keyword::If, here, Beside::nothing(), nesting) {
+            Ok(valid) => {
+                let beside = Beside::after_if(self.passing);
+                match self.use_two(Keyword::Then, Keyword::Else, here, beside, nesting) {
+                    Ok(others) => Ok(valid & others),
                     Err(fault) => Err(fault),
                 }
             }
@@ -192,37 +162,30 @@ impl<'a> Evaluation<'a> {
 
     /// `contains`, and then `minContains` and `maxContains` (Core, 10.3.1.3; Validation, 6.4.4 and 6.4.5).
     #[cycle(apply)]
-    fn use_counted(&mut self, here: Here<'_, 'a>, room: Room) -> Result<Found, Fault>
+    fn use_counted(&mut self, here: Here<'_, 'a>, nesting: u32) -> Result<bool, Fault>
         ensures linked { self.new.linked ≡ self.old.linked }
         ensures back { OnOk result (context_view self.new.context ≡ context_view self.old.context) }
-        ensures within { IfOk result (λ f. f.count ≤ room.applications) }
-        ensures found { (a : Application) → IsHere self.old here.entry a
-            → IfOk result (λ f. FindsUses f room.applications
-            (group_uses self.old.linked.now room.nesting a Counted)) }
+        ensures valid { (a : Application) → IsHere self.old here.entry a
+            → IfOk result (λ b. b ≡ list_all (λ u. u.passes)
+            (group_uses self.old.linked.now nesting a Counted)) }
         ensures noted { (a : Application) → IsHere self.old here.entry a
             → OnOk result (Adds self.old self.new
-            (uses_notes a (group_uses self.old.linked.now room.nesting a Counted))) }
+            (uses_notes a (group_uses self.old.linked.now nesting a Counted))) }
         ensures err { (a : Application) → IsHere self.old here.entry a
-            → IfErr result (λ f. IsCostly f room.applications
-            (use_count (group_uses self.old.linked.now room.nesting a Counted))) }
+            → IfErr result (λ f. IsCostly f self.old
+            (uses_notes a (group_uses self.old.linked.now nesting a Counted))) }
     {
-        match self.use_named(Keyword::Contains, here, Beside::nothing(), room) {
-            Ok(used) => {
-                let beside = Beside {
-                    condition: None,
-                    containing: used.passing,
-                };
+        match self.use_named(Keyword::Contains, here, Beside::nothing(), nesting) {
+            Ok(valid) => {
+                let beside = Beside::after_contains(self.passing);
                 match self.use_two(
                     Keyword::MinContains,
                     Keyword::MaxContains,
                     here,
                     beside,
-                    Room {
-                        nesting: room.nesting,
-                        applications: room.applications - used.count,
-                    },
+                    nesting,
                 ) {
-                    Ok(found) => Ok(used.and(found)),
+                    Ok(others) => Ok(valid & others),
                     Err(fault) => Err(fault),
                 }
             }
@@ -238,41 +201,32 @@ impl<'a> Evaluation<'a> {
         second: Keyword,
         here: Here<'_, 'a>,
         beside: Beside,
-        room: Room,
-    ) -> Result<Found, Fault>
+        nesting: u32,
+    ) -> Result<bool, Fault>
         ensures linked { self.new.linked ≡ self.old.linked }
         ensures back { OnOk result (context_view self.new.context ≡ context_view self.old.context) }
-        ensures within { IfOk result (λ f. f.count ≤ room.applications) }
-        ensures found { (a : Application) → IsHere self.old here.entry a
-            → Knows self.old.linked.now room.nesting a (row_of first).meaning beside
-            → Knows self.old.linked.now room.nesting a (row_of second).meaning beside
-            → IfOk result (λ f. FindsUses f room.applications
-            (two_uses self.old.linked.now room.nesting a first second here.entry.before
+        ensures valid { (a : Application) → IsHere self.old here.entry a
+            → Knows self.old.linked.now nesting a (row_of first).meaning beside
+            → Knows self.old.linked.now nesting a (row_of second).meaning beside
+            → IfOk result (λ b. b ≡ list_all (λ u. u.passes)
+            (two_uses self.old.linked.now nesting a first second here.entry.before
             (log_view self.old.log))) }
         ensures noted { (a : Application) → IsHere self.old here.entry a
-            → Knows self.old.linked.now room.nesting a (row_of first).meaning beside
-            → Knows self.old.linked.now room.nesting a (row_of second).meaning beside
+            → Knows self.old.linked.now nesting a (row_of first).meaning beside
+            → Knows self.old.linked.now nesting a (row_of second).meaning beside
             → OnOk result (Adds self.old self.new (uses_notes a
-            (two_uses self.old.linked.now room.nesting a first second here.entry.before
+            (two_uses self.old.linked.now nesting a first second here.entry.before
             (log_view self.old.log)))) }
         ensures err { (a : Application) → IsHere self.old here.entry a
-            → Knows self.old.linked.now room.nesting a (row_of first).meaning beside
-            → Knows self.old.linked.now room.nesting a (row_of second).meaning beside
-            → IfErr result (λ f. IsCostly f room.applications (use_count
-            (two_uses self.old.linked.now room.nesting a first second here.entry.before
+            → Knows self.old.linked.now nesting a (row_of first).meaning beside
+            → Knows self.old.linked.now nesting a (row_of second).meaning beside
+            → IfErr result (λ f. IsCostly f self.old (uses_notes a
+            (two_uses self.old.linked.now nesting a first second here.entry.before
             (log_view self.old.log)))) }
     {
-        match self.use_named(first, here, beside, room) {
-            Ok(used) => match self.use_named(
-                second,
-                here,
-                beside,
-                Room {
-                    nesting: room.nesting,
-                    applications: room.applications - used.count,
-                },
-            ) {
-                Ok(last) => Ok(used.and(last)),
+        match self.use_named(first, here, beside, nesting) {
+            Ok(valid) => match self.use_named(second, here, beside, nesting) {
+                Ok(last) => Ok(valid & last),
                 Err(fault) => Err(fault),
             },
             Err(fault) => Err(fault),
@@ -286,30 +240,39 @@ impl<'a> Evaluation<'a> {
         keyword: Keyword,
         here: Here<'_, 'a>,
         beside: Beside,
-        room: Room,
-    ) -> Result<Found, Fault>
+        nesting: u32,
+    ) -> Result<bool, Fault>
         ensures linked { self.new.linked ≡ self.old.linked }
         ensures back { OnOk result (context_view self.new.context ≡ context_view self.old.context) }
-        ensures within { IfOk result (λ u. u.count ≤ room.applications) }
-        ensures found { (a : Application) → IsHere self.old here.entry a
-            → Knows self.old.linked.now room.nesting a (row_of keyword).meaning beside
-            → IfOk result (λ u. FindsUse u room.applications
-            (uses_since self.old.linked.now room.nesting a keyword here.entry.before
+        ensures valid { (a : Application) → IsHere self.old here.entry a
+            → Knows self.old.linked.now nesting a (row_of keyword).meaning beside
+            → IfOk result (λ b. b ≡ list_all (λ u. u.passes)
+            (uses_since self.old.linked.now nesting a keyword here.entry.before
+            (log_view self.old.log))) }
+        ensures passing { (a : Application) → IsHere self.old here.entry a
+            → Knows self.old.linked.now nesting a (row_of keyword).meaning beside
+            → OnOk result (self.new.passing
+            ≡ passing_first (uses_since self.old.linked.now nesting a keyword here.entry.before
             (log_view self.old.log))) }
         ensures noted { (a : Application) → IsHere self.old here.entry a
-            → Knows self.old.linked.now room.nesting a (row_of keyword).meaning beside
+            → Knows self.old.linked.now nesting a (row_of keyword).meaning beside
             → OnOk result (Adds self.old self.new (uses_notes a
-            (uses_since self.old.linked.now room.nesting a keyword here.entry.before
+            (uses_since self.old.linked.now nesting a keyword here.entry.before
             (log_view self.old.log)))) }
         ensures err { (a : Application) → IsHere self.old here.entry a
-            → Knows self.old.linked.now room.nesting a (row_of keyword).meaning beside
-            → IfErr result (λ f. IsCostly f room.applications (use_count
-            (uses_since self.old.linked.now room.nesting a keyword here.entry.before
+            → Knows self.old.linked.now nesting a (row_of keyword).meaning beside
+            → IfErr result (λ f. IsCostly f self.old (uses_notes a
+            (uses_since self.old.linked.now nesting a keyword here.entry.before
             (log_view self.old.log)))) }
     {
         match here.present.value(keyword) {
-            Some(keyword_value) => self.use_keyword(keyword, keyword_value, here, beside, room),
-            None => Ok(Found::nothing()),
+            Some(keyword_value) => {
+                self.use_keyword(keyword, keyword_value, here, beside, nesting)
+            }
+            None => {
+                self.passing = None;
+                Ok(true)
+            }
         }
     }
 }

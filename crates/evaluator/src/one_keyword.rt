@@ -4,13 +4,12 @@ ghost use Rattle.std.specs.Prelude.{◌≡◌};
 ghost use Rattle.json_doc.specs.Docs.{value};
 ghost use Rattle.evaluator.specs.Rounds.{chosen_value};
 
+use crate::applied::Applied;
 use crate::applying::Evaluation;
 use crate::beside::Beside;
-use crate::found::{Applied, Found};
 use crate::here::Here;
 use crate::log::LogMark;
 use crate::present::Present;
-use crate::room::Room;
 use crate::settling::{evaluated_since, settle};
 use faults::Fault;
 use json_doc::Doc;
@@ -18,7 +17,8 @@ use keyword_plans::{Chosen, Planned, Site, passes, plan};
 use keywords::Keyword;
 
 impl<'a> Evaluation<'a> {
-    ghost use Rattle.std.specs.Prelude.{◌≤◌, ◌∷◌, [], ℕ, List, Some, IfOk, IfErr, OnOk, length, map};
+    ghost use Rattle.std.specs.Prelude.{◌∷◌, [], ℕ, List, Some, IfOk, IfErr, OnOk, length, map};
+    ghost use Rattle.std.specs.List.{list_all};
     ghost use Rattle.definitions.specs.Values.{Text, get};
     ghost use Rattle.definitions.specs.Applied.{Application};
     ghost use Rattle.definitions.specs.Applied as definition;
@@ -29,7 +29,7 @@ impl<'a> Evaluation<'a> {
     ghost use Rattle.keyword_plans.specs.Subjects.{subject_value};
     ghost use Rattle.evaluation_context.specs.Frames.{Frame, context_view, keyword_frame};
     ghost use Rattle.evaluator.specs.Applying.{Adds, AreKnown, IsCostly, IsHere};
-    ghost use Rattle.evaluator.specs.Findings.{AreWithin, Finds, FindsAll, FindsUse, IsWithin, count_of, use_count};
+    ghost use Rattle.evaluator.specs.Findings.{FindsAll, passing_first};
     ghost use Rattle.evaluator.specs.Logs.{log_view, mark_view};
     ghost use Rattle.evaluator.specs.Notes.{Notes, lengths, notes_of_both, outcome_notes, part_notes, parts_notes, uses_notes};
     ghost use Rattle.evaluator.specs.Rounds.{IsAtKeyword, IsKnown, IsUnder, Knows, indexes_since, linked_outcome, names_since, part_outcome, part_outcomes, use_there, uses_with};
@@ -42,31 +42,39 @@ impl<'a> Evaluation<'a> {
         keyword_value: &'a Doc,
         here: Here<'_, 'a>,
         beside: Beside,
-        room: Room,
-    ) -> Result<Found, Fault>
+        nesting: u32,
+    ) -> Result<bool, Fault>
         ensures linked { self.new.linked ≡ self.old.linked }
         ensures back { OnOk result (context_view self.new.context ≡ context_view self.old.context) }
-        ensures within { IfOk result (λ u. u.count ≤ room.applications) }
-        ensures found { (a : Application) → IsHere self.old here.entry a
-            → Knows self.old.linked.now room.nesting a (row_of keyword).meaning beside
+        ensures valid { (a : Application) → IsHere self.old here.entry a
+            → Knows self.old.linked.now nesting a (row_of keyword).meaning beside
             → get (row_of keyword).name a.schema.value ≡ Some (value keyword_value.now)
-            → IfOk result (λ u. FindsUse u room.applications
-            (uses_with self.old.linked.now room.nesting a keyword (names_since here.entry.before
-            (log_view self.old.log)) (indexes_since here.entry.before (log_view self.old.log)) (Some
-            (value keyword_value.now)))) }
+            → IfOk result (λ b. b ≡ list_all (λ u. u.passes)
+            (uses_with self.old.linked.now nesting a keyword
+            (names_since here.entry.before (log_view self.old.log))
+            (indexes_since here.entry.before (log_view self.old.log))
+            (Some (value keyword_value.now)))) }
+        ensures passing { (a : Application) → IsHere self.old here.entry a
+            → Knows self.old.linked.now nesting a (row_of keyword).meaning beside
+            → get (row_of keyword).name a.schema.value ≡ Some (value keyword_value.now)
+            → OnOk result (self.new.passing ≡ passing_first
+            (uses_with self.old.linked.now nesting a keyword
+            (names_since here.entry.before (log_view self.old.log))
+            (indexes_since here.entry.before (log_view self.old.log))
+            (Some (value keyword_value.now)))) }
         ensures noted { (a : Application) → IsHere self.old here.entry a
-            → Knows self.old.linked.now room.nesting a (row_of keyword).meaning beside
+            → Knows self.old.linked.now nesting a (row_of keyword).meaning beside
             → get (row_of keyword).name a.schema.value ≡ Some (value keyword_value.now)
             → OnOk result (Adds self.old self.new (uses_notes a
-            (uses_with self.old.linked.now room.nesting a keyword
+            (uses_with self.old.linked.now nesting a keyword
             (names_since here.entry.before (log_view self.old.log))
             (indexes_since here.entry.before (log_view self.old.log))
             (Some (value keyword_value.now))))) }
         ensures err { (a : Application) → IsHere self.old here.entry a
-            → Knows self.old.linked.now room.nesting a (row_of keyword).meaning beside
+            → Knows self.old.linked.now nesting a (row_of keyword).meaning beside
             → get (row_of keyword).name a.schema.value ≡ Some (value keyword_value.now)
-            → IfErr result (λ f. IsCostly f room.applications (use_count
-            (uses_with self.old.linked.now room.nesting a keyword
+            → IfErr result (λ f. IsCostly f self.old (uses_notes a
+            (uses_with self.old.linked.now nesting a keyword
             (names_since here.entry.before (log_view self.old.log))
             (indexes_since here.entry.before (log_view self.old.log))
             (Some (value keyword_value.now))))) }
@@ -74,7 +82,7 @@ impl<'a> Evaluation<'a> {
         let mark = self.log.mark();
         let planned = self.plan_keyword(keyword, keyword_value, here, beside)?;
         self.context.enter_keyword(keyword)?;
-        match self.apply_all(keyword, &planned, room) {
+        match self.apply_all(keyword, &planned, nesting) {
             Ok(applied) => self.finish_keyword(
                 keyword,
                 keyword_value,
@@ -139,19 +147,19 @@ impl<'a> Evaluation<'a> {
         beside: Beside,
         mark: &LogMark,
         applied: Applied,
-    ) -> Result<Found, Fault>
+    ) -> Result<bool, Fault>
         ensures linked { self.new.linked ≡ self.old.linked }
         ensures back { (older : Frame)
             → context_view self.old.context ≡ keyword_frame (row_of keyword).name older
             → OnOk result (context_view self.new.context ≡ older) }
-        ensures count { IfOk result (λ r. r.count ≡ applied.count) }
-        ensures found { (a : Application) (left budget : ℕ) (names : List Text) (indexes : List ℕ)
+        ensures valid { (a : Application) (left : ℕ) (names : List Text) (indexes : List ℕ)
             → IsAtKeyword self.old.linked.now left (context_view self.old.context)
             (value here.entry.present.now.schema.now) (subject_value here.entry.subject) keyword
             (value keyword_value.now) beside a
             → let u = use_there self.old.linked.now left a keyword names indexes
             (value keyword_value.now) in
-            FindsAll applied budget u.outcomes → IfOk result (λ r. FindsUse r budget (u ∷ [])) }
+            FindsAll applied u.outcomes → IfOk result (λ b. b ≡ u.passes) }
+        ensures passing { OnOk result (self.new.passing ≡ Some applied.passing) }
         ensures noted { (a : Application) (left : ℕ) (names : List Text) (indexes : List ℕ)
             (older : Notes)
             → IsAtKeyword self.old.linked.now left (context_view self.old.context)
@@ -177,7 +185,8 @@ impl<'a> Evaluation<'a> {
             passes,
         )?;
         self.context.leave_keyword();
-        Ok(applied.under(passes))
+        self.passing = Some(applied.passing);
+        Ok(passes)
     }
 
     /// Whether the keyword passes, under which the evaluation stands. The only error is want of memory.
@@ -225,41 +234,32 @@ impl<'a> Evaluation<'a> {
         &mut self,
         keyword: Keyword,
         planned: &Vec<Planned<'a>>,
-        room: Room,
+        nesting: u32,
     ) -> Result<Applied, Fault>
         ensures linked { self.new.linked ≡ self.old.linked }
         ensures back { OnOk result (context_view self.new.context ≡ context_view self.old.context) }
-        ensures within { IfOk result (λ f. AreWithin f room.applications) }
         ensures found { (a : Application)
             → IsUnder (context_view self.old.context) (row_of keyword).name a
             → AreKnown self.old.linked.now (row_of keyword).name a planned.now.items
-            → IfOk result (λ f. FindsAll f room.applications
-            (part_outcomes self.old.linked.now room.nesting
+            → IfOk result (λ f. FindsAll f (part_outcomes self.old.linked.now nesting
             (row_of keyword).name a planned.now.items)) }
         ensures noted { (a : Application)
             → IsUnder (context_view self.old.context) (row_of keyword).name a
             → AreKnown self.old.linked.now (row_of keyword).name a planned.now.items
             → OnOk result (Adds self.old self.new (parts_notes (row_of keyword).meaning
-            (part_outcomes self.old.linked.now room.nesting
+            (part_outcomes self.old.linked.now nesting
             (row_of keyword).name a planned.now.items))) }
         ensures err { (a : Application)
             → IsUnder (context_view self.old.context) (row_of keyword).name a
             → AreKnown self.old.linked.now (row_of keyword).name a planned.now.items
-            → IfErr result (λ f. IsCostly f room.applications (count_of
-            (part_outcomes self.old.linked.now room.nesting
+            → IfErr result (λ f. IsCostly f self.old (parts_notes (row_of keyword).meaning
+            (part_outcomes self.old.linked.now nesting
             (row_of keyword).name a planned.now.items))) }
     {
         let mut applied = Applied::none();
         for one in planned {
-            match self.apply_planned(
-                keyword,
-                one,
-                Room {
-                    nesting: room.nesting,
-                    applications: room.applications - applied.count,
-                },
-            ) {
-                Ok(found) => applied = applied.and(found),
+            match self.apply_planned(keyword, one, nesting) {
+                Ok(valid) => applied = applied.and(valid),
                 Err(fault) => return Err(fault),
             }
         }
@@ -272,71 +272,70 @@ impl<'a> Evaluation<'a> {
         &mut self,
         keyword: Keyword,
         planned: &Planned<'a>,
-        room: Room,
-    ) -> Result<Found, Fault>
+        nesting: u32,
+    ) -> Result<bool, Fault>
         ensures linked { self.new.linked ≡ self.old.linked }
         ensures back { OnOk result (context_view self.new.context ≡ context_view self.old.context) }
-        ensures within { IfOk result (λ f. IsWithin f room.applications) }
-        ensures found { (a : Application)
+        ensures valid { (a : Application)
             → IsUnder (context_view self.old.context) (row_of keyword).name a
             → IsKnown self.old.linked.now (row_of keyword).name a planned.now
-            → IfOk result (λ f. Finds f room.applications
-            (part_outcome self.old.linked.now room.nesting (row_of keyword).name a planned.now).1) }
+            → IfOk result (λ b. b
+            ≡ (part_outcome self.old.linked.now nesting
+            (row_of keyword).name a planned.now).1.valid) }
         ensures noted { (a : Application)
             → IsUnder (context_view self.old.context) (row_of keyword).name a
             → IsKnown self.old.linked.now (row_of keyword).name a planned.now
             → OnOk result (Adds self.old self.new (part_notes (row_of keyword).meaning
-            (part_outcome self.old.linked.now room.nesting (row_of keyword).name a planned.now))) }
+            (part_outcome self.old.linked.now nesting (row_of keyword).name a planned.now))) }
         ensures err { (a : Application)
             → IsUnder (context_view self.old.context) (row_of keyword).name a
             → IsKnown self.old.linked.now (row_of keyword).name a planned.now
-            → IfErr result (λ f. IsCostly f room.applications
-            (part_outcome self.old.linked.now room.nesting
-            (row_of keyword).name a planned.now).1.count) }
+            → IfErr result (λ f. IsCostly f self.old (part_notes (row_of keyword).meaning
+            (part_outcome self.old.linked.now nesting (row_of keyword).name a planned.now))) }
     {
         let mark = self.log.mark();
-        let found = self.apply_chosen(planned, room)?;
-        self.log
-            .settle_part(keyword, planned.part, &mark, found.valid)?;
-        Ok(found)
+        let valid = self.apply_chosen(planned, nesting)?;
+        self.log.settle_part(keyword, planned.part, &mark, valid)?;
+        Ok(valid)
     }
 
     // Applies the schema that is planned: it is entered, but where it passes without a word.
     #[cycle(apply)]
-    fn apply_chosen(&mut self, planned: &Planned<'a>, room: Room) -> Result<Found, Fault>
+    fn apply_chosen(&mut self, planned: &Planned<'a>, nesting: u32) -> Result<bool, Fault>
         ensures linked { self.new.linked ≡ self.old.linked }
         ensures back { OnOk result (context_view self.new.context ≡ context_view self.old.context) }
-        ensures within { IfOk result (λ f. IsWithin f room.applications) }
-        ensures found { (a : Application) (k : Text) → IsUnder (context_view self.old.context) k a
+        ensures valid { (a : Application) (k : Text) → IsUnder (context_view self.old.context) k a
             → IsKnown self.old.linked.now k a planned.now
-            → IfOk result (λ f. Finds f room.applications
-            (part_outcome self.old.linked.now room.nesting k a planned.now).1) }
+            → IfOk result (λ b. b
+            ≡ (part_outcome self.old.linked.now nesting k a planned.now).1.valid) }
         ensures noted { (a : Application) (k : Text) → IsUnder (context_view self.old.context) k a
             → IsKnown self.old.linked.now k a planned.now
             → OnOk result (Adds self.old self.new (outcome_notes
-            (part_outcome self.old.linked.now room.nesting k a planned.now).1)) }
+            (part_outcome self.old.linked.now nesting k a planned.now).1)) }
         ensures err { (a : Application) (k : Text) → IsUnder (context_view self.old.context) k a
             → IsKnown self.old.linked.now k a planned.now
-            → IfErr result (λ f. IsCostly f room.applications
-            (part_outcome self.old.linked.now room.nesting k a planned.now).1.count) }
+            → IfErr result (λ f. IsCostly f self.old (outcome_notes
+            (part_outcome self.old.linked.now nesting k a planned.now).1)) }
     {
         let schema = chosen_schema(&planned.chosen);
-        if self.is_true(schema, planned, room) {
-            return Ok(Found::boolean(true));
+        if self.is_true(schema, planned, nesting) {
+            self.log.count_one();
+            return Ok(true);
         }
         let present = Present::of(schema);
-        let passes = self.passes_silently(&present, planned, room)?;
+        let passes = self.passes_silently(&present, planned, nesting)?;
         if passes {
-            return Ok(Found::boolean(true));
+            self.log.count_one();
+            return Ok(passes);
         }
         let back = self
             .context
             .enter_planned(self.alloc, self.linked, planned)?;
-        match self.apply(&present, planned.subject, room) {
-            Ok(found) => {
+        match self.apply(&present, planned.subject, nesting) {
+            Ok(valid) => {
                 self.context.leave_planned(back);
-                self.last_passed = found.valid;
-                Ok(found)
+                self.last_passed = valid;
+                Ok(valid)
             }
             Err(fault) => Err(fault),
         }

@@ -1,9 +1,7 @@
 //! Which keywords a schema object has, found in one walk over its members; of many, those whose names begin with `$`
 //! are passed over.
 
-ghost use Rattle.std.specs.Prelude.{◌≡◌, ◌≤◌, ◌<◌, ◌||◌, ◌⊎◌, ℕ, None, Some, [], false, true, codes, is_some, option_map};
-ghost use Rattle.std.proofs.Props.{props};
-ghost use Rattle.std.specs.Borrow.{Bor};
+ghost use Rattle.std.specs.Prelude.{◌≡◌, ◌≤◌, ◌<◌, ◌||◌, ℕ, None, Some, [], false, true, codes, is_some, option_map};
 ghost use Rattle.std.specs.List.{list_any};
 ghost use Rattle.std.specs.Int.{bit_at};
 ghost use Rattle.definitions.specs.Values.{Text, get, members};
@@ -12,16 +10,13 @@ ghost use Rattle.definitions.specs.Applied.{Application};
 ghost use Rattle.definitions.specs.Outcomes.{other_annotations};
 ghost use Rattle.json_doc.specs.Docs.{value, members_value};
 ghost use Rattle.json_doc.specs.Kinds.{as_boolean};
-ghost use Rattle.json_doc.specs.Members.{HasNamesInOrder, members_left};
-ghost use Rattle.json_doc.specs.declared.doc.Doc.{Doc};
-ghost use Rattle.keyword_plans.specs.ValueSets.{value_set};
+ghost use Rattle.json_doc.specs.Members.{members_left};
 ghost use Rattle.keywords.specs.Rows.{row_named, row_of};
 ghost use Rattle.keywords.specs.declared.keyword.Keyword.TheVariants.{UnevaluatedItems, UnevaluatedProperties};
 ghost use Rattle.evaluator.specs.Leaves.{IsLeaf};
-ghost use Rattle.evaluator.specs.Presents.{AreKept, AreMarked, StandsAt, has_mark, mark_of, position};
+ghost use Rattle.evaluator.specs.Presents.{AreMarked, has_mark, mark_of};
 
 use crate::dollar_names::{are_many, cut_at_dollar_names};
-use crate::kept_values::KeptValues;
 use json_doc::{Doc, Members, MembersIter};
 use keywords::Keyword;
 
@@ -29,15 +24,12 @@ use keywords::Keyword;
 const ANNOTATES: usize = 63;
 
 /// A schema, and which names stand in it: a bit for each group of keywords, in the order of evaluation, one for keywords
-/// that are not evaluated, and the last for names that may annotate with their own value; and the values of its first
-/// keywords, so that they needn't be looked up.
+/// that are not evaluated, and the last for names that may annotate with their own value.
 #[derive(Drop)]
 pub(crate) struct Present<'a> {
     pub(crate) schema: &'a Doc,
     marks: u64,
-    kept: KeptValues<'a>,
     ghost marked: { AreMarked marks (value schema.now) },
-    ghost right: { AreKept kept (members (value schema.now)) } by { Prim.hlevel (props, value_set) },
 }
 
 impl<'a> Present<'a> {
@@ -46,12 +38,9 @@ impl<'a> Present<'a> {
     pub(crate) fn of(schema: &'a Doc) -> Present<'a>
         ensures { result.schema.now ≡ schema.now }
     {
-        let mut kept = KeptValues::new(schema);
-        let marks = marks_in(schema, &mut kept);
         Present {
             schema,
-            marks,
-            kept,
+            marks: marks_in(schema),
         }
     }
 
@@ -135,35 +124,28 @@ impl<'a> Present<'a> {
         ensures { option_map (λ d. value d.now) result
             ≡ get (row_of keyword).name (value self.now.schema.now) }
     {
-        match self.kept.find(keyword as usize) {
-            Some(found) => Some(found),
-            None => self.schema.get(keyword.name()),
-        }
+        self.schema.keyword_value(keyword)
     }
 }
 
-// The marks of the names, and the first values of keywords, where none are kept so far.
-fn marks_in<'a>(schema: &'a Doc, kept: &mut KeptValues<'a>) -> u64
-    requires { (i n : ℕ) (d : Bor Doc) → StandsAt kept.old i n d → n ≡ 64 }
-    ensures marks { AreMarked result (value schema.now) }
-    ensures kept { AreKept kept.new (members (value schema.now)) }
+// The marks of the names.
+fn marks_in(schema: &Doc) -> u64
+    ensures { AreMarked result (value schema.now) }
 {
     match schema.as_dict() {
-        Some(members) => marks_of(members, kept),
+        Some(members) => marks_of(members),
         None => 0,
     }
 }
 
-fn marks_of<'a>(members: &'a Members, kept: &mut KeptValues<'a>) -> u64
-    requires { (i n : ℕ) (d : Bor Doc) → StandsAt kept.old i n d → n ≡ 64 }
-    ensures marks { (i : ℕ) → bit_at result i ≡ 0
+fn marks_of(members: &Members) -> u64
+    ensures { (i : ℕ) → bit_at result i ≡ 0
         → list_any (has_mark i) (members_value members.now) ≡ false }
-    ensures kept { AreKept kept.new (members_value members.now) }
 {
     if are_many(members) {
         marks_of_many(members)
     } else {
-        marks_among(members.iter(), kept)
+        marks_among(members.iter())
     }
 }
 
@@ -172,42 +154,16 @@ fn marks_of_many(members: &Members) -> u64
         → list_any (has_mark i) (members_value members.now) ≡ false }
 {
     let cut = cut_at_dollar_names(members);
-    marks_without_values(cut.before) | dollar_marks() | marks_without_values(cut.after)
+    marks_among(cut.before) | dollar_marks() | marks_among(cut.after)
 }
 
-fn marks_among<'a>(members: MembersIter<'a>, kept: &mut KeptValues<'a>) -> u64
-    requires none { (i n : ℕ) (d : Bor Doc) → StandsAt kept.old i n d → n ≡ 64 }
-    requires ordered { HasNamesInOrder (members_left members) }
-    ensures marks { (i : ℕ) → bit_at result i ≡ 0
-        → list_any (has_mark i) (members_left members.entry) ≡ false }
-    ensures kept { AreKept kept.new (members_left members.entry) }
-{
-    let mut marks: u64 = 0;
-    for (name, member) in members {
-        let keyword = Keyword::named(name);
-        marks |= 1u64 << mark_of(keyword);
-        keep(kept, keyword, member);
-    }
-    marks
-}
-
-// Keeps the value of a keyword.
-fn keep<'a>(kept: &mut KeptValues<'a>, keyword: Option<Keyword>, member: &'a Doc)
-    ensures { (i n : ℕ) (d : Bor Doc) → StandsAt kept.new i n d → StandsAt kept.old i n d
-        ⊎ ((option_map position keyword ≡ Some n) × (d ≡ member.entry)) }
-{
-    if let Some(keyword) = keyword {
-        kept.push(keyword as usize, member);
-    }
-}
-
-fn marks_without_values(members: MembersIter<'_>) -> u64
+fn marks_among(members: MembersIter<'_>) -> u64
     ensures { (i : ℕ) → bit_at result i ≡ 0
         → list_any (has_mark i) (members_left members.entry) ≡ false }
 {
     let mut marks: u64 = 0;
-    for (name, _) in members {
-        marks |= 1u64 << mark_of(Keyword::named(name));
+    for (name, _) in members.named() {
+        marks |= 1u64 << mark_of(name.keyword());
     }
     marks
 }

@@ -1,6 +1,6 @@
 //! What a schema says of an instance.
 
-ghost use Rattle.std.specs.Prelude.{◌≡◌, ◌≢◌, List, Ok, Err, IfOk, IfErr, string_bytes, OnOk};
+ghost use Rattle.std.specs.Prelude.{◌≡◌, ◌≢◌, ◌<◌, List, Ok, Err, IfOk, IfErr, string_bytes, OnOk};
 ghost use Rattle.definitions.specs.Answers.{answer, answer_of, output_text};
 ghost use Rattle.definitions.specs.Limits.{limits};
 ghost use Rattle.definitions.specs.Reach.{reach};
@@ -11,18 +11,14 @@ ghost use Rattle.definition_laws.specs.Reaching.{HaveDistinctResources};
 ghost use Rattle.faults.specs.View.{fault_view};
 ghost use Rattle.json_doc.specs.Docs.{value};
 ghost use Rattle.linker.specs.LinkedDocuments.{linked_documents, linked_uri};
-ghost use Rattle.evaluator.specs.Applying.{IsCostly};
-ghost use Rattle.evaluator.specs.Findings.{Finds};
 ghost use Rattle.evaluator.specs.Logs.{log_view};
 ghost use Rattle.evaluator.specs.Notes.{outcome_notes};
 ghost use Rattle.evaluator.specs.Reports.{Gives, is_valid, report_or_fault, report_text};
 
 use crate::applying::Evaluation;
-use crate::found::Found;
 use crate::log::Log;
 use crate::memory::EvaluationMemory;
 use crate::present::Present;
-use crate::room::Room;
 use basic_output::output_text;
 use evaluation_context::Context;
 use faults::Fault;
@@ -34,9 +30,6 @@ use std::mem::replace;
 
 /// How many applications may nest, the root's among them.
 const MOST_NESTED: u32 = 1000;
-
-/// How many applications there may be in all.
-const MOST_APPLICATIONS: u64 = 100_000;
 
 /// What a schema says of an instance: whether it is valid, and the basic output (JSON Schema 2020-12 Core, 12.4.2).
 #[derive(Debug, Drop)]
@@ -122,37 +115,32 @@ pub fn evaluate_with<'a>(
         enumerations: Enumerations::new(alloc, linked),
         context,
         log: Log::within(alloc, log),
+        passing: None,
         last_passed: true,
     };
-    let found = evaluation.apply(
-        &present,
-        Subject::Value(instance),
-        Room {
-            nesting: MOST_NESTED,
-            applications: MOST_APPLICATIONS,
-        },
-    );
-    let report = reported(alloc, found, &evaluation.log);
+    let passed = evaluation.apply(&present, Subject::Value(instance), MOST_NESTED);
+    let report = reported(alloc, passed, &evaluation.log);
     *memory = evaluation.into_memory();
     report
 }
 
-// The report of what was found and noted.
-fn reported(alloc: Global, found: Result<Found, Fault>, log: &Log<'_>) -> Result<Report, Fault>
-    ensures { (o : Outcome) → IfOk found (λ f. Finds f limits.applications o)
-        → OnOk found (log_view log.now ≡ outcome_notes o)
-        → IfErr found (λ f. IsCostly f limits.applications o.count)
+// The report of what was noted.
+fn reported(alloc: Global, passed: Result<bool, Fault>, log: &Log<'_>) -> Result<Report, Fault>
+    ensures { (o : Outcome) → IfOk passed (λ b. b ≡ o.valid)
+        → OnOk passed (log_view log.now ≡ outcome_notes o)
+        → IfErr passed (λ f. f ≢ Fault.NoRoom
+        → (f ≡ Fault.Costly) × (limits.applications < o.count))
         → Gives result (answer_of limits.applications o) }
 {
-    match found {
-        Ok(found) => {
-            if found.looped {
+    match passed {
+        Ok(valid) => {
+            if log.looped {
                 return Err(Fault::Loop);
             }
-            if found.deep {
+            if log.deep {
                 return Err(Fault::Deep);
             }
-            made(alloc, found.valid, log)
+            made(alloc, valid, log)
         }
         Err(fault) => Err(fault),
     }

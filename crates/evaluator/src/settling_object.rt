@@ -8,7 +8,7 @@ ghost use Rattle.json_doc.specs.Docs.{value};
 ghost use Rattle.evaluation_context.specs.Frames.{context_view, frame_standing};
 ghost use Rattle.evaluation_context.specs.Standings.{application_at};
 ghost use Rattle.evaluator.specs.Logs.{log_view, mark_view};
-ghost use Rattle.evaluator.specs.Notes.{Notes, lengths, notes_of_both, outcome_notes, uses_notes};
+ghost use Rattle.evaluator.specs.Notes.{Notes, lengths, notes_of_both, object_notes, outcome_notes};
 ghost use Rattle.keyword_plans.specs.Subjects.{subject_value};
 ghost use Rattle.keyword_plans.specs.ScopeViews.{scope_documents};
 
@@ -19,7 +19,7 @@ use evaluation_context::Context;
 use keyword_plans::Subject;
 use std::alloc::AllocError;
 
-/// Of a schema object whose keywords were used since the mark: where all pass, the names annotate that are no keywords;
+/// Of a schema object that was counted, and whose keywords were used since the mark: where all pass, the names annotate that are no keywords;
 /// else the errors alone stay (JSON Schema 2020-12 Core, 7.7.1.1). The only error is want of memory.
 #[inline(always)]
 pub(crate) fn settle_object<'a>(
@@ -36,7 +36,7 @@ pub(crate) fn settle_object<'a>(
         → a ≡ application_at (frame_standing (context_view context.old))
         (value present.now.schema.now) (subject_value subject.entry)
         → mark_view mark.now ≡ lengths older
-        → log_view log.old ≡ notes_of_both older (uses_notes a us)
+        → log_view log.old ≡ notes_of_both older (object_notes a us)
         → valid ≡ list_all (λ u. u.passes) us
         → OnOk result (log_view log.new
         ≡ notes_of_both older (outcome_notes (outcome_of_uses a us))) }

@@ -7,7 +7,6 @@ ghost use Rattle.json_doc.specs.Docs.{value};
 use crate::applying::Evaluation;
 use crate::groups::first_groups;
 use crate::present::Present;
-use crate::room::Room;
 use assertions::Assertion;
 use json_doc::Doc;
 use keyword_plans::{Planned, Subject, holds_of};
@@ -19,6 +18,7 @@ impl<'a> Evaluation<'a> {
     ghost use Rattle.assertions.specs.AssertionView.{assertion_in, assertion_view};
     ghost use Rattle.definitions.specs.Assertions.{holds};
     ghost use Rattle.definitions.specs.Applied.{Application};
+    ghost use Rattle.definitions.specs.Limits.{limits};
     ghost use Rattle.definitions.specs.Values.{Text};
     ghost use Rattle.keyword_plans.specs.Subjects.{subject_value};
     ghost use Rattle.keywords.specs.Rows.{row_of};
@@ -31,15 +31,15 @@ impl<'a> Evaluation<'a> {
 
     /// Whether the schema that is planned is `true`, which passes without a word, and there is room to apply it.
     #[inline(always)]
-    pub(crate) fn is_true(&self, schema: &Doc, planned: &Planned<'a>, room: Room) -> bool
+    pub(crate) fn is_true(&self, schema: &Doc, planned: &Planned<'a>, nesting: u32) -> bool
         requires { value schema.now ≡ chosen_value planned.now.chosen }
-        ensures some { result ≡ true → 0 < room.applications }
+        ensures room { result ≡ true → self.now.log.count < limits.applications }
         ensures silent { (a : Application) (k : Text) → IsUnder (context_view self.now.context) k a
-            → result ≡ true → IsSilent room.applications
-            (part_outcome self.now.linked.now room.nesting k a planned.now).1 }
+            → result ≡ true → IsSilent
+            (part_outcome self.now.linked.now nesting k a planned.now).1 }
     {
         match schema.as_bool() {
-            Some(allowed) => allowed && has_room(room),
+            Some(allowed) => allowed && self.has_room(nesting),
             None => false,
         }
     }
@@ -51,16 +51,16 @@ impl<'a> Evaluation<'a> {
         &mut self,
         present: &Present<'a>,
         planned: &Planned<'a>,
-        room: Room,
+        nesting: u32,
     ) -> Result<bool, AllocError>
         requires { value present.now.schema.now ≡ chosen_value planned.now.chosen }
         ensures linked { self.new.linked ≡ self.old.linked }
         ensures back { self.new.context ≡ self.old.context }
         ensures noted { self.new.log ≡ self.old.log }
-        ensures some { IfOk result (λ b. b ≡ true → 0 < room.applications) }
+        ensures room { IfOk result (λ b. b ≡ true → self.old.log.count < limits.applications) }
         ensures silent { (a : Application) (k : Text) → IsUnder (context_view self.old.context) k a
-            → IfOk result (λ b. b ≡ true → IsSilent room.applications
-            (part_outcome self.old.linked.now room.nesting k a planned.now).1) }
+            → IfOk result (λ b. b ≡ true → IsSilent
+            (part_outcome self.old.linked.now nesting k a planned.now).1) }
     {
         if !self.last_passed {
             return Ok(false);
@@ -68,16 +68,24 @@ impl<'a> Evaluation<'a> {
         if !self.context.is_above(planned.part) {
             return Ok(false);
         }
-        if room.applications == 0 {
-            return Ok(false);
-        }
-        if room.nesting == 0 {
+        if !self.has_room(nesting) {
             return Ok(false);
         }
         if !present.only_asserts() {
             return Ok(false);
         }
         self.are_met(present, planned.subject)
+    }
+
+    // Whether one more application may nest, and there may be one more in all.
+    fn has_room(&self, nesting: u32) -> bool
+        ensures nests { result ≡ true → 0 < nesting }
+        ensures room { result ≡ true → self.now.log.count < limits.applications }
+    {
+        if nesting == 0 {
+            return false;
+        }
+        !self.log.is_full()
     }
 
     // Whether all assertions hold of a schema object that applies nothing. The only error is want of memory.
@@ -177,15 +185,4 @@ impl<'a> Evaluation<'a> {
             _ => holds_of(self.alloc, assertion, keyword_value, subject),
         }
     }
-}
-
-// Whether one more application may nest, and there may be one more in all.
-fn has_room(room: Room) -> bool
-    ensures nests { result ≡ true → 0 < room.nesting }
-    ensures some { result ≡ true → 0 < room.applications }
-{
-    if room.nesting == 0 {
-        return false;
-    }
-    room.applications > 0
 }

@@ -16,10 +16,11 @@ use Rattle.json_doc.specs.Docs.{value}
 use Rattle.json_doc.specs.Members.{member_value, members_with, is_below, AreBelow, AreNotBelow, HasNamesInOrder, HasTextsAsNames}
 use Rattle.json_doc.specs.SmallTexts.{text_view, text_cmp}
 use Rattle.json_doc.specs.declared.small_text.SmallText.{SmallText}
-use Rattle.json_doc.specs.declared.small_text.SmallText.TheVariants.{Short, Long}
+use Rattle.json_doc.specs.declared.small_text.SmallText.TheVariants.{Short, Keyword, Long}
 use Rattle.json_doc.specs.NameMaps.{entry_named, IsAbove, IsAboveNone, IsPut}
 use Rattle.json_doc.specs.declared.doc.Doc.{Doc}
 use Rattle.json_doc.proofs.Views.{Entry}
+use Rattle.keywords.proofs.Names.{name_is_utf8}
 
 -- ---- looking a name up
 found_or : (b : Bool) (v : Doc) (rest : Option Doc) (d : Option Value) → option_map value rest ≡ d → option_map value (cond b (Some v) rest) ≡ cond b (Some (value v)) d
@@ -118,6 +119,7 @@ string_is_utf8 s = is_utf8-from_IsUtf8 (string_bytes s) (IsUtf8-string_bytes s)
 
 pub text_is_utf8 : (t : SmallText) → is_utf8 (text_view t) ≡ true
 text_is_utf8 (Short s) = s.utf8
+text_is_utf8 (Keyword k) = name_is_utf8 k
 text_is_utf8 (Long s) = string_is_utf8 s
 
 pub texts_as_names : (es : List Entry) → HasTextsAsNames (map member_value es)

@@ -10,3 +10,4 @@ pub mod NameMaps
 pub mod formers
 pub mod Reads
 pub mod Gathers
+pub mod NamedMembers

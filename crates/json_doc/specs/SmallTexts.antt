@@ -6,13 +6,15 @@ use Rattle.std.specs.declared.cmp.Ordering.{Ordering}
 use Rattle.definitions.specs.Values.{Text}
 use Rattle.json_doc.specs.declared.short_text.ShortText.{ShortText}
 use Rattle.json_doc.specs.declared.small_text.SmallText.{SmallText}
-use Rattle.json_doc.specs.declared.small_text.SmallText.TheVariants.{Short, Long}
+use Rattle.json_doc.specs.declared.small_text.SmallText.TheVariants.{Short, Keyword, Long}
+use Rattle.keywords.specs.Rows.{row_of}
 
 abbrev pub short_text : ShortText → Text
 short_text s = take s.len s.bytes
 
 abbrev pub text_view : SmallText → Text
 text_view (Short s) = short_text s
+text_view (Keyword k) = (row_of k).name
 text_view (Long s) = string_bytes s
 
 -- byte by byte

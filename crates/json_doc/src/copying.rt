@@ -1,4 +1,4 @@
-//! A second owner of the same value.
+//! A second owner of the same value, in which keywords' names stand as the keywords.
 
 ghost use Rattle.std.specs.Prelude.{◌≡◌, true, IfOk, IfErr, OnOk, map};
 ghost use Rattle.definitions.specs.Values.{are_well_formed, are_well_formed_members, is_well_formed, to_elements};
@@ -9,7 +9,8 @@ use crate::members::Members;
 use faults::Fault;
 use std::alloc::Global;
 
-/// The same value once more. The only error is want of memory, [`Fault::NoRoom`].
+/// The same value once more, in which keywords' names stand as the keywords. The only error is want of memory,
+/// [`Fault::NoRoom`].
 ///
 /// What is copied was seen whole, so the contract also says that every value that could be copied is well formed.
 #[cycle(copy)]
@@ -55,7 +56,7 @@ fn copy_members(alloc: Global, members: &Members) -> Result<Members, Fault>
 {
     let mut copies = Members::new(alloc);
     for (name, member) in members.iter() {
-        copies.insert(alloc, name, copy(alloc, member)?)?;
+        copies.insert_named(alloc, name, copy(alloc, member)?)?;
     }
     Ok(copies)
 }

@@ -4,11 +4,13 @@ ghost use Rattle.std.specs.Prelude.{◌≡◌, ◌≤◌, IfOk, length, option_m
 ghost use Rattle.std.specs.Result.{IsOk};
 ghost use Rattle.definitions.specs.Values.{get, as_string, same, string, text_at};
 ghost use Rattle.json_doc.specs.Docs.{value, members_value};
+ghost use Rattle.keywords.specs.Rows.{row_of};
 ghost use Rattle.json_doc.specs.Kinds.{as_boolean, as_integer, as_elements, as_members};
 
 use crate::members::Members;
 use crate::short_text::ShortText;
 use crate::whole::Whole;
+use keywords::Keyword;
 use std::alloc::{AllocError, Global};
 
 /// A JSON value (RFC 8259), whose numbers are whole.
@@ -129,6 +131,18 @@ impl Doc {
     {
         match self {
             Doc::Dict(members) => members.get(name),
+            _ => None,
+        }
+    }
+
+    /// The member of this keyword's name, if the value is an object that has one.
+    #[inline(always)]
+    pub fn keyword_value(&self, keyword: Keyword) -> Option<&Doc>
+        ensures { option_map (λ d. value d.now) result
+            ≡ get (row_of keyword).name (value self.now) }
+    {
+        match self {
+            Doc::Dict(members) => members.keyword_value(keyword),
             _ => None,
         }
     }

@@ -4,14 +4,21 @@ ghost use Rattle.std.specs.Prelude.{◌≡◌, ◌↔◌, [], ◌∷◌, ◌++�
 ghost use Rattle.std.specs.Iterator.{YieldsFirstBy, item_count};
 ghost use Rattle.definitions.specs.Values.{entry};
 ghost use Rattle.json_doc.specs.Docs.{value, members_value};
+ghost use Rattle.keywords.specs.Rows.{row_of};
+ghost use Rattle.json_doc.specs.NamedMembers.{named_left};
 ghost use Rattle.json_doc.specs.Members.{members_with, member_view, member_value, members_left, AreBelow, AreNotBelow, HasNamesInOrder, HasTextsAsNames};
 
 use crate::doc::Doc;
 use crate::name_map::{NameMap, split_at_name};
+use crate::named_members::NamedMembers;
 use crate::small_text::SmallText;
 use faults::Fault;
+use keywords::Keyword;
 use std::alloc::Global;
 use std::slice;
+
+/// Up to so many members, going through all takes no longer than to search.
+const FEW: usize = 16;
 
 /// The members of a JSON object: each name once, in byte order of names.
 ///
@@ -54,6 +61,33 @@ impl Members {
             Some((_, found)) => Some(found),
             None => None,
         }
+    }
+
+    /// The member of this keyword's name. Of few members it is found without a look at the texts of keywords' names, where
+    /// these stand as the keywords ([`copy`](crate::copy)).
+    #[inline(always)]
+    pub fn keyword_value(&self, keyword: Keyword) -> Option<&Doc>
+        ensures { option_map (λ d. value d.now) result
+            ≡ entry (row_of keyword).name (members_value self.now) }
+    {
+        if self.len() > FEW {
+            return self.get(keyword.name());
+        }
+        self.first_value(keyword)
+    }
+
+    // The same, one member after the other.
+    #[inline(always)]
+    fn first_value(&self, keyword: Keyword) -> Option<&Doc>
+        ensures { option_map (λ d. value d.now) result
+            ≡ entry (row_of keyword).name (members_value self.now) }
+    {
+        for (name, member) in self.iter().named() {
+            if name.is(keyword) {
+                return Some(member);
+            }
+        }
+        None
     }
 
     /// The member of this name, with its name as it stands here. The time grows with the logarithm of the number of
@@ -115,6 +149,23 @@ impl Members {
         Ok(())
     }
 
+    /// The same, where a new name stands as the keyword if it is one's, so that it needn't be compared to be told as one.
+    pub(crate) fn insert_named(
+        &mut self,
+        alloc: Global,
+        name: &str,
+        member: Doc,
+    ) -> Result<(), Fault>
+        ensures ok { OnOk result
+            (members_value self.new ≡ members_with name.now (value member)
+            (members_value self.old)) }
+        ensures unchanged { OnErr result (members_value self.new ≡ members_value self.old) }
+        ensures room { IfErr result (λ f. f ≡ Fault.NoRoom) }
+    {
+        self.entries.insert_named(alloc, name, member)?;
+        Ok(())
+    }
+
     /// These values as members.
     pub(crate) fn of(entries: NameMap<Doc>) -> Members
         ensures { members_value result ≡ map member_value entries }
@@ -128,7 +179,7 @@ impl Members {
 /// Contracts see them as a list of names and values, by `members_left`.
 #[derive(Drop)]
 pub struct MembersIter<'a> {
-    entries: slice::Iter<'a, (SmallText, Doc)>,
+    pub(crate) entries: slice::Iter<'a, (SmallText, Doc)>,
 }
 
 impl<'a> MembersIter<'a> {
@@ -141,6 +192,13 @@ impl<'a> MembersIter<'a> {
             entries: entries.iter(),
         }
     }
+
+    /// The same, each with its name as it stands there.
+    pub fn named(self) -> NamedMembers<'a>
+        ensures { named_left result ≡ members_left self.entry }
+    {
+        NamedMembers::of(self)
+    }
 }
 
 impl<'a> Iterator for MembersIter<'a> {
@@ -150,6 +208,7 @@ impl<'a> Iterator for MembersIter<'a> {
 
     ghost remaining = { item_count members_left };
 
+    #[inline(always)]
     #[tactic(auto, unfolding(crate::specs::Members::members_left))]
     fn next(&mut self) -> Option<(&'a str, &'a Doc)> {
         match self.entries.next() {

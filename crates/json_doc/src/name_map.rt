@@ -122,24 +122,34 @@ impl<T: Drop> NameMap<T> {
         ensures unchanged { OnErr result (self.new ≡ self.old) }
     {
         if self.ends_before(name) {
-            return self.push(alloc, name, value);
+            return self.push(SmallText::from_str(alloc, name)?, value);
         }
         self.put(alloc, name, value)
     }
 
-    // The same, where the name comes after all that are here.
-    #[inline(always)]
-    fn push(&mut self, alloc: Global, name: &str, value: T) -> Result<(), AllocError>
-        requires { IsAbove name.now self.old }
+    /// The same, where a new name stands as the keyword if it is one's.
+    pub fn insert_named(&mut self, alloc: Global, name: &str, value: T) -> Result<(), AllocError>
         ensures ok { OnOk result (IsPut name.now value self.old self.new) }
         ensures unchanged { OnErr result (self.new ≡ self.old) }
     {
-        self.entries
-            .push((SmallText::from_str(alloc, name)?, value))?;
+        if self.ends_before(name) {
+            return self.push(SmallText::named(alloc, name)?, value);
+        }
+        self.put(alloc, name, value)
+    }
+
+    // Puts a value in at a name that comes after all that are here.
+    #[inline(always)]
+    fn push(&mut self, name: SmallText, value: T) -> Result<(), AllocError>
+        requires { IsAbove (text_view name) self.old }
+        ensures ok { OnOk result (IsPut (text_view name) value self.old self.new) }
+        ensures unchanged { OnErr result (self.new ≡ self.old) }
+    {
+        self.entries.push((name, value))?;
         Ok(())
     }
 
-    // The same, wherever the name goes.
+    // Puts a value in, wherever the name goes.
     #[inline(never)]
     fn put(&mut self, alloc: Global, name: &str, value: T) -> Result<(), AllocError>
         ensures ok { OnOk result (IsPut name.now value self.old self.new) }

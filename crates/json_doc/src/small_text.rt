@@ -1,24 +1,29 @@
-//! Names, of which short ones stand in the value itself.
+//! Names, of which short ones stand in the value itself, and keywords' names as the keyword.
 
-ghost use Rattle.std.specs.Prelude.{◌≡◌, ◌≤◌, Some, IfOk, length, nat_eq, refl};
+ghost use Rattle.std.specs.Prelude.{◌≡◌, ◌≤◌, Some, IfOk, length, nat_eq, option_map, refl};
 ghost use Rattle.std.specs.Result.{IsOk};
 ghost use Rattle.std.specs.Cmp.{on_equiv, on_total, on_po, on_per, partial_equiv_from_equiv};
 ghost use Rattle.std.specs.Cmp.Lexicographic.{pointwise, slice_cmp, nat_list_eq_equiv, nat_list_cmp_total, texts_po, texts_ties};
 ghost use Rattle.std.specs.Ordering.{nat_cmp};
+ghost use Rattle.definitions.specs.Values.{same_text};
 ghost use Rattle.json_doc.specs.SmallTexts.{text_view};
+ghost use Rattle.keywords.specs.Rows.{row_named, row_of};
 
 use crate::short_text::ShortText;
+use keywords::Keyword;
 use std::alloc::{AllocError, Global};
 use std::cmp::Ordering;
 
-/// A text, which stands in the value itself where it has at most 24 bytes, as most names of members do: those take no
-/// memory of their own.
+/// A text, which stands in the value itself where it has at most 24 bytes, as most names of members do, or where it is a
+/// keyword's name: those take no memory of their own.
 ///
 /// Contracts see its bytes, by `text_view`.
 #[derive(Debug, Drop)]
 pub(crate) enum SmallText {
     /// At most 24 bytes.
     Short(ShortText),
+    /// The name of a keyword.
+    Keyword(Keyword),
     /// Any number of bytes.
     Long(String),
 }
@@ -39,6 +44,38 @@ impl SmallText {
         }
     }
 
+    /// This text, which stands as the keyword where it is one's name. The only error is want of memory.
+    pub fn named(alloc: Global, text: &str) -> Result<SmallText, AllocError>
+        ensures { IfOk result (λ t. text_view t ≡ text.now) }
+    {
+        match Keyword::named(text) {
+            Some(keyword) => Ok(SmallText::Keyword(keyword)),
+            None => SmallText::from_str(alloc, text),
+        }
+    }
+
+    /// The keyword of this name, if there is one.
+    #[inline(always)]
+    pub fn keyword(&self) -> Option<Keyword>
+        ensures { option_map row_of result ≡ row_named (text_view self.now) }
+    {
+        match self {
+            SmallText::Keyword(keyword) => Some(*keyword),
+            _ => Keyword::named(self.as_str()),
+        }
+    }
+
+    /// Whether it is the name of this keyword.
+    #[inline(always)]
+    pub fn is(&self, keyword: Keyword) -> bool
+        ensures { result ≡ same_text (row_of keyword).name (text_view self.now) }
+    {
+        match self {
+            SmallText::Keyword(own) => is_same_keyword(keyword, *own),
+            _ => keyword.name() == self.as_str(),
+        }
+    }
+
     /// The text.
     #[inline(always)]
     pub fn as_str(&self) -> &str
@@ -46,9 +83,29 @@ impl SmallText {
     {
         match self {
             SmallText::Short(short) => short.as_str(),
+            _ => self.other_str(),
+        }
+    }
+
+    // The same, called apart, since most names are short and no keywords.
+    #[inline(never)]
+    fn other_str(&self) -> &str
+        ensures { result.now ≡ text_view self.now }
+    {
+        match self {
+            SmallText::Short(short) => short.as_str(),
+            SmallText::Keyword(keyword) => keyword.name(),
             SmallText::Long(string) => string.as_str(),
         }
     }
+}
+
+// Whether two keywords have the same name.
+#[inline(always)]
+fn is_same_keyword(keyword: Keyword, other: Keyword) -> bool
+    ensures { result ≡ same_text (row_of keyword).name (row_of other).name }
+{
+    keyword as usize == other as usize
 }
 
 impl PartialEq for SmallText {

@@ -5,6 +5,8 @@
 #[cfg(test)]
 mod fault_texts;
 #[cfg(test)]
+mod keyword_names;
+#[cfg(test)]
 mod large_texts;
 #[cfg(test)]
 mod outputs;

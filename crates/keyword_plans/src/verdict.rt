@@ -130,7 +130,7 @@ fn needs_none(schema: &Doc) -> bool
     ensures { (a : Application) → a.schema.value ≡ value schema.now
         → result ≡ needs_none (beside a (codes "minContains")) }
 {
-    match schema.get("minContains") {
+    match schema.keyword_value(Keyword::MinContains) {
         Some(least) => is_zero(least),
         None => false,
     }

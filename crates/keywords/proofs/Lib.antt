@@ -1,4 +1,3 @@
-pub mod ShapeLists
 pub mod Names
 pub mod Grouped
 pub mod Likely

@@ -1,10 +1,14 @@
 -- What the definitions' table has under a name.
-use Rattle.std.proofs.Common.{◌≡◌, List, [], ◌∷◌, None, Some, Option, option_map, unwrap_or, false, refl, sym, ap}
+use Rattle.std.proofs.Common.{◌≡◌, ℕ, zero, suc, nat_lt, List, [], ◌∷◌, ◌∙◌, Bool, cond, None, Some, Option, option_map, unwrap_or, true, false, refl, sym, ap, arith}
+use Rattle.std.proofs.lemmas.Bool.{and_parts, ltb-true}
+use Rattle.std.proofs.lemmas.Str.{IsUtf8-from_ascii, is_utf8-from_IsUtf8}
+use Rattle.std.specs.List.{list_all}
+use Rattle.std.specs.Str.{IsAscii, is_utf8}
 use Rattle.definitions.specs.Values.{Text, same_text}
 use Rattle.definitions.specs.Shapes.{any_value}
 use Rattle.definitions.specs.Keywords as table
 use Rattle.definitions.specs.Keywords.{keyword_named, keywords, shape_in}
-use Rattle.lemmas.proofs.Texts.{same_text_differs}
+use Rattle.lemmas.proofs.Texts.{same_text_differs, same_text_is}
 use Rattle.keywords.specs.Rows.{row_named, row_of, shape_named}
 use Rattle.keywords.specs.declared.keyword.Keyword.{Keyword}
 use Rattle.keywords.specs.declared.keyword.Keyword.TheVariants.{Ref, DynamicRef, «Type», Enum, Const, MultipleOf, Maximum, ExclusiveMaximum, Minimum, ExclusiveMinimum, MaxLength, MinLength, Pattern, MaxProperties, MinProperties, Required, DependentRequired, MaxItems, MinItems, UniqueItems, AllOf, AnyOf, OneOf, Not, If, Then, Else, DependentSchemas, PrefixItems, Items, Contains, MinContains, MaxContains, Properties, PatternProperties, AdditionalProperties, PropertyNames, UnevaluatedItems, UnevaluatedProperties, Defs, Definitions, ContentSchema, Id, Anchor, DynamicAnchor, Schema}
@@ -80,3 +84,75 @@ shape_there name k e = ap (λ o. unwrap_or (option_map (λ (r : table.Keyword). 
 pub shape_named-row : (name : Text) → shape_in keywords name ≡ shape_named name
 unfolding shape_named
 shape_named-row name = refl
+
+-- ---- the row that is found under a name has that name
+found_first : (name : Text) (b : Bool) (j k : table.Keyword) (later : Option table.Keyword) → same_text name j.name ≡ b
+    → (later ≡ Some k → k.name ≡ name) → cond b (Some j) later ≡ Some k → k.name ≡ name
+found_first name true j k later same rest found = let first : j ≡ k = cc in ap (λ (r : table.Keyword). r.name) (sym first) ∙ sym (same_text_is name j.name same)
+found_first name false j k later same rest found = rest found
+
+found_has : (name : Text) (ks : List table.Keyword) (k : table.Keyword) → keyword_named name ks ≡ Some k → k.name ≡ name
+found_has name [] k found = absurd (cc)
+found_has name (j ∷ ks) k found = found_first name (same_text name j.name) j k (keyword_named name ks) refl (found_has name ks k) found
+
+pub named_has : (name : Text) (o : Option Keyword) (k : Keyword) → o ≡ Some k → option_map row_of o ≡ row_named name → (row_of k).name ≡ name
+unfolding row_named
+named_has name o k e named = found_has name keywords (row_of k) (sym named ∙ ap (option_map row_of) e)
+
+-- ---- each name is in UTF-8
+are_ascii : (bs : List ℕ) → list_all (λ b. nat_lt b 128) bs ≡ true → IsAscii bs
+are_ascii [] h zero = omega arith
+are_ascii [] h (suc i) = omega arith
+are_ascii (b ∷ bs) h zero = ltb-true b 128 (and_parts (nat_lt b 128) (list_all (λ c. nat_lt c 128) bs) h).0
+are_ascii (b ∷ bs) h (suc i) = are_ascii bs (and_parts (nat_lt b 128) (list_all (λ c. nat_lt c 128) bs) h).1 i
+
+name_is_ascii : (k : Keyword) → list_all (λ b. nat_lt b 128) (row_of k).name ≡ true
+name_is_ascii Ref = refl
+name_is_ascii DynamicRef = refl
+name_is_ascii «Type» = refl
+name_is_ascii Enum = refl
+name_is_ascii Const = refl
+name_is_ascii MultipleOf = refl
+name_is_ascii Maximum = refl
+name_is_ascii ExclusiveMaximum = refl
+name_is_ascii Minimum = refl
+name_is_ascii ExclusiveMinimum = refl
+name_is_ascii MaxLength = refl
+name_is_ascii MinLength = refl
+name_is_ascii Pattern = refl
+name_is_ascii MaxProperties = refl
+name_is_ascii MinProperties = refl
+name_is_ascii Required = refl
+name_is_ascii DependentRequired = refl
+name_is_ascii MaxItems = refl
+name_is_ascii MinItems = refl
+name_is_ascii UniqueItems = refl
+name_is_ascii AllOf = refl
+name_is_ascii AnyOf = refl
+name_is_ascii OneOf = refl
+name_is_ascii Not = refl
+name_is_ascii If = refl
+name_is_ascii Then = refl
+name_is_ascii Else = refl
+name_is_ascii DependentSchemas = refl
+name_is_ascii PrefixItems = refl
+name_is_ascii Items = refl
+name_is_ascii Contains = refl
+name_is_ascii MinContains = refl
+name_is_ascii MaxContains = refl
+name_is_ascii Properties = refl
+name_is_ascii PatternProperties = refl
+name_is_ascii AdditionalProperties = refl
+name_is_ascii PropertyNames = refl
+name_is_ascii UnevaluatedItems = refl
+name_is_ascii UnevaluatedProperties = refl
+name_is_ascii Defs = refl
+name_is_ascii Definitions = refl
+name_is_ascii ContentSchema = refl
+name_is_ascii Id = refl
+name_is_ascii Anchor = refl
+name_is_ascii DynamicAnchor = refl
+name_is_ascii Schema = refl
+
+pub name_is_utf8 : (k : Keyword) → is_utf8 (row_of k).name ≡ true
+name_is_utf8 k = is_utf8-from_IsUtf8 (row_of k).name (IsUtf8-from_ascii (row_of k).name (are_ascii (row_of k).name (name_is_ascii k)))

@@ -10,4 +10,4 @@ mod shape;
 pub use group::{Group, groups};
 pub use keyword::Keyword;
 pub use named::shape_named;
-pub use shape::{Shape, fits};
+pub use shape::Shape;

@@ -16,7 +16,8 @@ use crate::refusal::Refusal;
 use crate::resources::is_id;
 use faults::Fault;
 use json_doc::Doc;
-use keywords::{Shape, fits};
+use keyword_shapes::fits;
+use keywords::Shape;
 use std::alloc::{AllocError, Global};
 use uri_ref::{fragment_kind, split};
 

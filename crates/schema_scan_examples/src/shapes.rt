@@ -1,7 +1,8 @@
 //! The shapes that values have.
 
 use json_doc::read;
-use keywords::{Shape, fits};
+use keyword_shapes::fits;
+use keywords::Shape;
 use std::test::Fail;
 
 const SHAPES: &[(Shape, &str, bool)] = &[

@@ -11,6 +11,7 @@ ghost use Rattle.keyword_plans.specs.Subjects.{subject_value};
 use crate::planned::{Chosen, Part, Planned};
 use crate::subject::{Subject, elements_of};
 use json_doc::Doc;
+use keywords::Keyword;
 use locations::Step;
 use std::alloc::{AllocError, Global};
 use std::cmp::min;
@@ -91,7 +92,7 @@ pub(crate) fn prefix_length(schema: &Doc) -> usize
     ensures { (a : Application) → a.schema.value ≡ value schema.now
         → result ≡ length (elements (beside a (codes "prefixItems"))) }
 {
-    match schema.get("prefixItems") {
+    match schema.keyword_value(Keyword::PrefixItems) {
         Some(prefix) => elements_of(prefix).len(),
         None => 0,
     }

@@ -85,13 +85,16 @@ fn plan_target<'a>(
         → IfOk result (λ ps. map (planned_view k a) ps.items
         ≡ to_target a k (option_map target_view target.entry)) }
 {
-    let mut planned = Vec::new(alloc);
-    if let Some(target) = target {
-        planned.push(Planned {
-            chosen: Chosen::Target(target),
-            part: Part::Whole,
-            subject,
-        })?;
+    match target {
+        Some(target) => {
+            let mut planned = Vec::with_capacity(alloc, 1)?;
+            planned.push(Planned {
+                chosen: Chosen::Target(target),
+                part: Part::Whole,
+                subject,
+            })?;
+            Ok(planned)
+        }
+        None => Ok(Vec::new(alloc)),
     }
-    Ok(planned)
 }

@@ -5,4 +5,4 @@ use Rattle.evaluator.proofs.annotating.is_keyword.Goals as goal
 
 pub returns : goal.returns
 unfolding row_named
-returns c = c.is_some.ensures ∙ sym (is_some-map row_of c.named.result) ∙ ap is_some c.named.ensures
+returns c = c.is_some.ensures ∙ sym (is_some-map row_of c.keyword.result) ∙ ap is_some c.keyword.ensures

@@ -1,7 +1,7 @@
 use Rattle.std.proofs.Common.{[], ◌∷◌, ◌∙◌, sym, ap}
 use Rattle.definitions.specs.Outcomes.{unit}
 use Rattle.json_doc.specs.Docs.{value}
-use Rattle.json_doc.specs.Members.{members_left}
+use Rattle.json_doc.specs.NamedMembers.{name_text, named_left}
 use Rattle.evaluation_context.specs.Frames.{frame_standing}
 use Rattle.evaluator.specs.Annotations.{annotations_among}
 use Rattle.evaluator.specs.Logs.{log_view}
@@ -17,10 +17,12 @@ loop-name-preserved-in-Continue-1 c = record {
   documents = c.in_ok-note_member.ensures.documents ∙ c.loop-name.invariant.documents;
   noted = λ a at s i.
       let n = log_view c.loop-name.log in
-      let name = c.in-Some.name.now in
+      let name = name_text c.in-Some.name in
       let v = value c.in-Some.member.now in
-      let rest = members_left c.next.new.self in
-      ap (λ m. notes_of_both m (annotated (annotations_among a rest))) (c.in_ok-note_member.ensures.noted a (ap frame_standing c.loop-name.invariant.back ∙ at))
+      let rest = named_left c.next.new.self in
+      let noted = c.in_ok-note_member.ensures.noted a (ap frame_standing c.loop-name.invariant.back ∙ at)
+      ∙ ap (λ t. notes_of_both n (annotated (unit a t v ∷ []))) c.as_str.ensures in
+      ap (λ m. notes_of_both m (annotated (annotations_among a rest))) noted
       ∙ annotated_then n (unit a name v ∷ []) (annotations_among a rest)
       ∙ ap (λ us. notes_of_both n (annotated us))
       (annotation_here a name v rest

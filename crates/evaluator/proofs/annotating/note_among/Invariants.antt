@@ -1,6 +1,7 @@
 use Rattle.std.proofs.Common.{◌≡◌}
 use Rattle.definitions.specs.Applied.{Application}
 use Rattle.json_doc.specs.Docs.{value}
+use Rattle.json_doc.specs.NamedMembers.{named_left}
 use Rattle.json_doc.specs.Members.{members_left}
 use Rattle.keyword_plans.specs.ScopeViews.{scope_documents}
 use Rattle.keyword_plans.specs.Subjects.{subject_value}
@@ -18,6 +19,6 @@ invariant-loop-name l =
       back : context_view l.context ≡ context_view l.initial.context;
       documents : scope_documents l.context.scope ≡ scope_documents l.initial.context.scope;
       noted : (a : Application) → frame_standing (context_view l.initial.context) ≡ standing_of a → a.schema.value ≡ value l.schema → a.instance ≡ subject_value l.subject
-          → notes_of_both (log_view l.log) (record no_notes { annotations = annotation_texts (annotations_among a (members_left l.name-iterator)) })
+          → notes_of_both (log_view l.log) (record no_notes { annotations = annotation_texts (annotations_among a (named_left l.name-iterator)) })
           ≡ notes_of_both (log_view l.initial.log) (record no_notes { annotations = annotation_texts (annotations_among a (members_left l.fn.members)) });
     }

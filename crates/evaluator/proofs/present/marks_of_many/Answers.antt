@@ -7,5 +7,5 @@ pub returns : goal.returns
 returns c i zero =
     let cut = c.cut_at_dollar_names-cut in
     let within = members_left cut.result.within in
-    all_in_parts c.marks_without_values.result c.dollar_marks.result c.marks_without_values-2.result i (members_left cut.result.before) within (members_left cut.result.after) (members_value c.args.members.now)
-    cut.ensures.all (c.marks_without_values.ensures i) (dollars_marked c.dollar_marks.result i within c.dollar_marks.ensures cut.ensures.within) (c.marks_without_values-2.ensures i) zero
+    all_in_parts c.marks_among.result c.dollar_marks.result c.marks_among-2.result i (members_left cut.result.before) within (members_left cut.result.after) (members_value c.args.members.now)
+    cut.ensures.all (c.marks_among.ensures i) (dollars_marked c.dollar_marks.result i within c.dollar_marks.ensures cut.ensures.within) (c.marks_among-2.ensures i) zero

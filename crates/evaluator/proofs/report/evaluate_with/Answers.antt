@@ -5,7 +5,7 @@ use Rattle.schema_index.specs.Locateds.{located_view}
 use Rattle.evaluation_context.specs.Frames.{context_view}
 use Rattle.evaluator.specs.Logs.{log_view}
 use Rattle.evaluator.specs.Rounds.{IsAt, linked_outcome}
-use Rattle.evaluator.proofs.ReportLaws.{first_outcome, first_is_at, gives_err, gives_ok, gives_same, noted_first, unreached_changes_nothing}
+use Rattle.evaluator.proofs.ReportLaws.{costly_first, first_outcome, first_is_at, gives_err, gives_ok, gives_same, noted_first, unreached_changes_nothing}
 use Rattle.evaluator.proofs.report.evaluate_with.Goals as goal
 
 pub returns : goal.returns
@@ -17,9 +17,10 @@ returns c =
     let o = linked_outcome l 1000 a in
     let at = subst (λ v. IsAt l (context_view c.in_ok-context.context) v x a) (ap value (sym c.of-present.ensures))
     (first_is_at l (context_view c.in_ok-context.context) s x c.root-root.ensures (c.in_ok-context.ensures.there x)) in
-    let noted = noted_first c.apply-found.result (log_view c.apply-found.new.self.log) _ o c.within.ensures (c.apply-found.ensures.noted a at) in
+    let noted = noted_first c.apply-passed.result (log_view c.apply-passed.new.self.log) _ o c.within.ensures (c.apply-passed.ensures.noted a at) in
+    let costly = costly_first c.apply-passed.result _ o c.within.ensures (c.apply-passed.ensures.err a at) in
     let r = c.reported-report.result in
-    let given = gives_same r (first_outcome l s x c.root-root.ensures) (c.reported-report.ensures o (c.apply-found.ensures.found a at) noted (c.apply-found.ensures.err a at)) in
+    let given = gives_same r (first_outcome l s x c.root-root.ensures) (c.reported-report.ensures o (c.apply-passed.ensures.valid a at) noted costly) in
     record {
       ok = gives_ok r _ given;
       err = gives_err r _ given;

@@ -1,14 +1,23 @@
-use Rattle.std.proofs.Common.{◌∙◌, IfOk, subst, sym}
-use Rattle.evaluator.specs.Findings.{Finds}
-use Rattle.evaluator.proofs.ReportLaws.{answer_loop, answer_deep}
+use Rattle.std.proofs.Common.{◌≡◌, ◌∙◌, OnOk, IfOk, subst}
+use Rattle.evaluator.specs.Logs.{log_view}
+use Rattle.evaluator.specs.Notes.{outcome_notes}
+use Rattle.evaluator.proofs.ReportLaws.{answer_deep, answer_loop, answer_made, deep_so, gives_made, gives_same, looped_so, within_most}
 use Rattle.evaluator.proofs.report.reported.Goals as goal
 
-pub returns-then-found : goal.returns-then-found
-returns-then-found c = λ o finds noted costly other.
-    let f = subst (λ r. IfOk r (λ f. Finds f 100000 o)) c.in-Ok.is finds in
-    answer_loop 100000 o f.within (sym f.looped ∙ c.if-found.true)
+pub returns-then-log : goal.returns-then-log
+returns-then-log c = λ o valid noted costly other.
+    let e = subst (λ r. OnOk r (log_view c.args.log.now ≡ outcome_notes o)) c.in-Ok.is noted in
+    answer_loop 100000 o (within_most c.args.log.now o e) (looped_so c.args.log.now o e ∙ c.if-log.true)
 
-pub returns-then-found-2 : goal.returns-then-found-2
-returns-then-found-2 c = λ o finds noted costly other.
-    let f = subst (λ r. IfOk r (λ f. Finds f 100000 o)) c.in-Ok.is finds in
-    answer_deep 100000 o f.within (sym f.looped ∙ c.if-found.false) (sym f.deep ∙ c.if-found-2.true)
+pub returns-then-log-2 : goal.returns-then-log-2
+returns-then-log-2 c = λ o valid noted costly other.
+    let e = subst (λ r. OnOk r (log_view c.args.log.now ≡ outcome_notes o)) c.in-Ok.is noted in
+    answer_deep 100000 o (within_most c.args.log.now o e) (looped_so c.args.log.now o e ∙ c.if-log.false) (deep_so c.args.log.now o e ∙ c.if-log-2.true)
+
+pub returns-else-log-2 : goal.returns-else-log-2
+returns-else-log-2 c = λ o valid noted costly.
+    let e = subst (λ r. OnOk r (log_view c.args.log.now ≡ outcome_notes o)) c.in-Ok.is noted in
+    let v = subst (λ r. IfOk r (λ b. b ≡ o.valid)) c.in-Ok.is valid in
+    gives_same c.made.result
+    (answer_made 100000 o (within_most c.args.log.now o e) (looped_so c.args.log.now o e ∙ c.if-log.false) (deep_so c.args.log.now o e ∙ c.if-log-2.false))
+    (gives_made c.made.result o c.in-Ok.valid v c.made.ensures.valid (c.made.ensures.text o v e) c.made.ensures.err)

@@ -5,7 +5,7 @@ use Rattle.evaluator.specs.Notes.{Lengths, notes_of_both}
 use Rattle.evaluator.specs.Logs.{log_view}
 use Rattle.evaluator.specs.Rounds.{use_there}
 use Rattle.evaluator.specs.declared.log.Before.{Before}
-use Rattle.evaluator.proofs.LogLaws.{same_notes, rest_list, errors_of, annotations_of, names_of, indexes_of}
+use Rattle.evaluator.proofs.LogLaws.{same_notes, rest_list, errors_of, annotations_of, names_of, indexes_of, tally_of}
 use Rattle.evaluator.proofs.SettlingLaws.{names_of_patterns, names_of_others}
 use Rattle.evaluator.proofs.settling.note_own.Goals as goal
 
@@ -23,7 +23,7 @@ returns-in_ok-names-in-PatternProperties-clause-noted c l left a names indexes v
     let told = c.insert_own.ensures.noted l left a names indexes v older.annotations more.annotations inst count under (ap (λ (k : Lengths). k.annotations) m) (annotations_of (log_view log) older more e)
     (ap (map (λ n. n.now)) c.deref-in-PatternProperties.ensures.value ∙ c.in_ok-names-in-PatternProperties.ensures ∙ ap once later ∙ names_of_patterns c.args.keyword u.names c.in-PatternProperties.is) later_indexes in
     on_ok_weaker c.insert_own.result
-    (λ inserted. same_notes (errors_of (log_view log) older more e) inserted (names_of (log_view log) older more e) (indexes_of (log_view log) older more e)) told
+    (λ inserted. same_notes (errors_of (log_view log) older more e) inserted (names_of (log_view log) older more e) (indexes_of (log_view log) older more e) (tally_of (log_view log) older more e)) told
 
 pub returns-in_default-clause-noted : goal.returns-in_default-clause-noted
 unfolding log_view notes_of_both
@@ -39,4 +39,4 @@ returns-in_default-clause-noted c l left a names indexes v older more inst count
     let told = c.insert_own-in_default.ensures.noted l left a names indexes v older.annotations more.annotations inst count under (ap (λ (k : Lengths). k.annotations) m) (annotations_of (log_view log) older more e)
     (later ∙ names_of_others c.args.keyword u.names c.in_default.not-PatternProperties) later_indexes in
     on_ok_weaker c.insert_own-in_default.result
-    (λ inserted. same_notes (errors_of (log_view log) older more e) inserted (names_of (log_view log) older more e) (indexes_of (log_view log) older more e)) told
+    (λ inserted. same_notes (errors_of (log_view log) older more e) inserted (names_of (log_view log) older more e) (indexes_of (log_view log) older more e) (tally_of (log_view log) older more e)) told

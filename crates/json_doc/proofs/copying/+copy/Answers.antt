@@ -60,8 +60,8 @@ copy_members-loop-name-preserved t c =
     let step : members_left c.loop-name.name-iterator ≡ first ∷ rest = c.in-Some.ensures.steps in
     let all : members_value c.args.members.now ≡ done ++ first ∷ rest = c.loop-name.invariant.copies ∙ ap (λ ms. done ++ ms) step in
     let whole : HasNamesInOrder (done ++ first ∷ rest) = subst HasNamesInOrder all c.iter-name-items.ensures.ordered in
-    let added : members_value c.insert.new.self ≡ done ++ first ∷ [] =
-    c.in_ok-insert.ensures.ok ∙ ap (λ v. members_with first.0 v done) c.in_ok-copy.ensures.ok ∙ put_last done first rest whole in
+    let added : members_value c.insert_named.new.self ≡ done ++ first ∷ [] =
+    c.in_ok-insert_named.ensures.ok ∙ ap (λ v. members_with first.0 v done) c.in_ok-copy.ensures.ok ∙ put_last done first rest whole in
     let ordered : HasNamesInOrder (first ∷ rest) = rw step at c.loop-name.invariant.ordered in
     let utf8 : HasTextsAsNames (first ∷ rest) = rw step at c.loop-name.invariant.utf8 in
     record {

@@ -6,8 +6,8 @@ use Rattle.evaluator.proofs.applying.Evaluation.+apply.Answers.ObjectKeywords as
 use Rattle.evaluator.proofs.applying.Evaluation.+apply.Answers.OneKeyword as one_keyword
 use Rattle.evaluator.proofs.applying.Evaluation.+apply.Goals as goal
 
-pub apply_object-returns-in_ok-settle_object-in-Ok-clause-found : goal.apply_object-returns-in_ok-settle_object-in-Ok-clause-found
-apply_object-returns-in_ok-settle_object-in-Ok-clause-found = applying.apply_object-returns-in_ok-settle_object-in-Ok-clause-found
+pub apply_object-returns-in_ok-settle_object-in-Ok-clause-valid : goal.apply_object-returns-in_ok-settle_object-in-Ok-clause-valid
+apply_object-returns-in_ok-settle_object-in-Ok-clause-valid = applying.apply_object-returns-in_ok-settle_object-in-Ok-clause-valid
 
 pub apply_object-returns-in_ok-settle_object-in-Ok-clause-noted : goal.apply_object-returns-in_ok-settle_object-in-Ok-clause-noted
 apply_object-returns-in_ok-settle_object-in-Ok-clause-noted = applying.apply_object-returns-in_ok-settle_object-in-Ok-clause-noted
@@ -15,8 +15,38 @@ apply_object-returns-in_ok-settle_object-in-Ok-clause-noted = applying.apply_obj
 pub apply_object-returns-in-Err-clause-err : goal.apply_object-returns-in-Err-clause-err
 apply_object-returns-in-Err-clause-err = applying.apply_object-returns-in-Err-clause-err
 
-pub use_keywords-returns-in-Ok-use_two-clause-found : goal.use_keywords-returns-in-Ok-use_two-clause-found
-use_keywords-returns-in-Ok-use_two-clause-found = object_keywords.use_keywords-returns-in-Ok-use_two-clause-found
+pub apply-returns-then-is_full-clause-err : goal.apply-returns-then-is_full-clause-err
+apply-returns-then-is_full-clause-err = applying.apply-returns-then-is_full-clause-err
+
+pub apply-returns-in-Some-clause-valid : goal.apply-returns-in-Some-clause-valid
+apply-returns-in-Some-clause-valid = applying.apply-returns-in-Some-clause-valid
+
+pub apply-returns-in-Some-clause-noted : goal.apply-returns-in-Some-clause-noted
+apply-returns-in-Some-clause-noted = applying.apply-returns-in-Some-clause-noted
+
+pub apply_other-returns-then-is_looping-clause-valid : goal.apply_other-returns-then-is_looping-clause-valid
+apply_other-returns-then-is_looping-clause-valid = applying.apply_other-returns-then-is_looping-clause-valid
+
+pub apply_other-returns-then-is_looping-clause-noted : goal.apply_other-returns-then-is_looping-clause-noted
+apply_other-returns-then-is_looping-clause-noted = applying.apply_other-returns-then-is_looping-clause-noted
+
+pub apply_other-returns-then-nesting-eq0-clause-valid : goal.apply_other-returns-then-nesting-eq0-clause-valid
+apply_other-returns-then-nesting-eq0-clause-valid = applying.apply_other-returns-then-nesting-eq0-clause-valid
+
+pub apply_other-returns-then-nesting-eq0-clause-noted : goal.apply_other-returns-then-nesting-eq0-clause-noted
+apply_other-returns-then-nesting-eq0-clause-noted = applying.apply_other-returns-then-nesting-eq0-clause-noted
+
+pub apply_other-returns-clause-valid : goal.apply_other-returns-clause-valid
+apply_other-returns-clause-valid = applying.apply_other-returns-clause-valid
+
+pub apply_other-returns-clause-noted : goal.apply_other-returns-clause-noted
+apply_other-returns-clause-noted = applying.apply_other-returns-clause-noted
+
+pub apply_other-returns-clause-err : goal.apply_other-returns-clause-err
+apply_other-returns-clause-err = applying.apply_other-returns-clause-err
+
+pub use_keywords-returns-in-Ok-use_two-clause-valid : goal.use_keywords-returns-in-Ok-use_two-clause-valid
+use_keywords-returns-in-Ok-use_two-clause-valid = object_keywords.use_keywords-returns-in-Ok-use_two-clause-valid
 
 pub use_keywords-returns-in-Ok-use_two-clause-noted : goal.use_keywords-returns-in-Ok-use_two-clause-noted
 use_keywords-returns-in-Ok-use_two-clause-noted = object_keywords.use_keywords-returns-in-Ok-use_two-clause-noted
@@ -27,8 +57,8 @@ use_keywords-returns-in-Err-use_two-clause-err = object_keywords.use_keywords-re
 pub use_keywords-returns-in-Err-clause-err : goal.use_keywords-returns-in-Err-clause-err
 use_keywords-returns-in-Err-clause-err = object_keywords.use_keywords-returns-in-Err-clause-err
 
-pub use_keywords-returns-then-not-looks_at_evaluated-clause-found : goal.use_keywords-returns-then-not-looks_at_evaluated-clause-found
-use_keywords-returns-then-not-looks_at_evaluated-clause-found = object_keywords.use_keywords-returns-then-not-looks_at_evaluated-clause-found
+pub use_keywords-returns-then-not-looks_at_evaluated-clause-valid : goal.use_keywords-returns-then-not-looks_at_evaluated-clause-valid
+use_keywords-returns-then-not-looks_at_evaluated-clause-valid = object_keywords.use_keywords-returns-then-not-looks_at_evaluated-clause-valid
 
 pub use_keywords-returns-then-not-looks_at_evaluated-clause-noted : goal.use_keywords-returns-then-not-looks_at_evaluated-clause-noted
 use_keywords-returns-then-not-looks_at_evaluated-clause-noted = object_keywords.use_keywords-returns-then-not-looks_at_evaluated-clause-noted
@@ -48,8 +78,8 @@ use_groups-returns-in-Err-clause-err = object_keywords.use_groups-returns-in-Err
 pub use_groups-loop-next-preserved : goal.use_groups-loop-next-preserved
 use_groups-loop-next-preserved = object_keywords.use_groups-loop-next-preserved
 
-pub use_groups-returns-clause-found : goal.use_groups-returns-clause-found
-use_groups-returns-clause-found = object_keywords.use_groups-returns-clause-found
+pub use_groups-returns-clause-valid : goal.use_groups-returns-clause-valid
+use_groups-returns-clause-valid = object_keywords.use_groups-returns-clause-valid
 
 pub use_groups-returns-clause-noted : goal.use_groups-returns-clause-noted
 use_groups-returns-clause-noted = object_keywords.use_groups-returns-clause-noted
@@ -60,14 +90,14 @@ use_group-returns-in-One-clause-err = object_keywords.use_group-returns-in-One-c
 pub use_group-returns-in-Conditional-clause-err : goal.use_group-returns-in-Conditional-clause-err
 use_group-returns-in-Conditional-clause-err = object_keywords.use_group-returns-in-Conditional-clause-err
 
-pub use_group-returns-in-Counted-clause-found : goal.use_group-returns-in-Counted-clause-found
-use_group-returns-in-Counted-clause-found = object_keywords.use_group-returns-in-Counted-clause-found
+pub use_group-returns-in-Counted-clause-valid : goal.use_group-returns-in-Counted-clause-valid
+use_group-returns-in-Counted-clause-valid = object_keywords.use_group-returns-in-Counted-clause-valid
 
 pub use_group-returns-in-Counted-clause-err : goal.use_group-returns-in-Counted-clause-err
 use_group-returns-in-Counted-clause-err = object_keywords.use_group-returns-in-Counted-clause-err
 
-pub use_conditional-returns-in-Ok-use_two-clause-found : goal.use_conditional-returns-in-Ok-use_two-clause-found
-use_conditional-returns-in-Ok-use_two-clause-found = object_keywords.use_conditional-returns-in-Ok-use_two-clause-found
+pub use_conditional-returns-in-Ok-use_two-clause-valid : goal.use_conditional-returns-in-Ok-use_two-clause-valid
+use_conditional-returns-in-Ok-use_two-clause-valid = object_keywords.use_conditional-returns-in-Ok-use_two-clause-valid
 
 pub use_conditional-returns-in-Ok-use_two-clause-noted : goal.use_conditional-returns-in-Ok-use_two-clause-noted
 use_conditional-returns-in-Ok-use_two-clause-noted = object_keywords.use_conditional-returns-in-Ok-use_two-clause-noted
@@ -78,8 +108,8 @@ use_conditional-returns-in-Err-use_two-clause-err = object_keywords.use_conditio
 pub use_conditional-returns-in-Err-clause-err : goal.use_conditional-returns-in-Err-clause-err
 use_conditional-returns-in-Err-clause-err = object_keywords.use_conditional-returns-in-Err-clause-err
 
-pub use_counted-returns-in-Ok-use_two-clause-found : goal.use_counted-returns-in-Ok-use_two-clause-found
-use_counted-returns-in-Ok-use_two-clause-found = object_keywords.use_counted-returns-in-Ok-use_two-clause-found
+pub use_counted-returns-in-Ok-use_two-clause-valid : goal.use_counted-returns-in-Ok-use_two-clause-valid
+use_counted-returns-in-Ok-use_two-clause-valid = object_keywords.use_counted-returns-in-Ok-use_two-clause-valid
 
 pub use_counted-returns-in-Ok-use_two-clause-noted : goal.use_counted-returns-in-Ok-use_two-clause-noted
 use_counted-returns-in-Ok-use_two-clause-noted = object_keywords.use_counted-returns-in-Ok-use_two-clause-noted
@@ -90,8 +120,8 @@ use_counted-returns-in-Err-use_two-clause-err = object_keywords.use_counted-retu
 pub use_counted-returns-in-Err-clause-err : goal.use_counted-returns-in-Err-clause-err
 use_counted-returns-in-Err-clause-err = object_keywords.use_counted-returns-in-Err-clause-err
 
-pub use_one-returns-in-None-clause-found : goal.use_one-returns-in-None-clause-found
-use_one-returns-in-None-clause-found = object_keywords.use_one-returns-in-None-clause-found
+pub use_one-returns-in-None-clause-valid : goal.use_one-returns-in-None-clause-valid
+use_one-returns-in-None-clause-valid = object_keywords.use_one-returns-in-None-clause-valid
 
 pub use_one-returns-in-None-clause-noted : goal.use_one-returns-in-None-clause-noted
 use_one-returns-in-None-clause-noted = object_keywords.use_one-returns-in-None-clause-noted
@@ -102,8 +132,8 @@ use_one-returns-in-None-clause-err = object_keywords.use_one-returns-in-None-cla
 pub use_two-returns-in-Ok-use_named-clause-noted : goal.use_two-returns-in-Ok-use_named-clause-noted
 use_two-returns-in-Ok-use_named-clause-noted = object_keywords.use_two-returns-in-Ok-use_named-clause-noted
 
-pub use_two-returns-in-Ok-use_named-clause-found : goal.use_two-returns-in-Ok-use_named-clause-found
-use_two-returns-in-Ok-use_named-clause-found = object_keywords.use_two-returns-in-Ok-use_named-clause-found
+pub use_two-returns-in-Ok-use_named-clause-valid : goal.use_two-returns-in-Ok-use_named-clause-valid
+use_two-returns-in-Ok-use_named-clause-valid = object_keywords.use_two-returns-in-Ok-use_named-clause-valid
 
 pub use_two-returns-in-Err-use_named-clause-err : goal.use_two-returns-in-Err-use_named-clause-err
 use_two-returns-in-Err-use_named-clause-err = object_keywords.use_two-returns-in-Err-use_named-clause-err
@@ -114,8 +144,17 @@ use_two-returns-in-Err-clause-err = object_keywords.use_two-returns-in-Err-claus
 pub use_named-returns-in-None-clause-noted : goal.use_named-returns-in-None-clause-noted
 use_named-returns-in-None-clause-noted = object_keywords.use_named-returns-in-None-clause-noted
 
-pub use_keyword-returns-in-Ok-clause-found : goal.use_keyword-returns-in-Ok-clause-found
-use_keyword-returns-in-Ok-clause-found = one_keyword.use_keyword-returns-in-Ok-clause-found
+pub use_named-returns-in-None-clause-valid : goal.use_named-returns-in-None-clause-valid
+use_named-returns-in-None-clause-valid = object_keywords.use_named-returns-in-None-clause-valid
+
+pub use_named-returns-in-None-clause-passing : goal.use_named-returns-in-None-clause-passing
+use_named-returns-in-None-clause-passing = object_keywords.use_named-returns-in-None-clause-passing
+
+pub use_keyword-returns-in-Ok-clause-valid : goal.use_keyword-returns-in-Ok-clause-valid
+use_keyword-returns-in-Ok-clause-valid = one_keyword.use_keyword-returns-in-Ok-clause-valid
+
+pub use_keyword-returns-in-Ok-clause-passing : goal.use_keyword-returns-in-Ok-clause-passing
+use_keyword-returns-in-Ok-clause-passing = one_keyword.use_keyword-returns-in-Ok-clause-passing
 
 pub use_keyword-returns-in-Ok-clause-noted : goal.use_keyword-returns-in-Ok-clause-noted
 use_keyword-returns-in-Ok-clause-noted = one_keyword.use_keyword-returns-in-Ok-clause-noted
@@ -138,44 +177,20 @@ apply_all-returns-clause-found = one_keyword.apply_all-returns-clause-found
 pub apply_all-returns-clause-noted : goal.apply_all-returns-clause-noted
 apply_all-returns-clause-noted = one_keyword.apply_all-returns-clause-noted
 
+pub apply_chosen-returns-then-is_true-clause-valid : goal.apply_chosen-returns-then-is_true-clause-valid
+apply_chosen-returns-then-is_true-clause-valid = one_keyword.apply_chosen-returns-then-is_true-clause-valid
+
 pub apply_chosen-returns-then-is_true-clause-noted : goal.apply_chosen-returns-then-is_true-clause-noted
 apply_chosen-returns-then-is_true-clause-noted = one_keyword.apply_chosen-returns-then-is_true-clause-noted
+
+pub apply_chosen-returns-then-passes-clause-valid : goal.apply_chosen-returns-then-passes-clause-valid
+apply_chosen-returns-then-passes-clause-valid = one_keyword.apply_chosen-returns-then-passes-clause-valid
 
 pub apply_chosen-returns-then-passes-clause-noted : goal.apply_chosen-returns-then-passes-clause-noted
 apply_chosen-returns-then-passes-clause-noted = one_keyword.apply_chosen-returns-then-passes-clause-noted
 
-pub apply_chosen-returns-in-Ok-clause-found : goal.apply_chosen-returns-in-Ok-clause-found
-apply_chosen-returns-in-Ok-clause-found = one_keyword.apply_chosen-returns-in-Ok-clause-found
+pub apply_chosen-returns-in-Ok-clause-valid : goal.apply_chosen-returns-in-Ok-clause-valid
+apply_chosen-returns-in-Ok-clause-valid = one_keyword.apply_chosen-returns-in-Ok-clause-valid
 
 pub apply_chosen-returns-in-Err-clause-err : goal.apply_chosen-returns-in-Err-clause-err
 apply_chosen-returns-in-Err-clause-err = one_keyword.apply_chosen-returns-in-Err-clause-err
-
-pub apply-returns-then-room-eq0-clause-err : goal.apply-returns-then-room-eq0-clause-err
-apply-returns-then-room-eq0-clause-err = applying.apply-returns-then-room-eq0-clause-err
-
-pub apply-returns-in-Some-clause-found : goal.apply-returns-in-Some-clause-found
-apply-returns-in-Some-clause-found = applying.apply-returns-in-Some-clause-found
-
-pub apply-returns-in-Some-clause-noted : goal.apply-returns-in-Some-clause-noted
-apply-returns-in-Some-clause-noted = applying.apply-returns-in-Some-clause-noted
-
-pub apply_other-returns-then-is_looping-clause-found : goal.apply_other-returns-then-is_looping-clause-found
-apply_other-returns-then-is_looping-clause-found = applying.apply_other-returns-then-is_looping-clause-found
-
-pub apply_other-returns-then-is_looping-clause-noted : goal.apply_other-returns-then-is_looping-clause-noted
-apply_other-returns-then-is_looping-clause-noted = applying.apply_other-returns-then-is_looping-clause-noted
-
-pub apply_other-returns-then-room-eq0-clause-found : goal.apply_other-returns-then-room-eq0-clause-found
-apply_other-returns-then-room-eq0-clause-found = applying.apply_other-returns-then-room-eq0-clause-found
-
-pub apply_other-returns-then-room-eq0-clause-noted : goal.apply_other-returns-then-room-eq0-clause-noted
-apply_other-returns-then-room-eq0-clause-noted = applying.apply_other-returns-then-room-eq0-clause-noted
-
-pub apply_other-returns-clause-found : goal.apply_other-returns-clause-found
-apply_other-returns-clause-found = applying.apply_other-returns-clause-found
-
-pub apply_other-returns-clause-noted : goal.apply_other-returns-clause-noted
-apply_other-returns-clause-noted = applying.apply_other-returns-clause-noted
-
-pub apply_other-returns-clause-err : goal.apply_other-returns-clause-err
-apply_other-returns-clause-err = applying.apply_other-returns-clause-err

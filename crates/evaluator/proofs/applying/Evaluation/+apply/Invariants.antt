@@ -1,9 +1,10 @@
-use Rattle.std.proofs.Common.{◌≡◌, take, length, Contains, ◌+◌, ◌-◌, ◌*◌}
+use Rattle.std.proofs.Common.{◌≡◌, take, length, Contains, ◌≤◌, ◌+◌, ◌-◌, ◌*◌}
+use Rattle.std.specs.List.{list_all}
 use Rattle.definitions.specs.Applied.{Application}
 use Rattle.json_doc.specs.Docs.{value}
 use Rattle.keyword_plans.specs.Subjects.{subject_value}
 use Rattle.evaluation_context.specs.Frames.{context_view}
-use Rattle.evaluator.specs.Findings.{IsWithin, FindsObject, AreWithin, FindsAll}
+use Rattle.evaluator.specs.Findings.{FindsAll}
 use Rattle.evaluator.specs.Groups.{first_groups}
 use Rattle.evaluator.specs.Logs.{log_view}
 use Rattle.evaluator.specs.Notes.{notes_of_both, uses_notes, parts_notes}
@@ -13,64 +14,63 @@ use Rattle.keyword_plans.specs.declared.planned.Planned.{Planned}
 use Rattle.evaluator.proofs.applying.Evaluation.+apply.Given as goal
 
 abbrev pub decreases-apply_object : goal.decreases-apply_object
-decreases-apply_object l = 15 * l.room.nesting + 14
+decreases-apply_object l = 15 * l.nesting + 14
 
 abbrev pub decreases-use_keywords : goal.decreases-use_keywords
-decreases-use_keywords l = 15 * l.room.nesting + 13
+decreases-use_keywords l = 15 * l.nesting + 13
 
 abbrev pub decreases-use_groups : goal.decreases-use_groups
-decreases-use_groups l = 15 * l.room.nesting + 12
+decreases-use_groups l = 15 * l.nesting + 12
 
 abbrev pub decreases-use_group : goal.decreases-use_group
-decreases-use_group l = 15 * l.room.nesting + 11
+decreases-use_group l = 15 * l.nesting + 11
 
 abbrev pub decreases-use_conditional : goal.decreases-use_conditional
-decreases-use_conditional l = 15 * l.room.nesting + 10
+decreases-use_conditional l = 15 * l.nesting + 10
 
 abbrev pub decreases-use_counted : goal.decreases-use_counted
-decreases-use_counted l = 15 * l.room.nesting + 9
+decreases-use_counted l = 15 * l.nesting + 9
 
 abbrev pub decreases-use_one : goal.decreases-use_one
-decreases-use_one l = 15 * l.room.nesting + 8
+decreases-use_one l = 15 * l.nesting + 8
 
 abbrev pub decreases-use_two : goal.decreases-use_two
-decreases-use_two l = 15 * l.room.nesting + 7
+decreases-use_two l = 15 * l.nesting + 7
 
 abbrev pub decreases-use_named : goal.decreases-use_named
-decreases-use_named l = 15 * l.room.nesting + 6
+decreases-use_named l = 15 * l.nesting + 6
 
 abbrev pub decreases-use_keyword : goal.decreases-use_keyword
-decreases-use_keyword l = 15 * l.room.nesting + 5
+decreases-use_keyword l = 15 * l.nesting + 5
 
 abbrev pub decreases-apply_all : goal.decreases-apply_all
-decreases-apply_all l = 15 * l.room.nesting + 4
+decreases-apply_all l = 15 * l.nesting + 4
 
 abbrev pub decreases-apply_planned : goal.decreases-apply_planned
-decreases-apply_planned l = 15 * l.room.nesting + 3
+decreases-apply_planned l = 15 * l.nesting + 3
 
 abbrev pub decreases-apply_chosen : goal.decreases-apply_chosen
-decreases-apply_chosen l = 15 * l.room.nesting + 2
+decreases-apply_chosen l = 15 * l.nesting + 2
 
 abbrev pub decreases-apply : goal.decreases-apply
-decreases-apply l = 15 * l.room.nesting + 1
+decreases-apply l = 15 * l.nesting + 1
 
 abbrev pub decreases-apply_other : goal.decreases-apply_other
-decreases-apply_other l = 15 * l.room.nesting
+decreases-apply_other l = 15 * l.nesting
 
 abbrev pub decreases-use_groups-loop-next : goal.decreases-use_groups-loop-next
 decreases-use_groups-loop-next l = length l.groups - l.next
 
--- what the groups so far found and noted
+-- what the groups so far say and noted
 abbrev pub invariant-use_groups-loop-next : goal.invariant-use_groups-loop-next
 invariant-use_groups-loop-next l =
     record {
       linked : l.self.linked ≡ l.fn.self.linked;
       back : context_view l.self.context ≡ context_view l.fn.self.context;
-      within : IsWithin l.found l.room.applications;
-      found : (a : Application) → IsAt l.fn.self.linked.now (context_view l.fn.self.context) (value l.here.present.now.schema.now) (subject_value l.here.subject) a
-          → FindsObject l.found l.room.applications (groups_uses l.fn.self.linked.now l.room.nesting a (take l.next first_groups));
+      valid : (a : Application) → IsAt l.fn.self.linked.now (context_view l.fn.self.context) (value l.here.present.now.schema.now) (subject_value l.here.subject) a
+          → l.valid ≡ list_all (λ u. u.passes) (groups_uses l.fn.self.linked.now l.nesting a (take l.next first_groups));
       noted : (a : Application) → IsAt l.fn.self.linked.now (context_view l.fn.self.context) (value l.here.present.now.schema.now) (subject_value l.here.subject) a
-          → log_view l.self.log ≡ notes_of_both (log_view l.fn.self.log) (uses_notes a (groups_uses l.fn.self.linked.now l.room.nesting a (take l.next first_groups)));
+          → log_view l.self.log ≡ notes_of_both (log_view l.fn.self.log) (uses_notes a (groups_uses l.fn.self.linked.now l.nesting a (take l.next first_groups)));
     }
 
 -- what the schemas applied so far found and noted
@@ -79,12 +79,13 @@ invariant-apply_all-loop-one l =
     record {
       linked : l.self.linked ≡ l.fn.self.linked;
       back : context_view l.self.context ≡ context_view l.fn.self.context;
-      within : AreWithin l.applied l.room.applications;
+      number : l.applied.number ≡ l.one-index;
+      passing : l.applied.passing ≤ l.applied.number;
       found : (a : Application) → IsUnder (context_view l.fn.self.context) (row_of l.keyword).name a
           → ((p : Planned) → Contains l.planned.items p → IsKnown l.fn.self.linked.now (row_of l.keyword).name a p)
-          → FindsAll l.applied l.room.applications (part_outcomes l.fn.self.linked.now l.room.nesting (row_of l.keyword).name a (take l.one-index l.one-items));
+          → FindsAll l.applied (part_outcomes l.fn.self.linked.now l.nesting (row_of l.keyword).name a (take l.one-index l.one-items));
       noted : (a : Application) → IsUnder (context_view l.fn.self.context) (row_of l.keyword).name a
           → ((p : Planned) → Contains l.planned.items p → IsKnown l.fn.self.linked.now (row_of l.keyword).name a p)
           → log_view l.self.log
-          ≡ notes_of_both (log_view l.fn.self.log) (parts_notes (row_of l.keyword).meaning (part_outcomes l.fn.self.linked.now l.room.nesting (row_of l.keyword).name a (take l.one-index l.one-items)));
+          ≡ notes_of_both (log_view l.fn.self.log) (parts_notes (row_of l.keyword).meaning (part_outcomes l.fn.self.linked.now l.nesting (row_of l.keyword).name a (take l.one-index l.one-items)));
     }

@@ -3,8 +3,6 @@ use Rattle.json_doc.specs.Docs.{value}
 use Rattle.keywords.specs.Rows.{row_of}
 use Rattle.evaluation_context.specs.Frames.{context_view, frame_standing}
 use Rattle.evaluator.specs.Logs.{log_view}
-use Rattle.evaluator.specs.Rounds.{use_there}
-use Rattle.evaluator.proofs.SettlingLaws.{use_found}
 use Rattle.evaluator.proofs.applying.Evaluation.finish_keyword.Goals as goal
 
 pub returns-clause-noted : goal.returns-clause-noted
@@ -13,10 +11,8 @@ returns-clause-noted c a left names indexes older at number passing m e =
     (c.in_ok-passes.ensures.passes a left names indexes at number passing)
     (ap (λ here. frame_standing (context_view here)) c.in_ok-passes.ensures.back ∙ at.under) m (ap log_view c.in_ok-passes.ensures.noted ∙ e)
 
-pub returns-clause-found : goal.returns-clause-found
-returns-clause-found c a left budget names indexes at finds =
-    use_found c.args.applied c.under.result budget (use_there c.args.self.now.linked.now left a c.args.keyword names indexes (value c.args.keyword_value.now))
-    c.in_ok-passes.passes finds (c.in_ok-passes.ensures.passes a left names indexes at finds.number finds.passing) c.under.ensures
+pub returns-clause-valid : goal.returns-clause-valid
+returns-clause-valid c a left names indexes at finds = c.in_ok-passes.ensures.passes a left names indexes at finds.number finds.passing
 
 pub returns-clause-back : goal.returns-clause-back
 returns-clause-back c older e = c.leave_keyword.ensures.left older (row_of c.args.keyword).name (c.in_ok-settle.ensures.back ∙ ap context_view c.in_ok-passes.ensures.back ∙ e)

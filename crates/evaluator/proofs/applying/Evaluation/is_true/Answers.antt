@@ -13,4 +13,4 @@ returns-then-allowed-clause-silent c a k under all =
     let child = (planned_view k a p).1 in
     let same : child.schema.value ≡ value c.args.schema.now = chosen_schema_value k a p.chosen (part_view p.part) (subject_value p.subject) ∙ sym c.requires in
     let is : Some true ≡ as_boolean child.schema.value = ap Some (sym c.if-allowed.true) ∙ c.in-Some.ensures ∙ ap as_boolean (sym same) in
-    true_silent c.args.self.now.linked.now c.args.room.nesting c.args.room.applications child is (c.has_room.ensures.nests all) (c.has_room.ensures.some all)
+    true_silent c.args.self.now.linked.now c.args.nesting child is (c.has_room.ensures.nests all)

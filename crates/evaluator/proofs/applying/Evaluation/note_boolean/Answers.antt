@@ -8,15 +8,16 @@ use Rattle.evaluation_context.specs.Frames.{frame_standing}
 use Rattle.evaluation_context.specs.Standings.{unit_there}
 use Rattle.evaluator.specs.Logs.{log_view}
 use Rattle.evaluator.specs.Notes.{no_notes, notes_of_both}
-use Rattle.evaluator.proofs.LogLaws.{added_nothing}
+use Rattle.evaluator.proofs.LogLaws.{error_after}
 use Rattle.evaluator.proofs.applying.Evaluation.note_boolean.Goals as goal
 
 pub returns-then-allowed-clause-noted : goal.returns-then-allowed-clause-noted
-returns-then-allowed-clause-noted c a s x e = rw c.if-allowed.true (sym (added_nothing (log_view c.args.self.now.log)))
+returns-then-allowed-clause-noted c a s x e = rw c.if-allowed.true c.count_one.ensures
 
 pub returns-clause-noted : goal.returns-clause-noted
 returns-clause-noted c a s x e =
     rw c.if-allowed.false
     (c.in_ok-push_error.ensures
-    ∙ ap (λ (u : OutputUnit). notes_of_both (log_view c.args.self.now.log) (record no_notes { errors = unit_text false u ∷ [] }))
-    (c.location.ensures NotAllowed ∙ ap (λ f. unit_there (frame_standing f) (says_value NotAllowed)) c.write_locations.ensures.same ∙ sym (ap false_unit e)))
+    ∙ ap (λ (u : OutputUnit). notes_of_both (log_view c.count_one.new.self) (record no_notes { errors = unit_text false u ∷ [] }))
+    (c.location.ensures NotAllowed ∙ ap (λ f. unit_there (frame_standing f) (says_value NotAllowed)) c.write_locations.ensures.same ∙ sym (ap false_unit e))
+    ∙ error_after (log_view c.args.self.now.log) (log_view c.count_one.new.self) (unit_text false (false_unit a)) c.count_one.ensures)

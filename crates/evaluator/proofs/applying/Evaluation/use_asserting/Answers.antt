@@ -1,7 +1,6 @@
-use Rattle.std.proofs.Common.{◌≡◌, ◌∙◌, ap, sym, false, is_some, option_map}
+use Rattle.std.proofs.Common.{◌≡◌, ◌∙◌, ap, sym, subst, IfOk, false, is_some, option_map}
 use Rattle.std.specs.List.{list_all}
 use Rattle.assertions.specs.AssertionView.{assertion_view}
-use Rattle.definitions.specs.Outcomes.{Use}
 use Rattle.evaluator.specs.Groups.{asserts_alone}
 use Rattle.evaluator.specs.Logs.{log_view}
 use Rattle.evaluator.specs.Notes.{notes_of_both, uses_notes}
@@ -9,10 +8,9 @@ use Rattle.evaluator.specs.Rounds.{group_uses}
 use Rattle.evaluator.proofs.LogLaws.{added_nothing}
 use Rattle.evaluator.proofs.applying.Evaluation.use_asserting.Goals as goal
 
-pub returns-in_ok-found-in-Some-clause-valid : goal.returns-in_ok-found-in-Some-clause-valid
-returns-in_ok-found-in-Some-clause-valid c a left at none =
-    (c.in_ok-found-in-Some.ensures.found a left 0 at).valid
-    ∙ ap (λ g. list_all (λ (u : Use). u.passes) (group_uses c.args.self.now.linked.now left a g)) (sym c.in-One.is)
+pub returns-in-Some-clause-valid : goal.returns-in-Some-clause-valid
+returns-in-Some-clause-valid c a left at none =
+    subst (λ g. IfOk c.use_assertion.result (λ b. b ≡ list_all (λ u. u.passes) (group_uses c.args.self.now.linked.now left a g))) (sym c.in-One.is) (c.use_assertion.ensures.valid a left at)
 
 pub returns-in-None-clause-noted : goal.returns-in-None-clause-noted
 returns-in-None-clause-noted c a left at none =

@@ -1,33 +1,32 @@
-use Rattle.std.proofs.Common.{◌≡◌, ◌∙◌, ap, sym, subst, Some, None, true, false, OnOk}
-use Rattle.std.proofs.lemmas.Result.{IfOk-weaker}
+use Rattle.std.proofs.Common.{◌≡◌, ◌∙◌, ap, sym, subst, Some, None, true, false, IfOk, OnOk}
+use Rattle.std.specs.List.{list_all}
 use Rattle.assertions.specs.AssertionView.{assertion_view}
 use Rattle.definitions.specs.Values.{get}
 use Rattle.definitions.specs.Assertions.{holds}
 use Rattle.definitions.specs.Applied.{Application}
+use Rattle.definitions.specs.Outcomes.{Use}
 use Rattle.json_doc.specs.Docs.{value}
 use Rattle.keywords.specs.Rows.{row_of}
 use Rattle.keywords.specs.declared.group.Group.TheVariants.{One}
 use Rattle.evaluation_context.specs.Frames.{context_view, frame_standing}
 use Rattle.evaluation_context.specs.Standings.{standing_of}
 use Rattle.evaluation_context.specs.declared.context.Context.{Context}
-use Rattle.evaluator.specs.Findings.{FindsUses}
 use Rattle.evaluator.specs.Logs.{log_view}
 use Rattle.evaluator.specs.Notes.{Notes, notes_of_both, uses_notes}
 use Rattle.evaluator.specs.Rounds.{group_uses}
 use Rattle.evaluator.specs.declared.log.Log.{Log}
-use Rattle.evaluator.proofs.AssertedLaws.{absent_found, absent_use, alone_found, asserted_use, failing_notes, passing_notes}
+use Rattle.evaluator.proofs.AssertedLaws.{absent_use, alone_valid, asserted_use, failing_notes, passing_notes}
 use Rattle.evaluator.proofs.LogLaws.{added_nothing}
 use Rattle.evaluator.proofs.applying.Evaluation.use_assertion.Goals as goal
 
-pub returns-then-met-clause-found : goal.returns-then-met-clause-found
-returns-then-met-clause-found c a left budget at =
+pub returns-then-met-clause-valid : goal.returns-then-met-clause-valid
+returns-then-met-clause-valid c a left at =
     let k = c.args.keyword in
     let x = assertion_view c.args.assertion in
     let v = value c.in-Some.keyword_value.now in
     let got : get (row_of k).name a.schema.value ≡ Some v = ap (λ (b : Application). get (row_of k).name b.schema.value) at.there ∙ sym c.in-Some.ensures in
     let met : holds x v a.instance ≡ true = sym (c.in_ok-met-in-Some.ensures.met a at got) ∙ c.if-met.true in
-    subst (FindsUses c.nothing.result budget) (sym (asserted_use c.args.self.now.linked.now left a k v x c.requires.asserts got))
-    (alone_found c.nothing.result budget (row_of k).name x v a true met c.nothing.ensures)
+    alone_valid (row_of k).name x v a true met ∙ ap (list_all (λ (u : Use). u.passes)) (sym (asserted_use c.args.self.now.linked.now left a k v x c.requires.asserts got))
 
 pub returns-then-met-clause-noted : goal.returns-then-met-clause-noted
 returns-then-met-clause-noted c a left at =
@@ -39,16 +38,17 @@ returns-then-met-clause-noted c a left at =
     ap log_view c.in_ok-met-in-Some.ensures.noted ∙ sym (added_nothing (log_view c.args.self.now.log))
     ∙ ap (notes_of_both (log_view c.args.self.now.log)) (sym (ap (uses_notes a) (asserted_use c.args.self.now.linked.now left a k v x c.requires.asserts got) ∙ passing_notes (row_of k).name x v a met))
 
-pub returns-else-met-clause-found : goal.returns-else-met-clause-found
-returns-else-met-clause-found c a left budget at =
+pub returns-else-met-clause-valid : goal.returns-else-met-clause-valid
+returns-else-met-clause-valid c a left at =
     let k = c.args.keyword in
     let x = assertion_view c.args.assertion in
     let v = value c.in-Some.keyword_value.now in
     let got : get (row_of k).name a.schema.value ≡ Some v = ap (λ (b : Application). get (row_of k).name b.schema.value) at.there ∙ sym c.in-Some.ensures in
     let met : holds x v a.instance ≡ false = sym (c.in_ok-met-in-Some.ensures.met a at got) ∙ c.if-met.false in
-    IfOk-weaker c.refuse.result _ _
-    (λ f is. subst (FindsUses f budget) (sym (asserted_use c.args.self.now.linked.now left a k v x c.requires.asserts got)) (alone_found f budget (row_of k).name x v a false met is))
-    c.refuse.ensures.found
+    let us = group_uses c.args.self.now.linked.now left a (One k) in
+    let fails : false ≡ list_all (λ u. u.passes) us =
+    alone_valid (row_of k).name x v a false met ∙ ap (list_all (λ (u : Use). u.passes)) (sym (asserted_use c.args.self.now.linked.now left a k v x c.requires.asserts got)) in
+    subst (λ r. IfOk c.refuse.result (λ b. b ≡ r)) fails c.refuse.ensures.refused
 
 pub returns-else-met-clause-noted : goal.returns-else-met-clause-noted
 returns-else-met-clause-noted c a left at =
@@ -65,11 +65,11 @@ returns-else-met-clause-noted c a left at =
     (sym (ap (uses_notes a) (asserted_use c.args.self.now.linked.now left a k v x c.requires.asserts got) ∙ failing_notes (row_of k).name x v a met))
     (c.refuse.ensures.noted a standing))
 
-pub returns-in-None-clause-found : goal.returns-in-None-clause-found
-returns-in-None-clause-found c a left budget at =
+pub returns-in-None-clause-valid : goal.returns-in-None-clause-valid
+returns-in-None-clause-valid c a left at =
     let k = c.args.keyword in
     let gone : get (row_of k).name a.schema.value ≡ None = ap (λ (b : Application). get (row_of k).name b.schema.value) at.there ∙ sym c.in-None.ensures in
-    subst (FindsUses c.nothing-in-None.result budget) (sym (absent_use c.args.self.now.linked.now left a k gone)) (absent_found c.nothing-in-None.result budget c.nothing-in-None.ensures)
+    ap (list_all (λ (u : Use). u.passes)) (sym (absent_use c.args.self.now.linked.now left a k gone))
 
 pub returns-in-None-clause-noted : goal.returns-in-None-clause-noted
 returns-in-None-clause-noted c a left at =

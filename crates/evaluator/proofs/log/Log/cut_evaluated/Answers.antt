@@ -2,7 +2,7 @@ use Rattle.std.proofs.Common.{◌∙◌, ap, sym, map, append-nil}
 use Rattle.std.proofs.lemmas.List.{take-map}
 use Rattle.evaluator.specs.Notes.{Lengths, notes_of_both}
 use Rattle.evaluator.specs.Logs.{log_view}
-use Rattle.evaluator.proofs.LogLaws.{same_notes, cut_list, errors_of, annotations_of, names_of, indexes_of}
+use Rattle.evaluator.proofs.LogLaws.{same_notes, cut_list, errors_of, annotations_of, names_of, indexes_of, tally_of}
 use Rattle.evaluator.proofs.log.Log.cut_evaluated.Goals as goal
 
 pub returns : goal.returns
@@ -11,4 +11,4 @@ returns c older more m e =
     same_notes (errors_of _ older more e) (annotations_of _ older more e)
     (ap (map (λ name. name.now)) c.truncate.ensures.items ∙ sym (take-map (λ name. name.now) c.args.mark.now.names c.args.self.now.names.items)
     ∙ cut_list c.args.mark.now.names older.names more.names _ (ap (λ (l : Lengths). l.names) m) (names_of _ older more e) ∙ sym (append-nil _))
-    (c.truncate-2.ensures.items ∙ cut_list c.args.mark.now.indexes older.indexes more.indexes _ (ap (λ (l : Lengths). l.indexes) m) (indexes_of _ older more e) ∙ sym (append-nil _))
+    (c.truncate-2.ensures.items ∙ cut_list c.args.mark.now.indexes older.indexes more.indexes _ (ap (λ (l : Lengths). l.indexes) m) (indexes_of _ older more e) ∙ sym (append-nil _)) (tally_of _ older more e)

@@ -4,7 +4,7 @@ use Rattle.basic_output.specs.Pieces.{unit_text}
 use Rattle.basic_output.specs.Sayings.{unit_at}
 use Rattle.evaluator.specs.Notes.{Lengths, notes_of_both}
 use Rattle.evaluator.specs.Logs.{log_view}
-use Rattle.evaluator.proofs.LogLaws.{same_notes, inserted_list, errors_of, annotations_of, names_of, indexes_of}
+use Rattle.evaluator.proofs.LogLaws.{same_notes, inserted_list, errors_of, annotations_of, names_of, indexes_of, tally_of}
 use Rattle.evaluator.proofs.log.Log.insert_error.Goals as goal
 
 pub returns : goal.returns
@@ -12,4 +12,4 @@ unfolding log_view notes_of_both
 returns c older more m e =
     on_ok_weaker c.insert.result (λ new.
     same_notes (new ∙ inserted_list c.args.mark.now.errors older.errors more.errors _ (unit_text false (unit_at c.args.location c.args.says)) (ap (λ (l : Lengths). l.errors) m) (errors_of _ older more e))
-    (annotations_of _ older more e) (names_of _ older more e) (indexes_of _ older more e)) c.insert.ensures.ok
+    (annotations_of _ older more e) (names_of _ older more e) (indexes_of _ older more e) (tally_of _ older more e)) c.insert.ensures.ok

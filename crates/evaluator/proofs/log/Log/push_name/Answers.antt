@@ -2,11 +2,11 @@ use Rattle.std.proofs.Common.{sym, ap, map, ◌∷◌, [], ◌∙◌, append-nil
 use Rattle.std.proofs.lemmas.List.{map-append}
 use Rattle.evaluator.specs.Notes.{notes_of_both}
 use Rattle.evaluator.specs.Logs.{log_view}
-use Rattle.evaluator.proofs.LogLaws.{same_notes}
+use Rattle.evaluator.proofs.LogLaws.{same_notes, tallied_nothing}
 use Rattle.evaluator.proofs.log.Log.push_name.Goals as goal
 
 pub returns : goal.returns
 unfolding log_view notes_of_both
 returns c =
     same_notes (sym (append-nil _)) (sym (append-nil _))
-    (ap (map (λ name. name.now)) c.in_ok-push.ensures.items ∙ map-append (λ name. name.now) c.args.self.now.names.items (c.args.name ∷ [])) (sym (append-nil _))
+    (ap (map (λ name. name.now)) c.in_ok-push.ensures.items ∙ map-append (λ name. name.now) c.args.self.now.names.items (c.args.name ∷ [])) (sym (append-nil _)) (sym (tallied_nothing _))

@@ -1,8 +1,8 @@
-use Rattle.std.proofs.Common.{ap, map}
+use Rattle.std.proofs.Common.{ap, map, refl}
 use Rattle.evaluator.specs.Logs.{log_view}
 use Rattle.evaluator.proofs.LogLaws.{same_notes}
 use Rattle.evaluator.proofs.log.Log.within.Goals as goal
 
 pub returns : goal.returns
 unfolding log_view
-returns c = same_notes c.args.memory.no_errors c.args.memory.no_annotations (ap (map (λ name. name.now)) c.new.ensures.items) c.new-2.ensures.items
+returns c = same_notes c.args.memory.no_errors c.args.memory.no_annotations (ap (map (λ name. name.now)) c.new.ensures.items) c.new-2.ensures.items refl

@@ -1,30 +1,32 @@
 -- One keyword, and the schemas that it applies.
-use Rattle.std.proofs.Common.{◌≡◌, ◌<◌, ◌∙◌, sym, ap, subst, ◌-◌, Bor, refl, arith, length, OnOk, ◌∷◌, [], map, Contains as Contains-use_keyword, IfOk, Contains as Contains-apply_all}
+use Rattle.std.proofs.Common.{◌≡◌, ◌∙◌, sym, ap, subst, Bor, refl, arith, length, OnOk, ◌∷◌, [], map, Contains as Contains-use_keyword, IfOk, Contains as Contains-apply_all}
 use Rattle.definitions.specs.Applied.{Application, Part}
 use Rattle.json_doc.specs.Docs.{value}
 use Rattle.keyword_plans.specs.Subjects.{subject_value}
 use Rattle.evaluation_context.specs.Frames.{context_view, frame_standing}
 use Rattle.evaluation_context.specs.Standings.{at_keyword}
-use Rattle.evaluator.specs.Findings.{Finds, FindsUse, FindsAll, count_of}
+use Rattle.evaluator.specs.Findings.{FindsAll}
 use Rattle.evaluator.specs.Logs.{log_view}
-use Rattle.evaluator.specs.Notes.{notes_of_both, uses_notes, parts_notes, part_notes}
+use Rattle.evaluator.specs.Notes.{IsOver, notes_of_both, one_application, outcome_notes, uses_notes, parts_notes, part_notes}
+use Rattle.evaluator.specs.declared.log.Log.{Log}
 use Rattle.evaluator.specs.Rounds.{IsAt, names_since, indexes_since, IsAtKeyword, IsKnown, part_outcomes, linked_outcome, use_there, IsUnder, part_outcome}
 use Rattle.linker.specs.declared.linked.Linked.{Linked}
 use Rattle.std.proofs.lemmas.List.{take_all}
+use Rattle.std.proofs.lemmas.Result.{on_ok_weaker}
 use Rattle.evaluator.proofs.LogLaws.{added_nothing}
 use Rattle.keywords.specs.Rows.{row_of}
 use Rattle.definitions.specs.Evaluated.{pass_count}
 use Rattle.keyword_plans.specs.declared.planned.Planned.{Planned}
-use Rattle.evaluator.proofs.SettlingLaws.{at_keyword_of, planned_known, planned_outcomes, use_over}
-use Rattle.evaluator.proofs.PlannedLaws.{none_found, none_within, within_more, child_more, child_noted, child_over, planned_at}
+use Rattle.evaluator.proofs.SettlingLaws.{at_keyword_of, planned_known, planned_outcomes, use_over, use_passing, use_valid}
+use Rattle.evaluator.proofs.PlannedLaws.{none_found, passing_within, child_more, child_noted, child_over, planned_at}
 use Rattle.keyword_plans.specs.Plans.{planned_view}
 use Rattle.evaluator.proofs.applying.Evaluation.+apply.Goals as goal
 
-pub use_keyword-returns-in-Ok-clause-found : goal.use_keyword-returns-in-Ok-clause-found
-use_keyword-returns-in-Ok-clause-found t c a at knows got =
+pub use_keyword-returns-in-Ok-clause-valid : goal.use_keyword-returns-in-Ok-clause-valid
+use_keyword-returns-in-Ok-clause-valid t c a at knows got =
     let old = c.args.self.now in
     let l = old.linked.now in
-    let left = c.args.room.nesting in
+    let left = c.args.nesting in
     let keyword = c.args.keyword in
     let k = (row_of keyword).name in
     let s = value c.args.here.present.now.schema.now in
@@ -40,21 +42,46 @@ use_keyword-returns-in-Ok-clause-found t c a at knows got =
     let known : (p : Planned) → Contains-use_keyword ps p → IsKnown c.plan_keyword.new.self.linked.now k a p =
     λ p inside. subst (λ (b : Bor Linked). IsKnown b.now k a p) (sym c.in_ok-planned.ensures.linked) (planned_known l left keyword a ps names indexes v at.inside got same p inside) in
     let linked = c.in-Ok.ensures.linked ∙ c.in_ok-planned.ensures.linked in
-    let finds : FindsAll c.in-Ok.applied c.args.room.applications (use_there l left a keyword names indexes v).outcomes =
-    subst (FindsAll c.in-Ok.applied c.args.room.applications) outcomes
-    (subst (λ (b : Bor Linked). FindsAll c.in-Ok.applied c.args.room.applications (part_outcomes b.now left k a ps)) c.in_ok-planned.ensures.linked (c.in-Ok.ensures.found a here.under known)) in
+    let finds : FindsAll c.in-Ok.applied (use_there l left a keyword names indexes v).outcomes =
+    subst (FindsAll c.in-Ok.applied) outcomes
+    (subst (λ (b : Bor Linked). FindsAll c.in-Ok.applied (part_outcomes b.now left k a ps)) c.in_ok-planned.ensures.linked (c.in-Ok.ensures.found a here.under known)) in
     let finishing = subst (λ f. IsAtKeyword l left f s x keyword v c.args.beside a) (sym c.in-Ok.ensures.back) here in
     let finished = subst (λ (b : Bor Linked). IsAtKeyword b.now left (context_view c.apply_all.new.self.context) s x keyword v c.args.beside a
-    → FindsAll c.in-Ok.applied c.args.room.applications (use_there b.now left a keyword names indexes v).outcomes
-    → IfOk c.finish_keyword.result (λ u. FindsUse u c.args.room.applications (use_there b.now left a keyword names indexes v ∷ []))) linked
-    (c.finish_keyword.ensures.found a left c.args.room.applications names indexes) in
-    finished finishing finds
+    → FindsAll c.in-Ok.applied (use_there b.now left a keyword names indexes v).outcomes
+    → IfOk c.finish_keyword.result (λ p. p ≡ (use_there b.now left a keyword names indexes v).passes)) linked
+    (c.finish_keyword.ensures.valid a left names indexes) in
+    let u = use_there l left a keyword names indexes v in
+    subst (λ r. IfOk c.finish_keyword.result (λ p. p ≡ r)) (use_valid u.passes u refl) (finished finishing finds)
+
+pub use_keyword-returns-in-Ok-clause-passing : goal.use_keyword-returns-in-Ok-clause-passing
+use_keyword-returns-in-Ok-clause-passing t c a at knows got =
+    let old = c.args.self.now in
+    let l = old.linked.now in
+    let left = c.args.nesting in
+    let keyword = c.args.keyword in
+    let k = (row_of keyword).name in
+    let s = value c.args.here.present.now.schema.now in
+    let x = subject_value c.args.here.subject in
+    let v = value c.args.keyword_value.now in
+    let names = names_since c.args.here.before (log_view old.log) in
+    let indexes = indexes_since c.args.here.before (log_view old.log) in
+    let ps = c.in_ok-planned.planned.items in
+    let same = c.in_ok-planned.ensures.planned a left at knows got in
+    let outcomes = planned_outcomes l left k a ps ∙ ap (map (λ (e : Part × Application). (e.0, linked_outcome l left e.1))) same in
+    let there = c.in_ok-enter_keyword.ensures.there ∙ ap (λ here. at_keyword k (frame_standing here)) c.in_ok-planned.ensures.back in
+    let here = at_keyword_of l left (context_view old.context) (context_view c.enter_keyword.new.self) s x keyword v c.args.beside a at there knows got in
+    let known : (p : Planned) → Contains-use_keyword ps p → IsKnown c.plan_keyword.new.self.linked.now k a p =
+    λ p inside. subst (λ (b : Bor Linked). IsKnown b.now k a p) (sym c.in_ok-planned.ensures.linked) (planned_known l left keyword a ps names indexes v at.inside got same p inside) in
+    let finds : FindsAll c.in-Ok.applied (use_there l left a keyword names indexes v).outcomes =
+    subst (FindsAll c.in-Ok.applied) outcomes
+    (subst (λ (b : Bor Linked). FindsAll c.in-Ok.applied (part_outcomes b.now left k a ps)) c.in_ok-planned.ensures.linked (c.in-Ok.ensures.found a here.under known)) in
+    on_ok_weaker c.finish_keyword.result (λ is. use_passing c.finish_keyword.new.self.passing c.in-Ok.applied (use_there l left a keyword names indexes v) is finds) c.finish_keyword.ensures.passing
 
 pub use_keyword-returns-in-Ok-clause-noted : goal.use_keyword-returns-in-Ok-clause-noted
 use_keyword-returns-in-Ok-clause-noted t c a at knows got =
     let old = c.args.self.now in
     let l = old.linked.now in
-    let left = c.args.room.nesting in
+    let left = c.args.nesting in
     let keyword = c.args.keyword in
     let k = (row_of keyword).name in
     let s = value c.args.here.present.now.schema.now in
@@ -70,9 +97,9 @@ use_keyword-returns-in-Ok-clause-noted t c a at knows got =
     let known : (p : Planned) → Contains-use_keyword ps p → IsKnown c.plan_keyword.new.self.linked.now k a p =
     λ p inside. subst (λ (b : Bor Linked). IsKnown b.now k a p) (sym c.in_ok-planned.ensures.linked) (planned_known l left keyword a ps names indexes v at.inside got same p inside) in
     let linked = c.in-Ok.ensures.linked ∙ c.in_ok-planned.ensures.linked in
-    let finds : FindsAll c.in-Ok.applied c.args.room.applications (use_there l left a keyword names indexes v).outcomes =
-    subst (FindsAll c.in-Ok.applied c.args.room.applications) outcomes
-    (subst (λ (b : Bor Linked). FindsAll c.in-Ok.applied c.args.room.applications (part_outcomes b.now left k a ps)) c.in_ok-planned.ensures.linked (c.in-Ok.ensures.found a here.under known)) in
+    let finds : FindsAll c.in-Ok.applied (use_there l left a keyword names indexes v).outcomes =
+    subst (FindsAll c.in-Ok.applied) outcomes
+    (subst (λ (b : Bor Linked). FindsAll c.in-Ok.applied (part_outcomes b.now left k a ps)) c.in_ok-planned.ensures.linked (c.in-Ok.ensures.found a here.under known)) in
     let finishing = subst (λ f. IsAtKeyword l left f s x keyword v c.args.beside a) (sym c.in-Ok.ensures.back) here in
     let older = log_view old.log in
     let meaning = (row_of keyword).meaning in
@@ -92,7 +119,7 @@ pub use_keyword-returns-clause-err : goal.use_keyword-returns-clause-err
 use_keyword-returns-clause-err t c a at knows got other =
     let old = c.args.self.now in
     let l = old.linked.now in
-    let left = c.args.room.nesting in
+    let left = c.args.nesting in
     let keyword = c.args.keyword in
     let k = (row_of keyword).name in
     let s = value c.args.here.present.now.schema.now in
@@ -107,19 +134,23 @@ use_keyword-returns-clause-err t c a at knows got other =
     let here = at_keyword_of l left (context_view old.context) (context_view c.enter_keyword.new.self) s x keyword v c.args.beside a at there knows got in
     let known : (p : Planned) → Contains-use_keyword ps p → IsKnown c.plan_keyword.new.self.linked.now k a p =
     λ p inside. subst (λ (b : Bor Linked). IsKnown b.now k a p) (sym c.in_ok-planned.ensures.linked) (planned_known l left keyword a ps names indexes v at.inside got same p inside) in
+    let older = log_view old.log in
+    let m = (row_of keyword).meaning in
     let fault = c.in-Err.ensures.err a here.under known other in (
       fault.0,
-      use_over c.args.room.applications (use_there l left a keyword names indexes v)
-          (subst (λ os. c.args.room.applications < count_of os) outcomes
-          (subst (λ (b : Bor Linked). c.args.room.applications < count_of (part_outcomes b.now left k a ps)) c.in_ok-planned.ensures.linked fault.1)),
+      use_over a older m (use_there l left a keyword names indexes v)
+          (subst (λ os. IsOver older (parts_notes m os)) outcomes
+          (subst (λ (b : Bor Linked). IsOver older (parts_notes m (part_outcomes b.now left k a ps))) c.in_ok-planned.ensures.linked
+          (subst (λ (log : Log). IsOver (log_view log) (parts_notes m (part_outcomes c.plan_keyword.new.self.linked.now left k a ps))) c.in_ok-planned.ensures.noted fault.1))),
     )
 
 pub apply_all-loop-one-init : goal.apply_all-loop-one-init
 apply_all-loop-one-init t c = record {
   linked = refl;
   back = refl;
-  within = none_within c.none-applied.result c.args.room.applications c.none-applied.ensures;
-  found = λ a under known. none_found c.none-applied.result c.args.room.applications c.none-applied.ensures;
+  number = rw c.none-applied.ensures refl;
+  passing = rw c.none-applied.ensures (omega arith);
+  found = λ a under known. none_found c.none-applied.result c.none-applied.ensures;
   noted = λ a under known. sym (added_nothing (log_view c.args.self.now.log));
 }
 
@@ -135,29 +166,30 @@ apply_all-loop-one-preserved t c =
     record {
       linked = c.in-Ok.ensures.linked ∙ same;
       back = c.in-Ok.ensures.back ∙ c.loop-one.invariant.back;
-      within = rw c.and-applied.ensures (within_more c.loop-one.applied c.in-Ok.found c.args.room.applications c.loop-one.invariant.within c.in-Ok.ensures.within);
+      number = rw c.and-applied.ensures (omega (arith, c.loop-one.invariant.number));
+      passing = rw c.and-applied.ensures (passing_within c.in-Ok.valid c.loop-one.applied.passing c.loop-one.applied.number c.loop-one.invariant.passing);
       found =
           λ a under known.
           let inside : Contains-apply_all c.args.planned.now.items p = subst (λ ps. Contains-apply_all ps p) c.deref-one-items.ensures.value (i, omega arith, sym c.one-item.is) in
           let here : IsKnown c.loop-one.self.linked.now k a p = subst (λ (l : Bor Linked). IsKnown l.now k a p) (sym same) (known p inside) in
           let there : IsUnder (context_view c.loop-one.self.context) k a = ap frame_standing c.loop-one.invariant.back ∙ under in
-          child_more c.loop-one.applied c.and-applied.result c.in-Ok.found c.args.room.applications (part_outcome old.linked.now c.args.room.nesting k a) items i p (omega arith) c.one-item.is
-          (c.loop-one.invariant.found a under known)
-          (subst (λ (l : Bor Linked). Finds c.in-Ok.found (c.args.room.applications - c.loop-one.applied.count) (part_outcome l.now c.args.room.nesting k a p).1) same (c.in-Ok.ensures.found a there here)) c.and-applied.ensures;
+          child_more c.loop-one.applied c.and-applied.result c.in-Ok.valid (part_outcome old.linked.now c.args.nesting k a) items i p (omega arith) c.one-item.is (c.loop-one.invariant.found a under known)
+          (subst (λ (l : Bor Linked). c.in-Ok.valid ≡ (part_outcome l.now c.args.nesting k a p).1.valid) same (c.in-Ok.ensures.valid a there here)) c.and-applied.ensures;
       noted =
           λ a under known.
           let inside : Contains-apply_all c.args.planned.now.items p = subst (λ ps. Contains-apply_all ps p) c.deref-one-items.ensures.value (i, omega arith, sym c.one-item.is) in
           let here : IsKnown c.loop-one.self.linked.now k a p = subst (λ (l : Bor Linked). IsKnown l.now k a p) (sym same) (known p inside) in
           let there : IsUnder (context_view c.loop-one.self.context) k a = ap frame_standing c.loop-one.invariant.back ∙ under in
-          child_noted m (log_view old.log) (log_view c.loop-one.self.log) (log_view c.apply_planned.new.self.log) (part_outcome old.linked.now c.args.room.nesting k a) items i p (omega arith) c.one-item.is
+          child_noted m (log_view old.log) (log_view c.loop-one.self.log) (log_view c.apply_planned.new.self.log) (part_outcome old.linked.now c.args.nesting k a) items i p (omega arith) c.one-item.is
           (c.loop-one.invariant.noted a under known)
-          (subst (λ (l : Bor Linked). log_view c.apply_planned.new.self.log ≡ notes_of_both (log_view c.loop-one.self.log) (part_notes m (part_outcome l.now c.args.room.nesting k a p))) same (c.in-Ok.ensures.noted a there here));
+          (subst (λ (l : Bor Linked). log_view c.apply_planned.new.self.log ≡ notes_of_both (log_view c.loop-one.self.log) (part_notes m (part_outcome l.now c.args.nesting k a p))) same (c.in-Ok.ensures.noted a there here));
     }
 
 pub apply_all-returns-in-Err-clause-err : goal.apply_all-returns-in-Err-clause-err
 apply_all-returns-in-Err-clause-err t c a under known other =
     let old = c.args.self.now in
     let k = (row_of c.args.keyword).name in
+    let m = (row_of c.args.keyword).meaning in
     let items = c.deref-one-items.result.now in
     let p = c.one-item.result in
     let i = c.loop-one.one-index in
@@ -168,35 +200,40 @@ apply_all-returns-in-Err-clause-err t c a under known other =
     let fault = c.in-Err.ensures.err a there here other in (
       fault.0,
       rw (← c.deref-one-items.ensures.value)
-          (child_over c.loop-one.applied c.args.room.applications (part_outcome old.linked.now c.args.room.nesting k a) items i p (omega arith) c.one-item.is (c.loop-one.invariant.found a under known)
-          (subst (λ (l : Bor Linked). c.args.room.applications - c.loop-one.applied.count < (part_outcome l.now c.args.room.nesting k a p).1.count) same fault.1)),
+          (child_over m (log_view old.log) (log_view c.loop-one.self.log) (part_outcome old.linked.now c.args.nesting k a) items i p (omega arith) c.one-item.is (c.loop-one.invariant.noted a under known)
+          (subst (λ (l : Bor Linked). IsOver (log_view c.loop-one.self.log) (part_notes m (part_outcome l.now c.args.nesting k a p))) same fault.1)),
     )
 
 pub apply_all-returns-clause-found : goal.apply_all-returns-clause-found
 apply_all-returns-clause-found t c a under known =
     let whole = take_all c.loop-one.one-index c.deref-one-items.result.now c.loop-one-test.false ∙ c.deref-one-items.ensures.value in
-    subst (λ ps. FindsAll c.loop-one.applied c.args.room.applications (part_outcomes c.args.self.now.linked.now c.args.room.nesting (row_of c.args.keyword).name a ps)) whole
+    subst (λ ps. FindsAll c.loop-one.applied (part_outcomes c.args.self.now.linked.now c.args.nesting (row_of c.args.keyword).name a ps)) whole
     (c.loop-one.invariant.found a under known)
 
 pub apply_all-returns-clause-noted : goal.apply_all-returns-clause-noted
 apply_all-returns-clause-noted t c a under known =
     let whole = take_all c.loop-one.one-index c.deref-one-items.result.now c.loop-one-test.false ∙ c.deref-one-items.ensures.value in
     subst (λ ps. log_view c.loop-one.self.log ≡ notes_of_both (log_view c.args.self.now.log) (parts_notes (row_of c.args.keyword).meaning
-    (part_outcomes c.args.self.now.linked.now c.args.room.nesting (row_of c.args.keyword).name a ps))) whole
+    (part_outcomes c.args.self.now.linked.now c.args.nesting (row_of c.args.keyword).name a ps))) whole
     (c.loop-one.invariant.noted a under known)
+
+pub apply_chosen-returns-then-is_true-clause-valid : goal.apply_chosen-returns-then-is_true-clause-valid
+apply_chosen-returns-then-is_true-clause-valid t c a k under known = sym (c.is_true.ensures.silent a k under c.if-is_true.true).passes
 
 pub apply_chosen-returns-then-is_true-clause-noted : goal.apply_chosen-returns-then-is_true-clause-noted
 apply_chosen-returns-then-is_true-clause-noted t c a k under known =
-    let n = log_view c.args.self.now.log in
-    sym (added_nothing n) ∙ ap (notes_of_both n) (sym (c.is_true.ensures.silent a k under c.if-is_true.true).noted)
+    c.count_one.ensures ∙ ap (notes_of_both (log_view c.args.self.now.log)) (sym (c.is_true.ensures.silent a k under c.if-is_true.true).noted)
+
+pub apply_chosen-returns-then-passes-clause-valid : goal.apply_chosen-returns-then-passes-clause-valid
+apply_chosen-returns-then-passes-clause-valid t c a k under known = c.if-passes.true ∙ sym (c.in_ok-passes.ensures.silent a k under c.if-passes.true).passes
 
 pub apply_chosen-returns-then-passes-clause-noted : goal.apply_chosen-returns-then-passes-clause-noted
 apply_chosen-returns-then-passes-clause-noted t c a k under known =
-    let n = log_view c.args.self.now.log in
-    ap log_view c.in_ok-passes.ensures.noted ∙ sym (added_nothing n) ∙ ap (notes_of_both n) (sym (c.in_ok-passes.ensures.silent a k under c.if-passes.true).noted)
+    c.count_one-then-passes.ensures ∙ ap (λ (log : Log). notes_of_both (log_view log) one_application) c.in_ok-passes.ensures.noted
+    ∙ ap (notes_of_both (log_view c.args.self.now.log)) (sym (c.in_ok-passes.ensures.silent a k under c.if-passes.true).noted)
 
-pub apply_chosen-returns-in-Ok-clause-found : goal.apply_chosen-returns-in-Ok-clause-found
-apply_chosen-returns-in-Ok-clause-found t c a k under known =
+pub apply_chosen-returns-in-Ok-clause-valid : goal.apply_chosen-returns-in-Ok-clause-valid
+apply_chosen-returns-in-Ok-clause-valid t c a k under known =
     let p = c.args.planned.now in
     let child = (planned_view k a p).1 in
     let same : c.passes_silently.new.self.linked ≡ c.args.self.now.linked = c.in_ok-passes.ensures.linked in
@@ -204,7 +241,7 @@ apply_chosen-returns-in-Ok-clause-found t c a k under known =
     planned_at c.passes_silently.new.self.linked.now (context_view c.enter_planned.new.self) k a p (value c.of-present.result.schema.now)
     (c.in_ok-back.ensures.there a k (ap (λ x. frame_standing (context_view x)) c.in_ok-passes.ensures.back ∙ under) (subst (λ (b : Bor Linked). IsKnown b.now k a p) (sym same) known))
     (ap value c.of-present.ensures ∙ c.chosen_schema-schema.ensures) (subst (λ (b : Bor Linked). IsKnown b.now k a p) (sym same) known) in
-    subst (λ (b : Bor Linked). Finds c.in-Ok.found c.args.room.applications (linked_outcome b.now c.args.room.nesting child)) same (c.in-Ok.ensures.found child at)
+    subst (λ (b : Bor Linked). c.in-Ok.valid ≡ (linked_outcome b.now c.args.nesting child).valid) same (c.in-Ok.ensures.valid child at)
 
 pub apply_chosen-returns-in-Err-clause-err : goal.apply_chosen-returns-in-Err-clause-err
 apply_chosen-returns-in-Err-clause-err t c a k under known other =
@@ -215,5 +252,8 @@ apply_chosen-returns-in-Err-clause-err t c a k under known other =
     planned_at c.passes_silently.new.self.linked.now (context_view c.enter_planned.new.self) k a p (value c.of-present.result.schema.now)
     (c.in_ok-back.ensures.there a k (ap (λ x. frame_standing (context_view x)) c.in_ok-passes.ensures.back ∙ under) (subst (λ (b : Bor Linked). IsKnown b.now k a p) (sym same) known))
     (ap value c.of-present.ensures ∙ c.chosen_schema-schema.ensures) (subst (λ (b : Bor Linked). IsKnown b.now k a p) (sym same) known) in
-    let fault = c.in-Err.ensures.err child at other in
-    (fault.0, subst (λ (b : Bor Linked). c.args.room.applications < (linked_outcome b.now c.args.room.nesting child).count) same fault.1)
+    let fault = c.in-Err.ensures.err child at other in (
+      fault.0,
+      subst (λ (b : Bor Linked). IsOver (log_view c.args.self.now.log) (outcome_notes (linked_outcome b.now c.args.nesting child))) same
+          (subst (λ (log : Log). IsOver (log_view log) (outcome_notes (linked_outcome c.passes_silently.new.self.linked.now c.args.nesting child))) c.in_ok-passes.ensures.noted fault.1),
+    )

@@ -1,0 +1,82 @@
+//! Members with their names as they stand there, so that keywords' names needn't be compared to be told.
+
+ghost use Rattle.std.specs.Prelude.{◌≡◌, option_map};
+ghost use Rattle.std.specs.Iterator.{YieldsFirstBy, item_count};
+ghost use Rattle.definitions.specs.Values.{same_text};
+ghost use Rattle.json_doc.specs.Members.{members_left};
+ghost use Rattle.json_doc.specs.NamedMembers.{name_text, named_left, named_view};
+ghost use Rattle.keywords.specs.Rows.{row_named, row_of};
+
+use crate::doc::Doc;
+use crate::members::MembersIter;
+use crate::small_text::SmallText;
+use keywords::Keyword;
+
+/// The name of a member, as it stands there.
+///
+/// Contracts see its text, by `name_text`.
+#[derive(Clone, Copy, Debug)]
+pub struct Name<'a> {
+    stored: &'a SmallText,
+}
+
+impl<'a> Name<'a> {
+    /// The text.
+    #[inline(always)]
+    pub fn as_str(self) -> &'a str
+        ensures { result.now ≡ name_text self.entry }
+    {
+        self.stored.as_str()
+    }
+
+    /// The keyword of this name, if there is one. In a copy ([`copy`](crate::copy)) a keyword's name stands as the keyword,
+    /// and is told without a look at its text.
+    #[inline(always)]
+    pub fn keyword(self) -> Option<Keyword>
+        ensures { option_map row_of result ≡ row_named (name_text self.entry) }
+    {
+        self.stored.keyword()
+    }
+
+    /// Whether it is the name of this keyword.
+    #[inline(always)]
+    pub fn is(self, keyword: Keyword) -> bool
+        ensures { result ≡ same_text (row_of keyword).name (name_text self.entry) }
+    {
+        self.stored.is(keyword)
+    }
+}
+
+/// The members that are left of an object's, each with its name as it stands there, in byte order of names.
+///
+/// Contracts see them as a list of names and values, by `named_left`.
+#[derive(Drop)]
+pub struct NamedMembers<'a> {
+    members: MembersIter<'a>,
+}
+
+impl<'a> NamedMembers<'a> {
+    /// The same members.
+    pub(crate) fn of(members: MembersIter<'a>) -> NamedMembers<'a>
+        ensures { named_left result ≡ members_left members.entry }
+    {
+        NamedMembers { members }
+    }
+}
+
+impl<'a> Iterator for NamedMembers<'a> {
+    type Item = (Name<'a>, &'a Doc);
+
+    ghost next_gives = { YieldsFirstBy named_view named_left };
+
+    ghost remaining = { item_count named_left };
+
+    #[inline(always)]
+    #[tactic(auto, unfolding(crate::specs::Members::members_left))]
+    fn next(&mut self) -> Option<(Name<'a>, &'a Doc)> {
+        match self.members.entries.next() {
+            Some((name, member)) => Some((Name { stored: name }, member)),
+            None => None,
+        }
+    }
+}

@@ -1,6 +1,6 @@
 //! Members of an object as they are read, in any order of names.
 
-ghost use Rattle.std.specs.Prelude.{◌≡◌, [], IfOk, OnOk};
+ghost use Rattle.std.specs.Prelude.{◌≡◌, [], IfOk, OnOk, length};
 ghost use Rattle.json_doc.specs.Docs.{value, members_value};
 ghost use Rattle.json_doc.specs.Gathers.{gathered_view};
 ghost use Rattle.json_doc.specs.Members.{members_with};
@@ -37,6 +37,27 @@ impl Gathered {
         Gathered::Few(NameMap::new(alloc))
     }
 
+    /// How many members there are.
+    pub fn len(&self) -> usize
+        ensures { result ≡ length (gathered_view self.now) }
+    {
+        match self {
+            Gathered::Few(few) => few.len(),
+            Gathered::Many(many) => many.len(),
+        }
+    }
+
+    /// Makes room for so many members, where there are none yet. The only error is want of memory.
+    #[inline(always)]
+    pub fn make_room(&mut self, members: usize) -> Result<(), AllocError>
+        ensures { OnOk result (gathered_view self.new ≡ gathered_view self.old) }
+    {
+        match self {
+            Gathered::Few(few) => few.make_room(members),
+            Gathered::Many(_) => Ok(()),
+        }
+    }
+
     /// Puts a member in, in place of the one of the same name, if there is one. The time grows with the logarithm of
     /// the number of members. The only error is want of memory.
     #[inline(always)]
@@ -45,7 +66,7 @@ impl Gathered {
             (gathered_view self.new ≡ members_with name.now (value member)
             (gathered_view self.old)) }
     {
-        self.make_room(alloc, name)?;
+        self.give_way(alloc, name)?;
         match self {
             Gathered::Few(few) => few.insert(alloc, name, member),
             Gathered::Many(many) => put_in_map(alloc, many, name, member),
@@ -54,7 +75,7 @@ impl Gathered {
 
     // The same members, in a map where this name would move many.
     #[inline(always)]
-    fn make_room(&mut self, alloc: Global, name: &str) -> Result<(), AllocError>
+    fn give_way(&mut self, alloc: Global, name: &str) -> Result<(), AllocError>
         ensures { OnOk result (gathered_view self.new ≡ gathered_view self.old) }
     {
         if self.would_move_many(name) {

@@ -17,7 +17,7 @@ use keywords::Keyword;
 use std::alloc::Global;
 use std::slice;
 
-/// Up to so many members, going through all takes no longer than to search.
+/// Up to so many members all are gone through for a keyword; among more it is searched for.
 const FEW: usize = 16;
 
 /// The members of a JSON object: each name once, in byte order of names.

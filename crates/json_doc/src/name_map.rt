@@ -81,6 +81,17 @@ impl<T> NameMap<T> {
         }
     }
 
+    /// Makes room for so many values, where there are none yet. The only error is want of memory.
+    #[inline(always)]
+    pub fn make_room(&mut self, values: usize) -> Result<(), AllocError>
+        ensures { self.new ≡ self.old }
+    {
+        if self.entries.is_empty() {
+            self.entries.reserve(values)?;
+        }
+        Ok(())
+    }
+
     /// Whether the name comes after all that are here.
     #[inline(always)]
     pub fn ends_before(&self, name: &str) -> bool

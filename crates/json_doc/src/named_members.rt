@@ -40,7 +40,7 @@ impl<'a> Name<'a> {
 
     /// Whether it is the name of this keyword.
     #[inline(always)]
-    pub fn is(self, keyword: Keyword) -> bool
+    pub(crate) fn is(self, keyword: Keyword) -> bool
         ensures { result ≡ same_text (row_of keyword).name (name_text self.entry) }
     {
         self.stored.is(keyword)

@@ -22,6 +22,11 @@ const MAX_NESTING: usize = 127;
 // How many digits surely fit 64 bits, with a sign too.
 const MAX_DIGITS: usize = 18;
 
+// For how many members there is room at first in an object, at least and at most.
+const LEAST_ROOM: usize = 4;
+
+const MOST_ROOM: usize = 8;
+
 /// Why a text was not read.
 #[derive(Clone, Copy, Debug, Drop)]
 pub(crate) enum Unread {
@@ -54,16 +59,23 @@ pub(crate) fn read_directly(alloc: Global, scratch: &mut Scratch, text: &str) ->
     ensures { IfOk result (λ d. IsTextOf text.now (value d)) }
 {
     let mut reader = Reader::new(text, scratch)?;
-    let doc = doc_from(alloc, &mut reader, MAX_NESTING)?;
+    let mut room = LEAST_ROOM;
+    let doc = doc_from(alloc, &mut reader, MAX_NESTING, &mut room)?;
     if reader.next().is_some() {
         return Err(Unread::NotSure);
     }
     Ok(doc)
 }
 
+// For as many members as the object had that was read last, within bounds, there is room at once in the next one.
 #[cycle(tokens)]
 #[inline(always)]
-fn doc_from(alloc: Global, reader: &mut Reader<'_>, depth: usize) -> Result<Doc, Unread>
+fn doc_from(
+    alloc: Global,
+    reader: &mut Reader<'_>,
+    depth: usize,
+    room: &mut usize,
+) -> Result<Doc, Unread>
     ensures ok { IfOk result (λ d. value_at depth reader.old ≡ Some (value d, reader.new)) }
     ensures shorter { OnOk result (length reader.new < length reader.old) }
 {
@@ -81,27 +93,32 @@ fn doc_from(alloc: Global, reader: &mut Reader<'_>, depth: usize) -> Result<Doc,
             if depth == 0 {
                 return Err(Unread::NotSure);
             }
-            Ok(Doc::List(list_from(alloc, reader, depth - 1)?))
+            Ok(Doc::List(list_from(alloc, reader, depth - 1, room)?))
         }
         Token::BeginObject => {
             if depth == 0 {
                 return Err(Unread::NotSure);
             }
-            Ok(Doc::Dict(dict_from(alloc, reader, depth - 1)?))
+            Ok(Doc::Dict(dict_from(alloc, reader, depth - 1, room)?))
         }
     }
 }
 
 #[cycle(tokens)]
 #[inline(never)]
-fn list_from(alloc: Global, reader: &mut Reader<'_>, depth: usize) -> Result<Vec<Doc>, Unread>
+fn list_from(
+    alloc: Global,
+    reader: &mut Reader<'_>,
+    depth: usize,
+    room: &mut usize,
+) -> Result<Vec<Doc>, Unread>
     ensures ok { IfOk result (λ v.
         elements_at depth reader.old ≡ Some (to_elements (map value v.items), reader.new)) }
     ensures shorter { OnOk result (length reader.new < length reader.old) }
 {
     let mut items = Vec::new(alloc);
     'items: while !reader.take_end_array() {
-        let item = doc_from(alloc, reader, depth)?;
+        let item = doc_from(alloc, reader, depth, room)?;
         items.push(item)?;
     }
     Ok(items)
@@ -109,16 +126,23 @@ fn list_from(alloc: Global, reader: &mut Reader<'_>, depth: usize) -> Result<Vec
 
 #[cycle(tokens)]
 #[inline(never)]
-fn dict_from(alloc: Global, reader: &mut Reader<'_>, depth: usize) -> Result<Members, Unread>
+fn dict_from(
+    alloc: Global,
+    reader: &mut Reader<'_>,
+    depth: usize,
+    room: &mut usize,
+) -> Result<Members, Unread>
     ensures ok { IfOk result
         (λ m. members_at depth reader.old ≡ Some (members_view m, reader.new)) }
     ensures shorter { OnOk result (length reader.new < length reader.old) }
 {
     let mut gathered = Gathered::new(alloc);
     'members: while let Some(name) = reader.next_key()? {
-        let member = doc_from(alloc, reader, depth)?;
+        let member = doc_from(alloc, reader, depth, room)?;
+        gathered.make_room(*room)?;
         gathered.insert(alloc, name, member)?;
     }
+    *room = gathered.len().clamp(LEAST_ROOM, MOST_ROOM);
     Ok(gathered.into_members(alloc)?)
 }
 

@@ -8,7 +8,7 @@ use Rattle.json_doc.proofs.gathered.Gathered.insert.Goals as goal
 
 pub returns-in-Few : goal.returns-in-Few
 returns-in-Few c =
-    let before : gathered_view (c.make_room.new.self) ≡ gathered_view c.args.self.now = c.in_ok-make_room.ensures in
+    let before : gathered_view (c.give_way.new.self) ≡ gathered_view c.args.self.now = c.in_ok-give_way.ensures in
     on_ok_weaker c.insert.result
     (λ put. put_members c.args.name.now c.args.member c.in-Few.few c.insert.new.self put
     ∙ ap (members_with c.args.name.now (value c.args.member)) (ap gathered_view (sym c.in-Few.is) ∙ before))
@@ -16,7 +16,7 @@ returns-in-Few c =
 
 pub returns-in-Many : goal.returns-in-Many
 returns-in-Many c =
-    let before : gathered_view (c.make_room.new.self) ≡ gathered_view c.args.self.now = c.in_ok-make_room.ensures in
+    let before : gathered_view (c.give_way.new.self) ≡ gathered_view c.args.self.now = c.in_ok-give_way.ensures in
     on_ok_weaker c.put_in_map.result
     (λ put. put_members c.args.name.now c.args.member c.in-Many.many.entries c.put_in_map.new.many.entries put
     ∙ ap (members_with c.args.name.now (value c.args.member)) (ap gathered_view (sym c.in-Many.is) ∙ before))

@@ -123,7 +123,7 @@ dict_from-members-preserved t c =
     let less = read_key-shorter l.reader (Some k) s named in
     let lesser = done.shorter in
     let turn = member_put p old n k l.reader s r v (omega (arith, l.invariant.2)) named done.ok in
-    let inserted : gathered_view c.insert.new.self ≡ members_with k v (gathered_view l.gathered) = c.in_ok-insert.ensures in (
+    let inserted : gathered_view c.insert.new.self ≡ members_with k v (gathered_view l.gathered) = c.in_ok-insert.ensures ∙ ap (members_with k v) c.in_ok-make_room.ensures in (
       n - 1,
       json.put k turn.0 old,
       omega (arith, l.invariant.2),

@@ -117,6 +117,9 @@ plain_one t h = ap (λ b. b && true) h
 pub plain_noted : (t : Text) → list_all is_plain t ≡ true → pointer_text (t ∷ []) ≡ 47 ∷ t
 plain_noted t h = plain_pointer (t ∷ []) (plain_one t h) ∙ append-nil (47 ∷ t)
 
+pub plain_step_fragment : (t : Text) → list_all is_plain t ≡ true → fragment_text (t ∷ []) ≡ 47 ∷ t
+plain_step_fragment t h = plain_fragment (t ∷ []) (plain_one t h) ∙ append-nil (47 ∷ t)
+
 pub plain_text_unescaped : (ts : List Text) → ArePlain ts → list_all is_unescaped (plain_text ts) ≡ true
 plain_text_unescaped = all_pass is_unescaped refl (λ x e. (plain x e).in_string)
 

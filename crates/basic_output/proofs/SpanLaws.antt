@@ -1,5 +1,5 @@
 -- Spans as their text grows, as it is cut, and as one is put among them.
-use Rattle.std.proofs.Common.{◌≡◌, ◌≤◌, ◌<◌, ◌+◌, ◌-◌, ◌++◌, ◌∷◌, [], ℕ, zero, suc, List, true, length, map, nat_le, slice_range, take, drop, get_or, set, Some, refl, sym, ap, ap₂, append_assoc, ◌∙◌, arith}
+use Rattle.std.proofs.Common.{◌≡◌, ◌≤◌, ◌<◌, ◌+◌, ◌-◌, ◌++◌, ◌∷◌, [], ℕ, zero, suc, List, true, length, map, nat_le, slice_range, take, drop, get_or, set, Some, Result, Ok, Err, OnOk, OnErr, refl, sym, ap, ap₂, subst, append_assoc, ◌∙◌, arith}
 use Rattle.std.proofs.Math.Numerals.{add-one}
 use Rattle.std.proofs.Math.Seq.{drop-append_seam, take-append_seam, take-length}
 use Rattle.std.proofs.lemmas.Bool.{and_parts, le-leb, leb-true}
@@ -95,6 +95,10 @@ cut t ss up are =
     moved t (take h t) h 0 ss (sym (take-take h h t (omega arith))) (omega (arith, within)) (omega arith) up are
 
 -- ---- one more, and those behind it raised
+pub raise_last : (ss : List Span) (s : Span) → raise_from (length ss) s.reach (insert ss (length ss) s) ≡ ss ++ s ∷ []
+raise_last [] s = refl
+raise_last (x ∷ xs) s = ap (λ ys. x ∷ ys) (raise_last xs s)
+
 comma_ascii : (i : ℕ) → get_or (44 ∷ []) i 0 < 128
 comma_ascii zero = omega arith
 comma_ascii (suc i) = omega arith
@@ -180,6 +184,15 @@ kept t more ss p u xs s text spans whole both start end reach within up are =
       ascend = ap (ascends 0) spans ∙ ascends_inserted s.reach 0 p ss s within (omega (arith, reach, last, ap length text, length-append t (44 ∷ more))) up;
       texts = ap (map (span_text u)) spans ∙ raised_texts u p s.reach (insert ss p s) ∙ map-insert (span_text u) ss p s ∙ ap₂ (λ ys x. insert ys p x) old.same new.1;
     }
+
+-- ---- whichever of two lists the spans are
+pub record AreSpans (u : Text) (xs : List Span) : Type 0 where
+  pub are_spans : All (IsSpan u) xs
+  pub ascend : ascends 0 xs ≡ true
+
+pub either : {A E : Type 0} (r : Result A E) (u : Text) (xs new old : List Span) → OnOk r (xs ≡ new) → OnErr r (xs ≡ old) → AreSpans u new → AreSpans u old → AreSpans u xs
+either (Ok x) u xs new old is_new is_old of_new of_old = subst (AreSpans u) (sym is_new) of_new
+either (Err e) u xs new old is_new is_old of_new of_old = subst (AreSpans u) (sym is_old) of_old
 
 -- ---- the loop that raises them
 pub raise_past : (p reach : ℕ) (ss : List Span) → length ss ≤ p → raise_from p reach ss ≡ ss

@@ -8,15 +8,15 @@ use Rattle.definitions.specs.Texts.{text}
 use Rattle.definitions.specs.Values.{Text, string}
 use Rattle.basic_output.specs.declared.location.Location.{Location}
 use Rattle.basic_output.specs.declared.says.Says.{Says}
-use Rattle.basic_output.specs.Pieces.{IsHead, are_plain, is_unescaped, kind_key, plain_text, unit_text}
+use Rattle.basic_output.specs.Pieces.{IsHead, is_unescaped, kind_key, unit_text}
 use Rattle.basic_output.specs.PointerViews.{IsWritten, pointer_view}
-use Rattle.basic_output.specs.Ready.{AreReady, IsPlainString, IsSaid, path_key, unit_end}
+use Rattle.basic_output.specs.Ready.{AreReady, IsSaid, path_key, said_ending, said_opening, unit_end}
 use Rattle.basic_output.specs.declared.ready.ReadyLocation.{ReadyLocation}
 use Rattle.basic_output.specs.declared.ready.Said.{Said}
 use Rattle.basic_output.specs.Sayings.{says_value, unit_at}
 use Rattle.basic_output.specs.Written.{located_kind, located_text, places_text}
 use Rattle.basic_output.specs.declared.written_pointer.WrittenPointer.{WrittenPointer}
-use Rattle.basic_output.proofs.PlainLaws.{all_of_both, as_it_is, fragment_append, message, plain_fragment, plain_text_unescaped}
+use Rattle.basic_output.proofs.PlainLaws.{all_of_both, as_it_is, fragment_append, message}
 
 -- a position past the end is the end
 pub insert_min : {A : Type 0} (xs : List A) (i : ℕ) (x : A) → insert xs (min i (length xs)) x ≡ insert xs i x
@@ -27,18 +27,20 @@ quoted_text : (written t rest : Text) → list_all is_unescaped written ≡ true
 quoted_text written t rest h same =
     ap (λ s. 34 ∷ s) (sym (append_assoc written (34 ∷ []) rest)) ∙ ap (λ q. q ++ rest) (sym (as_it_is written h)) ∙ ap (λ s. quoted s ++ rest) same
 
--- the head with what leads onward from it, whose text is plain
-pub located : (uri : Text) (pointer onward : Pointer) (head written rest : Text) → IsHead (uri, pointer) head → written ≡ plain_text onward → are_plain onward ≡ true
+-- the head with what leads onward from it, whose fragment stands in a string as it is
+pub located : (uri : Text) (pointer onward : Pointer) (head written rest : Text) → IsHead (uri, pointer) head → written ≡ fragment_text onward → list_all is_unescaped written ≡ true
     → head ++ (written ++ 34 ∷ rest) ≡ codes "{\"absoluteKeywordLocation\":" ++ (quoted (uri ++ 35 ∷ fragment_text (pointer ++ onward)) ++ rest)
-located uri pointer onward head written rest is_head same plain =
+located uri pointer onward head written rest is_head behind unescaped =
     let front = uri ++ 35 ∷ fragment_text pointer in
-    let behind : written ≡ fragment_text onward = same ∙ sym (plain_fragment onward plain) in
-    let unescaped : list_all is_unescaped written ≡ true = ap (list_all is_unescaped) same ∙ plain_text_unescaped onward plain in
     let all : front ++ written ≡ uri ++ 35 ∷ fragment_text (pointer ++ onward) =
     append_assoc uri (35 ∷ fragment_text pointer) written ∙ ap (λ t. uri ++ 35 ∷ (fragment_text pointer ++ t)) behind ∙ ap (λ t. uri ++ 35 ∷ t) (sym (fragment_append pointer onward)) in
     ap (λ t. t ++ (written ++ 34 ∷ rest)) is_head.0
     ∙ ap (λ t. codes "{\"absoluteKeywordLocation\":" ++ (34 ∷ t)) (sym (append_assoc front written (34 ∷ rest)))
     ∙ ap (λ t. codes "{\"absoluteKeywordLocation\":" ++ t) (quoted_text (front ++ written) (uri ++ 35 ∷ fragment_text (pointer ++ onward)) rest (all_of_both is_unescaped front written is_head.1 unescaped) all)
+
+-- a text that is written, in its quotation marks
+pub whole_text : (p : WrittenPointer) → IsWritten p → 34 ∷ (string_bytes p.text ++ 34 ∷ []) ≡ quoted (pointer_text (pointer_view p))
+whole_text p written = sym (as_it_is (string_bytes p.text) p.unescaped) ∙ ap quoted written.text
 
 -- texts that are written, behind their keys
 pub written_places : (instance_location path : WrittenPointer) → IsWritten instance_location → IsWritten path
@@ -72,8 +74,8 @@ ready_places location r are =
     ap (λ t. codes ",\"instanceLocation\":" ++ t) (closed r.instance_location.now instance_location (codes ",\"keywordLocation\":\"" ++ (r.path.now ++ unit_end)) are.instance_location)
     ∙ ap (λ t. codes ",\"instanceLocation\":" ++ (instance_location ++ (codes ",\"keywordLocation\":" ++ t))) (closed r.path.now (quoted (pointer_text (pointer_view location.path.now))) (codes "}") are.path)
 
-pub ready_parts : (annotates : Bool) (location : Location) (says : Says) (r : ReadyLocation) (s : Said) → AreReady location r → IsSaid s annotates (text (says_value says))
-    → r.head.now ++ (r.onward.now ++ (s.opening.now ++ (s.said.now ++ (s.ending.now ++ (r.instance_location.now ++ (path_key ++ (r.path.now ++ unit_end)))))))
+pub ready_parts : (annotates : Bool) (location : Location) (says : Says) (r : ReadyLocation) (s : Said) → AreReady location r → IsSaid s (text (says_value says))
+    → r.head.now ++ (r.onward.now ++ ((34 ∷ kind_key annotates) ++ (said_opening s.form ++ (s.said.now ++ (said_ending s.form ++ (r.instance_location.now ++ (path_key ++ (r.path.now ++ unit_end))))))))
     ≡ unit_text annotates (unit_at location says)
 unfolding unit_text
 ready_parts annotates location says r s are said =
@@ -82,28 +84,22 @@ ready_parts annotates location says r s are said =
     let says = text (says_value says) in
     let kind = kind_key annotates in
     let behind = kind ++ (says ++ places_text location) in
-    let from_opening : s.opening.now ++ (s.said.now ++ (s.ending.now ++ rest)) ≡ 34 ∷ behind =
-    regrouped s.opening.now s.said.now s.ending.now (34 ∷ (kind ++ (says ++ key))) rest said
-    ∙ ap (λ t. 34 ∷ t) (append_assoc kind (says ++ key) rest ∙ ap (λ t. kind ++ t) (append_assoc says key rest ∙ ap (λ t. says ++ t) (ready_places location r are))) in
+    let from_opening : (34 ∷ kind) ++ (said_opening s.form ++ (s.said.now ++ (said_ending s.form ++ rest))) ≡ 34 ∷ behind =
+    ap (λ t. 34 ∷ (kind ++ t)) (regrouped (said_opening s.form) s.said.now (said_ending s.form) (says ++ key) rest said ∙ append_assoc says key rest ∙ ap (λ t. says ++ t) (ready_places location r are)) in
     ap (λ t. r.head.now ++ (r.onward.now ++ t)) from_opening
     ∙ regrouped r.head.now r.onward.now (34 ∷ []) (codes "{\"absoluteKeywordLocation\":" ++ quoted (located_text location)) behind are.located
     ∙ append_assoc (codes "{\"absoluteKeywordLocation\":") (quoted (located_text location)) behind
 
 -- what it says, where that is a string which stands as it is
-plain_string : (annotates : Bool) (opening written ending said end : Text) → opening ≡ 34 ∷ (kind_key annotates ++ 34 ∷ []) → written ≡ said → ending ≡ end ++ codes ",\"instanceLocation\":\""
-    → opening ++ (written ++ ending) ≡ 34 ∷ (kind_key annotates ++ (34 ∷ (said ++ end) ++ codes ",\"instanceLocation\":\""))
-plain_string annotates opening written ending said end opens same ends =
-    let kind = kind_key annotates in
+quoted_end : (written said end : Text) → written ≡ said → 34 ∷ (written ++ (end ++ codes ",\"instanceLocation\":\"")) ≡ (34 ∷ (said ++ end)) ++ codes ",\"instanceLocation\":\""
+quoted_end written said end same =
     let key = codes ",\"instanceLocation\":\"" in
-    ap₂ (λ a b. a ++ b) opens (ap₂ (λ a b. a ++ b) same ends)
-    ∙ ap (λ t. 34 ∷ t) (append_assoc kind (34 ∷ []) (said ++ (end ++ key)) ∙ ap (λ t. kind ++ 34 ∷ t) (sym (append_assoc said end key)))
+    ap (λ t. 34 ∷ (t ++ (end ++ key))) same ∙ ap (λ t. 34 ∷ t) (sym (append_assoc said end key))
 
-pub said_not_met : (annotates : Bool) (opening written keyword : Text) → opening ≡ 34 ∷ (kind_key annotates ++ 34 ∷ []) → written ≡ keyword → list_all is_unescaped keyword ≡ true
-    → opening ++ (written ++ codes " is not met\",\"instanceLocation\":\"") ≡ 34 ∷ (kind_key annotates ++ (text (string (keyword ++ codes " is not met")) ++ codes ",\"instanceLocation\":\""))
-said_not_met annotates opening written keyword opens same unescaped =
-    plain_string annotates opening written (codes " is not met\",\"instanceLocation\":\"") keyword (codes " is not met\"") opens same refl
-    ∙ ap (λ q. 34 ∷ (kind_key annotates ++ (q ++ codes ",\"instanceLocation\":\""))) (sym (message keyword unescaped))
+pub said_not_met : (written keyword : Text) → written ≡ keyword → list_all is_unescaped keyword ≡ true
+    → 34 ∷ (written ++ codes " is not met\",\"instanceLocation\":\"") ≡ text (string (keyword ++ codes " is not met")) ++ codes ",\"instanceLocation\":\""
+said_not_met written keyword same unescaped =
+    quoted_end written keyword (codes " is not met\"") same ∙ ap (λ q. q ++ codes ",\"instanceLocation\":\"") (sym (message keyword unescaped))
 
-pub said_string : (s : Said) (annotates : Bool) (t : Text) → IsPlainString s annotates t (codes "\",\"instanceLocation\":\"") → IsSaid s annotates (text (string t))
-said_string s annotates t is =
-    plain_string annotates s.opening.now s.said.now s.ending.now t (34 ∷ []) is.opening is.said is.ending ∙ ap (λ q. 34 ∷ (kind_key annotates ++ (q ++ codes ",\"instanceLocation\":\""))) (sym (as_it_is t is.unescaped))
+pub said_string : (t : Text) → list_all is_unescaped t ≡ true → 34 ∷ (t ++ codes "\",\"instanceLocation\":\"") ≡ text (string t) ++ codes ",\"instanceLocation\":\""
+said_string t unescaped = quoted_end t t (34 ∷ []) refl ∙ ap (λ q. q ++ codes ",\"instanceLocation\":\"") (sym (as_it_is t unescaped))

@@ -1,6 +1,6 @@
 //! Texts and locations as strings of JSON (RFC 8259, section 7).
 
-ghost use Rattle.std.specs.Prelude.{◌≡◌, ◌&&◌, ◌++◌, ◌∷◌, [], OnOk, codes, decimal, flat_map, string_bytes};
+ghost use Rattle.std.specs.Prelude.{◌≡◌, ◌&&◌, ◌++◌, ◌∷◌, [], IfOk, OnOk, codes, decimal, flat_map, string_bytes};
 ghost use Rattle.std.specs.List.{list_all};
 ghost use Rattle.json.specs.Print.{print, quoted};
 ghost use Rattle.definitions.specs.Bytes.{number_sign, slash};
@@ -14,7 +14,7 @@ use crate::origin::Origin;
 use json::Writer;
 use keywords::Keyword;
 use locations::{Step, push_fragment, push_pointer};
-use std::alloc::AllocError;
+use std::alloc::{AllocError, Global};
 
 /// How many bytes the text of a location most often has at most.
 const MOST_OFTEN: usize = 128;
@@ -157,6 +157,36 @@ fn push_step(out: &mut String, step: Step<'_>) -> Result<(), AllocError>
     }
 }
 
+/// The pointer as a fragment. The only error is want of memory.
+pub(crate) fn fragment_of(alloc: Global, steps: &[Step<'_>]) -> Result<String, AllocError>
+    ensures { IfOk result (λ s. string_bytes s ≡ fragment_text (tokens steps.now)) }
+{
+    let mut fragment = String::with_capacity(alloc, MOST_OFTEN)?;
+    push_fragments(&mut fragment, steps)?;
+    Ok(fragment)
+}
+
+fn push_fragments(out: &mut String, steps: &[Step<'_>]) -> Result<(), AllocError>
+    ensures { OnOk result (string_bytes out.new
+        ≡ string_bytes out.old ++ fragment_text (tokens steps.now)) }
+{
+    for step in steps {
+        push_step_fragment(out, *step)?;
+    }
+    Ok(())
+}
+
+fn push_step_fragment(out: &mut String, step: Step<'_>) -> Result<(), AllocError>
+    ensures { OnOk result (string_bytes out.new
+        ≡ string_bytes out.old ++ fragment_text (token step.entry ∷ [])) }
+{
+    if is_plain_step(step) {
+        push_plain_step(out, step)
+    } else {
+        push_fragment(out, &[step])
+    }
+}
+
 fn push_other_pointer(out: &mut String, steps: &[Step<'_>]) -> Result<(), AllocError>
     ensures { OnOk result (string_bytes out.new
         ≡ string_bytes out.old ++ quoted (pointer_text (tokens steps.now))) }
@@ -167,6 +197,7 @@ fn push_other_pointer(out: &mut String, steps: &[Step<'_>]) -> Result<(), AllocE
 }
 
 /// Appends a `/` and the step, as it is.
+#[inline(always)]
 pub(crate) fn push_plain_step(out: &mut String, step: Step<'_>) -> Result<(), AllocError>
     ensures { OnOk result (string_bytes out.new
         ≡ string_bytes out.old ++ slash ∷ token step.entry) }

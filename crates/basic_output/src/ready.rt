@@ -1,9 +1,13 @@
 //! Units whose text is put together of texts that stand ready (JSON Schema 2020-12 Core, 12.4.2).
 
-ghost use Rattle.std.specs.Prelude.{◌≡◌, ◌++◌, ◌∷◌, [], Bool, IfSome};
+ghost use Rattle.std.specs.Prelude.{◌≡◌, true, IfSome};
+ghost use Rattle.std.specs.List.{list_all};
+ghost use Rattle.definitions.specs.Pointers.{fragment_text};
 ghost use Rattle.definitions.specs.Texts.{text};
-ghost use Rattle.basic_output.specs.Pieces.{kind_key, unit_text};
-ghost use Rattle.basic_output.specs.Ready.{AreReady, IsPlainString, IsSaid, ready_text};
+ghost use Rattle.definitions.specs.Values.{string};
+ghost use Rattle.basic_output.specs.Pieces.{is_unescaped, unit_text};
+ghost use Rattle.basic_output.specs.PointerViews.{onward_pointer};
+ghost use Rattle.basic_output.specs.Ready.{AreReady, IsSaid, ready_text};
 ghost use Rattle.basic_output.specs.Sayings.{says_value, unit_at};
 ghost use Rattle.basic_output.specs.declared.location.Location.{Location};
 ghost use Rattle.basic_output.specs.declared.says.Says.{Says};
@@ -21,14 +25,25 @@ pub(crate) struct ReadyUnit<'s> {
     pub(crate) head: &'s str,
     /// The pointer from there.
     pub(crate) onward: &'s str,
-    /// From there to what it says.
-    pub(crate) opening: &'static str,
+    /// Whether it is an annotation.
+    pub(crate) annotates: bool,
+    /// How what it says is given.
+    pub(crate) form: Form,
     /// What it says.
     pub(crate) said: &'s str,
-    /// From there to the instance location.
-    pub(crate) ending: &'static str,
     pub(crate) instance_location: &'s str,
     pub(crate) path: &'s str,
+}
+
+/// How a text gives what a unit says.
+#[derive(Clone, Copy, Debug, PartialEq, Eq)]
+pub(crate) enum Form {
+    /// It is the name of a keyword, which is not met.
+    NotMet,
+    /// It is a string that stands as it is.
+    Plain,
+    /// It is what is written.
+    Written,
 }
 
 /// The texts of a unit's locations.
@@ -40,15 +55,41 @@ pub(crate) struct ReadyLocation<'s> {
     path: &'s str,
 }
 
-/// The texts of the locations, where all of them are written and plain.
+/// The texts of the locations, where all of them are written, and the pointer from the origin on is plain.
+#[inline(always)]
 pub(crate) fn ready_location<'s>(location: Location<'s, '_>) -> Option<ReadyLocation<'s>>
+    ensures { IfSome result (λ ready. AreReady location.entry ready) }
+{
+    let onward = location.path.plain_text_behind(location.inward())?;
+    located_behind(location, onward)
+}
+
+/// The same, where this is the pointer from the origin on, as a fragment.
+pub(crate) fn escaped_location<'s>(
+    location: Location<'s, '_>,
+    onward: &'s str,
+) -> Option<ReadyLocation<'s>>
+    requires { onward.now ≡ fragment_text (onward_pointer location.path.now location.onward) }
+    ensures { IfSome result (λ ready. AreReady location.entry ready) }
+{
+    if are_unescaped(onward.as_bytes()) {
+        located_behind(location, onward)
+    } else {
+        None
+    }
+}
+
+// The same, where that stands in a string as it is.
+#[inline(always)]
+fn located_behind<'s>(location: Location<'s, '_>, onward: &'s str) -> Option<ReadyLocation<'s>>
+    requires led { onward.now ≡ fragment_text (onward_pointer location.path.now location.onward) }
+    requires unescaped { list_all is_unescaped onward.now ≡ true }
     ensures { IfSome result (λ ready. AreReady location.entry ready) }
 {
     if !location.path.is_written() || !location.instance_location.is_written() {
         return None;
     }
     let head = location.origin.head()?;
-    let onward = location.path.plain_text_behind(location.inward())?;
     Some(ReadyLocation {
         head,
         onward,
@@ -57,45 +98,44 @@ pub(crate) fn ready_location<'s>(location: Location<'s, '_>) -> Option<ReadyLoca
     })
 }
 
-/// What a unit says, with what stands before it and behind it.
+/// What a unit says, and how.
 #[derive(Clone, Copy)]
 pub(crate) struct Said<'s> {
-    opening: &'static str,
+    form: Form,
     said: &'s str,
-    ending: &'static str,
 }
 
 /// What a unit says, where it is a string that stands as it is.
-pub(crate) fn plain_said<'s>(annotates: bool, says: Says<'s, 's>) -> Option<Said<'s>>
-    ensures { IfSome result (λ said. IsSaid said annotates (text (says_value says.entry))) }
+#[inline(always)]
+pub(crate) fn plain_said<'s>(says: Says<'s, 's>) -> Option<Said<'s>>
+    ensures { IfSome result (λ said. IsSaid said (text (says_value says.entry))) }
 {
     match says {
-        Says::NotMet(keyword) => Some(not_met(annotates, keyword)),
-        Says::Value(doc) => plain_string(annotates, doc.as_str()?, "\",\"instanceLocation\":\""),
+        Says::NotMet(keyword) => Some(not_met(keyword)),
+        Says::Value(doc) => plain_string(doc.as_str()?),
         _ => None,
     }
 }
 
 // That the keyword isn't met, whose name stands in a string as it is.
-fn not_met<'s>(annotates: bool, keyword: Keyword) -> Said<'s>
-    ensures { IsSaid result annotates (text (says_value (says.NotMet keyword))) }
+#[inline(always)]
+fn not_met<'s>(keyword: Keyword) -> Said<'s>
+    ensures { IsSaid result (text (says_value (says.NotMet keyword))) }
 {
     Said {
-        opening: opening_kind_key(annotates),
+        form: Form::NotMet,
         said: keyword.name(),
-        ending: " is not met\",\"instanceLocation\":\"",
     }
 }
 
-// The text with this ending, where it stands in a string as it is.
-fn plain_string<'s>(annotates: bool, said: &'s str, ending: &'static str) -> Option<Said<'s>>
-    ensures { IfSome result (λ s. IsPlainString s annotates said.now ending.now) }
+// The text, where it stands in a string as it is.
+fn plain_string(said: &str) -> Option<Said<'_>>
+    ensures { IfSome result (λ s. IsSaid s (text (string said.now))) }
 {
     if are_unescaped(said.as_bytes()) {
         Some(Said {
-            opening: opening_kind_key(annotates),
+            form: Form::Plain,
             said,
-            ending,
         })
     } else {
         None
@@ -103,51 +143,34 @@ fn plain_string<'s>(annotates: bool, said: &'s str, ending: &'static str) -> Opt
 }
 
 /// What a unit says, whose text was written.
-pub(crate) fn written_said(annotates: bool, said: &str) -> Said<'_>
-    ensures { IsSaid result annotates said.now }
+#[inline(always)]
+pub(crate) fn written_said(said: &str) -> Said<'_>
+    ensures { IsSaid result said.now }
 {
     Said {
-        opening: closing_kind_key(annotates),
+        form: Form::Written,
         said,
-        ending: ",\"instanceLocation\":\"",
     }
 }
 
-/// The unit that says this at this location.
-pub(crate) fn ready_unit<'s>(location: ReadyLocation<'s>, said: Said<'s>) -> ReadyUnit<'s>
-    ensures { (l : Location) (annotates : Bool) (says : Says)
-        → AreReady l location.entry → IsSaid said.entry annotates (text (says_value says))
+/// The unit that says this at this location: an annotation, or else an error.
+#[inline(always)]
+pub(crate) fn ready_unit<'s>(
+    annotates: bool,
+    location: ReadyLocation<'s>,
+    said: Said<'s>,
+) -> ReadyUnit<'s>
+    ensures { (l : Location) (says : Says)
+        → AreReady l location.entry → IsSaid said.entry (text (says_value says))
         → ready_text result ≡ unit_text annotates (unit_at l says) }
 {
     ReadyUnit {
         head: location.head,
         onward: location.onward,
-        opening: said.opening,
+        annotates,
+        form: said.form,
         said: said.said,
-        ending: said.ending,
         instance_location: location.instance_location,
         path: location.path,
-    }
-}
-
-// Behind the text of a string.
-fn closing_kind_key(annotates: bool) -> &'static str
-    ensures { result.now ≡ 34 ∷ kind_key annotates }
-{
-    if annotates {
-        "\",\"annotation\":"
-    } else {
-        "\",\"error\":"
-    }
-}
-
-// The same, before the text of another string.
-fn opening_kind_key(annotates: bool) -> &'static str
-    ensures { result.now ≡ 34 ∷ (kind_key annotates ++ 34 ∷ []) }
-{
-    if annotates {
-        "\",\"annotation\":\""
-    } else {
-        "\",\"error\":\""
     }
 }

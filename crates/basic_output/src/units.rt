@@ -1,17 +1,21 @@
 //! The units of the basic output, as they are collected (JSON Schema 2020-12 Core, 12.4.2).
 
-ghost use Rattle.std.specs.Prelude.{◌≡◌, ◌∷◌, ◌++◌, ◌-◌, if◌then◌else◌, is_ok, length, map, nat_eq, string_bytes, take, true, OnOk, OnErr};
-ghost use Rattle.std.specs.List.{All};
+ghost use Rattle.std.specs.Prelude.{◌≡◌, ◌≤◌, ◌∷◌, ◌++◌, ◌-◌, if◌then◌else◌, is_ok, length, map, nat_eq, string_bytes, take, true, IfOk, OnOk, OnErr};
+ghost use Rattle.std.specs.List.{All, insert};
 ghost use Rattle.basic_output.specs.Pieces.{unit_text};
-ghost use Rattle.basic_output.specs.Ready.{AreReady};
-ghost use Rattle.basic_output.specs.Sayings.{unit_at};
+ghost use Rattle.basic_output.specs.Ready.{AreReady, IsSaid};
+ghost use Rattle.basic_output.specs.Sayings.{says_value, unit_at};
+ghost use Rattle.definitions.specs.Texts.{text};
 ghost use Rattle.basic_output.specs.declared.location.Location.{Location};
 ghost use Rattle.basic_output.specs.Spans.{IsSpan, ascends, last_reach, raise_from, span_text};
 
 use crate::appending::append_ready;
 use crate::keeping::is_kept;
 use crate::location::Location;
-use crate::ready::{ReadyLocation, plain_said, ready_location, ready_unit, written_said};
+use crate::quoting::fragment_of;
+use crate::ready::{
+    ReadyLocation, Said, escaped_location, plain_said, ready_location, ready_unit, written_said,
+};
 use crate::saying::push_says;
 use crate::says::Says;
 use crate::unit::push_unit;
@@ -89,7 +93,6 @@ impl Model for Mark {
 
 impl Units {
     ghost use Rattle.std.specs.Prelude.{[]};
-    ghost use Rattle.std.specs.List.{insert};
     ghost use Rattle.basic_output.specs.Units.{unit_texts};
 
     /// No units. This takes no memory; the units that come later take it from `alloc`.
@@ -145,15 +148,12 @@ impl Units {
         append_unit(&mut self.text, &mut self.made, annotates, location, says)?;
         let reach = self.text.len();
         let position = mark.units.min(self.spans.len());
-        self.spans.insert(
-            position,
-            Span {
-                start: start + 1,
-                end: reach,
-                reach,
-            },
-        )?;
-        raise(&mut self.spans, position, reach);
+        let span = Span {
+            start: start + 1,
+            end: reach,
+            reach,
+        };
+        insert_span(&mut self.spans, position, span)?;
         Ok(())
     }
 
@@ -197,6 +197,7 @@ impl Units {
 
 // Appends a comma and the text of a unit, of which a part may be made apart. The only error is want of memory, and then
 // nothing was appended.
+#[inline(always)]
 fn append_unit(
     out: &mut String,
     made: &mut String,
@@ -210,6 +211,27 @@ fn append_unit(
 {
     match ready_location(location) {
         Some(ready) => append_ready_unit(out, made, annotates, ready, says),
+        None => append_other_unit(out, made, annotates, location, says),
+    }
+}
+
+// The same, whose pointer from the origin on has a step that isn't plain, or whose locations don't stand in strings as they
+// are. It is called apart, since few units are such.
+#[inline(never)]
+fn append_other_unit(
+    out: &mut String,
+    made: &mut String,
+    annotates: bool,
+    location: Location<'_, '_>,
+    says: Says<'_, '_>,
+) -> Result<(), AllocError>
+    ensures { string_bytes out.new ≡ (if is_ok result
+        then string_bytes out.old ++ 44 ∷ unit_text annotates (unit_at location.entry says.entry)
+        else string_bytes out.old) }
+{
+    let onward = fragment_of(*out.allocator(), location.onward_steps())?;
+    match escaped_location(location, onward.as_str()) {
+        Some(ready) => append_ready_unit(out, made, annotates, ready, says),
         None => {
             made.clear();
             made.push_str(",")?;
@@ -220,6 +242,7 @@ fn append_unit(
 }
 
 // The same at ready locations.
+#[inline(always)]
 fn append_ready_unit(
     out: &mut String,
     made: &mut String,
@@ -232,15 +255,51 @@ fn append_ready_unit(
         then string_bytes out.old ++ 44 ∷ unit_text annotates (unit_at l says.entry)
         else string_bytes out.old) }
 {
-    match plain_said(annotates, says) {
-        Some(said) => append_ready(out, ready_unit(location, said)),
+    let said = said_of(made, says)?;
+    append_ready(out, ready_unit(annotates, location, said))
+}
+
+// What the unit says, which is written where it doesn't stand there as it is.
+#[inline(always)]
+fn said_of<'s>(made: &'s mut String, says: Says<'s, 's>) -> Result<Said<'s>, AllocError>
+    ensures { IfOk result (λ said. IsSaid said (text (says_value says.entry))) }
+{
+    match plain_said(says) {
+        Some(said) => Ok(said),
         None => {
             made.clear();
             push_says(made, says)?;
-            let said = written_said(annotates, made.as_str());
-            append_ready(out, ready_unit(location, said))
+            Ok(written_said(made.as_str()))
         }
     }
+}
+
+// Puts a span at the position, before those that came later, which reach as far as it does now. The only error is want of
+// memory, and then the spans stay as they were.
+#[inline(always)]
+fn insert_span(spans: &mut Vec<Span>, position: usize, span: Span) -> Result<(), AllocError>
+    requires { position ≤ length spans.old.items }
+    ensures ok { OnOk result (spans.new.items
+        ≡ raise_from position span.reach (insert spans.old.items position span)) }
+    ensures unchanged { OnErr result (spans.new.items ≡ spans.old.items) }
+{
+    if position < spans.len() {
+        return insert_among(spans, position, span);
+    }
+    spans.push(span)?;
+    Ok(())
+}
+
+#[inline(never)]
+fn insert_among(spans: &mut Vec<Span>, position: usize, span: Span) -> Result<(), AllocError>
+    requires { position ≤ length spans.old.items }
+    ensures ok { OnOk result (spans.new.items
+        ≡ raise_from position span.reach (insert spans.old.items position span)) }
+    ensures unchanged { OnErr result (spans.new.items ≡ spans.old.items) }
+{
+    spans.insert(position, span)?;
+    raise(spans, position, span.reach);
+    Ok(())
 }
 
 // How far the texts reach.

@@ -132,7 +132,19 @@ impl<'a> WrittenPointer<'a> {
 
     /// Writes what the text lacks, up to a step of which a string of JSON escapes something. The only error is want of
     /// memory.
+    #[inline(always)]
     pub fn write(&mut self) -> Result<(), AllocError>
+        ensures { pointer_view self.new ≡ pointer_view self.old }
+    {
+        if self.is_written() {
+            return Ok(());
+        }
+        self.write_rest()
+    }
+
+    // The same, where the text lacks something.
+    #[inline(never)]
+    fn write_rest(&mut self) -> Result<(), AllocError>
         ensures { pointer_view self.new ≡ pointer_view self.old }
     {
         while self.starts.len() < self.steps.len() {

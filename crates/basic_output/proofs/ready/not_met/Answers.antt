@@ -6,4 +6,4 @@ use Rattle.basic_output.proofs.ready.not_met.Goals as goal
 pub returns : goal.returns
 returns c =
     let k = c.args.keyword in
-    said_not_met c.args.annotates c.opening_kind_key.result.now c.name.result.now (row_of k).name c.opening_kind_key.ensures c.name.ensures (name_is_unescaped k)
+    said_not_met c.name.result.now (row_of k).name c.name.ensures (name_is_unescaped k)

@@ -5,7 +5,6 @@ use Rattle.json_doc.specs.Docs.{value}
 use Rattle.basic_output.specs.Ready.{IsSaid}
 use Rattle.basic_output.specs.Sayings.{says_value}
 use Rattle.lemmas.proofs.SomeValues.{none_some, some_same}
-use Rattle.basic_output.proofs.UnitLaws.{said_string}
 use Rattle.basic_output.proofs.ready.plain_said.Goals as goal
 
 some_weaker : {A : Type 0} {P Q : A → Type 0} (o : Option A) → ((x : A) → P x → Q x) → IfSome o P → IfSome o Q
@@ -13,7 +12,7 @@ some_weaker (Some x) more p = more x p
 some_weaker None more p = p
 
 pub returns-in-NotMet : goal.returns-in-NotMet
-returns-in-NotMet c = subst (λ s. IsSaid c.not_met.result c.args.annotates (text (says_value s))) (sym c.in-NotMet.is) c.not_met.ensures
+returns-in-NotMet c = subst (λ s. IsSaid c.not_met.result (text (says_value s))) (sym c.in-NotMet.is) c.not_met.ensures
 
 string_is : (v : Value) (t : Text) → as_string v ≡ Some t → v ≡ string t
 string_is (string s) t h = ap string (some_same h)
@@ -25,5 +24,5 @@ returns-in_ok-as_str-in-Value c =
     let t = c.in_ok-as_str-in-Value.field-0.now in
     let is_string : v ≡ string t = string_is v t (sym c.in_ok-as_str-in-Value.ensures) in
     some_weaker c.plain_string.result
-    (λ said is. subst (λ s. IsSaid said c.args.annotates (text (says_value s))) (sym c.in-Value.is) (subst (λ v. IsSaid said c.args.annotates (text v)) (sym is_string) (said_string said c.args.annotates t is)))
+    (λ said is. subst (λ s. IsSaid said (text (says_value s))) (sym c.in-Value.is) (subst (λ v. IsSaid said (text v)) (sym is_string) is))
     c.plain_string.ensures

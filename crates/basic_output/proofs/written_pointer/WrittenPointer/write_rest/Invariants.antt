@@ -1,5 +1,5 @@
 use Rattle.std.proofs.Common.{◌≡◌, ◌-◌, length}
-use Rattle.basic_output.proofs.written_pointer.WrittenPointer.write.Given as goal
+use Rattle.basic_output.proofs.written_pointer.WrittenPointer.write_rest.Given as goal
 
 abbrev pub invariant-loop-self : goal.invariant-loop-self
 invariant-loop-self l = l.self.steps ≡ l.initial.self.steps

@@ -1,7 +1,7 @@
 use Rattle.std.proofs.Common.{ap, ◌∙◌}
 use Rattle.locations.specs.Steps.{tokens}
 use Rattle.basic_output.specs.PointerViews.{pointer_view}
-use Rattle.basic_output.proofs.written_pointer.WrittenPointer.write.Goals as goal
+use Rattle.basic_output.proofs.written_pointer.WrittenPointer.write_rest.Goals as goal
 
 pub returns-then-not-branch : goal.returns-then-not-branch
 unfolding pointer_view

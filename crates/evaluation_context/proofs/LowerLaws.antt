@@ -1,5 +1,5 @@
 -- Nothing is being applied below the instance location.
-use Rattle.std.proofs.Common.{◌≡◌, ◌≤◌, ◌++◌, ◌∷◌, ◌||◌, [], List, true, false, length, nat_le, refl, ap₂, arith, length-append}
+use Rattle.std.proofs.Common.{◌≡◌, ◌++◌, ◌∷◌, ◌||◌, [], List, true, false, length, nat_le, refl, ap₂, arith, length-append}
 use Rattle.std.proofs.lemmas.Bool.{and_parts, and_left, and_right, leb-true}
 use Rattle.std.specs.List.{list_any}
 use Rattle.definitions.specs.Values.{Text}

@@ -2,7 +2,9 @@
 
 ghost use Rattle.std.specs.Prelude.{◌≡◌, ◌++◌, [], true, false, IfOk, IfErr, OnOk, Contains, codes, option_map};
 ghost use Rattle.definitions.specs.Values.{Text};
-ghost use Rattle.definitions.specs.Schemas.{schema_at};
+ghost use Rattle.definitions.specs.Resolution.{target_uri};
+ghost use Rattle.definitions.specs.Schemas.{Schema, schema_at};
+ghost use Rattle.definitions.specs.Uris.{without_fragment};
 ghost use Rattle.definitions.specs.Applied.{Application, part_location};
 ghost use Rattle.basic_output.specs.PointerViews.{origin_view};
 ghost use Rattle.json_doc.specs.Docs.{value};
@@ -17,7 +19,6 @@ ghost use Rattle.evaluation_context.specs.Returns.{CameFrom, origin_before};
 use crate::context::{Context, Return};
 use crate::identifier::identifier;
 use basic_output::Origin;
-use faults::Fault;
 use json_doc::Doc;
 use keyword_plans::{Chosen, Part, Planned};
 use linker::Linked;
@@ -33,7 +34,7 @@ impl<'a> Context<'a> {
         alloc: Global,
         linked: &'a Linked,
         planned: &Planned<'a>,
-    ) -> Result<Return<'a>, Fault>
+    ) -> Result<Return<'a>, AllocError>
         ensures there { (a : Application) (k : Text)
             → frame_standing (context_view self.old) ≡ at_keyword k (standing_of a)
             → Contains (linked_schemas linked.now) (planned_view k a planned.now).1.schema
@@ -41,7 +42,6 @@ impl<'a> Context<'a> {
             ≡ standing_of (planned_view k a planned.now).1) }
         ensures entered { IfOk result
             (λ back. CameFrom back (context_view self.old) (context_view self.new)) }
-        ensures err { IfErr result (λ f. f ≡ Fault.NoRoom) }
         ensures documents { scope_documents self.new.scope ≡ scope_documents self.old.scope }
     {
         let path = self.running.path().len();
@@ -86,7 +86,7 @@ impl<'a> Context<'a> {
         alloc: Global,
         linked: &'a Linked,
         chosen: &Chosen<'a>,
-    ) -> Result<Option<Rc<Origin<'a>>>, Fault>
+    ) -> Result<Option<Rc<Origin<'a>>>, AllocError>
         ensures there { let st = frame_standing (context_view self.old) in
             let s = chosen_schema st.resource st.pointer chosen.now in
             Contains (linked_schemas linked.now) s
@@ -96,7 +96,6 @@ impl<'a> Context<'a> {
         ensures left { IfOk result
             (λ left. origin_before left (context_view self.new).origin
             ≡ (context_view self.old).origin) }
-        ensures err { IfErr result (λ f. f ≡ Fault.NoRoom) }
         ensures documents { scope_documents self.new.scope ≡ scope_documents self.old.scope }
     {
         match chosen {
@@ -133,7 +132,7 @@ impl<'a> Context<'a> {
         alloc: Global,
         linked: &'a Linked,
         schema: &'a Doc,
-    ) -> Result<Option<Rc<Origin<'a>>>, Fault>
+    ) -> Result<Option<Rc<Origin<'a>>>, AllocError>
         ensures there { let st = frame_standing (context_view self.old) in
             let s = schema_at st.resource st.pointer (value schema.now) in
             Contains (linked_schemas linked.now) s
@@ -142,12 +141,11 @@ impl<'a> Context<'a> {
         ensures left { IfOk result
             (λ left. origin_before left (context_view self.new).origin
             ≡ (context_view self.old).origin) }
-        ensures err { IfErr result (λ f. f ≡ Fault.NoRoom) }
         ensures documents { scope_documents self.new.scope ≡ scope_documents self.old.scope }
     {
         match identifier(schema) {
             Some(id) => {
-                let resource = linked.resource_opened(alloc, self.resource(), id)?;
+                let resource = resource_opened(alloc, linked, self.resource(), id)?;
                 let origin = Rc::new(alloc, Origin::root(alloc, resource))?;
                 Ok(Some(self.enter_origin(origin)))
             }
@@ -180,5 +178,24 @@ impl<'a> Context<'a> {
             Part::NameOf(name) => self.name = Some(name),
         }
         Ok(())
+    }
+}
+
+// The URI of the resource that a schema opens by this `$id`, where the resource around it has this URI. The only error is
+// want of memory.
+fn resource_opened<'a>(
+    alloc: Global,
+    linked: &'a Linked,
+    around: &str,
+    id: &str,
+) -> Result<&'a str, AllocError>
+    ensures { (s : Schema) → Contains (linked_schemas linked.entry.now) s → s.pointer ≡ []
+        → s.resource ≡ without_fragment (target_uri around.now id.now)
+        → IfOk result (λ uri. uri.now ≡ s.resource) }
+{
+    match linked.resource_opened(alloc, around, id) {
+        Ok(uri) => Ok(uri),
+        // Want of memory is the only fault.
+        Err(_) => Err(AllocError),
     }
 }

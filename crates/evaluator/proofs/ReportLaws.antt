@@ -4,6 +4,7 @@ use Rattle.std.proofs.lemmas.Bool.{le-ltb}
 use Rattle.definitions.specs.Values.{Value, same_text}
 use Rattle.definitions.specs.Faults as meaning
 use Rattle.faults.specs.declared.Fault.{Fault}
+use Rattle.evaluator.specs.declared.halt.Halt.{Halt}
 use Rattle.faults.specs.View.{fault_view}
 use Rattle.definitions.specs.Faults.{costly, loop, deep}
 use Rattle.definitions.specs.Reach.{missing_references, reach}
@@ -55,12 +56,12 @@ first_is_at l f s x e there = record {
 }
 
 -- ---- what was noted from nothing on
-pub noted_first : (r : Result Bool Fault) (n older : Notes) (o : Outcome) → older ≡ no_notes → OnOk r (n ≡ notes_of_both older (outcome_notes o)) → OnOk r (n ≡ outcome_notes o)
+pub noted_first : (r : Result Bool Halt) (n older : Notes) (o : Outcome) → older ≡ no_notes → OnOk r (n ≡ notes_of_both older (outcome_notes o)) → OnOk r (n ≡ outcome_notes o)
 noted_first (Ok f) n older o e h = h ∙ ap (λ m. notes_of_both m (outcome_notes o)) e ∙ nothing_added (outcome_notes o)
 noted_first (Err f) n older o e h = tt
 
-pub costly_first : (r : Result Bool Fault) (older : Notes) (o : Outcome) → older ≡ no_notes → IfErr r (λ f. f ≢ Fault.NoRoom → (f ≡ Fault.Costly) × IsOver older (outcome_notes o))
-    → IfErr r (λ f. f ≢ Fault.NoRoom → (f ≡ Fault.Costly) × (100000 < o.count))
+pub costly_first : (r : Result Bool Halt) (older : Notes) (o : Outcome) → older ≡ no_notes → IfErr r (λ f. f ≢ Halt.NoRoom → (f ≡ Halt.Costly) × IsOver older (outcome_notes o))
+    → IfErr r (λ f. f ≢ Halt.NoRoom → (f ≡ Halt.Costly) × (100000 < o.count))
 costly_first (Ok b) older o e h = tt
 costly_first (Err f) older o e h =
     λ other. let costly = h other in (costly.0, let c : older.tally.count ≡ 0 = ap (λ (n : Notes). n.tally.count) e in omega (arith, costly.1, c))

@@ -16,6 +16,8 @@ use Rattle.evaluator.specs.Logs.{log_view}
 use Rattle.evaluator.specs.Notes.{IsOver, Notes, notes_of_both}
 use Rattle.evaluator.specs.Rounds.{IsAt, IsKnown, linked_outcome}
 use Rattle.evaluator.specs.declared.applying.Evaluation.{Evaluation}
+use Rattle.evaluator.specs.declared.halt.Halt.{Halt}
+use Rattle.evaluator.specs.declared.halt.Halt.TheVariants.{Costly, NoRoom}
 use Rattle.evaluator.specs.declared.here.Here.{Here}
 
 -- it is this application of the schema to the subject, where the evaluation stands
@@ -30,9 +32,14 @@ IsHere e h a = Applies e h.present.now.schema.now h.subject a
 abbrev pub Adds : Evaluation → Evaluation → Notes → Type 0
 Adds older newer n = log_view newer.log ≡ notes_of_both (log_view older.log) n
 
--- want of memory aside, the fault is Costly, and this too would be more applications than there may be
-abbrev pub IsCostly : code.Fault → Evaluation → Notes → Type 0
-IsCostly f older n = f ≢ code.Fault.NoRoom → (f ≡ code.Fault.Costly) × IsOver (log_view older.log) n
+-- the fault of an evaluation that halts so
+abbrev pub halt_fault : Halt → code.Fault
+halt_fault Costly = code.Fault.Costly
+halt_fault NoRoom = code.Fault.NoRoom
+
+-- want of memory aside, it halts since this too would be more applications than there may be
+abbrev pub IsCostly : Halt → Evaluation → Notes → Type 0
+IsCostly h older n = h ≢ NoRoom → (h ≡ Costly) × IsOver (log_view older.log) n
 
 -- the schemas that the keyword of this name applies are all linked
 abbrev pub AreKnown : Linked → Text → Application → List Planned → Type 0

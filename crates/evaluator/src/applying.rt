@@ -6,6 +6,7 @@ ghost use Rattle.json_doc.specs.Docs.{value};
 ghost use Rattle.keyword_plans.specs.EnumeratedIn.{enumerated_in};
 ghost use Rattle.keyword_plans.specs.ScopeViews.{scope_documents};
 
+use crate::halt::Halt;
 use crate::here::Here;
 use crate::log::Log;
 use crate::memory::EvaluationMemory;
@@ -13,11 +14,10 @@ use crate::present::Present;
 use crate::settling_object::settle_object;
 use basic_output::Says;
 use evaluation_context::Context;
-use faults::Fault;
 use json_doc::Doc;
-use keyword_plans::{Enumerations, Subject};
+use keyword_plans::{Enumerations, PlanMemory, Subject};
 use linker::Linked;
-use std::alloc::Global;
+use std::alloc::{AllocError, Global};
 
 /// An evaluation under way: the linked documents, the long `enum`s that it met in them, where it stands, and what it noted.
 #[derive(Drop)]
@@ -27,6 +27,8 @@ pub(crate) struct Evaluation<'a> {
     pub(crate) enumerations: Enumerations<'a>,
     pub(crate) context: Context<'a>,
     pub(crate) log: Log<'a>,
+    /// The memory of what keywords planned that were evaluated.
+    pub(crate) plans: PlanMemory<'a>,
     /// Of the last keyword that may apply schemas, how many passed of those that it applied, where it is there.
     pub(crate) passing: Option<u64>,
     /// Whether what was applied last passed.
@@ -64,7 +66,7 @@ impl<'a> Evaluation<'a> {
         present: &Present<'a>,
         subject: Subject<'a>,
         nesting: u32,
-    ) -> Result<bool, Fault>
+    ) -> Result<bool, Halt>
         ensures linked { self.new.linked ≡ self.old.linked }
         ensures back { OnOk result (context_view self.new.context ≡ context_view self.old.context) }
         ensures valid { (a : Application) → Applies self.old present.now.schema.now subject.entry a
@@ -77,7 +79,7 @@ impl<'a> Evaluation<'a> {
             (linked_outcome self.old.linked.now nesting a))) }
     {
         if self.log.is_full() {
-            return Err(Fault::Costly);
+            return Err(Halt::Costly);
         }
         match present.schema.as_bool() {
             Some(allowed) => self.apply_boolean(allowed, nesting),
@@ -86,7 +88,7 @@ impl<'a> Evaluation<'a> {
     }
 
     /// A boolean schema: `false` has a unit of its own (Core, 4.3.2).
-    fn apply_boolean(&mut self, allowed: bool, nesting: u32) -> Result<bool, Fault>
+    fn apply_boolean(&mut self, allowed: bool, nesting: u32) -> Result<bool, Halt>
         requires room { self.old.log.count < limits.applications }
         ensures linked { self.new.linked ≡ self.old.linked }
         ensures back { OnOk result (context_view self.new.context ≡ context_view self.old.context) }
@@ -95,7 +97,7 @@ impl<'a> Evaluation<'a> {
         ensures noted { (a : Application) (s x : Value)
             → a ≡ application_at (frame_standing (context_view self.old.context)) s x
             → OnOk result (Adds self.old self.new (outcome_notes (boolean_at nesting a allowed))) }
-        ensures err { IfErr result (λ f. f ≡ Fault.NoRoom) }
+        ensures err { IfErr result (λ h. h ≡ Halt.NoRoom) }
     {
         if nesting == 0 {
             self.log.count_unapplied(false, true);
@@ -105,14 +107,13 @@ impl<'a> Evaluation<'a> {
         Ok(allowed)
     }
 
-    fn note_boolean(&mut self, allowed: bool) -> Result<(), Fault>
+    fn note_boolean(&mut self, allowed: bool) -> Result<(), AllocError>
         requires room { self.old.log.count < limits.applications }
         ensures linked { self.new.linked ≡ self.old.linked }
         ensures back { context_view self.new.context ≡ context_view self.old.context }
         ensures noted { (a : Application) (s x : Value)
             → a ≡ application_at (frame_standing (context_view self.old.context)) s x
             → OnOk result (Adds self.old self.new (outcome_notes (boolean_outcome a allowed))) }
-        ensures err { IfErr result (λ f. f ≡ Fault.NoRoom) }
     {
         self.log.count_one();
         if allowed {
@@ -131,7 +132,7 @@ impl<'a> Evaluation<'a> {
         present: &Present<'a>,
         subject: Subject<'a>,
         nesting: u32,
-    ) -> Result<bool, Fault>
+    ) -> Result<bool, Halt>
         requires room { self.old.log.count < limits.applications }
         requires other { as_boolean (value present.now.schema.now) ≡ None }
         ensures linked { self.new.linked ≡ self.old.linked }
@@ -172,7 +173,7 @@ impl<'a> Evaluation<'a> {
         present: &Present<'a>,
         subject: Subject<'a>,
         nesting: u32,
-    ) -> Result<bool, Fault>
+    ) -> Result<bool, Halt>
         requires room { self.old.log.count < limits.applications }
         ensures linked { self.new.linked ≡ self.old.linked }
         ensures back { OnOk result (context_view self.new.context ≡ context_view self.old.context) }

@@ -4,13 +4,14 @@ ghost use Rattle.std.specs.Prelude.{◌≡◌};
 ghost use Rattle.json_doc.specs.Docs.{value};
 
 use crate::applying::Evaluation;
+use crate::halt::Halt;
 use crate::here::Here;
 use assertions::Assertion;
 use basic_output::Says;
-use faults::Fault;
 use json_doc::Doc;
 use keyword_plans::holds_of;
 use keywords::Keyword;
+use std::alloc::AllocError;
 
 impl<'a> Evaluation<'a> {
     ghost use Rattle.std.specs.Prelude.{[], ◌∷◌, ◌++◌, ℕ, Some, false, IfOk, IfErr, OnOk, codes};
@@ -35,7 +36,7 @@ impl<'a> Evaluation<'a> {
         keyword: Keyword,
         assertion: Assertion,
         here: Here<'_, 'a>,
-    ) -> Result<bool, Fault>
+    ) -> Result<bool, Halt>
         requires asserts { Some (assertion_view assertion)
             ≡ assertion_in (row_of keyword).meaning }
         ensures linked { self.new.linked ≡ self.old.linked }
@@ -46,7 +47,7 @@ impl<'a> Evaluation<'a> {
         ensures noted { (a : Application) (left : ℕ) → IsHere self.old here.entry a
             → OnOk result (Adds self.old self.new
             (uses_notes a (group_uses self.old.linked.now left a (One keyword)))) }
-        ensures err { IfErr result (λ f. f ≡ Fault.NoRoom) }
+        ensures err { IfErr result (λ h. h ≡ Halt.NoRoom) }
     {
         match here.present.value(keyword) {
             Some(keyword_value) => {
@@ -65,7 +66,7 @@ impl<'a> Evaluation<'a> {
         assertion: Assertion,
         keyword_value: &Doc,
         here: Here<'_, 'a>,
-    ) -> Result<bool, Fault>
+    ) -> Result<bool, AllocError>
         requires asserts { Some (assertion_view assertion)
             ≡ assertion_in (row_of keyword).meaning }
         ensures linked { self.new.linked ≡ self.old.linked }
@@ -75,7 +76,6 @@ impl<'a> Evaluation<'a> {
             → get (row_of keyword).name a.schema.value ≡ Some (value keyword_value.now)
             → IfOk result (λ b. b
             ≡ holds (assertion_view assertion) (value keyword_value.now) a.instance) }
-        ensures err { IfErr result (λ f. f ≡ Fault.NoRoom) }
     {
         match keyword {
             Keyword::Enum if !self.enumerations.may_walk(keyword_value) => {
@@ -88,14 +88,13 @@ impl<'a> Evaluation<'a> {
     // Whether the instance is one of the values of the schema's `enum`, by what the evaluation has sorted. The only error is
     // want of memory. It is called apart, since few assertions get so far.
     #[inline(never)]
-    fn is_one_of(&mut self, values: &Doc, here: Here<'_, 'a>) -> Result<bool, Fault>
+    fn is_one_of(&mut self, values: &Doc, here: Here<'_, 'a>) -> Result<bool, AllocError>
         ensures linked { self.new.linked ≡ self.old.linked }
         ensures back { self.new.context ≡ self.old.context }
         ensures noted { self.new.log ≡ self.old.log }
         ensures met { (a : Application) → IsHere self.old here.entry a
             → get (codes "enum") a.schema.value ≡ Some (value values.now)
             → IfOk result (λ b. b ≡ holds enum_of (value values.now) a.instance) }
-        ensures err { IfErr result (λ f. f ≡ Fault.NoRoom) }
     {
         let pointer = self.context.pointer(self.alloc)?;
         self.enumerations.holds(
@@ -109,7 +108,7 @@ impl<'a> Evaluation<'a> {
 
     // The keyword isn't met. The only error is want of memory.
     #[inline(never)]
-    fn refuse(&mut self, keyword: Keyword) -> Result<bool, Fault>
+    fn refuse(&mut self, keyword: Keyword) -> Result<bool, Halt>
         ensures linked { self.new.linked ≡ self.old.linked }
         ensures back { OnOk result (context_view self.new.context ≡ context_view self.old.context) }
         ensures refused { IfOk result (λ b. b ≡ false) }
@@ -120,7 +119,7 @@ impl<'a> Evaluation<'a> {
                   (string ((row_of keyword).name ++ codes " is not met"))
                   ∷ []);
             })) }
-        ensures err { IfErr result (λ f. f ≡ Fault.NoRoom) }
+        ensures err { IfErr result (λ h. h ≡ Halt.NoRoom) }
     {
         self.context.enter_keyword(keyword)?;
         self.context.write_locations()?;

@@ -5,11 +5,11 @@ ghost use Rattle.json_doc.specs.Docs.{value};
 
 use crate::applying::Evaluation;
 use crate::groups::first_groups;
+use crate::halt::Halt;
 use crate::here::Here;
 use crate::present::Present;
 use crate::settling_object::settle_object;
 use assertions::Assertion;
-use faults::Fault;
 use keyword_plans::Subject;
 use keywords::Group;
 
@@ -31,7 +31,7 @@ impl<'a> Evaluation<'a> {
         &mut self,
         present: &Present<'a>,
         subject: Subject<'a>,
-    ) -> Result<bool, Fault>
+    ) -> Result<bool, Halt>
         requires leaf { IsLeaf (value present.now.schema.now) }
         requires room { self.old.log.count < limits.applications }
         ensures linked { self.new.linked ≡ self.old.linked }
@@ -43,7 +43,7 @@ impl<'a> Evaluation<'a> {
             → Applies self.old present.now.schema.now subject.entry a
             → OnOk result (Adds self.old self.new (outcome_notes
             (object_said self.old.linked.now left a))) }
-        ensures err { IfErr result (λ f. f ≡ Fault.NoRoom) }
+        ensures err { IfErr result (λ h. h ≡ Halt.NoRoom) }
     {
         self.log.count_one();
         let mark = self.log.mark();
@@ -64,7 +64,7 @@ impl<'a> Evaluation<'a> {
     }
 
     // The groups that the object may have, in order: whether all pass. The only error is want of memory.
-    fn use_assertions(&mut self, here: Here<'_, 'a>) -> Result<bool, Fault>
+    fn use_assertions(&mut self, here: Here<'_, 'a>) -> Result<bool, Halt>
         requires leaf { IsLeaf (value here.present.now.schema.now) }
         ensures linked { self.new.linked ≡ self.old.linked }
         ensures back { OnOk result (context_view self.new.context ≡ context_view self.old.context) }
@@ -74,7 +74,7 @@ impl<'a> Evaluation<'a> {
         ensures noted { (a : Application) (left : ℕ) → IsHere self.old here.entry a
             → OnOk result (Adds self.old self.new
             (uses_notes a (groups_uses self.old.linked.now left a first_groups))) }
-        ensures err { IfErr result (λ f. f ≡ Fault.NoRoom) }
+        ensures err { IfErr result (λ h. h ≡ Halt.NoRoom) }
     {
         let groups = first_groups();
         let mut valid = true;
@@ -88,7 +88,7 @@ impl<'a> Evaluation<'a> {
     }
 
     // A group that asserts, or that isn't there: whether it passes. The only error is want of memory.
-    fn use_asserting(&mut self, group: Group, here: Here<'_, 'a>) -> Result<bool, Fault>
+    fn use_asserting(&mut self, group: Group, here: Here<'_, 'a>) -> Result<bool, Halt>
         ensures linked { self.new.linked ≡ self.old.linked }
         ensures back { OnOk result (context_view self.new.context ≡ context_view self.old.context) }
         ensures valid { (a : Application) (left : ℕ) → IsHere self.old here.entry a
@@ -99,7 +99,7 @@ impl<'a> Evaluation<'a> {
             → (asserts_alone group ≡ false → group_uses self.old.linked.now left a group ≡ [])
             → OnOk result (Adds self.old self.new
             (uses_notes a (group_uses self.old.linked.now left a group))) }
-        ensures err { IfErr result (λ f. f ≡ Fault.NoRoom) }
+        ensures err { IfErr result (λ h. h ≡ Halt.NoRoom) }
     {
         match group {
             Group::One(keyword) => match Assertion::of(keyword) {

@@ -9,6 +9,7 @@ mod asserting;
 mod beside;
 mod dollar_names;
 mod groups;
+mod halt;
 mod here;
 mod leaves;
 mod log;

@@ -6,9 +6,9 @@ ghost use Rattle.json_doc.specs.Docs.{value};
 use crate::applying::Evaluation;
 use crate::beside::Beside;
 use crate::groups::first_groups;
+use crate::halt::Halt;
 use crate::here::Here;
 use assertions::Assertion;
-use faults::Fault;
 use keywords::{Group, Keyword};
 
 impl<'a> Evaluation<'a> {
@@ -27,7 +27,7 @@ impl<'a> Evaluation<'a> {
 
     /// All keywords of a schema object, and last those that look at what the others evaluated: whether all pass.
     #[cycle(apply)]
-    pub(crate) fn use_keywords(&mut self, here: Here<'_, 'a>, nesting: u32) -> Result<bool, Fault>
+    pub(crate) fn use_keywords(&mut self, here: Here<'_, 'a>, nesting: u32) -> Result<bool, Halt>
         requires before { here.before ≡ evaluated_in (log_view self.old.log) }
         ensures linked { self.new.linked ≡ self.old.linked }
         ensures back { OnOk result (context_view self.new.context ≡ context_view self.old.context) }
@@ -63,7 +63,7 @@ impl<'a> Evaluation<'a> {
 
     /// The groups of keywords that the schema may have, in order: whether all pass.
     #[cycle(apply)]
-    fn use_groups(&mut self, here: Here<'_, 'a>, nesting: u32) -> Result<bool, Fault>
+    fn use_groups(&mut self, here: Here<'_, 'a>, nesting: u32) -> Result<bool, Halt>
         ensures linked { self.new.linked ≡ self.old.linked }
         ensures back { OnOk result (context_view self.new.context ≡ context_view self.old.context) }
         ensures valid { (a : Application) → IsHere self.old here.entry a
@@ -90,7 +90,7 @@ impl<'a> Evaluation<'a> {
     }
 
     #[cycle(apply)]
-    fn use_group(&mut self, group: Group, here: Here<'_, 'a>, nesting: u32) -> Result<bool, Fault>
+    fn use_group(&mut self, group: Group, here: Here<'_, 'a>, nesting: u32) -> Result<bool, Halt>
         requires alone { stands_alone group ≡ true }
         ensures linked { self.new.linked ≡ self.old.linked }
         ensures back { OnOk result (context_view self.new.context ≡ context_view self.old.context) }
@@ -113,7 +113,7 @@ impl<'a> Evaluation<'a> {
 
     /// A keyword that asks for nothing that keywords beside say.
     #[cycle(apply)]
-    fn use_one(&mut self, keyword: Keyword, here: Here<'_, 'a>, nesting: u32) -> Result<bool, Fault>
+    fn use_one(&mut self, keyword: Keyword, here: Here<'_, 'a>, nesting: u32) -> Result<bool, Halt>
         requires alone { stands_alone (One keyword) ≡ true }
         ensures linked { self.new.linked ≡ self.old.linked }
         ensures back { OnOk result (context_view self.new.context ≡ context_view self.old.context) }
@@ -135,7 +135,7 @@ impl<'a> Evaluation<'a> {
 
     /// `if`, and then `then` and `else` (Core, 10.2.2).
     #[cycle(apply)]
-    fn use_conditional(&mut self, here: Here<'_, 'a>, nesting: u32) -> Result<bool, Fault>
+    fn use_conditional(&mut self, here: Here<'_, 'a>, nesting: u32) -> Result<bool, Halt>
         ensures linked { self.new.linked ≡ self.old.linked }
         ensures back { OnOk result (context_view self.new.context ≡ context_view self.old.context) }
         ensures valid { (a : Application) → IsHere self.old here.entry a
@@ -162,7 +162,7 @@ impl<'a> Evaluation<'a> {
 
     /// `contains`, and then `minContains` and `maxContains` (Core, 10.3.1.3; Validation, 6.4.4 and 6.4.5).
     #[cycle(apply)]
-    fn use_counted(&mut self, here: Here<'_, 'a>, nesting: u32) -> Result<bool, Fault>
+    fn use_counted(&mut self, here: Here<'_, 'a>, nesting: u32) -> Result<bool, Halt>
         ensures linked { self.new.linked ≡ self.old.linked }
         ensures back { OnOk result (context_view self.new.context ≡ context_view self.old.context) }
         ensures valid { (a : Application) → IsHere self.old here.entry a
@@ -202,7 +202,7 @@ impl<'a> Evaluation<'a> {
         here: Here<'_, 'a>,
         beside: Beside,
         nesting: u32,
-    ) -> Result<bool, Fault>
+    ) -> Result<bool, Halt>
         ensures linked { self.new.linked ≡ self.old.linked }
         ensures back { OnOk result (context_view self.new.context ≡ context_view self.old.context) }
         ensures valid { (a : Application) → IsHere self.old here.entry a
@@ -241,7 +241,7 @@ impl<'a> Evaluation<'a> {
         here: Here<'_, 'a>,
         beside: Beside,
         nesting: u32,
-    ) -> Result<bool, Fault>
+    ) -> Result<bool, Halt>
         ensures linked { self.new.linked ≡ self.old.linked }
         ensures back { OnOk result (context_view self.new.context ≡ context_view self.old.context) }
         ensures valid { (a : Application) → IsHere self.old here.entry a

@@ -7,14 +7,15 @@ ghost use Rattle.evaluator.specs.Rounds.{chosen_value};
 use crate::applied::Applied;
 use crate::applying::Evaluation;
 use crate::beside::Beside;
+use crate::halt::Halt;
 use crate::here::Here;
 use crate::log::LogMark;
 use crate::present::Present;
 use crate::settling::{evaluated_since, settle};
-use faults::Fault;
 use json_doc::Doc;
 use keyword_plans::{Chosen, Planned, Site, passes, plan};
 use keywords::Keyword;
+use std::alloc::AllocError;
 
 impl<'a> Evaluation<'a> {
     ghost use Rattle.std.specs.Prelude.{◌∷◌, [], ℕ, List, Some, IfOk, IfErr, OnOk, length, map};
@@ -43,7 +44,7 @@ impl<'a> Evaluation<'a> {
         here: Here<'_, 'a>,
         beside: Beside,
         nesting: u32,
-    ) -> Result<bool, Fault>
+    ) -> Result<bool, Halt>
         ensures linked { self.new.linked ≡ self.old.linked }
         ensures back { OnOk result (context_view self.new.context ≡ context_view self.old.context) }
         ensures valid { (a : Application) → IsHere self.old here.entry a
@@ -83,14 +84,10 @@ impl<'a> Evaluation<'a> {
         let planned = self.plan_keyword(keyword, keyword_value, here, beside)?;
         self.context.enter_keyword(keyword)?;
         match self.apply_all(keyword, &planned, nesting) {
-            Ok(applied) => self.finish_keyword(
-                keyword,
-                keyword_value,
-                here,
-                beside,
-                &mark,
-                applied,
-            ),
+            Ok(applied) => {
+                self.plans.give_back(planned);
+                self.finish_keyword(keyword, keyword_value, here, beside, &mark, applied)
+            }
             Err(fault) => Err(fault),
         }
     }
@@ -102,7 +99,7 @@ impl<'a> Evaluation<'a> {
         keyword_value: &'a Doc,
         here: Here<'_, 'a>,
         beside: Beside,
-    ) -> Result<Vec<Planned<'a>>, Fault>
+    ) -> Result<Vec<Planned<'a>>, AllocError>
         ensures linked { self.new.linked ≡ self.old.linked }
         ensures back { context_view self.new.context ≡ context_view self.old.context }
         ensures noted { self.new.log ≡ self.old.log }
@@ -115,8 +112,8 @@ impl<'a> Evaluation<'a> {
             (names_since here.entry.before (log_view self.old.log))
             (indexes_since here.entry.before (log_view self.old.log))
             a (row_of keyword).name (row_of keyword).meaning (value keyword_value.now)) }
-        ensures err { IfErr result (λ f. f ≡ Fault.NoRoom) }
     {
+        let mut planned = self.plans.take();
         let log = &self.log;
         let evaluated = evaluated_since(&log.names, &log.indexes, here.before);
         let context = &mut self.context;
@@ -127,14 +124,15 @@ impl<'a> Evaluation<'a> {
             subject: here.subject,
         };
         plan(
-            self.alloc,
+            &mut planned,
             &mut context.scope,
             site,
             keyword,
             keyword_value,
             beside.condition,
             evaluated,
-        )
+        )?;
+        Ok(planned)
     }
 
     /// What the keyword itself says, once what it applies was applied, after the mark; and back from the keyword. The only
@@ -147,7 +145,7 @@ impl<'a> Evaluation<'a> {
         beside: Beside,
         mark: &LogMark,
         applied: Applied,
-    ) -> Result<bool, Fault>
+    ) -> Result<bool, Halt>
         ensures linked { self.new.linked ≡ self.old.linked }
         ensures back { (older : Frame)
             → context_view self.old.context ≡ keyword_frame (row_of keyword).name older
@@ -172,7 +170,7 @@ impl<'a> Evaluation<'a> {
             → log_view self.old.log ≡ notes_of_both older
             (parts_notes (row_of keyword).meaning u.outcomes)
             → OnOk result (log_view self.new.log ≡ notes_of_both older (uses_notes a (u ∷ []))) }
-        ensures err { IfErr result (λ f. f ≡ Fault.NoRoom) }
+        ensures err { IfErr result (λ h. h ≡ Halt.NoRoom) }
     {
         let passes = self.passes(keyword, keyword_value, here, beside, applied)?;
         settle(
@@ -197,7 +195,7 @@ impl<'a> Evaluation<'a> {
         here: Here<'_, 'a>,
         beside: Beside,
         applied: Applied,
-    ) -> Result<bool, Fault>
+    ) -> Result<bool, AllocError>
         ensures linked { self.new.linked ≡ self.old.linked }
         ensures back { self.new.context ≡ self.old.context }
         ensures noted { self.new.log ≡ self.old.log }
@@ -209,7 +207,6 @@ impl<'a> Evaluation<'a> {
             (value keyword_value.now) in
             applied.number ≡ length u.outcomes → applied.passing ≡ pass_count u.outcomes
             → IfOk result (λ b. b ≡ u.passes) }
-        ensures err { IfErr result (λ f. f ≡ Fault.NoRoom) }
     {
         let site = Site {
             linked: self.linked,
@@ -235,7 +232,7 @@ impl<'a> Evaluation<'a> {
         keyword: Keyword,
         planned: &Vec<Planned<'a>>,
         nesting: u32,
-    ) -> Result<Applied, Fault>
+    ) -> Result<Applied, Halt>
         ensures linked { self.new.linked ≡ self.old.linked }
         ensures back { OnOk result (context_view self.new.context ≡ context_view self.old.context) }
         ensures found { (a : Application)
@@ -273,7 +270,7 @@ impl<'a> Evaluation<'a> {
         keyword: Keyword,
         planned: &Planned<'a>,
         nesting: u32,
-    ) -> Result<bool, Fault>
+    ) -> Result<bool, Halt>
         ensures linked { self.new.linked ≡ self.old.linked }
         ensures back { OnOk result (context_view self.new.context ≡ context_view self.old.context) }
         ensures valid { (a : Application)
@@ -301,7 +298,7 @@ impl<'a> Evaluation<'a> {
 
     // Applies the schema that is planned: it is entered, but where it passes without a word.
     #[cycle(apply)]
-    fn apply_chosen(&mut self, planned: &Planned<'a>, nesting: u32) -> Result<bool, Fault>
+    fn apply_chosen(&mut self, planned: &Planned<'a>, nesting: u32) -> Result<bool, Halt>
         ensures linked { self.new.linked ≡ self.old.linked }
         ensures back { OnOk result (context_view self.new.context ≡ context_view self.old.context) }
         ensures valid { (a : Application) (k : Text) → IsUnder (context_view self.old.context) k a

@@ -16,6 +16,7 @@ ghost use Rattle.evaluator.specs.Notes.{outcome_notes};
 ghost use Rattle.evaluator.specs.Reports.{Gives, is_valid, report_or_fault, report_text};
 
 use crate::applying::Evaluation;
+use crate::halt::Halt;
 use crate::log::Log;
 use crate::memory::EvaluationMemory;
 use crate::present::Present;
@@ -23,7 +24,7 @@ use basic_output::output_text;
 use evaluation_context::Context;
 use faults::Fault;
 use json_doc::Doc;
-use keyword_plans::{Enumerations, Subject};
+use keyword_plans::{Enumerations, PlanMemory, Subject};
 use linker::Linked;
 use std::alloc::Global;
 use std::mem::replace;
@@ -115,6 +116,7 @@ pub fn evaluate_with<'a>(
         enumerations: Enumerations::new(alloc, linked),
         context,
         log: Log::within(alloc, log),
+        plans: PlanMemory::new(alloc),
         passing: None,
         last_passed: true,
     };
@@ -125,11 +127,10 @@ pub fn evaluate_with<'a>(
 }
 
 // The report of what was noted.
-fn reported(alloc: Global, passed: Result<bool, Fault>, log: &Log<'_>) -> Result<Report, Fault>
+fn reported(alloc: Global, passed: Result<bool, Halt>, log: &Log<'_>) -> Result<Report, Fault>
     ensures { (o : Outcome) → IfOk passed (λ b. b ≡ o.valid)
         → OnOk passed (log_view log.now ≡ outcome_notes o)
-        → IfErr passed (λ f. f ≢ Fault.NoRoom
-        → (f ≡ Fault.Costly) × (limits.applications < o.count))
+        → IfErr passed (λ h. h ≢ Halt.NoRoom → (h ≡ Halt.Costly) × (limits.applications < o.count))
         → Gives result (answer_of limits.applications o) }
 {
     match passed {
@@ -142,7 +143,7 @@ fn reported(alloc: Global, passed: Result<bool, Fault>, log: &Log<'_>) -> Result
             }
             made(alloc, valid, log)
         }
-        Err(fault) => Err(fault),
+        Err(halt) => Err(halt.fault()),
     }
 }
 

@@ -21,9 +21,9 @@ ghost use Rattle.evaluator.specs.Rounds.{IsUnder, linked_outcome, use_there};
 use crate::log::{Before, Log, LogMark};
 use basic_output::{Mark, Says, Units};
 use evaluation_context::Context;
-use faults::Fault;
 use keyword_plans::{Evaluated, Subject, annotate, distinct_names};
 use keywords::Keyword;
+use std::alloc::AllocError;
 
 /// Puts what the keyword itself says in the place of what it applied said: the context stands at the keyword, and
 /// `applied` is the number of schemas that it applied, after the mark. The only error is want of memory.
@@ -35,7 +35,7 @@ pub(crate) fn settle<'a>(
     mark: &LogMark,
     applied: u64,
     passes: bool,
-) -> Result<(), Fault>
+) -> Result<(), AllocError>
     ensures back { context_view context.new ≡ context_view context.old }
     ensures documents { scope_documents context.new.scope ≡ scope_documents context.old.scope }
     ensures noted { (l : Linked) (left : ℕ) (a : Application) (names : List Text) (indexes : List ℕ)
@@ -46,7 +46,6 @@ pub(crate) fn settle<'a>(
         → mark_view mark.now ≡ lengths older
         → log_view log.old ≡ notes_of_both older (parts_notes (row_of keyword).meaning u.outcomes)
         → OnOk result (log_view log.new ≡ notes_of_both older (uses_notes a (u ∷ []))) }
-    ensures err { IfErr result (λ f. f ≡ Fault.NoRoom) }
 {
     hide(log, keyword, mark);
     if passes {
@@ -84,7 +83,7 @@ fn note_own<'a>(
     subject: Subject<'a>,
     mark: &LogMark,
     applied: u64,
-) -> Result<(), Fault>
+) -> Result<(), AllocError>
     ensures back { context_view context.new ≡ context_view context.old }
     ensures documents { scope_documents context.new.scope ≡ scope_documents context.old.scope }
     ensures noted { (l : Linked) (left : ℕ) (a : Application) (names : List Text) (indexes : List ℕ)
@@ -100,7 +99,6 @@ fn note_own<'a>(
           annotations = annotation_texts (own_annotation a u u.annotation)
               ++ more.annotations;
         })) }
-    ensures err { IfErr result (λ f. f ≡ Fault.NoRoom) }
 {
     let evaluated = evaluated_since(&log.names, &log.indexes, mark.before());
     match keyword {
@@ -141,7 +139,7 @@ fn insert_own<'a>(
     subject: Subject<'a>,
     applied: u64,
     evaluated: Evaluated<'_, 'a>,
-) -> Result<(), Fault>
+) -> Result<(), AllocError>
     ensures back { context_view context.new ≡ context_view context.old }
     ensures documents { scope_documents context.new.scope ≡ scope_documents context.old.scope }
     ensures noted { (l : Linked) (left : ℕ) (a : Application) (names : List Text) (indexes : List ℕ)
@@ -155,7 +153,6 @@ fn insert_own<'a>(
         → evaluated.entry.indexes.now ≡ u.indexes
         → OnOk result (unit_texts annotations.new
         ≡ older ++ (annotation_texts (own_annotation a u u.annotation) ++ more)) }
-    ensures err { IfErr result (λ f. f ≡ Fault.NoRoom) }
 {
     match annotate(keyword, subject, applied, evaluated) {
         Some(says) => {

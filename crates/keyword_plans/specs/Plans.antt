@@ -7,7 +7,7 @@ use Rattle.definitions.specs.Applied as definition
 use Rattle.definitions.specs.Applied.{Application, Outcome, Rules, whole, named, indexed, name_of, keyword_applications, part_application, at_part}
 use Rattle.json_doc.specs.Docs.{value}
 use Rattle.keywords.specs.declared.keyword.Keyword.{Keyword}
-use Rattle.keywords.specs.declared.keyword.Keyword.TheVariants.{Ref, DynamicRef, AllOf, AnyOf, OneOf, Not, If, Then, Else, DependentSchemas}
+use Rattle.keywords.specs.declared.keyword.Keyword.TheVariants.{Ref, DynamicRef, AllOf, AnyOf, OneOf, Not, If, Then, Else, DependentSchemas, PatternProperties, AdditionalProperties}
 use Rattle.locations.specs.declared.step.Step.{Step}
 use Rattle.locations.specs.Steps.{token}
 use Rattle.keyword_plans.specs.Followed.{target_view}
@@ -56,6 +56,12 @@ abbrev pub follows_reference : Keyword → Bool
 follows_reference Ref = true
 follows_reference DynamicRef = true
 follows_reference _ = false
+
+-- applies schemas to members by patterns that their names match, or match not
+abbrev pub searches_patterns : Keyword → Bool
+searches_patterns PatternProperties = true
+searches_patterns AdditionalProperties = true
+searches_patterns _ = false
 
 -- applies schemas to the instance that it is applied to
 abbrev pub applies_in_place : Keyword → Bool

@@ -16,7 +16,6 @@ ghost use Rattle.keyword_plans.specs.ValueSets.{value_set};
 
 use crate::followed_references::{Followed, FollowedReferences};
 use crate::target::Target;
-use faults::Fault;
 use linker::Linked;
 use std::alloc::{AllocError, Global};
 
@@ -115,13 +114,12 @@ impl<'a> DynamicScope<'a> {
         alloc: Global,
         resource: &'a str,
         reference: &'a str,
-    ) -> Result<Option<Target<'a>>, Fault>
+    ) -> Result<Option<Target<'a>>, AllocError>
         ensures ok { IfOk result
             (λ t. option_map target_view t ≡ target (linked_schemas (scope_documents self.old).now)
             (target_uri resource.now reference.now)) }
         ensures uris { scope_uris self.new ≡ scope_uris self.old }
         ensures documents { scope_documents self.new ≡ scope_documents self.old }
-        ensures err { IfErr result (λ f. f ≡ Fault.NoRoom) }
     {
         self.references.target(alloc, resource, reference)
     }
@@ -132,14 +130,13 @@ impl<'a> DynamicScope<'a> {
         alloc: Global,
         resource: &'a str,
         reference: &'a str,
-    ) -> Result<Option<Target<'a>>, Fault>
+    ) -> Result<Option<Target<'a>>, AllocError>
         ensures ok { IfOk result
             (λ t. option_map target_view t
             ≡ dynamic_target (linked_schemas (scope_documents self.old).now) (scope_uris self.old)
             (target_uri resource.now reference.now)) }
         ensures uris { scope_uris self.new ≡ scope_uris self.old }
         ensures documents { scope_documents self.new ≡ scope_documents self.old }
-        ensures err { IfErr result (λ f. f ≡ Fault.NoRoom) }
     {
         match self.references.named(alloc, resource, reference)? {
             Some(first) => Ok(Some(self.in_scope(alloc, first)?)),
@@ -148,14 +145,13 @@ impl<'a> DynamicScope<'a> {
     }
 
     // The schema that a dynamic reference names in this scope, of what it names first.
-    fn in_scope(&mut self, alloc: Global, first: Followed<'a>) -> Result<Target<'a>, Fault>
+    fn in_scope(&mut self, alloc: Global, first: Followed<'a>) -> Result<Target<'a>, AllocError>
         ensures ok { IfOk result
             (λ t. target_view t
             ≡ followed_in_scope (linked_schemas (scope_documents self.old).now) (scope_uris self.old)
             first.entry) }
         ensures uris { scope_uris self.new ≡ scope_uris self.old }
         ensures documents { scope_documents self.new ≡ scope_documents self.old }
-        ensures err { IfErr result (λ f. f ≡ Fault.NoRoom) }
     {
         match first.anchor {
             Some(name) => self.outermost_or(alloc, name, first.target),
@@ -169,14 +165,13 @@ impl<'a> DynamicScope<'a> {
         alloc: Global,
         name: &'a str,
         first: Target<'a>,
-    ) -> Result<Target<'a>, Fault>
+    ) -> Result<Target<'a>, AllocError>
         ensures ok { IfOk result
             (λ t. target_view t
             ≡ outermost (linked_schemas (scope_documents self.old).now) (scope_uris self.old)
             name.now (target_view first.entry)) }
         ensures uris { scope_uris self.new ≡ scope_uris self.old }
         ensures documents { scope_documents self.new ≡ scope_documents self.old }
-        ensures err { IfErr result (λ f. f ≡ Fault.NoRoom) }
     {
         match self.outermost(alloc, name)? {
             Some(found) => Ok(found),
@@ -185,14 +180,13 @@ impl<'a> DynamicScope<'a> {
     }
 
     // The schema with this dynamic anchor in the outermost resource that has it.
-    fn outermost(&mut self, alloc: Global, name: &'a str) -> Result<Option<Target<'a>>, Fault>
+    fn outermost(&mut self, alloc: Global, name: &'a str) -> Result<Option<Target<'a>>, AllocError>
         ensures ok { IfOk result
             (λ t. (first : Schema) → unwrap_or (option_map target_view t) first
             ≡ outermost (linked_schemas (scope_documents self.old).now) (scope_uris self.old)
             name.now first) }
         ensures uris { scope_uris self.new ≡ scope_uris self.old }
         ensures documents { scope_documents self.new ≡ scope_documents self.old }
-        ensures err { IfErr result (λ f. f ≡ Fault.NoRoom) }
     {
         let begun = self.begun(name)?;
         if begun.found.is_some() {
@@ -265,7 +259,7 @@ fn search<'a>(
     linked: &'a Linked,
     uris: &[&'a str],
     begun: SearchedAnchor<'a>,
-) -> Result<SearchedAnchor<'a>, Fault>
+) -> Result<SearchedAnchor<'a>, AllocError>
     requires within { begun.passed ≤ length uris.now }
     requires right { IsSearched linked.now (map (λ uri. uri.now) uris.now) begun }
     ensures right { IfOk result
@@ -274,7 +268,6 @@ fn search<'a>(
         (λ s. (first : Schema) → unwrap_or (option_map target_view s.found) first
         ≡ outermost (linked_schemas linked.entry.now) (map (λ uri. uri.now) uris.entry.now)
         begun.entry.name.now first) }
-    ensures err { IfErr result (λ f. f ≡ Fault.NoRoom) }
 {
     let name = begun.name;
     let passed = begun.passed + linked.outermost(&uris[begun.passed..], name);
@@ -299,15 +292,16 @@ fn dynamically_anchored<'a>(
     linked: &'a Linked,
     uri: &str,
     name: &str,
-) -> Result<Option<Target<'a>>, Fault>
-    ensures ok { IfOk result
+) -> Result<Option<Target<'a>>, AllocError>
+    ensures { IfOk result
         (λ t. option_map target_view t
         ≡ schema_with_dynamic_anchor (linked_schemas linked.entry.now) uri.now name.now) }
-    ensures err { IfErr result (λ f. f ≡ Fault.NoRoom) }
 {
-    match linked.dynamically_anchored(alloc, uri, name)? {
-        Some(schema) => Ok(Some(Target::of(alloc, schema)?)),
-        None => Ok(None),
+    match linked.dynamically_anchored(alloc, uri, name) {
+        Ok(Some(schema)) => Ok(Some(Target::of(alloc, schema)?)),
+        Ok(None) => Ok(None),
+        // Want of memory is the only fault.
+        Err(_) => Err(AllocError),
     }
 }
 

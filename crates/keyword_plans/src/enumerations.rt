@@ -108,14 +108,13 @@ impl<'a> Enumerations<'a> {
         steps: &[Step<'a>],
         values: &Doc,
         subject: Subject<'_>,
-    ) -> Result<bool, Fault>
+    ) -> Result<bool, AllocError>
         ensures ok { (s : Schema) → Contains (linked_schemas (enumerated_in self.old).now) s
             → identity s ≡ (resource.now, tokens steps.now)
             → get (codes "enum") s.value ≡ Some (value values.now)
             → IfOk result
             (λ b. b ≡ holds enum_of (value values.now) (subject_value subject.entry)) }
         ensures linked { enumerated_in self.new ≡ enumerated_in self.old }
-        ensures err { IfErr result (λ f. f ≡ Fault.NoRoom) }
     {
         match self.position(resource, steps) {
             Ok(at) => Ok(self.sorted[at].contains(alloc, subject)?),
@@ -162,14 +161,16 @@ impl<'a> Enumerations<'a> {
         alloc: Global,
         resource: &'a str,
         steps: &[Step<'a>],
-    ) -> Result<Option<Enumeration<'a>>, Fault>
+    ) -> Result<Option<Enumeration<'a>>, AllocError>
         ensures right { IfOk result (λ o. IfSome o (IsEnumerated self.now.linked.now)) }
         ensures placed { IfOk result
             (λ o. IfSome o (IsPlacedAt resource.now (tokens steps.now))) }
-        ensures err { IfErr result (λ f. f ≡ Fault.NoRoom) }
     {
-        let Some(values) = self.values(alloc, resource, steps)? else {
-            return Ok(None);
+        let values = match self.values(alloc, resource, steps) {
+            Ok(Some(values)) => values,
+            Ok(None) => return Ok(None),
+            // Want of memory is the only fault.
+            Err(_) => return Err(AllocError),
         };
         match sorted(alloc, values)? {
             Some(values) => Ok(Some(Enumeration {

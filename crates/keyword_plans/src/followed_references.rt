@@ -12,7 +12,6 @@ ghost use Rattle.keyword_plans.specs.Followed.{IsFollowed, IsNamed, target_view}
 ghost use Rattle.keyword_plans.specs.ValueSets.{value_set};
 
 use crate::target::Target;
-use faults::Fault;
 use linker::Linked;
 use std::alloc::{AllocError, Global};
 
@@ -71,12 +70,11 @@ impl<'a> FollowedReferences<'a> {
         alloc: Global,
         resource: &'a str,
         reference: &'a str,
-    ) -> Result<Option<Target<'a>>, Fault>
+    ) -> Result<Option<Target<'a>>, AllocError>
         ensures ok { IfOk result
             (λ t. option_map target_view t ≡ target (linked_schemas (followed_in self.old).now)
             (target_uri resource.now reference.now)) }
         ensures linked { followed_in self.new ≡ followed_in self.old }
-        ensures err { IfErr result (λ f. f ≡ Fault.NoRoom) }
     {
         match self.named(alloc, resource, reference)? {
             Some(named) => Ok(Some(named.target)),
@@ -91,11 +89,10 @@ impl<'a> FollowedReferences<'a> {
         alloc: Global,
         resource: &'a str,
         reference: &'a str,
-    ) -> Result<Option<Followed<'a>>, Fault>
+    ) -> Result<Option<Followed<'a>>, AllocError>
         ensures ok { IfOk result (λ n. IsNamed (linked_schemas (followed_in self.old).now)
             (target_uri resource.now reference.now) n) }
         ensures linked { followed_in self.new ≡ followed_in self.old }
-        ensures err { IfErr result (λ f. f ≡ Fault.NoRoom) }
     {
         match self.find(resource, reference) {
             Some(followed) => Ok(again(&followed.named)?),
@@ -133,11 +130,10 @@ impl<'a> FollowedReferences<'a> {
         alloc: Global,
         resource: &'a str,
         reference: &'a str,
-    ) -> Result<Option<Followed<'a>>, Fault>
+    ) -> Result<Option<Followed<'a>>, AllocError>
         ensures ok { IfOk result (λ n. IsNamed (linked_schemas (followed_in self.old).now)
             (target_uri resource.now reference.now) n) }
         ensures linked { followed_in self.new ≡ followed_in self.old }
-        ensures err { IfErr result (λ f. f ≡ Fault.NoRoom) }
     {
         let named = named_first(alloc, self.linked, resource, reference)?;
         self.keep(FollowedReference {
@@ -169,17 +165,18 @@ fn named_first<'a>(
     linked: &'a Linked,
     resource: &str,
     reference: &str,
-) -> Result<Option<Followed<'a>>, Fault>
-    ensures ok { IfOk result (λ n. IsNamed (linked_schemas linked.entry.now)
+) -> Result<Option<Followed<'a>>, AllocError>
+    ensures { IfOk result (λ n. IsNamed (linked_schemas linked.entry.now)
         (target_uri resource.now reference.now) n) }
-    ensures err { IfErr result (λ f. f ≡ Fault.NoRoom) }
 {
-    match linked.named(alloc, resource, reference)? {
-        Some(named) => Ok(Some(Followed {
+    match linked.named(alloc, resource, reference) {
+        Ok(Some(named)) => Ok(Some(Followed {
             target: Target::of(alloc, named.target)?,
             anchor: named.anchor,
         })),
-        None => Ok(None),
+        Ok(None) => Ok(None),
+        // Want of memory is the only fault.
+        Err(_) => Err(AllocError),
     }
 }
 

@@ -4,10 +4,9 @@ ghost use Rattle.std.specs.Prelude.{◌≡◌, ◌∷◌, ◌++◌, [], IfOk, On
 ghost use Rattle.locations.specs.Steps.{token, tokens};
 ghost use Rattle.keyword_plans.specs.Places.{index_order, name_order, step_order, steps_order};
 
-use faults::Fault;
 use json_doc::Pointer;
 use locations::Step;
-use std::alloc::Global;
+use std::alloc::{AllocError, Global};
 use std::cmp::Ordering;
 
 /// An order of places: names before indexes, names by their bytes, and of two places the first step that differs decides. This
@@ -62,9 +61,8 @@ fn compare_index(index: usize, step: Step<'_>) -> Ordering
 }
 
 /// The pointer to a place. The only error is want of memory.
-pub(crate) fn pointer_to(alloc: Global, steps: &[Step<'_>]) -> Result<Pointer, Fault>
-    ensures ok { IfOk result (λ p. p ≡ tokens steps.now) }
-    ensures err { IfErr result (λ f. f ≡ Fault.NoRoom) }
+pub(crate) fn pointer_to(alloc: Global, steps: &[Step<'_>]) -> Result<Pointer, AllocError>
+    ensures { IfOk result (λ p. p ≡ tokens steps.now) }
 {
     let mut pointer = Pointer::new(alloc);
     for step in steps {
@@ -73,16 +71,25 @@ pub(crate) fn pointer_to(alloc: Global, steps: &[Step<'_>]) -> Result<Pointer, F
     Ok(pointer)
 }
 
-fn push_token_of(pointer: &mut Pointer, step: Step<'_>) -> Result<(), Fault>
-    ensures ok { OnOk result (pointer.new ≡ pointer.old ++ token step.entry ∷ []) }
-    ensures err { IfErr result (λ f. f ≡ Fault.NoRoom) }
+fn push_token_of(pointer: &mut Pointer, step: Step<'_>) -> Result<(), AllocError>
+    ensures { OnOk result (pointer.new ≡ pointer.old ++ token step.entry ∷ []) }
 {
     match step {
-        Step::Name(name) => pointer.push(name),
+        Step::Name(name) => push_token(pointer, name),
         Step::Index(index) => {
             let mut digits = itoa::Buffer::new();
-            pointer.push(digits.format(index))
+            push_token(pointer, digits.format(index))
         }
-        Step::Keyword(keyword) => pointer.push(keyword.name()),
+        Step::Keyword(keyword) => push_token(pointer, keyword.name()),
+    }
+}
+
+fn push_token(pointer: &mut Pointer, token: &str) -> Result<(), AllocError>
+    ensures { OnOk result (pointer.new ≡ pointer.old ++ token.now ∷ []) }
+{
+    match pointer.push(token) {
+        Ok(_) => Ok(()),
+        // Want of memory is the only fault.
+        Err(_) => Err(AllocError),
     }
 }

@@ -6,9 +6,8 @@ ghost use Rattle.definitions.specs.Searches.{patterns_of};
 ghost use Rattle.definitions.specs.Schemas.{Schema};
 ghost use Rattle.linker.specs.LinkedDocuments.{linked_schemas};
 
-use faults::Fault;
 use linker::Linked;
-use std::alloc::Global;
+use std::alloc::{AllocError, Global};
 
 /// Whether the pattern of a schema of the linked documents matches somewhere in the text (JSON Schema 2020-12 Validation,
 /// section 6.3.3). The only error is want of memory. A pattern that no schema has matches nothing.
@@ -17,15 +16,18 @@ pub(crate) fn is_match(
     linked: &Linked,
     pattern: &str,
     text: &str,
-) -> Result<bool, Fault>
+) -> Result<bool, AllocError>
     ensures ok { (s : Schema) → Contains (linked_schemas linked.now) s
         → Contains (patterns_of s) pattern.now
         → IfOk result (λ found. found ≡ has_match pattern.now text.now) }
     ensures sound { IfOk result (λ found. found ≡ true → has_match pattern.now text.now ≡ true) }
-    ensures err { IfErr result (λ f. f ≡ Fault.NoRoom) }
 {
     match linked.pattern(pattern) {
-        Some(built) => built.matches(alloc, text),
+        // Want of memory is the only fault.
+        Some(built) => match built.matches(alloc, text) {
+            Ok(found) => Ok(found),
+            Err(_) => Err(AllocError),
+        },
         None => Ok(false),
     }
 }

@@ -17,7 +17,6 @@ use crate::searching::is_match;
 use crate::site::Site;
 use crate::subject::Subject;
 use assertions::{Assertion, holds, is_at_least, is_at_most};
-use faults::Fault;
 use json_doc::{Doc, Whole};
 use keywords::Keyword;
 use std::alloc::{AllocError, Global};
@@ -35,8 +34,8 @@ pub fn passes<'a>(
     applied: u64,
     passing: u64,
     containing: Option<u64>,
-) -> Result<bool, Fault>
-    ensures ok { (a : Application) (run : Application → Outcome) (names : List Text)
+) -> Result<bool, AllocError>
+    ensures { (a : Application) (run : Application → Outcome) (names : List Text)
         (indexes : List ℕ) → Shows site.entry a
         → get (row_of keyword).name a.schema.value ≡ Some (value keyword_value.now)
         → (counts_contained (row_of keyword).meaning ≡ true
@@ -46,10 +45,9 @@ pub fn passes<'a>(
         applied ≡ length os → passing ≡ pass_count os
         → IfOk result (λ b. b ≡ keyword_passes (linked_rules site.entry.linked.now) run a
         (row_of keyword).name (row_of keyword).meaning (value keyword_value.now) os) }
-    ensures err { IfErr result (λ f. f ≡ Fault.NoRoom) }
 {
     if let Some(assertion) = Assertion::of(keyword) {
-        return Ok(holds_of(alloc, assertion, keyword_value, site.subject)?);
+        return holds_of(alloc, assertion, keyword_value, site.subject);
     }
     match keyword {
         Keyword::Pattern => is_pattern_met(alloc, site, keyword_value),
@@ -101,11 +99,10 @@ fn holds_of_name(
 }
 
 // Whether the pattern matches the subject, where it is a string (Validation, 6.3.3).
-fn is_pattern_met(alloc: Global, site: Site<'_>, pattern: &Doc) -> Result<bool, Fault>
-    ensures ok { (a : Application) → Shows site.entry a
+fn is_pattern_met(alloc: Global, site: Site<'_>, pattern: &Doc) -> Result<bool, AllocError>
+    ensures { (a : Application) → Shows site.entry a
         → get (codes "pattern") a.schema.value ≡ Some (value pattern.now)
         → IfOk result (λ b. b ≡ pattern_holds has_match (value pattern.now) a.instance) }
-    ensures err { IfErr result (λ f. f ≡ Fault.NoRoom) }
 {
     match pattern.as_str() {
         Some(pattern) => match site.subject.as_str() {

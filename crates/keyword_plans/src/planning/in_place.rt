@@ -1,6 +1,6 @@
 //! Keywords that apply schemas to the whole instance (JSON Schema 2020-12 Core, 10.2).
 
-ghost use Rattle.std.specs.Prelude.{◌≡◌, [], ◌∷◌, Option, if◌then◌else◌, map, option_map, IfOk};
+ghost use Rattle.std.specs.Prelude.{◌≡◌, [], ◌∷◌, Option, if◌then◌else◌, map, option_map, OnOk};
 ghost use Rattle.definitions.specs.Values.{Text, members};
 ghost use Rattle.definitions.specs.Applied.{Application, Outcome, in_place, list_applications, consequence_of};
 ghost use Rattle.json_doc.specs.Docs.{value, members_value};
@@ -12,192 +12,199 @@ use crate::planned::{Chosen, Part, Planned};
 use crate::subject::Subject;
 use json_doc::{Doc, Members};
 use locations::Step;
-use std::alloc::{AllocError, Global};
+use std::alloc::AllocError;
 
 /// The keyword's value itself.
 pub(crate) fn plan_own<'a>(
-    alloc: Global,
+    planned: &mut Vec<Planned<'a>>,
     schema: &'a Doc,
-    subject: Subject<'a>,
-) -> Result<Vec<Planned<'a>>, AllocError>
-    ensures { (a : Application) (k : Text) → a.instance ≡ subject_value subject.entry
-        → IfOk result (λ ps. map (planned_view k a) ps.items
+    subject: &Subject<'a>,
+) -> Result<(), AllocError>
+    requires { planned.old.items ≡ [] }
+    ensures { (a : Application) (k : Text) → a.instance ≡ subject_value subject.now
+        → OnOk result (map (planned_view k a) planned.new.items
         ≡ in_place a (k ∷ []) (value schema.now) ∷ []) }
 {
-    let mut planned = Vec::with_capacity(alloc, 1)?;
     planned.push(Planned {
         chosen: Chosen::Below(None, schema),
         part: Part::Whole,
-        subject,
+        subject: *subject,
     })?;
-    Ok(planned)
+    Ok(())
 }
 
 /// Each schema of a list (10.2.1).
 pub(crate) fn plan_listed<'a>(
-    alloc: Global,
+    planned: &mut Vec<Planned<'a>>,
     schemas: &'a Doc,
-    subject: Subject<'a>,
-) -> Result<Vec<Planned<'a>>, AllocError>
-    ensures { (a : Application) (k : Text) → a.instance ≡ subject_value subject.entry
-        → IfOk result (λ ps. map (planned_view k a) ps.items
+    subject: &Subject<'a>,
+) -> Result<(), AllocError>
+    requires { planned.old.items ≡ [] }
+    ensures { (a : Application) (k : Text) → a.instance ≡ subject_value subject.now
+        → OnOk result (map (planned_view k a) planned.new.items
         ≡ list_applications a k (value schemas.now)) }
 {
     match schemas {
-        Doc::List(schemas) => plan_elements(alloc, schemas, subject),
-        _ => Ok(Vec::new(alloc)),
+        Doc::List(schemas) => plan_elements(planned, schemas, subject),
+        _ => Ok(()),
     }
 }
 
 fn plan_elements<'a>(
-    alloc: Global,
+    planned: &mut Vec<Planned<'a>>,
     schemas: &'a [Doc],
-    subject: Subject<'a>,
-) -> Result<Vec<Planned<'a>>, AllocError>
-    ensures { (a : Application) (k : Text) → a.instance ≡ subject_value subject.entry
-        → IfOk result (λ ps. map (planned_view k a) ps.items
+    subject: &Subject<'a>,
+) -> Result<(), AllocError>
+    requires { planned.old.items ≡ [] }
+    ensures { (a : Application) (k : Text) → a.instance ≡ subject_value subject.now
+        → OnOk result (map (planned_view k a) planned.new.items
         ≡ planned_elements k a 0 (map value schemas.now)) }
 {
-    let mut planned = Vec::with_capacity(alloc, schemas.len())?;
+    planned.reserve(schemas.len())?;
     for (index, schema) in schemas.iter().enumerate() {
         planned.push(Planned {
             chosen: Chosen::Below(Some(Step::Index(index)), schema),
             part: Part::Whole,
-            subject,
+            subject: *subject,
         })?;
     }
-    Ok(planned)
+    Ok(())
 }
 
 /// The keyword's value itself, where `if` beside passed as it is wanted (10.2.2).
 pub(crate) fn plan_consequence<'a>(
-    alloc: Global,
+    planned: &mut Vec<Planned<'a>>,
     schema: &'a Doc,
-    subject: Subject<'a>,
+    subject: &Subject<'a>,
     condition: Option<bool>,
     wanted: bool,
-) -> Result<Vec<Planned<'a>>, AllocError>
+) -> Result<(), AllocError>
+    requires { planned.old.items ≡ [] }
     ensures { (a : Application) (k : Text) (o : Option Outcome)
-        → a.instance ≡ subject_value subject.entry
+        → a.instance ≡ subject_value subject.now
         → option_map (λ o. o.valid) o ≡ condition
-        → IfOk result (λ ps. map (planned_view k a) ps.items
+        → OnOk result (map (planned_view k a) planned.new.items
         ≡ consequence_of a k wanted (value schema.now) o) }
 {
     match condition {
-        Some(passed) => plan_if(alloc, schema, subject, passed == wanted),
-        None => Ok(Vec::new(alloc)),
+        Some(passed) => plan_if(planned, schema, subject, passed == wanted),
+        None => Ok(()),
     }
 }
 
 fn plan_if<'a>(
-    alloc: Global,
+    planned: &mut Vec<Planned<'a>>,
     schema: &'a Doc,
-    subject: Subject<'a>,
+    subject: &Subject<'a>,
     applies: bool,
-) -> Result<Vec<Planned<'a>>, AllocError>
-    ensures { (a : Application) (k : Text) → a.instance ≡ subject_value subject.entry
-        → IfOk result (λ ps. map (planned_view k a) ps.items
+) -> Result<(), AllocError>
+    requires { planned.old.items ≡ [] }
+    ensures { (a : Application) (k : Text) → a.instance ≡ subject_value subject.now
+        → OnOk result (map (planned_view k a) planned.new.items
         ≡ (if applies then in_place a (k ∷ []) (value schema.now) ∷ [] else [])) }
 {
     if applies {
-        plan_own(alloc, schema, subject)
+        plan_own(planned, schema, subject)
     } else {
-        Ok(Vec::new(alloc))
+        Ok(())
     }
 }
 
 /// Each schema whose name the instance has (10.2.2.4).
 pub(crate) fn plan_dependents<'a>(
-    alloc: Global,
+    planned: &mut Vec<Planned<'a>>,
     schemas: &'a Doc,
-    subject: Subject<'a>,
-) -> Result<Vec<Planned<'a>>, AllocError>
-    ensures { (a : Application) (k : Text) → a.instance ≡ subject_value subject.entry
-        → IfOk result (λ ps. map (planned_view k a) ps.items
+    subject: &Subject<'a>,
+) -> Result<(), AllocError>
+    requires { planned.old.items ≡ [] }
+    ensures { (a : Application) (k : Text) → a.instance ≡ subject_value subject.now
+        → OnOk result (map (planned_view k a) planned.new.items
         ≡ planned_dependents k a (members (value schemas.now))) }
 {
     match schemas {
-        Doc::Dict(schemas) => plan_dependent_members(alloc, schemas, subject),
-        _ => Ok(Vec::new(alloc)),
+        Doc::Dict(schemas) => plan_dependent_members(planned, schemas, subject),
+        _ => Ok(()),
     }
 }
 
 // Along the shorter of the two: the schemas, or the members of the instance.
 fn plan_dependent_members<'a>(
-    alloc: Global,
+    planned: &mut Vec<Planned<'a>>,
     schemas: &'a Members,
-    subject: Subject<'a>,
-) -> Result<Vec<Planned<'a>>, AllocError>
-    ensures { (a : Application) (k : Text) → a.instance ≡ subject_value subject.entry
-        → IfOk result (λ ps. map (planned_view k a) ps.items
+    subject: &Subject<'a>,
+) -> Result<(), AllocError>
+    requires { planned.old.items ≡ [] }
+    ensures { (a : Application) (k : Text) → a.instance ≡ subject_value subject.now
+        → OnOk result (map (planned_view k a) planned.new.items
         ≡ planned_dependents k a (members_value schemas.now)) }
 {
     match subject.members() {
         Some(members) if members.len() < schemas.len() => {
-            plan_dependents_along_instance(alloc, schemas, members, subject)
+            plan_dependents_along_instance(planned, schemas, members, subject)
         }
-        _ => plan_dependents_along_schemas(alloc, schemas, subject),
+        _ => plan_dependents_along_schemas(planned, schemas, subject),
     }
 }
 
 fn plan_dependents_along_instance<'a>(
-    alloc: Global,
+    planned: &mut Vec<Planned<'a>>,
     schemas: &'a Members,
     present: &'a Members,
-    subject: Subject<'a>,
-) -> Result<Vec<Planned<'a>>, AllocError>
-    ensures { (a : Application) (k : Text) → a.instance ≡ subject_value subject.entry
+    subject: &Subject<'a>,
+) -> Result<(), AllocError>
+    requires { planned.old.items ≡ [] }
+    ensures { (a : Application) (k : Text) → a.instance ≡ subject_value subject.now
         → members a.instance ≡ members_value present.now
-        → IfOk result (λ ps. map (planned_view k a) ps.items
+        → OnOk result (map (planned_view k a) planned.new.items
         ≡ planned_dependents k a (members_value schemas.now)) }
 {
     // Their contracts say that the names are in order.
     let _ = schemas.iter();
     let _ = present.iter();
-    plan_dependents_of_members(alloc, schemas, present, subject)
+    plan_dependents_of_members(planned, schemas, present, subject)
 }
 
 fn plan_dependents_of_members<'a>(
-    alloc: Global,
+    planned: &mut Vec<Planned<'a>>,
     schemas: &'a Members,
     members: &'a Members,
-    subject: Subject<'a>,
-) -> Result<Vec<Planned<'a>>, AllocError>
-    ensures { (a : Application) (k : Text) → a.instance ≡ subject_value subject.entry
-        → IfOk result (λ ps. map (planned_view k a) ps.items
+    subject: &Subject<'a>,
+) -> Result<(), AllocError>
+    requires { planned.old.items ≡ [] }
+    ensures { (a : Application) (k : Text) → a.instance ≡ subject_value subject.now
+        → OnOk result (map (planned_view k a) planned.new.items
         ≡ planned_under_names k a (members_value schemas.now) (members_value members.now)) }
 {
-    let mut planned = Vec::new(alloc);
     for (name, _) in members.iter() {
         if let Some(schema) = schemas.get(name) {
             planned.push(Planned {
                 chosen: Chosen::Below(Some(Step::Name(name)), schema),
                 part: Part::Whole,
-                subject,
+                subject: *subject,
             })?;
         }
     }
-    Ok(planned)
+    Ok(())
 }
 
 fn plan_dependents_along_schemas<'a>(
-    alloc: Global,
+    planned: &mut Vec<Planned<'a>>,
     schemas: &'a Members,
-    subject: Subject<'a>,
-) -> Result<Vec<Planned<'a>>, AllocError>
-    ensures { (a : Application) (k : Text) → a.instance ≡ subject_value subject.entry
-        → IfOk result (λ ps. map (planned_view k a) ps.items
+    subject: &Subject<'a>,
+) -> Result<(), AllocError>
+    requires { planned.old.items ≡ [] }
+    ensures { (a : Application) (k : Text) → a.instance ≡ subject_value subject.now
+        → OnOk result (map (planned_view k a) planned.new.items
         ≡ planned_dependents k a (members_value schemas.now)) }
 {
-    let mut planned = Vec::new(alloc);
     for (name, schema) in schemas.iter() {
         if subject.get(name).is_some() {
             planned.push(Planned {
                 chosen: Chosen::Below(Some(Step::Name(name)), schema),
                 part: Part::Whole,
-                subject,
+                subject: *subject,
             })?;
         }
     }
-    Ok(planned)
+    Ok(())
 }

@@ -1,6 +1,6 @@
 //! Keywords that apply schemas to the elements of an array (JSON Schema 2020-12 Core, 10.3.1).
 
-ghost use Rattle.std.specs.Prelude.{◌≡◌, map, drop, length, codes, IfOk};
+ghost use Rattle.std.specs.Prelude.{◌≡◌, [], map, drop, length, codes, OnOk};
 ghost use Rattle.definitions.specs.Values.{Text, elements};
 ghost use Rattle.definitions.specs.Applied.{Application, at_items, beside};
 ghost use Rattle.json_doc.specs.Docs.{value};
@@ -13,35 +13,37 @@ use crate::subject::{Subject, elements_of};
 use json_doc::Doc;
 use keywords::Keyword;
 use locations::Step;
-use std::alloc::{AllocError, Global};
+use std::alloc::AllocError;
 use std::cmp::min;
 
 /// Each schema of a list, at the element of the same number (10.3.1.1).
 pub(crate) fn plan_prefix<'a>(
-    alloc: Global,
+    planned: &mut Vec<Planned<'a>>,
     schemas: &'a Doc,
-    subject: Subject<'a>,
-) -> Result<Vec<Planned<'a>>, AllocError>
-    ensures { (a : Application) (k : Text) → a.instance ≡ subject_value subject.entry
-        → IfOk result (λ ps. map (planned_view k a) ps.items
+    subject: &Subject<'a>,
+) -> Result<(), AllocError>
+    requires { planned.old.items ≡ [] }
+    ensures { (a : Application) (k : Text) → a.instance ≡ subject_value subject.now
+        → OnOk result (map (planned_view k a) planned.new.items
         ≡ planned_pairs k a 0 (elements (value schemas.now)) (elements a.instance)) }
 {
-    plan_pairs(alloc, elements_of(schemas), subject.elements())
+    plan_pairs(planned, elements_of(schemas), subject.elements())
 }
 
 fn plan_pairs<'a>(
-    alloc: Global,
+    planned: &mut Vec<Planned<'a>>,
     schemas: &'a [Doc],
     items: &'a [Doc],
-) -> Result<Vec<Planned<'a>>, AllocError>
+) -> Result<(), AllocError>
+    requires { planned.old.items ≡ [] }
     ensures { (a : Application) (k : Text)
-        → IfOk result (λ ps. map (planned_view k a) ps.items
+        → OnOk result (map (planned_view k a) planned.new.items
         ≡ planned_pairs k a 0 (map value schemas.now) (map value items.now)) }
 {
-    let mut planned = Vec::with_capacity(alloc, min(schemas.len(), items.len()))?;
+    planned.reserve(min(schemas.len(), items.len()))?;
     for (index, schema) in schemas.iter().enumerate() {
         if index == items.len() {
-            return Ok(planned);
+            return Ok(());
         }
         planned.push(Planned {
             chosen: Chosen::Below(Some(Step::Index(index)), schema),
@@ -49,34 +51,36 @@ fn plan_pairs<'a>(
             subject: Subject::Value(&items[index]),
         })?;
     }
-    Ok(planned)
+    Ok(())
 }
 
 /// The schema, at each element from this number on (10.3.1.2 and 10.3.1.3).
 pub(crate) fn plan_items<'a>(
-    alloc: Global,
+    planned: &mut Vec<Planned<'a>>,
     schema: &'a Doc,
     start: usize,
-    subject: Subject<'a>,
-) -> Result<Vec<Planned<'a>>, AllocError>
-    ensures { (a : Application) (k : Text) → a.instance ≡ subject_value subject.entry
-        → IfOk result (λ ps. map (planned_view k a) ps.items
+    subject: &Subject<'a>,
+) -> Result<(), AllocError>
+    requires { planned.old.items ≡ [] }
+    ensures { (a : Application) (k : Text) → a.instance ≡ subject_value subject.now
+        → OnOk result (map (planned_view k a) planned.new.items
         ≡ at_items a k (value schema.now) start (drop start (elements a.instance))) }
 {
-    plan_from(alloc, schema, start, subject.elements())
+    plan_from(planned, schema, start, subject.elements())
 }
 
 fn plan_from<'a>(
-    alloc: Global,
+    planned: &mut Vec<Planned<'a>>,
     schema: &'a Doc,
     start: usize,
     items: &'a [Doc],
-) -> Result<Vec<Planned<'a>>, AllocError>
+) -> Result<(), AllocError>
+    requires { planned.old.items ≡ [] }
     ensures { (a : Application) (k : Text)
-        → IfOk result (λ ps. map (planned_view k a) ps.items
+        → OnOk result (map (planned_view k a) planned.new.items
         ≡ at_items a k (value schema.now) start (map value (drop start items.now))) }
 {
-    let mut planned = Vec::with_capacity(alloc, items.len().saturating_sub(start))?;
+    planned.reserve(items.len().saturating_sub(start))?;
     for index in start..items.len() {
         planned.push(Planned {
             chosen: Chosen::Below(None, schema),
@@ -84,7 +88,7 @@ fn plan_from<'a>(
             subject: Subject::Value(&items[index]),
         })?;
     }
-    Ok(planned)
+    Ok(())
 }
 
 /// How many elements `prefixItems` beside speaks of.

@@ -1,6 +1,6 @@
 //! Keywords that apply schemas to the members of an object, or to their names (JSON Schema 2020-12 Core, 10.3.2).
 
-ghost use Rattle.std.specs.Prelude.{◌≡◌, map, IfOk};
+ghost use Rattle.std.specs.Prelude.{◌≡◌, [], map, OnOk};
 ghost use Rattle.definitions.specs.Values.{Text, members};
 ghost use Rattle.definitions.specs.Applied.{Application};
 ghost use Rattle.json_doc.specs.Docs.{value, members_value};
@@ -12,7 +12,7 @@ use crate::planned::{Chosen, Part, Planned};
 use crate::subject::Subject;
 use json_doc::{Doc, Members, compare_names};
 use locations::Step;
-use std::alloc::{AllocError, Global};
+use std::alloc::AllocError;
 use std::cmp::{Ordering, min};
 
 /// How many times as long a list is that is searched for each name of the other, rather than walked along beside it.
@@ -20,95 +20,101 @@ pub(crate) const FAR_LONGER: usize = 4;
 
 /// Each schema whose name the instance has, at that member (10.3.2.1).
 pub(crate) fn plan_properties<'a>(
-    alloc: Global,
+    planned: &mut Vec<Planned<'a>>,
     schemas: &'a Doc,
-    subject: Subject<'a>,
-) -> Result<Vec<Planned<'a>>, AllocError>
-    ensures { (a : Application) (k : Text) → a.instance ≡ subject_value subject.entry
-        → IfOk result (λ ps. map (planned_view k a) ps.items
+    subject: &Subject<'a>,
+) -> Result<(), AllocError>
+    requires { planned.old.items ≡ [] }
+    ensures { (a : Application) (k : Text) → a.instance ≡ subject_value subject.now
+        → OnOk result (map (planned_view k a) planned.new.items
         ≡ planned_members k a (members (value schemas.now))) }
 {
     match schemas {
-        Doc::Dict(schemas) => plan_members(alloc, schemas, subject),
-        _ => Ok(Vec::new(alloc)),
+        Doc::Dict(schemas) => plan_members(planned, schemas, subject),
+        _ => Ok(()),
     }
 }
 
 fn plan_members<'a>(
-    alloc: Global,
+    planned: &mut Vec<Planned<'a>>,
     schemas: &'a Members,
-    subject: Subject<'a>,
-) -> Result<Vec<Planned<'a>>, AllocError>
-    ensures { (a : Application) (k : Text) → a.instance ≡ subject_value subject.entry
-        → IfOk result (λ ps. map (planned_view k a) ps.items
+    subject: &Subject<'a>,
+) -> Result<(), AllocError>
+    requires { planned.old.items ≡ [] }
+    ensures { (a : Application) (k : Text) → a.instance ≡ subject_value subject.now
+        → OnOk result (map (planned_view k a) planned.new.items
         ≡ planned_members k a (members_value schemas.now)) }
 {
     match subject.members() {
-        Some(present) => plan_present(alloc, schemas, present),
-        None => Ok(Vec::new(alloc)),
+        Some(present) => plan_present(planned, schemas, present),
+        None => Ok(()),
     }
 }
 
 // Along the schemas, where the instance has far more members.
 fn plan_present<'a>(
-    alloc: Global,
+    planned: &mut Vec<Planned<'a>>,
     schemas: &'a Members,
     present: &'a Members,
-) -> Result<Vec<Planned<'a>>, AllocError>
+) -> Result<(), AllocError>
+    requires { planned.old.items ≡ [] }
     ensures { (a : Application) (k : Text) → members a.instance ≡ members_value present.now
-        → IfOk result (λ ps. map (planned_view k a) ps.items
+        → OnOk result (map (planned_view k a) planned.new.items
         ≡ planned_members k a (members_value schemas.now)) }
 {
     if schemas.len() < present.len() / FAR_LONGER {
-        plan_along_schemas(alloc, schemas, present)
+        plan_along_schemas(planned, schemas, present)
     } else {
-        plan_along_instance(alloc, schemas, present)
+        plan_along_instance(planned, schemas, present)
     }
 }
 
 fn plan_along_instance<'a>(
-    alloc: Global,
+    planned: &mut Vec<Planned<'a>>,
     schemas: &'a Members,
     present: &'a Members,
-) -> Result<Vec<Planned<'a>>, AllocError>
+) -> Result<(), AllocError>
+    requires { planned.old.items ≡ [] }
     ensures { (a : Application) (k : Text) → members a.instance ≡ members_value present.now
-        → IfOk result (λ ps. map (planned_view k a) ps.items
+        → OnOk result (map (planned_view k a) planned.new.items
         ≡ planned_members k a (members_value schemas.now)) }
 {
     // Their contracts say that the names are in order.
     let _ = schemas.iter();
     let _ = present.iter();
-    plan_at_names(alloc, schemas, present)
+    plan_at_names(planned, schemas, present)
 }
 
 // Along the members, where there are far more schemas, and along both otherwise.
 fn plan_at_names<'a>(
-    alloc: Global,
+    planned: &mut Vec<Planned<'a>>,
     schemas: &'a Members,
     members: &'a Members,
-) -> Result<Vec<Planned<'a>>, AllocError>
+) -> Result<(), AllocError>
+    requires { planned.old.items ≡ [] }
     ensures { (a : Application) (k : Text)
-        → IfOk result (λ ps. map (planned_view k a) ps.items
+        → OnOk result (map (planned_view k a) planned.new.items
         ≡ planned_at_names k a (members_value schemas.now) (members_value members.now)) }
 {
     if members.len() < schemas.len() / FAR_LONGER {
-        plan_each_member(alloc, schemas, members)
+        plan_each_member(planned, schemas, members)
     } else {
-        plan_merged(alloc, schemas, members)
+        plan_merged(planned, schemas, members)
     }
 }
 
 // Along both: of the first schema and the first member that are left, the one of the lesser name has no partner.
 fn plan_merged<'a>(
-    alloc: Global,
+    planned: &mut Vec<Planned<'a>>,
     schemas: &'a Members,
     members: &'a Members,
-) -> Result<Vec<Planned<'a>>, AllocError>
+) -> Result<(), AllocError>
+    requires { planned.old.items ≡ [] }
     ensures { (a : Application) (k : Text)
-        → IfOk result (λ ps. map (planned_view k a) ps.items
+        → OnOk result (map (planned_view k a) planned.new.items
         ≡ planned_at_names k a (members_value schemas.now) (members_value members.now)) }
 {
-    let mut planned = Vec::with_capacity(alloc, min(schemas.len(), members.len()))?;
+    planned.reserve(min(schemas.len(), members.len()))?;
     let mut other_schemas = schemas.iter();
     let mut other_members = members.iter();
     let mut first_schema = other_schemas.next();
@@ -128,19 +134,20 @@ fn plan_merged<'a>(
             }
         }
     }
-    Ok(planned)
+    Ok(())
 }
 
 fn plan_each_member<'a>(
-    alloc: Global,
+    planned: &mut Vec<Planned<'a>>,
     schemas: &'a Members,
     members: &'a Members,
-) -> Result<Vec<Planned<'a>>, AllocError>
+) -> Result<(), AllocError>
+    requires { planned.old.items ≡ [] }
     ensures { (a : Application) (k : Text)
-        → IfOk result (λ ps. map (planned_view k a) ps.items
+        → OnOk result (map (planned_view k a) planned.new.items
         ≡ planned_at_names k a (members_value schemas.now) (members_value members.now)) }
 {
-    let mut planned = Vec::with_capacity(alloc, min(schemas.len(), members.len()))?;
+    planned.reserve(min(schemas.len(), members.len()))?;
     for (name, member) in members.iter() {
         if let Some(schema) = schemas.get(name) {
             planned.push(Planned {
@@ -150,19 +157,20 @@ fn plan_each_member<'a>(
             })?;
         }
     }
-    Ok(planned)
+    Ok(())
 }
 
 fn plan_along_schemas<'a>(
-    alloc: Global,
+    planned: &mut Vec<Planned<'a>>,
     schemas: &'a Members,
     present: &'a Members,
-) -> Result<Vec<Planned<'a>>, AllocError>
+) -> Result<(), AllocError>
+    requires { planned.old.items ≡ [] }
     ensures { (a : Application) (k : Text) → members a.instance ≡ members_value present.now
-        → IfOk result (λ ps. map (planned_view k a) ps.items
+        → OnOk result (map (planned_view k a) planned.new.items
         ≡ planned_members k a (members_value schemas.now)) }
 {
-    let mut planned = Vec::with_capacity(alloc, min(schemas.len(), present.len()))?;
+    planned.reserve(min(schemas.len(), present.len()))?;
     for (name, schema) in schemas.iter() {
         if let Some(member) = present.get(name) {
             planned.push(Planned {
@@ -172,35 +180,37 @@ fn plan_along_schemas<'a>(
             })?;
         }
     }
-    Ok(planned)
+    Ok(())
 }
 
 /// The schema, at each name of the instance (10.3.2.4).
 pub(crate) fn plan_names<'a>(
-    alloc: Global,
+    planned: &mut Vec<Planned<'a>>,
     schema: &'a Doc,
-    subject: Subject<'a>,
-) -> Result<Vec<Planned<'a>>, AllocError>
-    ensures { (a : Application) (k : Text) → a.instance ≡ subject_value subject.entry
-        → IfOk result (λ ps. map (planned_view k a) ps.items
+    subject: &Subject<'a>,
+) -> Result<(), AllocError>
+    requires { planned.old.items ≡ [] }
+    ensures { (a : Application) (k : Text) → a.instance ≡ subject_value subject.now
+        → OnOk result (map (planned_view k a) planned.new.items
         ≡ planned_names k a (value schema.now) (members a.instance)) }
 {
     match subject.members() {
-        Some(members) => plan_each_name(alloc, schema, members),
-        None => Ok(Vec::new(alloc)),
+        Some(members) => plan_each_name(planned, schema, members),
+        None => Ok(()),
     }
 }
 
 fn plan_each_name<'a>(
-    alloc: Global,
+    planned: &mut Vec<Planned<'a>>,
     schema: &'a Doc,
     members: &'a Members,
-) -> Result<Vec<Planned<'a>>, AllocError>
+) -> Result<(), AllocError>
+    requires { planned.old.items ≡ [] }
     ensures { (a : Application) (k : Text)
-        → IfOk result (λ ps. map (planned_view k a) ps.items
+        → OnOk result (map (planned_view k a) planned.new.items
         ≡ planned_names k a (value schema.now) (members_value members.now)) }
 {
-    let mut planned = Vec::with_capacity(alloc, members.len())?;
+    planned.reserve(members.len())?;
     for (name, _) in members.iter() {
         planned.push(Planned {
             chosen: Chosen::Below(None, schema),
@@ -208,5 +218,5 @@ fn plan_each_name<'a>(
             subject: Subject::Name(name),
         })?;
     }
-    Ok(planned)
+    Ok(())
 }

@@ -1,6 +1,6 @@
 //! Members that no keyword beside takes (JSON Schema 2020-12 Core, 10.3.2.3).
 
-ghost use Rattle.std.specs.Prelude.{◌≡◌, [], map, option_map, unwrap_or, is_some, IfOk, IfErr};
+ghost use Rattle.std.specs.Prelude.{◌≡◌, [], map, option_map, unwrap_or, is_some, IfOk, IfErr, OnOk};
 ghost use Rattle.std.specs.Cmp.Lexicographic.{slice_cmp};
 ghost use Rattle.std.specs.List.{list_any};
 ghost use Rattle.std.specs.Ordering.{nat_cmp};
@@ -20,7 +20,6 @@ use crate::planning::matching::is_matched;
 use crate::planning::members::FAR_LONGER;
 use crate::site::Site;
 use crate::subject::{Subject, members_of};
-use faults::Fault;
 use json_doc::{Doc, Members, compare_names};
 use linker::Linked;
 use std::alloc::{AllocError, Global};
@@ -37,24 +36,24 @@ struct PropertyKeywords<'a> {
 
 /// The schema, at each member of the instance that neither `properties` nor `patternProperties` beside takes.
 pub(crate) fn plan_others<'a>(
-    alloc: Global,
-    site: Site<'a>,
+    planned: &mut Vec<Planned<'a>>,
+    site: &Site<'a>,
     schema: &'a Doc,
-) -> Result<Vec<Planned<'a>>, Fault>
-    ensures ok { (a : Application) (k : Text) → Shows site.entry a
-        → IfOk result (λ ps. map (planned_view k a) ps.items
-        ≡ planned_others site.entry.linked.now k a (value schema.now) (members a.instance)) }
-    ensures err { IfErr result (λ f. f ≡ Fault.NoRoom) }
+) -> Result<(), AllocError>
+    requires { planned.old.items ≡ [] }
+    ensures { (a : Application) (k : Text) → Shows site.now a
+        → OnOk result (map (planned_view k a) planned.new.items
+        ≡ planned_others site.now.linked.now k a (value schema.now) (members a.instance)) }
 {
     match site.subject.members() {
-        Some(members) => plan_untaken(alloc, keywords_beside(site), schema, members),
-        None => Ok(Vec::new(alloc)),
+        Some(members) => plan_untaken(planned, keywords_beside(site), schema, members),
+        None => Ok(()),
     }
 }
 
-fn keywords_beside<'a>(site: Site<'a>) -> PropertyKeywords<'a>
-    ensures linked { result.linked.now ≡ site.entry.linked.now }
-    ensures beside { (a : Application) → Shows site.entry a → StandsBeside result a }
+fn keywords_beside<'a>(site: &Site<'a>) -> PropertyKeywords<'a>
+    ensures linked { result.linked.now ≡ site.now.linked.now }
+    ensures beside { (a : Application) → Shows site.now a → StandsBeside result a }
 {
     PropertyKeywords {
         linked: site.linked,
@@ -76,38 +75,38 @@ fn members_beside<'a>(schema: &'a Doc, keyword: &str) -> Option<&'a Members>
 
 // Along both `properties` and the members, where there are no patterns, unless there are far more schemas.
 fn plan_untaken<'a>(
-    alloc: Global,
+    planned: &mut Vec<Planned<'a>>,
     beside: PropertyKeywords<'a>,
     schema: &'a Doc,
     members: &'a Members,
-) -> Result<Vec<Planned<'a>>, Fault>
-    ensures ok { (a : Application) (k : Text) → StandsBeside beside.entry a
-        → IfOk result (λ ps. map (planned_view k a) ps.items
+) -> Result<(), AllocError>
+    requires { planned.old.items ≡ [] }
+    ensures { (a : Application) (k : Text) → StandsBeside beside.entry a
+        → OnOk result (map (planned_view k a) planned.new.items
         ≡ planned_others beside.entry.linked.now k a (value schema.now)
         (members_value members.now)) }
-    ensures err { IfErr result (λ f. f ≡ Fault.NoRoom) }
 {
     match (beside.properties, beside.patterns) {
         (Some(schemas), None) if schemas.len() / FAR_LONGER <= members.len() => {
-            Ok(plan_unnamed(alloc, schemas, schema, members)?)
+            plan_unnamed(planned, schemas, schema, members)
         }
-        _ => plan_each_untaken(alloc, beside, schema, members),
+        _ => plan_each_untaken(planned, beside, schema, members),
     }
 }
 
 // Along both: a member whose name comes before that of the first schema that is left has no schema.
 fn plan_unnamed<'a>(
-    alloc: Global,
+    planned: &mut Vec<Planned<'a>>,
     schemas: &Members,
     schema: &'a Doc,
     members: &'a Members,
-) -> Result<Vec<Planned<'a>>, AllocError>
+) -> Result<(), AllocError>
+    requires { planned.old.items ≡ [] }
     ensures { (a : Application) (k : Text)
-        → IfOk result (λ ps. map (planned_view k a) ps.items
+        → OnOk result (map (planned_view k a) planned.new.items
         ≡ planned_unnamed k a (value schema.now) (members_value schemas.now)
         (members_value members.now)) }
 {
-    let mut planned = Vec::new(alloc);
     let mut other_schemas = schemas.iter();
     let mut other_members = members.iter();
     let mut first_schema = other_schemas.next();
@@ -129,7 +128,7 @@ fn plan_unnamed<'a>(
             }
         }
     }
-    Ok(planned)
+    Ok(())
 }
 
 // How the name of the first schema that is left stands to this one, which comes before where none is left.
@@ -144,20 +143,19 @@ fn order_of_first(first: Option<(&str, &Doc)>, name: &str) -> Ordering
 }
 
 fn plan_each_untaken<'a>(
-    alloc: Global,
+    planned: &mut Vec<Planned<'a>>,
     beside: PropertyKeywords<'a>,
     schema: &'a Doc,
     members: &'a Members,
-) -> Result<Vec<Planned<'a>>, Fault>
-    ensures ok { (a : Application) (k : Text) → StandsBeside beside.entry a
-        → IfOk result (λ ps. map (planned_view k a) ps.items
+) -> Result<(), AllocError>
+    requires { planned.old.items ≡ [] }
+    ensures { (a : Application) (k : Text) → StandsBeside beside.entry a
+        → OnOk result (map (planned_view k a) planned.new.items
         ≡ planned_others beside.entry.linked.now k a (value schema.now)
         (members_value members.now)) }
-    ensures err { IfErr result (λ f. f ≡ Fault.NoRoom) }
 {
-    let mut planned = Vec::new(alloc);
     for (name, member) in members.iter() {
-        if !is_taken(alloc, beside, name)? {
+        if !is_taken(*planned.allocator(), beside, name)? {
             planned.push(Planned {
                 chosen: Chosen::Below(None, schema),
                 part: Part::Member(name),
@@ -165,14 +163,13 @@ fn plan_each_untaken<'a>(
             })?;
         }
     }
-    Ok(planned)
+    Ok(())
 }
 
 // Whether a keyword beside takes the member of this name.
-fn is_taken(alloc: Global, beside: PropertyKeywords<'_>, name: &str) -> Result<bool, Fault>
-    ensures ok { (a : Application) → StandsBeside beside.entry a
+fn is_taken(alloc: Global, beside: PropertyKeywords<'_>, name: &str) -> Result<bool, AllocError>
+    ensures { (a : Application) → StandsBeside beside.entry a
         → IfOk result (λ b. b ≡ is_taken (linked_rules beside.entry.linked.now) a name.now) }
-    ensures err { IfErr result (λ f. f ≡ Fault.NoRoom) }
 {
     if is_named(beside.properties, name) {
         return Ok(true);

@@ -1,6 +1,6 @@
 //! References (JSON Schema 2020-12 Core, 8.2.3).
 
-ghost use Rattle.std.specs.Prelude.{◌≡◌, Some, map, option_map, option_and_then, IfOk, IfErr};
+ghost use Rattle.std.specs.Prelude.{◌≡◌, [], Some, map, option_map, option_and_then, IfErr, OnOk};
 ghost use Rattle.definitions.specs.Values.{Text, get};
 ghost use Rattle.definitions.specs.Schemas.{reference_at};
 ghost use Rattle.definitions.specs.Targets.{target, dynamic_target};
@@ -18,83 +18,83 @@ use crate::planned::{Chosen, Part, Planned};
 use crate::site::Site;
 use crate::subject::Subject;
 use crate::target::Target;
-use faults::Fault;
 use json_doc::Doc;
-use std::alloc::{AllocError, Global};
+use std::alloc::AllocError;
 
 /// What a reference names (8.2.3.1).
 pub(crate) fn plan_reference<'a>(
-    alloc: Global,
+    planned: &mut Vec<Planned<'a>>,
     scope: &mut DynamicScope<'a>,
-    site: Site<'a>,
+    site: &Site<'a>,
     reference: &'a Doc,
-) -> Result<Vec<Planned<'a>>, Fault>
-    ensures ok { (a : Application) (k : Text) → Shows site.entry a
-        → scope_documents scope.old ≡ site.entry.linked
+) -> Result<(), AllocError>
+    requires { planned.old.items ≡ [] }
+    ensures ok { (a : Application) (k : Text) → Shows site.now a
+        → scope_documents scope.old ≡ site.now.linked
         → get k a.schema.value ≡ Some (value reference.now)
-        → IfOk result (λ ps. map (planned_view k a) ps.items
-        ≡ to_target a k (option_and_then (target (linked_schemas site.entry.linked.now))
+        → OnOk result (map (planned_view k a) planned.new.items
+        ≡ to_target a k (option_and_then (target (linked_schemas site.now.linked.now))
         (reference_at k a.schema))) }
     ensures uris { scope_uris scope.new ≡ scope_uris scope.old }
     ensures documents { scope_documents scope.new ≡ scope_documents scope.old }
-    ensures err { IfErr result (λ f. f ≡ Fault.NoRoom) }
 {
     match reference.as_str() {
         Some(reference) => {
-            let target = scope.target(alloc, site.resource, reference)?;
-            Ok(plan_target(alloc, target, site.subject)?)
+            let target = scope.target(*planned.allocator(), site.resource, reference)?;
+            plan_target(planned, target, &site.subject)
         }
-        None => Ok(Vec::new(alloc)),
+        None => Ok(()),
     }
 }
 
 /// What a dynamic reference names, in the dynamic scope (8.2.3.2).
 pub(crate) fn plan_dynamic_reference<'a>(
-    alloc: Global,
+    planned: &mut Vec<Planned<'a>>,
     scope: &mut DynamicScope<'a>,
-    site: Site<'a>,
+    site: &Site<'a>,
     reference: &'a Doc,
-) -> Result<Vec<Planned<'a>>, Fault>
-    ensures ok { (a : Application) (k : Text) → Shows site.entry a
-        → scope_documents scope.old ≡ site.entry.linked
+) -> Result<(), AllocError>
+    requires { planned.old.items ≡ [] }
+    ensures ok { (a : Application) (k : Text) → Shows site.now a
+        → scope_documents scope.old ≡ site.now.linked
         → a.scope ≡ scope_uris scope.old
         → get k a.schema.value ≡ Some (value reference.now)
-        → IfOk result (λ ps. map (planned_view k a) ps.items
+        → OnOk result (map (planned_view k a) planned.new.items
         ≡ to_target a k (option_and_then
-        (dynamic_target (linked_schemas site.entry.linked.now) a.scope)
+        (dynamic_target (linked_schemas site.now.linked.now) a.scope)
         (reference_at k a.schema))) }
     ensures uris { scope_uris scope.new ≡ scope_uris scope.old }
     ensures documents { scope_documents scope.new ≡ scope_documents scope.old }
-    ensures err { IfErr result (λ f. f ≡ Fault.NoRoom) }
 {
     match reference.as_str() {
         Some(reference) => {
-            let target = scope.dynamic_target(alloc, site.resource, reference)?;
-            Ok(plan_target(alloc, target, site.subject)?)
+            let target = scope.dynamic_target(*planned.allocator(), site.resource, reference)?;
+            plan_target(planned, target, &site.subject)
         }
-        None => Ok(Vec::new(alloc)),
+        None => Ok(()),
     }
 }
 
+#[inline(always)]
 fn plan_target<'a>(
-    alloc: Global,
+    planned: &mut Vec<Planned<'a>>,
     target: Option<Target<'a>>,
-    subject: Subject<'a>,
-) -> Result<Vec<Planned<'a>>, AllocError>
-    ensures { (a : Application) (k : Text) → a.instance ≡ subject_value subject.entry
-        → IfOk result (λ ps. map (planned_view k a) ps.items
+    subject: &Subject<'a>,
+) -> Result<(), AllocError>
+    requires { planned.old.items ≡ [] }
+    ensures { (a : Application) (k : Text) → a.instance ≡ subject_value subject.now
+        → OnOk result (map (planned_view k a) planned.new.items
         ≡ to_target a k (option_map target_view target.entry)) }
 {
     match target {
         Some(target) => {
-            let mut planned = Vec::with_capacity(alloc, 1)?;
             planned.push(Planned {
                 chosen: Chosen::Target(target),
                 part: Part::Whole,
-                subject,
+                subject: *subject,
             })?;
-            Ok(planned)
+            Ok(())
         }
-        None => Ok(Vec::new(alloc)),
+        None => Ok(()),
     }
 }

@@ -1,6 +1,6 @@
 //! Elements and members that no other keyword evaluated (JSON Schema 2020-12 Core, 11).
 
-ghost use Rattle.std.specs.Prelude.{◌≡◌, map, IfOk, IfSome};
+ghost use Rattle.std.specs.Prelude.{◌≡◌, [], map, IfOk, IfSome, OnOk};
 ghost use Rattle.std.specs.BTreeSet.{contains};
 ghost use Rattle.std.specs.Borrow.{Bor};
 ghost use Rattle.std.specs.List.{list_any};
@@ -72,30 +72,31 @@ impl<'n, 'a> NamesInOrder<'n, 'a> {
 
 /// The schema, at each element whose index isn't among these (11.2).
 pub(crate) fn plan_unevaluated_items<'a>(
-    alloc: Global,
+    planned: &mut Vec<Planned<'a>>,
     schema: &'a Doc,
-    subject: Subject<'a>,
+    subject: &Subject<'a>,
     indexes: &[usize],
-) -> Result<Vec<Planned<'a>>, AllocError>
-    ensures { (a : Application) (k : Text) → a.instance ≡ subject_value subject.entry
-        → IfOk result (λ ps. map (planned_view k a) ps.items
+) -> Result<(), AllocError>
+    requires { planned.old.items ≡ [] }
+    ensures { (a : Application) (k : Text) → a.instance ≡ subject_value subject.now
+        → OnOk result (map (planned_view k a) planned.new.items
         ≡ planned_unevaluated_items k a (value schema.now) indexes.now 0 (elements a.instance)) }
 {
-    plan_unevaluated_elements(alloc, schema, subject.elements(), indexes)
+    plan_unevaluated_elements(planned, schema, subject.elements(), indexes)
 }
 
 fn plan_unevaluated_elements<'a>(
-    alloc: Global,
+    planned: &mut Vec<Planned<'a>>,
     schema: &'a Doc,
     items: &'a [Doc],
     indexes: &[usize],
-) -> Result<Vec<Planned<'a>>, AllocError>
+) -> Result<(), AllocError>
+    requires { planned.old.items ≡ [] }
     ensures { (a : Application) (k : Text)
-        → IfOk result (λ ps. map (planned_view k a) ps.items
+        → OnOk result (map (planned_view k a) planned.new.items
         ≡ planned_unevaluated_items k a (value schema.now) indexes.now 0 (map value items.now)) }
 {
-    let evaluated = set_of(alloc, indexes)?;
-    let mut planned = Vec::new(alloc);
+    let evaluated = set_of(*planned.allocator(), indexes)?;
     for (index, item) in items.iter().enumerate() {
         if !is_in(&evaluated, index) {
             planned.push(Planned {
@@ -105,40 +106,41 @@ fn plan_unevaluated_elements<'a>(
             })?;
         }
     }
-    Ok(planned)
+    Ok(())
 }
 
 /// The schema, at each member whose name isn't among these (11.3).
 pub(crate) fn plan_unevaluated_properties<'a>(
-    alloc: Global,
+    planned: &mut Vec<Planned<'a>>,
     schema: &'a Doc,
-    subject: Subject<'a>,
+    subject: &Subject<'a>,
     names: &[&'a str],
-) -> Result<Vec<Planned<'a>>, AllocError>
-    ensures { (a : Application) (k : Text) → a.instance ≡ subject_value subject.entry
-        → IfOk result (λ ps. map (planned_view k a) ps.items
+) -> Result<(), AllocError>
+    requires { planned.old.items ≡ [] }
+    ensures { (a : Application) (k : Text) → a.instance ≡ subject_value subject.now
+        → OnOk result (map (planned_view k a) planned.new.items
         ≡ planned_unevaluated_properties k a (value schema.now) (map (λ n. n.now) names.now)
         (members a.instance)) }
 {
     match subject.members() {
-        Some(members) => plan_unevaluated_members(alloc, schema, members, names),
-        None => Ok(Vec::new(alloc)),
+        Some(members) => plan_unevaluated_members(planned, schema, members, names),
+        None => Ok(()),
     }
 }
 
 fn plan_unevaluated_members<'a>(
-    alloc: Global,
+    planned: &mut Vec<Planned<'a>>,
     schema: &'a Doc,
     members: &'a Members,
     names: &[&'a str],
-) -> Result<Vec<Planned<'a>>, AllocError>
+) -> Result<(), AllocError>
+    requires { planned.old.items ≡ [] }
     ensures { (a : Application) (k : Text)
-        → IfOk result (λ ps. map (planned_view k a) ps.items
+        → OnOk result (map (planned_view k a) planned.new.items
         ≡ planned_unevaluated_properties k a (value schema.now) (map (λ n. n.now) names.now)
         (members_value members.now)) }
 {
-    let mut evaluated = NamesInOrder::new(alloc, names);
-    let mut planned = Vec::new(alloc);
+    let mut evaluated = NamesInOrder::new(*planned.allocator(), names);
     for (name, member) in members.iter() {
         if !evaluated.has(name)? {
             planned.push(Planned {
@@ -148,7 +150,7 @@ fn plan_unevaluated_members<'a>(
             })?;
         }
     }
-    Ok(planned)
+    Ok(())
 }
 
 // The keys in order, to look up.

@@ -25,14 +25,14 @@ returns-then-passed-uris-clause-right c =
     let less = c.if-passed-uris.true in
     found_searched c.args.linked.now (texts c.args.uris.now) c.args.begun.name.now _ (option_map target_view c.in_ok-found.found) (passed_further c.args.linked.now c.args.uris.now c.args.begun.name.now c.args.begun.passed (option_map target_view c.args.begun.found) c.outermost.result c.requires.right c.outermost.ensures)
     (omega (arith, less, length-map c.args.uris.now (λ (u : Bor Text). u.now)))
-    (c.in_ok-found.ensures.ok ∙ ap (λ u. schema_with_dynamic_anchor (linked_schemas c.args.linked.now) u c.args.begun.name.now) (sym (get_or-map (λ (u : Bor Text). u.now) c.args.uris.now _ none [] less)))
+    (c.in_ok-found.ensures ∙ ap (λ u. schema_with_dynamic_anchor (linked_schemas c.args.linked.now) u c.args.begun.name.now) (sym (get_or-map (λ (u : Bor Text). u.now) c.args.uris.now _ none [] less)))
 
 pub returns-then-passed-uris-clause-found : goal.returns-then-passed-uris-clause-found
 returns-then-passed-uris-clause-found c =
     let less = c.if-passed-uris.true in
     found_outermost c.args.linked.now (texts c.args.uris.now) c.args.begun.name.now _ (option_map target_view c.in_ok-found.found) (passed_further c.args.linked.now c.args.uris.now c.args.begun.name.now c.args.begun.passed (option_map target_view c.args.begun.found) c.outermost.result c.requires.right c.outermost.ensures)
     (omega (arith, less, length-map c.args.uris.now (λ (u : Bor Text). u.now)))
-    (c.in_ok-found.ensures.ok ∙ ap (λ u. schema_with_dynamic_anchor (linked_schemas c.args.linked.now) u c.args.begun.name.now) (sym (get_or-map (λ (u : Bor Text). u.now) c.args.uris.now _ none [] less)))
+    (c.in_ok-found.ensures ∙ ap (λ u. schema_with_dynamic_anchor (linked_schemas c.args.linked.now) u c.args.begun.name.now) (sym (get_or-map (λ (u : Bor Text). u.now) c.args.uris.now _ none [] less)))
 
 pub returns-clause-right : goal.returns-clause-right
 returns-clause-right c = none_searched c.args.linked.now (texts c.args.uris.now) c.args.begun.name.now _ (passed_further c.args.linked.now c.args.uris.now c.args.begun.name.now c.args.begun.passed (option_map target_view c.args.begun.found) c.outermost.result c.requires.right c.outermost.ensures)

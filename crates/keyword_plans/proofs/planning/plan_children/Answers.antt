@@ -1,8 +1,4 @@
 use Rattle.keyword_plans.proofs.planning.plan_children.Goals as goal
 
-pub returns-in-PatternProperties-clause-ok : goal.returns-in-PatternProperties-clause-ok
-returns-in-PatternProperties-clause-ok c a run shows beside =
-    rw c.in-PatternProperties.is (c.plan_patterns.ensures.ok a _ shows (rw c.in-PatternProperties.is at beside))
-
-pub returns-in-AdditionalProperties-clause-ok : goal.returns-in-AdditionalProperties-clause-ok
-returns-in-AdditionalProperties-clause-ok c a run shows beside = rw c.in-AdditionalProperties.is (c.plan_others.ensures.ok a _ shows)
+pub returns-in-UnevaluatedProperties : goal.returns-in-UnevaluatedProperties
+returns-in-UnevaluatedProperties c a run shows beside = rw c.in-UnevaluatedProperties.is (c.plan_unevaluated_properties.ensures a _ shows.instance)

@@ -5,8 +5,8 @@ use Rattle.json_doc.specs.Docs.{value}
 use Rattle.keyword_plans.proofs.Patterns.{pattern-of, pattern_holds-strings}
 use Rattle.keyword_plans.proofs.verdict.is_pattern_met.Goals as goal
 
-pub returns-in-Some-as_str-clause-ok : goal.returns-in-Some-as_str-clause-ok
-returns-in-Some-as_str-clause-ok c a shows e =
+pub returns-in-Some-as_str : goal.returns-in-Some-as_str
+returns-in-Some-as_str c a shows e =
     let v = value c.args.pattern.now in
     let all = pattern_holds-strings v a.instance c.in-Some.pattern.now c.in-Some-as_str.text.now c.in-Some.ensures (c.in-Some-as_str.ensures ∙ ap as_string (sym shows.instance)) in
     IfOk-weaker c.is_match.result _ _ (λ b d. d ∙ all) (c.is_match.ensures.ok a.schema shows.inside (pattern-of a.schema v c.in-Some.pattern.now e c.in-Some.ensures))

@@ -23,7 +23,7 @@ returns-in_ok-origin-in-Some-clause-there c = λ contains.
     let same : i ≡ (c.in_ok-resource-in-Some.resource.now, []) =
     ap origin_view c.in_ok-origin-in-Some.ensures.ok ∙ c.root.ensures in
     ap frame_standing c.enter_origin.ensures.moved
-    ∙ schema_entered i s f (ap (λ (j : Identity). j.0) same ∙ c.in_ok-resource-in-Some.ensures.ok s contains root resource) (ap (λ (j : Identity). j.1) same ∙ sym root)
+    ∙ schema_entered i s f (ap (λ (j : Identity). j.0) same ∙ c.in_ok-resource-in-Some.ensures s contains root resource) (ap (λ (j : Identity). j.1) same ∙ sym root)
 
 pub returns-in_ok-origin-in-Some-clause-onward : goal.returns-in_ok-origin-in-Some-clause-onward
 returns-in_ok-origin-in-Some-clause-onward c =

@@ -159,8 +159,8 @@ use_keyword-returns-in-Ok-clause-passing = one_keyword.use_keyword-returns-in-Ok
 pub use_keyword-returns-in-Ok-clause-noted : goal.use_keyword-returns-in-Ok-clause-noted
 use_keyword-returns-in-Ok-clause-noted = one_keyword.use_keyword-returns-in-Ok-clause-noted
 
-pub use_keyword-returns-clause-err : goal.use_keyword-returns-clause-err
-use_keyword-returns-clause-err = one_keyword.use_keyword-returns-clause-err
+pub use_keyword-returns-in-Err-clause-err : goal.use_keyword-returns-in-Err-clause-err
+use_keyword-returns-in-Err-clause-err = one_keyword.use_keyword-returns-in-Err-clause-err
 
 pub apply_all-loop-one-init : goal.apply_all-loop-one-init
 apply_all-loop-one-init = one_keyword.apply_all-loop-one-init

@@ -5,7 +5,7 @@ use Rattle.evaluator.proofs.applying.Evaluation.passes.Goals as goal
 
 pub returns-clause-passes : goal.returns-clause-passes
 returns-clause-passes c a left names indexes at number passing =
-    c.passes.ensures.ok a (linked_outcome c.args.self.now.linked.now left) names indexes
+    c.passes.ensures a (linked_outcome c.args.self.now.linked.now left) names indexes
     (record {
       schema = at.schema;
       resource = sym (ap (λ (s : Standing). s.resource) at.under) ∙ sym c.resource.ensures;

@@ -11,7 +11,7 @@ returns-clause-planned c a left at knows got =
     let names = c.evaluated_since-evaluated.ensures.names ∙ ap (λ ns. drop c.args.here.before.names (map (λ n. n.now) ns)) c.deref.ensures.value in
     let indexes = c.evaluated_since-evaluated.ensures.indexes ∙ ap (λ is. drop c.args.here.before.indexes is) c.deref-2.ensures.value in
     rw (← names, ← indexes)
-    (c.plan.ensures.ok a (linked_outcome c.args.self.now.linked.now left)
+    (c.in_ok-plan.ensures.ok a (linked_outcome c.args.self.now.linked.now left)
     (record {
       schema = ap (λ (b : Application). b.schema.value) at.there;
       resource = ap (λ (b : Application). b.schema.resource) at.there ∙ sym c.resource.ensures;
@@ -23,3 +23,7 @@ returns-clause-planned c a left at knows got =
 pub returns-clause-back : goal.returns-clause-back
 unfolding context_view
 returns-clause-back c = ap (λ uris. record (context_view c.args.self.now.context) { scope = uris }) c.plan.ensures.uris
+
+pub returns-in_err-plan-clause-back : goal.returns-in_err-plan-clause-back
+unfolding context_view
+returns-in_err-plan-clause-back c = ap (λ uris. record (context_view c.args.self.now.context) { scope = uris }) c.plan.ensures.uris

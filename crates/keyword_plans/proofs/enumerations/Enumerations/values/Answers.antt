@@ -7,7 +7,7 @@ use Rattle.keyword_plans.proofs.enumerations.Enumerations.values.Goals as goal
 pub returns-in-Some-clause-ok : goal.returns-in-Some-clause-ok
 returns-in-Some-clause-ok c =
     λ s inside same.
-    let asked : identity s ≡ (c.args.resource.now, c.in_ok-pointer_to.field-0) = same ∙ ap (λ ts. (c.args.resource.now, ts)) (sym c.in_ok-pointer_to.ensures.ok) in
+    let asked : identity s ≡ (c.args.resource.now, c.in_ok-pointer_to.field-0) = same ∙ ap (λ ts. (c.args.resource.now, ts)) (sym c.in_ok-pointer_to.ensures) in
     let found : Some (located_view c.in-Some.located) ≡ Some s = rw c.in-Some.is at (c.in_ok-located.ensures.named s inside asked) in
     let schema : located_view c.in-Some.located ≡ s = cc in
     c.get.ensures ∙ ap (λ (t : Schema). get (codes "enum") t.value) schema
@@ -15,6 +15,6 @@ returns-in-Some-clause-ok c =
 pub returns-in-None-clause-ok : goal.returns-in-None-clause-ok
 returns-in-None-clause-ok c =
     λ s inside same.
-    let asked : identity s ≡ (c.args.resource.now, c.in_ok-pointer_to.field-0) = same ∙ ap (λ ts. (c.args.resource.now, ts)) (sym c.in_ok-pointer_to.ensures.ok) in
+    let asked : identity s ≡ (c.args.resource.now, c.in_ok-pointer_to.field-0) = same ∙ ap (λ ts. (c.args.resource.now, ts)) (sym c.in_ok-pointer_to.ensures) in
     let found : option_map located_view None ≡ Some s = rw c.in-None.is at (c.in_ok-located.ensures.named s inside asked) in
     absurd (cc)

@@ -5,8 +5,8 @@ use Rattle.json_doc.specs.Members.{members_left}
 use Rattle.keyword_plans.proofs.Matching.{first_pattern, rest_patterns, some_match, matched-here, matched-past}
 use Rattle.keyword_plans.proofs.planning.matching.is_matched.Goals as goal
 
-pub returns-then-branch-clause-ok : goal.returns-then-branch-clause-ok
-returns-then-branch-clause-ok c s are =
+pub returns-then-branch : goal.returns-then-branch
+returns-then-branch c s are =
     let left = members_left c.loop-pattern.pattern-iterator in
     let p : Text × Value = (c.in-Some.pattern.now, value c.in-Some.field-0-1.now) in
     let rest = members_left c.next.new.self in
@@ -28,5 +28,5 @@ loop-pattern-preserved c =
           (c.loop-pattern.invariant.matches s are);
     }
 
-pub returns-clause-ok : goal.returns-clause-ok
-returns-clause-ok c s are = sym (c.loop-pattern.invariant.matches s are ∙ ap (some_match c.args.name.now) c.in-None.ensures.steps.0)
+pub returns : goal.returns
+returns c s are = sym (c.loop-pattern.invariant.matches s are ∙ ap (some_match c.args.name.now) c.in-None.ensures.steps.0)

@@ -10,8 +10,8 @@ pub loop-name-preserved : goal.loop-name-preserved
 loop-name-preserved c a k s are =
     let ps = members_value c.args.patterns.now in
     grown (map (planned_view k a) c.loop-name.planned.items) _ _ _ (planned_pattern k a ps (members_left c.next.new.self)) _
-    (c.in_ok-push_matches.ensures.ok a k s are) (ap (planned_pattern k a ps) c.in-Some.ensures.steps) (c.loop-name.invariant a k s are)
+    (c.in_ok-push_matches.ensures a k s are) (ap (planned_pattern k a ps) c.in-Some.ensures.steps) (c.loop-name.invariant a k s are)
 
-pub returns-clause-ok : goal.returns-clause-ok
-returns-clause-ok c a k s are =
+pub returns : goal.returns
+returns c a k s are =
     ended (map (planned_view k a) c.loop-name.planned.items) _ _ (ap (planned_pattern k a (members_value c.args.patterns.now)) c.in-None.ensures.steps.0) (c.loop-name.invariant a k s are)

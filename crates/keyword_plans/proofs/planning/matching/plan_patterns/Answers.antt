@@ -1,5 +1,5 @@
 use Rattle.std.proofs.Common.{◌∙◌, sym, ap, ap₂, map, subst}
-use Rattle.std.proofs.lemmas.Result.{IfOk-weaker}
+use Rattle.std.proofs.lemmas.Result.{on_ok_weaker}
 use Rattle.definitions.specs.Values.{members}
 use Rattle.json_doc.specs.Docs.{value}
 use Rattle.keyword_plans.specs.Applications.{ArePatternsOf, planned_pattern}
@@ -7,13 +7,13 @@ use Rattle.keyword_plans.specs.Plans.{planned_view}
 use Rattle.keyword_plans.proofs.Patterns.{site_patterns, matched-none}
 use Rattle.keyword_plans.proofs.planning.matching.plan_patterns.Goals as goal
 
-pub returns-in-Some-members-clause-ok : goal.returns-in-Some-members-clause-ok
-returns-in-Some-members-clause-ok c a k shows e =
-    let are = subst (ArePatternsOf c.args.site.linked.now a.schema) (sym c.in-Some.ensures) (site_patterns c.args.site a (value c.args.schemas.now) shows e) in
+pub returns-in-Some-members : goal.returns-in-Some-members
+returns-in-Some-members c a k shows e =
+    let are = subst (ArePatternsOf c.args.site.now.linked.now a.schema) (sym c.in-Some.ensures) (site_patterns c.args.site.now a (value c.args.schemas.now) shows e) in
     let all = ap₂ (planned_pattern k a) c.in-Some.ensures (c.in-Some-members.ensures ∙ ap members (sym shows.instance)) in
-    IfOk-weaker c.plan_matched.result _ _ (λ ps d. d ∙ all) (c.plan_matched.ensures.ok a k a.schema are)
+    on_ok_weaker c.plan_matched.result (λ d. d ∙ all) (c.plan_matched.ensures a k a.schema are)
 
-pub returns-in-None-clause-ok : goal.returns-in-None-clause-ok
-returns-in-None-clause-ok c a k shows e =
-    ap (map (planned_view k a)) c.new-in-None.ensures.items
+pub returns-in-None : goal.returns-in-None
+returns-in-None c a k shows e =
+    ap (map (planned_view k a)) c.requires
     ∙ sym (ap (λ ps. planned_pattern k a ps (members a.instance)) (sym c.in-None.ensures) ∙ matched-none k a (members a.instance))

@@ -43,7 +43,7 @@ loop-pattern-preserved c =
           (c.loop-pattern.invariant.planned a k s are);
     }
 
-pub returns-clause-ok : goal.returns-clause-ok
-returns-clause-ok c a k s are =
+pub returns : goal.returns
+returns c a k s are =
     ended (map (planned_view k a) c.loop-pattern.planned.items) _ _
     (ap (planned_matches k a c.args.name.now (value c.args.member.now)) c.in-None.ensures.steps.0) (c.loop-pattern.invariant.planned a k s are)

@@ -9,4 +9,4 @@ use Rattle.keyword_plans.proofs.planning.members.plan_members.Goals as goal
 pub returns-in-None : goal.returns-in-None
 returns-in-None c a k same =
     let none = sym c.members.ensures ∙ ap (λ (o : Option (Bor Members)). unwrap_or (option_map (λ m. members_value m.now) o) []) c.in-None.is in
-    ap (map (planned_view k a)) c.new.ensures.items ∙ sym (without_members k a (members_value c.args.schemas.now) (ap members same ∙ none))
+    ap (map (planned_view k a)) c.requires ∙ sym (without_members k a (members_value c.args.schemas.now) (ap members same ∙ none))

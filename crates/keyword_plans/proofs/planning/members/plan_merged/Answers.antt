@@ -10,7 +10,6 @@ use Rattle.keyword_plans.proofs.Merging.{still_left, still-all}
 use Rattle.keyword_plans.proofs.SharedNames.{past-schema, past-member, of-both, no_schemas}
 use Rattle.keyword_plans.proofs.Unevaluated.{skipped}
 use Rattle.keyword_plans.proofs.planning.members.plan_merged.Goals as goal
-use Rattle.keyword_plans.proofs.planning.members.plan_merged.Goals.{in_default, in_default-2}
 
 pub names-preserved-in-Less : goal.names-preserved-in-Less
 names-preserved-in-Less c =
@@ -76,14 +75,8 @@ names-preserved c =
           (c.names.invariant.planned a k);
     }
 
-pub returns : goal.returns
-returns c a k =
-    let done = map (planned_view k a) c.names.planned.items in
-    let schemas = still_left c.names.first_schema c.names.other_schemas in
+pub returns-in_default-2 : goal.returns-in_default-2
+returns-in_default-2 c a k =
     let members = still_left c.names.first_member c.names.other_members in
-    elim c.match-first_schema.branch [
-      | in_default w ↦ ended done _ _ (ap (λ o. planned_at_names k a schemas (still_left o c.names.other_members)) w.in_default.is-1) (c.names.invariant.planned a k)
-      | in_default-2 w ↦
-          ended done _ _ (ap (λ o. planned_at_names k a (still_left o c.names.other_schemas) members) w.in_default.is-0 ∙ no_schemas k a members)
-          (c.names.invariant.planned a k)
-    ]
+    ended (map (planned_view k a) c.names.planned.items) _ _ (ap (λ o. planned_at_names k a (still_left o c.names.other_schemas) members) c.in_default.is-0 ∙ no_schemas k a members)
+    (c.names.invariant.planned a k)

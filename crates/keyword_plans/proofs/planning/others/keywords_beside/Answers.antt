@@ -6,5 +6,5 @@ returns-clause-beside c a shows =
     record {
       properties = c.members_beside.ensures a shows.schema;
       patterns = c.members_beside-2.ensures a shows.schema;
-      inside = patterns_beside c.args.site a shows;
+      inside = patterns_beside c.args.site.now a shows;
     }

@@ -15,7 +15,7 @@ loop-name-preserved-in_ok-push c a k stands =
     let l = c.args.beside.linked.now in
     let v = value c.args.schema.now in
     let rest = members_left c.next.new.self in
-    let free : is_taken (linked_rules l) a c.in-Some.name.now ≡ false = sym (c.in_ok-is_taken.ensures.ok a stands) ∙ c.if-not-branch.true in
+    let free : is_taken (linked_rules l) a c.in-Some.name.now ≡ false = sym (c.in_ok-is_taken.ensures a stands) ∙ c.if-not-branch.true in
     grown (map (planned_view k a) c.loop-name.planned.items) _ _ _ (planned_others l k a v rest) _
     (ap (map (planned_view k a)) c.in_ok-push.ensures.items ∙ map-append (planned_view k a) c.loop-name.planned.items _)
     (ap (planned_others l k a v) c.in-Some.ensures.steps ∙ others-here l k a v c.in-Some.name.now (value c.in-Some.member.now) rest free)

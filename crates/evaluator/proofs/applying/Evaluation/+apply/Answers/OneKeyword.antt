@@ -115,8 +115,8 @@ use_keyword-returns-in-Ok-clause-noted t c a at knows got =
     (λ at number passing e. c.finish_keyword.ensures.noted a left names indexes older at number passing c.mark-mark.ensures e) in
     finished finishing finds.number finds.passing noted
 
-pub use_keyword-returns-clause-err : goal.use_keyword-returns-clause-err
-use_keyword-returns-clause-err t c a at knows got other =
+pub use_keyword-returns-in-Err-clause-err : goal.use_keyword-returns-in-Err-clause-err
+use_keyword-returns-in-Err-clause-err t c a at knows got other =
     let old = c.args.self.now in
     let l = old.linked.now in
     let left = c.args.nesting in

@@ -267,7 +267,8 @@ fn is_unescaped_keyword(keyword: Keyword) -> bool
     true
 }
 
-fn are_plain_bytes(bytes: &[u8]) -> bool
+/// Whether the text stands as it is in a pointer, in its fragment and in a string.
+pub(crate) fn are_plain_bytes(bytes: &[u8]) -> bool
     ensures { result ≡ list_all is_plain bytes.now }
 {
     let mut plain = true;

@@ -105,13 +105,14 @@ pub(crate) struct Said<'s> {
     said: &'s str,
 }
 
-/// What a unit says, where it is a string that stands as it is.
+/// What a unit says, where it is a string that stands as it is, or no names.
 #[inline(always)]
 pub(crate) fn plain_said<'s>(says: Says<'s, 's>) -> Option<Said<'s>>
     ensures { IfSome result (λ said. IsSaid said (text (says_value says.entry))) }
 {
     match says {
         Says::NotMet(keyword) => Some(not_met(keyword)),
+        Says::Names(names) if names.is_empty() => Some(written_said("[]")),
         Says::Value(doc) => plain_string(doc.as_str()?),
         _ => None,
     }

@@ -1,5 +1,5 @@
 -- Laws of notes: what is put last, put at a mark, and cut off; and of the texts of units.
-use Rattle.std.proofs.Common.{◌≡◌, ◌+◌, ◌||◌, ℕ, List, [], ◌∷◌, ◌++◌, Bool, true, length, map, flat_map, take, drop, refl, sym, ap, ◌∙◌, append-nil, append_assoc, arith}
+use Rattle.std.proofs.Common.{◌≡◌, ◌+◌, ◌||◌, ℕ, List, [], ◌∷◌, ◌++◌, Bool, true, false, length, map, flat_map, take, drop, refl, sym, ap, ◌∙◌, append-nil, append_assoc, arith}
 use Rattle.std.proofs.Math.Bool.{or-false, or_assoc}
 use Rattle.std.proofs.Math.Seq.{take-append_seam, drop-append_seam}
 use Rattle.std.proofs.lemmas.List.{map-append}
@@ -104,12 +104,19 @@ error_after n mid t e =
     ap (λ (m : Notes). notes_of_both m (record no_notes { errors = t ∷ [] })) e ∙ added_twice n one_application (record no_notes { errors = t ∷ [] })
 
 -- ---- a schema that was not applied
-pub unapplied_after : (n mid : Notes) (looped deep : Bool) → mid ≡ notes_of_both n one_application
-    → record mid { tally = record mid.tally { looped = mid.tally.looped || looped; deep = mid.tally.deep || deep } } ≡ notes_of_both n (outcome_notes (leaf looped deep))
+or_true : (b : Bool) → true ≡ b || true
+or_true true = refl
+or_true false = refl
+
+pub looped_after : (n mid : Notes) → mid ≡ notes_of_both n one_application → record mid { tally = record mid.tally { looped = true } } ≡ notes_of_both n (outcome_notes (leaf true false))
 unfolding notes_of_both
-unapplied_after n mid looped deep e =
-    ap (λ (m : Notes). record m { tally = record m.tally { looped = m.tally.looped || looped; deep = m.tally.deep || deep } }) e
-    ∙ same_notes refl refl refl refl (same_tallies refl (ap (λ b. b || looped) (or-false n.tally.looped)) (ap (λ b. b || deep) (or-false n.tally.deep)))
+looped_after n mid e =
+    ap (λ (m : Notes). record m { tally = record m.tally { looped = true } }) e ∙ same_notes refl refl refl refl (same_tallies refl (or_true n.tally.looped) refl)
+
+pub deep_after : (n mid : Notes) → mid ≡ notes_of_both n one_application → record mid { tally = record mid.tally { deep = true } } ≡ notes_of_both n (outcome_notes (leaf false true))
+unfolding notes_of_both
+deep_after n mid e =
+    ap (λ (m : Notes). record m { tally = record m.tally { deep = true } }) e ∙ same_notes refl refl refl refl (same_tallies refl refl (or_true n.tally.deep))
 
 -- ---- annotations alone
 abbrev pub annotated : List OutputUnit → Notes

@@ -100,7 +100,7 @@ impl<'a> Evaluation<'a> {
         ensures err { IfErr result (λ h. h ≡ Halt.NoRoom) }
     {
         if nesting == 0 {
-            self.log.count_unapplied(false, true);
+            self.log.count_too_deep();
             return Ok(false);
         }
         self.note_boolean(allowed)?;
@@ -147,11 +147,11 @@ impl<'a> Evaluation<'a> {
             (linked_outcome self.old.linked.now nesting a))) }
     {
         if self.is_looping(present.schema) {
-            self.log.count_unapplied(true, false);
+            self.log.count_loop();
             return Ok(false);
         }
         if nesting == 0 {
-            self.log.count_unapplied(false, true);
+            self.log.count_too_deep();
             return Ok(false);
         }
         self.apply_object(present, subject, nesting - 1)

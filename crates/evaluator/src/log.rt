@@ -154,16 +154,24 @@ impl<'a> Log<'a> {
         self.count += 1;
     }
 
-    /// One more schema that was not applied, since it is being applied at this instance location, or else since the
-    /// applications nest too deep.
-    pub(crate) fn count_unapplied(&mut self, looped: bool, deep: bool)
+    /// One more schema that was not applied, since it is being applied at this instance location.
+    pub(crate) fn count_loop(&mut self)
         requires room { self.old.count < limits.applications }
         ensures { log_view self.new
-            ≡ notes_of_both (log_view self.old) (outcome_notes (leaf looped deep)) }
+            ≡ notes_of_both (log_view self.old) (outcome_notes (leaf true false)) }
     {
         self.count_one();
-        self.looped |= looped;
-        self.deep |= deep;
+        self.looped = true;
+    }
+
+    /// One more schema that was not applied, since the applications nest too deep.
+    pub(crate) fn count_too_deep(&mut self)
+        requires room { self.old.count < limits.applications }
+        ensures { log_view self.new
+            ≡ notes_of_both (log_view self.old) (outcome_notes (leaf false true)) }
+    {
+        self.count_one();
+        self.deep = true;
     }
 
     /// Puts an error last. The only error is want of memory.

@@ -12,6 +12,7 @@ ghost use Rattle.definitions.specs.Applied.{Application, beside, is_taken};
 ghost use Rattle.json_doc.specs.Docs.{value, members_value};
 ghost use Rattle.keyword_plans.specs.Applications.{ArePatternsOf, planned_others, planned_unnamed};
 ghost use Rattle.keyword_plans.specs.Beside.{StandsBeside};
+ghost use Rattle.keywords.specs.Rows.{row_of};
 ghost use Rattle.keyword_plans.specs.Plans.{planned_view};
 ghost use Rattle.keyword_plans.specs.Sites.{Shows, linked_rules};
 
@@ -21,6 +22,7 @@ use crate::planning::members::FAR_LONGER;
 use crate::site::Site;
 use crate::subject::{Subject, members_of};
 use json_doc::{Doc, Members, compare_names};
+use keywords::Keyword;
 use linker::Linked;
 use std::alloc::{AllocError, Global};
 use std::cmp::Ordering;
@@ -57,17 +59,17 @@ fn keywords_beside<'a>(site: &Site<'a>) -> PropertyKeywords<'a>
 {
     PropertyKeywords {
         linked: site.linked,
-        properties: members_beside(site.schema, "properties"),
-        patterns: members_beside(site.schema, "patternProperties"),
+        properties: members_beside(site.schema, Keyword::Properties),
+        patterns: members_beside(site.schema, Keyword::PatternProperties),
     }
 }
 
-fn members_beside<'a>(schema: &'a Doc, keyword: &str) -> Option<&'a Members>
+fn members_beside<'a>(schema: &'a Doc, keyword: Keyword) -> Option<&'a Members>
     ensures { (a : Application) → a.schema.value ≡ value schema.now
         → unwrap_or (option_map (λ m. members_value m.now) result) []
-        ≡ members (beside a keyword.now) }
+        ≡ members (beside a (row_of keyword).name) }
 {
-    match schema.get(keyword) {
+    match schema.keyword_value(keyword) {
         Some(doc) => members_of(doc),
         None => None,
     }

@@ -10,7 +10,7 @@ returns-then-nesting-eq0-clause-valid c a = ap (λ (o : Outcome). o.valid) (deep
 
 pub returns-then-nesting-eq0-clause-noted : goal.returns-then-nesting-eq0-clause-noted
 returns-then-nesting-eq0-clause-noted c a s x e =
-    c.count_unapplied.ensures ∙ ap (λ (o : Outcome). notes_of_both (log_view c.args.self.now.log) (outcome_notes o)) (deep_boolean c.args.nesting a c.args.allowed c.if-nesting-eq0.true)
+    c.count_too_deep.ensures ∙ ap (λ (o : Outcome). notes_of_both (log_view c.args.self.now.log) (outcome_notes o)) (deep_boolean c.args.nesting a c.args.allowed c.if-nesting-eq0.true)
 
 pub returns-clause-valid : goal.returns-clause-valid
 returns-clause-valid c a = ap (λ (o : Outcome). o.valid) (shallow_boolean c.args.nesting a c.args.allowed c.if-nesting-eq0.false)

@@ -83,7 +83,7 @@ apply_other-returns-then-is_looping-clause-valid t c a at =
 pub apply_other-returns-then-is_looping-clause-noted : goal.apply_other-returns-then-is_looping-clause-noted
 apply_other-returns-then-is_looping-clause-noted t c a at =
     let running : is_running a ≡ true = ap is_running at.there ∙ sym (c.is_looping.ensures (subject_value c.args.subject)) ∙ c.if-is_looping.true in
-    rw (outcome-running (linked_rules c.args.self.now.linked.now) c.args.nesting a running) c.count_unapplied.ensures
+    rw (outcome-running (linked_rules c.args.self.now.linked.now) c.args.nesting a running) c.count_loop.ensures
 
 pub apply_other-returns-then-nesting-eq0-clause-valid : goal.apply_other-returns-then-nesting-eq0-clause-valid
 apply_other-returns-then-nesting-eq0-clause-valid t c a at =
@@ -93,7 +93,7 @@ apply_other-returns-then-nesting-eq0-clause-valid t c a at =
 pub apply_other-returns-then-nesting-eq0-clause-noted : goal.apply_other-returns-then-nesting-eq0-clause-noted
 apply_other-returns-then-nesting-eq0-clause-noted t c a at =
     let running : is_running a ≡ false = ap is_running at.there ∙ sym (c.is_looping.ensures (subject_value c.args.subject)) ∙ c.if-is_looping.false in
-    rw (outcome-zero (linked_rules c.args.self.now.linked.now) c.args.nesting a running c.if-nesting-eq0.true) c.count_unapplied-then-nesting-eq0.ensures
+    rw (outcome-zero (linked_rules c.args.self.now.linked.now) c.args.nesting a running c.if-nesting-eq0.true) c.count_too_deep.ensures
 
 pub apply_other-returns-clause-valid : goal.apply_other-returns-clause-valid
 apply_other-returns-clause-valid t c a at =

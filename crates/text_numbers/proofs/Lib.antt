@@ -1,0 +1,4 @@
+pub mod Members
+pub mod Sameness
+pub mod Telling
+pub mod TreeViews

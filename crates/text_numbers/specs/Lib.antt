@@ -1,0 +1,4 @@
+pub mod Places
+pub mod Turns
+pub mod Trees
+pub mod TextNumbers

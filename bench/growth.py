@@ -34,6 +34,17 @@ def long_reference(n):
     return {"items": {"$ref": f"#/$defs/{name}"}, "$defs": {name: True}}, [0] * n
 
 
+def unlike_references(n):
+    names_of_two = ["d" * n + last for last in "ab"]
+    each = [{"$ref": f"#/$defs/{name}"} for name in names_of_two]
+    return {"items": {"allOf": each}, "$defs": {name: True for name in names_of_two}}, [0] * n
+
+
+def long_resource(n):
+    inner = {"$id": "i/" * (n // 2), "$ref": "#/$defs/x", "$defs": {"x": True}}
+    return {"items": {"$ref": "#/$defs/e"}, "$defs": {"e": inner}}, [0] * n
+
+
 def long_identifier(n):
     # It applies something, since a schema object that only asserts isn't entered where it holds.
     return {"items": {"$id": "i/" * (n // 2), "allOf": [{"type": "integer"}]}}, [0] * n
@@ -89,6 +100,8 @@ def linked_anchors(n):
 # Each with the n that it begins with.
 ROWS = {
     "a reference of n bytes, followed n times": (long_reference, 1_000),
+    "two references of n bytes that differ in the last": (unlike_references, 1_000),
+    "a reference in a resource with a URI of n bytes": (long_resource, 1_000),
     "an $id of n bytes, entered n times": (long_identifier, 1_000),
     "$dynamicRef with n resources in scope, 10 n times": (dynamic, 100),
     "n names that are ignored, 4 n times": (ignored, 400),

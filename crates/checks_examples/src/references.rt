@@ -4,7 +4,7 @@ use crate::documents::listed;
 use crate::texts::{URI, answer};
 use keyword_plans::FollowedReferences;
 use linker::{Linked, link};
-use std::alloc::Global;
+use std::alloc::{AllocError, Global};
 use std::test::Fail;
 
 // Eighteen references, each of which names the schema of one number: all of them in turn, and then all of them again.
@@ -62,6 +62,43 @@ fn references_name_the_same_again(rt: HostRuntime) -> Result<(), Fail> {
     Ok(())
 }
 
+// A schema of so many references, each of which names the schema of one number: all of them in turn, and then all of them again;
+// and an instance that has these numbers, in the second turn with this one in place of the first.
+fn turns(alloc: Global, count: usize, first: usize) -> Result<(String, String), AllocError> {
+    let mut schema = String::from_str(alloc, r#"{"$defs":{"x":true"#)?;
+    for number in 0..count {
+        schema.push_str(format!(in alloc; ",\"{number}\":{{\"const\":{number}}}")?.as_str())?;
+    }
+    schema.push_str(r##"},"prefixItems":[{"$ref":"#/$defs/x"}"##)?;
+    let mut instance = String::from_str(alloc, "[0")?;
+    for number in 0..2 * count {
+        let named = number % count;
+        schema.push_str(format!(in alloc; ",{{\"$ref\":\"#/$defs/{named}\"}}")?.as_str())?;
+        let given = if number == count { first } else { named };
+        instance.push_str(format!(in alloc; ",{given}")?.as_str())?;
+    }
+    schema.push_str("]}")?;
+    instance.push_str("]")?;
+    Ok((schema, instance))
+}
+
+#[test]
+fn many_references_name_their_own(rt: HostRuntime) -> Result<(), Fail> {
+    let (schema, instance) = turns(rt.alloc(), 130, 0)?;
+    let found = answer(rt.alloc(), URI, schema.as_str(), instance.as_str())?;
+    assert_eq!(rt; found.as_str(), ALL_HOLD);
+    let (schema, instance) = turns(rt.alloc(), 130, 64)?;
+    let found = answer(rt.alloc(), URI, schema.as_str(), instance.as_str())?;
+    assert_eq!(rt; found.as_str(), FIRST_FAILS);
+    Ok(())
+}
+
+const ALL_HOLD: &str =
+    r##"{"annotations":[{"absoluteKeywordLocation":"https://ex.org/s#/prefixItems","annotation":true,"instanceLocation":"","keywordLocation":"/prefixItems"}],"valid":true}"##;
+
+const FIRST_FAILS: &str =
+    r##"{"errors":[{"absoluteKeywordLocation":"https://ex.org/s#/prefixItems","error":"prefixItems is not met","instanceLocation":"","keywordLocation":"/prefixItems"},{"absoluteKeywordLocation":"https://ex.org/s#/prefixItems/131/$ref","error":"$ref is not met","instanceLocation":"/131","keywordLocation":"/prefixItems/131/$ref"},{"absoluteKeywordLocation":"https://ex.org/s#/$defs/0/const","error":"const is not met","instanceLocation":"/131","keywordLocation":"/prefixItems/131/$ref/const"}],"valid":false}"##;
+
 // The URI of a resource, the text of a reference in it, and the resource and the number of steps of what it names.
 const NAMED: &[(&str, &str, Option<(&str, usize)>)] = &[
     (URI, "#/$defs/x", Some((URI, 2))),
@@ -70,7 +107,7 @@ const NAMED: &[(&str, &str, Option<(&str, usize)>)] = &[
         "#/$defs/x",
         Some(("https://ex.org/e", 2)),
     ),
-    (URI, "#/$defs/y", None),
+    (URI, "#/$defs/e", Some(("https://ex.org/e", 0))),
     (URI, "e", Some(("https://ex.org/e", 0))),
 ];
 

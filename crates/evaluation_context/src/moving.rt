@@ -1,7 +1,7 @@
 //! From a keyword to what it applies, and back.
 
-ghost use Rattle.std.specs.Prelude.{◌≡◌, ◌++◌, [], true, false, IfOk, IfErr, OnOk, Contains, codes, option_map};
-ghost use Rattle.definitions.specs.Values.{Text};
+ghost use Rattle.std.specs.Prelude.{◌≡◌, ◌++◌, [], true, false, IfOk, IfErr, OnOk, Contains, Some, codes, option_map};
+ghost use Rattle.definitions.specs.Values.{Text, text_at};
 ghost use Rattle.definitions.specs.Resolution.{target_uri};
 ghost use Rattle.definitions.specs.Schemas.{Schema, schema_at};
 ghost use Rattle.definitions.specs.Uris.{without_fragment};
@@ -191,6 +191,7 @@ fn resource_opened<'a>(
 ) -> Result<&'a str, AllocError>
     ensures { (s : Schema) → Contains (linked_schemas linked.entry.now) s → s.pointer ≡ []
         → s.resource ≡ without_fragment (target_uri around.now id.now)
+        → text_at (codes "$id") s.value ≡ Some id.now
         → IfOk result (λ uri. uri.now ≡ s.resource) }
 {
     match linked.resource_opened(alloc, around, id) {

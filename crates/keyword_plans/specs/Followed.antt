@@ -1,12 +1,14 @@
 -- References that were followed, and what they name.
-use Rattle.std.specs.Prelude.{◌≡◌, List, Option, option_map}
+use Rattle.std.specs.Prelude.{◌≡◌, Contains, List, Option, Some, option_map}
 use Rattle.definitions.specs.Resolution.{target_uri}
 use Rattle.definitions.specs.Schemas.{Schema}
 use Rattle.definitions.specs.Targets.{target, dynamic_target}
 use Rattle.definitions.specs.Values.{Text}
 use Rattle.linker.specs.DynamicTargets.{target_by_anchor}
 use Rattle.linker.specs.LinkedDocuments.{linked_schemas}
+use Rattle.linker.specs.ReferenceNumbers.{reference_pair}
 use Rattle.linker.specs.declared.linked.Linked.{Linked}
+use Rattle.schema_index.specs.ReferenceTexts.{HasReference}
 use Rattle.json_doc.specs.Docs.{value}
 use Rattle.basic_output.specs.PointerViews.{origin_view}
 use Rattle.keyword_plans.specs.declared.target.Target.{Target}
@@ -28,4 +30,10 @@ IsNamed table text n =
 
 -- what is kept of the reference is what it names in these documents
 abbrev pub IsFollowed : Linked → FollowedReference → Type 0
-IsFollowed l f = IsNamed (linked_schemas l) (target_uri f.resource.now f.reference.now) f.named
+IsFollowed l f = (resource text : Text) → reference_pair l f.number ≡ Some (resource, text) → IsNamed (linked_schemas l) (target_uri resource text) f.named
+
+-- this schema of the documents stands in the resource of this URI, and has the reference
+pub record Refers (l : Linked) (s : Schema) (uri text : Text) : Type 0 where
+  pub inside : Contains (linked_schemas l) s
+  pub resource : s.resource ≡ uri
+  pub has : HasReference s text

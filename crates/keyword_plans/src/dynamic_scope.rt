@@ -9,7 +9,7 @@ ghost use Rattle.definitions.specs.Targets.{dynamic_target, outermost, schema_wi
 ghost use Rattle.definitions.specs.Values.{Text};
 ghost use Rattle.linker.specs.LinkedDocuments.{linked_schemas};
 ghost use Rattle.linker.specs.declared.linked.Linked.{Linked};
-ghost use Rattle.keyword_plans.specs.Followed.{followed_in_scope, target_view};
+ghost use Rattle.keyword_plans.specs.Followed.{Refers, followed_in_scope, target_view};
 ghost use Rattle.keyword_plans.specs.FollowedIn.{followed_in};
 ghost use Rattle.keyword_plans.specs.Searched.{IsSearched};
 ghost use Rattle.keyword_plans.specs.ValueSets.{value_set};
@@ -107,7 +107,7 @@ impl<'a> DynamicScope<'a> {
         }
     }
 
-    /// The schema that a reference names (section 8.2.3): the reference's text, and the URI of the resource that it stands in.
+    /// The schema that a reference of the documents' schemas names (section 8.2.3): the reference's text, and the URI of the resource that it stands in.
     /// The only error is want of memory.
     pub fn target(
         &mut self,
@@ -115,7 +115,8 @@ impl<'a> DynamicScope<'a> {
         resource: &'a str,
         reference: &'a str,
     ) -> Result<Option<Target<'a>>, AllocError>
-        ensures ok { IfOk result
+        ensures ok { (s : Schema)
+            → Refers (scope_documents self.old).now s resource.now reference.now → IfOk result
             (λ t. option_map target_view t ≡ target (linked_schemas (scope_documents self.old).now)
             (target_uri resource.now reference.now)) }
         ensures uris { scope_uris self.new ≡ scope_uris self.old }
@@ -124,14 +125,15 @@ impl<'a> DynamicScope<'a> {
         self.references.target(alloc, resource, reference)
     }
 
-    /// The schema that a dynamic reference names here (section 8.2.3.2). The only error is want of memory.
+    /// The schema that a dynamic reference of theirs names here (section 8.2.3.2). The only error is want of memory.
     pub fn dynamic_target(
         &mut self,
         alloc: Global,
         resource: &'a str,
         reference: &'a str,
     ) -> Result<Option<Target<'a>>, AllocError>
-        ensures ok { IfOk result
+        ensures ok { (s : Schema)
+            → Refers (scope_documents self.old).now s resource.now reference.now → IfOk result
             (λ t. option_map target_view t
             ≡ dynamic_target (linked_schemas (scope_documents self.old).now) (scope_uris self.old)
             (target_uri resource.now reference.now)) }

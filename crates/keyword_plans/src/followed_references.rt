@@ -1,6 +1,6 @@
 //! What the references that were followed last name.
 
-ghost use Rattle.std.specs.Prelude.{◌≡◌, ◌<◌, List, IfOk, IfErr, IfSome, option_map};
+ghost use Rattle.std.specs.Prelude.{◌≡◌, ◌<◌, List, Some, IfOk, IfErr, IfSome, option_map};
 ghost use Rattle.std.specs.List.{All};
 ghost use Rattle.std.proofs.Props.{props};
 ghost use Rattle.definitions.specs.Resolution.{target_uri};
@@ -8,15 +8,16 @@ ghost use Rattle.definitions.specs.Schemas.{Schema};
 ghost use Rattle.definitions.specs.Targets.{target};
 ghost use Rattle.definitions.specs.Values.{Text};
 ghost use Rattle.linker.specs.LinkedDocuments.{linked_schemas};
-ghost use Rattle.keyword_plans.specs.Followed.{IsFollowed, IsNamed, target_view};
+ghost use Rattle.linker.specs.ReferenceNumbers.{reference_pair};
+ghost use Rattle.keyword_plans.specs.Followed.{IsFollowed, IsNamed, Refers, target_view};
 ghost use Rattle.keyword_plans.specs.ValueSets.{value_set};
 
 use crate::target::Target;
-use linker::Linked;
+use linker::{Linked, ReferenceNumber};
 use std::alloc::{AllocError, Global};
 
 /// How many references are kept.
-const MOST_KEPT: usize = 16;
+const MOST_KEPT: usize = 64;
 
 /// What a reference names first (JSON Schema 2020-12 Core, 8.2.3).
 #[derive(Drop)]
@@ -27,26 +28,22 @@ pub(crate) struct Followed<'a> {
     pub(crate) anchor: Option<&'a str>,
 }
 
-/// A reference that was followed, by its text and the URI of the resource that it stands in, and what it names.
+/// A reference that was followed, by its number, and what it names.
 #[derive(Drop)]
 struct FollowedReference<'a> {
-    resource: &'a str,
-    reference: &'a str,
+    number: ReferenceNumber,
     named: Option<Followed<'a>>,
 }
 
-/// What the references that were followed last in an evaluation name: sixteen at most, of which the one that was kept first
-/// gives way to the next.
+/// What the references that were followed in an evaluation name: sixty-four at most, each in the place that the number of its
+/// text tells, of which the last that was followed there is kept.
 ///
 /// To follow one of them again takes no memory. Contracts see the documents that they stand in, by `followed_in`.
 #[derive(Drop)]
 pub struct FollowedReferences<'a> {
     linked: &'a Linked,
-    followed: Vec<FollowedReference<'a>>,
-    // Where the one stands that gives way, once there are as many as are kept.
-    oldest: usize,
-    ghost within: { oldest < 16 },
-    ghost right: { All (IsFollowed linked.now) followed.items } by { Prim.hlevel (props, value_set) },
+    followed: Vec<Option<FollowedReference<'a>>>,
+    ghost right: { All (λ o. IfSome o (IsFollowed linked.now)) followed.items } by { Prim.hlevel (props, value_set) },
 }
 
 impl<'a> FollowedReferences<'a> {
@@ -59,19 +56,19 @@ impl<'a> FollowedReferences<'a> {
         FollowedReferences {
             linked,
             followed: Vec::new(alloc),
-            oldest: 0,
         }
     }
 
-    /// The schema that a reference names (JSON Schema 2020-12 Core, section 8.2.3): the reference's text, and the URI of the
-    /// resource that it stands in. The only error is want of memory.
+    /// The schema that a reference of the documents' schemas names (JSON Schema 2020-12 Core, section 8.2.3): the reference's
+    /// text, and the URI of the resource that it stands in. The only error is want of memory.
     pub fn target(
         &mut self,
         alloc: Global,
         resource: &'a str,
         reference: &'a str,
     ) -> Result<Option<Target<'a>>, AllocError>
-        ensures ok { IfOk result
+        ensures ok { (s : Schema)
+            → Refers (followed_in self.old).now s resource.now reference.now → IfOk result
             (λ t. option_map target_view t ≡ target (linked_schemas (followed_in self.old).now)
             (target_uri resource.now reference.now)) }
         ensures linked { followed_in self.new ≡ followed_in self.old }
@@ -82,21 +79,24 @@ impl<'a> FollowedReferences<'a> {
         }
     }
 
-    /// What a reference names first, by its text and the URI of the resource that it stands in. The only error is want of
-    /// memory.
+    /// What a reference of the documents' schemas names first, by its text and the URI of the resource that it stands in. The
+    /// only error is want of memory.
     pub(crate) fn named(
         &mut self,
         alloc: Global,
         resource: &'a str,
         reference: &'a str,
     ) -> Result<Option<Followed<'a>>, AllocError>
-        ensures ok { IfOk result (λ n. IsNamed (linked_schemas (followed_in self.old).now)
+        ensures ok { (s : Schema)
+            → Refers (followed_in self.old).now s resource.now reference.now → IfOk result
+            (λ n. IsNamed (linked_schemas (followed_in self.old).now)
             (target_uri resource.now reference.now) n) }
         ensures linked { followed_in self.new ≡ followed_in self.old }
     {
-        match self.find(resource, reference) {
-            Some(followed) => Ok(again(&followed.named)?),
-            None => self.follow(alloc, resource, reference),
+        match self.linked.reference_number(resource, reference) {
+            Some(number) => self.numbered(alloc, number),
+            // Never: some schema has the reference.
+            None => named_first(alloc, self.linked, resource, reference),
         }
     }
 
@@ -107,56 +107,82 @@ impl<'a> FollowedReferences<'a> {
         self.linked
     }
 
-    // The one of this text in this resource, where it is kept.
-    fn find(&self, resource: &str, reference: &str) -> Option<&FollowedReference<'a>>
-        ensures { IfSome result (λ f. IsNamed (linked_schemas (followed_in self.now).now)
-            (target_uri resource.now reference.now) f.now.named) }
+    // What the reference of this number names first.
+    fn numbered(
+        &mut self,
+        alloc: Global,
+        number: ReferenceNumber,
+    ) -> Result<Option<Followed<'a>>, AllocError>
+        ensures ok { (resource text : Text)
+            → reference_pair (followed_in self.old).now number ≡ Some (resource, text)
+            → IfOk result (λ n. IsNamed (linked_schemas (followed_in self.old).now)
+            (target_uri resource text) n) }
+        ensures linked { followed_in self.new ≡ followed_in self.old }
     {
-        for followed in &self.followed {
-            // Most differ in their lengths, which are compared here without a call.
-            if followed.reference.len() == reference.len()
-                && followed.reference == reference
-                && followed.resource == resource
-            {
-                return Some(followed);
-            }
+        match self.find(number) {
+            Some(followed) => Ok(again(&followed.named)?),
+            None => self.follow(alloc, number),
         }
-        None
+    }
+
+    // The one of this number, where it is kept.
+    fn find(&self, number: ReferenceNumber) -> Option<&FollowedReference<'a>>
+        ensures { (resource text : Text)
+            → reference_pair (followed_in self.now).now number ≡ Some (resource, text)
+            → IfSome result (λ f. IsNamed (linked_schemas (followed_in self.now).now)
+            (target_uri resource text) f.now.named) }
+    {
+        match self.followed.get(place_of(number)) {
+            Some(Some(followed)) if followed.number.is(number) => Some(followed),
+            _ => None,
+        }
     }
 
     // One that isn't kept, which is kept from now on.
     fn follow(
         &mut self,
         alloc: Global,
-        resource: &'a str,
-        reference: &'a str,
+        number: ReferenceNumber,
     ) -> Result<Option<Followed<'a>>, AllocError>
-        ensures ok { IfOk result (λ n. IsNamed (linked_schemas (followed_in self.old).now)
-            (target_uri resource.now reference.now) n) }
+        ensures ok { (resource text : Text)
+            → reference_pair (followed_in self.old).now number ≡ Some (resource, text)
+            → IfOk result (λ n. IsNamed (linked_schemas (followed_in self.old).now)
+            (target_uri resource text) n) }
         ensures linked { followed_in self.new ≡ followed_in self.old }
     {
-        let named = named_first(alloc, self.linked, resource, reference)?;
-        self.keep(FollowedReference {
-            resource,
-            reference,
-            named: again(&named)?,
-        })?;
-        Ok(named)
+        match self.linked.reference(number) {
+            Some((resource, reference)) => {
+                let named = named_first(alloc, self.linked, resource, reference)?;
+                self.keep(FollowedReference {
+                    number,
+                    named: again(&named)?,
+                })?;
+                Ok(named)
+            }
+            // Never: the number is that of a reference.
+            None => Ok(None),
+        }
     }
 
-    // In place of the oldest, where there are as many as are kept.
+    // In the place of its number.
     fn keep(&mut self, followed: FollowedReference<'a>) -> Result<(), AllocError>
         requires { IsFollowed (followed_in self.old).now followed }
         ensures { followed_in self.new ≡ followed_in self.old }
     {
-        if self.followed.len() < MOST_KEPT {
-            self.followed.push(followed)?;
-        } else {
-            self.followed[self.oldest] = followed;
-            self.oldest = (self.oldest + 1) % MOST_KEPT;
+        let place = place_of(followed.number);
+        while self.followed.len() <= place {
+            self.followed.push(None)?;
         }
+        self.followed[place] = Some(followed);
         Ok(())
     }
+}
+
+// The place of a reference among those that are kept.
+fn place_of(number: ReferenceNumber) -> usize
+    ensures { result < 64 }
+{
+    number.text() % MOST_KEPT
 }
 
 // What the documents have under the reference.

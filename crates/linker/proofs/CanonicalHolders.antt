@@ -2,10 +2,12 @@
 use Rattle.std.proofs.Common.{◌≡◌, ◌≢◌, ℕ, ◌<◌, ◌≤◌, ◌&&◌, Bool, true, false, cond, String, string_bytes, List, [], ◌∷◌, Some, length, get_or, map, find, Contains, nat_lt, sym, refl, ap, ap₂, ◌∙◌, subst, inl, inr, arith}
 use Rattle.std.proofs.lemmas.Bool.{false_from_ne_true}
 use Rattle.std.proofs.lemmas.List.{length-map}
+use Rattle.std.proofs.lemmas.Option.{slice_get-get_or}
+use Rattle.std.specs.List.{slice_get}
 use Rattle.std.proofs.lemmas.List.Elements.{Contains-get_or}
 use Rattle.std.specs.Global.{Global}
 use Rattle.std.specs.declared.rc.Rc.{Rc}
-use Rattle.definitions.specs.Values.{Text, same_text}
+use Rattle.definitions.specs.Values.{Text, null, same_text}
 use Rattle.definitions.specs.Lists.{has_repeat}
 use Rattle.definitions.specs.Schemas.{Document, document_from, schemas_of}
 use Rattle.definitions.specs.Reach.{holds_resource}
@@ -13,12 +15,10 @@ use Rattle.definitions.specs.Documents.{resources_of, resource_uris_of}
 use Rattle.definition_laws.proofs.Membership.{nothing_in, is_first, is_later, first_or_later, found_there, found_some}
 use Rattle.definition_laws.proofs.Resources.{one_document, root_opens}
 use Rattle.definition_laws.proofs.StoredDocuments.{holds_itself}
-use Rattle.schema_scan.specs.CompiledDocuments.{compiled_view}
 use Rattle.schema_scan.specs.declared.compiled.Compiled.{Compiled}
 use Rattle.linker.specs.Positions.{StandsAt, IsGap}
 use Rattle.linker.specs.SharedDocuments.{shared_documents}
 use Rattle.linker.specs.Sources.{embeds}
-use Rattle.linker.proofs.Positions.{get_or-map}
 use Rattle.linker.specs.SoundLists.{shared_made}
 use borrow.Author.Tests.{ltb-false, lt-ltb, le-ltb}
 
@@ -34,16 +34,18 @@ first_holder ds uri d distinct c held =
     let there = found_there (holds_resource uri) ds some_one.0 some_one.1 in
     some_one.1 ∙ ap Some (one_document ds uri some_one.0 d distinct there.0 c there.1 held)
 
-pub standing_holder : (items : List (Rc Compiled Global)) (uri : Text) (at : ℕ) (d : Rc Compiled Global) → has_repeat same_text (resource_uris_of (shared_documents items)) ≡ false
-    → StandsAt (shared_documents items) uri at → d ≡ get_or items at d → find (holds_resource uri) (shared_documents items) ≡ Some (compiled_view d.value)
-unfolding shared_documents
-standing_holder items uri at d distinct stands is =
-    let own = compiled_view d.value in
-    let here : get_or (shared_documents items) at own ≡ own =
-    get_or-map (λ (x : Rc Compiled Global). compiled_view x.value) items at d ∙ ap (λ (x : Rc Compiled Global). compiled_view x.value) (sym is) in
-    let named : own.canonical ≡ uri = ap (λ (x : Document). x.canonical) (sym here) ∙ stands.named own in
-    let inside : Contains (shared_documents items) own = subst (Contains (shared_documents items)) here (Contains-get_or (shared_documents items) at own stands.inside) in
-    first_holder (shared_documents items) uri own distinct inside (ap (λ u. holds_resource u own) (sym named) ∙ own_resource own (shared_made items own inside))
+pub standing_number : (items : List (Rc Compiled Global)) (uri : Text) (at : ℕ) → has_repeat same_text (resource_uris_of (shared_documents items)) ≡ false
+    → StandsAt (shared_documents items) uri at → find (holds_resource uri) (shared_documents items) ≡ slice_get (shared_documents items) at
+standing_number items uri at distinct stands =
+    let ds = shared_documents items in
+    let own = get_or ds at (no_document uri) in
+    let named : own.canonical ≡ uri = stands.named (no_document uri) in
+    let inside : Contains ds own = Contains-get_or ds at (no_document uri) stands.inside in
+    first_holder ds uri own distinct inside (ap (λ u. holds_resource u own) (sym named) ∙ own_resource own (shared_made items own inside))
+    ∙ sym (slice_get-get_or ds at (no_document uri) stands.inside)
+  where
+    no_document : Text → Document
+    no_document uri = record { canonical = uri; base = uri; value = null }
 
 -- ---- where no document has it as its canonical URI
 one_alone : (ts : List Text) (t u : Text) → nat_lt 1 (length ts) ≡ false → Contains ts t → Contains ts u → t ≡ u

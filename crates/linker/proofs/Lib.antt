@@ -16,3 +16,4 @@ pub mod BothSources
 pub mod DynamicAnchors
 pub mod ShortArrays
 pub mod Distinct
+pub mod StandingSchemas

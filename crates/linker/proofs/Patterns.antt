@@ -54,8 +54,12 @@ table_pattern ds s text c k =
     let d : (d : Document) × (Contains ds d × Contains (schemas_of d.base d.value) s) = from_flat_map (λ d. schemas_of d.base d.value) s ds c in
     (d.0, (d.1.0, document_pattern d.0.base d.0.value s text d.1.1 k))
 
+-- a compiled document that stands for one with a pattern has it
+pub has_pattern : (x y : Compiled) (text : Text) → y ≡ x → (d : Document) → HasPattern d text → compiled_view x ≡ d → Contains (patterns (compiled_value y)) text
+unfolding HasPattern
+has_pattern x y text e d has same =
+    subst (λ (z : Compiled). Contains (patterns (compiled_value z)) text) (sym e) (subst (λ (f : Document). Contains (patterns f.value) text) (sym same) has)
+
 -- a compiled document that lacks a pattern means a document that does
 pub lacks_pattern : (x y : Compiled) (text : Text) → y ≡ x → (Contains (patterns (compiled_value y)) text → ⊥) → (d : Document) → HasPattern d text → compiled_view x ≡ d → ⊥
-unfolding HasPattern
-lacks_pattern x y text e none d has same =
-    none (subst (λ (z : Compiled). Contains (patterns (compiled_value z)) text) (sym e) (subst (λ (f : Document). Contains (patterns f.value) text) (sym same) has))
+lacks_pattern x y text e none d has same = none (has_pattern x y text e d has same)

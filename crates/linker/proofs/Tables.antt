@@ -56,20 +56,19 @@ find_in_one {X} f p x (y ∷ ys) alone c = elim (first_or_later y x ys c) [
 abbrev pub in_resource : Text → (Schema → Bool) → Schema → Bool
 in_resource uri test s = same_text uri s.resource && test s
 
--- a document without the resource has no schema in it
-pub unheld : (d : Document) (uri : Text) (test : Schema → Bool) → holds_resource uri d ≡ false → find (in_resource uri test) (schemas_of d.base d.value) ≡ None
-unheld d uri test e = found_none (in_resource uri test) schemas (λ s c. false_from_ne_true (in_resource uri test s) (λ passes.
-    true≢false (sym (held s c (and_parts (same_text uri s.resource) (test s) passes).0) ∙ e)))
-  where
-    schemas : List Schema
-    schemas = schemas_of d.base d.value
+-- a document holds the resources of its schemas
+pub resource_held : (d : Document) (uri : Text) (s : Schema) → Contains (schemas_of d.base d.value) s → same_text uri s.resource ≡ true → holds_resource uri d ≡ true
+resource_held d uri s c same =
+    let schemas = schemas_of d.base d.value in
+    let h = document_roots d.base d.value s (in_from_contains schemas s c) in
+    opened_is_root schemas uri h.root.resource
+    (in_map (λ (t : Schema). t.resource) h.root (filter is_root schemas) (in_filter is_root h.root schemas (contains_from_in schemas h.root h.held) (pointer_root h.root h.at_root)))
+    (ap (same_text uri) (sym h.resource) ∙ same)
 
-    held : (s : Schema) → Contains schemas s → same_text uri s.resource ≡ true → holds_resource uri d ≡ true
-    held s c same =
-        let h = document_roots d.base d.value s (in_from_contains schemas s c) in
-        opened_is_root schemas uri h.root.resource
-        (in_map (λ (t : Schema). t.resource) h.root (filter is_root schemas) (in_filter is_root h.root schemas (contains_from_in schemas h.root h.held) (pointer_root h.root h.at_root)))
-        (ap (same_text uri) (sym h.resource) ∙ same)
+-- and has no schema in another
+pub unheld : (d : Document) (uri : Text) (test : Schema → Bool) → holds_resource uri d ≡ false → find (in_resource uri test) (schemas_of d.base d.value) ≡ None
+unheld d uri test e = found_none (in_resource uri test) (schemas_of d.base d.value) (λ s c. false_from_ne_true (in_resource uri test s) (λ passes.
+    true≢false (sym (resource_held d uri s c (and_parts (same_text uri s.resource) (test s) passes).0) ∙ e)))
 
 -- ---- the document that holds the URI
 -- one of documents with distinct resource URIs

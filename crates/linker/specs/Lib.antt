@@ -11,3 +11,4 @@ pub mod Missing
 pub mod LinkFaults
 pub mod SoundLists
 pub mod Together
+pub mod ReferenceNumbers

@@ -1,6 +1,6 @@
 //! The document of a list that holds a resource.
 
-ghost use Rattle.std.specs.Prelude.{◌≡◌, false, find, option_map};
+ghost use Rattle.std.specs.Prelude.{◌≡◌, false, find, option_and_then, option_map, slice_get};
 ghost use Rattle.std.specs.List.{list_any};
 ghost use Rattle.definitions.specs.Documents.{Ascend};
 ghost use Rattle.definitions.specs.Lists.{has_repeat};
@@ -17,7 +17,7 @@ use crate::insertion::position;
 use schema_scan::Compiled;
 use std::rc::Rc;
 
-// The document with a resource of this URI: most often it is the document's canonical URI, so that is looked for first.
+// The document with a resource of this URI.
 pub(crate) fn holder<'a>(documents: &'a [Rc<Compiled>], uri: &str) -> Option<&'a Rc<Compiled>>
     requires ascend { Ascend (shared_documents documents.now) }
     requires distinct { has_repeat same_text
@@ -25,9 +25,21 @@ pub(crate) fn holder<'a>(documents: &'a [Rc<Compiled>], uri: &str) -> Option<&'a
     ensures { option_map (λ d. compiled_view d.now.value) result
         ≡ find (holds_resource uri.now) (shared_documents documents.now) }
 {
+    numbered(documents, holder_number(documents, uri))
+}
+
+// The number of the document with a resource of this URI: most often it is the document's canonical URI, so that is looked
+// for first.
+pub(crate) fn holder_number(documents: &[Rc<Compiled>], uri: &str) -> Option<usize>
+    requires ascend { Ascend (shared_documents documents.now) }
+    requires distinct { has_repeat same_text
+        (resource_uris (table_of (shared_documents documents.now))) ≡ false }
+    ensures { option_and_then (slice_get (shared_documents documents.now)) result
+        ≡ find (holds_resource uri.now) (shared_documents documents.now) }
+{
     match position(documents, uri) {
-        Ok(at) => Some(&documents[at]),
-        Err(_) => embedding(documents, uri),
+        Ok(at) => Some(at),
+        Err(_) => embedding_number(documents, uri),
     }
 }
 
@@ -36,7 +48,23 @@ fn embedding<'a>(documents: &'a [Rc<Compiled>], uri: &str) -> Option<&'a Rc<Comp
     ensures { option_map (λ d. compiled_view d.now.value) result
         ≡ find (embeds uri.now) (shared_documents documents.now) }
 {
-    documents.iter().find(|document| embeds(document, uri))
+    numbered(documents, embedding_number(documents, uri))
+}
+
+fn embedding_number(documents: &[Rc<Compiled>], uri: &str) -> Option<usize>
+    ensures { option_and_then (slice_get (shared_documents documents.now)) result
+        ≡ find (embeds uri.now) (shared_documents documents.now) }
+{
+    documents.iter().position(|document| embeds(document, uri))
+}
+
+// The document of this number.
+#[tactic(auto, unfolding(crate::specs::SharedDocuments::shared_documents))]
+fn numbered<'a>(documents: &'a [Rc<Compiled>], number: Option<usize>) -> Option<&'a Rc<Compiled>>
+    ensures { option_map (λ d. compiled_view d.now.value) result
+        ≡ option_and_then (slice_get (shared_documents documents.now)) number }
+{
+    documents.get(number?)
 }
 
 fn embeds(document: &Rc<Compiled>, uri: &str) -> bool

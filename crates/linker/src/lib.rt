@@ -13,6 +13,7 @@ mod list_holding;
 mod list_source;
 mod lookups;
 mod named;
+mod references;
 mod source;
 mod visiting;
 
@@ -23,4 +24,5 @@ pub use linked::Linked;
 pub use linking::link;
 pub use list_source::ListSource;
 pub use named::Named;
+pub use references::ReferenceNumber;
 pub use source::Source;

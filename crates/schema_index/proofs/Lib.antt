@@ -14,3 +14,4 @@ pub mod Owned
 pub mod Paired
 pub mod Readings
 pub mod Named
+pub mod Known

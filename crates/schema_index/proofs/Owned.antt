@@ -25,7 +25,7 @@ pub owned-canonical : (d : Indexed) → slice_get (gathered_uris d.gathered) 0 �
 unfolding indexed_base indexed_value
 owned-canonical d = ap (λ us. slice_get us 0) d.of_document.uris ∙ document-canonical (string_bytes d.base) (value d.document)
 
-owned-held : (d : Indexed) (uri : Text) → is_some (find (same_text uri) (gathered_uris d.gathered)) ≡ holds_resource uri (indexed_view d)
+pub owned-held : (d : Indexed) (uri : Text) → is_some (find (same_text uri) (gathered_uris d.gathered)) ≡ holds_resource uri (indexed_view d)
 unfolding indexed_base indexed_value
 owned-held d uri = ap (λ us. is_some (find (same_text uri) us)) d.of_document.uris ∙ sym (document-held (string_bytes d.base) (value d.document) uri)
 

@@ -3,6 +3,7 @@ use Rattle.std.specs.Prelude.{List, string_bytes}
 use Rattle.definitions.specs.Values.{Text, Value}
 use Rattle.definitions.specs.Schemas.{Schema, Document, document_from, schemas_of}
 use Rattle.json_doc.specs.Docs.{value}
+use Rattle.schema_index.specs.Gathering.{gathered_texts}
 use Rattle.schema_index.specs.declared.indexed.Indexed.{Indexed}
 
 unfoldable pub indexed_base : Indexed → Text
@@ -10,6 +11,10 @@ indexed_base d = string_bytes d.base
 
 unfoldable pub indexed_value : Indexed → Value
 indexed_value d = value d.document
+
+-- the texts of its schemas' references, in the order of a walk
+unfoldable pub indexed_texts : Indexed → List Text
+indexed_texts d = gathered_texts d.gathered
 
 -- its schemas, in the order of a walk
 abbrev pub indexed_schemas : Indexed → List Schema

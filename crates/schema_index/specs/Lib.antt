@@ -8,3 +8,4 @@ pub mod Lookups
 pub mod PairNumbers
 pub mod AnchorNumbers
 pub mod DynamicResources
+pub mod ReferenceTexts

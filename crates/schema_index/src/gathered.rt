@@ -5,7 +5,7 @@ ghost use Rattle.json_doc.specs.Docs.{value};
 ghost use Rattle.locations.specs.Hops.{step_hops};
 ghost use Rattle.schema_index.specs.Spots.{spot_in};
 ghost use Rattle.locations.specs.Ways.{owned_hops};
-ghost use Rattle.schema_index.specs.Gathering.{anchor_mark, marks, reference_under, references_at};
+ghost use Rattle.schema_index.specs.Gathering.{anchor_mark, identifier_at, marks, reference_under, references_at, text_under, texts_at};
 
 use crate::absolute_references::AbsoluteReferences;
 use crate::anchors::Anchor;
@@ -21,8 +21,12 @@ pub(crate) struct GatheredSchemas {
     pub(crate) uris: Vec<String>,
     /// The ways to their roots.
     pub(crate) ways: Vec<OwnedWay>,
+    /// The `$id` of each root, or no text.
+    pub(crate) identifiers: Vec<String>,
     /// The absolute references.
     pub(crate) references: Vec<String>,
+    /// The references as they stand.
+    pub(crate) texts: Vec<String>,
     /// The anchors.
     pub(crate) anchors: Vec<Anchor>,
     /// What the references, and the `$id`s, are read as.
@@ -30,27 +34,31 @@ pub(crate) struct GatheredSchemas {
 }
 
 impl GatheredSchemas {
-    ghost use Rattle.schema_index.specs.Gathering.{Gathers, gathered_uris, gathered_ways, gathered_references, gathered_marks};
+    ghost use Rattle.schema_index.specs.Gathering.{Gathers, gathered_uris, gathered_ways, gathered_identifiers, gathered_references, gathered_texts, gathered_marks};
 
     /// Nothing yet. This takes no memory.
-    #[tactic(auto, unfolding(crate::specs::Gathering::gathered_uris, crate::specs::Gathering::gathered_ways, crate::specs::Gathering::gathered_references, crate::specs::Gathering::gathered_marks))]
+    #[tactic(auto, unfolding(crate::specs::Gathering::gathered_uris, crate::specs::Gathering::gathered_ways, crate::specs::Gathering::gathered_identifiers, crate::specs::Gathering::gathered_references, crate::specs::Gathering::gathered_texts, crate::specs::Gathering::gathered_marks))]
     pub(crate) fn new(alloc: Global) -> GatheredSchemas
         ensures uris { gathered_uris result ≡ [] }
         ensures ways { gathered_ways result ≡ [] }
+        ensures identifiers { gathered_identifiers result ≡ [] }
         ensures references { gathered_references result ≡ [] }
+        ensures texts { gathered_texts result ≡ [] }
         ensures marks { gathered_marks result ≡ [] }
     {
         GatheredSchemas {
             uris: Vec::new(alloc),
             ways: Vec::new(alloc),
+            identifiers: Vec::new(alloc),
             references: Vec::new(alloc),
+            texts: Vec::new(alloc),
             anchors: Vec::new(alloc),
             read: AbsoluteReferences::new(alloc),
         }
     }
 
     /// Keeps what the `$id` of a schema is read as inside the resource around it.
-    #[tactic(auto, unfolding(crate::specs::Gathering::gathered_uris, crate::specs::Gathering::gathered_ways, crate::specs::Gathering::gathered_references, crate::specs::Gathering::gathered_marks))]
+    #[tactic(auto, unfolding(crate::specs::Gathering::gathered_uris, crate::specs::Gathering::gathered_ways, crate::specs::Gathering::gathered_identifiers, crate::specs::Gathering::gathered_references, crate::specs::Gathering::gathered_texts, crate::specs::Gathering::gathered_marks))]
     pub(crate) fn read_identifier(
         &mut self,
         alloc: Global,
@@ -77,8 +85,16 @@ impl GatheredSchemas {
     {
         if way.len() <= start {
             push_root(alloc, &mut self.uris, &mut self.ways, uri, way)?;
+            push_identifier(alloc, &mut self.identifiers, schema)?;
         }
-        push_references(alloc, &mut self.references, &mut self.read, uri, schema)?;
+        push_references(
+            alloc,
+            &mut self.references,
+            &mut self.texts,
+            &mut self.read,
+            uri,
+            schema,
+        )?;
         push_anchors(alloc, &mut self.anchors, uri, start, way, schema)?;
         Ok(())
     }
@@ -103,36 +119,58 @@ fn push_root(
     Ok(())
 }
 
-// Appends the absolute references of a schema inside this base.
-#[tactic(auto, unfolding(crate::specs::Gathering::references_at))]
+// Appends a root's `$id`, or no text.
+#[tactic(auto, unfolding(crate::specs::Gathering::identifier_at))]
+fn push_identifier(
+    alloc: Global,
+    identifiers: &mut Vec<String>,
+    schema: &Doc,
+) -> Result<(), AllocError>
+    ensures { OnOk result (map string_bytes identifiers.new.items
+        ≡ map string_bytes identifiers.old.items ++ identifier_at (value schema.now) ∷ []) }
+{
+    let identifier = schema.text_at("$id").unwrap_or("");
+    identifiers.push(String::from_str(alloc, identifier)?)?;
+    Ok(())
+}
+
+// Appends the references of a schema, absolute inside this base and as they stand.
+#[tactic(auto, unfolding(crate::specs::Gathering::references_at, crate::specs::Gathering::texts_at))]
 fn push_references(
     alloc: Global,
     references: &mut Vec<String>,
+    texts: &mut Vec<String>,
     read: &mut AbsoluteReferences,
     base: &str,
     schema: &Doc,
 ) -> Result<(), AllocError>
-    ensures { OnOk result (map string_bytes references.new.items
+    ensures references { OnOk result (map string_bytes references.new.items
         ≡ map string_bytes references.old.items ++ references_at base.now (value schema.now)) }
+    ensures texts { OnOk result (map string_bytes texts.new.items
+        ≡ map string_bytes texts.old.items ++ texts_at (value schema.now)) }
 {
-    push_reference(alloc, references, read, "$ref", base, schema)?;
-    push_reference(alloc, references, read, "$dynamicRef", base, schema)
+    push_reference(alloc, references, texts, read, "$ref", base, schema)?;
+    push_reference(alloc, references, texts, read, "$dynamicRef", base, schema)
 }
 
 fn push_reference(
     alloc: Global,
     references: &mut Vec<String>,
+    texts: &mut Vec<String>,
     read: &mut AbsoluteReferences,
     keyword: &str,
     base: &str,
     schema: &Doc,
 ) -> Result<(), AllocError>
-    ensures { OnOk result (map string_bytes references.new.items
+    ensures references { OnOk result (map string_bytes references.new.items
         ≡ map string_bytes references.old.items
         ++ reference_under keyword.now base.now (value schema.now)) }
+    ensures texts { OnOk result (map string_bytes texts.new.items
+        ≡ map string_bytes texts.old.items ++ text_under keyword.now (value schema.now)) }
 {
     if let Some(reference) = schema.text_at(keyword) {
         references.push(resolved_uri(alloc, base, reference)?)?;
+        texts.push(String::from_str(alloc, reference)?)?;
         read.add(alloc, base, reference)?;
     }
     Ok(())

@@ -1,6 +1,6 @@
 //! Documents with an index.
 
-ghost use Rattle.std.specs.Prelude.{◌≡◌, ◌||◌, [], false, true, None, IfOk, IfErr, IfSome, OnOk, Some, is_some, find, map, option_and_then, option_map, string_bytes};
+ghost use Rattle.std.specs.Prelude.{◌≡◌, ◌||◌, [], false, true, Contains, None, IfOk, IfErr, IfSome, OnOk, Some, codes, is_some, find, map, option_and_then, option_map, slice_get, string_bytes};
 ghost use Rattle.std.specs.BTreeMap.{get_by_text};
 ghost use Rattle.std.specs.List.{position_from};
 ghost use Rattle.definitions.specs.Reach.{holds_resource, references_in};
@@ -8,13 +8,16 @@ ghost use Rattle.definitions.specs.Resolution.{target_uri};
 ghost use Rattle.definitions.specs.Scanning.{resource_uris, scan_fault};
 ghost use Rattle.definitions.specs.Targets.{resource_root, target_by, schema_at_pointer, schema_with_anchor, schema_with_dynamic_anchor};
 ghost use Rattle.definitions.specs.Uris.{without_fragment};
-ghost use Rattle.definitions.specs.Values.{Text, is_well_formed, same_text};
+ghost use Rattle.definitions.specs.Schemas.{Schema};
+ghost use Rattle.definitions.specs.Values.{Text, is_well_formed, same_text, text_at};
 ghost use Rattle.json_doc.specs.Docs.{value};
 ghost use Rattle.schema_index.specs.AnchorNumbers.{is_marked};
 ghost use Rattle.schema_index.specs.DynamicResources.{has_resource};
-ghost use Rattle.schema_index.specs.Gathering.{IsGathered, gathered_marks, gathered_uris, gathered_ways};
+ghost use Rattle.schema_index.specs.Gathering.{IsGathered, gathered_identifiers, gathered_marks, gathered_texts, gathered_uris, gathered_ways};
 ghost use Rattle.schema_index.specs.Locateds.{located_view};
 ghost use Rattle.schema_index.specs.Lookups.{numbered_root, root_at};
+ghost use Rattle.schema_index.specs.ReferenceTexts.{HasReference};
+ghost use Rattle.text_numbers.specs.TextNumbers.{AreNumbers, text_number};
 ghost use Rattle.schema_index.specs.PairNumbers.{pair_number};
 ghost use Rattle.locations.specs.Ways.{owned_hops};
 ghost use Rattle.schema_index.specs.Spots.{spots};
@@ -33,6 +36,7 @@ use json_doc::{Doc, Pointer, copy};
 use locations::{OwnedWay, follow};
 use std::alloc::Global;
 use std::collections::{BTreeMap, BTreeSet};
+use text_numbers::TextNumbers;
 use uri_ref::{AbsoluteReference, FragmentKind, opened_uri};
 
 /// A schema document with no fault, and an index of its resources, anchors and references.
@@ -49,16 +53,23 @@ pub struct Indexed {
     anchor_numbers: BTreeMap<String, BTreeMap<String, usize>>,
     /// The same of the dynamic anchors alone.
     dynamic_numbers: BTreeMap<String, BTreeMap<String, usize>>,
+    /// The numbers of the resources' URIs and `$id`s, and of the references' texts, of those that are known to be there.
+    uri_numbers: TextNumbers,
+    identifier_numbers: TextNumbers,
+    text_numbers: TextNumbers,
     ghost faultless: { scan_fault (string_bytes base) (value document) ≡ None },
     ghost well_formed: { is_well_formed (value document) ≡ true },
     ghost of_document: { IsGathered gathered (spots [] 0 (string_bytes base) (value document)) },
     ghost by_uri: { (uri : Text) → get_by_text numbers uri ≡ position_from (same_text uri) 0 (gathered_uris gathered) },
+    ghost by_known_uri: { AreNumbers uri_numbers (gathered_uris gathered) },
+    ghost by_identifier: { AreNumbers identifier_numbers (gathered_identifiers gathered) },
+    ghost by_text: { AreNumbers text_numbers (gathered_texts gathered) },
     ghost by_anchor: { (uri name : Text) → pair_number anchor_numbers uri name ≡ position_from (is_marked true uri name) 0 (gathered_marks gathered) },
     ghost by_dynamic_anchor: { (uri name : Text) → pair_number dynamic_numbers uri name ≡ position_from (is_marked false uri name) 0 (gathered_marks gathered) },
 }
 
 impl Indexed {
-    ghost use Rattle.schema_index.specs.IndexedDocuments.{indexed_base, indexed_value, indexed_schemas, indexed_view};
+    ghost use Rattle.schema_index.specs.IndexedDocuments.{indexed_base, indexed_value, indexed_schemas, indexed_texts, indexed_view};
 
     /// Makes the index of a copy of the document, which stands under this base. The only error is want of memory.
     pub fn of(alloc: Global, base: String, document: &Doc) -> Result<Indexed, Fault>
@@ -72,6 +83,9 @@ impl Indexed {
         let numbers = numbers_of(alloc, &gathered.uris)?;
         let anchor_numbers = anchor_numbers_of(alloc, &gathered.anchors, true)?;
         let dynamic_numbers = anchor_numbers_of(alloc, &gathered.anchors, false)?;
+        let uri_numbers = TextNumbers::of(alloc, &gathered.uris)?;
+        let identifier_numbers = TextNumbers::of(alloc, &gathered.identifiers)?;
+        let text_numbers = TextNumbers::of(alloc, &gathered.texts)?;
         Ok(Indexed {
             base,
             document: copied,
@@ -79,6 +93,9 @@ impl Indexed {
             numbers,
             anchor_numbers,
             dynamic_numbers,
+            uri_numbers,
+            identifier_numbers,
+            text_numbers,
         })
     }
 
@@ -129,6 +146,47 @@ impl Indexed {
         ensures held { is_some result ≡ holds_resource uri.now (indexed_view self.now) }
     {
         match self.number(uri) {
+            Some(number) => numbered(&self.gathered.uris, number),
+            None => None,
+        }
+    }
+
+    /// The number of a resource's URI among [`resource_uris`](Self::resource_uris), where one of them is this. It is told by the
+    /// bytes in which these differ: of another text it is some number.
+    pub fn resource_number(&self, uri: &str) -> usize
+        ensures { holds_resource uri.now (indexed_view self.now) ≡ true
+            → slice_get (resource_uris (indexed_schemas self.now)) result ≡ Some uri.now }
+    {
+        self.uri_numbers.number(uri)
+    }
+
+    /// The number of a reference's text among those of the document's schemas, where one of them is this. It is told by the
+    /// bytes in which these differ: of another text it is some number.
+    #[tactic(auto, unfolding(crate::specs::IndexedDocuments::indexed_texts))]
+    pub fn reference_number(&self, reference: &str) -> usize
+        ensures { (s : Schema) → Contains (indexed_schemas self.now) s
+            → HasReference s reference.now
+            → slice_get (indexed_texts self.now) result ≡ Some reference.now }
+    {
+        self.text_numbers.number(reference)
+    }
+
+    /// The reference's text of this number.
+    #[tactic(auto, unfolding(crate::specs::IndexedDocuments::indexed_texts))]
+    pub fn reference_text(&self, number: usize) -> Option<&str>
+        ensures { option_map (λ t. t.now) result ≡ slice_get (indexed_texts self.now) number }
+    {
+        numbered(&self.gathered.texts, number)
+    }
+
+    /// The URI of the resource that a schema of the document with this `$id` opens, where the `$id` is told from all others by
+    /// the bytes in which they differ. Of an `$id` that no schema has it answers nothing, or some URI.
+    pub fn resource_identified(&self, id: &str) -> Option<&str>
+        ensures { (s : Schema) → Contains (indexed_schemas self.now) s → s.pointer ≡ []
+            → text_at (codes "$id") s.value ≡ Some id.now
+            → IfSome result (λ uri. uri.now ≡ s.resource) }
+    {
+        match self.identifier_numbers.only_number(id) {
             Some(number) => numbered(&self.gathered.uris, number),
             None => None,
         }

@@ -1,88 +1,110 @@
--- Patterns by their texts, where one more is put in.
-use Rattle.std.proofs.Common.{◌≡◌, ℕ, ◌<◌, ◌+◌, List, [], ◌∷◌, ◌++◌, map, take, length, get_or, Bool, true, false, cond, ◌||◌, Option, Some, None, is_some, Result, Ok, Err, OnOk, OnErr, Bor, String, Global, string_bytes, string_cmp, nat_cmp, refl, sym, ap, ◌∙◌, IfSome}
+-- Texts that are among others, and the patterns that stand by their numbers.
+use Rattle.std.proofs.Common.{◌≡◌, ℕ, suc, ◌<◌, ◌+◌, List, [], ◌∷◌, ◌++◌, map, take, get_or, length, Bool, true, false, cond, ◌||◌, Some, Bor, refl, sym, ap, ap₂, ◌∙◌, arith}
 use Rattle.std.proofs.lemmas.Bool.{and_parts, and_from, or_right}
 use Rattle.std.proofs.lemmas.List.{map_more}
-use Rattle.std.proofs.lemmas.Map.Text.{btree_map_updates_text}
-use Rattle.std.proofs.lemmas.Slice.Eq.{bytes_eq-Decides}
-use Rattle.std.specs.BTreeMap.{BTreeMap, UpdatesBy, get_by_text, is_at}
-use Rattle.std.specs.Map.{lookup}
-use Rattle.std.specs.Cmp.Lexicographic.{slice_cmp}
-use Rattle.std.specs.List.{list_all}
-use Rattle.std.specs.Option.{option_copied}
+use Rattle.std.proofs.lemmas.Option.{slice_get_within, get_or_from_slice_get}
+use Rattle.std.specs.List.{list_all, slice_get}
 use Rattle.definitions.specs.Patterns.{is_read}
 use Rattle.definitions.specs.Values.{Text, same_text}
-use Rattle.lemmas.proofs.Texts.{same_text_is}
-use Rattle.schema_scan.specs.BuiltPatterns.{OwnTexts}
+use Rattle.lemmas.proofs.Texts.{same_text_is, same_text_itself, same_text_turned}
+use Rattle.text_numbers.specs.TextNumbers.{AreNumbers, text_number}
+use Rattle.text_numbers.specs.declared.numbering.TextNumbers.{TextNumbers}
+use Rattle.schema_scan.specs.TextsAmong.{is_among}
 
-abbrev Patterns : Type 0
-Patterns = BTreeMap (String Global) Text
-
--- ---- a look-up
-pub same-found : (m : Patterns) (text : Text) (r : Option (Bor Text)) → OwnTexts m → option_copied r ≡ get_by_text m text → IfSome r (λ p. p.now ≡ text)
-same-found m text None own e = tt
-same-found m text (Some p) own e = (own text p.now (sym e)).0
-
-pub is_found : (r : Option (Bor Text)) → is_some r ≡ is_some (option_copied r)
-is_found None = refl
-is_found (Some p) = refl
-
-pub read-found : (m : Patterns) (text : Text) → OwnTexts m → is_some (get_by_text m text) ≡ true → is_read text ≡ true
-read-found m text own h = by (get_by_text m text) refl h
+-- ---- among others
+pub place_of : (ts : List Text) (t : Text) → is_among ts t ≡ true → (i : ℕ) × (slice_get ts i ≡ Some t)
+place_of [] t h = absurd (cc)
+place_of (u ∷ ts) t h = by (same_text t u) refl (place_of ts t) h
   where
-    by : (r : Option Text) → get_by_text m text ≡ r → is_some r ≡ true → is_read text ≡ true
-    by None e h = cc
-    by (Some built) e h = (own text built e).1
+    by : (b : Bool) → same_text t u ≡ b → (is_among ts t ≡ true → (i : ℕ) × (slice_get ts i ≡ Some t)) → (b || is_among ts t) ≡ true → (i : ℕ) × (slice_get (u ∷ ts) i ≡ Some t)
+    by true e rest g = (0, ap Some (sym (same_text_is t u e)))
+    by false e rest g = let i = rest g in (suc i.0, i.1)
 
--- a text that is held already
-pub held-already : (m : Patterns) (text q : Text) → is_some (get_by_text m text) ≡ true → is_some (get_by_text m q) ≡ (same_text text q || is_some (get_by_text m q))
-held-already m text q h = by (same_text text q) refl
+pub all_among : (us ts : List Text) → ((t : Text) → is_among ts t ≡ true → is_among us t ≡ true) → list_all (is_among us) ts ≡ true
+all_among us [] f = refl
+all_among us (t ∷ ts) f =
+    and_from (is_among us t) (list_all (is_among us) ts) (f t (ap (λ b. b || is_among ts t) (same_text_itself t)))
+    (all_among us ts (λ u e. f u (or_right (same_text u t) (is_among ts u) e)))
+
+-- what holds of each text holds of those among them
+passes : (p : Text → Bool) (ts : List Text) (t : Text) → list_all p ts ≡ true → is_among ts t ≡ true → p t ≡ true
+passes p [] t h g = absurd (cc)
+passes p (u ∷ ts) t h g = by (same_text t u) refl (passes p ts t (and_parts (p u) (list_all p ts) h).1) g
   where
-    by : (b : Bool) → same_text text q ≡ b → is_some (get_by_text m q) ≡ (b || is_some (get_by_text m q))
-    by true e = ap (λ t. is_some (get_by_text m t)) (sym (same_text_is text q e)) ∙ h
-    by false e = refl
+    by : (b : Bool) → same_text t u ≡ b → (is_among ts t ≡ true → p t ≡ true) → (b || is_among ts t) ≡ true → p t ≡ true
+    by true e rest k = ap p (same_text_is t u e) ∙ (and_parts (p u) (list_all p ts) h).0
+    by false e rest k = rest k
 
--- ---- one more text
-module _ (m n : Patterns) (text built : Text) where
-  own-updated : UpdatesBy string_cmp (λ k. slice_cmp nat_cmp text (string_bytes k)) m n (Some built) → built ≡ text → is_read text ≡ true → OwnTexts m → OwnTexts n
-  own-updated u is read own q found e = by (same_text text q) refl (sym (btree_map_updates_text text m n (Some built) u q) ∙ e)
-    where
-      by : (b : Bool) → same_text text q ≡ b → cond b (Some built) (get_by_text m q) ≡ Some found → (found ≡ q) × (is_read q ≡ true)
-      by true same f = let here : text ≡ q = same_text_is text q same in (cc, ap is_read (sym here) ∙ read)
-      by false same f = own q found f
+pub all_pass : (p : Text → Bool) (us ts : List Text) → list_all p us ≡ true → ((t : Text) → is_among ts t ≡ true → is_among us t ≡ true) → list_all p ts ≡ true
+all_pass p us [] h f = refl
+all_pass p us (t ∷ ts) h f =
+    and_from (p t) (list_all p ts) (passes p us t h (f t (ap (λ b. b || is_among ts t) (same_text_itself t))))
+    (all_pass p us ts h (λ u e. f u (or_right (same_text u t) (is_among ts u) e)))
 
-  pub own-inserted : {A E : Type 0} (r : Result A E) → OnOk r (UpdatesBy string_cmp (λ k. slice_cmp nat_cmp text (string_bytes k)) m n (Some built)) → OnErr r (n.entries ≡ m.entries)
-      → built ≡ text → is_read text ≡ true → OwnTexts m → OwnTexts n
-  own-inserted (Ok a) u same is read own = own-updated u is read own
-  own-inserted (Err f) u unchanged is read own = λ q found e. own q found (ap (λ es. lookup (is_at (λ k. slice_cmp nat_cmp q (string_bytes k))) es) (sym unchanged) ∙ e)
+all_push : (p : Text → Bool) (ts : List Text) (t : Text) → list_all p ts ≡ true → p t ≡ true → list_all p (ts ++ t ∷ []) ≡ true
+all_push p [] t h g = and_from (p t) true g refl
+all_push p (u ∷ ts) t h g = and_from (p u) (list_all p (ts ++ t ∷ [])) (and_parts (p u) (list_all p ts) h).0 (all_push p ts t (and_parts (p u) (list_all p ts) h).1 g)
 
-  pub held-updated : UpdatesBy string_cmp (λ k. slice_cmp nat_cmp text (string_bytes k)) m n (Some built) → (q : Text) → is_some (get_by_text n q) ≡ (same_text text q || is_some (get_by_text m q))
-  held-updated u q = ap is_some (btree_map_updates_text text m n (Some built) u q) ∙ by (same_text text q)
-    where
-      by : (b : Bool) → is_some (cond b (Some built) (get_by_text m q)) ≡ (b || is_some (get_by_text m q))
-      by true = refl
-      by false = refl
+-- ---- one text more
+or_false : (b : Bool) → (b || false) ≡ b
+or_false true = refl
+or_false false = refl
 
--- ---- of all texts so far
-all-more : (p q : Text → Bool) → ((t : Text) → p t ≡ true → q t ≡ true) → (ts : List Text) → list_all p ts ≡ true → list_all q ts ≡ true
-all-more p q f [] h = refl
-all-more p q f (t ∷ ts) h = and_from (q t) (list_all q ts) (f t (and_parts (p t) (list_all p ts) h).0) (all-more p q f ts (and_parts (p t) (list_all p ts) h).1)
+or_either : (b a : Bool) → cond b true a ≡ (a || b)
+or_either true true = refl
+or_either true false = refl
+or_either false true = refl
+or_either false false = refl
 
-all-push : (p : Text → Bool) (ts : List Text) (t : Text) → list_all p ts ≡ true → p t ≡ true → list_all p (ts ++ t ∷ []) ≡ true
-all-push p [] t h g = and_from (p t) true g refl
-all-push p (u ∷ ts) t h g = and_from (p u) (list_all p (ts ++ t ∷ [])) (and_parts (p u) (list_all p ts) h).0 (all-push p ts t (and_parts (p u) (list_all p ts) h).1 g)
+pub among_push : (ts : List Text) (t q : Text) → is_among (ts ++ t ∷ []) q ≡ (is_among ts q || same_text q t)
+among_push [] t q = or_false (same_text q t)
+among_push (u ∷ ts) t q = by (same_text q u) (among_push ts t q)
+  where
+    by : (b : Bool) → is_among (ts ++ t ∷ []) q ≡ (is_among ts q || same_text q t) → (b || is_among (ts ++ t ∷ []) q) ≡ ((b || is_among ts q) || same_text q t)
+    by true rest = refl
+    by false rest = rest
+
+-- a text that is among them already
+among_already : (ts : List Text) (t q : Text) → is_among ts t ≡ true → is_among ts q ≡ (is_among ts q || same_text q t)
+among_already ts t q h = by (same_text q t) refl
+  where
+    by : (b : Bool) → same_text q t ≡ b → is_among ts q ≡ (is_among ts q || b)
+    by true e = let there : is_among ts q ≡ true = ap (is_among ts) (same_text_is q t e) ∙ h in cc
+    by false e = sym (or_false (is_among ts q))
 
 -- the texts of references, the first ones of a list
 abbrev pub first_texts : ℕ → List (Bor Text) → List Text
 first_texts i rs = map (λ r. r.now) (take i rs)
 
-module _ (rs : List (Bor Text)) (i : ℕ) (r : Bor Text) (h : i < length rs) where
-  pub read-next : list_all is_read (first_texts i rs) ≡ true → is_read (get_or rs i r).now ≡ true → list_all is_read (first_texts (i + 1) rs) ≡ true
-  read-next before here = ap (list_all is_read) (map_more (λ (t : Bor Text). t.now) rs i r h) ∙ all-push is_read (first_texts i rs) (get_or rs i r).now before here
-
-  pub held-next : (p q : Text → Bool) → ((t : Text) → q t ≡ (same_text (get_or rs i r).now t || p t)) → list_all p (first_texts i rs) ≡ true → list_all q (first_texts (i + 1) rs) ≡ true
-  held-next p q grows before =
+module _ (rs : List (Bor Text)) (i : ℕ) (r : Bor Text) (h : i < length rs) (ts : List Text) (same : (q : Text) → is_among ts q ≡ is_among (first_texts i rs) q) where
+  next_among : (q : Text) → is_among (first_texts (i + 1) rs) q ≡ (is_among ts q || same_text q (get_or rs i r).now)
+  next_among q =
       let text = (get_or rs i r).now in
-      ap (list_all q) (map_more (λ (t : Bor Text). t.now) rs i r h)
-      ∙ all-push q (first_texts i rs) text
-      (all-more p q (λ t e. grows t ∙ or_right (same_text text t) (p t) e) (first_texts i rs) before)
-      (grows text ∙ ap (λ b. b || p text) ((bytes_eq-Decides text text).1 refl))
+      ap (λ us. is_among us q) (map_more (λ (t : Bor Text). t.now) rs i r h) ∙ among_push (first_texts i rs) text q ∙ ap (λ b. b || same_text q text) (sym (same q))
+
+  pub same_kept : is_among ts (get_or rs i r).now ≡ true → (q : Text) → is_among ts q ≡ is_among (first_texts (i + 1) rs) q
+  same_kept there q = among_already ts (get_or rs i r).now q there ∙ sym (next_among q)
+
+  pub same_pushed : (us : List Text) (text : Text) → us ≡ ts ++ text ∷ [] → text ≡ (get_or rs i r).now → (q : Text) → is_among us q ≡ is_among (first_texts (i + 1) rs) q
+  same_pushed us text e is q =
+      ap (λ vs. is_among vs q) e ∙ among_push ts text q ∙ ap (λ t. is_among ts q || same_text q t) is ∙ sym (next_among q)
+
+-- a set of texts grows with the list
+pub known_pushed : (ts us : List Text) (key text : Text) (before : Bool) (q : Text) → us ≡ ts ++ text ∷ [] → key ≡ text → before ≡ is_among ts q → cond (same_text key q) true before ≡ is_among us q
+known_pushed ts us key text before q e is b =
+    or_either (same_text key q) before ∙ ap₂ (λ x y. x || y) b (same_text_turned key q ∙ ap (same_text q) is)
+    ∙ sym (among_push ts text q) ∙ ap (λ vs. is_among vs q) (sym e)
+
+-- ---- patterns in a list
+pub read_pushed : (ts us : List Text) (t : Text) → us ≡ ts ++ t ∷ [] → list_all is_read ts ≡ true → is_read t ≡ true → list_all is_read us ≡ true
+read_pushed ts us t e before here = ap (list_all is_read) e ∙ all_push is_read ts t before here
+
+-- ---- the pattern of a text's number
+pub numbered_text : (n : TextNumbers) (ts : List Text) (t : Text) → AreNumbers n ts → is_among ts t ≡ true → slice_get ts (text_number n t) ≡ Some t
+numbered_text n ts t a h = let i = place_of ts t h in a.found t i.0 i.1
+
+pub within_table : (ts ds : List Text) (i j : ℕ) (t : Text) → ds ≡ ts → i ≡ j → slice_get ts j ≡ Some t → i < length ds
+within_table ts ds i j t e f at = let less = slice_get_within ts j t at in let long = ap length e in omega (arith, less, long, f)
+
+pub item_is : (ts ds : List Text) (i j : ℕ) (t d : Text) → ds ≡ ts → i ≡ j → slice_get ts j ≡ Some t → get_or ds i d ≡ t
+item_is ts ds i j t d e f at = ap₂ (λ us k. get_or us k d) e f ∙ get_or_from_slice_get ts j t d at

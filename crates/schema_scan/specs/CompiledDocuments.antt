@@ -2,7 +2,7 @@
 use Rattle.std.specs.Prelude.{List}
 use Rattle.definitions.specs.Values.{Text, Value}
 use Rattle.definitions.specs.Schemas.{Schema, Document, document_from, schemas_of}
-use Rattle.schema_index.specs.IndexedDocuments.{indexed_base, indexed_value}
+use Rattle.schema_index.specs.IndexedDocuments.{indexed_base, indexed_texts, indexed_value}
 use Rattle.schema_scan.specs.declared.compiled.Compiled.{Compiled}
 
 abbrev pub compiled_base : Compiled → Text
@@ -14,6 +14,10 @@ compiled_value c = indexed_value c.indexed
 -- its schemas, in the order of a walk
 abbrev pub compiled_schemas : Compiled → List Schema
 compiled_schemas c = schemas_of (compiled_base c) (compiled_value c)
+
+-- the texts of its schemas' references, in the order of a walk
+abbrev pub compiled_texts : Compiled → List Text
+compiled_texts c = indexed_texts c.indexed
 
 abbrev pub compiled_view : Compiled → Document
 compiled_view c = document_from (compiled_base c) (compiled_value c)

@@ -7,6 +7,6 @@ pub mod Names
 pub mod AnchorViews
 pub mod Scans
 pub mod PatternTexts
-pub mod BuiltPatterns
+pub mod TextsAmong
 pub mod PatternTables
 pub mod CompiledDocuments

@@ -1,6 +1,6 @@
 //! Documents that can be evaluated.
 
-ghost use Rattle.std.specs.Prelude.{◌≡◌, ◌||◌, true, None, IfOk, IfErr, IfSome, IsTrue, OnOk, Contains, Some, is_some, map, option_map, string_bytes};
+ghost use Rattle.std.specs.Prelude.{◌≡◌, ◌||◌, [], true, None, IfOk, IfErr, IfSome, IsSomeAnd, OnOk, Contains, Some, codes, is_some, map, option_map, slice_get, string_bytes};
 ghost use Rattle.std.specs.List.{list_all};
 ghost use Rattle.definitions.specs.Patterns.{regular_search};
 ghost use Rattle.definitions.specs.Reach.{holds_resource, references_in};
@@ -8,11 +8,13 @@ ghost use Rattle.definitions.specs.Resolution.{target_uri};
 ghost use Rattle.definitions.specs.Searches.{is_regular, patterns};
 ghost use Rattle.definitions.specs.Scanning.{resource_uris, scan_fault};
 ghost use Rattle.definitions.specs.Targets.{resource_root, target_by, schema_with_dynamic_anchor};
-ghost use Rattle.definitions.specs.Values.{Text};
+ghost use Rattle.definitions.specs.Schemas.{Schema};
+ghost use Rattle.definitions.specs.Values.{Text, text_at};
 ghost use Rattle.json_doc.specs.Docs.{value};
 ghost use Rattle.schema_index.specs.DynamicResources.{has_resource};
 ghost use Rattle.schema_index.specs.IndexedDocuments.{indexed_value};
 ghost use Rattle.schema_index.specs.Locateds.{located_view};
+ghost use Rattle.schema_index.specs.ReferenceTexts.{HasReference};
 ghost use Rattle.schema_scan.specs.PatternTables.{holds_pattern};
 ghost use Rattle.uri_ref.specs.AbsoluteReferences.{IsReadAs};
 ghost use Rattle.uri_ref.specs.FragmentViews.{fragment_view};
@@ -39,7 +41,7 @@ pub struct Compiled {
 }
 
 impl Compiled {
-    ghost use Rattle.schema_scan.specs.CompiledDocuments.{compiled_base, compiled_value, compiled_schemas, compiled_view};
+    ghost use Rattle.schema_scan.specs.CompiledDocuments.{compiled_base, compiled_value, compiled_schemas, compiled_texts, compiled_view};
 
     /// The text of the base that the document stands under.
     pub fn base(&self) -> &str
@@ -77,6 +79,42 @@ impl Compiled {
         ensures held { is_some result ≡ holds_resource uri.now (compiled_view self.now) }
     {
         self.indexed.resource_uri(uri)
+    }
+
+    /// The number of a resource's URI among [`resource_uris`](Self::resource_uris), where one of them is this. It is told by the
+    /// bytes in which these differ: of another text it is some number.
+    pub fn resource_number(&self, uri: &str) -> usize
+        ensures { holds_resource uri.now (compiled_view self.now) ≡ true
+            → slice_get (resource_uris (compiled_schemas self.now)) result ≡ Some uri.now }
+    {
+        self.indexed.resource_number(uri)
+    }
+
+    /// The number of a reference's text among those of the document's schemas, where one of them is this. It is told by the
+    /// bytes in which these differ: of another text it is some number.
+    pub fn reference_number(&self, reference: &str) -> usize
+        ensures { (s : Schema) → Contains (compiled_schemas self.now) s
+            → HasReference s reference.now
+            → slice_get (compiled_texts self.now) result ≡ Some reference.now }
+    {
+        self.indexed.reference_number(reference)
+    }
+
+    /// The reference's text of this number.
+    pub fn reference_text(&self, number: usize) -> Option<&str>
+        ensures { option_map (λ t. t.now) result ≡ slice_get (compiled_texts self.now) number }
+    {
+        self.indexed.reference_text(number)
+    }
+
+    /// The URI of the resource that a schema of the document with this `$id` opens, where the `$id` is told from all others by
+    /// the bytes in which they differ. Of an `$id` that no schema has it answers nothing, or some URI.
+    pub fn resource_identified(&self, id: &str) -> Option<&str>
+        ensures { (s : Schema) → Contains (compiled_schemas self.now) s → s.pointer ≡ []
+            → text_at (codes "$id") s.value ≡ Some id.now
+            → IfSome result (λ uri. uri.now ≡ s.resource) }
+    {
+        self.indexed.resource_identified(id)
     }
 
     /// What a reference, or an `$id`, of the document's schemas is read as inside the resource of this URI. It takes no memory.
@@ -142,11 +180,11 @@ impl Compiled {
         self.indexed.add_dynamic_resources(alloc, resources)
     }
 
-    /// The pattern with this text, where one of the document's schemas has it.
+    /// The pattern with this text, where one of the document's schemas has it. Of other texts it answers nothing, or some
+    /// other pattern.
     pub fn pattern(&self, text: &str) -> Option<&Pattern>
-        ensures same { IfSome result (λ p. p.now ≡ text.now) }
-        ensures there { Contains (patterns (compiled_value self.now)) text.now
-            → IsTrue (is_some result) }
+        ensures { Contains (patterns (compiled_value self.now)) text.now
+            → IsSomeAnd result (λ p. p.now ≡ text.now) }
     {
         self.pattern_table.get(text)
     }

@@ -1,27 +1,30 @@
 //! The patterns of a document, each built once.
 
-ghost use Rattle.std.specs.Prelude.{◌≡◌, ◌≢◌, ◌<◌, ◌||◌, true, IfOk, IfErr, IfSome, OnOk, is_some, map, length};
+ghost use Rattle.std.specs.Prelude.{◌≡◌, ◌≢◌, ◌<◌, ◌≤◌, true, IfOk, IfErr, IsSomeAnd, OnOk, map, length, string_bytes};
 ghost use Rattle.std.specs.List.{list_all};
-ghost use Rattle.definitions.specs.Values.{Text, same_text};
+ghost use Rattle.definitions.specs.Values.{Text};
 ghost use Rattle.definitions.specs.Patterns.{is_read};
-ghost use Rattle.schema_scan.specs.BuiltPatterns.{OwnTexts};
+ghost use Rattle.schema_scan.specs.TextsAmong.{is_among};
+ghost use Rattle.text_numbers.specs.TextNumbers.{AreNumbers};
 
 use faults::Fault;
 use patterns::Pattern;
-use std::alloc::Global;
-use std::collections::BTreeMap;
+use std::alloc::{AllocError, Global};
+use std::collections::BTreeSet;
+use text_numbers::TextNumbers;
 
 /// How many bytes the tables of a document's patterns may take together: room for two thousand copies of `\w`, or for
 /// tens of thousands of small patterns.
 const SIZE_LIMIT: usize = 32 << 20;
 
-/// Patterns by their texts.
+/// Patterns, and the numbers by which they are found from their texts.
 ///
 /// Contracts see the texts that it holds, by `holds_pattern`.
 #[derive(Drop)]
 pub(crate) struct PatternTable {
-    patterns: BTreeMap<String, Pattern>,
-    ghost own_texts: { OwnTexts patterns },
+    patterns: Vec<Pattern>,
+    numbers: TextNumbers,
+    ghost numbered: { AreNumbers numbers patterns.items },
 }
 
 impl PatternTable {
@@ -36,38 +39,59 @@ impl PatternTable {
         ensures err { IfErr result
             (λ f. f ≢ Fault.NoRoom → (f ≡ Fault.BadPattern) × (0 < length texts.now)) }
     {
-        let mut table = PatternTable {
-            patterns: BTreeMap::new(alloc),
-        };
-        let mut room = SIZE_LIMIT;
-        for text in texts {
-            table.add(alloc, text, &mut room)?;
-        }
-        Ok(table)
+        let distinct = distinct_texts(alloc, texts)?;
+        let patterns = built_patterns(alloc, &distinct)?;
+        let numbers = TextNumbers::of(alloc, &distinct)?;
+        Ok(PatternTable { patterns, numbers })
     }
 
-    // Holds the pattern of this text too, and builds it in what is left of the room where it wasn't held.
-    fn add(&mut self, alloc: Global, text: &str, room: &mut usize) -> Result<(), Fault>
-        ensures held { OnOk result
-            ((q : Text) → holds_pattern self.new q
-            ≡ (same_text text.now q || holds_pattern self.old q)) }
-        ensures read { OnOk result (is_read text.now ≡ true) }
-        ensures err { IfErr result (λ f. f ≢ Fault.NoRoom → f ≡ Fault.BadPattern) }
-    {
-        if self.patterns.contains_key(text) {
-            return Ok(());
-        }
-        let pattern = Pattern::build_within(alloc, text, room)?;
-        self.patterns
-            .insert(String::from_str(alloc, text)?, pattern)?;
-        Ok(())
-    }
-
-    /// The pattern with this text.
+    /// The pattern with this text, where the table holds it. Of others it answers nothing, or another pattern: it looks at
+    /// no more bytes of the text than tell those apart that are held.
     pub(crate) fn get(&self, text: &str) -> Option<&Pattern>
-        ensures same { IfSome result (λ p. p.now ≡ text.now) }
-        ensures held { is_some result ≡ holds_pattern self.now text.now }
+        ensures { holds_pattern self.now text.now ≡ true
+            → IsSomeAnd result (λ p. p.now ≡ text.now) }
     {
-        self.patterns.get(text)
+        match self.patterns.get(self.numbers.number(text)) {
+            Some(pattern) => {
+                if pattern.text().len() == text.len() {
+                    Some(pattern)
+                } else {
+                    None
+                }
+            }
+            None => None,
+        }
     }
+}
+
+// The texts, each once, in the order in which they first stand.
+fn distinct_texts(alloc: Global, texts: &[&str]) -> Result<Vec<String>, AllocError>
+    ensures same { IfOk result (λ ts. (q : Text)
+        → is_among (map string_bytes ts.items) q ≡ is_among (map (λ t. t.now) texts.now) q) }
+    ensures bound { IfOk result (λ ts. length ts.items ≤ length texts.now) }
+{
+    let mut distinct = Vec::new(alloc);
+    let mut seen = BTreeSet::new(alloc);
+    for text in texts {
+        if !seen.contains(*text) {
+            seen.insert(String::from_str(alloc, text)?)?;
+            distinct.push(String::from_str(alloc, text)?)?;
+        }
+    }
+    Ok(distinct)
+}
+
+// The pattern of each text, each built in what is left of the room.
+fn built_patterns(alloc: Global, texts: &[String]) -> Result<Vec<Pattern>, Fault>
+    ensures built { IfOk result (λ ps. ps.items ≡ map string_bytes texts.now) }
+    ensures read { OnOk result (list_all is_read (map string_bytes texts.now) ≡ true) }
+    ensures err { IfErr result
+        (λ f. f ≢ Fault.NoRoom → (f ≡ Fault.BadPattern) × (0 < length texts.now)) }
+{
+    let mut patterns = Vec::with_capacity(alloc, texts.len())?;
+    let mut room = SIZE_LIMIT;
+    for text in texts {
+        patterns.push(Pattern::build_within(alloc, text.as_str(), &mut room)?)?;
+    }
+    Ok(patterns)
 }

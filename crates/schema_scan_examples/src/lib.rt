@@ -29,4 +29,6 @@ mod scans;
 #[cfg(test)]
 mod shapes;
 #[cfg(test)]
+mod text_numbers;
+#[cfg(test)]
 mod uri_parts;

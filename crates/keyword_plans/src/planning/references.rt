@@ -1,6 +1,6 @@
 //! References (JSON Schema 2020-12 Core, 8.2.3).
 
-ghost use Rattle.std.specs.Prelude.{◌≡◌, [], Some, map, option_map, option_and_then, IfErr, OnOk};
+ghost use Rattle.std.specs.Prelude.{◌≡◌, [], Some, codes, map, option_map, option_and_then, IfErr, OnOk};
 ghost use Rattle.definitions.specs.Values.{Text, get};
 ghost use Rattle.definitions.specs.Schemas.{reference_at};
 ghost use Rattle.definitions.specs.Targets.{target, dynamic_target};
@@ -29,12 +29,13 @@ pub(crate) fn plan_reference<'a>(
     reference: &'a Doc,
 ) -> Result<(), AllocError>
     requires { planned.old.items ≡ [] }
-    ensures ok { (a : Application) (k : Text) → Shows site.now a
+    ensures ok { (a : Application) → Shows site.now a
         → scope_documents scope.old ≡ site.now.linked
-        → get k a.schema.value ≡ Some (value reference.now)
-        → OnOk result (map (planned_view k a) planned.new.items
-        ≡ to_target a k (option_and_then (target (linked_schemas site.now.linked.now))
-        (reference_at k a.schema))) }
+        → get (codes "$ref") a.schema.value ≡ Some (value reference.now)
+        → OnOk result (map (planned_view (codes "$ref") a) planned.new.items
+        ≡ to_target a (codes "$ref")
+        (option_and_then (target (linked_schemas site.now.linked.now))
+        (reference_at (codes "$ref") a.schema))) }
     ensures uris { scope_uris scope.new ≡ scope_uris scope.old }
     ensures documents { scope_documents scope.new ≡ scope_documents scope.old }
 {
@@ -55,14 +56,14 @@ pub(crate) fn plan_dynamic_reference<'a>(
     reference: &'a Doc,
 ) -> Result<(), AllocError>
     requires { planned.old.items ≡ [] }
-    ensures ok { (a : Application) (k : Text) → Shows site.now a
+    ensures ok { (a : Application) → Shows site.now a
         → scope_documents scope.old ≡ site.now.linked
         → a.scope ≡ scope_uris scope.old
-        → get k a.schema.value ≡ Some (value reference.now)
-        → OnOk result (map (planned_view k a) planned.new.items
-        ≡ to_target a k (option_and_then
+        → get (codes "$dynamicRef") a.schema.value ≡ Some (value reference.now)
+        → OnOk result (map (planned_view (codes "$dynamicRef") a) planned.new.items
+        ≡ to_target a (codes "$dynamicRef") (option_and_then
         (dynamic_target (linked_schemas site.now.linked.now) a.scope)
-        (reference_at k a.schema))) }
+        (reference_at (codes "$dynamicRef") a.schema))) }
     ensures uris { scope_uris scope.new ≡ scope_uris scope.old }
     ensures documents { scope_documents scope.new ≡ scope_documents scope.old }
 {

@@ -19,11 +19,12 @@ returns-in_ok-origin-in-Some-clause-there c = λ contains.
     let root : s.pointer ≡ [] = ap (λ o. (opened_schema st.resource st.pointer v o).pointer) is in
     let resource : s.resource ≡ without_fragment (target_uri c.resource.result.now c.in-Some.id.now) =
     ap (λ o. (opened_schema st.resource st.pointer v o).resource) is ∙ ap (λ uri. without_fragment (target_uri uri c.in-Some.id.now)) (sym c.resource.ensures) in
+    let has : text_at (codes "$id") s.value ≡ Some c.in-Some.id.now = ap (λ o. text_at (codes "$id") (opened_schema st.resource st.pointer v o).value) is ∙ is in
     let i = origin_view c.in_ok-origin-in-Some.origin.value in
     let same : i ≡ (c.in_ok-resource-in-Some.resource.now, []) =
     ap origin_view c.in_ok-origin-in-Some.ensures.ok ∙ c.root.ensures in
     ap frame_standing c.enter_origin.ensures.moved
-    ∙ schema_entered i s f (ap (λ (j : Identity). j.0) same ∙ c.in_ok-resource-in-Some.ensures s contains root resource) (ap (λ (j : Identity). j.1) same ∙ sym root)
+    ∙ schema_entered i s f (ap (λ (j : Identity). j.0) same ∙ c.in_ok-resource-in-Some.ensures s contains root resource has) (ap (λ (j : Identity). j.1) same ∙ sym root)
 
 pub returns-in_ok-origin-in-Some-clause-onward : goal.returns-in_ok-origin-in-Some-clause-onward
 returns-in_ok-origin-in-Some-clause-onward c =

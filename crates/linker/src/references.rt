@@ -1,0 +1,129 @@
+//! References of linked documents by number.
+
+ghost use Rattle.std.specs.Prelude.{◌≡◌, [], Contains, IfSome, Some, codes, option_map, slice_get, true};
+ghost use Rattle.definitions.specs.Scanning.{resource_uris};
+ghost use Rattle.definitions.specs.Schemas.{Schema};
+ghost use Rattle.definitions.specs.Values.{text_at};
+ghost use Rattle.linker.specs.LinkedDocuments.{linked_schemas};
+ghost use Rattle.linker.specs.ReferenceNumbers.{StandsIn, document_at, pair_in, reference_pair};
+ghost use Rattle.schema_index.specs.ReferenceTexts.{HasReference};
+ghost use Rattle.schema_scan.specs.CompiledDocuments.{compiled_schemas};
+
+use crate::holders::holder_number;
+use crate::linked::Linked;
+use schema_scan::Compiled;
+
+/// A reference of linked documents: the number of the document that it stands in, and there those of its resource's URI and of
+/// its text.
+///
+/// Contracts see the two texts, by `reference_pair`.
+#[derive(Clone, Copy, Debug)]
+pub struct ReferenceNumber {
+    pub(crate) document: usize,
+    pub(crate) resource: usize,
+    pub(crate) text: usize,
+}
+
+impl ReferenceNumber {
+    /// The number of its text among the references of its document.
+    pub fn text(self) -> usize {
+        self.text
+    }
+
+    /// Whether it is the same reference.
+    #[inline(always)]
+    pub fn is(self, other: ReferenceNumber) -> bool
+        ensures { result ≡ true → self ≡ other }
+    {
+        self.text == other.text
+            && self.resource == other.resource
+            && self.document == other.document
+    }
+}
+
+impl Linked {
+    /// The number of a reference of the documents' schemas: its text, and the URI of the resource that it stands in. Both are
+    /// told by the bytes in which they differ from others, where one document is linked, and else the URI is compared: of a
+    /// reference that no schema has it answers nothing, or some number. It takes no memory.
+    pub fn reference_number(&self, resource: &str, reference: &str) -> Option<ReferenceNumber>
+        ensures { (s : Schema) → Contains (linked_schemas self.now) s → s.resource ≡ resource.now
+            → HasReference s reference.now
+            → IfSome result (λ n. reference_pair self.now n ≡ Some (resource.now, reference.now)) }
+    {
+        let number = self.document_number(resource)?;
+        let document = self.document(number)?;
+        Some(ReferenceNumber {
+            document: number,
+            resource: document.resource_number(resource),
+            text: document.reference_number(reference),
+        })
+    }
+
+    /// The URI of the resource that the reference of this number stands in, and its text.
+    #[tactic(auto, unfolding(crate::specs::ReferenceNumbers::reference_pair))]
+    pub fn reference(&self, number: ReferenceNumber) -> Option<(&str, &str)>
+        ensures { option_map (λ r. (r.0.now, r.1.now)) result ≡ reference_pair self.now number }
+    {
+        match self.document(number.document) {
+            Some(document) => pair_in(document, number.resource, number.text),
+            None => None,
+        }
+    }
+
+    /// The URI of the resource that a schema with this `$id` opens, where one document is linked, and the `$id` is told from all
+    /// others by the bytes in which they differ.
+    pub(crate) fn resource_identified(&self, id: &str) -> Option<&str>
+        ensures { (s : Schema) → Contains (linked_schemas self.now) s → s.pointer ≡ []
+            → text_at (codes "$id") s.value ≡ Some id.now
+            → IfSome result (λ uri. uri.now ≡ s.resource) }
+    {
+        if self.documents.as_slice().len() != 1 {
+            return None;
+        }
+        self.document(0)?.resource_identified(id)
+    }
+
+    // The number of the document that the schemas of the resource with this URI stand in.
+    fn document_number(&self, uri: &str) -> Option<usize>
+        ensures { (s : Schema) → Contains (linked_schemas self.now) s → s.resource ≡ uri.now
+            → IfSome result (StandsIn self.now s) }
+    {
+        let documents = self.documents.as_slice();
+        if documents.len() == 1 {
+            return Some(0);
+        }
+        holder_number(documents, uri)
+    }
+
+    // The document of this number.
+    #[tactic(auto, unfolding(crate::specs::ReferenceNumbers::document_at))]
+    fn document(&self, number: usize) -> Option<&Compiled>
+        ensures { option_map (λ d. d.now) result ≡ document_at self.now number }
+    {
+        match self.documents.get(number) {
+            Some(document) => Some(document),
+            None => None,
+        }
+    }
+}
+
+// The resource's URI and the reference's text of these numbers.
+#[tactic(auto, unfolding(crate::specs::ReferenceNumbers::pair_in))]
+fn pair_in(document: &Compiled, resource: usize, text: usize) -> Option<(&str, &str)>
+    ensures { option_map (λ r. (r.0.now, r.1.now)) result ≡ pair_in resource text document.now }
+{
+    match uri_in(document, resource) {
+        Some(uri) => match document.reference_text(text) {
+            Some(text) => Some((uri, text)),
+            None => None,
+        },
+        None => None,
+    }
+}
+
+fn uri_in(document: &Compiled, number: usize) -> Option<&str>
+    ensures { option_map (λ u. u.now) result
+        ≡ slice_get (resource_uris (compiled_schemas document.now)) number }
+{
+    Some(document.resource_uris().get(number)?.as_str())
+}

@@ -7,6 +7,8 @@ mod documents;
 #[cfg(test)]
 mod fragments;
 #[cfg(test)]
+mod numbers_of_texts;
+#[cfg(test)]
 mod pattern_machines;
 #[cfg(test)]
 mod pattern_matches;
@@ -28,7 +30,5 @@ mod resources;
 mod scans;
 #[cfg(test)]
 mod shapes;
-#[cfg(test)]
-mod text_numbers;
 #[cfg(test)]
 mod uri_parts;

@@ -71,15 +71,26 @@ fn turns(alloc: Global, count: usize, first: usize) -> Result<(String, String), 
     }
     schema.push_str(r##"},"prefixItems":[{"$ref":"#/$defs/x"}"##)?;
     let mut instance = String::from_str(alloc, "[0")?;
-    for number in 0..2 * count {
-        let named = number % count;
-        schema.push_str(format!(in alloc; ",{{\"$ref\":\"#/$defs/{named}\"}}")?.as_str())?;
-        let given = if number == count { first } else { named };
-        instance.push_str(format!(in alloc; ",{given}")?.as_str())?;
-    }
+    push_turn(alloc, &mut schema, &mut instance, count, 0)?;
+    push_turn(alloc, &mut schema, &mut instance, count, first)?;
     schema.push_str("]}")?;
     instance.push_str("]")?;
     Ok((schema, instance))
+}
+
+fn push_turn(
+    alloc: Global,
+    schema: &mut String,
+    instance: &mut String,
+    count: usize,
+    first: usize,
+) -> Result<(), AllocError> {
+    for number in 0..count {
+        schema.push_str(format!(in alloc; ",{{\"$ref\":\"#/$defs/{number}\"}}")?.as_str())?;
+        let given = if number == 0 { first } else { number };
+        instance.push_str(format!(in alloc; ",{given}")?.as_str())?;
+    }
+    Ok(())
 }
 
 #[test]

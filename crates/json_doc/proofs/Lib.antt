@@ -14,3 +14,4 @@ pub mod TokenReads
 pub mod WholeTexts
 pub mod Grammar
 pub mod Numerals
+pub mod SameTexts

@@ -4,6 +4,7 @@ ghost use Rattle.std.specs.Prelude.{◌≡◌, ◌≤◌, IfOk, length, option_m
 ghost use Rattle.std.specs.Result.{IsOk};
 ghost use Rattle.definitions.specs.Values.{get, as_string, same, string, text_at};
 ghost use Rattle.json_doc.specs.Docs.{value, members_value};
+ghost use Rattle.json_doc.specs.SmallTexts.{short_text};
 ghost use Rattle.keywords.specs.Rows.{row_of};
 ghost use Rattle.json_doc.specs.Kinds.{as_boolean, as_integer, as_elements, as_members};
 
@@ -131,6 +132,18 @@ impl Doc {
     {
         match self {
             Doc::Dict(members) => members.get(name),
+            _ => None,
+        }
+    }
+
+    /// The same of a short text, which among few members is found without a call.
+    #[inline(always)]
+    pub fn get_short(&self, name: &ShortText) -> Option<&Doc>
+        ensures { option_map (λ d. value d.now) result
+            ≡ get (short_text name.now) (value self.now) }
+    {
+        match self {
+            Doc::Dict(members) => members.get_short(name),
             _ => None,
         }
     }

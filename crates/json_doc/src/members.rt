@@ -6,19 +6,18 @@ ghost use Rattle.definitions.specs.Values.{entry};
 ghost use Rattle.json_doc.specs.Docs.{value, members_value};
 ghost use Rattle.keywords.specs.Rows.{row_of};
 ghost use Rattle.json_doc.specs.NamedMembers.{named_left};
+ghost use Rattle.json_doc.specs.SmallTexts.{short_text};
 ghost use Rattle.json_doc.specs.Members.{members_with, member_view, member_value, members_left, AreBelow, AreNotBelow, HasNamesInOrder, HasTextsAsNames};
 
 use crate::doc::Doc;
-use crate::name_map::{NameMap, split_at_name};
+use crate::name_map::{FEW, NameMap, split_at_name};
 use crate::named_members::NamedMembers;
+use crate::short_text::ShortText;
 use crate::small_text::SmallText;
 use faults::Fault;
 use keywords::Keyword;
 use std::alloc::Global;
 use std::slice;
-
-/// Up to so many members all are gone through for a keyword; among more it is searched for.
-const FEW: usize = 16;
 
 /// The members of a JSON object: each name once, in byte order of names.
 ///
@@ -58,6 +57,18 @@ impl Members {
         ensures { option_map (λ d. value d.now) result ≡ entry name.now (members_value self.now) }
     {
         match self.entries.get_key_value(name) {
+            Some((_, found)) => Some(found),
+            None => None,
+        }
+    }
+
+    /// The same of a short text, which among few members is found without a call.
+    #[inline(always)]
+    pub fn get_short(&self, name: &ShortText) -> Option<&Doc>
+        ensures { option_map (λ d. value d.now) result
+            ≡ entry (short_text name.now) (members_value self.now) }
+    {
+        match self.entries.get_key_value_of(name) {
             Some((_, found)) => Some(found),
             None => None,
         }

@@ -1,17 +1,21 @@
 //! Values by name, in one list.
 
-ghost use Rattle.std.specs.Prelude.{◌≡◌, ◌<◌, ◌↔◌, [], ◌++◌, IsTrue, length, IfOk, IfErr, OnOk, OnErr, option_map};
+ghost use Rattle.std.specs.Prelude.{◌≡◌, ◌<◌, ◌↔◌, [], ◌++◌, IsTrue, length, IfOk, IfErr, IfSome, OnOk, OnErr, option_map};
 ghost use Rattle.std.specs.List.Sorted.{IsStrictlySortedBy};
 ghost use Rattle.std.specs.Map.{keys_of};
-ghost use Rattle.json_doc.specs.SmallTexts.{text_view, text_cmp};
+ghost use Rattle.json_doc.specs.SmallTexts.{short_text, text_view, text_cmp};
 ghost use Rattle.json_doc.specs.NameMaps.{entry_view, entry_named, IsAbove, IsAboveNone, IsPositionOf, IsGapFor, IsPut};
 
 use crate::name_order::compare_names;
+use crate::short_text::ShortText;
 use crate::small_text::SmallText;
 use std::alloc::{AllocError, Global};
 use std::cmp::Ordering;
 use std::collections::BTreeMap;
 use std::marker::Model;
+
+/// Up to so many names all are gone through for one whose bytes needn't be compared by a call; among more it is searched for.
+pub(crate) const FEW: usize = 16;
 
 /// Values by name: each name once, in byte order of names.
 ///
@@ -78,6 +82,18 @@ impl<T> NameMap<T> {
         match position_of(entries, name) {
             Ok(position) => Some(&entries[position]),
             Err(_) => None,
+        }
+    }
+
+    /// The same of a short text, which of few names is found without a call.
+    #[inline(always)]
+    pub fn get_key_value_of(&self, name: &ShortText) -> Option<&(SmallText, T)>
+        ensures { option_map entry_view result ≡ entry_named (short_text name.now) self.now }
+    {
+        let entries = self.as_slice();
+        match position_among_few(entries, name) {
+            Some(position) => Some(&entries[position]),
+            None => self.get_key_value(name.as_str()),
         }
     }
 
@@ -206,6 +222,23 @@ fn is_above_all<T>(entries: &[(SmallText, T)], name: &str) -> bool
         Some((last, _)) => compare_names(name, last.as_str()).is_gt(),
         None => true,
     }
+}
+
+// Where the short text stands, if it is seen among few names, which are gone through.
+#[inline(always)]
+fn position_among_few<T>(entries: &[(SmallText, T)], name: &ShortText) -> Option<usize>
+    requires { IsStrictlySortedBy text_cmp (keys_of entries.now) }
+    ensures { IfSome result (IsPositionOf (short_text name.now) entries.now) }
+{
+    if entries.len() > FEW {
+        return None;
+    }
+    for (position, (own, _)) in entries.iter().enumerate() {
+        if own.is_short(name) {
+            return Some(position);
+        }
+    }
+    None
 }
 
 // Where the name stands, or where it would go.

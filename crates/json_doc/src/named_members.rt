@@ -1,7 +1,9 @@
 //! Members with their names as they stand there, so that keywords' names needn't be compared to be told.
 
 ghost use Rattle.std.specs.Prelude.{◌≡◌, option_map};
+ghost use Rattle.std.specs.Cmp.Lexicographic.{slice_cmp};
 ghost use Rattle.std.specs.Iterator.{YieldsFirstBy, item_count};
+ghost use Rattle.std.specs.Ordering.{nat_cmp};
 ghost use Rattle.definitions.specs.Values.{same_text};
 ghost use Rattle.json_doc.specs.Members.{members_left};
 ghost use Rattle.json_doc.specs.NamedMembers.{name_text, named_left, named_view};
@@ -11,6 +13,7 @@ use crate::doc::Doc;
 use crate::members::MembersIter;
 use crate::small_text::SmallText;
 use keywords::Keyword;
+use std::cmp::Ordering;
 
 /// The name of a member, as it stands there.
 ///
@@ -36,6 +39,14 @@ impl<'a> Name<'a> {
         ensures { option_map row_of result ≡ row_named (name_text self.entry) }
     {
         self.stored.keyword()
+    }
+
+    /// How it stands to the other, byte by byte.
+    #[inline(always)]
+    pub fn compare(self, other: Name<'_>) -> Ordering
+        ensures { result ≡ slice_cmp nat_cmp (name_text self.entry) (name_text other.entry) }
+    {
+        self.stored.compare(other.stored)
     }
 
     /// Whether it is the name of this keyword.

@@ -1,6 +1,6 @@
 //! Short texts, which stand in the value itself.
 
-ghost use Rattle.std.specs.Prelude.{◌≡◌, ◌≤◌, ◌<◌, length, take, true};
+ghost use Rattle.std.specs.Prelude.{◌≡◌, ◌≤◌, ◌<◌, IsTrue, length, take, true};
 ghost use Rattle.std.specs.Option.{MatchOption};
 ghost use Rattle.std.specs.Str.{is_utf8};
 
@@ -44,6 +44,22 @@ impl ShortText {
         ensures { result ≡ length (short_text self.now) }
     {
         self.len as usize
+    }
+
+    /// Whether it surely is the other text.
+    #[inline(always)]
+    pub(crate) fn is_same(&self, other: &ShortText) -> bool
+        ensures { IsTrue result → short_text self.now ≡ short_text other.now }
+    {
+        self.is_padded(other.len, &other.bytes)
+    }
+
+    /// Whether it surely is the text of so many of these bytes, where zeros stand behind them: all bytes are compared at once.
+    #[inline(always)]
+    pub fn is_padded(&self, len: u32, padded: &[u8; SHORT]) -> bool
+        ensures { IsTrue result → short_text self.now ≡ take len padded.now }
+    {
+        self.len == len && self.bytes == *padded
     }
 
     /// The text.

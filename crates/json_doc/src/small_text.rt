@@ -1,14 +1,15 @@
 //! Names, of which short ones stand in the value itself, and keywords' names as the keyword.
 
-ghost use Rattle.std.specs.Prelude.{◌≡◌, ◌≤◌, Some, IfOk, length, nat_eq, option_map, refl};
+ghost use Rattle.std.specs.Prelude.{◌≡◌, ◌≤◌, IsTrue, Some, IfOk, length, nat_eq, option_map, refl};
 ghost use Rattle.std.specs.Result.{IsOk};
 ghost use Rattle.std.specs.Cmp.{on_equiv, on_total, on_po, on_per, partial_equiv_from_equiv};
 ghost use Rattle.std.specs.Cmp.Lexicographic.{pointwise, slice_cmp, nat_list_eq_equiv, nat_list_cmp_total, texts_po, texts_ties};
 ghost use Rattle.std.specs.Ordering.{nat_cmp};
 ghost use Rattle.definitions.specs.Values.{same_text};
-ghost use Rattle.json_doc.specs.SmallTexts.{text_view};
+ghost use Rattle.json_doc.specs.SmallTexts.{short_text, text_cmp, text_view};
 ghost use Rattle.keywords.specs.Rows.{row_named, row_of};
 
+use crate::name_order::compare_names;
 use crate::short_text::ShortText;
 use keywords::Keyword;
 use std::alloc::{AllocError, Global};
@@ -73,6 +74,28 @@ impl SmallText {
         match self {
             SmallText::Keyword(own) => is_same_keyword(keyword, *own),
             _ => keyword.name() == self.as_str(),
+        }
+    }
+
+    /// Whether it surely is this short text.
+    #[inline(always)]
+    pub fn is_short(&self, text: &ShortText) -> bool
+        ensures { IsTrue result → text_view self.now ≡ short_text text.now }
+    {
+        match self {
+            SmallText::Short(own) => own.is_same(text),
+            _ => false,
+        }
+    }
+
+    /// How it stands to the other, byte by byte. Short texts that are the same are told without a call.
+    #[inline(always)]
+    pub fn compare(&self, other: &SmallText) -> Ordering
+        ensures { result ≡ text_cmp self.now other.now }
+    {
+        match other {
+            SmallText::Short(short) if self.is_short(short) => Ordering::Equal,
+            _ => compare_names(self.as_str(), other.as_str()),
         }
     }
 

@@ -39,7 +39,7 @@ fn has_name(instance: &Doc, name: &Doc) -> bool
 {
     match name {
         Doc::Str(name) => instance.get(name.as_str()).is_some(),
-        Doc::Short(name) => instance.get(name.as_str()).is_some(),
+        Doc::Short(name) => instance.get_short(name).is_some(),
         _ => true,
     }
 }

@@ -1,12 +1,28 @@
 //! The types of instances (Validation, section 6.1.1).
 
-ghost use Rattle.std.specs.Prelude.{◌≡◌};
+ghost use Rattle.std.specs.Prelude.{◌≡◌, IsTrue, true};
 ghost use Rattle.std.specs.List.{list_any};
 ghost use Rattle.definitions.specs.Values.{same_text};
 ghost use Rattle.definitions.specs.Assertions.{is_of_types, is_of_type, types_of};
 ghost use Rattle.json_doc.specs.Docs.{value};
+ghost use Rattle.json_doc.specs.SmallTexts.{short_text};
 
-use json_doc::Doc;
+use json_doc::{Doc, ShortText};
+
+// The names of the types, with zeros behind them.
+const NULL: &[u8; 24] = b"null\0\0\0\0\0\0\0\0\0\0\0\0\0\0\0\0\0\0\0\0";
+
+const BOOLEAN: &[u8; 24] = b"boolean\0\0\0\0\0\0\0\0\0\0\0\0\0\0\0\0\0";
+
+const INTEGER: &[u8; 24] = b"integer\0\0\0\0\0\0\0\0\0\0\0\0\0\0\0\0\0";
+
+const NUMBER: &[u8; 24] = b"number\0\0\0\0\0\0\0\0\0\0\0\0\0\0\0\0\0\0";
+
+const STRING: &[u8; 24] = b"string\0\0\0\0\0\0\0\0\0\0\0\0\0\0\0\0\0\0";
+
+const ARRAY: &[u8; 24] = b"array\0\0\0\0\0\0\0\0\0\0\0\0\0\0\0\0\0\0\0";
+
+const OBJECT: &[u8; 24] = b"object\0\0\0\0\0\0\0\0\0\0\0\0\0\0\0\0\0\0";
 
 /// Whether the instance is of the type, or of one of the types.
 pub(crate) fn is_of_types(instance: &Doc, types: &Doc) -> bool
@@ -29,8 +45,24 @@ fn is_of_type(instance: &Doc, name: &Doc) -> bool
 {
     match name {
         Doc::Str(name) => has_type(instance, name.as_str()),
-        Doc::Short(name) => has_type(instance, name.as_str()),
+        Doc::Short(name) => surely_has_type(instance, name) || has_type(instance, name.as_str()),
         _ => false,
+    }
+}
+
+// Whether the instance surely has a type of this name, which is told without a call.
+#[inline(always)]
+fn surely_has_type(instance: &Doc, name: &ShortText) -> bool
+    ensures { IsTrue result
+        → list_any (same_text (short_text name.now)) (types_of (value instance.now)) ≡ true }
+{
+    match instance {
+        Doc::Null => name.is_padded(4, NULL),
+        Doc::Bool(_) => name.is_padded(7, BOOLEAN),
+        Doc::Int(_) => name.is_padded(7, INTEGER) || name.is_padded(6, NUMBER),
+        Doc::Str(_) | Doc::Short(_) => name.is_padded(6, STRING),
+        Doc::List(_) => name.is_padded(5, ARRAY),
+        Doc::Dict(_) => name.is_padded(6, OBJECT),
     }
 }
 

@@ -18,7 +18,7 @@ use regex_hir::Hir;
 use regex_nfa::Nfa;
 use regex_syntax::{Config, ErrorKind, Parsed};
 use regex_vm::PikeVm;
-use std::alloc::Global;
+use std::alloc::{AllocError, Global};
 use std::marker::Model;
 
 /// About how many bytes the states may take that the searches for a small pattern build.
@@ -103,9 +103,9 @@ impl Machine {
     }
 
     /// Whether the pattern matches somewhere in the text. The only error is want of memory.
-    pub(crate) fn is_match(&mut self, alloc: Global, text: &str) -> Result<bool, Fault>
+    #[inline(always)]
+    pub(crate) fn is_match(&mut self, alloc: Global, text: &str) -> Result<bool, AllocError>
         ensures ok { IfOk result (λ found. found ≡ has_match self.old text.now) }
-        ensures err { IfErr result (λ f. f ≡ Fault.NoRoom) }
         ensures same { self.new ≡ self.old }
     {
         let hay = text.as_bytes();
@@ -123,9 +123,8 @@ impl Machine {
     }
 
     // The same, with a look at the start first: all matches begin there, or one may be empty, or the DFA gave up.
-    fn is_match_from_start(&mut self, alloc: Global, hay: &[u8]) -> Result<bool, Fault>
+    fn is_match_from_start(&mut self, alloc: Global, hay: &[u8]) -> Result<bool, AllocError>
         ensures ok { IfOk result (λ found. found ≡ has_match self.old hay.now) }
-        ensures err { IfErr result (λ f. f ≡ Fault.NoRoom) }
         ensures same { self.new ≡ self.old }
     {
         match self
@@ -140,11 +139,10 @@ impl Machine {
     }
 }
 
-// Whether the NFA has a match in text. It looks at each thread, and keeps nothing.
-fn is_match_by_threads(alloc: Global, nfa: &Nfa, hay: &[u8]) -> Result<bool, Fault>
-    ensures ok { (re : Re) → Implements nfa.now re
+// Whether the NFA has a match in text. It looks at each thread, and keeps nothing. The only error is want of memory.
+fn is_match_by_threads(alloc: Global, nfa: &Nfa, hay: &[u8]) -> Result<bool, AllocError>
+    ensures { (re : Re) → Implements nfa.now re
         → IfOk result (λ found. found ≡ is_some (find_str re hay.now 0)) }
-    ensures err { IfErr result (λ f. f ≡ Fault.NoRoom) }
 {
     let mut threads = PikeVm::new(alloc, nfa)?;
     let mut at = 0;

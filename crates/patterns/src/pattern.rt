@@ -1,12 +1,14 @@
 //! Patterns that have been built.
 
-ghost use Rattle.std.specs.Prelude.{◌≡◌, ◌≢◌, ◌≤◌, ◌-◌, true, IfOk, IfErr, OnOk, OnErr};
+ghost use Rattle.std.specs.Prelude.{◌≡◌, ◌≢◌, ◌≤◌, ◌-◌, true, IfOk, IfErr, IfSome, OnOk, OnErr};
 ghost use Rattle.definitions.specs.Patterns.{is_read, has_match};
+ghost use Rattle.patterns.specs.HeldPatterns.{held_text};
 ghost use Rattle.patterns.specs.Nesting.{NestsWithin};
 
+use crate::held::HeldPattern;
 use crate::machine::Machine;
 use faults::Fault;
-use std::alloc::Global;
+use std::alloc::{AllocError, Global};
 use std::cell::RefCell;
 use std::marker::Model;
 
@@ -82,16 +84,27 @@ impl Pattern {
         self.text.as_str()
     }
 
-    /// Whether the pattern matches somewhere in the text (Validation, section 6.3.3): where a match must begin or end, the
-    /// pattern says so by `^` and `$`. The only error is want of memory.
-    pub fn matches(&self, alloc: Global, text: &str) -> Result<bool, Fault>
-        ensures ok { IfOk result (λ found. found ≡ has_match self.now text.now) }
-        ensures err { IfErr result (λ f. f ≡ Fault.NoRoom) }
+    /// Holds the pattern's machine for several searches, where nothing else holds it. Its text is compared with the pattern's
+    /// once.
+    #[inline(always)]
+    pub fn hold(&self) -> Option<HeldPattern<'_>>
+        ensures { IfSome result (λ h. held_text h ≡ self.now) }
     {
         match self.machine.try_borrow_mut() {
-            Ok(mut machine) if machine.text() == self.text() => machine.is_match(alloc, text),
-            // Never: nothing else borrows the machine, and it is this pattern's.
-            _ => Err(Fault::NoRoom),
+            Ok(machine) if machine.text() == self.text() => Some(HeldPattern { machine }),
+            _ => None,
+        }
+    }
+
+    /// Whether the pattern matches somewhere in the text, as [`HeldPattern::matches`] says it. The only error is want of memory.
+    #[inline(always)]
+    pub fn matches(&self, alloc: Global, text: &str) -> Result<bool, AllocError>
+        ensures { IfOk result (λ found. found ≡ has_match self.now text.now) }
+    {
+        match self.hold() {
+            Some(mut held) => held.matches(alloc, text),
+            // Never: nothing else holds the machine, and it is this pattern's.
+            None => Err(AllocError),
         }
     }
 }

@@ -17,4 +17,4 @@ returns-in-At-clause-ok c =
 pub returns-clause-ok : goal.returns-clause-ok
 returns-clause-ok c =
     let small = are_bytes c.args.hay.now c.type_inv.hay in
-    rw c.self.view_is at (by_threads _ _ _ _ c.self.invariant.1 c.args.hay.now small _ c.is_match_by_threads.ensures.ok)
+    rw c.self.view_is at (by_threads _ _ _ _ c.self.invariant.1 c.args.hay.now small _ c.is_match_by_threads.ensures)

@@ -32,7 +32,7 @@ mirrored rows s t way (further {t = m} {way = first} {rest = rest} step more w) 
     let q = mirrored rows m t rest more (below r first step.part) value_is in
     (q.0, (further other q.1.0 w, q.1.1))
 
-document_pattern : (base : Text) (v : Value) (s : Schema) (text : Text) → Contains (schemas_of base v) s → Contains (patterns_of s) text → Contains (patterns v) text
+pub document_pattern : (base : Text) (v : Value) (s : Schema) (text : Text) → Contains (schemas_of base v) s → Contains (patterns_of s) text → Contains (patterns v) text
 document_pattern base v s text c k =
     let top : Schema = schema_at base [] v in
     let other : Schema = schema_at [] [] v in
@@ -54,12 +54,8 @@ table_pattern ds s text c k =
     let d : (d : Document) × (Contains ds d × Contains (schemas_of d.base d.value) s) = from_flat_map (λ d. schemas_of d.base d.value) s ds c in
     (d.0, (d.1.0, document_pattern d.0.base d.0.value s text d.1.1 k))
 
--- a compiled document that stands for one with a pattern has it
-pub has_pattern : (x y : Compiled) (text : Text) → y ≡ x → (d : Document) → HasPattern d text → compiled_view x ≡ d → Contains (patterns (compiled_value y)) text
-unfolding HasPattern
-has_pattern x y text e d has same =
-    subst (λ (z : Compiled). Contains (patterns (compiled_value z)) text) (sym e) (subst (λ (f : Document). Contains (patterns f.value) text) (sym same) has)
-
 -- a compiled document that lacks a pattern means a document that does
 pub lacks_pattern : (x y : Compiled) (text : Text) → y ≡ x → (Contains (patterns (compiled_value y)) text → ⊥) → (d : Document) → HasPattern d text → compiled_view x ≡ d → ⊥
-lacks_pattern x y text e none d has same = none (has_pattern x y text e d has same)
+unfolding HasPattern
+lacks_pattern x y text e none d has same =
+    none (subst (λ (z : Compiled). Contains (patterns (compiled_value z)) text) (sym e) (subst (λ (f : Document). Contains (patterns f.value) text) (sym same) has))

@@ -1,5 +1,5 @@
 -- Shared documents from some place on.
-use Rattle.std.proofs.Common.{◌≡◌, ◌<◌, ◌≤◌, ◌+◌, ℕ, List, [], ◌∷◌, Contains, length, get_or, drop, ap, subst, ◌∙◌, inl, inr, arith}
+use Rattle.std.proofs.Common.{◌≡◌, ◌<◌, ◌≤◌, ◌+◌, ℕ, List, Contains, length, get_or, drop, ap, subst, ◌∙◌, inl, inr}
 use Rattle.std.proofs.lemmas.List.{at_drop_more, at_drop_all}
 use Rattle.std.specs.Global.{Global}
 use Rattle.std.specs.declared.rc.Rc.{Rc}
@@ -23,13 +23,3 @@ further_on xs i x l e d other c =
       | inl same ↦ absurd (other (ap (λ y. compiled_view y.value) e ∙ same))
       | inr later ↦ later
     ]
-
--- the only one
-pub only_document : (xs : List (Rc Compiled Global)) (x : Rc Compiled Global) → length xs ≡ 1 → x ≡ get_or xs 0 x → (d : Document) → Contains (shared_documents xs) d → compiled_view x.value ≡ d
-unfolding shared_documents
-only_document [] x l e d c = absurd (omega (arith, l))
-only_document (y ∷ []) x l e d c = elim (first_or_later (compiled_view y.value) d [] c) [
-  | inl same ↦ ap (λ z. compiled_view z.value) e ∙ same
-  | inr later ↦ absurd (nothing_in d later)
-]
-only_document (y ∷ z ∷ xs) x l e d c = absurd (omega (arith, l))

@@ -12,3 +12,4 @@ pub mod LinkFaults
 pub mod SoundLists
 pub mod Together
 pub mod ReferenceNumbers
+pub mod PatternNumbers

@@ -13,6 +13,7 @@ mod list_holding;
 mod list_source;
 mod lookups;
 mod named;
+mod pattern_numbers;
 mod references;
 mod source;
 mod visiting;

@@ -1,12 +1,12 @@
 //! What the linked documents have under a URI, a reference and a pattern's text (JSON Schema 2020-12 Core, section 8.2).
 
-ghost use Rattle.std.specs.Prelude.{◌≡◌, [], List, false, Some, Ok, Err, IfOk, IfErr, IfSome, IsSomeAnd, IsTrue, Contains, codes, is_some, map, option_map, find, unwrap_or, string_bytes};
+ghost use Rattle.std.specs.Prelude.{◌≡◌, [], List, false, Some, Ok, Err, IfOk, IfErr, IfSome, IsTrue, Contains, codes, is_some, map, option_map, find, unwrap_or, string_bytes};
 ghost use Rattle.std.specs.BTreeSet.{contains_text};
 ghost use Rattle.std.specs.List.{position_or_len};
 ghost use Rattle.definitions.specs.Fragments.{tokens};
 ghost use Rattle.definitions.specs.Reach.{holds_resource};
 ghost use Rattle.definitions.specs.Resolution.{target_uri};
-ghost use Rattle.definitions.specs.Searches.{patterns, patterns_of};
+ghost use Rattle.definitions.specs.Searches.{patterns_of};
 ghost use Rattle.definitions.specs.Schemas.{Document, Schema, identity};
 ghost use Rattle.definitions.specs.Targets.{resource_root, target, target_by, schema_with_dynamic_anchor, dynamic_by, dynamic_target};
 ghost use Rattle.definitions.specs.Uris.{without_fragment};
@@ -18,7 +18,7 @@ ghost use Rattle.linker.specs.DynamicTargets.{first_target, is_anchored, target_
 ghost use Rattle.linker.specs.SharedDocuments.{shared_documents};
 ghost use Rattle.linker.specs.LinkedDocuments.{linked_uri, linked_documents, linked_schemas};
 ghost use Rattle.schema_index.specs.Locateds.{located_view};
-ghost use Rattle.schema_scan.specs.CompiledDocuments.{compiled_value, compiled_view};
+ghost use Rattle.schema_scan.specs.CompiledDocuments.{compiled_view};
 ghost use Rattle.uri_ref.specs.AbsoluteReferences.{IsReadAs};
 ghost use Rattle.uri_ref.specs.FragmentViews.{fragment_view};
 
@@ -140,13 +140,13 @@ impl Linked {
         Ok(self.resource_uri(uri.as_str()))
     }
 
-    /// The pattern with this text, where a schema of these documents has it. Of other texts it answers nothing, or some
-    /// other pattern.
+    /// The pattern with this text, where a schema of these documents has it.
     pub fn pattern(&self, text: &str) -> Option<&Pattern>
-        ensures { (s : Schema) → Contains (linked_schemas self.now) s
-            → Contains (patterns_of s) text.now → IsSomeAnd result (λ p. p.now ≡ text.now) }
+        ensures same { IfSome result (λ p. p.now ≡ text.now) }
+        ensures there { (s : Schema) → Contains (linked_schemas self.now) s
+            → Contains (patterns_of s) text.now → IsTrue (is_some result) }
     {
-        known_pattern(self.documents.as_slice(), text)
+        first_pattern(self.documents.as_slice(), text)
     }
 
     // The document that has a resource with this URI.
@@ -271,17 +271,6 @@ fn outermost_of(uris: &BTreeSet<String>, scope: &[&str]) -> usize
     scope.len()
 }
 
-// The pattern with this text, where one of the documents has it: the only document is asked as one that has it.
-fn known_pattern<'a>(documents: &'a [Rc<Compiled>], text: &str) -> Option<&'a Pattern>
-    ensures { (d : Document) → Contains (shared_documents documents.now) d
-        → HasPattern d text.now → IsSomeAnd result (λ p. p.now ≡ text.now) }
-{
-    if documents.len() == 1 {
-        return documents[0].pattern(text);
-    }
-    first_pattern(documents, text)
-}
-
 // The first document's pattern with this text, of those that have one.
 fn first_pattern<'a>(documents: &'a [Rc<Compiled>], text: &str) -> Option<&'a Pattern>
     ensures same { IfSome result (λ p. p.now ≡ text.now) }
@@ -289,27 +278,9 @@ fn first_pattern<'a>(documents: &'a [Rc<Compiled>], text: &str) -> Option<&'a Pa
         → HasPattern d text.now → IsTrue (is_some result) }
 {
     for document in documents {
-        if let Some(pattern) = own_pattern(document, text) {
+        if let Some(pattern) = document.pattern(text) {
             return Some(pattern);
         }
     }
     None
-}
-
-// The document's pattern with this text, where it has one.
-fn own_pattern<'a>(document: &'a Compiled, text: &str) -> Option<&'a Pattern>
-    ensures same { IfSome result (λ p. p.now ≡ text.now) }
-    ensures there { Contains (patterns (compiled_value document.now)) text.now
-        → IsTrue (is_some result) }
-{
-    match document.pattern(text) {
-        Some(pattern) => {
-            if pattern.text() == text {
-                Some(pattern)
-            } else {
-                None
-            }
-        }
-        None => None,
-    }
 }

@@ -97,7 +97,7 @@ impl Linked {
 
     // The document of this number.
     #[tactic(auto, unfolding(crate::specs::ReferenceNumbers::document_at))]
-    fn document(&self, number: usize) -> Option<&Compiled>
+    pub(crate) fn document(&self, number: usize) -> Option<&Compiled>
         ensures { option_map (λ d. d.now) result ≡ document_at self.now number }
     {
         match self.documents.get(number) {

@@ -3,6 +3,7 @@ use Rattle.std.specs.Prelude.{List}
 use Rattle.definitions.specs.Values.{Text, Value}
 use Rattle.definitions.specs.Schemas.{Schema, Document, document_from, schemas_of}
 use Rattle.schema_index.specs.IndexedDocuments.{indexed_base, indexed_texts, indexed_value}
+use Rattle.schema_scan.specs.PatternTables.{table_texts}
 use Rattle.schema_scan.specs.declared.compiled.Compiled.{Compiled}
 
 abbrev pub compiled_base : Compiled → Text
@@ -18,6 +19,10 @@ compiled_schemas c = schemas_of (compiled_base c) (compiled_value c)
 -- the texts of its schemas' references, in the order of a walk
 abbrev pub compiled_texts : Compiled → List Text
 compiled_texts c = indexed_texts c.indexed
+
+-- the texts of its patterns, by number
+abbrev pub compiled_patterns : Compiled → List Text
+compiled_patterns c = table_texts c.pattern_table
 
 abbrev pub compiled_view : Compiled → Document
 compiled_view c = document_from (compiled_base c) (compiled_value c)

@@ -1,8 +1,12 @@
 -- The texts whose patterns a table holds.
-use Rattle.std.specs.Prelude.{Bool}
+use Rattle.std.specs.Prelude.{Bool, List}
 use Rattle.definitions.specs.Values.{Text}
 use Rattle.schema_scan.specs.TextsAmong.{is_among}
 use Rattle.schema_scan.specs.declared.pattern_table.PatternTable.{PatternTable}
 
 unfoldable pub holds_pattern : PatternTable → Text → Bool
 holds_pattern t text = is_among t.patterns.items text
+
+-- the texts of its patterns, by number
+unfoldable pub table_texts : PatternTable → List Text
+table_texts t = t.patterns.items

@@ -1,6 +1,6 @@
 //! Documents that can be evaluated.
 
-ghost use Rattle.std.specs.Prelude.{◌≡◌, ◌||◌, [], true, None, IfOk, IfErr, IfSome, IsSomeAnd, OnOk, Contains, Some, codes, is_some, map, option_map, slice_get, string_bytes};
+ghost use Rattle.std.specs.Prelude.{◌≡◌, ◌||◌, [], true, None, IfOk, IfErr, IfSome, IsTrue, OnOk, Contains, Some, codes, is_some, map, option_map, slice_get, string_bytes};
 ghost use Rattle.std.specs.List.{list_all};
 ghost use Rattle.definitions.specs.Patterns.{regular_search};
 ghost use Rattle.definitions.specs.Reach.{holds_resource, references_in};
@@ -41,7 +41,7 @@ pub struct Compiled {
 }
 
 impl Compiled {
-    ghost use Rattle.schema_scan.specs.CompiledDocuments.{compiled_base, compiled_value, compiled_schemas, compiled_texts, compiled_view};
+    ghost use Rattle.schema_scan.specs.CompiledDocuments.{compiled_base, compiled_patterns, compiled_value, compiled_schemas, compiled_texts, compiled_view};
 
     /// The text of the base that the document stands under.
     pub fn base(&self) -> &str
@@ -180,12 +180,28 @@ impl Compiled {
         self.indexed.add_dynamic_resources(alloc, resources)
     }
 
-    /// The pattern with this text, where one of the document's schemas has it. Of other texts it answers nothing, or some
-    /// other pattern.
+    /// The pattern with this text, where one of the document's schemas has it.
     pub fn pattern(&self, text: &str) -> Option<&Pattern>
-        ensures { Contains (patterns (compiled_value self.now)) text.now
-            → IsSomeAnd result (λ p. p.now ≡ text.now) }
+        ensures same { IfSome result (λ p. p.now ≡ text.now) }
+        ensures there { Contains (patterns (compiled_value self.now)) text.now
+            → IsTrue (is_some result) }
     {
         self.pattern_table.get(text)
+    }
+
+    /// The number of the pattern with this text, where one of the document's schemas has it. It is told by the bytes in which
+    /// their texts differ: of another text it is some number.
+    pub fn pattern_number(&self, text: &str) -> usize
+        ensures { Contains (patterns (compiled_value self.now)) text.now
+            → slice_get (compiled_patterns self.now) result ≡ Some text.now }
+    {
+        self.pattern_table.number(text)
+    }
+
+    /// The pattern of this number.
+    pub fn numbered_pattern(&self, number: usize) -> Option<&Pattern>
+        ensures { option_map (λ p. p.now) result ≡ slice_get (compiled_patterns self.now) number }
+    {
+        self.pattern_table.numbered(number)
     }
 }

@@ -1,6 +1,6 @@
 //! The patterns of a document, each built once.
 
-ghost use Rattle.std.specs.Prelude.{◌≡◌, ◌≢◌, ◌<◌, ◌≤◌, true, IfOk, IfErr, IsSomeAnd, OnOk, map, length, string_bytes};
+ghost use Rattle.std.specs.Prelude.{◌≡◌, ◌≢◌, ◌<◌, ◌≤◌, true, IfOk, IfErr, IfSome, OnOk, Some, is_some, map, length, option_map, slice_get, string_bytes};
 ghost use Rattle.std.specs.List.{list_all};
 ghost use Rattle.definitions.specs.Values.{Text};
 ghost use Rattle.definitions.specs.Patterns.{is_read};
@@ -28,7 +28,7 @@ pub(crate) struct PatternTable {
 }
 
 impl PatternTable {
-    ghost use Rattle.schema_scan.specs.PatternTables.{holds_pattern};
+    ghost use Rattle.schema_scan.specs.PatternTables.{holds_pattern, table_texts};
 
     /// Builds the pattern of each text, once where a text stands more than once. The first pattern that can't be built
     /// is [`Fault::BadPattern`], and so is the first that takes more than what those before it have left of 32 MiB.
@@ -45,15 +45,14 @@ impl PatternTable {
         Ok(PatternTable { patterns, numbers })
     }
 
-    /// The pattern with this text, where the table holds it. Of others it answers nothing, or another pattern: it looks at
-    /// no more bytes of the text than tell those apart that are held.
+    /// The pattern with this text.
     pub(crate) fn get(&self, text: &str) -> Option<&Pattern>
-        ensures { holds_pattern self.now text.now ≡ true
-            → IsSomeAnd result (λ p. p.now ≡ text.now) }
+        ensures same { IfSome result (λ p. p.now ≡ text.now) }
+        ensures held { is_some result ≡ holds_pattern self.now text.now }
     {
-        match self.patterns.get(self.numbers.number(text)) {
+        match self.numbered(self.number(text)) {
             Some(pattern) => {
-                if pattern.text().len() == text.len() {
+                if pattern.text() == text {
                     Some(pattern)
                 } else {
                     None
@@ -61,6 +60,24 @@ impl PatternTable {
             }
             None => None,
         }
+    }
+
+    /// The number of the pattern with this text, where the table holds it. It is told by the bytes in which the patterns'
+    /// texts differ: of another text it is some number.
+    #[tactic(auto, unfolding(crate::specs::PatternTables::table_texts))]
+    pub(crate) fn number(&self, text: &str) -> usize
+        ensures { holds_pattern self.now text.now ≡ true
+            → slice_get (table_texts self.now) result ≡ Some text.now }
+    {
+        self.numbers.number(text)
+    }
+
+    /// The pattern of this number.
+    #[tactic(auto, unfolding(crate::specs::PatternTables::table_texts))]
+    pub(crate) fn numbered(&self, number: usize) -> Option<&Pattern>
+        ensures { option_map (λ p. p.now) result ≡ slice_get (table_texts self.now) number }
+    {
+        self.patterns.get(number)
     }
 }
 

@@ -1,28 +1,23 @@
-use Rattle.std.proofs.Common.{◌≡◌, true, false, length, ap, ◌∙◌}
-use Rattle.schema_scan.specs.PatternTables.{holds_pattern}
-use Rattle.schema_scan.proofs.HeldPatterns.{numbered_text, item_is, within_table}
+use Rattle.std.proofs.Common.{◌≡◌, Some, None, true, false, true≢false, sym, ap, ◌∙◌}
+use Rattle.std.proofs.lemmas.Bool.{false_from_ne_true}
+use Rattle.std.proofs.lemmas.Option.{same_Some}
+use Rattle.std.proofs.lemmas.Slice.Eq.{bytes_eq-Decides}
+use Rattle.schema_scan.specs.PatternTables.{holds_pattern, table_texts}
+use Rattle.schema_scan.proofs.HeldPatterns.{among_at}
 use Rattle.schema_scan.proofs.pattern_table.PatternTable.get.Goals as goal
 
-pub returns-then-text : goal.returns-then-text
-unfolding holds_pattern
-returns-then-text c = λ held.
-    let table = c.args.self.now in
-    c.in-Some.ensures.lookup.1
-    ∙ item_is table.patterns.items c.deref.result.now c.number.result _ c.args.text.now _ c.deref.ensures.value c.number.ensures
-    (numbered_text table.numbers table.patterns.items c.args.text.now table.numbered held)
+pub returns-then-eq-clause-held : goal.returns-then-eq-clause-held
+unfolding holds_pattern table_texts
+returns-then-eq-clause-held c =
+    sym (among_at c.args.self.now.patterns.items c.args.text.now c.number.result
+    (sym c.in-Some.ensures ∙ ap Some (sym c.text.ensures.text ∙ (bytes_eq-Decides c.text.result.now c.args.text.now).0 (sym c.eq.ensures ∙ c.if-eq.true))))
 
-pub returns-else-text : goal.returns-else-text
-unfolding holds_pattern
-returns-else-text c = λ held.
-    let table = c.args.self.now in
-    c.if-text.false (ap length (c.text.ensures.text ∙ c.in-Some.ensures.lookup.1
-    ∙ item_is table.patterns.items c.deref.result.now c.number.result _ c.args.text.now _ c.deref.ensures.value c.number.ensures
-    (numbered_text table.numbers table.patterns.items c.args.text.now table.numbered held)))
+pub returns-else-eq-clause-held : goal.returns-else-eq-clause-held
+returns-else-eq-clause-held c =
+    sym (false_from_ne_true (holds_pattern c.args.self.now c.args.text.now) (λ held.
+    true≢false (sym ((bytes_eq-Decides c.text.result.now c.args.text.now).1 (c.text.ensures.text ∙ same_Some _ _ (c.in-Some.ensures ∙ c.number.ensures held))) ∙ sym c.eq.ensures ∙ c.if-eq.false)))
 
-pub returns-in-None : goal.returns-in-None
-unfolding holds_pattern
-returns-in-None c = λ held.
-    let table = c.args.self.now in
-    let less = within_table table.patterns.items c.deref.result.now c.number.result _ c.args.text.now c.deref.ensures.value c.number.ensures
-    (numbered_text table.numbers table.patterns.items c.args.text.now table.numbered held) in
-    let none : false ≡ true = c.in-None.ensures.lookup.2 less in cc
+pub returns-in-None-clause-held : goal.returns-in-None-clause-held
+returns-in-None-clause-held c =
+    sym (false_from_ne_true (holds_pattern c.args.self.now c.args.text.now) (λ held.
+    let none : None ≡ Some c.args.text.now = c.in-None.ensures ∙ c.number.ensures held in cc))

@@ -1,12 +1,15 @@
 -- Patterns, one after another.
-use Rattle.std.proofs.Common.{◌≡◌, List, [], ◌∷◌, ◌++◌, map, filter, Bool, true, false, cond, ◌||◌, sym, ap, ◌∙◌, append_assoc, subst, Contains}
+use Rattle.std.proofs.Common.{◌≡◌, List, [], ◌∷◌, ◌++◌, map, filter, Bool, true, false, cond, ◌||◌, sym, ap, ◌∙◌, append_assoc, subst, Contains, Bor}
 use Rattle.std.specs.List.{AllByRecursion, list_any}
 use Rattle.definitions.specs.Values.{Text, Value}
 use Rattle.definitions.specs.Patterns.{has_match}
 use Rattle.definitions.specs.Searches.{patterns_of}
 use Rattle.definitions.specs.Schemas.{Schema}
 use Rattle.definitions.specs.Applied.{Application, Part, named, at_part}
+use Rattle.linker.specs.LinkedDocuments.{linked_schemas}
 use Rattle.linker.specs.declared.linked.Linked.{Linked}
+use Rattle.keyword_plans.specs.Sites.{Shows}
+use Rattle.keyword_plans.specs.declared.site.Site.{Site}
 use Rattle.keyword_plans.specs.Applications.{ArePatternsOf, planned_matches}
 
 pub first_pattern : (l : Linked) (s : Schema) (left : List (Text × Value)) (p : Text × Value) (rest : List (Text × Value)) → left ≡ p ∷ rest
@@ -48,3 +51,13 @@ module _ (k : Text) (a : Application) (name : Text) (x : Value) where
       → done ++ of left ≡ all → (done ++ one p ∷ []) ++ of rest ≡ all
   matches-more done all left p rest e found so_far =
       append_assoc done (one p ∷ []) (of rest) ∙ ap (λ ys. done ++ ys) (sym (ap of e ∙ of-cons true p rest found)) ∙ so_far
+
+-- ---- the same documents
+pub same_inside : (l m : Bor Linked) (s : Schema) → l ≡ m → Contains (linked_schemas m.now) s → Contains (linked_schemas l.now) s
+same_inside l m s e inside = subst (λ (k : Bor Linked). Contains (linked_schemas k.now) s) (sym e) inside
+
+pub same_patterns : (l m : Bor Linked) (s : Schema) (ps : List (Text × Value)) → l ≡ m → ArePatternsOf m.now s ps → ArePatternsOf l.now s ps
+same_patterns l m s ps e are = subst (λ (k : Bor Linked). ArePatternsOf k.now s ps) (sym e) are
+
+pub same_shown : (l : Bor Linked) (site : Site) (a : Application) → l ≡ site.linked → Shows site a → Contains (linked_schemas l.now) a.schema
+same_shown l site a e shows = same_inside l site.linked a.schema e shows.inside

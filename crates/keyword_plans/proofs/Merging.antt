@@ -7,18 +7,20 @@ use Rattle.std.specs.Iterator.{YieldsFirstBy}
 use Rattle.std.specs.List.Sorted.{IsStrictlySortedBy}
 use Rattle.std.specs.Ordering.{ordering_reverse}
 use Rattle.definitions.specs.Values.{Text, Value, entry, same_text}
-use Rattle.json_doc.specs.Members.{HasNamesInOrder, member_view, members_left}
+use Rattle.json_doc.specs.Members.{HasNamesInOrder}
+use Rattle.json_doc.specs.NamedMembers.{name_text, named_view, named_left}
 use Rattle.json_doc.specs.declared.doc.Doc.{Doc}
-use Rattle.json_doc.specs.declared.members.MembersIter.{MembersIter}
+use Rattle.json_doc.specs.declared.named_members.Name.{Name}
+use Rattle.json_doc.specs.declared.named_members.NamedMembers.{NamedMembers}
 
 -- ---- an iterator and the item that it gave last
 -- the first that is left, if there is one, and the others
-abbrev pub still_left : Option (Bor Text × Bor Doc) → MembersIter → List (Text × Value)
+abbrev pub still_left : Option (Name × Bor Doc) → NamedMembers → List (Text × Value)
 still_left None others = []
-still_left (Some m) others = member_view m ∷ members_left others
+still_left (Some m) others = named_view m ∷ named_left others
 
-pub still-all : (first : Option (Bor Text × Bor Doc)) (before others : MembersIter) → YieldsFirstBy member_view members_left before first others
-    → still_left first others ≡ members_left before
+pub still-all : (first : Option (Name × Bor Doc)) (before others : NamedMembers) → YieldsFirstBy named_view named_left before first others
+    → still_left first others ≡ named_left before
 still-all None before others h = sym h.0
 still-all (Some m) before others h = sym h
 
@@ -40,10 +42,10 @@ pub turned : (t u : Text) → slice_cmp nat_cmp t u ≡ Greater → slice_cmp na
 turned t u e = nat_list_cmp_total.antisymm u t ∙ ap ordering_reverse e
 
 -- how the first name that is left stands to this one, which comes before where none is left
-abbrev pub order_of_first : Option (Bor Text × Bor Doc) → Text → Ordering
-order_of_first first name = unwrap_or (option_map (λ s. slice_cmp nat_cmp s.0.now name) first) Greater
+abbrev pub order_of_first : Option (Name × Bor Doc) → Text → Ordering
+order_of_first first name = unwrap_or (option_map (λ s. slice_cmp nat_cmp (name_text s.0) name) first) Greater
 
-pub before_left : (first : Option (Bor Text × Bor Doc)) (others : MembersIter) (name : Text) → order_of_first first name ≡ Greater
+pub before_left : (first : Option (Name × Bor Doc)) (others : NamedMembers) (name : Text) → order_of_first first name ≡ Greater
     → HasNamesInOrder (still_left first others) → entry name (still_left first others) ≡ None
 before_left None others name e h = refl
-before_left (Some s) others name e h = before_all name (member_view s) (members_left others) (turned s.0.now name e) h
+before_left (Some s) others name e h = before_all name (named_view s) (named_left others) (turned (name_text s.0) name e) h

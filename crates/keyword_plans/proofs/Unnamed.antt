@@ -10,9 +10,11 @@ use Rattle.std.specs.Ordering.{is_gt}
 use Rattle.definitions.specs.Values.{Text, Value, entry, members, same_text}
 use Rattle.definitions.specs.Patterns.{has_match}
 use Rattle.definitions.specs.Applied.{Application, Part, named, at_part, at_members, beside, is_taken}
-use Rattle.json_doc.specs.Members.{HasNamesInOrder, member_view, members_left}
+use Rattle.json_doc.specs.Members.{HasNamesInOrder}
+use Rattle.json_doc.specs.NamedMembers.{named_view, named_left}
 use Rattle.json_doc.specs.declared.doc.Doc.{Doc}
-use Rattle.json_doc.specs.declared.members.MembersIter.{MembersIter}
+use Rattle.json_doc.specs.declared.named_members.Name.{Name}
+use Rattle.json_doc.specs.declared.named_members.NamedMembers.{NamedMembers}
 use Rattle.json_doc.proofs.Nestings.{in_order_rest}
 use Rattle.lemmas.proofs.Texts.{same_text_itself, same_text_turned}
 use Rattle.linker.specs.declared.linked.Linked.{Linked}
@@ -21,10 +23,10 @@ use Rattle.keyword_plans.specs.Sites.{linked_rules}
 use Rattle.keyword_plans.proofs.Merging.{still_left, unlike, order_of_first, before_left}
 
 -- ---- the first schema, where the name of a member doesn't come before its name
-pub rest_ordered : (first : Option (Bor Text × Bor Doc)) (others : MembersIter) (name : Text) → is_gt (order_of_first first name) ≡ false
-    → HasNamesInOrder (still_left first others) → HasNamesInOrder (members_left others)
+pub rest_ordered : (first : Option (Name × Bor Doc)) (others : NamedMembers) (name : Text) → is_gt (order_of_first first name) ≡ false
+    → HasNamesInOrder (still_left first others) → HasNamesInOrder (named_left others)
 rest_ordered None others name e h = absurd (cc)
-rest_ordered (Some s) others name e h = in_order_rest (member_view s) (members_left others) h
+rest_ordered (Some s) others name e h = in_order_rest (named_view s) (named_left others) h
 
 not_first : (s : Text × Value) (ss : List (Text × Value)) (name : Text) → slice_cmp nat_cmp s.0 name ≡ Less → entry name (s ∷ ss) ≡ entry name ss
 not_first s ss name e = ap (λ b. cond b (Some s.1) (entry name ss)) (same_text_turned name s.0 ∙ unlike s.0 name e)
@@ -46,22 +48,22 @@ module _ (k : Text) (a : Application) (v : Value) where
   unneeded_after s m ss [] same h = refl
   unneeded_after s m ss (n ∷ ns) same h = unneeded s n ss ns (ap (λ t. slice_cmp nat_cmp t n.0) same ∙ (h.0).0) h.1
 
-  pub past-unneeded : (first : Option (Bor Text × Bor Doc)) (others : MembersIter) (m : Text × Value) (ms : List (Text × Value)) → order_of_first first m.0 ≡ Less
-      → HasNamesInOrder (m ∷ ms) → unnamed (still_left first others) (m ∷ ms) ≡ unnamed (members_left others) (m ∷ ms)
+  pub past-unneeded : (first : Option (Name × Bor Doc)) (others : NamedMembers) (m : Text × Value) (ms : List (Text × Value)) → order_of_first first m.0 ≡ Less
+      → HasNamesInOrder (m ∷ ms) → unnamed (still_left first others) (m ∷ ms) ≡ unnamed (named_left others) (m ∷ ms)
   past-unneeded None others m ms e h = absurd (cc)
-  past-unneeded (Some s) others m ms e h = unneeded (member_view s) m (members_left others) ms e h
+  past-unneeded (Some s) others m ms e h = unneeded (named_view s) m (named_left others) ms e h
 
-  pub past-named : (first : Option (Bor Text × Bor Doc)) (others : MembersIter) (m : Text × Value) (ms : List (Text × Value)) → order_of_first first m.0 ≡ Equal
-      → HasNamesInOrder (m ∷ ms) → unnamed (still_left first others) (m ∷ ms) ≡ unnamed (members_left others) ms
+  pub past-named : (first : Option (Name × Bor Doc)) (others : NamedMembers) (m : Text × Value) (ms : List (Text × Value)) → order_of_first first m.0 ≡ Equal
+      → HasNamesInOrder (m ∷ ms) → unnamed (still_left first others) (m ∷ ms) ≡ unnamed (named_left others) ms
   past-named None others m ms e h = absurd (cc)
   past-named (Some r) others m ms e h =
-      let s = member_view r in
-      let ss = members_left others in
+      let s = named_view r in
+      let ss = named_left others in
       let same : s.0 ≡ m.0 = exact_bytes s.0 m.0 e in
       let found : entry m.0 (s ∷ ss) ≡ Some s.1 = ap (λ b. cond b (Some s.1) (entry m.0 ss)) (ap (same_text m.0) same ∙ same_text_itself m.0) in
       ap (λ o. at_unnamed a k v m o ++ unnamed (s ∷ ss) ms) found ∙ unneeded_after s m ss ms same h
 
-  pub here-unnamed : (first : Option (Bor Text × Bor Doc)) (others : MembersIter) (m : Text × Value) (ms : List (Text × Value)) → order_of_first first m.0 ≡ Greater
+  pub here-unnamed : (first : Option (Name × Bor Doc)) (others : NamedMembers) (m : Text × Value) (ms : List (Text × Value)) → order_of_first first m.0 ≡ Greater
       → HasNamesInOrder (still_left first others)
       → unnamed (still_left first others) (m ∷ ms) ≡ at_part a (k ∷ []) v (named m.0) m.1 ∷ unnamed (still_left first others) ms
   here-unnamed first others m ms e h = ap (λ o. at_unnamed a k v m o ++ unnamed (still_left first others) ms) (before_left first others m.0 e h)

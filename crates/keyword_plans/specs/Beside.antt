@@ -4,10 +4,11 @@ use Rattle.definitions.specs.Values.{members}
 use Rattle.definitions.specs.Applied.{Application, beside}
 use Rattle.json_doc.specs.Docs.{members_value}
 use Rattle.keyword_plans.specs.Applications.{ArePatternsOf}
+use Rattle.linker.specs.declared.linked.Linked.{Linked}
 use Rattle.keyword_plans.specs.declared.planning.others.PropertyKeywords.{PropertyKeywords}
 
 -- they stand in the application's schema, which is one of the linked documents'
-pub record StandsBeside (b : PropertyKeywords) (a : Application) : Type 0 where
+pub record StandsBeside (l : Linked) (b : PropertyKeywords) (a : Application) : Type 0 where
   pub properties : unwrap_or (option_map (λ m. members_value m.now) b.properties) [] ≡ members (beside a (codes "properties"))
   pub patterns : unwrap_or (option_map (λ m. members_value m.now) b.patterns) [] ≡ members (beside a (codes "patternProperties"))
-  pub inside : ArePatternsOf b.linked.now a.schema (members (beside a (codes "patternProperties")))
+  pub inside : ArePatternsOf l a.schema (members (beside a (codes "patternProperties")))

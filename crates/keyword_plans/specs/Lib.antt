@@ -12,3 +12,5 @@ pub mod Beside
 pub mod Places
 pub mod Enumerated
 pub mod EnumeratedIn
+pub mod Held
+pub mod SearchedIn

@@ -6,6 +6,7 @@ ghost use Rattle.definitions.specs.Applied.{Application, Outcome, condition_outc
 ghost use Rattle.json_doc.specs.Docs.{value};
 ghost use Rattle.keywords.specs.Rows.{row_of};
 ghost use Rattle.keyword_plans.specs.ScopeViews.{scope_documents, scope_uris};
+ghost use Rattle.keyword_plans.specs.SearchedIn.{searched_in};
 ghost use Rattle.keyword_plans.specs.Plans.{applies_in_place, follows_reference, is_consequence, planned_view, searches_patterns};
 ghost use Rattle.keyword_plans.specs.Sites.{Shows, linked_rules};
 
@@ -26,7 +27,8 @@ use crate::planning::members::{plan_names, plan_properties};
 use crate::planning::others::plan_others;
 use crate::planning::references::{plan_dynamic_reference, plan_reference};
 use crate::planning::unevaluated::{plan_unevaluated_items, plan_unevaluated_properties};
-use crate::site::{Evaluated, Site};
+use crate::searches::Searches;
+use crate::site::{Earlier, Evaluated, Site};
 use json_doc::Doc;
 use keywords::Keyword;
 use std::alloc::AllocError;
@@ -34,38 +36,48 @@ use std::alloc::AllocError;
 /// What the keyword of the schema, with this value, applies, in order (JSON Schema 2020-12 Core, 7.1, 10 and 11): it stands
 /// in `planned` in place of all that stood there.
 ///
-/// `then` and `else` need `condition`, which says whether `if` beside passed, where it is there; `evaluated` is what the
-/// keywords but `unevaluatedItems` and `unevaluatedProperties` evaluated. `scope` is the dynamic scope, the schema's own
-/// resource last, and keeps what is followed here. The only error is want of memory.
+/// `then`, `else`, `unevaluatedItems` and `unevaluatedProperties` need what was said `earlier`. `scope` is the dynamic scope,
+/// the schema's own resource last, and keeps what is followed here, as `searches` keep the patterns that are searched for. The
+/// only error is want of memory.
 #[inline(always)]
 pub fn plan<'a>(
     planned: &mut Vec<Planned<'a>>,
     scope: &mut DynamicScope<'a>,
+    searches: &mut Searches<'a>,
     site: Site<'a>,
     keyword: Keyword,
     keyword_value: &'a Doc,
-    condition: Option<bool>,
-    evaluated: Evaluated<'_, 'a>,
+    earlier: Earlier<'_, 'a>,
 ) -> Result<(), AllocError>
     ensures ok { (a : Application) (run : Application → Outcome) → Shows site.entry a
         → scope_documents scope.old ≡ site.entry.linked → a.scope ≡ scope_uris scope.old
+        → searched_in searches.old ≡ site.entry.linked
         → get (row_of keyword).name a.schema.value ≡ Some (value keyword_value.now)
         → (is_consequence (row_of keyword).meaning ≡ true
-        → option_map (λ o. o.valid) (condition_outcome run a) ≡ condition)
+        → option_map (λ o. o.valid) (condition_outcome run a) ≡ earlier.entry.condition)
         → OnOk result (map (planned_view (row_of keyword).name a) planned.new.items
         ≡ keyword_applications (linked_rules site.entry.linked.now) run
-        (map (λ n. n.now) evaluated.entry.names.now) evaluated.entry.indexes.now a
+        (map (λ n. n.now) earlier.entry.evaluated.names.now)
+        earlier.entry.evaluated.indexes.now a
         (row_of keyword).name (row_of keyword).meaning (value keyword_value.now)) }
     ensures uris { scope_uris scope.new ≡ scope_uris scope.old }
     ensures documents { scope_documents scope.new ≡ scope_documents scope.old }
+    ensures searched { searched_in searches.new ≡ searched_in searches.old }
 {
     planned.clear();
     match keyword {
         Keyword::Ref => plan_reference(planned, scope, &site, keyword_value),
         Keyword::DynamicRef => plan_dynamic_reference(planned, scope, &site, keyword_value),
-        Keyword::PatternProperties => plan_patterns(planned, &site, keyword_value),
-        Keyword::AdditionalProperties => plan_others(planned, &site, keyword_value),
-        _ => plan_subschemas(planned, &site, keyword, keyword_value, condition, evaluated),
+        Keyword::PatternProperties => plan_patterns(planned, searches, &site, keyword_value),
+        Keyword::AdditionalProperties => plan_others(planned, searches, &site, keyword_value),
+        _ => plan_subschemas(
+            planned,
+            &site,
+            keyword,
+            keyword_value,
+            earlier.condition,
+            earlier.evaluated,
+        ),
     }
 }
 

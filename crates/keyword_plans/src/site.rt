@@ -26,3 +26,12 @@ pub struct Evaluated<'s, 'a> {
     /// The indexes.
     pub indexes: &'s [usize],
 }
+
+/// What the keywords of a schema object said that are used before another of it (JSON Schema 2020-12 Core, 7.1).
+#[derive(Clone, Copy)]
+pub struct Earlier<'s, 'a> {
+    /// Whether `if` passed, where it is there.
+    pub condition: Option<bool>,
+    /// What the keywords but `unevaluatedItems` and `unevaluatedProperties` evaluated.
+    pub evaluated: Evaluated<'s, 'a>,
+}

@@ -10,10 +10,11 @@ ghost use Rattle.definitions.specs.Evaluated.{contains_holds, keyword_passes, ne
 ghost use Rattle.json_doc.specs.Docs.{value};
 ghost use Rattle.keywords.specs.Rows.{row_of};
 ghost use Rattle.keyword_plans.specs.Plans.{counts_contained, outcomes_of};
+ghost use Rattle.keyword_plans.specs.SearchedIn.{searched_in};
 ghost use Rattle.keyword_plans.specs.Sites.{Shows, linked_rules};
 ghost use Rattle.keyword_plans.specs.Subjects.{subject_value};
 
-use crate::searching::is_match;
+use crate::searches::Searches;
 use crate::site::Site;
 use crate::subject::Subject;
 use assertions::{Assertion, holds, is_at_least, is_at_most};
@@ -27,7 +28,7 @@ use std::alloc::{AllocError, Global};
 /// `minContains` and `maxContains` need `containing`, the number of elements that `contains` beside found, where it is
 /// there. The only error is want of memory.
 pub fn passes<'a>(
-    alloc: Global,
+    searches: &mut Searches<'a>,
     site: Site<'a>,
     keyword: Keyword,
     keyword_value: &'a Doc,
@@ -35,8 +36,8 @@ pub fn passes<'a>(
     passing: u64,
     containing: Option<u64>,
 ) -> Result<bool, AllocError>
-    ensures { (a : Application) (run : Application → Outcome) (names : List Text)
-        (indexes : List ℕ) → Shows site.entry a
+    ensures passes { (a : Application) (run : Application → Outcome) (names : List Text)
+        (indexes : List ℕ) → Shows site.entry a → searched_in searches.old ≡ site.entry.linked
         → get (row_of keyword).name a.schema.value ≡ Some (value keyword_value.now)
         → (counts_contained (row_of keyword).meaning ≡ true
         → option_map (count_by (λ o. o.valid)) (contains_outcomes run a) ≡ containing)
@@ -45,12 +46,13 @@ pub fn passes<'a>(
         applied ≡ length os → passing ≡ pass_count os
         → IfOk result (λ b. b ≡ keyword_passes (linked_rules site.entry.linked.now) run a
         (row_of keyword).name (row_of keyword).meaning (value keyword_value.now) os) }
+    ensures searched { searched_in searches.new ≡ searched_in searches.old }
 {
     if let Some(assertion) = Assertion::of(keyword) {
-        return holds_of(alloc, assertion, keyword_value, site.subject);
+        return holds_of(searches.allocator(), assertion, keyword_value, site.subject);
     }
     match keyword {
-        Keyword::Pattern => is_pattern_met(alloc, site, keyword_value),
+        Keyword::Pattern => is_pattern_met(searches, site, keyword_value),
         Keyword::Ref => Ok(passing == 1),
         Keyword::DynamicRef => Ok(passing == 1),
         Keyword::AnyOf => Ok(passing > 0),
@@ -99,14 +101,20 @@ fn holds_of_name(
 }
 
 // Whether the pattern matches the subject, where it is a string (Validation, 6.3.3).
-fn is_pattern_met(alloc: Global, site: Site<'_>, pattern: &Doc) -> Result<bool, AllocError>
-    ensures { (a : Application) → Shows site.entry a
+fn is_pattern_met(
+    searches: &mut Searches<'_>,
+    site: Site<'_>,
+    pattern: &Doc,
+) -> Result<bool, AllocError>
+    ensures met { (a : Application) → Shows site.entry a
+        → searched_in searches.old ≡ site.entry.linked
         → get (codes "pattern") a.schema.value ≡ Some (value pattern.now)
         → IfOk result (λ b. b ≡ pattern_holds has_match (value pattern.now) a.instance) }
+    ensures searched { searched_in searches.new ≡ searched_in searches.old }
 {
     match pattern.as_str() {
         Some(pattern) => match site.subject.as_str() {
-            Some(text) => is_match(alloc, site.linked, pattern, text),
+            Some(text) => searches.is_match(pattern, text),
             None => Ok(true),
         },
         None => Ok(true),

@@ -9,32 +9,35 @@ ghost use Rattle.definitions.specs.Applied.{Application};
 ghost use Rattle.json_doc.specs.Docs.{value, members_value};
 ghost use Rattle.keyword_plans.specs.Applications.{ArePatternsOf, planned_matches, planned_pattern};
 ghost use Rattle.keyword_plans.specs.Plans.{planned_view};
+ghost use Rattle.keyword_plans.specs.SearchedIn.{searched_in};
 ghost use Rattle.keyword_plans.specs.Sites.{Shows};
 
 use crate::planned::{Chosen, Part, Planned};
-use crate::searching::is_match;
+use crate::searches::Searches;
 use crate::site::Site;
 use crate::subject::{Subject, members_of};
 use json_doc::{Doc, Members};
-use linker::Linked;
 use locations::Step;
-use std::alloc::{AllocError, Global};
+use std::alloc::AllocError;
 
 /// The schemas under the patterns that match a name of the instance, at that member.
 pub(crate) fn plan_patterns<'a>(
     planned: &mut Vec<Planned<'a>>,
+    searches: &mut Searches<'a>,
     site: &Site<'a>,
     schemas: &'a Doc,
 ) -> Result<(), AllocError>
     requires { planned.old.items ≡ [] }
-    ensures { (a : Application) (k : Text) → Shows site.now a
+    ensures ok { (a : Application) (k : Text) → Shows site.now a
+        → searched_in searches.old ≡ site.now.linked
         → get (codes "patternProperties") a.schema.value ≡ Some (value schemas.now)
         → OnOk result (map (planned_view k a) planned.new.items
         ≡ planned_pattern k a (members (value schemas.now)) (members a.instance)) }
+    ensures searched { searched_in searches.new ≡ searched_in searches.old }
 {
     match members_of(schemas) {
         Some(patterns) => match site.subject.members() {
-            Some(members) => plan_matched(planned, site.linked, patterns, members),
+            Some(members) => plan_matched(planned, searches, patterns, members),
             None => Ok(()),
         },
         None => Ok(()),
@@ -43,37 +46,39 @@ pub(crate) fn plan_patterns<'a>(
 
 fn plan_matched<'a>(
     planned: &mut Vec<Planned<'a>>,
-    linked: &Linked,
+    searches: &mut Searches<'a>,
     patterns: &'a Members,
     members: &'a Members,
 ) -> Result<(), AllocError>
     requires { planned.old.items ≡ [] }
-    ensures { (a : Application) (k : Text) (s : Schema)
-        → ArePatternsOf linked.now s (members_value patterns.now)
+    ensures ok { (a : Application) (k : Text) (s : Schema)
+        → ArePatternsOf (searched_in searches.old).now s (members_value patterns.now)
         → OnOk result (map (planned_view k a) planned.new.items
         ≡ planned_pattern k a (members_value patterns.now) (members_value members.now)) }
+    ensures searched { searched_in searches.new ≡ searched_in searches.old }
 {
     for (name, member) in members.iter() {
-        push_matches(planned, linked, patterns, name, member)?;
+        push_matches(planned, searches, patterns, name, member)?;
     }
     Ok(())
 }
 
 fn push_matches<'a>(
     planned: &mut Vec<Planned<'a>>,
-    linked: &Linked,
+    searches: &mut Searches<'a>,
     patterns: &'a Members,
     name: &'a str,
     member: &'a Doc,
 ) -> Result<(), AllocError>
-    ensures { (a : Application) (k : Text) (s : Schema)
-        → ArePatternsOf linked.now s (members_value patterns.now)
+    ensures ok { (a : Application) (k : Text) (s : Schema)
+        → ArePatternsOf (searched_in searches.old).now s (members_value patterns.now)
         → OnOk result (map (planned_view k a) planned.new.items
         ≡ map (planned_view k a) planned.old.items
         ++ planned_matches k a name.now (value member.now) (members_value patterns.now)) }
+    ensures searched { searched_in searches.new ≡ searched_in searches.old }
 {
     for (pattern, schema) in patterns.iter() {
-        if is_match(*planned.allocator(), linked, pattern, name)? {
+        if searches.is_match(pattern, name)? {
             planned.push(Planned {
                 chosen: Chosen::Below(Some(Step::Name(pattern)), schema),
                 part: Part::Member(name),
@@ -86,17 +91,18 @@ fn push_matches<'a>(
 
 /// Whether one of the patterns matches the name.
 pub(crate) fn is_matched(
-    alloc: Global,
-    linked: &Linked,
+    searches: &mut Searches<'_>,
     patterns: &Members,
     name: &str,
 ) -> Result<bool, AllocError>
-    ensures { (s : Schema) → ArePatternsOf linked.now s (members_value patterns.now)
+    ensures ok { (s : Schema)
+        → ArePatternsOf (searched_in searches.old).now s (members_value patterns.now)
         → IfOk result (λ b. b ≡ list_any (λ p. has_match p.0 name.now)
         (members_value patterns.now)) }
+    ensures searched { searched_in searches.new ≡ searched_in searches.old }
 {
     for (pattern, _) in patterns.iter() {
-        if is_match(alloc, linked, pattern, name)? {
+        if searches.is_match(pattern, name)? {
             return Ok(true);
         }
     }

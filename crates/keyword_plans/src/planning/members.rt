@@ -10,7 +10,7 @@ ghost use Rattle.keyword_plans.specs.Subjects.{subject_value};
 
 use crate::planned::{Chosen, Part, Planned};
 use crate::subject::Subject;
-use json_doc::{Doc, Members, compare_names};
+use json_doc::{Doc, Members};
 use locations::Step;
 use std::alloc::AllocError;
 use std::cmp::{Ordering, min};
@@ -115,15 +115,16 @@ fn plan_merged<'a>(
         ≡ planned_at_names k a (members_value schemas.now) (members_value members.now)) }
 {
     planned.reserve(min(schemas.len(), members.len()))?;
-    let mut other_schemas = schemas.iter();
-    let mut other_members = members.iter();
+    let mut other_schemas = schemas.iter().named();
+    let mut other_members = members.iter().named();
     let mut first_schema = other_schemas.next();
     let mut first_member = other_members.next();
     'names: while let (Some((key, schema)), Some((name, member))) = (first_schema, first_member) {
-        match compare_names(key, name) {
+        match key.compare(name) {
             Ordering::Less => first_schema = other_schemas.next(),
             Ordering::Greater => first_member = other_members.next(),
             Ordering::Equal => {
+                let name = name.as_str();
                 planned.push(Planned {
                     chosen: Chosen::Below(Some(Step::Name(name)), schema),
                     part: Part::Member(name),

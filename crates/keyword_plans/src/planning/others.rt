@@ -10,27 +10,28 @@ ghost use Rattle.definitions.specs.Patterns.{has_match};
 ghost use Rattle.definitions.specs.Schemas.{Schema};
 ghost use Rattle.definitions.specs.Applied.{Application, beside, is_taken};
 ghost use Rattle.json_doc.specs.Docs.{value, members_value};
+ghost use Rattle.json_doc.specs.NamedMembers.{name_text};
 ghost use Rattle.keyword_plans.specs.Applications.{ArePatternsOf, planned_others, planned_unnamed};
 ghost use Rattle.keyword_plans.specs.Beside.{StandsBeside};
 ghost use Rattle.keywords.specs.Rows.{row_of};
 ghost use Rattle.keyword_plans.specs.Plans.{planned_view};
+ghost use Rattle.keyword_plans.specs.SearchedIn.{searched_in};
 ghost use Rattle.keyword_plans.specs.Sites.{Shows, linked_rules};
 
 use crate::planned::{Chosen, Part, Planned};
 use crate::planning::matching::is_matched;
 use crate::planning::members::FAR_LONGER;
+use crate::searches::Searches;
 use crate::site::Site;
 use crate::subject::{Subject, members_of};
-use json_doc::{Doc, Members, compare_names};
+use json_doc::{Doc, Members, Name};
 use keywords::Keyword;
-use linker::Linked;
-use std::alloc::{AllocError, Global};
+use std::alloc::AllocError;
 use std::cmp::Ordering;
 
 // The keywords beside `additionalProperties` that take members.
 #[derive(Clone, Copy)]
 struct PropertyKeywords<'a> {
-    linked: &'a Linked,
     // The members of `properties`, and of `patternProperties`.
     properties: Option<&'a Members>,
     patterns: Option<&'a Members>,
@@ -39,26 +40,30 @@ struct PropertyKeywords<'a> {
 /// The schema, at each member of the instance that neither `properties` nor `patternProperties` beside takes.
 pub(crate) fn plan_others<'a>(
     planned: &mut Vec<Planned<'a>>,
+    searches: &mut Searches<'a>,
     site: &Site<'a>,
     schema: &'a Doc,
 ) -> Result<(), AllocError>
     requires { planned.old.items ≡ [] }
-    ensures { (a : Application) (k : Text) → Shows site.now a
+    ensures ok { (a : Application) (k : Text) → Shows site.now a
+        → searched_in searches.old ≡ site.now.linked
         → OnOk result (map (planned_view k a) planned.new.items
         ≡ planned_others site.now.linked.now k a (value schema.now) (members a.instance)) }
+    ensures searched { searched_in searches.new ≡ searched_in searches.old }
 {
     match site.subject.members() {
-        Some(members) => plan_untaken(planned, keywords_beside(site), schema, members),
+        Some(members) => {
+            plan_untaken(planned, searches, keywords_beside(site), schema, members)
+        },
         None => Ok(()),
     }
 }
 
 fn keywords_beside<'a>(site: &Site<'a>) -> PropertyKeywords<'a>
-    ensures linked { result.linked.now ≡ site.now.linked.now }
-    ensures beside { (a : Application) → Shows site.now a → StandsBeside result a }
+    ensures { (a : Application) → Shows site.now a
+        → StandsBeside site.now.linked.now result a }
 {
     PropertyKeywords {
-        linked: site.linked,
         properties: members_beside(site.schema, Keyword::Properties),
         patterns: members_beside(site.schema, Keyword::PatternProperties),
     }
@@ -78,21 +83,24 @@ fn members_beside<'a>(schema: &'a Doc, keyword: Keyword) -> Option<&'a Members>
 // Along both `properties` and the members, where there are no patterns, unless there are far more schemas.
 fn plan_untaken<'a>(
     planned: &mut Vec<Planned<'a>>,
+    searches: &mut Searches<'a>,
     beside: PropertyKeywords<'a>,
     schema: &'a Doc,
     members: &'a Members,
 ) -> Result<(), AllocError>
     requires { planned.old.items ≡ [] }
-    ensures { (a : Application) (k : Text) → StandsBeside beside.entry a
+    ensures ok { (a : Application) (k : Text)
+        → StandsBeside (searched_in searches.old).now beside.entry a
         → OnOk result (map (planned_view k a) planned.new.items
-        ≡ planned_others beside.entry.linked.now k a (value schema.now)
+        ≡ planned_others (searched_in searches.old).now k a (value schema.now)
         (members_value members.now)) }
+    ensures searched { searched_in searches.new ≡ searched_in searches.old }
 {
     match (beside.properties, beside.patterns) {
         (Some(schemas), None) if schemas.len() / FAR_LONGER <= members.len() => {
             plan_unnamed(planned, schemas, schema, members)
         }
-        _ => plan_each_untaken(planned, beside, schema, members),
+        _ => plan_each_untaken(planned, searches, beside, schema, members),
     }
 }
 
@@ -109,8 +117,8 @@ fn plan_unnamed<'a>(
         ≡ planned_unnamed k a (value schema.now) (members_value schemas.now)
         (members_value members.now)) }
 {
-    let mut other_schemas = schemas.iter();
-    let mut other_members = members.iter();
+    let mut other_schemas = schemas.iter().named();
+    let mut other_members = members.iter().named();
     let mut first_schema = other_schemas.next();
     let mut first_member = other_members.next();
     'names: while let Some((name, member)) = first_member {
@@ -123,7 +131,7 @@ fn plan_unnamed<'a>(
             Ordering::Greater => {
                 planned.push(Planned {
                     chosen: Chosen::Below(None, schema),
-                    part: Part::Member(name),
+                    part: Part::Member(name.as_str()),
                     subject: Subject::Value(member),
                 })?;
                 first_member = other_members.next();
@@ -134,30 +142,34 @@ fn plan_unnamed<'a>(
 }
 
 // How the name of the first schema that is left stands to this one, which comes before where none is left.
-fn order_of_first(first: Option<(&str, &Doc)>, name: &str) -> Ordering
+fn order_of_first(first: Option<(Name<'_>, &Doc)>, name: Name<'_>) -> Ordering
     ensures { result ≡ unwrap_or
-        (option_map (λ s. slice_cmp nat_cmp s.0.now name.now) first.entry) Greater }
+        (option_map (λ s. slice_cmp nat_cmp (name_text s.0) (name_text name.entry)) first.entry)
+        Greater }
 {
     match first {
-        Some((key, _)) => compare_names(key, name),
+        Some((key, _)) => key.compare(name),
         None => Ordering::Greater,
     }
 }
 
 fn plan_each_untaken<'a>(
     planned: &mut Vec<Planned<'a>>,
+    searches: &mut Searches<'a>,
     beside: PropertyKeywords<'a>,
     schema: &'a Doc,
     members: &'a Members,
 ) -> Result<(), AllocError>
     requires { planned.old.items ≡ [] }
-    ensures { (a : Application) (k : Text) → StandsBeside beside.entry a
+    ensures ok { (a : Application) (k : Text)
+        → StandsBeside (searched_in searches.old).now beside.entry a
         → OnOk result (map (planned_view k a) planned.new.items
-        ≡ planned_others beside.entry.linked.now k a (value schema.now)
+        ≡ planned_others (searched_in searches.old).now k a (value schema.now)
         (members_value members.now)) }
+    ensures searched { searched_in searches.new ≡ searched_in searches.old }
 {
     for (name, member) in members.iter() {
-        if !is_taken(*planned.allocator(), beside, name)? {
+        if !is_taken(searches, beside, name)? {
             planned.push(Planned {
                 chosen: Chosen::Below(None, schema),
                 part: Part::Member(name),
@@ -169,15 +181,21 @@ fn plan_each_untaken<'a>(
 }
 
 // Whether a keyword beside takes the member of this name.
-fn is_taken(alloc: Global, beside: PropertyKeywords<'_>, name: &str) -> Result<bool, AllocError>
-    ensures { (a : Application) → StandsBeside beside.entry a
-        → IfOk result (λ b. b ≡ is_taken (linked_rules beside.entry.linked.now) a name.now) }
+fn is_taken(
+    searches: &mut Searches<'_>,
+    beside: PropertyKeywords<'_>,
+    name: &str,
+) -> Result<bool, AllocError>
+    ensures ok { (a : Application) → StandsBeside (searched_in searches.old).now beside.entry a
+        → IfOk result (λ b. b
+        ≡ is_taken (linked_rules (searched_in searches.old).now) a name.now) }
+    ensures searched { searched_in searches.new ≡ searched_in searches.old }
 {
     if is_named(beside.properties, name) {
         return Ok(true);
     }
     match beside.patterns {
-        Some(patterns) => is_matched(alloc, beside.linked, patterns, name),
+        Some(patterns) => is_matched(searches, patterns, name),
         None => Ok(false),
     }
 }

@@ -5,8 +5,8 @@ use Rattle.keyword_plans.specs.Sites.{linked_rules}
 use Rattle.keyword_plans.proofs.Verdicts.{by_count, with_all}
 use Rattle.keyword_plans.proofs.verdict.passes.Goals as goal
 
-pub returns-in_default-keyword : goal.returns-in_default-keyword
-returns-in_default-keyword c a run names indexes shows beside containing applied passing =
+pub returns-in_default-keyword-clause-passes : goal.returns-in_default-keyword-clause-passes
+returns-in_default-keyword-clause-passes c a run names indexes shows same beside containing applied passing =
     let rules = linked_rules c.args.site.linked.now in
     let row = row_of c.args.keyword in
     let v = value c.args.keyword_value.now in

@@ -1,7 +1,8 @@
-use Rattle.std.proofs.Common.{◌≡◌, ◌∙◌, [], ◌∷◌, map, sym, ap, ap₂, subst}
+use Rattle.std.proofs.Common.{◌≡◌, ◌∙◌, [], ◌∷◌, ◌++◌, map, sym, ap, ap₂, subst}
 use Rattle.std.proofs.lemmas.List.{map-append}
 use Rattle.definitions.specs.Applied.{named, at_part}
-use Rattle.json_doc.specs.Members.{HasNamesInOrder, member_view, members_left}
+use Rattle.json_doc.specs.Members.{HasNamesInOrder}
+use Rattle.json_doc.specs.NamedMembers.{named_view, named_left}
 use Rattle.json_doc.proofs.Nestings.{in_order_rest}
 use Rattle.keyword_plans.specs.Applications.{planned_at_names}
 use Rattle.keyword_plans.specs.Plans.{planned_view}
@@ -13,10 +14,10 @@ use Rattle.keyword_plans.proofs.planning.members.plan_merged.Goals as goal
 
 pub names-preserved-in-Less : goal.names-preserved-in-Less
 names-preserved-in-Less c =
-    let s = member_view (c.in-Some-Some.key, c.in-Some-Some.schema) in
-    let m = member_view (c.in-Some-Some.name, c.in-Some-Some.member) in
-    let ss = members_left c.names.other_schemas in
-    let ms = members_left c.names.other_members in
+    let s = named_view (c.in-Some-Some.key, c.in-Some-Some.schema) in
+    let m = named_view (c.in-Some-Some.name, c.in-Some-Some.member) in
+    let ss = named_left c.names.other_schemas in
+    let ms = named_left c.names.other_members in
     let schemas : still_left c.names.first_schema c.names.other_schemas ≡ s ∷ ss = ap (λ o. still_left o c.names.other_schemas) c.in-Some-Some.is-0 in
     let members : still_left c.names.first_member c.names.other_members ≡ m ∷ ms = ap (λ o. still_left o c.names.other_members) c.in-Some-Some.is-1 in
     let h = subst HasNamesInOrder schemas c.names.invariant.schemas in
@@ -27,16 +28,16 @@ names-preserved-in-Less c =
       members = c.names.invariant.members;
       planned = λ a k.
           skipped (map (planned_view k a) c.names.planned.items) _ _ _
-          (ap₂ (planned_at_names k a) schemas members ∙ past-schema k a s m ss ms h ordered (sym c.compare_names.ensures ∙ c.in-Less.is) ∙ ap₂ (planned_at_names k a) (sym left) (sym members))
+          (ap₂ (planned_at_names k a) schemas members ∙ past-schema k a s m ss ms h ordered (sym c.compare.ensures ∙ c.in-Less.is) ∙ ap₂ (planned_at_names k a) (sym left) (sym members))
           (c.names.invariant.planned a k);
     }
 
 pub names-preserved-in-Greater : goal.names-preserved-in-Greater
 names-preserved-in-Greater c =
-    let s = member_view (c.in-Some-Some.key, c.in-Some-Some.schema) in
-    let m = member_view (c.in-Some-Some.name, c.in-Some-Some.member) in
-    let ss = members_left c.names.other_schemas in
-    let ms = members_left c.names.other_members in
+    let s = named_view (c.in-Some-Some.key, c.in-Some-Some.schema) in
+    let m = named_view (c.in-Some-Some.name, c.in-Some-Some.member) in
+    let ss = named_left c.names.other_schemas in
+    let ms = named_left c.names.other_members in
     let schemas : still_left c.names.first_schema c.names.other_schemas ≡ s ∷ ss = ap (λ o. still_left o c.names.other_schemas) c.in-Some-Some.is-0 in
     let members : still_left c.names.first_member c.names.other_members ≡ m ∷ ms = ap (λ o. still_left o c.names.other_members) c.in-Some-Some.is-1 in
     let h = subst HasNamesInOrder schemas c.names.invariant.schemas in
@@ -47,16 +48,16 @@ names-preserved-in-Greater c =
       members = subst HasNamesInOrder (sym left) (in_order_rest m ms ordered);
       planned = λ a k.
           skipped (map (planned_view k a) c.names.planned.items) _ _ _
-          (ap₂ (planned_at_names k a) schemas members ∙ past-member k a s m ss ms h ordered (sym c.compare_names.ensures ∙ c.in-Greater.is) ∙ ap₂ (planned_at_names k a) (sym schemas) (sym left))
+          (ap₂ (planned_at_names k a) schemas members ∙ past-member k a s m ss ms h ordered (sym c.compare.ensures ∙ c.in-Greater.is) ∙ ap₂ (planned_at_names k a) (sym schemas) (sym left))
           (c.names.invariant.planned a k);
     }
 
 pub names-preserved : goal.names-preserved
 names-preserved c =
-    let s = member_view (c.in-Some-Some.key, c.in-Some-Some.schema) in
-    let m = member_view (c.in-Some-Some.name, c.in-Some-Some.member) in
-    let ss = members_left c.names.other_schemas in
-    let ms = members_left c.names.other_members in
+    let s = named_view (c.in-Some-Some.key, c.in-Some-Some.schema) in
+    let m = named_view (c.in-Some-Some.name, c.in-Some-Some.member) in
+    let ss = named_left c.names.other_schemas in
+    let ms = named_left c.names.other_members in
     let schemas : still_left c.names.first_schema c.names.other_schemas ≡ s ∷ ss = ap (λ o. still_left o c.names.other_schemas) c.in-Some-Some.is-0 in
     let members : still_left c.names.first_member c.names.other_members ≡ m ∷ ms = ap (λ o. still_left o c.names.other_members) c.in-Some-Some.is-1 in
     let h = subst HasNamesInOrder schemas c.names.invariant.schemas in
@@ -69,8 +70,9 @@ names-preserved c =
       planned = λ a k.
           let here = at_part a (k ∷ m.0 ∷ []) s.1 (named m.0) m.1 in
           grown (map (planned_view k a) c.names.planned.items) _ (here ∷ []) _ _ _
-          (ap (map (planned_view k a)) c.in_ok-push-in-Equal.ensures.items ∙ map-append (planned_view k a) c.names.planned.items _)
-          (ap₂ (planned_at_names k a) schemas members ∙ of-both k a s m ss ms h ordered (sym c.compare_names.ensures ∙ c.in-Equal.is)
+          (ap (map (planned_view k a)) c.in_ok-push-in-Equal.ensures.items ∙ map-append (planned_view k a) c.names.planned.items _
+          ∙ ap (λ t. map (planned_view k a) c.names.planned.items ++ at_part a (k ∷ t ∷ []) s.1 (named t) m.1 ∷ []) c.as_str-name.ensures)
+          (ap₂ (planned_at_names k a) schemas members ∙ of-both k a s m ss ms h ordered (sym c.compare.ensures ∙ c.in-Equal.is)
           ∙ ap (λ ys. here ∷ ys) (ap₂ (planned_at_names k a) (sym schemas_left) (sym members_left)))
           (c.names.invariant.planned a k);
     }

@@ -1,8 +1,8 @@
 use Rattle.keyword_plans.proofs.Patterns.{patterns_beside}
 use Rattle.keyword_plans.proofs.planning.others.keywords_beside.Goals as goal
 
-pub returns-clause-beside : goal.returns-clause-beside
-returns-clause-beside c a shows =
+pub returns : goal.returns
+returns c a shows =
     record {
       properties = c.members_beside.ensures a shows.schema;
       patterns = c.members_beside-2.ensures a shows.schema;

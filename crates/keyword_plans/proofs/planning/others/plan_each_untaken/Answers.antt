@@ -5,18 +5,25 @@ use Rattle.json_doc.specs.Docs.{value}
 use Rattle.json_doc.specs.Members.{members_left}
 use Rattle.keyword_plans.specs.Applications.{planned_others}
 use Rattle.keyword_plans.specs.Plans.{planned_view}
+use Rattle.keyword_plans.specs.SearchedIn.{searched_in}
 use Rattle.keyword_plans.specs.Sites.{linked_rules}
 use Rattle.keyword_plans.proofs.Growing.{grown}
-use Rattle.keyword_plans.proofs.Taken.{others-here}
+use Rattle.keyword_plans.proofs.Taken.{others-here, same_beside, taken-same}
 use Rattle.keyword_plans.proofs.planning.others.plan_each_untaken.Goals as goal
 
 pub loop-name-preserved-in_ok-push : goal.loop-name-preserved-in_ok-push
-loop-name-preserved-in_ok-push c a k stands =
-    let l = c.args.beside.linked.now in
+loop-name-preserved-in_ok-push c =
+    let l = (searched_in c.args.searches.now).now in
     let v = value c.args.schema.now in
     let rest = members_left c.next.new.self in
-    let free : is_taken (linked_rules l) a c.in-Some.name.now ≡ false = sym (c.in_ok-is_taken.ensures a stands) ∙ c.if-not-branch.true in
-    grown (map (planned_view k a) c.loop-name.planned.items) _ _ _ (planned_others l k a v rest) _
-    (ap (map (planned_view k a)) c.in_ok-push.ensures.items ∙ map-append (planned_view k a) c.loop-name.planned.items _)
-    (ap (planned_others l k a v) c.in-Some.ensures.steps ∙ others-here l k a v c.in-Some.name.now (value c.in-Some.member.now) rest free)
-    (c.loop-name.invariant a k stands)
+    let same : searched_in c.loop-name.searches ≡ searched_in c.args.searches.now = c.loop-name.invariant.searched in
+    record {
+      searched = c.is_taken.ensures.searched ∙ same;
+      planned = λ a k stands.
+          let free : is_taken (linked_rules l) a c.in-Some.name.now ≡ false =
+          taken-same _ _ a c.in-Some.name.now same ∙ sym (c.in_ok-is_taken.ensures.ok a (same_beside _ _ c.args.beside a same stands)) ∙ c.if-not-branch.true in
+          grown (map (planned_view k a) c.loop-name.planned.items) _ _ _ (planned_others l k a v rest) _
+          (ap (map (planned_view k a)) c.in_ok-push.ensures.items ∙ map-append (planned_view k a) c.loop-name.planned.items _)
+          (ap (planned_others l k a v) c.in-Some.ensures.steps ∙ others-here l k a v c.in-Some.name.now (value c.in-Some.member.now) rest free)
+          (c.loop-name.invariant.planned a k stands);
+    }

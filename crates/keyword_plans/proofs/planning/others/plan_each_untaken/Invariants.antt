@@ -6,11 +6,15 @@ use Rattle.json_doc.specs.Members.{members_left}
 use Rattle.keyword_plans.specs.Applications.{planned_others}
 use Rattle.keyword_plans.specs.Beside.{StandsBeside}
 use Rattle.keyword_plans.specs.Plans.{planned_view}
+use Rattle.keyword_plans.specs.SearchedIn.{searched_in}
 use Rattle.keyword_plans.proofs.planning.others.plan_each_untaken.Given as goal
 
--- what is planned, and what the members that are left add
+-- what is planned, and what the members that are left add, and the searches stay in their documents
 abbrev pub invariant-loop-name : goal.invariant-loop-name
 invariant-loop-name l =
-    (a : Application) (k : Text) → StandsBeside l.beside a
-    → map (planned_view k a) l.planned.items ++ planned_others l.beside.linked.now k a (value l.schema) (members_left l.name-iterator)
-    ≡ planned_others l.beside.linked.now k a (value l.schema) (members_value l.members)
+    record {
+      searched : searched_in l.searches ≡ searched_in l.fn.searches;
+      planned : (a : Application) (k : Text) → StandsBeside (searched_in l.fn.searches).now l.beside a
+          → map (planned_view k a) l.planned.items ++ planned_others (searched_in l.fn.searches).now k a (value l.schema) (members_left l.name-iterator)
+          ≡ planned_others (searched_in l.fn.searches).now k a (value l.schema) (members_value l.members);
+    }

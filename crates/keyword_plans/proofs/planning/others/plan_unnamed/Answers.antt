@@ -1,9 +1,10 @@
-use Rattle.std.proofs.Common.{◌≡◌, ◌∙◌, [], ◌∷◌, map, sym, ap, ap₂, subst}
+use Rattle.std.proofs.Common.{◌≡◌, ◌∙◌, [], ◌∷◌, ◌++◌, map, sym, ap, ap₂, subst}
 use Rattle.std.proofs.lemmas.List.{map-append}
 use Rattle.std.specs.Ordering.{is_gt}
 use Rattle.definitions.specs.Applied.{named, at_part}
 use Rattle.json_doc.specs.Docs.{value}
-use Rattle.json_doc.specs.Members.{HasNamesInOrder, member_view, members_left}
+use Rattle.json_doc.specs.Members.{HasNamesInOrder}
+use Rattle.json_doc.specs.NamedMembers.{named_view, named_left}
 use Rattle.json_doc.proofs.Nestings.{in_order_rest}
 use Rattle.keyword_plans.specs.Applications.{planned_unnamed}
 use Rattle.keyword_plans.specs.Plans.{planned_view}
@@ -16,8 +17,8 @@ use Rattle.keyword_plans.proofs.planning.others.plan_unnamed.Goals as goal
 pub names-preserved-in-Less : goal.names-preserved-in-Less
 names-preserved-in-Less c =
     let v = value c.args.schema.now in
-    let m = member_view (c.in-Some.name, c.in-Some.member) in
-    let ms = members_left c.names.other_members in
+    let m = named_view (c.in-Some.name, c.in-Some.member) in
+    let ms = named_left c.names.other_members in
     let members : still_left c.names.first_member c.names.other_members ≡ m ∷ ms = ap (λ o. still_left o c.names.other_members) c.in-Some.is in
     let ordered = subst HasNamesInOrder members c.names.invariant.members in
     let order = sym c.order_of_first.ensures ∙ c.in-Less.is in
@@ -36,8 +37,8 @@ names-preserved-in-Less c =
 pub names-preserved-in-Equal : goal.names-preserved-in-Equal
 names-preserved-in-Equal c =
     let v = value c.args.schema.now in
-    let m = member_view (c.in-Some.name, c.in-Some.member) in
-    let ms = members_left c.names.other_members in
+    let m = named_view (c.in-Some.name, c.in-Some.member) in
+    let ms = named_left c.names.other_members in
     let members : still_left c.names.first_member c.names.other_members ≡ m ∷ ms = ap (λ o. still_left o c.names.other_members) c.in-Some.is in
     let ordered = subst HasNamesInOrder members c.names.invariant.members in
     let order = sym c.order_of_first.ensures ∙ c.in-Equal.is in
@@ -57,8 +58,8 @@ names-preserved-in-Equal c =
 pub names-preserved : goal.names-preserved
 names-preserved c =
     let v = value c.args.schema.now in
-    let m = member_view (c.in-Some.name, c.in-Some.member) in
-    let ms = members_left c.names.other_members in
+    let m = named_view (c.in-Some.name, c.in-Some.member) in
+    let ms = named_left c.names.other_members in
     let schemas = still_left c.names.first_schema c.names.other_schemas in
     let members : still_left c.names.first_member c.names.other_members ≡ m ∷ ms = ap (λ o. still_left o c.names.other_members) c.in-Some.is in
     let ordered = subst HasNamesInOrder members c.names.invariant.members in
@@ -70,7 +71,8 @@ names-preserved c =
       planned = λ a k.
           let here = at_part a (k ∷ []) v (named m.0) m.1 in
           grown (map (planned_view k a) c.names.planned.items) _ (here ∷ []) _ _ _
-          (ap (map (planned_view k a)) c.in_ok-push-in-Greater.ensures.items ∙ map-append (planned_view k a) c.names.planned.items _)
+          (ap (map (planned_view k a)) c.in_ok-push-in-Greater.ensures.items ∙ map-append (planned_view k a) c.names.planned.items _
+          ∙ ap (λ t. map (planned_view k a) c.names.planned.items ++ at_part a (k ∷ []) v (named t) m.1 ∷ []) c.as_str.ensures)
           (ap (planned_unnamed k a v schemas) members ∙ here-unnamed k a v c.names.first_schema c.names.other_schemas m ms order c.names.invariant.schemas
           ∙ ap (λ xs. here ∷ planned_unnamed k a v schemas xs) (sym left))
           (c.names.invariant.planned a k);

@@ -1,0 +1,207 @@
+//! Searches for the patterns of linked documents.
+
+ghost use Rattle.std.specs.Prelude.{◌≡◌, ◌<◌, Some, Contains, IfOk, IfSome, OnOk, length};
+ghost use Rattle.std.proofs.Props.{props};
+ghost use Rattle.definitions.specs.Patterns.{has_match};
+ghost use Rattle.definitions.specs.Schemas.{Schema};
+ghost use Rattle.definitions.specs.Searches.{patterns_of};
+ghost use Rattle.definitions.specs.Values.{Text};
+ghost use Rattle.linker.specs.LinkedDocuments.{linked_schemas};
+ghost use Rattle.linker.specs.PatternNumbers.{pattern_text};
+ghost use Rattle.linker.specs.declared.linked.Linked.{Linked};
+ghost use Rattle.keyword_plans.specs.Held.{AreHeld, IsHeld};
+ghost use Rattle.patterns.specs.HeldPatterns.{held_text};
+
+use linker::Linked;
+use patterns::HeldPattern;
+use std::alloc::{AllocError, Global};
+
+/// How many patterns are kept.
+const MOST_KEPT: usize = 64;
+
+/// To compare a text of so many bytes takes no longer than to keep its pattern.
+const SHORT: usize = 64;
+
+/// A pattern of linked documents that is held, by its number.
+#[derive(Drop)]
+struct KeptPattern<'a> {
+    number: usize,
+    pattern: HeldPattern<'a>,
+}
+
+/// The patterns of more than 64 bytes that an evaluation searched for in linked documents: sixty-four at most, each in the place
+/// that its number tells, of which the last that was searched for there is kept. A pattern that is kept is held, so that to
+/// search for it again doesn't look at its text.
+///
+/// Contracts see the documents that they stand in, by `searched_in`.
+#[derive(Drop)]
+pub struct Searches<'a> {
+    alloc: Global,
+    linked: &'a Linked,
+    held: Vec<Option<KeptPattern<'a>>>,
+    ghost right: { AreHeld linked.now held.items } by { Prim.hlevel props },
+}
+
+impl<'a> Searches<'a> {
+    ghost use Rattle.keyword_plans.specs.SearchedIn.{searched_in};
+
+    /// None yet. This takes no memory.
+    pub fn new(alloc: Global, linked: &'a Linked) -> Searches<'a>
+        ensures { searched_in result ≡ linked.entry }
+    {
+        Searches {
+            alloc,
+            linked,
+            held: Vec::new(alloc),
+        }
+    }
+
+    /// The allocator that they take memory from.
+    pub(crate) fn allocator(&self) -> Global {
+        self.alloc
+    }
+
+    /// Whether the pattern of a schema of the documents matches somewhere in the text (JSON Schema 2020-12 Validation, section
+    /// 6.3.3). The only error is want of memory. Of a text that no schema has it answers for some pattern, or false.
+    pub(crate) fn is_match(&mut self, pattern: &str, text: &str) -> Result<bool, AllocError>
+        ensures ok { (s : Schema) → Contains (linked_schemas (searched_in self.old).now) s
+            → Contains (patterns_of s) pattern.now
+            → IfOk result (λ found. found ≡ has_match pattern.now text.now) }
+        ensures linked { searched_in self.new ≡ searched_in self.old }
+    {
+        match self.linked.pattern_number(pattern) {
+            Some(number) if pattern.len() > SHORT => self.numbered(number, text),
+            Some(number) => is_numbered_match(self.alloc, self.linked, number, text),
+            None => is_match(self.alloc, self.linked, pattern, text),
+        }
+    }
+
+    // Whether the pattern of this number matches somewhere in the text.
+    fn numbered(&mut self, number: usize, text: &str) -> Result<bool, AllocError>
+        ensures ok { (pattern : Text) → pattern_text (searched_in self.old).now number ≡ Some pattern
+            → IfOk result (λ found. found ≡ has_match pattern text.now) }
+        ensures linked { searched_in self.new ≡ searched_in self.old }
+    {
+        match search_again(&mut self.held, self.alloc, number, text) {
+            Some(found) => found,
+            None => self.search_first(number, text),
+        }
+    }
+
+    // The same of one that isn't kept, and is from now on.
+    fn search_first(&mut self, number: usize, text: &str) -> Result<bool, AllocError>
+        ensures ok { (pattern : Text) → pattern_text (searched_in self.old).now number ≡ Some pattern
+            → IfOk result (λ found. found ≡ has_match pattern text.now) }
+        ensures linked { searched_in self.new ≡ searched_in self.old }
+    {
+        let mut kept = hold(self.linked, number)?;
+        let found = kept.matches(self.alloc, text)?;
+        self.keep(place_of(number), kept)?;
+        Ok(found)
+    }
+
+    // In this place.
+    fn keep(&mut self, place: usize, kept: KeptPattern<'a>) -> Result<(), AllocError>
+        requires { IsHeld (searched_in self.old).now kept }
+        ensures { searched_in self.new ≡ searched_in self.old }
+    {
+        self.make_room(place)?;
+        self.held[place] = Some(kept);
+        Ok(())
+    }
+
+    // So that there is this place.
+    fn make_room(&mut self, place: usize) -> Result<(), AllocError>
+        ensures there { OnOk result (place < length self.new.held.items) }
+        ensures linked { searched_in self.new ≡ searched_in self.old }
+    {
+        while self.held.len() <= place {
+            self.held.push(None)?;
+        }
+        Ok(())
+    }
+}
+
+impl KeptPattern<'_> {
+    // Whether it matches somewhere in the text. It is called apart, since few patterns are long.
+    #[inline(never)]
+    fn matches(&mut self, alloc: Global, text: &str) -> Result<bool, AllocError>
+        ensures ok { IfOk result (λ found. found ≡ has_match (held_text self.old.pattern) text.now) }
+        ensures number { self.new.number ≡ self.old.number }
+        ensures same { held_text self.new.pattern ≡ held_text self.old.pattern }
+    {
+        self.pattern.matches(alloc, text)
+    }
+}
+
+// Searches for the pattern of this number, where it is kept in its place.
+fn search_again(
+    held: &mut [Option<KeptPattern<'_>>],
+    alloc: Global,
+    number: usize,
+    text: &str,
+) -> Option<Result<bool, AllocError>>
+    ensures ok { (linked : Linked) (pattern : Text) → AreHeld linked held.old
+        → pattern_text linked number ≡ Some pattern
+        → IfSome result (λ r. IfOk r (λ found. found ≡ has_match pattern text.now)) }
+    ensures held { (linked : Linked) → AreHeld linked held.old → AreHeld linked held.new }
+{
+    let place = place_of(number);
+    if place >= held.len() {
+        return None;
+    }
+    let there = &mut held[place];
+    match there {
+        Some(kept) if kept.number == number => Some(kept.matches(alloc, text)),
+        _ => None,
+    }
+}
+
+// The place of a pattern among those that are kept.
+fn place_of(number: usize) -> usize {
+    number % MOST_KEPT
+}
+
+// The pattern of this number, held. The error says that it can't be, which never is: nothing else holds it.
+fn hold<'a>(linked: &'a Linked, number: usize) -> Result<KeptPattern<'a>, AllocError>
+    ensures held { IfOk result (IsHeld linked.entry.now) }
+    ensures number { IfOk result (λ k. k.number ≡ number) }
+{
+    match linked.numbered_pattern(number) {
+        Some(pattern) => match pattern.hold() {
+            Some(pattern) => Ok(KeptPattern { number, pattern }),
+            None => Err(AllocError),
+        },
+        None => Err(AllocError),
+    }
+}
+
+// Whether the pattern of this number matches somewhere in the text.
+#[inline(always)]
+fn is_numbered_match(
+    alloc: Global,
+    linked: &Linked,
+    number: usize,
+    text: &str,
+) -> Result<bool, AllocError>
+    ensures { (pattern : Text) → pattern_text linked.now number ≡ Some pattern
+        → IfOk result (λ found. found ≡ has_match pattern text.now) }
+{
+    match linked.numbered_pattern(number) {
+        Some(built) => built.matches(alloc, text),
+        // Never: the number is that of a pattern.
+        None => Ok(false),
+    }
+}
+
+// The same of a pattern that has no number.
+fn is_match(alloc: Global, linked: &Linked, pattern: &str, text: &str) -> Result<bool, AllocError>
+    ensures { (s : Schema) → Contains (linked_schemas linked.now) s
+        → Contains (patterns_of s) pattern.now
+        → IfOk result (λ found. found ≡ has_match pattern.now text.now) }
+{
+    match linked.pattern(pattern) {
+        Some(built) => built.matches(alloc, text),
+        None => Ok(false),
+    }
+}

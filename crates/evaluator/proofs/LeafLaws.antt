@@ -1,26 +1,27 @@
 -- Laws of schema objects that apply nothing.
-use Rattle.std.proofs.Common.{◌≡◌, ◌<◌, ◌≤◌, ◌+◌, ℕ, zero, suc, List, [], ◌∷◌, ◌++◌, Bool, true, false, ltb, leb, ◌&&◌, ◌||◌, Option, Some, None, inl, inr, is_some, length, get_or, flat_map, refl, sym, ap, ◌∙◌, arith}
+use Rattle.std.proofs.Common.{◌≡◌, ◌<◌, ◌≤◌, ◌+◌, ℕ, zero, suc, List, [], ◌∷◌, ◌++◌, Bool, true, false, ltb, leb, ◌&&◌, ◌||◌, Option, Some, None, inl, inr, is_some, not, option_map, length, get_or, flat_map, refl, sym, ap, ◌∙◌, arith}
 use Rattle.std.specs.Prelude.{◌==◌}
 use Rattle.std.specs.List.{list_any}
-use Rattle.std.proofs.lemmas.Bool.{and_parts, leb-true, ltb-true, or_cases}
+use Rattle.std.proofs.lemmas.Bool.{and_parts, false_from_ne_true, leb-true, ltb-true, or_cases}
 use Rattle.std.proofs.lemmas.Bool.Decides.{Decides-eqb}
 use Rattle.definitions.specs.Assertions as meaning
-use Rattle.definitions.specs.Values.{Value, get, members}
+use Rattle.definitions.specs.Values.{Text, Value, get, members}
 use Rattle.definitions.specs.Applied.{Application, application_within}
-use Rattle.assertions.specs.AssertionView.{assertion_in}
+use Rattle.assertions.specs.AssertionView.{assertion_in, assertion_view}
+use Rattle.assertions.specs.declared.assertion.Assertion.{Assertion}
 use Rattle.linker.specs.declared.linked.Linked.{Linked}
-use Rattle.keywords.specs.Groups.{group_number, groups_before, in_order}
+use Rattle.keywords.specs.Groups.{group_number, groups_before, in_order, is_evaluated}
 use Rattle.keywords.specs.Rows.{row_of}
 use Rattle.keywords.specs.declared.group.Group.{Group}
 use Rattle.keywords.specs.declared.group.Group.TheVariants.{One, Conditional, Counted}
 use Rattle.keywords.specs.declared.keyword.Keyword.{Keyword}
-use Rattle.keywords.specs.declared.keyword.Keyword.TheVariants.{AllOf, Pattern, Ref, «Type», UnevaluatedItems, UnevaluatedProperties}
+use Rattle.keywords.specs.declared.keyword.Keyword.TheVariants.{AllOf, ContentSchema, Pattern, Ref, «Type», UnevaluatedItems, UnevaluatedProperties}
 use Rattle.evaluator.specs.Groups.{asserts_alone, first_groups}
-use Rattle.evaluator.specs.Leaves.{IsLeaf}
-use Rattle.evaluator.specs.Presents.{has_mark}
+use Rattle.evaluator.specs.Leaves.{HasLeafMarks, IsLeaf, is_leaf_mark}
+use Rattle.evaluator.specs.Presents.{has_mark, mark_of}
 use Rattle.evaluator.specs.Rounds.{group_uses, groups_uses, object_uses}
 use Rattle.evaluator.proofs.AssertedLaws.{absent_use, asserted_use}
-use Rattle.evaluator.proofs.PresentLaws.{groups_alone, unused_at}
+use Rattle.evaluator.proofs.PresentLaws.{absent, groups_alone, unused_at}
 
 -- ---- where the groups stand that don't assert alone
 abbrev pub number : Keyword → ℕ
@@ -73,6 +74,66 @@ marked_leaf s none_before none_at none_after last = record {
       ];
   last = last;
 }
+
+-- ---- the marks of its members
+more_follow : ltb (length first_groups) (length in_order) ≡ true
+unfolding first_groups group_number groups_before in_order
+more_follow = refl
+
+other_mark : (i n : ℕ) → i < n → (i == n) ≡ false
+other_mark i n less = false_from_ne_true (i == n) (λ e. let same = (Decides-eqb i n).0 e in absurd (omega (arith, less, same)))
+
+no_leaf_mark : (i : ℕ) → i < length first_groups → asserts_alone (get_or first_groups i (One Ref)) ≡ false → is_leaf_mark i ≡ false
+unfolding is_leaf_mark
+no_leaf_mark i h other = rw other (other_mark i (length in_order) (omega (arith, h, ltb-true (length first_groups) (length in_order) more_follow)))
+
+items_last : is_leaf_mark (mark_of (row_of UnevaluatedItems).name) ≡ false
+unfolding is_leaf_mark mark_of first_groups group_number groups_before in_order
+items_last = refl
+
+properties_last : is_leaf_mark (mark_of (row_of UnevaluatedProperties).name) ≡ false
+unfolding is_leaf_mark mark_of first_groups group_number groups_before in_order
+properties_last = refl
+
+pub annotating_last : is_leaf_mark 63 ≡ false
+unfolding is_leaf_mark first_groups group_number groups_before in_order
+annotating_last = refl
+
+pub leaf_by_marks : (s : Value) → HasLeafMarks (members s) → IsLeaf s
+leaf_by_marks s marked =
+    let items : get (row_of UnevaluatedItems).name s ≡ None = absent (row_of UnevaluatedItems).name _ (members s) refl (marked _ items_last) in
+    let properties : get (row_of UnevaluatedProperties).name s ≡ None = absent (row_of UnevaluatedProperties).name _ (members s) refl (marked _ properties_last) in
+    record {
+      first = λ i h other. marked i (no_leaf_mark i h other);
+      last = rw (items, properties) refl;
+    }
+
+-- a keyword that asserts alone, or only declares, has one
+implied : (p q : Bool) → (not p || q) ≡ true → p ≡ true → q ≡ true
+implied true q h e = h
+implied false q h e = absurd (cc)
+
+leaf_keywords : (k : Keyword) → (k ≡ ContentSchema → ⊥)
+    → (not (is_some (assertion_in (row_of k).meaning) || not (is_evaluated (row_of k))) || is_leaf_mark (mark_of (row_of k).name)) ≡ true
+unfolding is_leaf_mark mark_of first_groups group_number groups_before in_order
+leaf_keywords ContentSchema other = absurd (other refl)
+leaf_keywords _ other = refl
+
+pub leaf_keyword : (k : Keyword) → (k ≡ ContentSchema → ⊥) → (is_some (assertion_in (row_of k).meaning) || not (is_evaluated (row_of k))) ≡ true
+    → is_leaf_mark (mark_of (row_of k).name) ≡ true
+leaf_keyword k other = implied _ _ (leaf_keywords k other)
+
+pub asserting : (k : Keyword) (o : Option Assertion) → option_map assertion_view o ≡ assertion_in (row_of k).meaning → is_some (assertion_in (row_of k).meaning) ≡ is_some o
+asserting k None e = ap is_some (sym e)
+asserting k (Some x) e = ap is_some (sym e)
+
+-- one member more
+pub next_mark : (m : Text × Value) (ms : List (Text × Value)) (i : ℕ) → is_leaf_mark (mark_of m.0) ≡ true → is_leaf_mark i ≡ false
+    → list_any (has_mark i) ms ≡ false → list_any (has_mark i) (m ∷ ms) ≡ false
+next_mark m ms i here other none =
+    let apart : has_mark i m ≡ false =
+    false_from_ne_true (has_mark i m) (λ e. let both : true ≡ false = sym here ∙ ap is_leaf_mark ((Decides-eqb (mark_of m.0) i).0 e) ∙ other in absurd (cc)) in
+    rw apart none
 
 -- ---- a group that asserts says the same within the object
 alike_all : {X Y : Type 0} (f g : X → List Y) (xs : List X) (d : X) → ((i : ℕ) → i < length xs → f (get_or xs i d) ≡ g (get_or xs i d)) → flat_map f xs ≡ flat_map g xs

@@ -18,3 +18,4 @@ pub mod DollarLaws
 pub mod AssertedLaws
 pub mod SilenceLaws
 pub mod CountLaws
+pub mod MetLaws

@@ -5,6 +5,7 @@ ghost use Rattle.definitions.specs.Values.{is_object};
 ghost use Rattle.json_doc.specs.Docs.{value};
 ghost use Rattle.keyword_plans.specs.EnumeratedIn.{enumerated_in};
 ghost use Rattle.keyword_plans.specs.ScopeViews.{scope_documents};
+ghost use Rattle.keyword_plans.specs.SearchedIn.{searched_in};
 
 use crate::halt::Halt;
 use crate::here::Here;
@@ -15,16 +16,18 @@ use crate::settling_object::settle_object;
 use basic_output::Says;
 use evaluation_context::Context;
 use json_doc::Doc;
-use keyword_plans::{Enumerations, PlanMemory, Subject};
+use keyword_plans::{Enumerations, PlanMemory, Searches, Subject};
 use linker::Linked;
 use std::alloc::{AllocError, Global};
 
-/// An evaluation under way: the linked documents, the long `enum`s that it met in them, where it stands, and what it noted.
+/// An evaluation under way: the linked documents, the long `enum`s that it met in them and the patterns that it searched for,
+/// where it stands, and what it noted.
 #[derive(Drop)]
 pub(crate) struct Evaluation<'a> {
     pub(crate) alloc: Global,
     pub(crate) linked: &'a Linked,
     pub(crate) enumerations: Enumerations<'a>,
+    pub(crate) searches: Searches<'a>,
     pub(crate) context: Context<'a>,
     pub(crate) log: Log<'a>,
     /// The memory of what keywords planned that were evaluated.
@@ -34,6 +37,7 @@ pub(crate) struct Evaluation<'a> {
     /// Whether what was applied last passed.
     pub(crate) last_passed: bool,
     ghost enumerated: { enumerated_in enumerations ≡ linked },
+    ghost searched: { searched_in searches ≡ linked },
     ghost followed: { scope_documents context.scope ≡ linked },
 }
 

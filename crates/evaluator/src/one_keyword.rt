@@ -13,7 +13,7 @@ use crate::log::LogMark;
 use crate::present::Present;
 use crate::settling::{evaluated_since, settle};
 use json_doc::Doc;
-use keyword_plans::{Chosen, Planned, Site, passes, plan};
+use keyword_plans::{Chosen, Earlier, Planned, Site, passes, plan};
 use keywords::Keyword;
 use std::alloc::AllocError;
 
@@ -115,7 +115,10 @@ impl<'a> Evaluation<'a> {
     {
         let mut planned = self.plans.take();
         let log = &self.log;
-        let evaluated = evaluated_since(&log.names, &log.indexes, here.before);
+        let earlier = Earlier {
+            condition: beside.condition,
+            evaluated: evaluated_since(&log.names, &log.indexes, here.before),
+        };
         let context = &mut self.context;
         let site = Site {
             linked: self.linked,
@@ -126,11 +129,11 @@ impl<'a> Evaluation<'a> {
         plan(
             &mut planned,
             &mut context.scope,
+            &mut self.searches,
             site,
             keyword,
             keyword_value,
-            beside.condition,
-            evaluated,
+            earlier,
         )?;
         Ok(planned)
     }
@@ -215,7 +218,7 @@ impl<'a> Evaluation<'a> {
             subject: here.subject,
         };
         passes(
-            self.alloc,
+            &mut self.searches,
             site,
             keyword,
             keyword_value,
@@ -319,12 +322,12 @@ impl<'a> Evaluation<'a> {
             self.log.count_one();
             return Ok(true);
         }
-        let present = Present::of(schema);
-        let passes = self.passes_silently(&present, planned, nesting)?;
+        let passes = self.passes_silently(schema, planned, nesting)?;
         if passes {
             self.log.count_one();
             return Ok(passes);
         }
+        let present = Present::of(schema);
         let back = self
             .context
             .enter_planned(self.alloc, self.linked, planned)?;

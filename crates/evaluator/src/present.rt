@@ -80,19 +80,6 @@ impl<'a> Present<'a> {
         lacks_references & lacks_pattern & lacks_others & !looks_at_evaluated
     }
 
-    /// Whether it surely is an object, or no schema at all, that applies nothing, and of which no name annotates with its own value.
-    pub(crate) fn only_asserts(&self) -> bool
-        ensures other { result ≡ true → as_boolean (value self.now.schema.now) ≡ None }
-        ensures leaf { result ≡ true → IsLeaf (value self.now.schema.now) }
-        ensures silent { (a : Application) → a.schema.value ≡ value self.now.schema.now
-            → result ≡ true → other_annotations a ≡ [] }
-    {
-        let is_other = self.schema.as_bool().is_none();
-        let applies_nothing = self.applies_nothing();
-        let annotates = self.may_annotate();
-        is_other & applies_nothing & !annotates
-    }
-
     // Whether it surely has none of the marks from the first to before the second.
     fn lacks(&self, first: usize, second: usize) -> bool
         requires { first < 64 }

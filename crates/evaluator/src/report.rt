@@ -24,7 +24,7 @@ use basic_output::output_text;
 use evaluation_context::Context;
 use faults::Fault;
 use json_doc::Doc;
-use keyword_plans::{Enumerations, PlanMemory, Subject};
+use keyword_plans::{Enumerations, PlanMemory, Searches, Subject};
 use linker::Linked;
 use std::alloc::Global;
 use std::mem::replace;
@@ -114,6 +114,7 @@ pub fn evaluate_with<'a>(
         alloc,
         linked,
         enumerations: Enumerations::new(alloc, linked),
+        searches: Searches::new(alloc, linked),
         context,
         log: Log::within(alloc, log),
         plans: PlanMemory::new(alloc),

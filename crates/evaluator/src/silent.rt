@@ -2,32 +2,34 @@
 //! nothing annotates. They are not entered, so that no location is kept for them.
 
 ghost use Rattle.std.specs.Prelude.{◌≡◌, ◌<◌, true};
-ghost use Rattle.json_doc.specs.Docs.{value};
+ghost use Rattle.json_doc.specs.Docs.{value, members_value};
+ghost use Rattle.json_doc.specs.NamedMembers.{name_text};
+ghost use Rattle.keywords.specs.Rows.{row_of};
+ghost use Rattle.evaluator.specs.Leaves.{HasLeafMarks, is_leaf_mark};
+ghost use Rattle.evaluator.specs.Presents.{mark_of};
 
 use crate::applying::Evaluation;
-use crate::groups::first_groups;
-use crate::present::Present;
 use assertions::Assertion;
-use json_doc::Doc;
+use json_doc::{Doc, Members, Name};
 use keyword_plans::{Planned, Subject, holds_of};
-use keywords::{Group, Keyword};
+use keywords::Keyword;
 use std::alloc::AllocError;
 
+/// Of more members it isn't tried whether they only assert.
+const MOST: usize = 16;
+
 impl<'a> Evaluation<'a> {
-    ghost use Rattle.std.specs.Prelude.{ℕ, [], Some, false, IfOk};
-    ghost use Rattle.assertions.specs.AssertionView.{assertion_in, assertion_view};
+    ghost use Rattle.std.specs.Prelude.{IfOk};
+    ghost use Rattle.std.specs.List.{list_all};
+    ghost use Rattle.assertions.specs.AssertionView.{assertion_view};
     ghost use Rattle.definitions.specs.Assertions.{holds};
     ghost use Rattle.definitions.specs.Applied.{Application};
     ghost use Rattle.definitions.specs.Limits.{limits};
     ghost use Rattle.definitions.specs.Values.{Text};
     ghost use Rattle.keyword_plans.specs.Subjects.{subject_value};
-    ghost use Rattle.keywords.specs.Rows.{row_of};
-    ghost use Rattle.keywords.specs.declared.group.Group.TheVariants.{One};
     ghost use Rattle.evaluation_context.specs.Frames.{context_view};
-    ghost use Rattle.evaluator.specs.Groups.{asserts_alone, first_groups};
-    ghost use Rattle.evaluator.specs.Leaves.{IsLeaf};
-    ghost use Rattle.evaluator.specs.Rounds.{IsUnder, chosen_value, group_uses, groups_uses, part_outcome};
-    ghost use Rattle.evaluator.specs.Silences.{AreSilent, IsSilent};
+    ghost use Rattle.evaluator.specs.Rounds.{IsUnder, chosen_value, part_outcome};
+    ghost use Rattle.evaluator.specs.Silences.{IsSilent, is_member_met};
 
     /// Whether the schema that is planned is `true`, which passes without a word, and there is room to apply it.
     #[inline(always)]
@@ -49,11 +51,11 @@ impl<'a> Evaluation<'a> {
     #[inline(always)]
     pub(crate) fn passes_silently(
         &mut self,
-        present: &Present<'a>,
+        schema: &Doc,
         planned: &Planned<'a>,
         nesting: u32,
     ) -> Result<bool, AllocError>
-        requires { value present.now.schema.now ≡ chosen_value planned.now.chosen }
+        requires { value schema.now ≡ chosen_value planned.now.chosen }
         ensures linked { self.new.linked ≡ self.old.linked }
         ensures back { self.new.context ≡ self.old.context }
         ensures noted { self.new.log ≡ self.old.log }
@@ -71,10 +73,10 @@ impl<'a> Evaluation<'a> {
         if !self.has_room(nesting) {
             return Ok(false);
         }
-        if !present.only_asserts() {
-            return Ok(false);
+        match schema {
+            Doc::Dict(members) if only_assert(members) => self.are_met(members, planned.subject),
+            _ => Ok(false),
         }
-        self.are_met(present, planned.subject)
     }
 
     // Whether one more application may nest, and there may be one more in all.
@@ -88,77 +90,44 @@ impl<'a> Evaluation<'a> {
         !self.log.is_full()
     }
 
-    // Whether all assertions hold of a schema object that applies nothing. The only error is want of memory.
-    fn are_met(&mut self, present: &Present<'a>, subject: Subject<'a>) -> Result<bool, AllocError>
-        requires { IsLeaf (value present.now.schema.now) }
+    // Whether the assertions hold that the members make, in the order in which these stand. The only error is want of memory.
+    fn are_met(&mut self, members: &Members, subject: Subject<'a>) -> Result<bool, AllocError>
         ensures linked { self.new.linked ≡ self.old.linked }
         ensures back { self.new.context ≡ self.old.context }
         ensures noted { self.new.log ≡ self.old.log }
-        ensures met { (a : Application) (left : ℕ)
-            → a.schema.value ≡ value present.now.schema.now
-            → a.instance ≡ subject_value subject.entry
-            → IfOk result (λ b. b ≡ true
-            → AreSilent a (groups_uses self.old.linked.now left a first_groups)) }
+        ensures met { IfOk result (λ b. b ≡ true
+            → list_all (is_member_met (subject_value subject.entry)) (members_value members.now)
+            ≡ true) }
     {
-        let groups = first_groups();
-        let mut next = present.first_mark(0);
-        while next < groups.len() {
-            let met = self.is_group_met(groups[next], present, subject)?;
+        for (name, keyword_value) in members.iter().named() {
+            let met = self.is_member_met(name, keyword_value, subject)?;
             if !met {
                 return Ok(false);
             }
-            next = present.first_mark(next + 1);
         }
         Ok(true)
     }
 
-    // Whether a group holds that asserts, or that isn't there. The only error is want of memory.
-    fn is_group_met(
+    // Whether the assertion holds that the member makes, if it makes one. The only error is want of memory.
+    #[inline(always)]
+    fn is_member_met(
         &mut self,
-        group: Group,
-        present: &Present<'a>,
+        name: Name<'_>,
+        keyword_value: &Doc,
         subject: Subject<'a>,
     ) -> Result<bool, AllocError>
         ensures linked { self.new.linked ≡ self.old.linked }
         ensures back { self.new.context ≡ self.old.context }
         ensures noted { self.new.log ≡ self.old.log }
-        ensures met { (a : Application) (left : ℕ)
-            → a.schema.value ≡ value present.now.schema.now
-            → a.instance ≡ subject_value subject.entry
-            → (asserts_alone group ≡ false → group_uses self.old.linked.now left a group ≡ [])
-            → IfOk result (λ b. b ≡ true
-            → AreSilent a (group_uses self.old.linked.now left a group)) }
+        ensures met { IfOk result (λ b. b ≡ true
+            → is_member_met (subject_value subject.entry)
+            (name_text name.entry, value keyword_value.now) ≡ true) }
     {
-        match group {
-            Group::One(keyword) => match Assertion::of(keyword) {
-                Some(assertion) => self.is_assertion_met(keyword, assertion, present, subject),
-                None => Ok(true),
-            },
-            Group::Conditional => Ok(true),
-            Group::Counted => Ok(true),
-        }
-    }
-
-    // Whether a keyword holds that makes this assertion, where it is there. The only error is want of memory.
-    fn is_assertion_met(
-        &mut self,
-        keyword: Keyword,
-        assertion: Assertion,
-        present: &Present<'a>,
-        subject: Subject<'a>,
-    ) -> Result<bool, AllocError>
-        requires { Some (assertion_view assertion) ≡ assertion_in (row_of keyword).meaning }
-        ensures linked { self.new.linked ≡ self.old.linked }
-        ensures back { self.new.context ≡ self.old.context }
-        ensures noted { self.new.log ≡ self.old.log }
-        ensures met { (a : Application) (left : ℕ)
-            → a.schema.value ≡ value present.now.schema.now
-            → a.instance ≡ subject_value subject.entry
-            → IfOk result (λ b. b ≡ true
-            → AreSilent a (group_uses self.old.linked.now left a (One keyword))) }
-    {
-        match present.value(keyword) {
-            Some(keyword_value) => { self.is_value_met(keyword, assertion, keyword_value, subject) }
+        let Some(keyword) = name.keyword() else {
+            return Ok(true);
+        };
+        match Assertion::of(keyword) {
+            Some(assertion) => self.is_value_met(keyword, assertion, keyword_value, subject),
             None => Ok(true),
         }
     }
@@ -184,5 +153,42 @@ impl<'a> Evaluation<'a> {
             Keyword::Enum if !self.enumerations.may_walk(keyword_value) => Ok(false),
             _ => holds_of(self.alloc, assertion, keyword_value, subject),
         }
+    }
+}
+
+// Whether the members surely are those of a schema object that applies nothing, and none annotates with its own value. Of many
+// that isn't said.
+fn only_assert(members: &Members) -> bool
+    ensures { result ≡ true → HasLeafMarks (members_value members.now) }
+{
+    if members.len() > MOST {
+        return false;
+    }
+    for (name, _) in members.iter().named() {
+        if !is_of_leaf(name) {
+            return false;
+        }
+    }
+    true
+}
+
+#[inline(always)]
+fn is_of_leaf(name: Name<'_>) -> bool
+    ensures { result ≡ true → is_leaf_mark (mark_of (name_text name.entry)) ≡ true }
+{
+    match name.keyword() {
+        Some(keyword) => is_leaf_keyword(keyword),
+        None => false,
+    }
+}
+
+// Whether it looks at its own value and the instance alone, or only declares.
+#[inline(always)]
+fn is_leaf_keyword(keyword: Keyword) -> bool
+    ensures { result ≡ true → is_leaf_mark (mark_of (row_of keyword).name) ≡ true }
+{
+    match keyword {
+        Keyword::ContentSchema => false,
+        _ => Assertion::of(keyword).is_some() || !keyword.is_evaluated(),
     }
 }

@@ -1,22 +1,18 @@
-use Rattle.std.proofs.Common.{◌≡◌, ◌-◌, ℕ, length, take}
-use Rattle.definitions.specs.Applied.{Application}
-use Rattle.json_doc.specs.Docs.{value}
+use Rattle.std.proofs.Common.{◌≡◌, true}
+use Rattle.std.specs.List.{list_all}
+use Rattle.json_doc.specs.Docs.{members_value}
+use Rattle.json_doc.specs.NamedMembers.{named_left}
 use Rattle.keyword_plans.specs.Subjects.{subject_value}
-use Rattle.evaluator.specs.Groups.{first_groups}
-use Rattle.evaluator.specs.Rounds.{groups_uses}
-use Rattle.evaluator.specs.Silences.{AreSilent}
+use Rattle.evaluator.specs.Silences.{is_member_met}
 use Rattle.evaluator.proofs.applying.Evaluation.are_met.Given as goal
 
--- the groups so far hold without a word
-abbrev pub invariant-loop-next : goal.invariant-loop-next
-invariant-loop-next l =
+-- where the members hold that are left, all do
+abbrev pub invariant-loop-name : goal.invariant-loop-name
+invariant-loop-name l =
     record {
       linked : l.self.linked ≡ l.fn.self.linked;
       back : l.self.context ≡ l.fn.self.context;
       noted : l.self.log ≡ l.fn.self.log;
-      met : (a : Application) (left : ℕ) → a.schema.value ≡ value l.fn.present.schema.now → a.instance ≡ subject_value l.fn.subject
-          → AreSilent a (groups_uses l.fn.self.linked.now left a (take l.next first_groups));
+      met : list_all (is_member_met (subject_value l.fn.subject)) (named_left l.name-iterator) ≡ true
+          → list_all (is_member_met (subject_value l.fn.subject)) (members_value l.fn.members) ≡ true;
     }
-
-abbrev pub decreases-loop-next : goal.decreases-loop-next
-decreases-loop-next l = length l.groups - l.next

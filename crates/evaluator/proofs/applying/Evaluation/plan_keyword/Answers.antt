@@ -8,8 +8,8 @@ use Rattle.evaluator.proofs.applying.Evaluation.plan_keyword.Goals as goal
 pub returns-clause-planned : goal.returns-clause-planned
 unfolding log_view context_view frame_standing
 returns-clause-planned c a left at knows got =
-    let names = c.evaluated_since-evaluated.ensures.names ∙ ap (λ ns. drop c.args.here.before.names (map (λ n. n.now) ns)) c.deref.ensures.value in
-    let indexes = c.evaluated_since-evaluated.ensures.indexes ∙ ap (λ is. drop c.args.here.before.indexes is) c.deref-2.ensures.value in
+    let names = c.evaluated_since.ensures.names ∙ ap (λ ns. drop c.args.here.before.names (map (λ n. n.now) ns)) c.deref.ensures.value in
+    let indexes = c.evaluated_since.ensures.indexes ∙ ap (λ is. drop c.args.here.before.indexes is) c.deref-2.ensures.value in
     rw (← names, ← indexes)
     (c.in_ok-plan.ensures.ok a (linked_outcome c.args.self.now.linked.now left)
     (record {
@@ -18,7 +18,7 @@ returns-clause-planned c a left at knows got =
       instance = ap (λ (b : Application). b.instance) at.there;
       inside = at.inside;
     })
-    c.args.self.now.followed (ap (λ (b : Application). b.scope) at.there) got knows.condition)
+    c.args.self.now.followed (ap (λ (b : Application). b.scope) at.there) c.args.self.now.searched got knows.condition)
 
 pub returns-clause-back : goal.returns-clause-back
 unfolding context_view

@@ -25,6 +25,8 @@ mod links;
 #[cfg(test)]
 mod long_enums;
 #[cfg(test)]
+mod long_patterns;
+#[cfg(test)]
 mod outputs;
 #[cfg(test)]
 mod references;

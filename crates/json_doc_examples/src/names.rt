@@ -4,7 +4,7 @@ use json_doc::{Doc, Members, ShortText, Whole};
 use std::alloc::Global;
 use std::test::Fail;
 
-// Names in byte order: those of 24 bytes are the longest that stand in the value itself.
+// Names, of which those of 24 bytes are the longest that stand in the value itself.
 const NAMES: &[&str] = &[
     "",
     "Type",
@@ -60,9 +60,10 @@ fn names_stand_as_their_bytes_do(rt: HostRuntime) -> Result<(), Fail> {
         assert!(rt; false);
         return Ok(());
     };
-    for (index, (name, _)) in members.iter().named().enumerate() {
-        for (other_index, (other, _)) in others.iter().named().enumerate() {
-            assert!(rt; name.compare(other) == index.cmp(&other_index), "{index}");
+    for (name, _) in members.iter().named() {
+        let text = name.as_str();
+        for (other, _) in others.iter().named() {
+            assert!(rt; name.compare(other) == text.cmp(other.as_str()), "{text}");
         }
     }
     Ok(())

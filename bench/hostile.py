@@ -77,6 +77,27 @@ def nested(depth, opened=b"[", closed=b"]", inner=b""):
 # ---- schemas
 
 
+def take_turns(schema_of, elements, definitions=()):
+    """Sixty-five members, of which each element has the first and the last: what an evaluation keeps of their schemas'
+    references, or patterns, has one place for both."""
+    properties = {f"p{number:02}": schema_of(number) for number in range(65)}
+    schema = {"$defs": dict(definitions), "items": {"properties": properties}}
+    return schema, [{"p00": "b", "p64": "b"}] * elements
+
+
+def long_of_two(number, size):
+    return {0: "a" * size, 64: "c" * size}.get(number, f"s{number}")
+
+
+def references_in_turn(elements, size=240_000):
+    texts = [long_of_two(number, size) for number in range(65)]
+    return take_turns(lambda number: {"$ref": f"#/$defs/{texts[number]}"}, elements, [(text, {}) for text in texts])
+
+
+def patterns_in_turn(elements, size=400_000):
+    return take_turns(lambda number: {"pattern": f"{long_of_two(number, size)}|b"}, elements)
+
+
 def deep_chain(length):
     chain = {f"d{number}": {"$ref": f"#/$defs/d{number + 1}"} for number in range(1, length)}
     return {"$ref": "#/$defs/d1", "$defs": {**chain, f"d{length}": {}}}
@@ -197,6 +218,10 @@ CASES = [
     Case("uniqueItems on 3 times 2^13 lists in one another", lambda: check(
         {"uniqueItems": True, "items": {"$ref": "#"}}, unlike_lists(13)), "200 valid"),
     # -- applications times size
+    Case("two references of 240 KB that share a place, followed 10,000 times in turn", lambda: check(*references_in_turn(5_000)),
+        "200 valid", over="product"),
+    Case("two patterns of 400 KB that share a place, searched for 66,000 times in turn", lambda: check(*patterns_in_turn(33_000)),
+        "200 valid", over="product"),
     Case("required of 2,000 names by 2,000 schemas in place", lambda: check(
         {"allOf": [{"$ref": "#/$defs/r"}] * 2_000, "$defs": {"r": {"required": names(2_000)}}},
         {name: 1 for name in names(2_000)}), "200 valid", over="product"),

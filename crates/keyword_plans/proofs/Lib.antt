@@ -7,6 +7,8 @@ pub mod SharedNames
 pub mod Unnamed
 pub mod Patterns
 pub mod Taken
+pub mod Kept
+pub mod AllNamed
 pub mod Seen
 pub mod Unevaluated
 pub mod Once

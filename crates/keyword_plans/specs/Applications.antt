@@ -1,11 +1,11 @@
 -- What a keyword applies, read off lists of schemas, elements and members.
-use Rattle.std.specs.Prelude.{ℕ, List, [], ◌∷◌, Option, Some, None, ◌==◌, decimal, map, flat_map, filter, zip, is_some, not, Contains}
+use Rattle.std.specs.Prelude.{ℕ, List, [], ◌∷◌, Option, Some, None, ◌==◌, decimal, map, flat_map, filter, zip, is_some, not, length, codes, Contains}
 use Rattle.std.specs.List.{AllByRecursion, list_any, enumerate_from}
-use Rattle.definitions.specs.Values.{Text, Value, entry, get, string}
+use Rattle.definitions.specs.Values.{Text, Value, entry, get, members, string}
 use Rattle.definitions.specs.Patterns.{has_match}
 use Rattle.definitions.specs.Searches.{patterns_of}
 use Rattle.definitions.specs.Schemas.{Schema}
-use Rattle.definitions.specs.Applied.{Application, Part, named, indexed, name_of, at_part, in_place, at_present, at_members, is_taken, has}
+use Rattle.definitions.specs.Applied.{Application, Part, named, indexed, name_of, at_part, in_place, at_present, at_members, beside, is_taken, has}
 use Rattle.linker.specs.LinkedDocuments.{linked_schemas}
 use Rattle.linker.specs.declared.linked.Linked.{Linked}
 use Rattle.keyword_plans.specs.Sites.{linked_rules}
@@ -17,6 +17,10 @@ planned_elements k a i vs = map (λ e. in_place a (k ∷ decimal e.0 ∷ []) e.1
 -- the members of the instance whose names stand among these schemas
 abbrev pub planned_members : Text → Application → List (Text × Value) → List (Part × Application)
 planned_members k a ms = flat_map (λ m. at_present a k m (get m.0 a.instance)) ms
+
+-- how many members of the instance `properties` beside names
+abbrev pub named_count : Application → ℕ
+named_count a = length (planned_members (codes "properties") a (members (beside a (codes "properties"))))
 
 -- the schemas whose names the instance has, at the whole instance
 abbrev pub planned_dependents : Text → Application → List (Text × Value) → List (Part × Application)

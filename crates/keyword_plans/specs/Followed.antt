@@ -1,5 +1,7 @@
 -- References that were followed, and what they name.
-use Rattle.std.specs.Prelude.{◌≡◌, Contains, List, Option, Some, option_map}
+use Rattle.std.specs.Prelude.{◌≡◌, ℕ, Contains, List, Option, Some, option_map}
+use Rattle.std.specs.BTreeMap.{BTreeMap, values}
+use Rattle.std.specs.List.{All}
 use Rattle.definitions.specs.Resolution.{target_uri}
 use Rattle.definitions.specs.Schemas.{Schema}
 use Rattle.definitions.specs.Targets.{target, dynamic_target}
@@ -31,6 +33,10 @@ IsNamed table text n =
 -- what is kept of the reference is what it names in these documents
 abbrev pub IsFollowed : Linked → FollowedReference → Type 0
 IsFollowed l f = (resource text : Text) → reference_pair l f.number ≡ Some (resource, text) → IsNamed (linked_schemas l) (target_uri resource text) f.named
+
+-- all are that are kept in a map
+abbrev pub AreFollowed : Linked → BTreeMap (ℕ × ℕ × ℕ) FollowedReference → Type 0
+AreFollowed l kept = All (IsFollowed l) (values kept)
 
 -- this schema of the documents stands in the resource of this URI, and has the reference
 pub record Refers (l : Linked) (s : Schema) (uri text : Text) : Type 0 where

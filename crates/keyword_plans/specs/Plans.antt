@@ -2,7 +2,7 @@
 use Rattle.std.specs.Prelude.{ℕ, Bool, true, false, List, [], ◌∷◌, Option, Some, None, map}
 use Rattle.definitions.specs.Values.{Text, Value}
 use Rattle.definitions.specs.Pointers.{Pointer}
-use Rattle.definitions.specs.Keywords.{Meaning, consequence, min_contains, max_contains}
+use Rattle.definitions.specs.Keywords.{Meaning, consequence, min_contains, max_contains, additional_properties}
 use Rattle.definitions.specs.Applied as definition
 use Rattle.definitions.specs.Applied.{Application, Outcome, Rules, whole, named, indexed, name_of, keyword_applications, part_application, at_part}
 use Rattle.json_doc.specs.Docs.{value}
@@ -50,6 +50,11 @@ abbrev pub counts_contained : Meaning → Bool
 counts_contained min_contains = true
 counts_contained max_contains = true
 counts_contained _ = false
+
+-- asks how many members `properties` beside names
+abbrev pub takes_others : Meaning → Bool
+takes_others additional_properties = true
+takes_others _ = false
 
 -- applies the schema that it refers to
 abbrev pub follows_reference : Keyword → Bool

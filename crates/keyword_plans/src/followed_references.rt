@@ -9,15 +9,20 @@ ghost use Rattle.definitions.specs.Targets.{target};
 ghost use Rattle.definitions.specs.Values.{Text};
 ghost use Rattle.linker.specs.LinkedDocuments.{linked_schemas};
 ghost use Rattle.linker.specs.ReferenceNumbers.{reference_pair};
-ghost use Rattle.keyword_plans.specs.Followed.{IsFollowed, IsNamed, Refers, target_view};
+ghost use Rattle.keyword_plans.specs.Followed.{AreFollowed, IsFollowed, IsNamed, Refers, target_view};
 ghost use Rattle.keyword_plans.specs.ValueSets.{value_set};
 
 use crate::target::Target;
 use linker::{Linked, ReferenceNumber};
 use std::alloc::{AllocError, Global};
+use std::collections::BTreeMap;
 
-/// How many references are kept.
-const MOST_KEPT: usize = 64;
+/// How many short references are kept.
+const MOST_SHORT: usize = 64;
+
+/// With so many bytes in its text and in the URI of its resource a reference is short: what it names is found about as fast as
+/// among those that are kept by their numbers.
+const SHORT: usize = 128;
 
 /// What a reference names first (JSON Schema 2020-12 Core, 8.2.3).
 #[derive(Drop)]
@@ -35,15 +40,18 @@ struct FollowedReference<'a> {
     named: Option<Followed<'a>>,
 }
 
-/// What the references that were followed in an evaluation name: sixty-four at most, each in the place that the number of its
-/// text tells, of which the last that was followed there is kept.
+/// What the references that were followed in an evaluation name: of the short ones sixty-four at most, each in the place that
+/// the number of its text tells, of which the last that was followed there is kept; of the others all, since to find anew what
+/// one names takes as long as its text is.
 ///
 /// To follow one of them again takes no memory. Contracts see the documents that they stand in, by `followed_in`.
 #[derive(Drop)]
 pub struct FollowedReferences<'a> {
     linked: &'a Linked,
-    followed: Vec<Option<FollowedReference<'a>>>,
-    ghost right: { All (λ o. IfSome o (IsFollowed linked.now)) followed.items } by { Prim.hlevel (props, value_set) },
+    short: Vec<Option<FollowedReference<'a>>>,
+    long: BTreeMap<(usize, usize, usize), FollowedReference<'a>>,
+    ghost short_right: { All (λ o. IfSome o (IsFollowed linked.now)) short.items } by { Prim.hlevel (props, value_set) },
+    ghost long_right: { AreFollowed linked.now long } by { Prim.hlevel (props, value_set) },
 }
 
 impl<'a> FollowedReferences<'a> {
@@ -55,7 +63,8 @@ impl<'a> FollowedReferences<'a> {
     {
         FollowedReferences {
             linked,
-            followed: Vec::new(alloc),
+            short: Vec::new(alloc),
+            long: BTreeMap::new(alloc),
         }
     }
 
@@ -132,8 +141,21 @@ impl<'a> FollowedReferences<'a> {
             → IfSome result (λ f. IsNamed (linked_schemas (followed_in self.now).now)
             (target_uri resource text) f.now.named) }
     {
-        match self.followed.get(place_of(number)) {
+        match self.short.get(place_of(number)) {
             Some(Some(followed)) if followed.number.is(number) => Some(followed),
+            _ => self.find_long(number),
+        }
+    }
+
+    // The same among those that aren't short.
+    fn find_long(&self, number: ReferenceNumber) -> Option<&FollowedReference<'a>>
+        ensures { (resource text : Text)
+            → reference_pair (followed_in self.now).now number ≡ Some (resource, text)
+            → IfSome result (λ f. IsNamed (linked_schemas (followed_in self.now).now)
+            (target_uri resource text) f.now.named) }
+    {
+        match self.long.get(&number.parts()) {
+            Some(followed) if followed.number.is(number) => Some(followed),
             _ => None,
         }
     }
@@ -153,10 +175,15 @@ impl<'a> FollowedReferences<'a> {
         match self.linked.reference(number) {
             Some((resource, reference)) => {
                 let named = named_first(alloc, self.linked, resource, reference)?;
-                self.keep(FollowedReference {
+                let followed = FollowedReference {
                     number,
                     named: again(&named)?,
-                })?;
+                };
+                if is_short(resource, reference) {
+                    self.keep_short(followed)?;
+                } else {
+                    self.keep_long(followed)?;
+                }
                 Ok(named)
             }
             // Never: the number is that of a reference.
@@ -165,24 +192,38 @@ impl<'a> FollowedReferences<'a> {
     }
 
     // In the place of its number.
-    fn keep(&mut self, followed: FollowedReference<'a>) -> Result<(), AllocError>
+    fn keep_short(&mut self, followed: FollowedReference<'a>) -> Result<(), AllocError>
         requires { IsFollowed (followed_in self.old).now followed }
         ensures { followed_in self.new ≡ followed_in self.old }
     {
         let place = place_of(followed.number);
-        while self.followed.len() <= place {
-            self.followed.push(None)?;
+        while self.short.len() <= place {
+            self.short.push(None)?;
         }
-        self.followed[place] = Some(followed);
+        self.short[place] = Some(followed);
+        Ok(())
+    }
+
+    // Beside all others that aren't short.
+    fn keep_long(&mut self, followed: FollowedReference<'a>) -> Result<(), AllocError>
+        requires { IsFollowed (followed_in self.old).now followed }
+        ensures { followed_in self.new ≡ followed_in self.old }
+    {
+        self.long.insert(followed.number.parts(), followed)?;
         Ok(())
     }
 }
 
-// The place of a reference among those that are kept.
+// Whether a reference in the resource of this URI is short.
+fn is_short(resource: &str, reference: &str) -> bool {
+    resource.len() <= SHORT && reference.len() <= SHORT - resource.len()
+}
+
+// The place of a short reference among those that are kept.
 fn place_of(number: ReferenceNumber) -> usize
     ensures { result < 64 }
 {
-    number.text() % MOST_KEPT
+    number.text() % MOST_SHORT
 }
 
 // What the documents have under the reference.

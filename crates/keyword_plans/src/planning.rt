@@ -1,13 +1,14 @@
 //! What each keyword applies, to which part of the instance.
 
-ghost use Rattle.std.specs.Prelude.{◌≡◌, [], ℕ, List, Some, false, true, IfErr, OnOk, map, option_map};
+ghost use Rattle.std.specs.Prelude.{◌≡◌, ◌≤◌, [], ℕ, List, Some, false, true, IfErr, OnOk, map, option_map};
 ghost use Rattle.definitions.specs.Values.{get};
 ghost use Rattle.definitions.specs.Applied.{Application, Outcome, condition_outcome, keyword_applications};
 ghost use Rattle.json_doc.specs.Docs.{value};
 ghost use Rattle.keywords.specs.Rows.{row_of};
 ghost use Rattle.keyword_plans.specs.ScopeViews.{scope_documents, scope_uris};
 ghost use Rattle.keyword_plans.specs.SearchedIn.{searched_in};
-ghost use Rattle.keyword_plans.specs.Plans.{applies_in_place, follows_reference, is_consequence, planned_view, searches_patterns};
+ghost use Rattle.keyword_plans.specs.Plans.{applies_in_place, follows_reference, is_consequence, planned_view, searches_patterns, takes_others};
+ghost use Rattle.keyword_plans.specs.Applications.{named_count};
 ghost use Rattle.keyword_plans.specs.Sites.{Shows, linked_rules};
 
 mod in_place;
@@ -36,7 +37,7 @@ use std::alloc::AllocError;
 /// What the keyword of the schema, with this value, applies, in order (JSON Schema 2020-12 Core, 7.1, 10 and 11): it stands
 /// in `planned` in place of all that stood there.
 ///
-/// `then`, `else`, `unevaluatedItems` and `unevaluatedProperties` need what was said `earlier`. `scope` is the dynamic scope,
+/// `then`, `else`, `additionalProperties`, `unevaluatedItems` and `unevaluatedProperties` need what was said `earlier`. `scope` is the dynamic scope,
 /// the schema's own resource last, and keeps what is followed here, as `searches` keep the patterns that are searched for. The
 /// only error is want of memory.
 #[inline(always)]
@@ -55,6 +56,7 @@ pub fn plan<'a>(
         → get (row_of keyword).name a.schema.value ≡ Some (value keyword_value.now)
         → (is_consequence (row_of keyword).meaning ≡ true
         → option_map (λ o. o.valid) (condition_outcome run a) ≡ earlier.entry.condition)
+        → (takes_others (row_of keyword).meaning ≡ true → earlier.entry.named ≤ named_count a)
         → OnOk result (map (planned_view (row_of keyword).name a) planned.new.items
         ≡ keyword_applications (linked_rules site.entry.linked.now) run
         (map (λ n. n.now) earlier.entry.evaluated.names.now)
@@ -69,7 +71,9 @@ pub fn plan<'a>(
         Keyword::Ref => plan_reference(planned, scope, &site, keyword_value),
         Keyword::DynamicRef => plan_dynamic_reference(planned, scope, &site, keyword_value),
         Keyword::PatternProperties => plan_patterns(planned, searches, &site, keyword_value),
-        Keyword::AdditionalProperties => plan_others(planned, searches, &site, keyword_value),
+        Keyword::AdditionalProperties => {
+            plan_others(planned, searches, &site, keyword_value, earlier.named)
+        }
         _ => plan_subschemas(
             planned,
             &site,

@@ -1,6 +1,6 @@
 //! Searches for the patterns of linked documents.
 
-ghost use Rattle.std.specs.Prelude.{◌≡◌, ◌<◌, Some, Contains, IfOk, IfSome, OnOk, length};
+ghost use Rattle.std.specs.Prelude.{◌≡◌, Some, Contains, IfOk, IfSome};
 ghost use Rattle.std.proofs.Props.{props};
 ghost use Rattle.definitions.specs.Patterns.{has_match};
 ghost use Rattle.definitions.specs.Schemas.{Schema};
@@ -15,31 +15,21 @@ ghost use Rattle.patterns.specs.HeldPatterns.{held_text};
 use linker::Linked;
 use patterns::HeldPattern;
 use std::alloc::{AllocError, Global};
+use std::collections::BTreeMap;
 
-/// How many patterns are kept.
-const MOST_KEPT: usize = 64;
-
-/// To compare a text of so many bytes takes no longer than to keep its pattern.
+/// To compare a text of so many bytes takes no longer than to hold its pattern.
 const SHORT: usize = 64;
 
-/// A pattern of linked documents that is held, by its number.
-#[derive(Drop)]
-struct KeptPattern<'a> {
-    number: usize,
-    pattern: HeldPattern<'a>,
-}
-
-/// The patterns of more than 64 bytes that an evaluation searched for in linked documents: sixty-four at most, each in the place
-/// that its number tells, of which the last that was searched for there is kept. A pattern that is kept is held, so that to
-/// search for it again doesn't look at its text.
+/// The patterns of more than 64 bytes that an evaluation searched for in linked documents, by their numbers. They are held, so
+/// that to search for one again doesn't look at its text.
 ///
 /// Contracts see the documents that they stand in, by `searched_in`.
 #[derive(Drop)]
 pub struct Searches<'a> {
     alloc: Global,
     linked: &'a Linked,
-    held: Vec<Option<KeptPattern<'a>>>,
-    ghost right: { AreHeld linked.now held.items } by { Prim.hlevel props },
+    held: BTreeMap<usize, HeldPattern<'a>>,
+    ghost right: { AreHeld linked.now held } by { Prim.hlevel props },
 }
 
 impl<'a> Searches<'a> {
@@ -52,7 +42,7 @@ impl<'a> Searches<'a> {
         Searches {
             alloc,
             linked,
-            held: Vec::new(alloc),
+            held: BTreeMap::new(alloc),
         }
     }
 
@@ -78,7 +68,8 @@ impl<'a> Searches<'a> {
 
     // Whether the pattern of this number matches somewhere in the text.
     fn numbered(&mut self, number: usize, text: &str) -> Result<bool, AllocError>
-        ensures ok { (pattern : Text) → pattern_text (searched_in self.old).now number ≡ Some pattern
+        ensures ok { (pattern : Text)
+            → pattern_text (searched_in self.old).now number ≡ Some pattern
             → IfOk result (λ found. found ≡ has_match pattern text.now) }
         ensures linked { searched_in self.new ≡ searched_in self.old }
     {
@@ -88,55 +79,23 @@ impl<'a> Searches<'a> {
         }
     }
 
-    // The same of one that isn't kept, and is from now on.
+    // The same of one that isn't held, and is from now on.
     fn search_first(&mut self, number: usize, text: &str) -> Result<bool, AllocError>
-        ensures ok { (pattern : Text) → pattern_text (searched_in self.old).now number ≡ Some pattern
+        ensures ok { (pattern : Text)
+            → pattern_text (searched_in self.old).now number ≡ Some pattern
             → IfOk result (λ found. found ≡ has_match pattern text.now) }
         ensures linked { searched_in self.new ≡ searched_in self.old }
     {
-        let mut kept = hold(self.linked, number)?;
-        let found = kept.matches(self.alloc, text)?;
-        self.keep(place_of(number), kept)?;
+        let mut pattern = hold(self.linked, number)?;
+        let found = search(&mut pattern, self.alloc, text)?;
+        self.held.insert(number, pattern)?;
         Ok(found)
     }
-
-    // In this place.
-    fn keep(&mut self, place: usize, kept: KeptPattern<'a>) -> Result<(), AllocError>
-        requires { IsHeld (searched_in self.old).now kept }
-        ensures { searched_in self.new ≡ searched_in self.old }
-    {
-        self.make_room(place)?;
-        self.held[place] = Some(kept);
-        Ok(())
-    }
-
-    // So that there is this place.
-    fn make_room(&mut self, place: usize) -> Result<(), AllocError>
-        ensures there { OnOk result (place < length self.new.held.items) }
-        ensures linked { searched_in self.new ≡ searched_in self.old }
-    {
-        while self.held.len() <= place {
-            self.held.push(None)?;
-        }
-        Ok(())
-    }
 }
 
-impl KeptPattern<'_> {
-    // Whether it matches somewhere in the text. It is called apart, since few patterns are long.
-    #[inline(never)]
-    fn matches(&mut self, alloc: Global, text: &str) -> Result<bool, AllocError>
-        ensures ok { IfOk result (λ found. found ≡ has_match (held_text self.old.pattern) text.now) }
-        ensures number { self.new.number ≡ self.old.number }
-        ensures same { held_text self.new.pattern ≡ held_text self.old.pattern }
-    {
-        self.pattern.matches(alloc, text)
-    }
-}
-
-// Searches for the pattern of this number, where it is kept in its place.
+// Searches for the pattern of this number, where it is held.
 fn search_again(
-    held: &mut [Option<KeptPattern<'_>>],
+    held: &mut BTreeMap<usize, HeldPattern<'_>>,
     alloc: Global,
     number: usize,
     text: &str,
@@ -146,30 +105,28 @@ fn search_again(
         → IfSome result (λ r. IfOk r (λ found. found ≡ has_match pattern text.now)) }
     ensures held { (linked : Linked) → AreHeld linked held.old → AreHeld linked held.new }
 {
-    let place = place_of(number);
-    if place >= held.len() {
-        return None;
-    }
-    let there = &mut held[place];
-    match there {
-        Some(kept) if kept.number == number => Some(kept.matches(alloc, text)),
-        _ => None,
+    match held.get_mut(&number) {
+        Some(pattern) => Some(search(pattern, alloc, text)),
+        None => None,
     }
 }
 
-// The place of a pattern among those that are kept.
-fn place_of(number: usize) -> usize {
-    number % MOST_KEPT
+// Whether the pattern matches somewhere in the text. It is called apart, since few patterns are long.
+#[inline(never)]
+fn search(pattern: &mut HeldPattern<'_>, alloc: Global, text: &str) -> Result<bool, AllocError>
+    ensures ok { IfOk result (λ found. found ≡ has_match (held_text pattern.old) text.now) }
+    ensures same { held_text pattern.new ≡ held_text pattern.old }
+{
+    pattern.matches(alloc, text)
 }
 
 // The pattern of this number, held. The error says that it can't be, which never is: nothing else holds it.
-fn hold<'a>(linked: &'a Linked, number: usize) -> Result<KeptPattern<'a>, AllocError>
-    ensures held { IfOk result (IsHeld linked.entry.now) }
-    ensures number { IfOk result (λ k. k.number ≡ number) }
+fn hold<'a>(linked: &'a Linked, number: usize) -> Result<HeldPattern<'a>, AllocError>
+    ensures { IfOk result (IsHeld linked.entry.now number) }
 {
     match linked.numbered_pattern(number) {
         Some(pattern) => match pattern.hold() {
-            Some(pattern) => Ok(KeptPattern { number, pattern }),
+            Some(pattern) => Ok(pattern),
             None => Err(AllocError),
         },
         None => Err(AllocError),

@@ -30,6 +30,11 @@ impl ReferenceNumber {
         self.text
     }
 
+    /// The numbers of its document, its resource and its text, by which it can be kept in a map.
+    pub fn parts(self) -> (usize, usize, usize) {
+        (self.document, self.resource, self.text)
+    }
+
     /// Whether it is the same reference.
     #[inline(always)]
     pub fn is(self, other: ReferenceNumber) -> bool

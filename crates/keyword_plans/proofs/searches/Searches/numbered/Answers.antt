@@ -1,9 +1,7 @@
-use Rattle.std.proofs.Common.{sym, subst}
-use Rattle.keyword_plans.specs.Held.{AreHeld}
 use Rattle.keyword_plans.specs.SearchedIn.{searched_in}
 use Rattle.keyword_plans.proofs.searches.Searches.numbered.Goals as goal
 
 pub returns-in-Some-clause-ok : goal.returns-in-Some-clause-ok
 returns-in-Some-clause-ok c pattern is =
     let l = (searched_in c.args.self.now).now in
-    c.in-Some.ensures.ok l pattern (subst (AreHeld l) (sym c.deref_mut.ensures.value) c.args.self.now.right) is
+    c.in-Some.ensures.ok l pattern c.args.self.now.right is

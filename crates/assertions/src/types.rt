@@ -40,6 +40,7 @@ fn is_of_one(instance: &Doc, types: &[Doc]) -> bool
     types.iter().any(|name| is_of_type(instance, name))
 }
 
+#[inline(always)]
 fn is_of_type(instance: &Doc, name: &Doc) -> bool
     ensures { result ≡ is_of_type (value instance.now) (value name.now) }
 {

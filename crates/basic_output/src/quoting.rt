@@ -82,6 +82,7 @@ pub(crate) fn push_message(out: &mut String, keyword: Keyword) -> Result<(), All
 }
 
 /// Appends the number in decimal.
+#[inline(always)]
 pub(crate) fn push_decimal(out: &mut String, number: usize) -> Result<(), AllocError>
     ensures { OnOk result (string_bytes out.new ≡ string_bytes out.old ++ decimal number) }
 {

@@ -290,7 +290,7 @@ fn insert_span(spans: &mut Vec<Span>, position: usize, span: Span) -> Result<(),
     Ok(())
 }
 
-#[inline(never)]
+#[inline(always)]
 fn insert_among(spans: &mut Vec<Span>, position: usize, span: Span) -> Result<(), AllocError>
     requires { position ≤ length spans.old.items }
     ensures ok { OnOk result (spans.new.items

@@ -13,6 +13,7 @@ use locations::Step;
 /// How the schema's identity ends to which the steps lead from the origin: the last four bytes of its pointer's last token,
 /// or of its URI where the pointer is empty. It is 0, which tells nothing, where that token is an index of more than one
 /// digit. Names are not walked over, so that it takes the same time however long they are.
+#[inline(always)]
 pub(crate) fn end_of(origin: &Origin<'_>, onward: &[Step<'_>]) -> u32
     ensures { tells_end result (identity_end (onward_identity origin.now (tokens onward.now)))
         ≡ true }
@@ -32,6 +33,7 @@ fn origin_end(origin: &Origin<'_>) -> u32
     }
 }
 
+#[inline(always)]
 fn step_end(step: Step<'_>) -> u32
     ensures { tells_end result (text_end (token step.entry)) ≡ true }
 {

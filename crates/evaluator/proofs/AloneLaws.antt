@@ -1,5 +1,5 @@
 -- Laws of keywords that ask for nothing that keywords beside say or evaluate.
-use Rattle.std.proofs.Common.{◌≡◌, ℕ, List, [], ◌∷◌, map, Bool, true, false, not, ◌||◌, Option, Some, None, refl, sym, ap, ◌∙◌, append-nil}
+use Rattle.std.proofs.Common.{◌≡◌, ℕ, List, [], ◌∷◌, map, Bool, true, false, not, ◌||◌, Option, Some, None, ◌≤◌, refl, sym, ap, ap₂, ◌∙◌, append-nil, subst}
 use Rattle.definitions.specs.Values.{Text, Value, get}
 use Rattle.definitions.specs.Keywords as table
 use Rattle.definitions.specs.Keywords.{Meaning, looks_at_evaluated, asserts, matches_pattern, refers, refers_dynamically, all_of, any_of, one_of, negation, condition, consequence, dependent_schemas, prefix_items, items, contains, min_contains, max_contains, properties, pattern_properties, additional_properties, property_names, unevaluated_items, unevaluated_properties, declares}
@@ -7,6 +7,7 @@ use Rattle.definitions.specs.Applied.{Application, Outcome, Rules, keyword_appli
 use Rattle.definitions.specs.Outcomes.{uses_by_keyword, use_of}
 use Rattle.linker.specs.declared.linked.Linked.{Linked}
 use Rattle.keywords.specs.Rows.{row_of}
+use Rattle.keyword_plans.specs.Applications.{named_count}
 use Rattle.keyword_plans.specs.Sites.{linked_rules}
 use Rattle.keywords.specs.declared.keyword.Keyword.{Keyword}
 use Rattle.keyword_plans.specs.Plans.{is_consequence, counts_contained}
@@ -43,6 +44,16 @@ same_applied rules run names indexes a k unevaluated_items v e = absurd (cc)
 same_applied rules run names indexes a k unevaluated_properties v e = absurd (cc)
 same_applied rules run names indexes a k declares v e = refl
 
+-- names and indexes are looked at by those alone that look at what others evaluated
+pub same_looked : (rules : Rules) (run : Application → Outcome) (ns ms : List Text) (is js : List ℕ) (a : Application) (k : Text) (m : Meaning) (v : Value)
+    → (looks_at_evaluated m ≡ true → ns ≡ ms) → (looks_at_evaluated m ≡ true → is ≡ js)
+    → keyword_applications rules run ns is a k m v ≡ keyword_applications rules run ms js a k m v
+same_looked rules run ns ms is js a k m v e f = told (looks_at_evaluated m) refl
+  where
+    told : (b : Bool) → looks_at_evaluated m ≡ b → keyword_applications rules run ns is a k m v ≡ keyword_applications rules run ms js a k m v
+    told true looks = ap₂ (λ names indexes. keyword_applications rules run names indexes a k m v) (e looks) (f looks)
+    told false looks = same_applied rules run ns is a k m v looks ∙ sym (same_applied rules run ms js a k m v looks)
+
 -- it doesn't matter to them what others evaluated
 pub same_used : (rules : Rules) (run : Application → Outcome) (names : List Text) (indexes : List ℕ) (a : Application) (k : table.Keyword) (o : Option Value)
     → looks_at_evaluated k.meaning ≡ false → uses_by_keyword rules run names indexes a k o ≡ uses_by_keyword rules run [] [] a k o
@@ -68,14 +79,16 @@ third_not false false false h = refl
 never_both : (b : Bool) → b ≡ false → b ≡ true → false ≡ true
 never_both b e f = sym e ∙ f
 
-pub alone_knows : (l : Linked) (left : ℕ) (a : Application) (k : Keyword) (beside : Beside) → stands_alone (One k) ≡ true → Knows l left a (row_of k).meaning beside
-alone_knows l left a k beside alone =
+pub alone_knows : (l : Linked) (left : ℕ) (a : Application) (k : Keyword) (named : ℕ) (beside : Beside) → stands_alone (One k) ≡ true
+    → beside ≡ record { condition = None; containing = None; named = named } → named ≤ named_count a → Knows l left a (row_of k).meaning beside
+alone_knows l left a k named beside alone is most =
     let m = (row_of k).meaning in
     record {
       condition =
-          λ is. absurd (let e = never_both (is_consequence m) (first_not (is_consequence m) (counts_contained m) (looks_at_evaluated m) alone) is in cc);
+          λ t. absurd (let e = never_both (is_consequence m) (first_not (is_consequence m) (counts_contained m) (looks_at_evaluated m) alone) t in cc);
       containing =
-          λ is. absurd (let e = never_both (counts_contained m) (second_not (is_consequence m) (counts_contained m) (looks_at_evaluated m) alone) is in cc);
+          λ t. absurd (let e = never_both (counts_contained m) (second_not (is_consequence m) (counts_contained m) (looks_at_evaluated m) alone) t in cc);
+      named = λ t. subst (λ (b : Beside). b.named ≤ named_count a) (sym is) most;
     }
 
 pub alone_uses : (l : Linked) (left : ℕ) (a : Application) (k : Keyword) (before : Before) (n : Notes) → stands_alone (One k) ≡ true

@@ -1,20 +1,24 @@
 -- Laws of keywords that ask what a keyword beside them found.
-use Rattle.std.proofs.Common.{◌≡◌, ℕ, ◌+◌, List, [], ◌∷◌, ◌++◌, map, cond, Bool, true, false, nat_lt, Option, Some, None, option_map, refl, sym, ap, ◌∙◌, append-nil, codes, fold, count_by}
-use Rattle.definitions.specs.Values.{Text, Value, elements, get}
+use Rattle.std.proofs.Common.{◌≡◌, ◌≤◌, ℕ, ◌+◌, List, [], ◌∷◌, ◌++◌, map, cond, Bool, true, false, nat_lt, Option, Some, None, IfSome, length, option_map, unwrap_or, refl, sym, ap, subst, ◌∙◌, append-nil, codes, fold, count_by}
+use Rattle.std.proofs.lemmas.List.{length-map}
+use Rattle.std.proofs.lemmas.List.Sums.{count_by-le-length}
+use Rattle.definitions.specs.Evaluated.{pass_count}
+use Rattle.definitions.specs.Values.{Text, Value, elements, get, members, null}
 use Rattle.definitions.specs.Keywords.{Meaning, consequence, looks_at_evaluated}
 use Rattle.definitions.specs.Applied.{Application, Outcome, Part, Rules, at_items, in_place}
 use Rattle.definitions.specs.Outcomes.{Use, uses_by_keyword, uses_of}
 use Rattle.linker.specs.declared.linked.Linked.{Linked}
 use Rattle.keywords.specs.Rows.{row_of}
+use Rattle.keyword_plans.specs.Applications.{named_count, planned_members}
 use Rattle.keyword_plans.specs.Sites.{linked_rules}
 use Rattle.keywords.specs.declared.keyword.Keyword.{Keyword}
-use Rattle.keywords.specs.declared.keyword.Keyword.TheVariants.{If, Then, Else, Contains, MinContains, MaxContains}
+use Rattle.keywords.specs.declared.keyword.Keyword.TheVariants.{If, Then, Else, Contains, MinContains, MaxContains, Properties}
 use Rattle.evaluator.specs.Findings.{passing_first}
-use Rattle.keyword_plans.specs.Plans.{is_consequence, counts_contained}
+use Rattle.keyword_plans.specs.Plans.{is_consequence, counts_contained, takes_others}
 use Rattle.evaluator.specs.Notes.{Notes, notes_of_both, uses_notes}
 use Rattle.evaluator.specs.Rounds.{Knows, group_uses, indexes_since, keyword_uses, linked_outcome, names_since, two_uses, uses_since}
 use Rattle.evaluator.specs.declared.beside.Beside.{Beside}
-use Rattle.keywords.specs.declared.group.Group.TheVariants.{Conditional, Counted}
+use Rattle.keywords.specs.declared.group.Group.TheVariants.{One, Conditional, Counted}
 use Rattle.evaluator.specs.declared.log.Before.{Before}
 use Rattle.evaluator.proofs.AloneLaws.{same_used}
 
@@ -42,10 +46,12 @@ containing_told rules run names indexes a None = refl
 containing_told rules run names indexes a (Some v) = ap Some (same_count run (at_items a (codes "contains") v 0 (elements a.instance)) 0)
 
 -- ---- what a keyword knows then
-pub knows_nothing : (l : Linked) (left : ℕ) (a : Application) (m : Meaning) (beside : Beside) → is_consequence m ≡ false → counts_contained m ≡ false → Knows l left a m beside
-knows_nothing l left a m beside e f = record {
-  condition = λ is. absurd (let g = sym e ∙ is in cc);
-  containing = λ is. absurd (let g = sym f ∙ is in cc);
+pub knows_nothing : (l : Linked) (left : ℕ) (a : Application) (m : Meaning) (beside : Beside) → is_consequence m ≡ false → counts_contained m ≡ false
+    → takes_others m ≡ false → Knows l left a m beside
+knows_nothing l left a m beside e f g = record {
+  condition = λ is. absurd (let h = sym e ∙ is in cc);
+  containing = λ is. absurd (let h = sym f ∙ is in cc);
+  named = λ is. absurd (let h = sym g ∙ is in cc);
 }
 
 pub knows_condition : (l : Linked) (left : ℕ) (a : Application) (passing : Option ℕ) (wanted : Bool) (before : Before) (n : Notes) (beside : Beside)
@@ -55,16 +61,36 @@ knows_condition l left a passing wanted before n beside told is = record {
       λ t. sym (is ∙ ap (option_map (λ n. nat_lt 0 n)) told
       ∙ condition_told (linked_rules l) (linked_outcome l left) (names_since before n) (indexes_since before n) a (get (codes "if") a.schema.value));
   containing = λ t. absurd (let g : false ≡ true = t in cc);
+  named = λ t. absurd (let g : false ≡ true = t in cc);
 }
 
 pub knows_containing : (l : Linked) (left : ℕ) (a : Application) (passing : Option ℕ) (m : Meaning) (before : Before) (n : Notes) (beside : Beside)
-    → passing ≡ passing_first (uses_since l left a Contains before n) → beside.containing ≡ passing → is_consequence m ≡ false → Knows l left a m beside
-knows_containing l left a passing m before n beside told is apart = record {
+    → passing ≡ passing_first (uses_since l left a Contains before n) → beside.containing ≡ passing → is_consequence m ≡ false → takes_others m ≡ false
+    → Knows l left a m beside
+knows_containing l left a passing m before n beside told is apart other = record {
   condition = λ t. absurd (let g = sym apart ∙ t in cc);
+  named = λ t. absurd (let g = sym other ∙ t in cc);
   containing =
       λ t. sym (is ∙ told
       ∙ containing_told (linked_rules l) (linked_outcome l left) (names_since before n) (indexes_since before n) a (get (codes "contains") a.schema.value));
 }
+
+-- ---- how many members `properties` names
+named_most : (rules : Rules) (run : Application → Outcome) (a : Application) (o : Option Value) → get (codes "properties") a.schema.value ≡ o
+    → IfSome (passing_first (uses_by_keyword rules run [] [] a (row_of Properties) o ++ [])) (λ passing. passing ≤ named_count a)
+named_most rules run a None e = tt
+named_most rules run a (Some v) e =
+    let es = planned_members (codes "properties") a (members v) in
+    let os = map (λ (p : Part × Application). (p.0, run p.1)) es in
+    let fewer : pass_count os ≤ length os = count_by-le-length (λ (p : Part × Outcome). p.1.valid) os in
+    let same : length os ≡ length es = length-map es (λ (p : Part × Application). (p.0, run p.1)) in
+    let there : length es ≡ named_count a = ap (λ w. length (planned_members (codes "properties") a (members (unwrap_or w null)))) (sym e) in
+    subst (λ n. pass_count os ≤ n) (same ∙ there) fewer
+
+pub named_told : (l : Linked) (left : ℕ) (a : Application) (passing : Option ℕ) → passing ≡ passing_first (group_uses l left a (One Properties))
+    → IfSome passing (λ n. n ≤ named_count a)
+named_told l left a passing told =
+    subst (λ o. IfSome o (λ n. n ≤ named_count a)) (sym told) (named_most (linked_rules l) (linked_outcome l left) a (get (codes "properties") a.schema.value) refl)
 
 -- ---- three keywords, none of which sees what others evaluated
 three_uses : (l : Linked) (left : ℕ) (a : Application) (first second third : Keyword) (before : Before) (n m : Notes)

@@ -123,9 +123,15 @@ pub leaf_keyword : (k : Keyword) → (k ≡ ContentSchema → ⊥) → (is_some 
     → is_leaf_mark (mark_of (row_of k).name) ≡ true
 leaf_keyword k other = implied _ _ (leaf_keywords k other)
 
-pub asserting : (k : Keyword) (o : Option Assertion) → option_map assertion_view o ≡ assertion_in (row_of k).meaning → is_some (assertion_in (row_of k).meaning) ≡ is_some o
-asserting k None e = ap is_some (sym e)
-asserting k (Some x) e = ap is_some (sym e)
+abbrev asserts : Keyword → Bool
+asserts k = is_some (assertion_in (row_of k).meaning)
+
+-- one that asserts isn't `contentSchema`
+pub asserting_keyword : (k : Keyword) (o : Option Assertion) (x : Assertion) → o ≡ Some x → option_map assertion_view o ≡ assertion_in (row_of k).meaning
+    → is_leaf_mark (mark_of (row_of k).name) ≡ true
+asserting_keyword k o x is named =
+    let here : asserts k ≡ true = ap is_some (sym named ∙ ap (option_map assertion_view) is) in
+    leaf_keyword k (λ e. let never : true ≡ false = sym here ∙ ap asserts e in absurd (cc)) (ap (λ b. b || not (is_evaluated (row_of k))) here)
 
 -- one member more
 pub next_mark : (m : Text × Value) (ms : List (Text × Value)) (i : ℕ) → is_leaf_mark (mark_of m.0) ≡ true → is_leaf_mark i ≡ false

@@ -19,3 +19,4 @@ pub mod AssertedLaws
 pub mod SilenceLaws
 pub mod CountLaws
 pub mod MetLaws
+pub mod OwnAnnotations

@@ -1,6 +1,6 @@
 -- Laws of schema objects all of whose assertions hold.
 use Rattle.std.proofs.Common.{◌≡◌, ◌≤◌, ◌<◌, ◌+◌, ◌∙◌, ℕ, zero, suc, List, [], ◌∷◌, Bool, true, false, cond, Option, Some, None, is_some, option_map, unwrap_or, length, get_or, take, refl, sym, ap, subst, arith}
-use Rattle.std.proofs.lemmas.Bool.{and_parts}
+use Rattle.std.proofs.lemmas.Bool.{and_from, and_parts}
 use Rattle.std.proofs.lemmas.List.{take_all}
 use Rattle.std.proofs.lemmas.Option.{same_Some}
 use Rattle.std.specs.List.{list_all}
@@ -18,10 +18,11 @@ use Rattle.keywords.specs.declared.keyword.Keyword.TheVariants.{Ref}
 use Rattle.lemmas.proofs.Texts.{same_text_is}
 use Rattle.linker.specs.declared.linked.Linked.{Linked}
 use Rattle.evaluator.specs.Groups.{asserts_alone, first_groups}
-use Rattle.evaluator.specs.Leaves.{IsLeaf}
+use Rattle.evaluator.specs.Leaves.{HasLeafMarks, IsLeaf, is_leaf_mark}
 use Rattle.evaluator.specs.Rounds.{group_uses, groups_uses}
-use Rattle.evaluator.specs.Silences.{AreSilent, assertion_of_row, is_member_met}
-use Rattle.evaluator.proofs.LeafLaws.{leaf_group}
+use Rattle.evaluator.specs.Presents.{mark_of}
+use Rattle.evaluator.specs.Silences.{AreSilent, assertion_of_row, is_member_met, is_met_alone}
+use Rattle.evaluator.proofs.LeafLaws.{leaf_group, next_mark}
 use Rattle.evaluator.proofs.SilenceLaws.{absent_silent, holding_silent, more_silent, none_silent}
 
 -- ---- a keyword that is there
@@ -54,10 +55,18 @@ none_made_met x v name k o is named none =
     let made : assertion_of_row (row_named name) ≡ None = ap assertion_of_row (sym named ∙ ap (option_map row_of) is) ∙ sym none in
     ap (λ z. unwrap_or (option_map (λ w. holds w v x) z) true) made
 
-pub unnamed_met : (x v : Value) (name : Text) (o : Option Keyword) → o ≡ None → option_map row_of o ≡ row_named name → is_member_met x (name, v) ≡ true
-unnamed_met x v name o is named =
-    let made : assertion_of_row (row_named name) ≡ None = ap assertion_of_row (sym named ∙ ap (option_map row_of) is) in
-    ap (λ z. unwrap_or (option_map (λ w. holds w v x) z) true) made
+-- ---- members all of which are met and apply nothing
+pub alone_met : (x : Value) (ms : List (Text × Value)) → list_all (is_met_alone x) ms ≡ true → list_all (is_member_met x) ms ≡ true
+alone_met x [] all = refl
+alone_met x (m ∷ ms) all =
+    let parts = and_parts (is_met_alone x m) (list_all (is_met_alone x) ms) all in
+    and_from (is_member_met x m) (list_all (is_member_met x) ms) (and_parts (is_leaf_mark (mark_of m.0)) (is_member_met x m) parts.0).1 (alone_met x ms parts.1)
+
+pub alone_marks : (x : Value) (ms : List (Text × Value)) → list_all (is_met_alone x) ms ≡ true → HasLeafMarks ms
+alone_marks x [] all i other = refl
+alone_marks x (m ∷ ms) all i other =
+    let parts = and_parts (is_met_alone x m) (list_all (is_met_alone x) ms) all in
+    next_mark m ms i (and_parts (is_leaf_mark (mark_of m.0)) (is_member_met x m) parts.0).0 other (alone_marks x ms parts.1 i other)
 
 -- ---- its groups
 module _ (l : Linked) (left : ℕ) (a : Application) where

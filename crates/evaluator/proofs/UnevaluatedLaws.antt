@@ -95,7 +95,7 @@ both_after l left a before older gs e =
 
 -- ---- they ask for nothing that keywords beside say
 pub items_know : (l : Linked) (left : ℕ) (a : Application) (beside : Beside) → Knows l left a (row_of UnevaluatedItems).meaning beside
-items_know l left a beside = record { condition = λ is. absurd (cc); containing = λ is. absurd (cc) }
+items_know l left a beside = record { condition = λ is. absurd (cc); containing = λ is. absurd (cc); named = λ is. absurd (cc) }
 
 pub properties_know : (l : Linked) (left : ℕ) (a : Application) (beside : Beside) → Knows l left a (row_of UnevaluatedProperties).meaning beside
-properties_know l left a beside = record { condition = λ is. absurd (cc); containing = λ is. absurd (cc) }
+properties_know l left a beside = record { condition = λ is. absurd (cc); containing = λ is. absurd (cc); named = λ is. absurd (cc) }

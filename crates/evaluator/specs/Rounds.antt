@@ -1,5 +1,5 @@
 -- Where an evaluation stands, and what it does there, as the definitions have it.
-use Rattle.std.specs.Prelude.{◌≡◌, ℕ, zero, suc, false, List, [], ◌∷◌, Bool, true, Option, Some, count_by, ◌++◌, drop, flat_map, length, map, option_map, Contains}
+use Rattle.std.specs.Prelude.{◌≡◌, ◌≤◌, ℕ, zero, suc, false, List, [], ◌∷◌, Bool, true, Option, Some, count_by, ◌++◌, drop, flat_map, length, map, option_map, Contains}
 use Rattle.definitions.specs.Values.{Text, Value, get}
 use Rattle.definitions.specs.Keywords.{Meaning}
 use Rattle.definitions.specs.Applied as definition
@@ -8,7 +8,8 @@ use Rattle.definitions.specs.Outcomes.{Use, boolean_outcome, leaf, outcome, use_
 use Rattle.json_doc.specs.Docs.{value}
 use Rattle.linker.specs.LinkedDocuments.{linked_schemas}
 use Rattle.linker.specs.declared.linked.Linked.{Linked}
-use Rattle.keyword_plans.specs.Plans.{counts_contained, is_consequence, outcomes_of, planned_view}
+use Rattle.keyword_plans.specs.Applications.{named_count}
+use Rattle.keyword_plans.specs.Plans.{counts_contained, is_consequence, outcomes_of, planned_view, takes_others}
 use Rattle.keywords.specs.Rows.{row_of}
 use Rattle.keyword_plans.specs.Sites.{linked_rules}
 use Rattle.keywords.specs.declared.keyword.Keyword.{Keyword}
@@ -52,6 +53,7 @@ IsKnown l k a p = Contains (linked_schemas l) (planned_view k a p).1.schema
 pub record Knows (l : Linked) (left : ℕ) (a : Application) (meaning : Meaning) (beside : Beside) : Type 0 where
   pub condition : is_consequence meaning ≡ true → option_map (λ o. o.valid) (condition_outcome (linked_outcome l left) a) ≡ beside.condition
   pub containing : counts_contained meaning ≡ true → option_map (count_by (λ o. o.valid)) (contains_outcomes (linked_outcome l left) a) ≡ beside.containing
+  pub named : takes_others meaning ≡ true → beside.named ≤ named_count a
 
 -- at a keyword with this value, of the schema s that is applied to the instance x
 pub record IsAtKeyword (l : Linked) (left : ℕ) (f : Frame) (s x : Value) (keyword : Keyword) (v : Value) (beside : Beside) (a : Application) : Type 0 where

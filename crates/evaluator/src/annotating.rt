@@ -29,6 +29,7 @@ use std::alloc::AllocError;
 
 /// The annotations of the names of a schema object that annotate with their own value, in byte order. The only error is
 /// want of memory.
+#[inline(always)]
 pub(crate) fn note_others<'a>(
     context: &mut Context<'a>,
     log: &mut Log<'a>,

@@ -9,16 +9,19 @@ pub(crate) struct Beside {
     pub(crate) condition: Option<bool>,
     /// How many elements `contains` found, where it is there.
     pub(crate) containing: Option<u64>,
+    /// How many members of the instance `properties` names, at least.
+    pub(crate) named: u64,
 }
 
 impl Beside {
     /// They said nothing.
     pub(crate) fn nothing() -> Beside
-        ensures { result ≡ record { condition = None; containing = None } }
+        ensures { result ≡ record { condition = None; containing = None; named = 0 } }
     {
         Beside {
             condition: None,
             containing: None,
+            named: 0,
         }
     }
 
@@ -27,6 +30,7 @@ impl Beside {
         ensures { result ≡ record {
           condition = option_map (λ n. nat_lt 0 n) passing;
           containing = None;
+          named = 0;
         } }
     {
         let condition = match passing {
@@ -36,16 +40,29 @@ impl Beside {
         Beside {
             condition,
             containing: None,
+            named: 0,
         }
     }
 
     /// `contains` found so many elements, where it is there.
     pub(crate) fn after_contains(passing: Option<u64>) -> Beside
-        ensures { result ≡ record { condition = None; containing = passing } }
+        ensures { result ≡ record { condition = None; containing = passing; named = 0 } }
     {
         Beside {
             condition: None,
             containing: passing,
+            named: 0,
+        }
+    }
+
+    /// `properties` names so many members of the instance, at least.
+    pub(crate) fn after_properties(named: u64) -> Beside
+        ensures { result ≡ record { condition = None; containing = None; named = named } }
+    {
+        Beside {
+            condition: None,
+            containing: None,
+            named,
         }
     }
 }

@@ -12,7 +12,7 @@ use assertions::Assertion;
 use keywords::{Group, Keyword};
 
 impl<'a> Evaluation<'a> {
-    ghost use Rattle.std.specs.Prelude.{true, IfOk, IfErr, OnOk};
+    ghost use Rattle.std.specs.Prelude.{◌≤◌, ℕ, true, IfOk, IfErr, IfSome, OnOk};
     ghost use Rattle.std.specs.List.{list_all};
     ghost use Rattle.definitions.specs.Applied.{Application};
     ghost use Rattle.keywords.specs.Rows.{row_of};
@@ -21,6 +21,8 @@ impl<'a> Evaluation<'a> {
     ghost use Rattle.evaluator.specs.Findings.{passing_first};
     ghost use Rattle.evaluator.specs.Groups.{first_groups, stands_alone};
     ghost use Rattle.keywords.specs.declared.group.Group.TheVariants.{One, Conditional, Counted};
+    ghost use Rattle.keywords.specs.declared.keyword.Keyword.TheVariants.{Properties};
+    ghost use Rattle.keyword_plans.specs.Applications.{named_count};
     ghost use Rattle.evaluator.specs.Logs.{log_view};
     ghost use Rattle.evaluator.specs.Notes.{uses_notes};
     ghost use Rattle.evaluator.specs.Rounds.{Knows, evaluated_in, group_uses, groups_uses, object_uses, two_uses, uses_since};
@@ -78,58 +80,91 @@ impl<'a> Evaluation<'a> {
     {
         let groups = first_groups();
         let mut valid = true;
+        let mut named = 0;
         let mut next = here.present.first_mark(0);
         while next < groups.len() {
-            match self.use_group(groups[next], here, nesting) {
+            match self.use_group(groups[next], here, named, nesting) {
                 Ok(passes) => valid &= passes,
                 Err(fault) => return Err(fault),
             }
+            named = self.named_after(groups[next], named);
             next = here.present.first_mark(next + 1);
         }
         Ok(valid)
     }
 
+    /// How many members `properties` names at least, after this group: so many of its schemas passed, if it was it.
+    fn named_after(&self, group: Group, named: u64) -> u64
+        ensures { (most : ℕ) → named ≤ most → (group ≡ One Properties
+            → IfSome self.now.passing (λ passing. passing ≤ most)) → result ≤ most }
+    {
+        match group {
+            Group::One(Keyword::Properties) => self.passing.unwrap_or(0),
+            _ => named,
+        }
+    }
+
+    /// A group of keywords, where `properties` names so many members of the instance at least.
     #[cycle(apply)]
-    fn use_group(&mut self, group: Group, here: Here<'_, 'a>, nesting: u32) -> Result<bool, Halt>
+    fn use_group(
+        &mut self,
+        group: Group,
+        here: Here<'_, 'a>,
+        named: u64,
+        nesting: u32,
+    ) -> Result<bool, Halt>
         requires alone { stands_alone group ≡ true }
         ensures linked { self.new.linked ≡ self.old.linked }
         ensures back { OnOk result (context_view self.new.context ≡ context_view self.old.context) }
         ensures valid { (a : Application) → IsHere self.old here.entry a
-            → IfOk result (λ b. b ≡ list_all (λ u. u.passes)
+            → named ≤ named_count a → IfOk result (λ b. b ≡ list_all (λ u. u.passes)
             (group_uses self.old.linked.now nesting a group)) }
+        ensures passing { (a : Application) → IsHere self.old here.entry a
+            → named ≤ named_count a → group ≡ One Properties → OnOk result (self.new.passing
+            ≡ passing_first (group_uses self.old.linked.now nesting a group)) }
         ensures noted { (a : Application) → IsHere self.old here.entry a
-            → OnOk result (Adds self.old self.new
+            → named ≤ named_count a → OnOk result (Adds self.old self.new
             (uses_notes a (group_uses self.old.linked.now nesting a group))) }
         ensures err { (a : Application) → IsHere self.old here.entry a
-            → IfErr result (λ f. IsCostly f self.old
+            → named ≤ named_count a → IfErr result (λ f. IsCostly f self.old
             (uses_notes a (group_uses self.old.linked.now nesting a group))) }
     {
         match group {
-            Group::One(keyword) => self.use_one(keyword, here, nesting),
+            Group::One(keyword) => self.use_one(keyword, here, named, nesting),
             Group::Conditional => self.use_conditional(here, nesting),
             Group::Counted => self.use_counted(here, nesting),
         }
     }
 
-    /// A keyword that asks for nothing that keywords beside say.
+    /// A keyword that asks for nothing that keywords beside say, but for how many members of the instance `properties` names at
+    /// least.
     #[cycle(apply)]
-    fn use_one(&mut self, keyword: Keyword, here: Here<'_, 'a>, nesting: u32) -> Result<bool, Halt>
+    fn use_one(
+        &mut self,
+        keyword: Keyword,
+        here: Here<'_, 'a>,
+        named: u64,
+        nesting: u32,
+    ) -> Result<bool, Halt>
         requires alone { stands_alone (One keyword) ≡ true }
         ensures linked { self.new.linked ≡ self.old.linked }
         ensures back { OnOk result (context_view self.new.context ≡ context_view self.old.context) }
         ensures valid { (a : Application) → IsHere self.old here.entry a
-            → IfOk result (λ b. b ≡ list_all (λ u. u.passes)
+            → named ≤ named_count a → IfOk result (λ b. b ≡ list_all (λ u. u.passes)
             (group_uses self.old.linked.now nesting a (One keyword))) }
+        ensures passing { (a : Application) → IsHere self.old here.entry a
+            → named ≤ named_count a → keyword ≡ Properties → OnOk result (self.new.passing
+            ≡ passing_first (group_uses self.old.linked.now nesting a (One keyword))) }
         ensures noted { (a : Application) → IsHere self.old here.entry a
-            → OnOk result (Adds self.old self.new
+            → named ≤ named_count a → OnOk result (Adds self.old self.new
             (uses_notes a (group_uses self.old.linked.now nesting a (One keyword)))) }
         ensures err { (a : Application) → IsHere self.old here.entry a
-            → IfErr result (λ f. IsCostly f self.old
+            → named ≤ named_count a → IfErr result (λ f. IsCostly f self.old
             (uses_notes a (group_uses self.old.linked.now nesting a (One keyword)))) }
     {
         match Assertion::of(keyword) {
             Some(assertion) => self.use_assertion(keyword, assertion, here),
-            None => self.use_named(keyword, here, Beside::nothing(), nesting),
+            None => self.use_named(keyword, here, Beside::after_properties(named), nesting),
         }
     }
 
@@ -235,6 +270,7 @@ impl<'a> Evaluation<'a> {
 
     /// A keyword of the schema, where it is there.
     #[cycle(apply)]
+    #[inline(always)]
     fn use_named(
         &mut self,
         keyword: Keyword,

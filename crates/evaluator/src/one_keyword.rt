@@ -11,7 +11,7 @@ use crate::halt::Halt;
 use crate::here::Here;
 use crate::log::LogMark;
 use crate::present::Present;
-use crate::settling::{evaluated_since, settle};
+use crate::settling::{looked_at, settle};
 use json_doc::Doc;
 use keyword_plans::{Chosen, Earlier, Planned, Site, passes, plan};
 use keywords::Keyword;
@@ -117,7 +117,8 @@ impl<'a> Evaluation<'a> {
         let log = &self.log;
         let earlier = Earlier {
             condition: beside.condition,
-            evaluated: evaluated_since(&log.names, &log.indexes, here.before),
+            named: beside.named,
+            evaluated: looked_at(keyword, &log.names, &log.indexes, here.before),
         };
         let context = &mut self.context;
         let site = Site {

@@ -116,6 +116,7 @@ impl<'a> Present<'a> {
 }
 
 // The marks of the names.
+#[inline(always)]
 fn marks_in(schema: &Doc) -> u64
     ensures { AreMarked result (value schema.now) }
 {

@@ -1,10 +1,11 @@
 //! What a keyword itself reports, annotates and evaluates, once its schemas were applied (JSON Schema 2020-12 Core, 7.7,
 //! 11 and 12.4.2).
 
-ghost use Rattle.std.specs.Prelude.{◌≡◌, ◌++◌, [], ◌∷◌, ℕ, List, drop, if◌then◌else◌, length, map, IfErr, OnOk};
+ghost use Rattle.std.specs.Prelude.{◌≡◌, ◌++◌, [], ◌∷◌, ℕ, List, None, false, true, drop, if◌then◌else◌, length, map, IfErr, OnOk};
 ghost use Rattle.definitions.specs.Values.{Text, Value};
-ghost use Rattle.definitions.specs.Applied.{Application, Outcome, Rules};
-ghost use Rattle.definitions.specs.Evaluated.{evaluated_indexes, evaluated_names, may_annotate};
+ghost use Rattle.definitions.specs.Applied.{Application, Outcome, Part, Rules};
+ghost use Rattle.definitions.specs.Evaluated.{annotation_of, evaluated_indexes, evaluated_names};
+ghost use Rattle.definitions.specs.Keywords.{looks_at_evaluated};
 ghost use Rattle.definitions.specs.Outcomes.{Use, own_annotation};
 ghost use Rattle.basic_output.specs.Units.{unit_texts};
 ghost use Rattle.evaluation_context.specs.Frames.{context_view};
@@ -50,7 +51,11 @@ pub(crate) fn settle<'a>(
     hide(log, keyword, mark);
     if passes {
         log.cut_errors(mark);
-        note_own(context, log, keyword, subject, mark, applied)
+        if has_own_annotation(keyword) {
+            note_own(context, log, keyword, subject, mark, applied)
+        } else {
+            Ok(())
+        }
     } else {
         log.cut_annotations(mark);
         context.write_locations()?;
@@ -72,6 +77,24 @@ fn hide(log: &mut Log<'_>, keyword: Keyword, mark: &LogMark)
         }
         Keyword::PropertyNames => log.cut_annotations(mark),
         _ => {}
+    }
+}
+
+// Whether the keyword may have an annotation of its own where it passes (Core, 10.3 and 11).
+fn has_own_annotation(keyword: Keyword) -> bool
+    ensures { (a : Application) (os : List (Part × Outcome)) → result ≡ false
+        → annotation_of a (row_of keyword).meaning os ≡ None }
+{
+    match keyword {
+        Keyword::Properties => true,
+        Keyword::PatternProperties => true,
+        Keyword::AdditionalProperties => true,
+        Keyword::UnevaluatedProperties => true,
+        Keyword::PrefixItems => true,
+        Keyword::Items => true,
+        Keyword::UnevaluatedItems => true,
+        Keyword::Contains => true,
+        _ => false,
     }
 }
 
@@ -131,6 +154,7 @@ fn note_own<'a>(
 }
 
 // The same among the annotations alone: of the names `evaluated` has those that the keyword annotates with.
+#[inline(always)]
 fn insert_own<'a>(
     context: &mut Context<'a>,
     annotations: &mut Units,
@@ -164,8 +188,30 @@ fn insert_own<'a>(
     }
 }
 
-/// The names and the indexes that were evaluated later.
-pub(crate) fn evaluated_since<'s, 'a>(
+/// The names and the indexes that were evaluated later, where the keyword looks at them (Core, 11); else none.
+pub(crate) fn looked_at<'s, 'a>(
+    keyword: Keyword,
+    names: &'s [&'a str],
+    indexes: &'s [usize],
+    before: Before,
+) -> Evaluated<'s, 'a>
+    ensures names { looks_at_evaluated (row_of keyword).meaning ≡ true
+        → map (λ n. n.now) result.names.now ≡ drop before.names (map (λ n. n.now) names.now) }
+    ensures indexes { looks_at_evaluated (row_of keyword).meaning ≡ true
+        → result.indexes.now ≡ drop before.indexes indexes.now }
+{
+    match keyword {
+        Keyword::UnevaluatedItems => evaluated_since(names, indexes, before),
+        Keyword::UnevaluatedProperties => evaluated_since(names, indexes, before),
+        _ => Evaluated {
+            names: &names[..0],
+            indexes: &indexes[..0],
+        },
+    }
+}
+
+// The names and the indexes that were evaluated later.
+fn evaluated_since<'s, 'a>(
     names: &'s [&'a str],
     indexes: &'s [usize],
     before: Before,

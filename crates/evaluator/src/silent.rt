@@ -5,7 +5,7 @@ ghost use Rattle.std.specs.Prelude.{◌≡◌, ◌<◌, true};
 ghost use Rattle.json_doc.specs.Docs.{value, members_value};
 ghost use Rattle.json_doc.specs.NamedMembers.{name_text};
 ghost use Rattle.keywords.specs.Rows.{row_of};
-ghost use Rattle.evaluator.specs.Leaves.{HasLeafMarks, is_leaf_mark};
+ghost use Rattle.evaluator.specs.Leaves.{is_leaf_mark};
 ghost use Rattle.evaluator.specs.Presents.{mark_of};
 
 use crate::applying::Evaluation;
@@ -15,7 +15,7 @@ use keyword_plans::{Planned, Subject, holds_of};
 use keywords::Keyword;
 use std::alloc::AllocError;
 
-/// Of more members it isn't tried whether they only assert.
+/// Of a schema object with more members it isn't tried whether it passes without a word.
 const MOST: usize = 16;
 
 impl<'a> Evaluation<'a> {
@@ -29,7 +29,7 @@ impl<'a> Evaluation<'a> {
     ghost use Rattle.keyword_plans.specs.Subjects.{subject_value};
     ghost use Rattle.evaluation_context.specs.Frames.{context_view};
     ghost use Rattle.evaluator.specs.Rounds.{IsUnder, chosen_value, part_outcome};
-    ghost use Rattle.evaluator.specs.Silences.{IsSilent, is_member_met};
+    ghost use Rattle.evaluator.specs.Silences.{IsSilent, is_met_alone};
 
     /// Whether the schema that is planned is `true`, which passes without a word, and there is room to apply it.
     #[inline(always)]
@@ -74,7 +74,7 @@ impl<'a> Evaluation<'a> {
             return Ok(false);
         }
         match schema {
-            Doc::Dict(members) if only_assert(members) => self.are_met(members, planned.subject),
+            Doc::Dict(members) if members.len() <= MOST => self.are_met(members, planned.subject),
             _ => Ok(false),
         }
     }
@@ -90,13 +90,14 @@ impl<'a> Evaluation<'a> {
         !self.log.is_full()
     }
 
-    // Whether the assertions hold that the members make, in the order in which these stand. The only error is want of memory.
+    // Whether the members surely are those of a schema object that applies nothing, none annotates with its own value, and the
+    // assertions hold that they make. The only error is want of memory.
     fn are_met(&mut self, members: &Members, subject: Subject<'a>) -> Result<bool, AllocError>
         ensures linked { self.new.linked ≡ self.old.linked }
         ensures back { self.new.context ≡ self.old.context }
         ensures noted { self.new.log ≡ self.old.log }
         ensures met { IfOk result (λ b. b ≡ true
-            → list_all (is_member_met (subject_value subject.entry)) (members_value members.now)
+            → list_all (is_met_alone (subject_value subject.entry)) (members_value members.now)
             ≡ true) }
     {
         for (name, keyword_value) in members.iter().named() {
@@ -108,7 +109,7 @@ impl<'a> Evaluation<'a> {
         Ok(true)
     }
 
-    // Whether the assertion holds that the member makes, if it makes one. The only error is want of memory.
+    // Whether the member surely makes an assertion, which holds, or only declares. The only error is want of memory.
     #[inline(always)]
     fn is_member_met(
         &mut self,
@@ -120,15 +121,15 @@ impl<'a> Evaluation<'a> {
         ensures back { self.new.context ≡ self.old.context }
         ensures noted { self.new.log ≡ self.old.log }
         ensures met { IfOk result (λ b. b ≡ true
-            → is_member_met (subject_value subject.entry)
+            → is_met_alone (subject_value subject.entry)
             (name_text name.entry, value keyword_value.now) ≡ true) }
     {
         let Some(keyword) = name.keyword() else {
-            return Ok(true);
+            return Ok(false);
         };
         match Assertion::of(keyword) {
             Some(assertion) => self.is_value_met(keyword, assertion, keyword_value, subject),
-            None => Ok(true),
+            None => Ok(only_declares(keyword)),
         }
     }
 
@@ -156,39 +157,13 @@ impl<'a> Evaluation<'a> {
     }
 }
 
-// Whether the members surely are those of a schema object that applies nothing, and none annotates with its own value. Of many
-// that isn't said.
-fn only_assert(members: &Members) -> bool
-    ensures { result ≡ true → HasLeafMarks (members_value members.now) }
-{
-    if members.len() > MOST {
-        return false;
-    }
-    for (name, _) in members.iter().named() {
-        if !is_of_leaf(name) {
-            return false;
-        }
-    }
-    true
-}
-
+// Whether it isn't evaluated, and doesn't annotate with its own value.
 #[inline(always)]
-fn is_of_leaf(name: Name<'_>) -> bool
-    ensures { result ≡ true → is_leaf_mark (mark_of (name_text name.entry)) ≡ true }
-{
-    match name.keyword() {
-        Some(keyword) => is_leaf_keyword(keyword),
-        None => false,
-    }
-}
-
-// Whether it looks at its own value and the instance alone, or only declares.
-#[inline(always)]
-fn is_leaf_keyword(keyword: Keyword) -> bool
+fn only_declares(keyword: Keyword) -> bool
     ensures { result ≡ true → is_leaf_mark (mark_of (row_of keyword).name) ≡ true }
 {
     match keyword {
         Keyword::ContentSchema => false,
-        _ => Assertion::of(keyword).is_some() || !keyword.is_evaluated(),
+        _ => !keyword.is_evaluated(),
     }
 }

@@ -1,4 +1,4 @@
-use Rattle.std.proofs.Common.{◌≡◌, [], ◌∷◌, ◌∙◌, false, ap, sym, subst, OnOk}
+use Rattle.std.proofs.Common.{◌≡◌, [], ◌∷◌, ◌∙◌, None, false, ap, sym, subst, OnOk}
 use Rattle.definitions.specs.Applied.{OutputUnit}
 use Rattle.basic_output.specs.Pieces.{unit_text}
 use Rattle.basic_output.specs.Sayings.{says_value}
@@ -8,12 +8,12 @@ use Rattle.evaluation_context.specs.Frames.{context_view}
 use Rattle.evaluator.specs.Logs.{log_view}
 use Rattle.evaluator.specs.Notes.{Notes, notes_of_both, parts_notes, visible_notes}
 use Rattle.evaluator.specs.Rounds.{use_there}
-use Rattle.evaluator.proofs.SettlingLaws.{failing_settled, indexes_settled, names_settled, passing_settled, unit_under}
+use Rattle.evaluator.proofs.SettlingLaws.{failing_settled, indexes_settled, names_settled, own_none, passing_settled, unit_under}
 use Rattle.evaluator.proofs.settling.settle.Goals as goal
 
 -- where it passes
-pub returns-then-passes-clause-noted : goal.returns-then-passes-clause-noted
-returns-then-passes-clause-noted c l left a names indexes v older inst count passes under m e =
+pub returns-then-has_own_annotation-clause-noted : goal.returns-then-has_own_annotation-clause-noted
+returns-then-has_own_annotation-clause-noted c l left a names indexes v older inst count passes under m e =
     let k = c.args.keyword in
     let u = use_there l left a k names indexes v in
     let meaning = (row_of k).meaning in
@@ -21,6 +21,18 @@ returns-then-passes-clause-noted c l left a names indexes v older inst count pas
     subst (λ (n : Notes). OnOk c.note_own.result (log_view c.note_own.new.log ≡ notes_of_both older n)) (passing_settled l left a k names indexes v (sym c.if-passes.true ∙ passes))
     (c.note_own.ensures.noted l left a names indexes v older (record seen { errors = [] }) inst count under m
     (c.cut_errors.ensures older seen m (c.hide.ensures older (parts_notes meaning u.outcomes) m e)) (names_settled l left a k names indexes v) (indexes_settled l left a k names indexes v))
+
+-- where it has no annotation of its own
+pub returns-else-has_own_annotation-clause-noted : goal.returns-else-has_own_annotation-clause-noted
+returns-else-has_own_annotation-clause-noted c l left a names indexes v older inst count passes under m e =
+    let k = c.args.keyword in
+    let u = use_there l left a k names indexes v in
+    let meaning = (row_of k).meaning in
+    let seen = visible_notes meaning (parts_notes meaning u.outcomes) in
+    let none : None ≡ u.annotation = sym (c.has_own_annotation.ensures a u.outcomes c.if-has_own_annotation.false) in
+    c.cut_errors.ensures older seen m (c.hide.ensures older (parts_notes meaning u.outcomes) m e)
+    ∙ ap (notes_of_both older) (ap (λ ts. record seen { errors = []; annotations = ts }) (own_none a u seen.annotations none)
+    ∙ passing_settled l left a k names indexes v (sym c.if-passes.true ∙ passes))
 
 -- where it fails
 pub returns-in_ok-insert_error-clause-noted : goal.returns-in_ok-insert_error-clause-noted

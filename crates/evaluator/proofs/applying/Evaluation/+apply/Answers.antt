@@ -123,6 +123,12 @@ use_counted-returns-in-Err-clause-err = object_keywords.use_counted-returns-in-E
 pub use_one-returns-in-None-clause-valid : goal.use_one-returns-in-None-clause-valid
 use_one-returns-in-None-clause-valid = object_keywords.use_one-returns-in-None-clause-valid
 
+pub use_one-returns-in-Some-clause-valid : goal.use_one-returns-in-Some-clause-valid
+use_one-returns-in-Some-clause-valid = object_keywords.use_one-returns-in-Some-clause-valid
+
+pub use_one-returns-in-None-clause-passing : goal.use_one-returns-in-None-clause-passing
+use_one-returns-in-None-clause-passing = object_keywords.use_one-returns-in-None-clause-passing
+
 pub use_one-returns-in-None-clause-noted : goal.use_one-returns-in-None-clause-noted
 use_one-returns-in-None-clause-noted = object_keywords.use_one-returns-in-None-clause-noted
 

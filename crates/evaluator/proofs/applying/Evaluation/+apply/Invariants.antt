@@ -2,6 +2,7 @@ use Rattle.std.proofs.Common.{◌≡◌, take, length, Contains, ◌≤◌, ◌+
 use Rattle.std.specs.List.{list_all}
 use Rattle.definitions.specs.Applied.{Application}
 use Rattle.json_doc.specs.Docs.{value}
+use Rattle.keyword_plans.specs.Applications.{named_count}
 use Rattle.keyword_plans.specs.Subjects.{subject_value}
 use Rattle.evaluation_context.specs.Frames.{context_view}
 use Rattle.evaluator.specs.Findings.{FindsAll}
@@ -71,6 +72,8 @@ invariant-use_groups-loop-next l =
           → l.valid ≡ list_all (λ u. u.passes) (groups_uses l.fn.self.linked.now l.nesting a (take l.next first_groups));
       noted : (a : Application) → IsAt l.fn.self.linked.now (context_view l.fn.self.context) (value l.here.present.now.schema.now) (subject_value l.here.subject) a
           → log_view l.self.log ≡ notes_of_both (log_view l.fn.self.log) (uses_notes a (groups_uses l.fn.self.linked.now l.nesting a (take l.next first_groups)));
+      named : (a : Application) → IsAt l.fn.self.linked.now (context_view l.fn.self.context) (value l.here.present.now.schema.now) (subject_value l.here.subject) a
+          → l.named ≤ named_count a;
     }
 
 -- what the schemas applied so far found and noted

@@ -2,7 +2,7 @@ use Rattle.std.proofs.Common.{◌∙◌, ap}
 use Rattle.std.proofs.lemmas.Bool.{and_from}
 use Rattle.std.specs.List.{list_all}
 use Rattle.keyword_plans.specs.Subjects.{subject_value}
-use Rattle.evaluator.specs.Silences.{is_member_met}
+use Rattle.evaluator.specs.Silences.{is_met_alone}
 use Rattle.evaluator.proofs.applying.Evaluation.are_met.Goals as goal
 
 pub loop-name-preserved : goal.loop-name-preserved
@@ -12,5 +12,5 @@ loop-name-preserved c = record {
   noted = c.in_ok-met.ensures.noted ∙ c.loop-name.invariant.noted;
   met =
       λ rest. c.loop-name.invariant.met
-      (ap (list_all (is_member_met (subject_value c.args.subject))) c.in-Some.ensures.steps ∙ and_from _ _ (c.in_ok-met.ensures.met c.if-not-met.false) rest);
+      (ap (list_all (is_met_alone (subject_value c.args.subject))) c.in-Some.ensures.steps ∙ and_from _ _ (c.in_ok-met.ensures.met c.if-not-met.false) rest);
 }

@@ -3,7 +3,7 @@ use Rattle.std.specs.List.{list_all}
 use Rattle.json_doc.specs.Docs.{members_value}
 use Rattle.json_doc.specs.NamedMembers.{named_left}
 use Rattle.keyword_plans.specs.Subjects.{subject_value}
-use Rattle.evaluator.specs.Silences.{is_member_met}
+use Rattle.evaluator.specs.Silences.{is_met_alone}
 use Rattle.evaluator.proofs.applying.Evaluation.are_met.Given as goal
 
 -- where the members hold that are left, all do
@@ -13,6 +13,6 @@ invariant-loop-name l =
       linked : l.self.linked ≡ l.fn.self.linked;
       back : l.self.context ≡ l.fn.self.context;
       noted : l.self.log ≡ l.fn.self.log;
-      met : list_all (is_member_met (subject_value l.fn.subject)) (named_left l.name-iterator) ≡ true
-          → list_all (is_member_met (subject_value l.fn.subject)) (members_value l.fn.members) ≡ true;
+      met : list_all (is_met_alone (subject_value l.fn.subject)) (named_left l.name-iterator) ≡ true
+          → list_all (is_met_alone (subject_value l.fn.subject)) (members_value l.fn.members) ≡ true;
     }

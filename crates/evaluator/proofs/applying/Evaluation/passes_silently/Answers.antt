@@ -12,7 +12,7 @@ use Rattle.evaluation_context.specs.Frames.{context_view, frame_standing}
 use Rattle.evaluator.specs.Leaves.{HasLeafMarks, IsLeaf}
 use Rattle.evaluator.specs.Silences.{is_member_met}
 use Rattle.evaluator.proofs.LeafLaws.{annotating_last, leaf_by_marks}
-use Rattle.evaluator.proofs.MetLaws.{met_silent}
+use Rattle.evaluator.proofs.MetLaws.{alone_marks, alone_met, met_silent}
 use Rattle.evaluator.proofs.PlannedLaws.{chosen_instance, chosen_schema_value}
 use Rattle.evaluator.proofs.PresentLaws.{nothing_annotates}
 use Rattle.evaluator.proofs.SilenceLaws.{apart_below, leaf_silent}
@@ -29,16 +29,17 @@ returns-in-Dict-clause-silent c a k under =
     let instance : child.instance ≡ subject_value p.subject = chosen_instance k a p.chosen (part_view p.part) (subject_value p.subject) in
     let object = ap value c.in-Dict.is ∙ value-Dict c.in-Dict.members in
     let own : members s ≡ members_value c.in-Dict.members = ap members object in
-    let marked : HasLeafMarks (members s) = subst HasLeafMarks (sym own) (c.only_assert.ensures c.if-only_assert.true) in
-    let leaf : IsLeaf s = leaf_by_marks s marked in
     let other : None ≡ as_boolean s = sym (ap as_boolean object) in
     let apart : is_running child ≡ false =
     apart_below (frame_standing (context_view c.args.self.now.context)) k a p under (λ i. c.is_above.ensures i c.if-not-is_above.false) in
     IfOk-weaker c.are_met.result _ _
     (λ b met all.
+    let alone = met all in
+    let marked : HasLeafMarks (members s) = subst HasLeafMarks (sym own) (alone_marks (subject_value p.subject) (members_value c.in-Dict.members) alone) in
+    let leaf : IsLeaf s = leaf_by_marks s marked in
     let held : list_all (is_member_met child.instance) (members child.schema.value) ≡ true =
     ap (λ x. list_all (is_member_met x) (members child.schema.value)) instance
-    ∙ ap (list_all (is_member_met (subject_value p.subject))) (ap members same ∙ own) ∙ met all in
+    ∙ ap (list_all (is_member_met (subject_value p.subject))) (ap members same ∙ own) ∙ alone_met (subject_value p.subject) (members_value c.in-Dict.members) alone in
     leaf_silent l left child s same leaf (rw same other) apart (c.has_room.ensures.nests c.if-not-has_room.false)
     (nothing_annotates child s same (marked 63 annotating_last)) (met_silent l (left - 1) child s same leaf held))
     c.are_met.ensures.met

@@ -1,24 +1,31 @@
-use Rattle.std.proofs.Common.{◌∙◌, ap, sym, map, drop}
+use Rattle.std.proofs.Common.{◌≡◌, ◌∙◌, true, ap, sym, map, drop}
 use Rattle.definitions.specs.Applied.{Application}
+use Rattle.definitions.specs.Keywords.{looks_at_evaluated}
+use Rattle.json_doc.specs.Docs.{value}
+use Rattle.keywords.specs.Rows.{row_of}
+use Rattle.keyword_plans.specs.Sites.{linked_rules}
 use Rattle.evaluation_context.specs.Frames.{context_view, frame_standing}
 use Rattle.evaluator.specs.Logs.{log_view}
 use Rattle.evaluator.specs.Rounds.{linked_outcome}
+use Rattle.evaluator.proofs.AloneLaws.{same_looked}
 use Rattle.evaluator.proofs.applying.Evaluation.plan_keyword.Goals as goal
 
 pub returns-clause-planned : goal.returns-clause-planned
 unfolding log_view context_view frame_standing
 returns-clause-planned c a left at knows got =
-    let names = c.evaluated_since.ensures.names ∙ ap (λ ns. drop c.args.here.before.names (map (λ n. n.now) ns)) c.deref.ensures.value in
-    let indexes = c.evaluated_since.ensures.indexes ∙ ap (λ is. drop c.args.here.before.indexes is) c.deref-2.ensures.value in
-    rw (← names, ← indexes)
-    (c.in_ok-plan.ensures.ok a (linked_outcome c.args.self.now.linked.now left)
+    let l = c.args.self.now.linked.now in
+    let row = row_of c.args.keyword in
+    let names = λ (looks : looks_at_evaluated row.meaning ≡ true). c.looked_at.ensures.names looks ∙ ap (λ ns. drop c.args.here.before.names (map (λ n. n.now) ns)) c.deref.ensures.value in
+    let indexes = λ (looks : looks_at_evaluated row.meaning ≡ true). c.looked_at.ensures.indexes looks ∙ ap (λ is. drop c.args.here.before.indexes is) c.deref-2.ensures.value in
+    c.in_ok-plan.ensures.ok a (linked_outcome l left)
     (record {
       schema = ap (λ (b : Application). b.schema.value) at.there;
       resource = ap (λ (b : Application). b.schema.resource) at.there ∙ sym c.resource.ensures;
       instance = ap (λ (b : Application). b.instance) at.there;
       inside = at.inside;
     })
-    c.args.self.now.followed (ap (λ (b : Application). b.scope) at.there) c.args.self.now.searched got knows.condition)
+    c.args.self.now.followed (ap (λ (b : Application). b.scope) at.there) c.args.self.now.searched got knows.condition knows.named
+    ∙ same_looked (linked_rules l) (linked_outcome l left) _ _ _ _ a row.name row.meaning (value c.args.keyword_value.now) names indexes
 
 pub returns-clause-back : goal.returns-clause-back
 unfolding context_view

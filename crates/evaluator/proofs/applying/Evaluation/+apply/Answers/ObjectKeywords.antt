@@ -2,6 +2,7 @@
 use Rattle.std.proofs.Common.{◌≡◌, ◌<◌, ◌∙◌, sym, ap, subst, ◌+◌, ◌≤◌, length, Bor, refl, arith, true, get_or, rules, false, None, OnOk, IfOk, IfErr}
 use Rattle.definitions.specs.Applied.{Application}
 use Rattle.json_doc.specs.Docs.{value}
+use Rattle.keyword_plans.specs.Applications.{named_count}
 use Rattle.keyword_plans.specs.Subjects.{subject_value}
 use Rattle.evaluation_context.specs.Frames.{context_view}
 use Rattle.definitions.specs.Outcomes.{Use}
@@ -23,7 +24,7 @@ use Rattle.evaluator.proofs.PresentLaws.{groups_alone, groups_passed}
 use Rattle.evaluator.specs.Applying.{IsCostly}
 use Rattle.evaluator.proofs.UseLaws.{all_at, all_alone, both_valid, few_groups, group_noted, group_over, group_valid, still_at, two_noted, two_over, two_valid, uses_first_over, uses_then_over}
 use Rattle.definitions.specs.Keywords.{condition, contains, min_contains, max_contains}
-use Rattle.evaluator.proofs.BesideLaws.{conditional_uses, knows_nothing, knows_condition, counted_uses, knows_containing}
+use Rattle.evaluator.proofs.BesideLaws.{conditional_uses, knows_nothing, knows_condition, counted_uses, knows_containing, named_told}
 use Rattle.evaluator.proofs.AloneLaws.{alone_knows, alone_uses}
 use Rattle.keywords.specs.Rows.{row_of}
 use Rattle.definitions.specs.Values.{get}
@@ -92,6 +93,7 @@ use_groups-loop-next-init t c =
       back = refl;
       valid = λ a at. ap (list_all (λ (u : Use). u.passes)) (none a at);
       noted = λ a at. sym (added_nothing (log_view c.args.self.now.log)) ∙ ap (λ us. notes_of_both (log_view c.args.self.now.log) (uses_notes a us)) (none a at);
+      named = λ a at. omega arith;
     }
 
 pub use_groups-use_group-requires : goal.use_groups-use_group-requires
@@ -113,7 +115,7 @@ use_groups-returns-in-Err-clause-err t c a at other =
     let there = still_at same c.loop-next.invariant.back at in
     let inside : i < length first_groups = subst (λ gs. i < length gs) c.first_groups-groups.ensures c.loop-next-test.true in
     let here : get_or c.first_groups-groups.result.now i (One Ref) ≡ get_or first_groups i (One Ref) = ap (λ gs. get_or gs i (One Ref)) c.first_groups-groups.ensures in
-    let fault = c.in-Err.ensures.err a there other in (
+    let fault = c.in-Err.ensures.err a there (c.loop-next.invariant.named a at) other in (
       fault.0,
       group_over a (log_view c.args.self.now.log) old (group_uses c.args.self.now.linked.now c.args.nesting a) first_groups i (One Ref) inside (c.loop-next.invariant.noted a at)
           (subst (λ g. IsOver old (uses_notes a (group_uses c.args.self.now.linked.now c.args.nesting a g))) here
@@ -136,7 +138,7 @@ use_groups-loop-next-preserved t c =
           λ a at.
           let there = still_at same c.loop-next.invariant.back at in
           group_valid c.loop-next.valid c.in-Ok.passes (group_uses l c.args.nesting a) first_groups i (One Ref) inside (c.loop-next.invariant.valid a at)
-          (c.in-Ok.ensures.valid a there
+          (c.in-Ok.ensures.valid a there (c.loop-next.invariant.named a at)
           ∙ ap (λ (m : Bor Linked). list_all (λ (u : Use). u.passes) (group_uses m.now c.args.nesting a (get_or c.first_groups-groups.result.now i (One Ref)))) same
           ∙ ap (λ g. list_all (λ (u : Use). u.passes) (group_uses l c.args.nesting a g)) here)
           ∙ ap (list_all (λ (u : Use). u.passes)) (on a at);
@@ -148,8 +150,15 @@ use_groups-loop-next-preserved t c =
           inside (c.loop-next.invariant.noted a at)
           (subst (λ g. new ≡ notes_of_both (log_view c.loop-next.self.log) (uses_notes a (group_uses l c.args.nesting a g))) here
           (subst (λ (m : Bor Linked). new ≡ notes_of_both (log_view c.loop-next.self.log) (uses_notes a (group_uses m.now c.args.nesting a (get_or c.first_groups-groups.result.now i (One Ref))))) same
-          (c.in-Ok.ensures.noted a there)))
+          (c.in-Ok.ensures.noted a there (c.loop-next.invariant.named a at))))
           ∙ ap (λ us. notes_of_both (log_view c.args.self.now.log) (uses_notes a us)) (on a at);
+      named =
+          λ a at.
+          let there = still_at same c.loop-next.invariant.back at in
+          let m = c.loop-next.self.linked.now in
+          c.named_after-named.ensures (named_count a) (c.loop-next.invariant.named a at)
+          (λ is. named_told m c.args.nesting a c.use_group.new.self.passing
+          (c.in-Ok.ensures.passing a there (c.loop-next.invariant.named a at) is ∙ ap (λ g. passing_first (group_uses m c.args.nesting a g)) is));
     }
 
 pub use_groups-returns-clause-valid : goal.use_groups-returns-clause-valid
@@ -163,16 +172,16 @@ use_groups-returns-clause-noted t c a at =
     subst (λ gs. log_view c.loop-next.self.log ≡ notes_of_both (log_view c.args.self.now.log) (uses_notes a (groups_uses c.args.self.now.linked.now c.args.nesting a gs))) (take_all c.loop-next.next first_groups past) (c.loop-next.invariant.noted a at)
 
 pub use_group-returns-in-One-clause-err : goal.use_group-returns-in-One-clause-err
-use_group-returns-in-One-clause-err t c a at = rw c.in-One.is (c.use_one.ensures.err a at)
+use_group-returns-in-One-clause-err t c a at most = rw c.in-One.is (c.use_one.ensures.err a at most)
 
 pub use_group-returns-in-Conditional-clause-err : goal.use_group-returns-in-Conditional-clause-err
-use_group-returns-in-Conditional-clause-err t c a at = rw c.in-Conditional.is (c.use_conditional.ensures.err a at)
+use_group-returns-in-Conditional-clause-err t c a at most = rw c.in-Conditional.is (c.use_conditional.ensures.err a at)
 
 pub use_group-returns-in-Counted-clause-valid : goal.use_group-returns-in-Counted-clause-valid
-use_group-returns-in-Counted-clause-valid t c a at = rw c.in-Counted.is (c.use_counted.ensures.valid a at)
+use_group-returns-in-Counted-clause-valid t c a at most = rw c.in-Counted.is (c.use_counted.ensures.valid a at)
 
 pub use_group-returns-in-Counted-clause-err : goal.use_group-returns-in-Counted-clause-err
-use_group-returns-in-Counted-clause-err t c a at = rw c.in-Counted.is (c.use_counted.ensures.err a at)
+use_group-returns-in-Counted-clause-err t c a at most = rw c.in-Counted.is (c.use_counted.ensures.err a at)
 
 pub use_conditional-returns-in-Ok-use_two-clause-valid : goal.use_conditional-returns-in-Ok-use_two-clause-valid
 use_conditional-returns-in-Ok-use_two-clause-valid t c a at =
@@ -182,7 +191,7 @@ use_conditional-returns-in-Ok-use_two-clause-valid t c a at =
     let us = uses_since l.now c.args.nesting a If c.args.here.before n in
     let vs = two_uses l.now c.args.nesting a Then Else c.args.here.before mid in
     let there = still_at c.in-Ok.ensures.linked c.in-Ok.ensures.back at in
-    let nothing = knows_nothing l.now c.args.nesting a condition c.nothing.result refl refl in
+    let nothing = knows_nothing l.now c.args.nesting a condition c.nothing.result refl refl refl in
     let told = subst (λ (m : Bor Linked). c.use_named.new.self.passing ≡ passing_first (uses_since m.now c.args.nesting a If c.args.here.before n)) (sym c.in-Ok.ensures.linked) (c.in-Ok.ensures.passing a at nothing) in
     let first = (knows_condition c.use_named.new.self.linked.now c.args.nesting a c.use_named.new.self.passing true c.args.here.before n c.after_if-beside.result told (ap (λ (b : Beside). b.condition) c.after_if-beside.ensures)) in
     let second = (knows_condition c.use_named.new.self.linked.now c.args.nesting a c.use_named.new.self.passing false c.args.here.before n c.after_if-beside.result told (ap (λ (b : Beside). b.condition) c.after_if-beside.ensures)) in
@@ -198,7 +207,7 @@ use_conditional-returns-in-Ok-use_two-clause-noted t c a at =
     let us = uses_since l.now c.args.nesting a If c.args.here.before n in
     let vs = two_uses l.now c.args.nesting a Then Else c.args.here.before mid in
     let there = still_at c.in-Ok.ensures.linked c.in-Ok.ensures.back at in
-    let nothing = knows_nothing l.now c.args.nesting a condition c.nothing.result refl refl in
+    let nothing = knows_nothing l.now c.args.nesting a condition c.nothing.result refl refl refl in
     let told = subst (λ (m : Bor Linked). c.use_named.new.self.passing ≡ passing_first (uses_since m.now c.args.nesting a If c.args.here.before n)) (sym c.in-Ok.ensures.linked) (c.in-Ok.ensures.passing a at nothing) in
     let first = (knows_condition c.use_named.new.self.linked.now c.args.nesting a c.use_named.new.self.passing true c.args.here.before n c.after_if-beside.result told (ap (λ (b : Beside). b.condition) c.after_if-beside.ensures)) in
     let second = (knows_condition c.use_named.new.self.linked.now c.args.nesting a c.use_named.new.self.passing false c.args.here.before n c.after_if-beside.result told (ap (λ (b : Beside). b.condition) c.after_if-beside.ensures)) in
@@ -215,7 +224,7 @@ use_conditional-returns-in-Err-use_two-clause-err t c a at other =
     let us = uses_since l.now c.args.nesting a If c.args.here.before n in
     let vs = two_uses l.now c.args.nesting a Then Else c.args.here.before mid in
     let there = still_at c.in-Ok.ensures.linked c.in-Ok.ensures.back at in
-    let nothing = knows_nothing l.now c.args.nesting a condition c.nothing.result refl refl in
+    let nothing = knows_nothing l.now c.args.nesting a condition c.nothing.result refl refl refl in
     let told = subst (λ (m : Bor Linked). c.use_named.new.self.passing ≡ passing_first (uses_since m.now c.args.nesting a If c.args.here.before n)) (sym c.in-Ok.ensures.linked) (c.in-Ok.ensures.passing a at nothing) in
     let first = (knows_condition c.use_named.new.self.linked.now c.args.nesting a c.use_named.new.self.passing true c.args.here.before n c.after_if-beside.result told (ap (λ (b : Beside). b.condition) c.after_if-beside.ensures)) in
     let second = (knows_condition c.use_named.new.self.linked.now c.args.nesting a c.use_named.new.self.passing false c.args.here.before n c.after_if-beside.result told (ap (λ (b : Beside). b.condition) c.after_if-beside.ensures)) in
@@ -232,7 +241,7 @@ use_conditional-returns-in-Err-clause-err t c a at other =
     let n = log_view c.args.self.now.log in
     let us = uses_since l c.args.nesting a If c.args.here.before n in
     let vs = two_uses l c.args.nesting a Then Else c.args.here.before n in
-    let fault = c.in-Err.ensures.err a at (knows_nothing l c.args.nesting a condition _ refl refl) other in
+    let fault = c.in-Err.ensures.err a at (knows_nothing l c.args.nesting a condition _ refl refl refl) other in
     (fault.0, subst (λ ws. IsOver n (uses_notes a ws)) (conditional_uses l c.args.nesting a c.args.here.before n n) (uses_first_over a n us vs fault.1))
 
 pub use_counted-returns-in-Ok-use_two-clause-valid : goal.use_counted-returns-in-Ok-use_two-clause-valid
@@ -243,10 +252,10 @@ use_counted-returns-in-Ok-use_two-clause-valid t c a at =
     let us = uses_since l.now c.args.nesting a Contains c.args.here.before n in
     let vs = two_uses l.now c.args.nesting a MinContains MaxContains c.args.here.before mid in
     let there = still_at c.in-Ok.ensures.linked c.in-Ok.ensures.back at in
-    let nothing = knows_nothing l.now c.args.nesting a contains c.nothing.result refl refl in
+    let nothing = knows_nothing l.now c.args.nesting a contains c.nothing.result refl refl refl in
     let told = subst (λ (m : Bor Linked). c.use_named.new.self.passing ≡ passing_first (uses_since m.now c.args.nesting a Contains c.args.here.before n)) (sym c.in-Ok.ensures.linked) (c.in-Ok.ensures.passing a at nothing) in
-    let first = (knows_containing c.use_named.new.self.linked.now c.args.nesting a c.use_named.new.self.passing min_contains c.args.here.before n c.after_contains-beside.result told (ap (λ (b : Beside). b.containing) c.after_contains-beside.ensures) refl) in
-    let second = (knows_containing c.use_named.new.self.linked.now c.args.nesting a c.use_named.new.self.passing max_contains c.args.here.before n c.after_contains-beside.result told (ap (λ (b : Beside). b.containing) c.after_contains-beside.ensures) refl) in
+    let first = (knows_containing c.use_named.new.self.linked.now c.args.nesting a c.use_named.new.self.passing min_contains c.args.here.before n c.after_contains-beside.result told (ap (λ (b : Beside). b.containing) c.after_contains-beside.ensures) refl refl) in
+    let second = (knows_containing c.use_named.new.self.linked.now c.args.nesting a c.use_named.new.self.passing max_contains c.args.here.before n c.after_contains-beside.result told (ap (λ (b : Beside). b.containing) c.after_contains-beside.ensures) refl refl) in
     both_valid c.in-Ok.valid c.in-Ok-use_two.others us vs (c.in-Ok.ensures.valid a at nothing)
     (subst (λ (m : Bor Linked). c.in-Ok-use_two.others ≡ list_all (λ u. u.passes) (two_uses m.now c.args.nesting a MinContains MaxContains c.args.here.before mid)) c.in-Ok.ensures.linked (c.in-Ok-use_two.ensures.valid a there first second))
     ∙ ap (list_all (λ (u : Use). u.passes)) (counted_uses l.now c.args.nesting a c.args.here.before n mid)
@@ -259,10 +268,10 @@ use_counted-returns-in-Ok-use_two-clause-noted t c a at =
     let us = uses_since l.now c.args.nesting a Contains c.args.here.before n in
     let vs = two_uses l.now c.args.nesting a MinContains MaxContains c.args.here.before mid in
     let there = still_at c.in-Ok.ensures.linked c.in-Ok.ensures.back at in
-    let nothing = knows_nothing l.now c.args.nesting a contains c.nothing.result refl refl in
+    let nothing = knows_nothing l.now c.args.nesting a contains c.nothing.result refl refl refl in
     let told = subst (λ (m : Bor Linked). c.use_named.new.self.passing ≡ passing_first (uses_since m.now c.args.nesting a Contains c.args.here.before n)) (sym c.in-Ok.ensures.linked) (c.in-Ok.ensures.passing a at nothing) in
-    let first = (knows_containing c.use_named.new.self.linked.now c.args.nesting a c.use_named.new.self.passing min_contains c.args.here.before n c.after_contains-beside.result told (ap (λ (b : Beside). b.containing) c.after_contains-beside.ensures) refl) in
-    let second = (knows_containing c.use_named.new.self.linked.now c.args.nesting a c.use_named.new.self.passing max_contains c.args.here.before n c.after_contains-beside.result told (ap (λ (b : Beside). b.containing) c.after_contains-beside.ensures) refl) in
+    let first = (knows_containing c.use_named.new.self.linked.now c.args.nesting a c.use_named.new.self.passing min_contains c.args.here.before n c.after_contains-beside.result told (ap (λ (b : Beside). b.containing) c.after_contains-beside.ensures) refl refl) in
+    let second = (knows_containing c.use_named.new.self.linked.now c.args.nesting a c.use_named.new.self.passing max_contains c.args.here.before n c.after_contains-beside.result told (ap (λ (b : Beside). b.containing) c.after_contains-beside.ensures) refl refl) in
     let new = log_view c.use_two.new.self.log in
     subst (λ ws. new ≡ notes_of_both n (uses_notes a ws)) (counted_uses l.now c.args.nesting a c.args.here.before n mid)
     (two_noted a n mid new us (λ m. vs) (c.in-Ok.ensures.noted a at nothing)
@@ -276,10 +285,10 @@ use_counted-returns-in-Err-use_two-clause-err t c a at other =
     let us = uses_since l.now c.args.nesting a Contains c.args.here.before n in
     let vs = two_uses l.now c.args.nesting a MinContains MaxContains c.args.here.before mid in
     let there = still_at c.in-Ok.ensures.linked c.in-Ok.ensures.back at in
-    let nothing = knows_nothing l.now c.args.nesting a contains c.nothing.result refl refl in
+    let nothing = knows_nothing l.now c.args.nesting a contains c.nothing.result refl refl refl in
     let told = subst (λ (m : Bor Linked). c.use_named.new.self.passing ≡ passing_first (uses_since m.now c.args.nesting a Contains c.args.here.before n)) (sym c.in-Ok.ensures.linked) (c.in-Ok.ensures.passing a at nothing) in
-    let first = (knows_containing c.use_named.new.self.linked.now c.args.nesting a c.use_named.new.self.passing min_contains c.args.here.before n c.after_contains-beside.result told (ap (λ (b : Beside). b.containing) c.after_contains-beside.ensures) refl) in
-    let second = (knows_containing c.use_named.new.self.linked.now c.args.nesting a c.use_named.new.self.passing max_contains c.args.here.before n c.after_contains-beside.result told (ap (λ (b : Beside). b.containing) c.after_contains-beside.ensures) refl) in
+    let first = (knows_containing c.use_named.new.self.linked.now c.args.nesting a c.use_named.new.self.passing min_contains c.args.here.before n c.after_contains-beside.result told (ap (λ (b : Beside). b.containing) c.after_contains-beside.ensures) refl refl) in
+    let second = (knows_containing c.use_named.new.self.linked.now c.args.nesting a c.use_named.new.self.passing max_contains c.args.here.before n c.after_contains-beside.result told (ap (λ (b : Beside). b.containing) c.after_contains-beside.ensures) refl refl) in
     let fault = c.in-Err-use_two.ensures.err a there first second other in (
       fault.0,
       subst (λ ws. IsOver n (uses_notes a ws)) (counted_uses l.now c.args.nesting a c.args.here.before n mid)
@@ -293,27 +302,36 @@ use_counted-returns-in-Err-clause-err t c a at other =
     let n = log_view c.args.self.now.log in
     let us = uses_since l c.args.nesting a Contains c.args.here.before n in
     let vs = two_uses l c.args.nesting a MinContains MaxContains c.args.here.before n in
-    let fault = c.in-Err.ensures.err a at (knows_nothing l c.args.nesting a contains _ refl refl) other in
+    let fault = c.in-Err.ensures.err a at (knows_nothing l c.args.nesting a contains _ refl refl refl) other in
     (fault.0, subst (λ ws. IsOver n (uses_notes a ws)) (counted_uses l c.args.nesting a c.args.here.before n n) (uses_first_over a n us vs fault.1))
 
 pub use_one-returns-in-None-clause-valid : goal.use_one-returns-in-None-clause-valid
-use_one-returns-in-None-clause-valid t c a at =
+use_one-returns-in-None-clause-valid t c a at most =
     let l = c.args.self.now.linked.now in
     subst (λ us. IfOk c.use_named.result (λ b. b ≡ list_all (λ u. u.passes) us)) (alone_uses l c.args.nesting a c.args.keyword c.args.here.before (log_view c.args.self.now.log) c.requires.alone)
-    (c.use_named.ensures.valid a at (alone_knows l c.args.nesting a c.args.keyword _ c.requires.alone))
+    (c.use_named.ensures.valid a at (alone_knows l c.args.nesting a c.args.keyword c.args.named _ c.requires.alone c.after_properties.ensures most))
+
+pub use_one-returns-in-Some-clause-valid : goal.use_one-returns-in-Some-clause-valid
+use_one-returns-in-Some-clause-valid t c a at most = c.use_assertion.ensures.valid a c.args.nesting at
+
+pub use_one-returns-in-None-clause-passing : goal.use_one-returns-in-None-clause-passing
+use_one-returns-in-None-clause-passing t c a at most is =
+    let l = c.args.self.now.linked.now in
+    subst (λ us. OnOk c.use_named.result (c.use_named.new.self.passing ≡ passing_first us)) (alone_uses l c.args.nesting a c.args.keyword c.args.here.before (log_view c.args.self.now.log) c.requires.alone)
+    (c.use_named.ensures.passing a at (alone_knows l c.args.nesting a c.args.keyword c.args.named _ c.requires.alone c.after_properties.ensures most))
 
 pub use_one-returns-in-None-clause-noted : goal.use_one-returns-in-None-clause-noted
-use_one-returns-in-None-clause-noted t c a at =
+use_one-returns-in-None-clause-noted t c a at most =
     let l = c.args.self.now.linked.now in
     subst (λ us. OnOk c.use_named.result (log_view c.use_named.new.self.log ≡ notes_of_both (log_view c.args.self.now.log) (uses_notes a us)))
     (alone_uses l c.args.nesting a c.args.keyword c.args.here.before (log_view c.args.self.now.log) c.requires.alone)
-    (c.use_named.ensures.noted a at (alone_knows l c.args.nesting a c.args.keyword _ c.requires.alone))
+    (c.use_named.ensures.noted a at (alone_knows l c.args.nesting a c.args.keyword c.args.named _ c.requires.alone c.after_properties.ensures most))
 
 pub use_one-returns-in-None-clause-err : goal.use_one-returns-in-None-clause-err
-use_one-returns-in-None-clause-err t c a at =
+use_one-returns-in-None-clause-err t c a at most =
     let l = c.args.self.now.linked.now in
     subst (λ us. IfErr c.use_named.result (λ f. IsCostly f c.args.self.now (uses_notes a us))) (alone_uses l c.args.nesting a c.args.keyword c.args.here.before (log_view c.args.self.now.log) c.requires.alone)
-    (c.use_named.ensures.err a at (alone_knows l c.args.nesting a c.args.keyword _ c.requires.alone))
+    (c.use_named.ensures.err a at (alone_knows l c.args.nesting a c.args.keyword c.args.named _ c.requires.alone c.after_properties.ensures most))
 
 pub use_two-returns-in-Ok-use_named-clause-noted : goal.use_two-returns-in-Ok-use_named-clause-noted
 use_two-returns-in-Ok-use_named-clause-noted t c a at knows knows_second =

@@ -62,17 +62,23 @@ fn references_name_the_same_again(rt: HostRuntime) -> Result<(), Fail> {
     Ok(())
 }
 
-// A schema of so many references, each of which names the schema of one number: all of them in turn, and then all of them again;
-// and an instance that has these numbers, in the second turn with this one in place of the first.
-fn turns(alloc: Global, count: usize, first: usize) -> Result<(String, String), AllocError> {
+// A schema of so many references, each of which names the schema of one number, whose name begins so: all of them in turn, and
+// then all of them again; and an instance that has these numbers, in the second turn with this one in place of the first.
+fn turns(
+    alloc: Global,
+    name: &str,
+    count: usize,
+    first: usize,
+) -> Result<(String, String), AllocError> {
     let mut schema = String::from_str(alloc, r#"{"$defs":{"x":true"#)?;
     for number in 0..count {
-        schema.push_str(format!(in alloc; ",\"{number}\":{{\"const\":{number}}}")?.as_str())?;
+        let member = format!(in alloc; ",\"{name}{number}\":{{\"const\":{number}}}")?;
+        schema.push_str(member.as_str())?;
     }
     schema.push_str(r##"},"prefixItems":[{"$ref":"#/$defs/x"}"##)?;
     let mut instance = String::from_str(alloc, "[0")?;
-    push_turn(alloc, &mut schema, &mut instance, count, 0)?;
-    push_turn(alloc, &mut schema, &mut instance, count, first)?;
+    push_turn(alloc, &mut schema, &mut instance, name, count, 0)?;
+    push_turn(alloc, &mut schema, &mut instance, name, count, first)?;
     schema.push_str("]}")?;
     instance.push_str("]")?;
     Ok((schema, instance))
@@ -82,33 +88,48 @@ fn push_turn(
     alloc: Global,
     schema: &mut String,
     instance: &mut String,
+    name: &str,
     count: usize,
     first: usize,
 ) -> Result<(), AllocError> {
     for number in 0..count {
-        schema.push_str(format!(in alloc; ",{{\"$ref\":\"#/$defs/{number}\"}}")?.as_str())?;
+        let element = format!(in alloc; ",{{\"$ref\":\"#/$defs/{name}{number}\"}}")?;
+        schema.push_str(element.as_str())?;
         let given = if number == 0 { first } else { number };
         instance.push_str(format!(in alloc; ",{given}")?.as_str())?;
     }
     Ok(())
 }
 
+// Short names, and names with which no reference is short.
+const NAMES: &[&str] = &[
+    "",
+    "a_name_of_more_than_a_hundred_and_twenty_eight_bytes_which_begins_as_all_the_others_do_and_ends_with_a_number_of_its_own_that_comes_here_",
+];
+
 #[test]
 fn many_references_name_their_own(rt: HostRuntime) -> Result<(), Fail> {
-    let (schema, instance) = turns(rt.alloc(), 130, 0)?;
-    let found = answer(rt.alloc(), URI, schema.as_str(), instance.as_str())?;
-    assert_eq!(rt; found.as_str(), ALL_HOLD);
-    let (schema, instance) = turns(rt.alloc(), 130, 64)?;
-    let found = answer(rt.alloc(), URI, schema.as_str(), instance.as_str())?;
-    assert_eq!(rt; found.as_str(), FIRST_FAILS);
+    for name in NAMES {
+        let (schema, instance) = turns(rt.alloc(), name, 130, 0)?;
+        let found = answer(rt.alloc(), URI, schema.as_str(), instance.as_str())?;
+        assert_eq!(rt; found.as_str(), ALL_HOLD);
+        let (schema, instance) = turns(rt.alloc(), name, 130, 64)?;
+        let found = answer(rt.alloc(), URI, schema.as_str(), instance.as_str())?;
+        let fails = format!(in rt.alloc(); "{FIRST_FAILS}{name}{FAILING_NUMBER}")?;
+        assert_eq!(rt; found.as_str(), fails.as_str());
+    }
     Ok(())
 }
 
 const ALL_HOLD: &str =
     r##"{"annotations":[{"absoluteKeywordLocation":"https://ex.org/s#/prefixItems","annotation":true,"instanceLocation":"","keywordLocation":"/prefixItems"}],"valid":true}"##;
 
+// Up to the name of the schema that fails, and from its number on.
 const FIRST_FAILS: &str =
-    r##"{"errors":[{"absoluteKeywordLocation":"https://ex.org/s#/prefixItems","error":"prefixItems is not met","instanceLocation":"","keywordLocation":"/prefixItems"},{"absoluteKeywordLocation":"https://ex.org/s#/prefixItems/131/$ref","error":"$ref is not met","instanceLocation":"/131","keywordLocation":"/prefixItems/131/$ref"},{"absoluteKeywordLocation":"https://ex.org/s#/$defs/0/const","error":"const is not met","instanceLocation":"/131","keywordLocation":"/prefixItems/131/$ref/const"}],"valid":false}"##;
+    r##"{"errors":[{"absoluteKeywordLocation":"https://ex.org/s#/prefixItems","error":"prefixItems is not met","instanceLocation":"","keywordLocation":"/prefixItems"},{"absoluteKeywordLocation":"https://ex.org/s#/prefixItems/131/$ref","error":"$ref is not met","instanceLocation":"/131","keywordLocation":"/prefixItems/131/$ref"},{"absoluteKeywordLocation":"https://ex.org/s#/$defs/"##;
+
+const FAILING_NUMBER: &str =
+    r##"0/const","error":"const is not met","instanceLocation":"/131","keywordLocation":"/prefixItems/131/$ref/const"}],"valid":false}"##;
 
 // The URI of a resource, the text of a reference in it, and the resource and the number of steps of what it names.
 const NAMED: &[(&str, &str, Option<(&str, usize)>)] = &[

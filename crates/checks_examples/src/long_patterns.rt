@@ -1,4 +1,4 @@
-//! Long patterns that are searched for again, of which an evaluation holds some.
+//! Long patterns that are searched for again, which an evaluation holds.
 
 use crate::texts::{URI, answer};
 use std::alloc::Global;

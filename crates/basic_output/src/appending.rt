@@ -1,46 +1,84 @@
-//! Ready texts put together (JSON Schema 2020-12 Core, 12.4.2).
+//! Ready texts put together behind those of other units (JSON Schema 2020-12 Core, 12.4.2).
 
-ghost use Rattle.std.specs.Prelude.{◌≡◌, ◌+◌, ◌≤◌, ◌∷◌, ◌++◌, if◌then◌else◌, is_ok, length, string_bytes, take, true, IfSome};
+ghost use Rattle.std.specs.Prelude.{◌≡◌, ◌+◌, ◌≤◌, ◌<◌, ◌∷◌, ◌++◌, ℕ, length, take, true, IfOk, IfSome, OnErr, OnOk};
 ghost use Rattle.std.specs.Str.{is_utf8};
 ghost use Rattle.basic_output.specs.Pieces.{kind_key};
 ghost use Rattle.basic_output.specs.Ready.{ready_text, ready_length, said_ending, said_opening};
+ghost use Rattle.basic_output.specs.Spans.{IsWrittenOver};
 
 use crate::ready::{Form, ReadyUnit};
-use std::alloc::{AllocError, Global};
-use std::mem::replace;
+use std::alloc::AllocError;
 
-/// Appends a comma and the text of the unit: room is made once for all of it. The only error is want of memory, and then
-/// nothing was appended.
-#[inline(always)]
-pub(crate) fn append_ready(out: &mut String, unit: ReadyUnit<'_>) -> Result<(), AllocError>
-    ensures { string_bytes out.new ≡ (if is_ok result
-        then string_bytes out.old ++ 44 ∷ ready_text unit.entry
-        else string_bytes out.old) }
-{
-    let alloc: Global = *out.allocator();
-    let mut bytes = replace(out, String::new(alloc)).into_bytes();
-    let result = append_bytes(&mut bytes, unit);
-    *out = unsafe { String::from_utf8_unchecked(bytes) };
-    result
-}
+/// How many bytes there is room for at least behind what is written, where room is made.
+const ROOM: usize = 1_024;
 
+/// Writes a comma and the text of the unit over the bytes from there on: the position behind it. Room is made once for all of
+/// it, where there is too little. The only error is want of memory, and then the bytes stay as they were.
 #[inline(always)]
-fn append_bytes(bytes: &mut Vec<u8>, unit: ReadyUnit<'_>) -> Result<(), AllocError>
-    ensures appended { bytes.new.items ≡ (if is_ok result
-        then bytes.old.items ++ 44 ∷ ready_text unit.entry
-        else bytes.old.items) }
-    ensures utf8 { is_utf8 bytes.old.items ≡ true → is_utf8 bytes.new.items ≡ true }
+pub(crate) fn write_ready(
+    bytes: &mut Vec<u8>,
+    start: usize,
+    unit: ReadyUnit<'_>,
+) -> Result<usize, AllocError>
+    requires { start ≤ length bytes.old.items }
+    ensures written { IfOk result (λ end.
+        IsWrittenOver start end (44 ∷ ready_text unit.entry) bytes.old.items bytes.new.items) }
+    ensures unchanged { OnErr result (bytes.new.items ≡ bytes.old.items) }
 {
-    let start = bytes.len();
     match end_of(start, unit) {
         Some(end) => {
-            // The first of these commas stays.
-            bytes.resize(end, b',')?;
-            write_unit(bytes.as_mut_slice(), start + 1, unit);
-            Ok(())
+            make_room(bytes, end)?;
+            Ok(write_unit(bytes.as_mut_slice(), start, unit))
         }
         None => Err(AllocError),
     }
+}
+
+/// The same of a text.
+pub(crate) fn write_made(
+    bytes: &mut Vec<u8>,
+    start: usize,
+    text: &str,
+) -> Result<usize, AllocError>
+    requires { start ≤ length bytes.old.items }
+    ensures written { IfOk result (λ end.
+        IsWrittenOver start end text.now bytes.old.items bytes.new.items) }
+    ensures unchanged { OnErr result (bytes.new.items ≡ bytes.old.items) }
+{
+    match start.checked_add(text.len()) {
+        Some(end) => {
+            make_room(bytes, end)?;
+            Ok(write(bytes.as_mut_slice(), start, text))
+        }
+        None => Err(AllocError),
+    }
+}
+
+// As many bytes as that at least: what stands there stays. The only error is want of memory, and then the bytes stay as they
+// were.
+#[inline(always)]
+fn make_room(bytes: &mut Vec<u8>, end: usize) -> Result<(), AllocError>
+    ensures room { OnOk result (end ≤ length bytes.new.items) }
+    ensures front { (start : ℕ) → start ≤ length bytes.old.items
+        → take start bytes.new.items ≡ take start bytes.old.items }
+    ensures unchanged { OnErr result (bytes.new.items ≡ bytes.old.items) }
+{
+    if end <= bytes.len() {
+        return Ok(());
+    }
+    make_more_room(bytes, end)
+}
+
+// The same, where there are fewer. It is called apart, since few units find so few.
+#[inline(never)]
+fn make_more_room(bytes: &mut Vec<u8>, end: usize) -> Result<(), AllocError>
+    requires { length bytes.old.items < end }
+    ensures room { OnOk result (end ≤ length bytes.new.items) }
+    ensures front { (start : ℕ) → start ≤ length bytes.old.items
+        → take start bytes.new.items ≡ take start bytes.old.items }
+    ensures unchanged { OnErr result (bytes.new.items ≡ bytes.old.items) }
+{
+    bytes.resize(end.saturating_add(ROOM), b',')
 }
 
 // Where the unit ends behind the comma, if an address holds the number.
@@ -106,14 +144,15 @@ fn said_ending(form: Form) -> &'static str
     }
 }
 
-// Writes the unit from there on.
+// Writes a comma and the unit over the bytes from there on: the position behind it.
 #[inline(always)]
-fn write_unit(bytes: &mut [u8], start: usize, unit: ReadyUnit<'_>)
-    requires { start + ready_length unit ≡ length bytes.old }
-    ensures written { bytes.new ≡ take start bytes.old ++ ready_text unit.entry }
-    ensures utf8 { is_utf8 (ready_text unit.entry) ≡ true }
+fn write_unit(bytes: &mut [u8], start: usize, unit: ReadyUnit<'_>) -> usize
+    requires { start + 1 + ready_length unit ≤ length bytes.old }
+    ensures written { IsWrittenOver start result (44 ∷ ready_text unit.entry) bytes.old bytes.new }
+    ensures len { length bytes.new ≡ length bytes.old }
 {
-    let onward = write(bytes, start, unit.head);
+    let head = write(bytes, start, ",");
+    let onward = write(bytes, head, unit.head);
     let kind = write(bytes, onward, unit.onward);
     let opening = write_kind(bytes, kind, unit.annotates);
     let said = write_opening(bytes, opening, unit.form);
@@ -122,7 +161,7 @@ fn write_unit(bytes: &mut [u8], start: usize, unit: ReadyUnit<'_>)
     let key = write(bytes, instance_location, unit.instance_location);
     let path = write(bytes, key, KEY);
     let end = write(bytes, path, unit.path);
-    let _end = write(bytes, end, END);
+    write(bytes, end, END)
 }
 
 // The same of what stands before what the unit says. Each text is written in a branch of its own, since one of a length

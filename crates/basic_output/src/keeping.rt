@@ -3,7 +3,7 @@
 /// How large the memory of a text may be that is kept for the next text, in bytes.
 const MOST_KEPT: usize = 1_048_576;
 
-// Whether the memory of the text is kept for the next one: it doesn't stay large because of one large text.
-pub(crate) fn is_kept(text: &String) -> bool {
-    text.capacity() <= MOST_KEPT
+/// Whether the memory of a text, of so many bytes, is kept for the next one: it doesn't stay large because of one large text.
+pub(crate) fn is_kept(capacity: usize) -> bool {
+    capacity <= MOST_KEPT
 }

@@ -75,7 +75,7 @@ impl<'a> WrittenPointer<'a> {
     /// given back.
     pub fn into_memory(self) -> PointerMemory {
         let WrittenPointer { text, starts, .. } = self;
-        if is_kept(&text) {
+        if is_kept(text.capacity()) {
             PointerMemory { text, starts }
         } else {
             PointerMemory::new(*text.allocator())

@@ -1,4 +1,4 @@
-use Rattle.std.proofs.Common.{string_bytes, sym, ◌∙◌}
+use Rattle.std.proofs.Common.{sym, ◌∙◌}
 use Rattle.std.proofs.lemmas.List.{length-map}
 use Rattle.basic_output.specs.Spans.{span_text}
 use Rattle.basic_output.specs.Units.{unit_texts}
@@ -6,4 +6,4 @@ use Rattle.basic_output.proofs.units.Units.mark.Goals as goal
 
 pub returns : goal.returns
 unfolding unit_texts
-returns c = c.len.ensures ∙ c.args.self.now.spans.ok.0 ∙ sym (length-map c.args.self.now.spans.items (span_text (string_bytes c.args.self.now.text)))
+returns c = c.len.ensures ∙ c.args.self.now.spans.ok.0 ∙ sym (length-map c.args.self.now.spans.items (span_text c.args.self.now.text.items))

@@ -176,7 +176,7 @@ impl Units {
     pub fn clear(&mut self)
         ensures { unit_texts self.new ≡ [] }
     {
-        if is_kept(self.text.capacity()) && is_kept(self.made.capacity()) {
+        if is_kept(self.text.len()) && is_kept(self.made.capacity()) {
             self.spans.clear();
         } else {
             *self = Units::new(*self.made.allocator());

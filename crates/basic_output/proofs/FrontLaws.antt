@@ -1,5 +1,5 @@
 -- The text of the first steps of a pointer, as steps come and go behind them.
-use Rattle.std.proofs.Common.{◌≡◌, ◌≤◌, ◌+◌, ◌<◌, ◌&&◌, ◌++◌, ◌∷◌, [], ℕ, zero, suc, List, Bool, false, Option, Some, None, true, length, take, drop, get_or, min, append-nil, refl, string_bytes, subst, sym, ap, ap₂, ◌∙◌, arith, inl, inr}
+use Rattle.std.proofs.Common.{◌≡◌, ◌≤◌, ◌+◌, ◌<◌, ◌&&◌, ◌++◌, ◌∷◌, [], ℕ, zero, suc, List, Bool, false, Option, Some, None, true, length, take, drop, get_or, min, append-nil, refl, subst, sym, ap, ap₂, ◌∙◌, arith, inl, inr}
 use Rattle.std.proofs.Math.Nat.{eq-or-lt_of_le}
 use Rattle.std.proofs.Math.Seq.{drop-append_seam, get_or-append_seam, take-append_seam, take-length, take-suc}
 use Rattle.std.proofs.lemmas.Bool.{and_parts}
@@ -12,6 +12,7 @@ use Rattle.definitions.specs.Pointers.{pointer_text}
 use Rattle.definitions.specs.Values.{Text}
 use Rattle.locations.specs.Steps.{token, tokens}
 use Rattle.locations.specs.declared.step.Step.{Step}
+use Rattle.basic_output.specs.Buffers.{buffer_text}
 use Rattle.basic_output.specs.PointerTexts.{are_plain_steps, front_text, text_starts}
 use Rattle.basic_output.specs.declared.written_pointer.WrittenPointer.{WrittenPointer}
 use Rattle.basic_output.specs.declared.written_pointer.Pushed.TheVariants.{Plain, Other}
@@ -86,7 +87,7 @@ pub record Written (text : Text) (starts : List ℕ) (plain_from : ℕ) (xs : Li
   pub plain : are_plain_steps (drop plain_from (take (length starts) xs)) ≡ true
 
 abbrev WrittenOf : WrittenPointer → List Step → Type 0
-WrittenOf p xs = Written (string_bytes p.text) p.starts.items p.plain_from xs
+WrittenOf p xs = Written (buffer_text p.text) p.starts.items p.plain_from xs
 
 pub written : (p : WrittenPointer) → WrittenOf p p.steps.items
 written p = record { within = p.written_within; at = p.are_starts; front = p.is_text; plain = p.plain }
@@ -104,7 +105,7 @@ moved p ys within same = record {
 pub record StartsAt (p : WrittenPointer) (n start : ℕ) : Type 0 where
   pub at : start ≡ length (front_text n p.steps.items)
   pub rest : Text
-  pub split : string_bytes p.text ≡ front_text n p.steps.items ++ 47 ∷ rest
+  pub split : buffer_text p.text ≡ front_text n p.steps.items ++ 47 ∷ rest
 
 pub starts_at : (p : WrittenPointer) (n start : ℕ) → n < length p.starts.items → start ≡ get_or p.starts.items n start → StartsAt p n start
 starts_at p n start less is =
@@ -217,7 +218,7 @@ same_front old new starts more from xs same started w plain =
     (subst (λ t. Written t more from xs) (sym same) (subst (λ ns. Written old ns from xs) (sym (started ∙ append-nil starts)) w), ap (list_all is_unescaped) same ∙ plain)
 
 -- ---- the text behind so many steps, where all is written
-pub plain_behind : (p : WrittenPointer) (len : ℕ) (behind : Text) → string_bytes p.text ≡ pointer_text (tokens p.steps.items) → p.plain_from ≤ len → string_bytes p.text ≡ front_text len p.steps.items ++ behind
+pub plain_behind : (p : WrittenPointer) (len : ℕ) (behind : Text) → buffer_text p.text ≡ pointer_text (tokens p.steps.items) → p.plain_from ≤ len → buffer_text p.text ≡ front_text len p.steps.items ++ behind
     → (n : ℕ) → length p.starts.items ≡ n → n ≡ length p.steps.items
     → (behind ≡ plain_text (drop len (tokens p.steps.items))) × (are_plain (drop len (tokens p.steps.items)) ≡ true)
 plain_behind p len behind all le split n count whole =

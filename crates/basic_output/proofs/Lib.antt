@@ -7,4 +7,5 @@ pub mod OriginLaws
 pub mod FrontLaws
 pub mod SpanLaws
 pub mod UnitLaws
+pub mod BufferLaws
 pub mod Written

@@ -1,5 +1,5 @@
 -- Texts and tokens of which nothing is escaped.
-use Rattle.std.proofs.Common.{◌≡◌, ◌<◌, ◌≤◌, ◌^◌, ◌/◌, ◌%◌, ◌==◌, ◌&&◌, ◌||◌, ℕ, Bool, true, false, not, cond, List, [], ◌∷◌, ◌++◌, codes, decimal, flat_map, refl, ap, ap₂, ◌∙◌, arith, append_assoc, append-nil}
+use Rattle.std.proofs.Common.{◌≡◌, ◌<◌, ◌≤◌, ◌^◌, ◌/◌, ◌%◌, ◌==◌, ◌&&◌, ◌||◌, ℕ, Bool, true, false, not, cond, List, [], ◌∷◌, ◌++◌, codes, decimal, flat_map, refl, sym, ap, ap₂, ◌∙◌, arith, append_assoc, append-nil}
 use Rattle.std.proofs.lemmas.Bool.{agree_below_at, and_parts, eqb-false, leb-true, le-leb, not-true}
 use Rattle.std.proofs.lemmas.Fmt.{decimal_is_IsNumeral}
 use Rattle.std.proofs.lemmas.List.Folds.{list_all-append, list_all-map}
@@ -16,6 +16,7 @@ use Rattle.definitions.specs.Values.{Text, same_text}
 use Rattle.std.proofs.lemmas.Grind.{flat_map-append}
 use Rattle.locations.specs.Steps.{token, tokens}
 use Rattle.locations.specs.declared.step.Step.{Step}
+use Rattle.basic_output.specs.Notes.{IsNoted}
 use Rattle.basic_output.specs.Pieces.{are_plain, is_plain, is_unescaped, plain_text}
 
 -- what stands for each byte of a text is the byte itself
@@ -176,3 +177,13 @@ plain_unescaped (x ∷ xs) h =
 
 pub index_is_unescaped : (n : ℕ) → n < 2 ^ 64 → list_all is_unescaped (decimal n) ≡ true
 index_is_unescaped n fits = plain_unescaped (decimal n) (index_is_plain n fits)
+
+-- what is appended of a plain token
+pub noted_plain : (t old new : Text) → list_all is_plain t ≡ true → new ≡ old ++ 47 ∷ t → IsNoted t old new × (list_all is_plain t ≡ true)
+noted_plain t old new h is = (
+  record {
+    text = is ∙ ap (λ u. old ++ u) (sym (plain_noted t h));
+    unescaped = ap (list_all is_unescaped) (plain_noted t h) ∙ plain_unescaped t h;
+  },
+  h,
+)

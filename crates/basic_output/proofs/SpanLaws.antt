@@ -7,13 +7,13 @@ use Rattle.std.proofs.lemmas.List.Folds.{drop_split}
 use Rattle.std.proofs.lemmas.List.{length-append, length-take-le, take-take}
 use Rattle.std.proofs.lemmas.List.Elements.{All-append, All-cons, All-drop, All-head, All-map, All-nil, All-same, All-tail, All-take, All-weaker}
 use Rattle.std.proofs.lemmas.Option.{slice_get_within}
-use Rattle.std.proofs.lemmas.Str.{IsUtf8-append, IsUtf8-from_ascii, IsUtf8-from_is_utf8, IsUtf8-nil, is_utf8-from_IsUtf8}
+use Rattle.std.proofs.lemmas.Str.{IsUtf8-append, IsUtf8-from_ascii, IsUtf8-nil, is_utf8-from_IsUtf8}
 use Rattle.std.specs.List.{All, insert, slice_get}
 use Rattle.std.specs.Str.{IsUtf8, is_utf8}
 use Rattle.lemmas.proofs.Lists.{flat_map-push, map-insert, map-take_more, range_is, range_same}
 use Rattle.definitions.specs.Values.{Text}
 use Rattle.basic_output.specs.Pieces.{later_texts}
-use Rattle.basic_output.specs.Spans.{IsSpan, IsWrittenOver, ascends, last_reach, raise_from, raised, span_text}
+use Rattle.basic_output.specs.Spans.{IsSpan, ascends, last_reach, raise_from, raised, span_text}
 use Rattle.basic_output.specs.declared.units.Span.{Span}
 
 front_same : (t u : Text) (h i : ℕ) → take h t ≡ take h u → i ≤ h → take i t ≡ take i u
@@ -30,7 +30,7 @@ low_le_last low (s ∷ ss) up =
     let q = and_parts (nat_le low s.reach) (ascends s.reach ss) up in
     omega (arith, leb-true low s.reach q.0, low_le_last s.reach ss q.1)
 
-pub last_within : (t : Text) (low : ℕ) (ss : List Span) → low ≤ length t → All (IsSpan t) ss → last_reach low ss ≤ length t
+last_within : (t : Text) (low : ℕ) (ss : List Span) → low ≤ length t → All (IsSpan t) ss → last_reach low ss ≤ length t
 last_within t low [] le are = le
 last_within t low (s ∷ ss) le are = last_within t s.reach ss (All-head (IsSpan t) s ss are).within (All-tail (IsSpan t) s ss are)
 
@@ -184,49 +184,6 @@ kept t more ss p u xs s text spans whole both start end reach within up are =
       ascend = ap (ascends 0) spans ∙ ascends_inserted s.reach 0 p ss s within (omega (arith, reach, last, ap length text, length-append t (44 ∷ more))) up;
       texts = ap (map (span_text u)) spans ∙ raised_texts u p s.reach (insert ss p s) ∙ map-insert (span_text u) ss p s ∙ ap₂ (λ ys x. insert ys p x) old.same new.1;
     }
-
--- ---- a text written over what follows the spans
-pub record Front (start end : ℕ) (more t u : Text) : Type 0 where
-  pub old : length (take start t) ≡ start
-  pub new : length (take end u) ≡ end
-  pub stays : take start t ≡ take start u
-  pub within : start ≤ end
-
-front : (start end : ℕ) (more t u : Text) → IsWrittenOver start end more t u → start ≤ length t → Front start end more t u
-front start end more t u is le =
-    let old : length (take start t) ≡ start = length-take-le start t le in
-    let new : length (take end u) ≡ end = length-take-le end u is.within in
-    let within : start ≤ end = omega (arith, old, new, ap length is.written, length-append (take start t) more) in
-    record {
-      old = old;
-      new = new;
-      stays = sym (sym (take-take start end u within) ∙ ap (take start) is.written ∙ ap (λ n. take n (take start t ++ more)) (sym old) ∙ take-append_seam (take start t) more);
-      within = within;
-    }
-
-pub passed : (start end : ℕ) (byte : ℕ) (more t u : Text) → IsWrittenOver start end (byte ∷ more) t u → start ≤ length t → start < end
-passed start end byte more t u is le =
-    let f = front start end (byte ∷ more) t u is le in
-    omega (arith, f.old, f.new, ap length is.written, length-append (take start t) (byte ∷ more))
-
-pub stay : (start end : ℕ) (more t u : Text) (ss : List Span) → IsWrittenOver start end more t u → start ≡ last_reach 0 ss → ascends 0 ss ≡ true → All (IsSpan t) ss → Moved t u ss
-stay start end more t u ss is at up are =
-    let f = front start end more t u is (omega (arith, at, last_within t 0 ss (omega arith) are)) in
-    moved t u start 0 ss f.stays (omega (arith, f.within, is.within)) (omega (arith, at)) up are
-
-pub written : (start end : ℕ) (more t u : Text) (ss : List Span) (p : ℕ) (xs : List Span) (s : Span) → IsWrittenOver start end (44 ∷ more) t u → start ≡ last_reach 0 ss
-    → xs ≡ raise_from p s.reach (insert ss p s) → s.start ≡ start + 1 → s.end ≡ end → s.reach ≡ end → p ≤ length ss → ascends 0 ss ≡ true → All (IsSpan t) ss
-    → Kept t more ss p u xs
-written start end more t u ss p xs s is at spans first last reach within up are =
-    let f = front start end (44 ∷ more) t u is (omega (arith, at, last_within t 0 ss (omega arith) are)) in
-    let a = take start t in
-    let b = take end u in
-    let before = moved t a start 0 ss (sym (take-take start start t (omega arith))) (omega (arith, f.old)) (omega (arith, at)) up are in
-    let whole : IsUtf8 a = IsUtf8-from_is_utf8 a (ap (λ i. is_utf8 (take i t)) at ∙ whole_at_last t ss are) in
-    let both : IsUtf8 b = subst IsUtf8 (sym is.written) (IsUtf8-append a (44 ∷ more) whole (IsUtf8-from_is_utf8 (44 ∷ more) is.utf8)) in
-    let k = kept a more ss p b xs s is.written spans whole both (omega (arith, first, f.old)) (omega (arith, last, f.new)) (omega (arith, reach, f.new)) within up before.are_spans in
-    let after = moved b u end 0 xs (take-take end end u (omega arith)) is.within (omega (arith, f.new, last_within b 0 xs (omega arith) k.are_spans)) k.ascend k.are_spans in
-    record { are_spans = after.are_spans; ascend = k.ascend; texts = after.same ∙ k.texts ∙ ap (λ ys. insert ys p more) before.same }
 
 -- ---- whichever of two lists the spans are
 pub record AreSpans (u : Text) (xs : List Span) : Type 0 where

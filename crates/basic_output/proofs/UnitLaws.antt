@@ -1,11 +1,12 @@
 -- Units' texts: put among others, and made of texts that were written beforehand.
-use Rattle.std.proofs.Common.{◌≡◌, ◌++◌, ◌∷◌, [], ℕ, Bool, List, codes, length, min, string_bytes, true, append_assoc, ap, ap₂, ◌∙◌, refl, sym}
+use Rattle.std.proofs.Common.{◌≡◌, ◌++◌, ◌∷◌, [], ℕ, Bool, List, codes, length, min, true, append_assoc, ap, ap₂, ◌∙◌, refl, sym}
 use Rattle.std.proofs.lemmas.List.{drop_min, take_min}
 use Rattle.std.specs.List.{insert, list_all}
 use Rattle.json.specs.Print.{quoted}
 use Rattle.definitions.specs.Pointers.{Pointer, fragment_text, pointer_text}
 use Rattle.definitions.specs.Texts.{text}
 use Rattle.definitions.specs.Values.{Text, string}
+use Rattle.basic_output.specs.Buffers.{buffer_text}
 use Rattle.basic_output.specs.declared.location.Location.{Location}
 use Rattle.basic_output.specs.declared.says.Says.{Says}
 use Rattle.basic_output.specs.Pieces.{IsHead, is_unescaped, kind_key, unit_text}
@@ -39,18 +40,18 @@ located uri pointer onward head written rest is_head behind unescaped =
     ∙ ap (λ t. codes "{\"absoluteKeywordLocation\":" ++ t) (quoted_text (front ++ written) (uri ++ 35 ∷ fragment_text (pointer ++ onward)) rest (all_of_both is_unescaped front written is_head.1 unescaped) all)
 
 -- a text that is written, in its quotation marks
-pub whole_text : (p : WrittenPointer) → IsWritten p → 34 ∷ (string_bytes p.text ++ 34 ∷ []) ≡ quoted (pointer_text (pointer_view p))
-whole_text p written = sym (as_it_is (string_bytes p.text) p.unescaped) ∙ ap quoted written.text
+pub whole_text : (p : WrittenPointer) → IsWritten p → 34 ∷ (buffer_text p.text ++ 34 ∷ []) ≡ quoted (pointer_text (pointer_view p))
+whole_text p written = sym (as_it_is (buffer_text p.text) p.unescaped) ∙ ap quoted written.text
 
 -- texts that are written, behind their keys
 pub written_places : (instance_location path : WrittenPointer) → IsWritten instance_location → IsWritten path
-    → codes ",\"instanceLocation\":\"" ++ (string_bytes instance_location.text ++ (codes "\",\"keywordLocation\":\"" ++ (string_bytes path.text ++ codes "\"}")))
+    → codes ",\"instanceLocation\":\"" ++ (buffer_text instance_location.text ++ (codes "\",\"keywordLocation\":\"" ++ (buffer_text path.text ++ codes "\"}")))
     ≡ codes ",\"instanceLocation\":" ++ (quoted (pointer_text (pointer_view instance_location)) ++ (codes ",\"keywordLocation\":" ++ (quoted (pointer_text (pointer_view path)) ++ codes "}")))
 written_places instance_location path instance_written path_written =
-    let path_text = quoted_text (string_bytes path.text) (pointer_text (pointer_view path)) (codes "}") path.unescaped path_written.text in
+    let path_text = quoted_text (buffer_text path.text) (pointer_text (pointer_view path)) (codes "}") path.unescaped path_written.text in
     let path_end = codes ",\"keywordLocation\":" ++ (quoted (pointer_text (pointer_view path)) ++ codes "}") in
-    let instance_text = quoted_text (string_bytes instance_location.text) (pointer_text (pointer_view instance_location)) path_end instance_location.unescaped instance_written.text in
-    ap (λ t. codes ",\"instanceLocation\":\"" ++ (string_bytes instance_location.text ++ (codes "\",\"keywordLocation\":" ++ t))) path_text
+    let instance_text = quoted_text (buffer_text instance_location.text) (pointer_text (pointer_view instance_location)) path_end instance_location.unescaped instance_written.text in
+    ap (λ t. codes ",\"instanceLocation\":\"" ++ (buffer_text instance_location.text ++ (codes "\",\"keywordLocation\":" ++ t))) path_text
     ∙ ap (λ t. codes ",\"instanceLocation\":" ++ t) instance_text
 
 -- the parts are the whole

@@ -1,3 +1,5 @@
+pub mod Buffers
+pub mod WrittenOver
 pub mod PointerViews
 pub mod Sayings
 pub mod Spans

@@ -1,5 +1,5 @@
 -- Where the texts of units stand in the text of all.
-use Rattle.std.specs.Prelude.{◌≡◌, ◌≤◌, ◌-◌, ◌++◌, ◌&&◌, ℕ, Bool, List, [], ◌∷◌, true, length, map, nat_le, take, slice_range, suc, zero}
+use Rattle.std.specs.Prelude.{◌≡◌, ◌≤◌, ◌-◌, ◌&&◌, ℕ, Bool, List, [], ◌∷◌, true, length, map, nat_le, take, slice_range, suc, zero}
 use Rattle.std.specs.Str.{is_utf8}
 use Rattle.definitions.specs.Values.{Text}
 use Rattle.basic_output.specs.declared.units.Span.{Span}
@@ -35,9 +35,3 @@ abbrev pub raise_from : ℕ → ℕ → List Span → List Span
 raise_from zero reach ss = map (raised reach) ss
 raise_from (suc n) reach [] = []
 raise_from (suc n) reach (s ∷ ss) = s ∷ raise_from n reach ss
-
--- a text was written over the bytes from the start on, up to the end, and what stood before it stays
-pub record IsWrittenOver (start end : ℕ) (text old new : Text) : Type 0 where
-  pub within : end ≤ length new
-  pub written : take end new ≡ take start old ++ text
-  pub utf8 : is_utf8 text ≡ true

@@ -4,22 +4,33 @@ ghost use Rattle.std.specs.Prelude.{◌≡◌, ◌+◌, ◌≤◌, ◌<◌, ◌�
 ghost use Rattle.std.specs.Str.{is_utf8};
 ghost use Rattle.basic_output.specs.Pieces.{kind_key};
 ghost use Rattle.basic_output.specs.Ready.{ready_text, ready_length, said_ending, said_opening};
-ghost use Rattle.basic_output.specs.Spans.{IsWrittenOver};
+ghost use Rattle.basic_output.specs.WrittenOver.{IsWrittenOver};
 
 use crate::ready::{Form, ReadyUnit};
+use crate::text_buffer::TextBuffer;
+use crate::writing::{make_room, write};
 use std::alloc::AllocError;
 
-/// How many bytes there is room for at least behind what is written, where room is made.
-const ROOM: usize = 1_024;
+impl TextBuffer {
+    ghost use Rattle.std.specs.Prelude.{if◌then◌else◌, is_ok};
+    ghost use Rattle.basic_output.specs.Buffers.{buffer_text};
 
-/// Writes a comma and the text of the unit over the bytes from there on: the position behind it. Room is made once for all of
-/// it, where there is too little. The only error is want of memory, and then the bytes stay as they were.
+    /// Appends a comma and the text of the unit. The only error is want of memory, and then the text stays as it was.
+    #[inline(always)]
+    pub(crate) fn push_ready(&mut self, unit: ReadyUnit<'_>) -> Result<(), AllocError>
+        ensures { buffer_text self.new ≡ (if is_ok result
+            then buffer_text self.old ++ 44 ∷ ready_text unit.entry
+            else buffer_text self.old) }
+    {
+        self.len = write_ready(&mut self.bytes, self.len, unit)?;
+        Ok(())
+    }
+}
+
+// Writes a comma and the text of the unit over the bytes from there on: the position behind it. Room is made once for all of
+// it, where there is too little. The only error is want of memory, and then the bytes stay as they were.
 #[inline(always)]
-pub(crate) fn write_ready(
-    bytes: &mut Vec<u8>,
-    start: usize,
-    unit: ReadyUnit<'_>,
-) -> Result<usize, AllocError>
+fn write_ready(bytes: &mut Vec<u8>, start: usize, unit: ReadyUnit<'_>) -> Result<usize, AllocError>
     requires { start ≤ length bytes.old.items }
     ensures written { IfOk result (λ end.
         IsWrittenOver start end (44 ∷ ready_text unit.entry) bytes.old.items bytes.new.items) }
@@ -32,53 +43,6 @@ pub(crate) fn write_ready(
         }
         None => Err(AllocError),
     }
-}
-
-/// The same of a text.
-pub(crate) fn write_made(
-    bytes: &mut Vec<u8>,
-    start: usize,
-    text: &str,
-) -> Result<usize, AllocError>
-    requires { start ≤ length bytes.old.items }
-    ensures written { IfOk result (λ end.
-        IsWrittenOver start end text.now bytes.old.items bytes.new.items) }
-    ensures unchanged { OnErr result (bytes.new.items ≡ bytes.old.items) }
-{
-    match start.checked_add(text.len()) {
-        Some(end) => {
-            make_room(bytes, end)?;
-            Ok(write(bytes.as_mut_slice(), start, text))
-        }
-        None => Err(AllocError),
-    }
-}
-
-// As many bytes as that at least: what stands there stays. The only error is want of memory, and then the bytes stay as they
-// were.
-#[inline(always)]
-fn make_room(bytes: &mut Vec<u8>, end: usize) -> Result<(), AllocError>
-    ensures room { OnOk result (end ≤ length bytes.new.items) }
-    ensures front { (start : ℕ) → start ≤ length bytes.old.items
-        → take start bytes.new.items ≡ take start bytes.old.items }
-    ensures unchanged { OnErr result (bytes.new.items ≡ bytes.old.items) }
-{
-    if end <= bytes.len() {
-        return Ok(());
-    }
-    make_more_room(bytes, end)
-}
-
-// The same, where there are fewer. It is called apart, since few units find so few.
-#[inline(never)]
-fn make_more_room(bytes: &mut Vec<u8>, end: usize) -> Result<(), AllocError>
-    requires { length bytes.old.items < end }
-    ensures room { OnOk result (end ≤ length bytes.new.items) }
-    ensures front { (start : ℕ) → start ≤ length bytes.old.items
-        → take start bytes.new.items ≡ take start bytes.old.items }
-    ensures unchanged { OnErr result (bytes.new.items ≡ bytes.old.items) }
-{
-    bytes.resize(end.saturating_add(ROOM), b',')
 }
 
 // Where the unit ends behind the comma, if an address holds the number.
@@ -209,18 +173,4 @@ fn write_ending(bytes: &mut [u8], start: usize, form: Form) -> usize
         Form::Plain => write(bytes, start, PLAIN),
         Form::Written => write(bytes, start, WRITTEN),
     }
-}
-
-// Writes a text over the bytes from there on: the position behind it.
-#[inline(always)]
-fn write(bytes: &mut [u8], start: usize, text: &str) -> usize
-    requires { start + length text.now ≤ length bytes.old }
-    ensures end { result ≡ start + length text.now }
-    ensures written { take result bytes.new ≡ take start bytes.old ++ text.now }
-    ensures len { length bytes.new ≡ length bytes.old }
-    ensures utf8 { is_utf8 text.now ≡ true }
-{
-    let end = start + text.len();
-    bytes[start..end].copy_from_slice(text.as_bytes());
-    end
 }

@@ -11,8 +11,10 @@ mod quoting;
 mod ready;
 mod saying;
 mod says;
+mod text_buffer;
 mod unit;
 mod units;
+mod writing;
 mod written_pointer;
 
 pub use faults::Fault;

@@ -197,9 +197,8 @@ fn push_other_pointer(out: &mut String, steps: &[Step<'_>]) -> Result<(), AllocE
     push_quoted(out, pointer.as_str())
 }
 
-/// Appends a `/` and the step, as it is.
-#[inline(always)]
-pub(crate) fn push_plain_step(out: &mut String, step: Step<'_>) -> Result<(), AllocError>
+// Appends a `/` and the step, as it is.
+fn push_plain_step(out: &mut String, step: Step<'_>) -> Result<(), AllocError>
     ensures { OnOk result (string_bytes out.new
         ≡ string_bytes out.old ++ slash ∷ token step.entry) }
 {
@@ -227,8 +226,8 @@ fn is_unescaped_step(step: Step<'_>) -> bool
     }
 }
 
-/// Whether the step stands as it is in a pointer, in its fragment and in a string.
-pub(crate) fn is_plain_step(step: Step<'_>) -> bool
+// Whether the step stands as it is in a pointer, in its fragment and in a string.
+fn is_plain_step(step: Step<'_>) -> bool
     ensures { result ≡ list_all is_plain (token step.entry) }
 {
     match step {

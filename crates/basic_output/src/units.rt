@@ -1,15 +1,15 @@
 //! The units of the basic output, as they are collected (JSON Schema 2020-12 Core, 12.4.2).
 
-ghost use Rattle.std.specs.Prelude.{◌≡◌, ◌≤◌, ◌∷◌, ◌++◌, ◌-◌, length, map, nat_eq, take, true, IfOk, OnOk, OnErr};
+ghost use Rattle.std.specs.Prelude.{◌≡◌, ◌≤◌, ◌∷◌, ◌++◌, ◌-◌, if◌then◌else◌, is_ok, length, map, nat_eq, take, true, IfOk, OnOk, OnErr};
 ghost use Rattle.std.specs.List.{All, insert};
+ghost use Rattle.basic_output.specs.Buffers.{buffer_text};
 ghost use Rattle.basic_output.specs.Pieces.{unit_text};
 ghost use Rattle.basic_output.specs.Ready.{AreReady, IsSaid};
 ghost use Rattle.basic_output.specs.Sayings.{says_value, unit_at};
 ghost use Rattle.definitions.specs.Texts.{text};
 ghost use Rattle.basic_output.specs.declared.location.Location.{Location};
-ghost use Rattle.basic_output.specs.Spans.{IsSpan, IsWrittenOver, ascends, last_reach, raise_from, span_text};
+ghost use Rattle.basic_output.specs.Spans.{IsSpan, ascends, last_reach, raise_from, span_text};
 
-use crate::appending::{write_made, write_ready};
 use crate::keeping::is_kept;
 use crate::location::Location;
 use crate::quoting::fragment_of;
@@ -18,10 +18,10 @@ use crate::ready::{
 };
 use crate::saying::push_says;
 use crate::says::Says;
+use crate::text_buffer::TextBuffer;
 use crate::unit::push_unit;
 use std::alloc::{AllocError, Global};
 use std::marker::Model;
-use std::str;
 
 /// Where the text of a unit stands, and how far the texts reach of this unit and of those before it.
 #[derive(Clone, Copy, Debug, Drop)]
@@ -64,13 +64,13 @@ impl Span {
 /// Contracts see the texts, by `unit_texts`.
 #[derive(Drop)]
 pub struct Units {
-    // The texts, in the order in which they were made, each behind a comma, and bytes that later ones are written over.
-    text: Vec<u8>,
+    // The texts, in the order in which they were made, each behind a comma.
+    text: TextBuffer,
     // Where each stands, in the order of the units.
     spans: Vec<Span>,
     // What a unit says, or all of it, where that is made apart.
     made: String,
-    ghost are_spans: { All (IsSpan text.items) spans.items },
+    ghost are_spans: { All (IsSpan (buffer_text text)) spans.items },
     ghost ascend: { ascends 0 spans.items ≡ true },
 }
 
@@ -94,14 +94,14 @@ impl Model for Mark {
 
 impl Units {
     ghost use Rattle.std.specs.Prelude.{[]};
-    ghost use Rattle.basic_output.specs.Units.{made_text, unit_texts};
+    ghost use Rattle.basic_output.specs.Units.{unit_texts};
 
     /// No units. This takes no memory; the units that come later take it from `alloc`.
     pub fn new(alloc: Global) -> Units
         ensures { unit_texts result ≡ [] }
     {
         Units {
-            text: Vec::new(alloc),
+            text: TextBuffer::new(alloc),
             spans: Vec::new(alloc),
             made: String::new(alloc),
         }
@@ -145,15 +145,9 @@ impl Units {
             (unit_text annotates (unit_at location.entry says.entry))) }
         ensures unchanged { OnErr result (unit_texts self.new ≡ unit_texts self.old) }
     {
-        let start = reach_of(self.spans.as_slice());
-        let reach = write_unit(
-            &mut self.text,
-            start,
-            &mut self.made,
-            annotates,
-            location,
-            says,
-        )?;
+        let start = self.text.len();
+        append_unit(&mut self.text, &mut self.made, annotates, location, says)?;
+        let reach = self.text.len();
         let position = mark.units.min(self.spans.len());
         let span = Span {
             start: start + 1,
@@ -169,6 +163,7 @@ impl Units {
         ensures { unit_texts self.new ≡ take mark (unit_texts self.old) }
     {
         self.spans.truncate(mark.units);
+        self.text.truncate(reach_of(self.spans.as_slice()));
     }
 
     /// No units any more. Their memory is kept for the texts of later ones; where a text took more than 1,048,576 bytes, all
@@ -176,98 +171,93 @@ impl Units {
     pub fn clear(&mut self)
         ensures { unit_texts self.new ≡ [] }
     {
-        if is_kept(self.text.len()) && is_kept(self.made.capacity()) {
+        if is_kept(self.text.room()) && is_kept(self.made.capacity()) {
             self.spans.clear();
+            self.text.clear();
         } else {
-            *self = Units::new(*self.made.allocator());
+            *self = Units::new(self.text.allocator());
         }
     }
 
     /// The text in which those of the units stand.
     pub(crate) fn text(&self) -> &str
-        ensures { result.now ≡ made_text self.now }
+        ensures { result.now ≡ buffer_text self.now.text }
     {
-        let end = reach_of(self.spans.as_slice());
-        unsafe { str::from_utf8_unchecked(&self.text[..end]) }
+        self.text.as_str()
     }
 
-    /// Where they stand in it, in the order of the units.
+    /// Where they stand, in the order of the units.
     pub(crate) fn spans(&self) -> &[Span]
-        ensures within { All (IsSpan (made_text self.now)) result.now }
-        ensures texts { map (span_text (made_text self.now)) result.now ≡ unit_texts self.now }
+        ensures value { result.now ≡ self.now.spans.items }
+        ensures texts { map (span_text (buffer_text self.now.text)) result.now
+            ≡ unit_texts self.now }
     {
         self.spans.as_slice()
     }
 }
 
-// Writes a comma and the text of a unit over the bytes from there on, of which a part may be made apart: the position behind
-// it. The only error is want of memory, and then the bytes stay as they were.
+// Appends a comma and the text of a unit, of which a part may be made apart. The only error is want of memory, and then
+// nothing was appended.
 #[inline(always)]
-fn write_unit(
-    bytes: &mut Vec<u8>,
-    start: usize,
+fn append_unit(
+    out: &mut TextBuffer,
     made: &mut String,
     annotates: bool,
     location: Location<'_, '_>,
     says: Says<'_, '_>,
-) -> Result<usize, AllocError>
-    requires { start ≤ length bytes.old.items }
-    ensures written { IfOk result (λ end. IsWrittenOver start end
-        (44 ∷ unit_text annotates (unit_at location.entry says.entry)) bytes.old.items bytes.new.items) }
-    ensures unchanged { OnErr result (bytes.new.items ≡ bytes.old.items) }
+) -> Result<(), AllocError>
+    ensures { buffer_text out.new ≡ (if is_ok result
+        then buffer_text out.old ++ 44 ∷ unit_text annotates (unit_at location.entry says.entry)
+        else buffer_text out.old) }
 {
     match ready_location(location) {
-        Some(ready) => write_ready_unit(bytes, start, made, annotates, ready, says),
-        None => write_other_unit(bytes, start, made, annotates, location, says),
+        Some(ready) => append_ready_unit(out, made, annotates, ready, says),
+        None => append_other_unit(out, made, annotates, location, says),
     }
 }
 
 // The same, whose pointer from the origin on has a step that isn't plain, or whose locations don't stand in strings as they
 // are. It is called apart, since few units are such.
 #[inline(never)]
-fn write_other_unit(
-    bytes: &mut Vec<u8>,
-    start: usize,
+fn append_other_unit(
+    out: &mut TextBuffer,
     made: &mut String,
     annotates: bool,
     location: Location<'_, '_>,
     says: Says<'_, '_>,
-) -> Result<usize, AllocError>
-    requires { start ≤ length bytes.old.items }
-    ensures written { IfOk result (λ end. IsWrittenOver start end
-        (44 ∷ unit_text annotates (unit_at location.entry says.entry)) bytes.old.items bytes.new.items) }
-    ensures unchanged { OnErr result (bytes.new.items ≡ bytes.old.items) }
+) -> Result<(), AllocError>
+    ensures { buffer_text out.new ≡ (if is_ok result
+        then buffer_text out.old ++ 44 ∷ unit_text annotates (unit_at location.entry says.entry)
+        else buffer_text out.old) }
 {
-    let onward = fragment_of(*bytes.allocator(), location.onward_steps())?;
+    let onward = fragment_of(out.allocator(), location.onward_steps())?;
     match escaped_location(location, onward.as_str()) {
-        Some(ready) => write_ready_unit(bytes, start, made, annotates, ready, says),
+        Some(ready) => append_ready_unit(out, made, annotates, ready, says),
         None => {
             made.clear();
             made.push_str(",")?;
             push_unit(made, annotates, location, says)?;
-            write_made(bytes, start, made.as_str())
+            out.push_str(made.as_str())
         }
     }
 }
 
 // The same at ready locations.
 #[inline(always)]
-fn write_ready_unit(
-    bytes: &mut Vec<u8>,
-    start: usize,
+fn append_ready_unit(
+    out: &mut TextBuffer,
     made: &mut String,
     annotates: bool,
     location: ReadyLocation<'_>,
     says: Says<'_, '_>,
-) -> Result<usize, AllocError>
-    requires { start ≤ length bytes.old.items }
-    ensures written { (l : Location) → AreReady l location.entry → IfOk result
-        (λ end. IsWrittenOver start end (44 ∷ unit_text annotates (unit_at l says.entry))
-        bytes.old.items bytes.new.items) }
-    ensures unchanged { OnErr result (bytes.new.items ≡ bytes.old.items) }
+) -> Result<(), AllocError>
+    ensures { (l : Location) → AreReady l location.entry
+        → buffer_text out.new ≡ (if is_ok result
+        then buffer_text out.old ++ 44 ∷ unit_text annotates (unit_at l says.entry)
+        else buffer_text out.old) }
 {
     let said = said_of(made, says)?;
-    write_ready(bytes, start, ready_unit(annotates, location, said))
+    out.push_ready(ready_unit(annotates, location, said))
 }
 
 // What the unit says, which is written where it doesn't stand there as it is.

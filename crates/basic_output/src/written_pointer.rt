@@ -1,20 +1,21 @@
 //! A pointer that steps come to and go from, and its text.
 
-ghost use Rattle.std.specs.Prelude.{◌≡◌, ◌≤◌, ◌∷◌, ◌++◌, [], true, false, drop, length, string_bytes, take, IfOk, IfSome, OnOk};
+ghost use Rattle.std.specs.Prelude.{◌≡◌, ◌≤◌, ◌∷◌, ◌++◌, [], true, decimal, drop, length, take, IfOk, IfSome};
 ghost use Rattle.std.specs.List.{list_all};
 ghost use Rattle.locations.specs.Steps.{token, tokens};
+ghost use Rattle.keywords.specs.Rows.{row_of};
+ghost use Rattle.basic_output.specs.Buffers.{buffer_text};
 ghost use Rattle.basic_output.specs.Notes.{IsPushed, new_starts};
 ghost use Rattle.basic_output.specs.Pieces.{are_plain, is_unescaped};
 ghost use Rattle.basic_output.specs.PointerTexts.{are_plain_steps, front_text, text_starts};
 
 use crate::keeping::is_kept;
 use crate::pointer_memory::PointerMemory;
-use crate::quoting::{are_unescaped, is_plain_step, push_plain_step};
+use crate::quoting::{are_plain_bytes, are_unescaped};
+use crate::text_buffer::TextBuffer;
+use keywords::Keyword;
 use locations::{Step, push_pointer};
 use std::alloc::{AllocError, Global};
-
-/// How many bytes there is room for at once.
-const ROOM: usize = 128;
 
 /// A pointer (RFC 6901), as the steps of its tokens, and its text as far as it was written: it stays while steps come
 /// and go behind it, so that a step is written once for all units that stand below it.
@@ -24,7 +25,7 @@ const ROOM: usize = 128;
 pub struct WrittenPointer<'a> {
     steps: Vec<Step<'a>>,
     // The text of so many of the first steps as `starts` has numbers.
-    text: String,
+    text: TextBuffer,
     // Where the text of each of these steps starts.
     starts: Vec<usize>,
     // From this step on all whose text is written are plain: they stand as they are in a pointer, in its fragment and in a
@@ -32,8 +33,8 @@ pub struct WrittenPointer<'a> {
     plain_from: usize,
     ghost written_within: { length starts.items ≤ length steps.items },
     ghost are_starts: { starts.items ≡ text_starts (length starts.items) steps.items },
-    ghost is_text: { string_bytes text ≡ front_text (length starts.items) steps.items },
-    ghost unescaped: { list_all is_unescaped (string_bytes text) ≡ true },
+    ghost is_text: { buffer_text text ≡ front_text (length starts.items) steps.items },
+    ghost unescaped: { list_all is_unescaped (buffer_text text) ≡ true },
     ghost plain: { are_plain_steps (drop plain_from (take (length starts.items) steps.items))
         ≡ true },
 }
@@ -75,10 +76,10 @@ impl<'a> WrittenPointer<'a> {
     /// given back.
     pub fn into_memory(self) -> PointerMemory {
         let WrittenPointer { text, starts, .. } = self;
-        if is_kept(text.capacity()) {
+        if is_kept(text.room()) {
             PointerMemory { text, starts }
         } else {
-            PointerMemory::new(*text.allocator())
+            PointerMemory::new(text.allocator())
         }
     }
 
@@ -201,7 +202,7 @@ impl<'a> WrittenPointer<'a> {
 
     /// The text as far as it was written.
     pub(crate) fn text(&self) -> &str
-        ensures { result.now ≡ string_bytes self.now.text }
+        ensures { result.now ≡ buffer_text self.now.text }
     {
         self.text.as_str()
     }
@@ -221,10 +222,10 @@ impl<'a> WrittenPointer<'a> {
     // The text behind so many steps.
     fn text_behind(&self, len: usize) -> &str
         requires { IsWritten self.now }
-        ensures { string_bytes self.now.text ≡ front_text len self.now.steps.items ++ result.now }
+        ensures { buffer_text self.now.text ≡ front_text len self.now.steps.items ++ result.now }
     {
         if len < self.starts.len() {
-            &self.text[self.starts[len]..]
+            &self.text.as_str()[self.starts[len]..]
         } else {
             ""
         }
@@ -243,15 +244,16 @@ enum Pushed {
 }
 
 // Appends the text of a step, and where it starts, if a string of JSON escapes nothing of it.
+#[inline(always)]
 fn push_next(
-    text: &mut String,
+    text: &mut TextBuffer,
     starts: &mut Vec<usize>,
     step: Step<'_>,
 ) -> Result<Pushed, AllocError>
     ensures text { IfOk result (λ p.
-        IsPushed p (token step.entry) (string_bytes text.old) (string_bytes text.new)) }
+        IsPushed p (token step.entry) (buffer_text text.old) (buffer_text text.new)) }
     ensures start { IfOk result (λ p. starts.new.items
-        ≡ starts.old.items ++ new_starts p (length (string_bytes text.old))) }
+        ≡ starts.old.items ++ new_starts p (length (buffer_text text.old))) }
 {
     let start = text.len();
     let pushed = push_noted(text, step)?;
@@ -263,30 +265,61 @@ fn push_next(
 }
 
 // Appends the text of a step, if a string of JSON escapes nothing of it.
-fn push_noted(text: &mut String, step: Step<'_>) -> Result<Pushed, AllocError>
+#[inline(always)]
+fn push_noted(text: &mut TextBuffer, step: Step<'_>) -> Result<Pushed, AllocError>
     ensures { IfOk result (λ p.
-        IsPushed p (token step.entry) (string_bytes text.old) (string_bytes text.new)) }
+        IsPushed p (token step.entry) (buffer_text text.old) (buffer_text text.new)) }
 {
-    make_room(text)?;
-    if is_plain_step(step) {
-        push_plain_step(text, step)?;
+    match step {
+        Step::Name(name) => push_name(text, name),
+        Step::Index(index) => push_index(text, index),
+        Step::Keyword(keyword) => push_keyword(text, keyword),
+    }
+}
+
+// The same of a keyword's name, which is plain.
+#[inline(always)]
+fn push_keyword(text: &mut TextBuffer, keyword: Keyword) -> Result<Pushed, AllocError>
+    ensures { IfOk result (λ p.
+        IsPushed p (row_of keyword).name (buffer_text text.old) (buffer_text text.new)) }
+{
+    text.push_led(keyword.name())?;
+    Ok(Pushed::Plain)
+}
+
+// The same of an index, which is plain.
+#[inline(always)]
+fn push_index(text: &mut TextBuffer, index: usize) -> Result<Pushed, AllocError>
+    ensures { IfOk result (λ p.
+        IsPushed p (decimal index) (buffer_text text.old) (buffer_text text.new)) }
+{
+    let mut digits = itoa::Buffer::new();
+    text.push_led(digits.format(index))?;
+    Ok(Pushed::Plain)
+}
+
+// The same of a member's name.
+#[inline(always)]
+fn push_name(text: &mut TextBuffer, name: &str) -> Result<Pushed, AllocError>
+    ensures { IfOk result (λ p. IsPushed p name.now (buffer_text text.old) (buffer_text text.new)) }
+{
+    if are_plain_bytes(name.as_bytes()) {
+        text.push_led(name)?;
         return Ok(Pushed::Plain);
     }
-    let mut piece = String::new(*text.allocator());
-    push_pointer(&mut piece, &[step])?;
+    push_other_name(text, name)
+}
+
+// The same of a name that isn't plain. It is called apart, since few names are such.
+#[inline(never)]
+fn push_other_name(text: &mut TextBuffer, name: &str) -> Result<Pushed, AllocError>
+    ensures { IfOk result (λ p. IsPushed p name.now (buffer_text text.old) (buffer_text text.new)) }
+{
+    let mut piece = String::new(text.allocator());
+    push_pointer(&mut piece, &[Step::Name(name)])?;
     if !are_unescaped(piece.as_bytes()) {
         return Ok(Pushed::Nothing);
     }
     text.push_str(piece.as_str())?;
     Ok(Pushed::Other)
-}
-
-// Room for the first steps at once.
-fn make_room(text: &mut String) -> Result<(), AllocError>
-    ensures { OnOk result (string_bytes text.new ≡ string_bytes text.old) }
-{
-    if text.is_empty() {
-        text.reserve(ROOM)?;
-    }
-    Ok(())
 }

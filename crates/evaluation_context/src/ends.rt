@@ -24,6 +24,7 @@ pub(crate) fn end_of(origin: &Origin<'_>, onward: &[Step<'_>]) -> u32
     }
 }
 
+#[inline(always)]
 fn origin_end(origin: &Origin<'_>) -> u32
     ensures { tells_end result (identity_end (origin_view origin.now)) ≡ true }
 {

@@ -11,7 +11,7 @@ use crate::halt::Halt;
 use crate::here::Here;
 use crate::log::LogMark;
 use crate::present::Present;
-use crate::settling::{looked_at, settle};
+use crate::settling::{evaluated_for, settle};
 use json_doc::Doc;
 use keyword_plans::{Chosen, Earlier, Planned, Site, passes, plan};
 use keywords::Keyword;
@@ -118,7 +118,7 @@ impl<'a> Evaluation<'a> {
         let earlier = Earlier {
             condition: beside.condition,
             named: beside.named,
-            evaluated: looked_at(keyword, &log.names, &log.indexes, here.before),
+            evaluated: evaluated_for(keyword, &log.names, &log.indexes, here.before),
         };
         let context = &mut self.context;
         let site = Site {

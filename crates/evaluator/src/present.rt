@@ -126,6 +126,7 @@ fn marks_in(schema: &Doc) -> u64
     }
 }
 
+#[inline(always)]
 fn marks_of(members: &Members) -> u64
     ensures { (i : ℕ) → bit_at result i ≡ 0
         → list_any (has_mark i) (members_value members.now) ≡ false }

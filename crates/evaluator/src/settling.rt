@@ -189,7 +189,7 @@ fn insert_own<'a>(
 }
 
 /// The names and the indexes that were evaluated later, where the keyword looks at them (Core, 11); else none.
-pub(crate) fn looked_at<'s, 'a>(
+pub(crate) fn evaluated_for<'s, 'a>(
     keyword: Keyword,
     names: &'s [&'a str],
     indexes: &'s [usize],

@@ -19,8 +19,8 @@ use evaluation_context::Context;
 use keyword_plans::Subject;
 use std::alloc::AllocError;
 
-/// Of a schema object that was counted, and whose keywords were used since the mark: where all pass, the names annotate that are no keywords;
-/// else the errors alone stay (JSON Schema 2020-12 Core, 7.7.1.1). The only error is want of memory.
+/// Of a schema object that was counted, and whose keywords were used since the mark: where all pass, the names annotate that are
+/// no keywords; else the errors alone stay (JSON Schema 2020-12 Core, 7.7.1.1). The only error is want of memory.
 #[inline(always)]
 pub(crate) fn settle_object<'a>(
     context: &mut Context<'a>,

@@ -37,9 +37,9 @@ use std::alloc::AllocError;
 /// What the keyword of the schema, with this value, applies, in order (JSON Schema 2020-12 Core, 7.1, 10 and 11): it stands
 /// in `planned` in place of all that stood there.
 ///
-/// `then`, `else`, `additionalProperties`, `unevaluatedItems` and `unevaluatedProperties` need what was said `earlier`. `scope` is the dynamic scope,
-/// the schema's own resource last, and keeps what is followed here, as `searches` keep the patterns that are searched for. The
-/// only error is want of memory.
+/// `then`, `else`, `additionalProperties`, `unevaluatedItems` and `unevaluatedProperties` need what was said `earlier`. `scope`
+/// is the dynamic scope, the schema's own resource last, and keeps what is followed here, as `searches` keep the patterns that
+/// are searched for. The only error is want of memory.
 #[inline(always)]
 pub fn plan<'a>(
     planned: &mut Vec<Planned<'a>>,

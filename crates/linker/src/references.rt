@@ -26,12 +26,16 @@ pub struct ReferenceNumber {
 
 impl ReferenceNumber {
     /// The number of its text among the references of its document.
-    pub fn text(self) -> usize {
+    pub fn text(self) -> usize
+        ensures { result ≡ self.text }
+    {
         self.text
     }
 
     /// The numbers of its document, its resource and its text, by which it can be kept in a map.
-    pub fn parts(self) -> (usize, usize, usize) {
+    pub fn parts(self) -> (usize, usize, usize)
+        ensures { result ≡ (self.document, self.resource, self.text) }
+    {
         (self.document, self.resource, self.text)
     }
 

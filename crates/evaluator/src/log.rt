@@ -32,13 +32,18 @@ pub(crate) struct Log<'a> {
     ghost within: { count ≤ limits.applications },
 }
 
-/// The memory of the texts of a log's units, to be kept for the next log.
+/// How many indexes there may be room for in what is kept.
+const MOST_INDEXES: usize = 131_072;
+
+/// The memory of a log's indexes and of the texts of its units, to be kept for the next log.
 #[derive(Drop)]
 pub(crate) struct LogMemory {
     errors: Units,
     annotations: Units,
+    indexes: Vec<usize>,
     ghost no_errors: { unit_texts errors ≡ [] },
     ghost no_annotations: { unit_texts annotations ≡ [] },
+    ghost no_indexes: { indexes.items ≡ [] },
 }
 
 impl LogMemory {
@@ -47,6 +52,7 @@ impl LogMemory {
         LogMemory {
             errors: Units::new(alloc),
             annotations: Units::new(alloc),
+            indexes: Vec::new(alloc),
         }
     }
 }
@@ -89,33 +95,36 @@ impl<'a> Log<'a> {
     ghost use Rattle.evaluator.specs.Notes.{Notes, lengths, no_notes, notes_of_both, one_application, outcome_notes, part_notes};
     ghost use Rattle.evaluator.specs.Logs.{log_view, mark_view};
 
-    /// Nothing yet. This takes no memory; what is noted takes it from `alloc`, and texts of units where they find too little in
-    /// what was kept.
+    /// Nothing yet. This takes no memory; what is noted takes it from `alloc`, and indexes and texts of units where they find too
+    /// little in what was kept.
     pub(crate) fn within(alloc: Global, memory: LogMemory) -> Log<'a>
         ensures { log_view result ≡ no_notes }
     {
         let LogMemory {
             errors,
             annotations,
+            indexes,
         } = memory;
         Log {
             alloc,
             errors,
             annotations,
             names: Vec::new(alloc),
-            indexes: Vec::new(alloc),
+            indexes,
             count: 0,
             looped: false,
             deep: false,
         }
     }
 
-    /// The memory of the texts, for the next log. That of the errors is given back where a text took more than 1,048,576
-    /// bytes, and so is that of the annotations.
+    /// The memory of the indexes and of the texts, for the next log. That of the errors is given back where a text took more
+    /// than 1,048,576 bytes, and so is that of the annotations; that of the indexes where there was room for more than 131,072.
     pub(crate) fn into_memory(self) -> LogMemory {
         let Log {
+            alloc,
             mut errors,
             mut annotations,
+            indexes,
             ..
         } = self;
         errors.clear();
@@ -123,6 +132,7 @@ impl<'a> Log<'a> {
         LogMemory {
             errors,
             annotations,
+            indexes: emptied(alloc, indexes),
         }
     }
 
@@ -324,6 +334,18 @@ impl<'a> Log<'a> {
             }
         }
     }
+}
+
+// No indexes, in the memory of these, unless it is too large to be kept.
+fn emptied(alloc: Global, indexes: Vec<usize>) -> Vec<usize>
+    ensures { result.items ≡ [] }
+{
+    if indexes.capacity() > MOST_INDEXES {
+        return Vec::new(alloc);
+    }
+    let mut indexes = indexes;
+    indexes.clear();
+    indexes
 }
 
 // Of `contains` alone an element counts only where it passed.

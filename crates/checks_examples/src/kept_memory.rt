@@ -1,9 +1,10 @@
 //! Evaluations one after the other in memory that is kept.
 
 use crate::documents::listed;
-use evaluator::{EvaluationMemory, evaluate_with};
+use evaluator::{EvaluationMemory, evaluate, evaluate_with};
 use json_doc::read;
 use linker::link;
+use std::alloc::Global;
 use std::test::Fail;
 
 const ITEM: &[(&str, &str)] = &[
@@ -47,4 +48,40 @@ fn no_answer_depends_on_what_is_kept(rt: HostRuntime) -> Result<(), Fail> {
         assert!(rt; report.text() == *answer, "{text}");
     }
     Ok(())
+}
+
+// Its first element is evaluated; the others are not, and have to be 1 at most.
+const PAIR: &[(&str, &str)] = &[(
+    "https://ex.org/pair",
+    r#"{"prefixItems":[{"minimum":2}],"unevaluatedItems":{"maximum":1}}"#,
+)];
+
+// How many elements the instances have: the output of the longest takes more than is kept.
+const LENGTHS: &[usize] = &[3, 300, 1, 10_000, 2, 0, 3];
+
+#[test]
+fn short_and_long_answers_are_those_of_new_memory(rt: HostRuntime) -> Result<(), Fail> {
+    let alloc = rt.alloc();
+    let mut source = listed(alloc, PAIR)?;
+    let linked = link(alloc, &mut source, "https://ex.org/pair")?;
+    let mut memory = EvaluationMemory::new(alloc);
+    for length in LENGTHS {
+        let instance = read(alloc, twos(alloc, *length)?.as_bytes())?;
+        let kept = evaluate_with(alloc, &linked, &instance, &mut memory)?;
+        let new = evaluate(alloc, &linked, &instance)?;
+        assert!(rt; kept.text() == new.text(), "{length}");
+        assert!(rt; kept.valid() == (*length < 2), "{length}");
+    }
+    Ok(())
+}
+
+// An array of so many twos.
+fn twos(alloc: Global, length: usize) -> Result<String, Fail> {
+    let mut text = String::new(alloc);
+    text.push_str("[")?;
+    for index in 0..length {
+        text.push_str(if index == 0 { "2" } else { ",2" })?;
+    }
+    text.push_str("]")?;
+    Ok(text)
 }

@@ -15,3 +15,4 @@ pub mod WholeTexts
 pub mod Grammar
 pub mod Numerals
 pub mod SameTexts
+pub mod Words

@@ -11,3 +11,4 @@ pub mod formers
 pub mod Reads
 pub mod Gathers
 pub mod NamedMembers
+pub mod Words

@@ -1,8 +1,9 @@
 //! Short texts, which stand in the value itself.
 
-ghost use Rattle.std.specs.Prelude.{◌≡◌, ◌≤◌, ◌<◌, IsTrue, length, take, true};
+ghost use Rattle.std.specs.Prelude.{◌≡◌, ◌≤◌, ◌<◌, ◌+◌, IsTrue, length, take, true};
 ghost use Rattle.std.specs.Option.{MatchOption};
 ghost use Rattle.std.specs.Str.{is_utf8};
+ghost use Rattle.json_doc.specs.Words.{word_at};
 
 use std::str;
 
@@ -59,7 +60,7 @@ impl ShortText {
     pub fn is_padded(&self, len: u32, padded: &[u8; SHORT]) -> bool
         ensures { IsTrue result → short_text self.now ≡ take len padded.now }
     {
-        self.len == len && self.bytes == *padded
+        self.len == len && are_same(&self.bytes, padded)
     }
 
     /// The text.
@@ -80,4 +81,36 @@ fn padded(text: &str) -> [u8; SHORT]
     let mut bytes = [0; SHORT];
     bytes[..text.len()].copy_from_slice(text.as_bytes());
     bytes
+}
+
+// Whether the bytes surely are the same: eight are compared at once.
+#[inline(always)]
+fn are_same(first: &[u8; SHORT], second: &[u8; SHORT]) -> bool
+    ensures { IsTrue result → first.now ≡ second.now }
+{
+    if word_at(first, 0) != word_at(second, 0) {
+        return false;
+    }
+    if word_at(first, 8) != word_at(second, 8) {
+        return false;
+    }
+    word_at(first, 16) == word_at(second, 16)
+}
+
+// Eight of the bytes, from there on, as a number.
+#[inline(always)]
+fn word_at(bytes: &[u8; SHORT], start: usize) -> u64
+    requires { start + 8 ≤ 24 }
+    ensures { result ≡ word_at start bytes.now }
+{
+    u64::from_le_bytes([
+        bytes[start],
+        bytes[start + 1],
+        bytes[start + 2],
+        bytes[start + 3],
+        bytes[start + 4],
+        bytes[start + 5],
+        bytes[start + 6],
+        bytes[start + 7],
+    ])
 }

@@ -9,3 +9,4 @@ pub mod SpanLaws
 pub mod UnitLaws
 pub mod BufferLaws
 pub mod Written
+pub mod UnescapedLaws

@@ -4,6 +4,6 @@
 const MOST_KEPT: usize = 1_048_576;
 
 /// Whether the memory of a text, of so many bytes, is kept for the next one: it doesn't stay large because of one large text.
-pub(crate) fn is_kept(capacity: usize) -> bool {
-    capacity <= MOST_KEPT
+pub(crate) fn is_kept(bytes: usize) -> bool {
+    bytes <= MOST_KEPT
 }

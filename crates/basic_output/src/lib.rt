@@ -4,14 +4,17 @@
 mod appending;
 mod keeping;
 mod location;
+mod made;
 mod origin;
 mod output;
+mod placing;
 mod pointer_memory;
 mod quoting;
 mod ready;
 mod saying;
 mod says;
 mod text_buffer;
+mod unescaped;
 mod unit;
 mod units;
 mod writing;

@@ -6,7 +6,7 @@ ghost use Rattle.definitions.specs.Pointers.{fragment_text};
 ghost use Rattle.locations.specs.Steps.{tokens};
 ghost use Rattle.basic_output.specs.Pieces.{IsHead, unit_head};
 
-use crate::quoting::are_unescaped;
+use crate::unescaped::are_unescaped;
 use locations::{Step, push_fragment};
 use std::alloc::{AllocError, Global};
 use std::rc::Rc;

@@ -11,6 +11,7 @@ ghost use Rattle.basic_output.specs.Pieces.{is_plain, is_unescaped, plain_text};
 ghost use Rattle.basic_output.specs.PointerViews.{origin_view};
 
 use crate::origin::Origin;
+use crate::unescaped::are_unescaped;
 use json::Writer;
 use keywords::Keyword;
 use locations::{Step, push_fragment, push_pointer};
@@ -282,21 +283,4 @@ fn is_plain(byte: u8) -> bool
     ensures { result ≡ is_plain byte }
 {
     PLAIN[byte as usize] != b','
-}
-
-/// Whether the text stands as it is in a string.
-pub(crate) fn are_unescaped(bytes: &[u8]) -> bool
-    ensures { result ≡ list_all is_unescaped bytes.now }
-{
-    let mut unescaped = true;
-    for byte in bytes {
-        unescaped &= is_unescaped(*byte);
-    }
-    unescaped
-}
-
-fn is_unescaped(byte: u8) -> bool
-    ensures { result ≡ is_unescaped byte }
-{
-    byte >= b' ' && byte != b'"' && byte != b'\\'
 }

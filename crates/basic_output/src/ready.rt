@@ -14,8 +14,8 @@ ghost use Rattle.basic_output.specs.declared.says.Says.{Says};
 ghost use Rattle.basic_output.specs.declared.says.Says.TheVariants as says;
 
 use crate::location::Location;
-use crate::quoting::are_unescaped;
 use crate::says::Says;
+use crate::unescaped::are_unescaped;
 use keywords::Keyword;
 
 /// A unit, but for what is the same in all: the texts stand in strings as they are.

@@ -5,13 +5,12 @@ ghost use Rattle.std.specs.List.{list_all};
 ghost use Rattle.definitions.specs.Texts.{text};
 ghost use Rattle.definitions.specs.Values.{integer, string};
 ghost use Rattle.json_doc.specs.Docs.{value};
-ghost use Rattle.basic_output.specs.Pieces.{array_text, is_unescaped, later_texts, plain_names_text};
+ghost use Rattle.basic_output.specs.Pieces.{array_text, is_unescaped, later_texts};
 ghost use Rattle.basic_output.specs.Sayings.{says_value};
 
-use crate::quoting::{
-    are_plain_bytes, are_unescaped, push_decimal, push_message, push_quoted, push_written,
-};
+use crate::quoting::{push_decimal, push_message, push_quoted, push_written};
 use crate::says::Says;
+use crate::unescaped::are_unescaped;
 use json::Writer;
 use json_doc::{Doc, write_doc};
 use std::alloc::AllocError;
@@ -52,48 +51,16 @@ fn push_other_value(out: &mut String, doc: &Doc) -> Result<(), AllocError>
     push_written(out, writer)
 }
 
-// The list of names.
-fn push_names(out: &mut String, names: &[&str]) -> Result<(), AllocError>
-    ensures { OnOk result (string_bytes out.new ≡ string_bytes out.old
-        ++ array_text (map (λ name. text (string name.now)) names.now)) }
-{
-    match names.split_first() {
-        Some((first, rest)) if are_all_unescaped(names) => push_plain_names(out, first, rest),
-        _ => push_other_names(out, names),
-    }
-}
-
-// Whether all of them stand in strings as they are.
-fn are_all_unescaped(names: &[&str]) -> bool
+/// Whether all of them stand in strings as they are.
+#[inline(always)]
+pub(crate) fn are_all_unescaped(names: &[&str]) -> bool
     ensures { result ≡ list_all (λ name. list_all is_unescaped name.now) names.now }
 {
-    names.iter().all(|name| is_unescaped_name(name))
+    names.iter().all(|name| are_unescaped(name.as_bytes()))
 }
 
-// Whether the name stands in a string as it is: most names are plain, which takes fewer instructions to see.
-#[inline(always)]
-fn is_unescaped_name(name: &str) -> bool
-    ensures { result ≡ list_all is_unescaped name.now }
-{
-    are_plain_bytes(name.as_bytes()) || are_unescaped(name.as_bytes())
-}
-
-// Names that stand as they are.
-fn push_plain_names(out: &mut String, first: &str, rest: &[&str]) -> Result<(), AllocError>
-    ensures { OnOk result (string_bytes out.new
-        ≡ string_bytes out.old ++ plain_names_text first.now rest.now) }
-{
-    out.push_str("[\"")?;
-    out.push_str(first)?;
-    for name in rest {
-        out.push_str("\",\"")?;
-        out.push_str(name)?;
-    }
-    out.push_str("\"]")
-}
-
-// Any names.
-fn push_other_names(out: &mut String, names: &[&str]) -> Result<(), AllocError>
+// The list of names.
+fn push_names(out: &mut String, names: &[&str]) -> Result<(), AllocError>
     ensures { OnOk result (string_bytes out.new ≡ string_bytes out.old
         ++ array_text (map (λ name. text (string name.now)) names.now)) }
 {

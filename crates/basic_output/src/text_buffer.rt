@@ -2,7 +2,6 @@
 
 ghost use Rattle.std.specs.Prelude.{◌≡◌, ◌≤◌, ◌∷◌, ◌++◌, [], if◌then◌else◌, is_ok, length, take, true};
 ghost use Rattle.std.specs.Str.{IsCharBoundary, is_utf8};
-ghost use Rattle.definitions.specs.Bytes.{slash};
 
 use crate::writing::{write_led, write_made};
 use std::alloc::{AllocError, Global};
@@ -14,6 +13,7 @@ use std::str;
 /// Contracts see the text, by `buffer_text`.
 #[derive(Debug, Drop)]
 pub(crate) struct TextBuffer {
+    /// The bytes, of which the first are the text's.
     pub(crate) bytes: Vec<u8>,
     /// How many of them are the text's.
     pub(crate) len: usize,
@@ -86,14 +86,14 @@ impl TextBuffer {
         Ok(())
     }
 
-    /// Appends a `/` and a text. The only error is want of memory, and then the text stays as it was.
+    /// Appends a text behind what leads it. The only error is want of memory, and then the text stays as it was.
     #[inline(always)]
-    pub(crate) fn push_led(&mut self, text: &str) -> Result<(), AllocError>
+    pub(crate) fn push_led(&mut self, lead: &str, text: &str) -> Result<(), AllocError>
         ensures { buffer_text self.new ≡ (if is_ok result
-            then buffer_text self.old ++ slash ∷ text.now
+            then buffer_text self.old ++ (lead.now ++ text.now)
             else buffer_text self.old) }
     {
-        self.len = write_led(&mut self.bytes, self.len, text)?;
+        self.len = write_led(&mut self.bytes, self.len, lead, text)?;
         Ok(())
     }
 }

@@ -4,19 +4,16 @@ ghost use Rattle.std.specs.Prelude.{◌≡◌, ◌≤◌, ◌∷◌, ◌++◌, �
 ghost use Rattle.std.specs.List.{All, insert};
 ghost use Rattle.basic_output.specs.Buffers.{buffer_text};
 ghost use Rattle.basic_output.specs.Pieces.{unit_text};
-ghost use Rattle.basic_output.specs.Ready.{AreReady, IsSaid};
-ghost use Rattle.basic_output.specs.Sayings.{says_value, unit_at};
-ghost use Rattle.definitions.specs.Texts.{text};
+ghost use Rattle.basic_output.specs.Ready.{AreReady};
+ghost use Rattle.basic_output.specs.Sayings.{unit_at};
 ghost use Rattle.basic_output.specs.declared.location.Location.{Location};
 ghost use Rattle.basic_output.specs.Spans.{IsSpan, ascends, last_reach, raise_from, span_text};
 
 use crate::keeping::is_kept;
 use crate::location::Location;
+use crate::made::Made;
 use crate::quoting::fragment_of;
-use crate::ready::{
-    ReadyLocation, Said, escaped_location, plain_said, ready_location, ready_unit, written_said,
-};
-use crate::saying::push_says;
+use crate::ready::{ReadyLocation, escaped_location, ready_location, ready_unit};
 use crate::says::Says;
 use crate::text_buffer::TextBuffer;
 use crate::unit::push_unit;
@@ -69,7 +66,7 @@ pub struct Units {
     // Where each stands, in the order of the units.
     spans: Vec<Span>,
     // What a unit says, or all of it, where that is made apart.
-    made: String,
+    made: Made,
     ghost are_spans: { All (IsSpan (buffer_text text)) spans.items },
     ghost ascend: { ascends 0 spans.items ≡ true },
 }
@@ -103,7 +100,7 @@ impl Units {
         Units {
             text: TextBuffer::new(alloc),
             spans: Vec::new(alloc),
-            made: String::new(alloc),
+            made: Made::new(alloc),
         }
     }
 
@@ -171,7 +168,7 @@ impl Units {
     pub fn clear(&mut self)
         ensures { unit_texts self.new ≡ [] }
     {
-        if is_kept(self.text.room()) && is_kept(self.made.capacity()) {
+        if is_kept(self.text.room()) && self.made.is_kept() {
             self.spans.clear();
             self.text.clear();
         } else {
@@ -201,7 +198,7 @@ impl Units {
 #[inline(always)]
 fn append_unit(
     out: &mut TextBuffer,
-    made: &mut String,
+    made: &mut Made,
     annotates: bool,
     location: Location<'_, '_>,
     says: Says<'_, '_>,
@@ -221,7 +218,7 @@ fn append_unit(
 #[inline(never)]
 fn append_other_unit(
     out: &mut TextBuffer,
-    made: &mut String,
+    made: &mut Made,
     annotates: bool,
     location: Location<'_, '_>,
     says: Says<'_, '_>,
@@ -234,10 +231,11 @@ fn append_other_unit(
     match escaped_location(location, onward.as_str()) {
         Some(ready) => append_ready_unit(out, made, annotates, ready, says),
         None => {
-            made.clear();
-            made.push_str(",")?;
-            push_unit(made, annotates, location, says)?;
-            out.push_str(made.as_str())
+            let unit = &mut made.text;
+            unit.clear();
+            unit.push_str(",")?;
+            push_unit(unit, annotates, location, says)?;
+            out.push_str(unit.as_str())
         }
     }
 }
@@ -246,7 +244,7 @@ fn append_other_unit(
 #[inline(always)]
 fn append_ready_unit(
     out: &mut TextBuffer,
-    made: &mut String,
+    made: &mut Made,
     annotates: bool,
     location: ReadyLocation<'_>,
     says: Says<'_, '_>,
@@ -256,23 +254,8 @@ fn append_ready_unit(
         then buffer_text out.old ++ 44 ∷ unit_text annotates (unit_at l says.entry)
         else buffer_text out.old) }
 {
-    let said = said_of(made, says)?;
+    let said = made.said(says)?;
     out.push_ready(ready_unit(annotates, location, said))
-}
-
-// What the unit says, which is written where it doesn't stand there as it is.
-#[inline(always)]
-fn said_of<'s>(made: &'s mut String, says: Says<'s, 's>) -> Result<Said<'s>, AllocError>
-    ensures { IfOk result (λ said. IsSaid said (text (says_value says.entry))) }
-{
-    match plain_said(says) {
-        Some(said) => Ok(said),
-        None => {
-            made.clear();
-            push_says(made, says)?;
-            Ok(written_said(made.as_str()))
-        }
-    }
 }
 
 // Puts a span at the position, before those that came later, which reach as far as it does now. The only error is want of

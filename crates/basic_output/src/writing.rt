@@ -2,9 +2,9 @@
 
 ghost use Rattle.std.specs.Prelude.{◌≡◌, ◌+◌, ◌≤◌, ◌<◌, ◌∷◌, ◌++◌, ℕ, length, take, true, IfOk, IfSome, OnErr, OnOk};
 ghost use Rattle.std.specs.Str.{is_utf8};
-ghost use Rattle.definitions.specs.Bytes.{slash};
 ghost use Rattle.basic_output.specs.WrittenOver.{IsWrittenOver};
 
+use crate::placing::place;
 use std::alloc::AllocError;
 
 /// How many bytes there is room for at least behind what is written, where room is made.
@@ -27,39 +27,44 @@ pub(crate) fn write_made(bytes: &mut Vec<u8>, start: usize, text: &str) -> Resul
     }
 }
 
-/// The same of a `/` and a text.
+/// The same of a text behind what leads it.
 #[inline(always)]
-pub(crate) fn write_led(bytes: &mut Vec<u8>, start: usize, text: &str) -> Result<usize, AllocError>
+pub(crate) fn write_led(
+    bytes: &mut Vec<u8>,
+    start: usize,
+    lead: &str,
+    text: &str,
+) -> Result<usize, AllocError>
     requires { start ≤ length bytes.old.items }
     ensures written { IfOk result (λ end.
-        IsWrittenOver start end (slash ∷ text.now) bytes.old.items bytes.new.items) }
+        IsWrittenOver start end (lead.now ++ text.now) bytes.old.items bytes.new.items) }
     ensures unchanged { OnErr result (bytes.new.items ≡ bytes.old.items) }
 {
-    match end_behind(start, text) {
+    match end_behind(start, lead, text) {
         Some(end) => {
             make_room(bytes, end)?;
-            Ok(write_behind(bytes.as_mut_slice(), start, text))
+            Ok(write_behind(bytes.as_mut_slice(), start, lead, text))
         }
         None => Err(AllocError),
     }
 }
 
-// Where the text ends behind a `/`, if an address holds the number.
+// Where the text ends behind what leads it, if an address holds the number.
 #[inline(always)]
-fn end_behind(start: usize, text: &str) -> Option<usize>
-    ensures { IfSome result (λ end. end ≡ start + 1 + length text.now) }
+fn end_behind(start: usize, lead: &str, text: &str) -> Option<usize>
+    ensures { IfSome result (λ end. end ≡ start + length lead.now + length text.now) }
 {
-    start.checked_add(1)?.checked_add(text.len())
+    start.checked_add(lead.len())?.checked_add(text.len())
 }
 
-// Writes a `/` and the text over the bytes from there on: the position behind it.
+// Writes the text behind what leads it over the bytes from there on: the position behind it.
 #[inline(always)]
-fn write_behind(bytes: &mut [u8], start: usize, text: &str) -> usize
-    requires { start + 1 + length text.now ≤ length bytes.old }
-    ensures written { IsWrittenOver start result (slash ∷ text.now) bytes.old bytes.new }
+fn write_behind(bytes: &mut [u8], start: usize, lead: &str, text: &str) -> usize
+    requires { start + length lead.now + length text.now ≤ length bytes.old }
+    ensures written { IsWrittenOver start result (lead.now ++ text.now) bytes.old bytes.new }
     ensures len { length bytes.new ≡ length bytes.old }
 {
-    let behind = write(bytes, start, "/");
+    let behind = write(bytes, start, lead);
     write(bytes, behind, text)
 }
 
@@ -99,7 +104,5 @@ pub(crate) fn write(bytes: &mut [u8], start: usize, text: &str) -> usize
     ensures len { length bytes.new ≡ length bytes.old }
     ensures utf8 { is_utf8 text.now ≡ true }
 {
-    let end = start + text.len();
-    bytes[start..end].copy_from_slice(text.as_bytes());
-    end
+    place(bytes, start, text.as_bytes())
 }

@@ -11,8 +11,9 @@ ghost use Rattle.basic_output.specs.PointerTexts.{are_plain_steps, front_text, t
 
 use crate::keeping::is_kept;
 use crate::pointer_memory::PointerMemory;
-use crate::quoting::{are_plain_bytes, are_unescaped};
+use crate::quoting::are_plain_bytes;
 use crate::text_buffer::TextBuffer;
+use crate::unescaped::are_unescaped;
 use keywords::Keyword;
 use locations::{Step, push_pointer};
 use std::alloc::{AllocError, Global};
@@ -283,7 +284,7 @@ fn push_keyword(text: &mut TextBuffer, keyword: Keyword) -> Result<Pushed, Alloc
     ensures { IfOk result (λ p.
         IsPushed p (row_of keyword).name (buffer_text text.old) (buffer_text text.new)) }
 {
-    text.push_led(keyword.name())?;
+    text.push_led("/", keyword.name())?;
     Ok(Pushed::Plain)
 }
 
@@ -294,7 +295,7 @@ fn push_index(text: &mut TextBuffer, index: usize) -> Result<Pushed, AllocError>
         IsPushed p (decimal index) (buffer_text text.old) (buffer_text text.new)) }
 {
     let mut digits = itoa::Buffer::new();
-    text.push_led(digits.format(index))?;
+    text.push_led("/", digits.format(index))?;
     Ok(Pushed::Plain)
 }
 
@@ -304,7 +305,7 @@ fn push_name(text: &mut TextBuffer, name: &str) -> Result<Pushed, AllocError>
     ensures { IfOk result (λ p. IsPushed p name.now (buffer_text text.old) (buffer_text text.new)) }
 {
     if are_plain_bytes(name.as_bytes()) {
-        text.push_led(name)?;
+        text.push_led("/", name)?;
         return Ok(Pushed::Plain);
     }
     push_other_name(text, name)

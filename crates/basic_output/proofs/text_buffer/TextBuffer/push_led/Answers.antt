@@ -1,5 +1,4 @@
-use Rattle.std.proofs.Common.{◌++◌, ◌∷◌, take, ap}
-use Rattle.definitions.specs.Bytes.{slash}
+use Rattle.std.proofs.Common.{◌++◌, take, ap}
 use Rattle.basic_output.specs.Buffers.{buffer_text}
 use Rattle.basic_output.proofs.BufferLaws.{left_by, written_behind}
 use Rattle.basic_output.proofs.text_buffer.TextBuffer.push_led.Goals as goal
@@ -7,7 +6,7 @@ use Rattle.basic_output.proofs.text_buffer.TextBuffer.push_led.Goals as goal
 pub invariant_of-self-2 : goal.invariant_of-self-2
 invariant_of-self-2 c =
     let is = c.in_ok-self.ensures.written in
-    record { within = is.within; utf8 = written_behind c.args.self.now c.in_ok-self.field-0 (slash ∷ c.args.text.now) c.write_led.new.bytes.items is }
+    record { within = is.within; utf8 = written_behind c.args.self.now c.in_ok-self.field-0 (c.args.lead.now ++ c.args.text.now) c.write_led.new.bytes.items is }
 
 pub returns : goal.returns
 unfolding buffer_text
@@ -17,4 +16,4 @@ pub returns-in_err-self : goal.returns-in_err-self
 unfolding buffer_text
 returns-in_err-self c =
     let b = c.args.self.now in
-    left_by c.from_residual.result (buffer_text b) (buffer_text b ++ slash ∷ c.args.text.now) _ c.from_residual.ensures.0 (ap (take b.len) c.in_err-self.ensures.unchanged)
+    left_by c.from_residual.result (buffer_text b) (buffer_text b ++ (c.args.lead.now ++ c.args.text.now)) _ c.from_residual.ensures.0 (ap (take b.len) c.in_err-self.ensures.unchanged)

@@ -176,10 +176,9 @@ impl Linked {
         ensures { IfSome result
             (λ r. IsReadAs (target_uri resource.now reference.now) (Some r.now)) }
     {
-        match self.holder(resource) {
-            Some(document) => document.absolute_reference(resource, reference),
-            None => None,
-        }
+        let number = self.document_number(resource)?;
+        self.document(number)?
+            .absolute_reference(resource, reference)
     }
 
     // What an absolute reference names first.

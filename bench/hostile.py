@@ -48,6 +48,13 @@ def check(schema, instance, uri=f"{SITE}s"):
     return [("k", "put", uri, schema), ("k", "validate", uri, instance)]
 
 
+def check_two(schema, instance):
+    """The same, where the schema refers to another document."""
+    other = {"$ref": f"{SITE}other"}
+    schema = {**schema, "$defs": {**schema.get("$defs", {}), "other": other}}
+    return [("k", "put", f"{SITE}other", {}), *check(schema, instance)]
+
+
 def repeated(part, size=BODY, front=b"[", back=b"]", between=b","):
     """So many bytes of a list, or of another body, of one part again and again."""
     count = (size - len(front) - len(back) + len(between)) // (len(part) + len(between))
@@ -220,6 +227,13 @@ CASES = [
     # -- applications times size
     Case("two references of 240 KB, followed 38,000 times in turn", lambda: check(*references_in_turn(19_000)), "200 valid"),
     Case("two patterns of 400 KB, searched for 66,000 times in turn", lambda: check(*patterns_in_turn(33_000)), "200 valid"),
+    Case("of two documents an $id of 900 KB, entered 99,000 times", lambda: check_two(
+        {"items": {"$id": "i" * 900_000, "type": "integer"}}, [0] * 99_000), "200 valid"),
+    Case("of two documents a reference in a resource of 400 KB, followed 49,000 times", lambda: check_two(
+        {"$ref": "i" * 400_000, "$defs": {"e": {"$id": "i" * 400_000, "items": {"$ref": "#/$defs/t"}, "$defs": {"t": True}}}},
+        [0] * 49_000), "200 valid"),
+    Case("of two documents two patterns of 400 KB, searched for 66,000 times in turn", lambda: check_two(
+        *patterns_in_turn(33_000)), "200 valid"),
     Case("required of 2,000 names by 2,000 schemas in place", lambda: check(
         {"allOf": [{"$ref": "#/$defs/r"}] * 2_000, "$defs": {"r": {"required": names(2_000)}}},
         {name: 1 for name in names(2_000)}), "200 valid", over="product"),

@@ -3,8 +3,8 @@
 use crate::text_buffer::TextBuffer;
 use std::alloc::Global;
 
-/// The memory that a pointer is written in, to be kept for the next one: at most 1,048,576 bytes for its text, and some for
-/// each step of it. No pointer depends on what is in it.
+/// The memory that a pointer is written in, to be kept for the next one: what its text of at most 1,048,576 bytes was written
+/// in, and some for each step of it. No pointer depends on what is in it.
 #[derive(Debug, Drop)]
 pub struct PointerMemory {
     pub(crate) text: TextBuffer,

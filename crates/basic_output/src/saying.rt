@@ -52,7 +52,6 @@ fn push_other_value(out: &mut String, doc: &Doc) -> Result<(), AllocError>
 }
 
 /// Whether all of them stand in strings as they are.
-#[inline(always)]
 pub(crate) fn are_all_unescaped(names: &[&str]) -> bool
     ensures { result ≡ list_all (λ name. list_all is_unescaped name.now) names.now }
 {

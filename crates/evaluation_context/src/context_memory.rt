@@ -4,7 +4,7 @@ use basic_output::PointerMemory;
 use std::alloc::Global;
 
 /// The memory that the evaluation path and the instance location of a context are written in, to be kept for the next context:
-/// at most 1,048,576 bytes for the text of each. No context depends on what is in it.
+/// what their texts of at most 1,048,576 bytes were written in. No context depends on what is in it.
 #[derive(Debug, Drop)]
 pub struct ContextMemory {
     pub(crate) path: PointerMemory,

@@ -17,5 +17,3 @@ pub mod DynamicAnchors
 pub mod ShortArrays
 pub mod Distinct
 pub mod StandingSchemas
-pub mod PlacedTexts
-pub mod LinkedTexts

@@ -1,14 +1,17 @@
 -- The document that a schema of linked documents stands in.
-use Rattle.std.proofs.Common.{◌≡◌, List, [], ◌∷◌, Some, Contains, length, option_and_then, option_map, ap, ap₂, ◌∙◌, subst, arith, append-nil, true}
-use Rattle.std.proofs.lemmas.Option.{same_Some}
+use Rattle.std.proofs.Common.{◌≡◌, ℕ, List, [], ◌∷◌, Option, Some, None, Contains, IfSome, find, length, option_and_then, option_map, sym, ap, ap₂, ◌∙◌, subst, arith, append-nil, true}
+use Rattle.std.proofs.lemmas.Option.{same_Some, slice_get-map}
 use Rattle.std.specs.Global.{Global}
 use Rattle.std.specs.List.{slice_get}
 use Rattle.std.specs.declared.rc.Rc.{Rc}
+use Rattle.definitions.specs.Lists.{has_repeat}
 use Rattle.definitions.specs.Reach.{holds_resource}
 use Rattle.definitions.specs.Scanning.{resource_uris}
-use Rattle.definitions.specs.Schemas.{Schema, table_of}
+use Rattle.definitions.specs.Schemas.{Document, Schema, schemas_of, table_of}
 use Rattle.definitions.specs.Values.{Text, same_text}
 use Rattle.lemmas.proofs.Texts.{same_text_itself}
+use Rattle.definition_laws.proofs.Repeats.{from_flat_map}
+use Rattle.definition_laws.proofs.Resources.{one_document, table_uris}
 use Rattle.schema_scan.specs.CompiledDocuments.{compiled_schemas, compiled_texts, compiled_view}
 use Rattle.schema_scan.specs.declared.compiled.Compiled.{Compiled}
 use Rattle.linker.specs.LinkedDocuments.{linked_documents, linked_schemas}
@@ -16,7 +19,7 @@ use Rattle.linker.specs.ReferenceNumbers.{StandsIn, document_at, pair_in, refere
 use Rattle.linker.specs.SharedDocuments.{shared_documents}
 use Rattle.linker.specs.declared.linked.Linked.{Linked}
 use Rattle.linker.specs.declared.references.ReferenceNumber.{ReferenceNumber}
-use Rattle.linker.proofs.Tables.{resource_held}
+use Rattle.linker.proofs.Tables.{found_holds, resource_held}
 
 -- the only one
 alone_among : (items : List (Rc Compiled Global)) (d : Compiled) (s : Schema) → length items ≡ 1 → option_map (λ (x : Rc Compiled Global). x.value) (slice_get items 0) ≡ Some d
@@ -30,6 +33,25 @@ alone_among (x ∷ y ∷ ys) d s one at inside = absurd (omega (arith, one))
 pub alone : (l : Linked) (s : Schema) → length l.documents.items ≡ 1 → Contains (linked_schemas l) s → StandsIn l s 0
 unfolding linked_documents document_at
 alone l s one inside d at = alone_among l.documents.items d s one at inside
+
+-- the one that holds the resource
+viewed : (o : Option (Rc Compiled Global)) (d : Compiled) → option_map (λ (x : Rc Compiled Global). x.value) o ≡ Some d → option_map (λ (x : Rc Compiled Global). compiled_view x.value) o ≡ Some (compiled_view d)
+viewed None d e = absurd (cc)
+viewed (Some x) d e = ap (λ (y : Compiled). Some (compiled_view y)) (same_Some _ _ e)
+
+pub held : (l : Linked) (s : Schema) (uri : Text) (n : Option ℕ) → option_and_then (slice_get (linked_documents l)) n ≡ find (holds_resource uri) (linked_documents l)
+    → Contains (linked_schemas l) s → s.resource ≡ uri → IfSome n (StandsIn l s)
+unfolding linked_documents shared_documents document_at
+held l s uri None e inside resource = tt
+held l s uri (Some n) e inside resource = λ d at.
+    let ds = linked_documents l in
+    let found : find (holds_resource uri) ds ≡ Some (compiled_view d) =
+    sym e ∙ slice_get-map (λ (x : Rc Compiled Global). compiled_view x.value) l.documents.items n ∙ viewed (slice_get l.documents.items n) d at in
+    let there = found_holds ds uri (compiled_view d) found in
+    let own = from_flat_map (λ (x : Document). schemas_of x.base x.value) s ds inside in
+    let holds : holds_resource uri own.0 ≡ true = resource_held own.0 uri s own.1.1 (ap (same_text uri) resource ∙ same_text_itself uri) in
+    let same : compiled_view d ≡ own.0 = one_document ds uri (compiled_view d) own.0 (ap (has_repeat same_text) (sym (table_uris ds)) ∙ l.distinct) there.0 own.1.0 there.1 holds in
+    subst (λ (x : Document). Contains (schemas_of x.base x.value) s) (sym same) own.1.1
 
 -- there its reference has its numbers
 pub numbered : (l : Linked) (s : Schema) (d : Compiled) (n : ReferenceNumber) (uri text : Text) → document_at l n.document ≡ Some d

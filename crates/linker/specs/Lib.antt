@@ -12,6 +12,4 @@ pub mod LinkFaults
 pub mod SoundLists
 pub mod Together
 pub mod ReferenceNumbers
-pub mod DocumentTexts
-pub mod LinkedTexts
 pub mod PatternNumbers

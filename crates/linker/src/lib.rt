@@ -3,20 +3,17 @@
 
 mod both;
 mod contents;
-mod document_texts;
 mod dynamic_resources;
 mod holders;
 mod insertion;
 mod judging;
 mod linked;
-mod linked_texts;
 mod linking;
 mod list_holding;
 mod list_source;
 mod lookups;
 mod named;
 mod pattern_numbers;
-mod placed_texts;
 mod references;
 mod source;
 mod visiting;

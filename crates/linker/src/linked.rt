@@ -1,20 +1,17 @@
 //! Linked documents.
 
-ghost use Rattle.std.specs.Prelude.{◌≡◌, [], true, false, IfSome, is_some, string_bytes};
-ghost use Rattle.std.proofs.Props.{props};
+ghost use Rattle.std.specs.Prelude.{◌≡◌, [], true, false, is_some, string_bytes};
 ghost use Rattle.definitions.specs.Values.{Text, same_text};
 ghost use Rattle.definitions.specs.Lists.{has_repeat};
 ghost use Rattle.definitions.specs.Reach.{missing_references};
 ghost use Rattle.definitions.specs.Scanning.{resource_uris};
 ghost use Rattle.definitions.specs.Schemas.{table_of};
 ghost use Rattle.definitions.specs.Targets.{resource_root, schema_with_dynamic_anchor};
-ghost use Rattle.linker.specs.DocumentTexts.{AreTextsOf};
 ghost use Rattle.linker.specs.SharedDocuments.{shared_documents};
 ghost use Rattle.schema_index.specs.DynamicResources.{has_resource};
 ghost use Rattle.std.specs.List.Sorted.{IsStrictlySortedBy-prop};
 ghost use Rattle.definitions.specs.Documents.{Ascend};
 
-use crate::linked_texts::LinkedTexts;
 use schema_scan::Compiled;
 use std::collections::{BTreeMap, BTreeSet};
 use std::rc::Rc;
@@ -29,8 +26,6 @@ pub struct Linked {
     pub(crate) documents: Vec<Rc<Compiled>>,
     // The URIs of the resources that have a dynamic anchor, by its name.
     pub(crate) dynamic_resources: BTreeMap<String, BTreeSet<String>>,
-    // Where there are several documents: what tells the document of a resource, of an `$id` and of a pattern.
-    pub(crate) texts: Option<LinkedTexts>,
     ghost ascend: { Ascend (shared_documents documents.items) } by { IsStrictlySortedBy-prop _ _ },
     ghost distinct: { has_repeat same_text (resource_uris (table_of (shared_documents documents.items))) ≡ false },
     ghost whole: { missing_references (shared_documents documents.items) ≡ [] },
@@ -38,5 +33,4 @@ pub struct Linked {
     ghost by_dynamic_anchor: { (uri name : Text) → has_resource dynamic_resources uri name
         ≡ is_some (schema_with_dynamic_anchor
         (table_of (shared_documents documents.items)) uri name) },
-    ghost by_text: { IfSome texts (AreTextsOf documents.items) } by { Prim.hlevel props },
 }

@@ -15,7 +15,6 @@ ghost use Rattle.linker.specs.SharedDocuments.{shared_documents};
 use crate::dynamic_resources::dynamic_resources_of;
 use crate::judging::least_missing;
 use crate::linked::Linked;
-use crate::linked_texts::LinkedTexts;
 use crate::source::Source;
 use crate::visiting::reached_documents;
 use faults::Fault;
@@ -42,13 +41,11 @@ pub fn link<S: Source>(alloc: Global, source: &mut S, resource: &str) -> Result<
     let documents = reached_documents(alloc, source, resource)?;
     judge(alloc, &documents)?;
     let dynamic_resources = dynamic_resources_of(alloc, &documents)?;
-    let texts = LinkedTexts::of_several(alloc, &documents)?;
     let uri = resource.to_owned(alloc)?;
     Ok(Linked {
         uri,
         documents,
         dynamic_resources,
-        texts,
     })
 }
 

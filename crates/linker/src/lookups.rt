@@ -176,9 +176,10 @@ impl Linked {
         ensures { IfSome result
             (λ r. IsReadAs (target_uri resource.now reference.now) (Some r.now)) }
     {
-        let number = self.document_number(resource)?;
-        self.document(number)?
-            .absolute_reference(resource, reference)
+        match self.holder(resource) {
+            Some(document) => document.absolute_reference(resource, reference),
+            None => None,
+        }
     }
 
     // What an absolute reference names first.

@@ -5,11 +5,11 @@ ghost use Rattle.definitions.specs.Scanning.{resource_uris};
 ghost use Rattle.definitions.specs.Schemas.{Schema};
 ghost use Rattle.definitions.specs.Values.{text_at};
 ghost use Rattle.linker.specs.LinkedDocuments.{linked_schemas};
-ghost use Rattle.linker.specs.LinkedTexts.{IsIdentifierNumber, linked_uris};
 ghost use Rattle.linker.specs.ReferenceNumbers.{StandsIn, document_at, pair_in, reference_pair};
 ghost use Rattle.schema_index.specs.ReferenceTexts.{HasReference};
 ghost use Rattle.schema_scan.specs.CompiledDocuments.{compiled_schemas};
 
+use crate::holders::holder_number;
 use crate::linked::Linked;
 use schema_scan::Compiled;
 
@@ -52,8 +52,8 @@ impl ReferenceNumber {
 
 impl Linked {
     /// The number of a reference of the documents' schemas: its text, and the URI of the resource that it stands in. Both are
-    /// told by the bytes in which they differ from others: of a reference that no schema has it answers nothing, or some
-    /// number. It takes no memory.
+    /// told by the bytes in which they differ from others, where one document is linked, and else the URI is compared: of a
+    /// reference that no schema has it answers nothing, or some number. It takes no memory.
     pub fn reference_number(&self, resource: &str, reference: &str) -> Option<ReferenceNumber>
         ensures { (s : Schema) → Contains (linked_schemas self.now) s → s.resource ≡ resource.now
             → HasReference s reference.now
@@ -79,55 +79,29 @@ impl Linked {
         }
     }
 
-    /// The URI of the resource that a schema with this `$id` opens, where the `$id` is told from those of all other resources by
-    /// the bytes in which they differ.
+    /// The URI of the resource that a schema with this `$id` opens, where one document is linked, and the `$id` is told from all
+    /// others by the bytes in which they differ.
     pub(crate) fn resource_identified(&self, id: &str) -> Option<&str>
         ensures { (s : Schema) → Contains (linked_schemas self.now) s → s.pointer ≡ []
             → text_at (codes "$id") s.value ≡ Some id.now
             → IfSome result (λ uri. uri.now ≡ s.resource) }
     {
-        if self.documents.as_slice().len() == 1 {
-            return self.document(0)?.resource_identified(id);
+        if self.documents.as_slice().len() != 1 {
+            return None;
         }
-        self.resource_numbered(self.identifier_number(id)?)
-    }
-
-    // Where several documents are linked, the number of the `$id` among those of all resources, where no other is the same.
-    fn identifier_number(&self, id: &str) -> Option<usize>
-        ensures { IfSome result (IsIdentifierNumber self.now id.now) }
-    {
-        match &self.texts {
-            Some(texts) => texts.identifiers.only_number(id),
-            None => None,
-        }
-    }
-
-    // Where several documents are linked, the URI of this number among those of all resources.
-    fn resource_numbered(&self, number: usize) -> Option<&str>
-        ensures { IfSome result (λ uri.
-            slice_get (linked_uris self.now) number ≡ Some uri.now) }
-    {
-        match &self.texts {
-            Some(texts) => {
-                let place = texts.resources.numbered(number)?;
-                uri_in(self.document(place.document)?, place.number)
-            }
-            None => None,
-        }
+        self.document(0)?.resource_identified(id)
     }
 
     // The number of the document that the schemas of the resource with this URI stand in.
-    pub(crate) fn document_number(&self, uri: &str) -> Option<usize>
+    fn document_number(&self, uri: &str) -> Option<usize>
         ensures { (s : Schema) → Contains (linked_schemas self.now) s → s.resource ≡ uri.now
             → IfSome result (StandsIn self.now s) }
     {
-        if self.documents.as_slice().len() == 1 {
+        let documents = self.documents.as_slice();
+        if documents.len() == 1 {
             return Some(0);
         }
-        match &self.texts {
-            Some(texts) => Some(texts.resources.place(uri)?.document),
-            None => None,
-        }
+        holder_number(documents, uri)
     }
 
     // The document of this number.

@@ -1,11 +1,10 @@
-use Rattle.std.proofs.Common.{◌≡◌, IfSome, None, is_some, string_bytes, ap, sym, ◌∙◌, subst}
+use Rattle.std.proofs.Common.{◌≡◌, None, is_some, string_bytes, ap, sym, ◌∙◌, subst}
 use Rattle.definitions.specs.Documents.{Ascend}
 use Rattle.definitions.specs.Scanning.{resource_uris}
 use Rattle.definitions.specs.Schemas.{table_of}
 use Rattle.definitions.specs.Targets.{schema_with_dynamic_anchor}
 use Rattle.definitions.specs.Values.{same_text}
 use Rattle.definitions.specs.Lists.{has_repeat}
-use Rattle.linker.specs.DocumentTexts.{AreTextsOf}
 use Rattle.linker.specs.LinkFaults.{link_fault}
 use Rattle.linker.specs.LinkedDocuments.{linked_uri, linked_documents}
 use Rattle.linker.specs.SharedDocuments.{shared_documents}
@@ -38,7 +37,6 @@ invariant_of-result g c =
       by_dynamic_anchor = λ uri name.
           c.in_ok-dynamic_resources.ensures.ok uri name
           ∙ ap (λ xs. is_some (schema_with_dynamic_anchor (table_of (shared_documents xs)) uri name)) c.deref-2.ensures.value;
-      by_text = subst (λ ds. IfSome c.in_ok-texts.texts (AreTextsOf ds)) c.deref-3.ensures.value c.in_ok-texts.ensures;
     }
 
 pub returns-clause-uri : goal.returns-clause-uri

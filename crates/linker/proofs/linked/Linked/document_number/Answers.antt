@@ -1,15 +1,18 @@
-use Rattle.std.proofs.Common.{length, IfSome, sym, ap, ◌∙◌, subst}
-use Rattle.linker.specs.DocumentTexts.{AreTextsOf}
-use Rattle.linker.proofs.LinkedTexts.{told_stands}
-use Rattle.linker.proofs.StandingSchemas.{alone}
+use Rattle.std.proofs.Common.{◌≡◌, length, find, option_and_then, sym, ap, ◌∙◌, subst}
+use Rattle.std.specs.List.{slice_get}
+use Rattle.definitions.specs.Reach.{holds_resource}
+use Rattle.linker.specs.LinkedDocuments.{linked_documents}
+use Rattle.linker.specs.SharedDocuments.{shared_documents}
+use Rattle.linker.proofs.StandingSchemas.{alone, held}
 use Rattle.linker.proofs.linked.Linked.document_number.Goals as goal
 
-pub returns-then-as_slice-eq1 : goal.returns-then-as_slice-eq1
-returns-then-as_slice-eq1 c = λ s inside resource.
-    alone c.args.self.now s (ap length (sym c.as_slice.ensures.value) ∙ c.if-as_slice-eq1.true) inside
+pub returns-then-documents-eq1 : goal.returns-then-documents-eq1
+returns-then-documents-eq1 c = λ s inside resource.
+    alone c.args.self.now s (ap length (sym c.as_slice-documents.ensures.value) ∙ c.if-documents-eq1.true) inside
 
-pub returns-in_ok-place-in-Some : goal.returns-in_ok-place-in-Some
-returns-in_ok-place-in-Some c = λ s inside resource.
-    let l = c.args.self.now in
-    let are = subst (λ o. IfSome o (AreTextsOf l.documents.items)) c.in-Some.is l.by_text in
-    told_stands l s c.args.uri.now c.in-Some.texts.resources c.in_ok-place-in-Some.field-0 are.resources c.in_ok-place-in-Some.ensures inside resource
+pub returns : goal.returns
+unfolding linked_documents
+returns c = λ s inside resource.
+    held c.args.self.now s c.args.uri.now c.holder_number.result
+    (subst (λ ds. option_and_then (slice_get (shared_documents ds)) c.holder_number.result ≡ find (holds_resource c.args.uri.now) (shared_documents ds)) c.as_slice-documents.ensures.value c.holder_number.ensures)
+    inside resource

@@ -1,5 +1,0 @@
-use Rattle.std.proofs.Common.{◌≡◌, ◌++◌, map, string_bytes, take}
-use Rattle.linker.proofs.document_texts.add_strings.Given as goal
-
-abbrev pub invariant-loop-string : goal.invariant-loop-string
-invariant-loop-string l = map (λ t. t.now) l.texts.items ≡ map (λ t. t.now) l.fn.texts.items ++ map string_bytes (take l.string-index l.strings)

@@ -84,14 +84,29 @@ use_groups-returns-clause-valid = object_keywords.use_groups-returns-clause-vali
 pub use_groups-returns-clause-noted : goal.use_groups-returns-clause-noted
 use_groups-returns-clause-noted = object_keywords.use_groups-returns-clause-noted
 
+pub use_group-returns-in-One-clause-valid : goal.use_group-returns-in-One-clause-valid
+use_group-returns-in-One-clause-valid = object_keywords.use_group-returns-in-One-clause-valid
+
+pub use_group-returns-in-One-clause-noted : goal.use_group-returns-in-One-clause-noted
+use_group-returns-in-One-clause-noted = object_keywords.use_group-returns-in-One-clause-noted
+
 pub use_group-returns-in-One-clause-err : goal.use_group-returns-in-One-clause-err
 use_group-returns-in-One-clause-err = object_keywords.use_group-returns-in-One-clause-err
+
+pub use_group-returns-in-Conditional-clause-valid : goal.use_group-returns-in-Conditional-clause-valid
+use_group-returns-in-Conditional-clause-valid = object_keywords.use_group-returns-in-Conditional-clause-valid
+
+pub use_group-returns-in-Conditional-clause-noted : goal.use_group-returns-in-Conditional-clause-noted
+use_group-returns-in-Conditional-clause-noted = object_keywords.use_group-returns-in-Conditional-clause-noted
 
 pub use_group-returns-in-Conditional-clause-err : goal.use_group-returns-in-Conditional-clause-err
 use_group-returns-in-Conditional-clause-err = object_keywords.use_group-returns-in-Conditional-clause-err
 
 pub use_group-returns-in-Counted-clause-valid : goal.use_group-returns-in-Counted-clause-valid
 use_group-returns-in-Counted-clause-valid = object_keywords.use_group-returns-in-Counted-clause-valid
+
+pub use_group-returns-in-Counted-clause-noted : goal.use_group-returns-in-Counted-clause-noted
+use_group-returns-in-Counted-clause-noted = object_keywords.use_group-returns-in-Counted-clause-noted
 
 pub use_group-returns-in-Counted-clause-err : goal.use_group-returns-in-Counted-clause-err
 use_group-returns-in-Counted-clause-err = object_keywords.use_group-returns-in-Counted-clause-err

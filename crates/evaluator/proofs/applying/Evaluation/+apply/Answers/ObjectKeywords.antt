@@ -171,14 +171,29 @@ use_groups-returns-clause-noted t c a at =
     let past : length first_groups ≤ c.loop-next.next = subst (λ gs. length gs ≤ c.loop-next.next) c.first_groups-groups.ensures c.loop-next-test.false in
     subst (λ gs. log_view c.loop-next.self.log ≡ notes_of_both (log_view c.args.self.now.log) (uses_notes a (groups_uses c.args.self.now.linked.now c.args.nesting a gs))) (take_all c.loop-next.next first_groups past) (c.loop-next.invariant.noted a at)
 
+pub use_group-returns-in-One-clause-valid : goal.use_group-returns-in-One-clause-valid
+use_group-returns-in-One-clause-valid t c a at most = rw c.in-One.is (c.use_one.ensures.valid a at most)
+
+pub use_group-returns-in-One-clause-noted : goal.use_group-returns-in-One-clause-noted
+use_group-returns-in-One-clause-noted t c a at most = rw c.in-One.is (c.use_one.ensures.noted a at most)
+
 pub use_group-returns-in-One-clause-err : goal.use_group-returns-in-One-clause-err
 use_group-returns-in-One-clause-err t c a at most = rw c.in-One.is (c.use_one.ensures.err a at most)
+
+pub use_group-returns-in-Conditional-clause-valid : goal.use_group-returns-in-Conditional-clause-valid
+use_group-returns-in-Conditional-clause-valid t c a at most = rw c.in-Conditional.is (c.use_conditional.ensures.valid a at)
+
+pub use_group-returns-in-Conditional-clause-noted : goal.use_group-returns-in-Conditional-clause-noted
+use_group-returns-in-Conditional-clause-noted t c a at most = rw c.in-Conditional.is (c.use_conditional.ensures.noted a at)
 
 pub use_group-returns-in-Conditional-clause-err : goal.use_group-returns-in-Conditional-clause-err
 use_group-returns-in-Conditional-clause-err t c a at most = rw c.in-Conditional.is (c.use_conditional.ensures.err a at)
 
 pub use_group-returns-in-Counted-clause-valid : goal.use_group-returns-in-Counted-clause-valid
 use_group-returns-in-Counted-clause-valid t c a at most = rw c.in-Counted.is (c.use_counted.ensures.valid a at)
+
+pub use_group-returns-in-Counted-clause-noted : goal.use_group-returns-in-Counted-clause-noted
+use_group-returns-in-Counted-clause-noted t c a at most = rw c.in-Counted.is (c.use_counted.ensures.noted a at)
 
 pub use_group-returns-in-Counted-clause-err : goal.use_group-returns-in-Counted-clause-err
 use_group-returns-in-Counted-clause-err t c a at most = rw c.in-Counted.is (c.use_counted.ensures.err a at)

@@ -16,7 +16,7 @@ use crate::lengths::{
 };
 use crate::names::{has_dependents, has_names};
 use crate::numbers::{is_below, is_multiple_if, is_not_above};
-use crate::types::is_of_types;
+use crate::types::{is_of_types, is_surely_of_type};
 use json_doc::{Doc, same};
 use keyword_shapes::fits;
 use keywords::{Keyword, Shape};
@@ -117,7 +117,25 @@ impl Assertion {
 /// Whether the keyword, with this value, holds of the instance (Validation, section 6). An instance of a kind that the
 /// keyword does not speak of passes, and a value that lacks the keyword's shape asks for nothing. The only error is want of
 /// memory, which `uniqueItems` alone takes, and only for an array of more than 16 elements.
+#[inline(always)]
 pub fn holds(
+    alloc: Global,
+    assertion: Assertion,
+    keyword_value: &Doc,
+    instance: &Doc,
+) -> Result<bool, AllocError>
+    ensures { IfOk result (λ b. b
+        ≡ holds (assertion_view assertion) (value keyword_value.now) (value instance.now)) }
+{
+    match assertion {
+        Assertion::TypeIs if is_surely_of_type(instance, keyword_value) => Ok(true),
+        _ => holds_in_full(alloc, assertion, keyword_value, instance),
+    }
+}
+
+// The same, whatever the keyword. It is called apart: what most objects ask is a type.
+#[inline(never)]
+fn holds_in_full(
     alloc: Global,
     assertion: Assertion,
     keyword_value: &Doc,

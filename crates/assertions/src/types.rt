@@ -34,6 +34,17 @@ pub(crate) fn is_of_types(instance: &Doc, types: &Doc) -> bool
     }
 }
 
+/// Whether the instance surely is of the type that this value names, which is told without a call.
+#[inline(always)]
+pub(crate) fn is_surely_of_type(instance: &Doc, name: &Doc) -> bool
+    ensures { IsTrue result → is_of_types (value instance.now) (value name.now) ≡ true }
+{
+    match name {
+        Doc::Short(name) => surely_has_type(instance, name),
+        _ => false,
+    }
+}
+
 fn is_of_one(instance: &Doc, types: &[Doc]) -> bool
     ensures { result ≡ list_any (λ d. is_of_type (value instance.now) (value d)) types.now }
 {

@@ -9,23 +9,23 @@ use Rattle.definitions.specs.Pointers.{Pointer}
 use Rattle.definitions.specs.Schemas.{Identity, Schema, schema_at}
 use Rattle.definitions.specs.Applied as definition
 use Rattle.definitions.specs.Applied.{Application, InstanceLocation, whole, named, indexed, name_of, part_location}
-use Rattle.json_doc.specs.Docs.{value}
-use Rattle.json_doc.specs.declared.doc.Doc.{Doc}
+use Rattle.std.specs.declared.alloc.Global.{Global}
+use Rattle.std.specs.declared.rc.Rc.{Rc}
 use Rattle.locations.specs.declared.step.Step.{Step}
 use Rattle.basic_output.specs.PointerViews.{origin_view}
-use Rattle.keyword_plans.specs.Followed.{target_view}
-use Rattle.keyword_plans.specs.Plans.{step_view, chosen_application}
-use Rattle.keyword_plans.specs.declared.planned.Chosen.{Chosen}
-use Rattle.keyword_plans.specs.declared.planned.Chosen.TheVariants as chosen
-use Rattle.keyword_plans.specs.declared.target.Target.{Target}
+use Rattle.basic_output.specs.declared.origin.Origin.{Origin}
+use Rattle.keyword_plans.specs.Followed.{schema_at_origin}
+use Rattle.keyword_plans.specs.Plans.{step_view, way_application, way_view}
+use Rattle.keyword_plans.specs.declared.planned.Way.{Way}
+use Rattle.keyword_plans.specs.declared.planned.Way.TheVariants as ways
 use Rattle.evaluation_context.specs.Frames.{Frame, frame_pointer, frame_standing}
 use Rattle.evaluation_context.specs.Standings.{Standing, at_keyword, standing_of}
-use Rattle.evaluation_context.specs.Moves.{frame_below, frame_at, at_origin, standing_at, chosen_way, chosen_schema}
+use Rattle.evaluation_context.specs.Moves.{frame_below, frame_at, at_origin, schema_on_way, standing_at}
 use Rattle.evaluation_context.proofs.FrameLaws.{same_standings, schema_entered, standing_below, stands_below}
 
--- the schema that is chosen at a standing
-abbrev pub schema_chosen : Standing → Chosen → Schema
-schema_chosen st chosen = chosen_schema st.resource st.pointer chosen
+-- the schema with this value, to which the way leads from a standing
+abbrev pub schema_from : Standing → Way → Value → Schema
+schema_from st w v = schema_on_way st.resource st.pointer w v
 
 abbrev pub schema_standing : Standing → Value → Schema
 schema_standing st v = schema_at st.resource st.pointer v
@@ -35,26 +35,32 @@ identified_below : (s : Schema) (st : Standing) (way : Pointer) → standing_at 
 unfolding standing_at
 identified_below s st way = same_standings (append-nil (st.path ++ way)) refl refl refl refl refl
 
-pub below_there : {T E : Type 0} (r : Result T E) (xs : List Schema) (f g h : Frame) (c : Chosen) (step : Option Step) (schema : Bor Doc) → f.onward ≤ length f.path → c ≡ chosen.Below step schema → g ≡ frame_below (step_view step) f
-    → (Contains xs (schema_standing (frame_standing g) (value schema.now)) → OnOk r (frame_standing h ≡ standing_at [] (schema_standing (frame_standing g) (value schema.now)) (frame_standing g)))
-    → Contains xs (schema_chosen (frame_standing f) c)
-    → OnOk r (frame_standing h ≡ standing_at (chosen_way c) (schema_chosen (frame_standing f) c) (frame_standing f))
-below_there r xs f g h c step schema within is e there contains =
+from_below : (st : Standing) (w : Way) (v : Value) → ((o : Rc Origin Global) → w ≡ ways.Target o → ⊥) → schema_from st w v ≡ schema_at st.resource (st.pointer ++ way_view w) v
+from_below st ways.Own v other = refl
+from_below st (ways.Member name) v other = refl
+from_below st (ways.Element i) v other = refl
+from_below st (ways.Target o) v other = absurd (other o refl)
+
+pub below_there : {T E : Type 0} (r : Result T E) (xs : List Schema) (f g h : Frame) (w : Way) (v : Value) (step : Option Step) → f.onward ≤ length f.path
+    → ((o : Rc Origin Global) → w ≡ ways.Target o → ⊥) → step_view step ≡ way_view w → g ≡ frame_below (step_view step) f
+    → (Contains xs (schema_standing (frame_standing g) v) → OnOk r (frame_standing h ≡ standing_at [] (schema_standing (frame_standing g) v) (frame_standing g)))
+    → Contains xs (schema_from (frame_standing f) w v) → OnOk r (frame_standing h ≡ standing_at (way_view w) (schema_from (frame_standing f) w v) (frame_standing f))
+below_there r xs f g h w v step within other way e there contains =
     let st = frame_standing f in
-    let s = schema_standing (frame_standing g) (value schema.now) in
-    let t = schema_chosen st c in
-    let stands : frame_standing g ≡ standing_below (step_view step) st = ap frame_standing e ∙ stands_below (step_view step) f within in
-    let same : s ≡ t = ap (λ x. schema_standing x (value schema.now)) stands ∙ ap (schema_chosen st) (sym is) in
-    let arrived : standing_at [] s (frame_standing g) ≡ standing_at (chosen_way c) t st =
-    ap (standing_at [] s) stands ∙ identified_below s st (step_view step) ∙ ap₂ (λ w x. standing_at w x st) (ap chosen_way (sym is)) same in
+    let s = schema_standing (frame_standing g) v in
+    let t = schema_from st w v in
+    let stands : frame_standing g ≡ standing_below (way_view w) st = ap frame_standing e ∙ stands_below (step_view step) f within ∙ ap (λ p. standing_below p st) way in
+    let same : s ≡ t = ap (λ x. schema_standing x v) stands ∙ sym (from_below st w v other) in
+    let arrived : standing_at [] s (frame_standing g) ≡ standing_at (way_view w) t st =
+    ap (standing_at [] s) stands ∙ identified_below s st (way_view w) ∙ ap (λ x. standing_at (way_view w) x st) same in
     on_ok_weaker r (λ o. o ∙ arrived) (there (subst (Contains xs) (sym same) contains))
 
 -- ---- at what a reference names
-pub target_there : (f h : Frame) (c : Chosen) (target : Target) (origin : Identity) → c ≡ chosen.Target target → origin ≡ origin_view target.origin.value → h ≡ at_origin origin f
-    → frame_standing h ≡ standing_at (chosen_way c) (schema_chosen (frame_standing f) c) (frame_standing f)
-target_there f h c target origin is same e =
-    ap frame_standing e ∙ schema_entered origin (target_view target) f (ap (λ (i : Identity). i.0) same) (ap (λ (i : Identity). i.1) same)
-    ∙ ap (λ x. standing_at (chosen_way x) (schema_chosen (frame_standing f) x) (frame_standing f)) (sym is)
+pub target_there : (f h : Frame) (w : Way) (v : Value) (o : Rc Origin Global) (origin : Identity) → w ≡ ways.Target o → origin ≡ origin_view o.value → h ≡ at_origin origin f
+    → frame_standing h ≡ standing_at (way_view w) (schema_from (frame_standing f) w v) (frame_standing f)
+target_there f h w v o origin is same e =
+    ap frame_standing e ∙ schema_entered origin (schema_at_origin o.value v) f (ap (λ (i : Identity). i.0) same) (ap (λ (i : Identity). i.1) same)
+    ∙ ap (λ x. standing_at (way_view x) (schema_from (frame_standing f) x v) (frame_standing f)) (sym is)
 
 -- ---- to the part of the instance
 pub front_of_part : (p : InstanceLocation) (part : definition.Part) → take (length p.pointer) (part_location p part).pointer ≡ p.pointer
@@ -82,12 +88,23 @@ schema_here : (st : Standing) (a : Application) (k : Text) (way : Pointer) (v : 
 schema_here st a k way v here =
     ap (λ (x : Standing). schema_at x.resource (x.pointer ++ way) v) here ∙ ap (λ p. schema_at a.schema.resource p v) (append_assoc a.schema.pointer (k ∷ []) way)
 
-pub planned_there : (xs : List Schema) (f g h : Frame) (a : Application) (k : Text) (c : Chosen) (part : definition.Part) (x : Value) → frame_standing f ≡ at_keyword k (standing_of a)
+-- where the way leads below the keyword
+below_planned : (xs : List Schema) (f g h : Frame) (a : Application) (k : Text) (way : Pointer) (v : Value) (part : definition.Part) (t : Schema) → frame_standing f ≡ at_keyword k (standing_of a)
     → h ≡ frame_at (part_location g.instance_location part) g
-    → (Contains xs (schema_chosen (frame_standing f) c) → frame_standing g ≡ standing_at (chosen_way c) (schema_chosen (frame_standing f) c) (frame_standing f))
-    → Contains xs (chosen_application k a c part x).schema → frame_standing h ≡ standing_of (chosen_application k a c part x)
-planned_there xs f g h a k (chosen.Below step schema) part x here last there contains =
-    let same = schema_here (frame_standing f) a k (step_view step) (value schema.now) here in
-    arrived f g h a k (step_view step) (k ∷ step_view step) _ _ part here last (there (subst (Contains xs) (sym same) contains)) refl same
-planned_there xs f g h a k (chosen.Target target) part x here last there contains =
+    → (Contains xs (schema_at (frame_standing f).resource ((frame_standing f).pointer ++ way) v)
+    → frame_standing g ≡ standing_at way (schema_at (frame_standing f).resource ((frame_standing f).pointer ++ way) v) (frame_standing f))
+    → t ≡ schema_at a.schema.resource (a.schema.pointer ++ k ∷ way) v → Contains xs t
+    → frame_standing h ≡ record { path = a.path ++ k ∷ way; resource = t.resource; pointer = t.pointer; instance_location = part_location a.instance_location part; scope = a.scope; running = a.running }
+below_planned xs f g h a k way v part t here last there is contains =
+    let same = schema_here (frame_standing f) a k way v here ∙ sym is in
+    arrived f g h a k way (k ∷ way) _ t part here last (there (subst (Contains xs) (sym same) contains)) refl same
+
+pub planned_there : (xs : List Schema) (f g h : Frame) (a : Application) (k : Text) (w : Way) (v : Value) (part : definition.Part) (x : Value) → frame_standing f ≡ at_keyword k (standing_of a)
+    → h ≡ frame_at (part_location g.instance_location part) g
+    → (Contains xs (schema_from (frame_standing f) w v) → frame_standing g ≡ standing_at (way_view w) (schema_from (frame_standing f) w v) (frame_standing f))
+    → Contains xs (way_application k a w v part x).schema → frame_standing h ≡ standing_of (way_application k a w v part x)
+planned_there xs f g h a k ways.Own v part x here last there contains = below_planned xs f g h a k [] v part _ here last there refl contains
+planned_there xs f g h a k (ways.Member name) v part x here last there contains = below_planned xs f g h a k (way_view (ways.Member name)) v part _ here last there refl contains
+planned_there xs f g h a k (ways.Element i) v part x here last there contains = below_planned xs f g h a k (way_view (ways.Element i)) v part _ here last there refl contains
+planned_there xs f g h a k (ways.Target origin) v part x here last there contains =
     arrived f g h a k [] (k ∷ []) _ _ part here last (there contains) refl refl

@@ -1,14 +1,13 @@
 -- Where a context stands after a move.
 use Rattle.std.specs.Prelude.{◌≡◌, ◌+◌, ◌++◌, [], length, take}
-use Rattle.definitions.specs.Values.{Text}
+use Rattle.definitions.specs.Values.{Text, Value}
 use Rattle.definitions.specs.Pointers.{Pointer}
 use Rattle.definitions.specs.Schemas.{Identity, Schema, schema_at}
 use Rattle.definitions.specs.Applied.{InstanceLocation}
-use Rattle.json_doc.specs.Docs.{value}
-use Rattle.keyword_plans.specs.Followed.{target_view}
-use Rattle.keyword_plans.specs.Plans.{step_view}
-use Rattle.keyword_plans.specs.declared.planned.Chosen.{Chosen}
-use Rattle.keyword_plans.specs.declared.planned.Chosen.TheVariants.{Below, Target}
+use Rattle.keyword_plans.specs.Followed.{schema_at_origin}
+use Rattle.keyword_plans.specs.Plans.{way_view}
+use Rattle.keyword_plans.specs.declared.planned.Way.{Way}
+use Rattle.keyword_plans.specs.declared.planned.Way.TheVariants.{Own, Member, Element, Target}
 use Rattle.evaluation_context.specs.Frames.{Frame}
 use Rattle.evaluation_context.specs.Standings.{Standing}
 
@@ -28,14 +27,12 @@ at_origin origin f = record f { origin = origin; onward = 0 }
 unfoldable pub standing_at : Pointer → Schema → Standing → Standing
 standing_at way s st = record st { path = st.path ++ way; resource = s.resource; pointer = s.pointer }
 
--- how far the path leads to what is chosen, and the schema that is chosen, in the resource and at the pointer of a keyword
-abbrev pub chosen_way : Chosen → Pointer
-chosen_way (Below step schema) = step_view step
-chosen_way (Target target) = []
-
-abbrev pub chosen_schema : Text → Pointer → Chosen → Schema
-chosen_schema resource pointer (Below step schema) = schema_at resource (pointer ++ step_view step) (value schema.now)
-chosen_schema resource pointer (Target target) = target_view target
+-- the schema with the value v to which the way leads, in the resource and at the pointer of a keyword
+abbrev pub schema_on_way : Text → Pointer → Way → Value → Schema
+schema_on_way resource pointer Own v = schema_at resource (pointer ++ way_view Own) v
+schema_on_way resource pointer (Member name) v = schema_at resource (pointer ++ way_view (Member name)) v
+schema_on_way resource pointer (Element i) v = schema_at resource (pointer ++ way_view (Element i)) v
+schema_on_way resource pointer (Target origin) v = schema_at_origin origin.value v
 
 -- the older frame still stands in front of the newer one, but for its origin and its name
 pub record Onward (older newer : Frame) : Type 0 where

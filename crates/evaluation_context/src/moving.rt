@@ -8,19 +8,19 @@ ghost use Rattle.definitions.specs.Uris.{without_fragment};
 ghost use Rattle.definitions.specs.Applied.{Application, part_location};
 ghost use Rattle.basic_output.specs.PointerViews.{origin_view};
 ghost use Rattle.json_doc.specs.Docs.{value};
-ghost use Rattle.keyword_plans.specs.Plans.{part_view, planned_view, step_view};
+ghost use Rattle.keyword_plans.specs.Plans.{part_view, planned_view, step_view, way_view};
 ghost use Rattle.keyword_plans.specs.ScopeViews.{scope_documents};
 ghost use Rattle.linker.specs.LinkedDocuments.{linked_schemas};
 ghost use Rattle.evaluation_context.specs.Standings.{at_keyword, standing_of};
 ghost use Rattle.evaluation_context.specs.Frames.{Frame, context_view, frame_standing};
-ghost use Rattle.evaluation_context.specs.Moves.{Onward, at_origin, chosen_schema, chosen_way, frame_at, frame_below, standing_at};
+ghost use Rattle.evaluation_context.specs.Moves.{Onward, at_origin, frame_at, frame_below, schema_on_way, standing_at};
 ghost use Rattle.evaluation_context.specs.Returns.{CameFrom, origin_before};
 
 use crate::context::{Context, Return};
 use crate::identifier::identifier;
 use basic_output::Origin;
 use json_doc::Doc;
-use keyword_plans::{Chosen, Part, Planned};
+use keyword_plans::{Part, Planned, Way};
 use linker::Linked;
 use locations::Step;
 use std::alloc::{AllocError, Global};
@@ -48,7 +48,7 @@ impl<'a> Context<'a> {
         let onward = self.onward;
         let instance_location = self.running.instance_location().len();
         let name = self.name;
-        let origin = self.enter_chosen(alloc, linked, &planned.chosen)?;
+        let origin = self.enter_chosen(alloc, linked, planned)?;
         self.enter_part(planned.part)?;
         Ok(Return {
             path,
@@ -85,27 +85,28 @@ impl<'a> Context<'a> {
         &mut self,
         alloc: Global,
         linked: &'a Linked,
-        chosen: &Chosen<'a>,
+        planned: &Planned<'a>,
     ) -> Result<Option<Rc<Origin<'a>>>, AllocError>
         ensures there { let st = frame_standing (context_view self.old) in
-            let s = chosen_schema st.resource st.pointer chosen.now in
+            let p = planned.now in
+            let s = schema_on_way st.resource st.pointer p.way (value p.schema.now) in
             Contains (linked_schemas linked.now) s
             → OnOk result (frame_standing (context_view self.new)
-            ≡ standing_at (chosen_way chosen.now) s st) }
+            ≡ standing_at (way_view p.way) s st) }
         ensures onward { OnOk result (Onward (context_view self.old) (context_view self.new)) }
         ensures left { IfOk result
             (λ left. origin_before left (context_view self.new).origin
             ≡ (context_view self.old).origin) }
         ensures documents { scope_documents self.new.scope ≡ scope_documents self.old.scope }
     {
-        match chosen {
-            Chosen::Below(step, schema) => {
-                self.enter_step(*step)?;
-                self.enter_schema(alloc, linked, schema)
-            }
-            Chosen::Target(target) => {
-                let left = self.enter_origin(target.origin.clone()?);
+        match &planned.way {
+            Way::Target(origin) => {
+                let left = self.enter_origin(origin.clone()?);
                 Ok(Some(left))
+            }
+            below => {
+                self.enter_step(below.step())?;
+                self.enter_schema(alloc, linked, planned.schema)
             }
         }
     }
@@ -173,9 +174,9 @@ impl<'a> Context<'a> {
     {
         match part {
             Part::Whole => {}
-            Part::Member(name) => self.running.deepen(Step::Name(name))?,
+            Part::Member(name) => self.running.deepen(Step::Name(name.as_str()))?,
             Part::Element(index) => self.running.deepen(Step::Index(index))?,
-            Part::NameOf(name) => self.name = Some(name),
+            Part::NameOf(name) => self.name = Some(name.as_str()),
         }
         Ok(())
     }

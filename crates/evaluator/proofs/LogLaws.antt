@@ -8,6 +8,7 @@ use Rattle.definitions.specs.Values.{Text}
 use Rattle.definitions.specs.Applied.{Outcome, OutputUnit}
 use Rattle.definitions.specs.Outcomes.{leaf}
 use Rattle.basic_output.specs.Pieces.{unit_text}
+use Rattle.evaluator.specs.Silences.{IsSilent}
 use Rattle.evaluator.specs.Notes.{IsOver, Notes, Lengths, annotation_texts, notes_of_both, no_notes, one_application, outcome_notes}
 use Rattle.evaluator.specs.Tallies.{Tally, no_tally, tally_of_both}
 
@@ -95,6 +96,10 @@ pub index_after : (older : Notes) (o : Outcome) (index : ℕ) → notes_of_both 
 unfolding notes_of_both
 index_after older o index =
     same_notes (append-nil _) (append-nil _) (append-nil _) (append_assoc older.indexes [] (index ∷ [])) (tallied_nothing _)
+
+-- what passes without a word evaluated nothing
+pub silent_before : (o : Outcome) → IsSilent o → one_application ≡ record (outcome_notes o) { names = []; indexes = [] }
+silent_before o silent = ap (λ (n : Notes). record n { names = []; indexes = [] }) (sym silent.noted)
 
 -- ---- an application's own error
 pub error_after : (n mid : Notes) (t : Text) → mid ≡ notes_of_both n one_application

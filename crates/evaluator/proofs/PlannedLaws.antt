@@ -13,28 +13,32 @@ use Rattle.lemmas.proofs.Lists.{flat_map-push, map-take_more}
 use Rattle.definition_laws.proofs.Places.{value-opened}
 use Rattle.json_doc.specs.Docs.{value}
 use Rattle.linker.specs.declared.linked.Linked.{Linked}
-use Rattle.keyword_plans.specs.Plans.{chosen_application, part_view, planned_view}
+use Rattle.keyword_plans.specs.Plans.{part_view, planned_view, way_application}
 use Rattle.keyword_plans.specs.Subjects.{subject_value}
 use Rattle.keyword_plans.specs.declared.planned.Planned.{Planned}
-use Rattle.keyword_plans.specs.declared.planned.Chosen.{Chosen}
-use Rattle.keyword_plans.specs.declared.planned.Chosen.TheVariants.{Below, Target}
+use Rattle.keyword_plans.specs.declared.planned.Way.{Way}
+use Rattle.keyword_plans.specs.declared.planned.Way.TheVariants.{Own, Member, Element, Target}
 use Rattle.evaluation_context.specs.Frames.{Frame, frame_standing}
 use Rattle.evaluation_context.specs.Standings.{Standing, application_at, standing_of}
 use Rattle.evaluator.specs.Findings.{FindsAll, Outcomes}
 use Rattle.evaluator.specs.Notes.{IsOver, Notes, notes_of_both, part_notes, parts_notes}
 use Rattle.evaluator.specs.Tallies.{Tally, outcome_tally, parts_tally, tally_of_both}
-use Rattle.evaluator.specs.Rounds.{IsAt, IsKnown, chosen_value}
+use Rattle.evaluator.specs.Rounds.{IsAt, IsKnown}
 use Rattle.evaluator.specs.declared.applied.Applied.{Applied}
 use Rattle.evaluator.proofs.LogLaws.{added_twice, same_notes, same_tallies, tally_of}
 
 -- ---- where a planned application stands
-pub chosen_schema_value : (k : Text) (a : Application) (chosen : Chosen) (part : definition.Part) (x : Value) → (chosen_application k a chosen part x).schema.value ≡ chosen_value chosen
-chosen_schema_value k a (Below step schema) part x = value-opened a.schema.resource _ (value schema.now) _
-chosen_schema_value k a (Target target) part x = refl
+pub schema_value_planned : (k : Text) (a : Application) (way : Way) (v : Value) (part : definition.Part) (x : Value) → (way_application k a way v part x).schema.value ≡ v
+schema_value_planned k a Own v part x = value-opened a.schema.resource _ v _
+schema_value_planned k a (Member name) v part x = value-opened a.schema.resource _ v _
+schema_value_planned k a (Element i) v part x = value-opened a.schema.resource _ v _
+schema_value_planned k a (Target origin) v part x = refl
 
-pub chosen_instance : (k : Text) (a : Application) (chosen : Chosen) (part : definition.Part) (x : Value) → (chosen_application k a chosen part x).instance ≡ x
-chosen_instance k a (Below step schema) part x = refl
-chosen_instance k a (Target target) part x = refl
+pub instance_planned : (k : Text) (a : Application) (way : Way) (v : Value) (part : definition.Part) (x : Value) → (way_application k a way v part x).instance ≡ x
+instance_planned k a Own v part x = refl
+instance_planned k a (Member name) v part x = refl
+instance_planned k a (Element i) v part x = refl
+instance_planned k a (Target origin) v part x = refl
 
 at_itself : (a : Application) → application_at (standing_of a) a.schema.value a.instance ≡ a
 at_itself a = refl
@@ -42,12 +46,13 @@ at_itself a = refl
 at_same : (a : Application) (st : Standing) (s x : Value) → st ≡ standing_of a → a.schema.value ≡ s → a.instance ≡ x → a ≡ application_at st s x
 at_same a st s x e v i = sym (at_itself a) ∙ ap (λ u. application_at (standing_of a) u a.instance) v ∙ ap (application_at (standing_of a) s) i ∙ ap (λ t. application_at t s x) (sym e)
 
-pub planned_at : (l : Linked) (f : Frame) (k : Text) (a : Application) (p : Planned) (s : Value) → frame_standing f ≡ standing_of (planned_view k a p).1 → s ≡ chosen_value p.chosen
+pub planned_at : (l : Linked) (f : Frame) (k : Text) (a : Application) (p : Planned) (s : Value) → frame_standing f ≡ standing_of (planned_view k a p).1 → s ≡ value p.schema.now
     → IsKnown l k a p → IsAt l f s (subject_value p.subject) (planned_view k a p).1
 planned_at l f k a p s e v known = record {
   there =
       at_same (planned_view k a p).1 (frame_standing f) s (subject_value p.subject) e
-      (chosen_schema_value k a p.chosen (part_view p.part) (subject_value p.subject) ∙ sym v) (chosen_instance k a p.chosen (part_view p.part) (subject_value p.subject));
+      (schema_value_planned k a p.way (value p.schema.now) (part_view p.part) (subject_value p.subject) ∙ sym v)
+      (instance_planned k a p.way (value p.schema.now) (part_view p.part) (subject_value p.subject));
   inside = known;
 }
 

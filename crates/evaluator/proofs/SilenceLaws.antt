@@ -11,14 +11,15 @@ use Rattle.definitions.specs.Applied.{Application, Outcome, part_location}
 use Rattle.definitions.specs.Schemas.{Identity, identity}
 use Rattle.definitions.specs.Outcomes.{Use, is_running, other_annotations, outcome_of_uses}
 use Rattle.assertions.specs.AssertionView.{assertion_in}
+use Rattle.json_doc.specs.Docs.{value}
 use Rattle.json_doc.specs.Kinds.{as_boolean}
 use Rattle.linker.specs.declared.linked.Linked.{Linked}
-use Rattle.keyword_plans.specs.Plans.{chosen_application, part_view, planned_view}
+use Rattle.keyword_plans.specs.Plans.{part_view, planned_view, way_application}
 use Rattle.keyword_plans.specs.Sites.{linked_rules}
 use Rattle.keyword_plans.specs.Subjects.{subject_value}
 use Rattle.keyword_plans.specs.declared.planned.Planned.{Planned}
-use Rattle.keyword_plans.specs.declared.planned.Chosen.{Chosen}
-use Rattle.keyword_plans.specs.declared.planned.Chosen.TheVariants.{Below, Target}
+use Rattle.keyword_plans.specs.declared.planned.Way.{Way}
+use Rattle.keyword_plans.specs.declared.planned.Way.TheVariants.{Own, Member, Element, Target}
 use Rattle.keywords.specs.Rows.{row_of}
 use Rattle.keywords.specs.declared.group.Group.TheVariants.{One}
 use Rattle.keywords.specs.declared.keyword.Keyword.{Keyword}
@@ -61,18 +62,20 @@ pub absent_silent : (l : Linked) (left : ℕ) (a : Application) (k : Keyword) �
 absent_silent l left a k gone = none_silent a (group_uses l left a (One k)) (absent_use l left a k gone)
 
 -- ---- what is planned below the instance location isn't being applied
-running_of_chosen : (k : Text) (a : Application) (chosen : Chosen) (part : definition.Part) (x : Value)
-    → let b = chosen_application k a chosen part x in
+running_planned : (k : Text) (a : Application) (way : Way) (v : Value) (part : definition.Part) (x : Value)
+    → let b = way_application k a way v part x in
     is_running b ≡ (is_object b.schema.value && list_any (is_running_as (identity b.schema) (part_location a.instance_location part)) a.running)
-running_of_chosen k a (Below step schema) part x = refl
-running_of_chosen k a (Target target) part x = refl
+running_planned k a Own v part x = refl
+running_planned k a (Member name) v part x = refl
+running_planned k a (Element i) v part x = refl
+running_planned k a (Target origin) v part x = refl
 
 pub apart_below : (st : Standing) (k : Text) (a : Application) (p : Planned) → st ≡ at_keyword k (standing_of a)
     → ((i : Identity) → list_any (is_running_as i (part_location st.instance_location (part_view p.part))) st.running ≡ false)
     → is_running (planned_view k a p).1 ≡ false
 apart_below st k a p under none =
     let b = (planned_view k a p).1 in
-    running_of_chosen k a p.chosen (part_view p.part) (subject_value p.subject)
+    running_planned k a p.way (value p.schema.now) (part_view p.part) (subject_value p.subject)
     ∙ and_right (is_object b.schema.value) _
     (subst (λ (s : Standing). list_any (is_running_as (identity b.schema) (part_location s.instance_location (part_view p.part))) s.running ≡ false) under (none (identity b.schema)))
 

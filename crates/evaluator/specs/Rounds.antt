@@ -5,7 +5,6 @@ use Rattle.definitions.specs.Keywords.{Meaning}
 use Rattle.definitions.specs.Applied as definition
 use Rattle.definitions.specs.Applied.{Application, Outcome, condition_outcome, contains_outcomes}
 use Rattle.definitions.specs.Outcomes.{Use, boolean_outcome, leaf, outcome, use_of, uses_by_keyword, uses_of}
-use Rattle.json_doc.specs.Docs.{value}
 use Rattle.linker.specs.LinkedDocuments.{linked_schemas}
 use Rattle.linker.specs.declared.linked.Linked.{Linked}
 use Rattle.keyword_plans.specs.Applications.{named_count}
@@ -15,8 +14,6 @@ use Rattle.keyword_plans.specs.Sites.{linked_rules}
 use Rattle.keywords.specs.declared.keyword.Keyword.{Keyword}
 use Rattle.keywords.specs.declared.keyword.Keyword.TheVariants.{UnevaluatedItems, UnevaluatedProperties}
 use Rattle.keyword_plans.specs.declared.planned.Planned.{Planned}
-use Rattle.keyword_plans.specs.declared.planned.Chosen.{Chosen}
-use Rattle.keyword_plans.specs.declared.planned.Chosen.TheVariants.{Below, Target}
 use Rattle.evaluation_context.specs.Frames.{Frame, frame_standing}
 use Rattle.evaluation_context.specs.Standings.{application_at, at_keyword, standing_of}
 use Rattle.evaluator.specs.Findings.{Outcomes}
@@ -111,12 +108,8 @@ object_uses l left a = let us = groups_uses l left a first_groups in us ++ uneva
 abbrev pub evaluated_in : Notes → Before
 evaluated_in n = record { names = length n.names; indexes = length n.indexes }
 
--- ---- boolean schemas, and what a keyword chose
+-- ---- boolean schemas
 -- where so many applications may nest
 abbrev pub boolean_at : ℕ → Application → Bool → Outcome
 boolean_at zero a b = leaf false true
 boolean_at (suc n) a b = boolean_outcome a b
-
-abbrev pub chosen_value : Chosen → Value
-chosen_value (Below step schema) = value schema.now
-chosen_value (Target target) = value target.schema.now

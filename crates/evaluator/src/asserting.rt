@@ -60,6 +60,7 @@ impl<'a> Evaluation<'a> {
 
     // Whether the keyword with this value is met: a long `enum` by what the evaluation has sorted. The only error is want of
     // memory.
+    #[inline(always)]
     fn is_met(
         &mut self,
         keyword: Keyword,

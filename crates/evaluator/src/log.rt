@@ -90,10 +90,12 @@ impl<'a> Log<'a> {
     ghost use Rattle.basic_output.specs.Pieces.{unit_text};
     ghost use Rattle.basic_output.specs.Sayings.{unit_at};
     ghost use Rattle.definitions.specs.Applied.{Outcome};
+    ghost use Rattle.definitions.specs.Keywords.{Meaning};
     ghost use Rattle.definitions.specs.Outcomes.{leaf};
     ghost use Rattle.keyword_plans.specs.Plans.{part_view};
     ghost use Rattle.evaluator.specs.Notes.{Notes, lengths, no_notes, notes_of_both, one_application, outcome_notes, part_notes};
     ghost use Rattle.evaluator.specs.Logs.{log_view, mark_view};
+    ghost use Rattle.evaluator.specs.Silences.{IsSilent};
 
     /// Nothing yet. This takes no memory; what is noted takes it from `alloc`, and indexes and texts of units where they find too
     /// little in what was kept.
@@ -318,7 +320,7 @@ impl<'a> Log<'a> {
             Part::Whole => Ok(()),
             Part::Member(name) => {
                 self.cut_evaluated(mark);
-                self.push_name(name)
+                self.push_name(name.as_str())
             }
             Part::Element(index) => {
                 self.cut_evaluated(mark);
@@ -332,6 +334,23 @@ impl<'a> Log<'a> {
                 self.cut_evaluated(mark);
                 Ok(())
             }
+        }
+    }
+
+    /// One more application, to a part of the instance, that passed without a word: it evaluated the part's name, or its index,
+    /// and nothing else. The only error is want of memory.
+    #[inline(always)]
+    pub(crate) fn note_silent(&mut self, part: Part<'a>) -> Result<(), AllocError>
+        requires room { self.old.count < limits.applications }
+        ensures { (m : Meaning) (o : Outcome) → IsSilent o → OnOk result (log_view self.new
+            ≡ notes_of_both (log_view self.old) (part_notes m (part_view part.entry, o))) }
+    {
+        self.count_one();
+        match part {
+            Part::Whole => Ok(()),
+            Part::Member(name) => self.push_name(name.as_str()),
+            Part::Element(index) => self.push_index(index),
+            Part::NameOf(_) => Ok(()),
         }
     }
 }

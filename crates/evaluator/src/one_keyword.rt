@@ -2,7 +2,6 @@
 
 ghost use Rattle.std.specs.Prelude.{◌≡◌};
 ghost use Rattle.json_doc.specs.Docs.{value};
-ghost use Rattle.evaluator.specs.Rounds.{chosen_value};
 
 use crate::applied::Applied;
 use crate::applying::Evaluation;
@@ -13,7 +12,7 @@ use crate::log::LogMark;
 use crate::present::Present;
 use crate::settling::{evaluated_for, settle};
 use json_doc::Doc;
-use keyword_plans::{Chosen, Earlier, Planned, Site, passes, plan};
+use keyword_plans::{Earlier, Planned, Site, passes, plan};
 use keywords::Keyword;
 use std::alloc::AllocError;
 
@@ -259,7 +258,7 @@ impl<'a> Evaluation<'a> {
     {
         let mut applied = Applied::none();
         for one in planned {
-            match self.apply_planned(keyword, one, nesting) {
+            match self.apply_part(keyword, one, nesting) {
                 Ok(valid) => applied = applied.and(valid),
                 Err(fault) => return Err(fault),
             }
@@ -267,7 +266,41 @@ impl<'a> Evaluation<'a> {
         Ok(applied)
     }
 
-    /// Applies one schema to a part of the instance.
+    /// Applies one schema to a part of the instance. What passes without a word is not entered.
+    #[cycle(apply)]
+    fn apply_part(
+        &mut self,
+        keyword: Keyword,
+        planned: &Planned<'a>,
+        nesting: u32,
+    ) -> Result<bool, Halt>
+        ensures linked { self.new.linked ≡ self.old.linked }
+        ensures back { OnOk result (context_view self.new.context ≡ context_view self.old.context) }
+        ensures valid { (a : Application)
+            → IsUnder (context_view self.old.context) (row_of keyword).name a
+            → IsKnown self.old.linked.now (row_of keyword).name a planned.now
+            → IfOk result (λ b. b
+            ≡ (part_outcome self.old.linked.now nesting
+            (row_of keyword).name a planned.now).1.valid) }
+        ensures noted { (a : Application)
+            → IsUnder (context_view self.old.context) (row_of keyword).name a
+            → IsKnown self.old.linked.now (row_of keyword).name a planned.now
+            → OnOk result (Adds self.old self.new (part_notes (row_of keyword).meaning
+            (part_outcome self.old.linked.now nesting (row_of keyword).name a planned.now))) }
+        ensures err { (a : Application)
+            → IsUnder (context_view self.old.context) (row_of keyword).name a
+            → IsKnown self.old.linked.now (row_of keyword).name a planned.now
+            → IfErr result (λ f. IsCostly f self.old (part_notes (row_of keyword).meaning
+            (part_outcome self.old.linked.now nesting (row_of keyword).name a planned.now))) }
+    {
+        if self.passes_silently(planned, nesting)? {
+            self.log.note_silent(planned.part)?;
+            return Ok(true);
+        }
+        self.apply_planned(keyword, planned, nesting)
+    }
+
+    // Applies the schema that is planned, and settles what that evaluated.
     #[cycle(apply)]
     fn apply_planned(
         &mut self,
@@ -295,14 +328,14 @@ impl<'a> Evaluation<'a> {
             (part_outcome self.old.linked.now nesting (row_of keyword).name a planned.now))) }
     {
         let mark = self.log.mark();
-        let valid = self.apply_chosen(planned, nesting)?;
+        let valid = self.apply_entered(planned, nesting)?;
         self.log.settle_part(keyword, planned.part, &mark, valid)?;
         Ok(valid)
     }
 
-    // Applies the schema that is planned: it is entered, but where it passes without a word.
+    // Enters the schema that is planned, and applies it.
     #[cycle(apply)]
-    fn apply_chosen(&mut self, planned: &Planned<'a>, nesting: u32) -> Result<bool, Halt>
+    fn apply_entered(&mut self, planned: &Planned<'a>, nesting: u32) -> Result<bool, Halt>
         ensures linked { self.new.linked ≡ self.old.linked }
         ensures back { OnOk result (context_view self.new.context ≡ context_view self.old.context) }
         ensures valid { (a : Application) (k : Text) → IsUnder (context_view self.old.context) k a
@@ -318,17 +351,7 @@ impl<'a> Evaluation<'a> {
             → IfErr result (λ f. IsCostly f self.old (outcome_notes
             (part_outcome self.old.linked.now nesting k a planned.now).1)) }
     {
-        let schema = chosen_schema(&planned.chosen);
-        if self.is_true(schema, planned, nesting) {
-            self.log.count_one();
-            return Ok(true);
-        }
-        let passes = self.passes_silently(schema, planned, nesting)?;
-        if passes {
-            self.log.count_one();
-            return Ok(passes);
-        }
-        let present = Present::of(schema);
+        let present = Present::of(planned.schema);
         let back = self
             .context
             .enter_planned(self.alloc, self.linked, planned)?;
@@ -340,15 +363,5 @@ impl<'a> Evaluation<'a> {
             }
             Err(fault) => Err(fault),
         }
-    }
-}
-
-// The schema itself.
-fn chosen_schema<'a>(chosen: &Chosen<'a>) -> &'a Doc
-    ensures { value result.now ≡ chosen_value chosen.now }
-{
-    match chosen {
-        Chosen::Below(_, schema) => *schema,
-        Chosen::Target(target) => target.schema,
     }
 }

@@ -28,34 +28,53 @@ impl<'a> Evaluation<'a> {
     ghost use Rattle.definitions.specs.Values.{Text};
     ghost use Rattle.keyword_plans.specs.Subjects.{subject_value};
     ghost use Rattle.evaluation_context.specs.Frames.{context_view};
-    ghost use Rattle.evaluator.specs.Rounds.{IsUnder, chosen_value, part_outcome};
+    ghost use Rattle.evaluator.specs.Rounds.{IsUnder, part_outcome};
     ghost use Rattle.evaluator.specs.Silences.{IsSilent, is_met_alone};
 
-    /// Whether the schema that is planned is `true`, which passes without a word, and there is room to apply it.
+    /// Whether the schema that is planned surely passes without a word, and there is room to apply it: it is `true`, or a schema
+    /// object that does so at a part of the instance below this one. The only error is want of memory.
     #[inline(always)]
-    pub(crate) fn is_true(&self, schema: &Doc, planned: &Planned<'a>, nesting: u32) -> bool
-        requires { value schema.now ≡ chosen_value planned.now.chosen }
+    pub(crate) fn passes_silently(
+        &mut self,
+        planned: &Planned<'a>,
+        nesting: u32,
+    ) -> Result<bool, AllocError>
+        ensures linked { self.new.linked ≡ self.old.linked }
+        ensures back { self.new.context ≡ self.old.context }
+        ensures noted { self.new.log ≡ self.old.log }
+        ensures room { IfOk result (λ b. b ≡ true → self.old.log.count < limits.applications) }
+        ensures silent { (a : Application) (k : Text) → IsUnder (context_view self.old.context) k a
+            → IfOk result (λ b. b ≡ true → IsSilent
+            (part_outcome self.old.linked.now nesting k a planned.now).1) }
+    {
+        if self.is_true(planned, nesting) {
+            return Ok(true);
+        }
+        self.object_passes_silently(planned, nesting)
+    }
+
+    // Whether the schema is `true`, and there is room to apply it.
+    #[inline(always)]
+    fn is_true(&self, planned: &Planned<'a>, nesting: u32) -> bool
         ensures room { result ≡ true → self.now.log.count < limits.applications }
         ensures silent { (a : Application) (k : Text) → IsUnder (context_view self.now.context) k a
             → result ≡ true → IsSilent
             (part_outcome self.now.linked.now nesting k a planned.now).1 }
     {
-        match schema.as_bool() {
+        match planned.schema.as_bool() {
             Some(allowed) => allowed && self.has_room(nesting),
             None => false,
         }
     }
 
-    /// Whether the schema object that is planned surely passes without a word at a part of the instance below this one. It isn't
-    /// tried where what was applied last failed, since what fails is judged twice. The only error is want of memory.
+    // Whether the schema is an object that surely passes without a word at a part of the instance below this one. It isn't tried
+    // where what was applied last failed, since what fails is judged twice. The only error is want of memory.
     #[inline(always)]
-    pub(crate) fn passes_silently(
+    fn object_passes_silently(
         &mut self,
-        schema: &Doc,
         planned: &Planned<'a>,
         nesting: u32,
     ) -> Result<bool, AllocError>
-        requires { value schema.now ≡ chosen_value planned.now.chosen }
         ensures linked { self.new.linked ≡ self.old.linked }
         ensures back { self.new.context ≡ self.old.context }
         ensures noted { self.new.log ≡ self.old.log }
@@ -73,7 +92,7 @@ impl<'a> Evaluation<'a> {
         if !self.has_room(nesting) {
             return Ok(false);
         }
-        match schema {
+        match planned.schema {
             Doc::Dict(members) if members.len() <= MOST => self.are_met(members, planned.subject),
             _ => Ok(false),
         }

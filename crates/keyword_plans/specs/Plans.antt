@@ -1,5 +1,5 @@
 -- What a keyword applies, as the definitions have it.
-use Rattle.std.specs.Prelude.{ℕ, Bool, true, false, List, [], ◌∷◌, Option, Some, None, map}
+use Rattle.std.specs.Prelude.{ℕ, Bool, true, false, List, [], ◌∷◌, Option, Some, None, decimal, map}
 use Rattle.definitions.specs.Values.{Text, Value}
 use Rattle.definitions.specs.Pointers.{Pointer}
 use Rattle.definitions.specs.Keywords.{Meaning, consequence, min_contains, max_contains, additional_properties}
@@ -8,33 +8,44 @@ use Rattle.definitions.specs.Applied.{Application, Outcome, Rules, whole, named,
 use Rattle.json_doc.specs.Docs.{value}
 use Rattle.keywords.specs.declared.keyword.Keyword.{Keyword}
 use Rattle.keywords.specs.declared.keyword.Keyword.TheVariants.{Ref, DynamicRef, AllOf, AnyOf, OneOf, Not, If, Then, Else, DependentSchemas, PatternProperties, AdditionalProperties}
+use Rattle.json_doc.specs.NamedMembers.{name_text}
 use Rattle.locations.specs.declared.step.Step.{Step}
 use Rattle.locations.specs.Steps.{token}
-use Rattle.keyword_plans.specs.Followed.{target_view}
+use Rattle.keyword_plans.specs.Followed.{schema_at_origin}
 use Rattle.keyword_plans.specs.Subjects.{subject_value}
 use Rattle.keyword_plans.specs.declared.planned.Planned.{Planned}
-use Rattle.keyword_plans.specs.declared.planned.Chosen.{Chosen}
-use Rattle.keyword_plans.specs.declared.planned.Chosen.TheVariants.{Below, Target}
+use Rattle.keyword_plans.specs.declared.planned.Way.{Way}
+use Rattle.keyword_plans.specs.declared.planned.Way.TheVariants.{Own, Target}
+use Rattle.keyword_plans.specs.declared.planned.Way.TheVariants as way
 use Rattle.keyword_plans.specs.declared.planned.Part.{Part}
 use Rattle.keyword_plans.specs.declared.planned.Part.TheVariants.{Whole, Member, Element, NameOf}
 
 abbrev pub part_view : Part → definition.Part
 part_view Whole = whole
-part_view (Member name) = named name.now
+part_view (Member name) = named (name_text name)
 part_view (Element i) = indexed i
-part_view (NameOf name) = name_of name.now
+part_view (NameOf name) = name_of (name_text name)
 
 abbrev pub step_view : Option Step → Pointer
 step_view None = []
 step_view (Some step) = token step ∷ []
 
--- the application that is planned, under the keyword k of the application a
-abbrev pub chosen_application : Text → Application → Chosen → definition.Part → Value → Application
-chosen_application k a (Below step schema) part x = (at_part a (k ∷ step_view step) (value schema.now) part x).1
-chosen_application k a (Target target) part x = part_application a (k ∷ []) (target_view target) part x
+-- the tokens that lead from a keyword to the schema, where no reference names it
+abbrev pub way_view : Way → Pointer
+way_view Own = []
+way_view (way.Member name) = name_text name ∷ []
+way_view (way.Element i) = decimal i ∷ []
+way_view (Target origin) = []
+
+-- the application of the schema v, which is planned under the keyword k of the application a
+abbrev pub way_application : Text → Application → Way → Value → definition.Part → Value → Application
+way_application k a Own v part x = (at_part a (k ∷ []) v part x).1
+way_application k a (way.Member name) v part x = (at_part a (k ∷ name_text name ∷ []) v part x).1
+way_application k a (way.Element i) v part x = (at_part a (k ∷ decimal i ∷ []) v part x).1
+way_application k a (Target origin) v part x = part_application a (k ∷ []) (schema_at_origin origin.value v) part x
 
 abbrev pub planned_view : Text → Application → Planned → definition.Part × Application
-planned_view k a p = (part_view p.part, chosen_application k a p.chosen (part_view p.part) (subject_value p.subject))
+planned_view k a p = (part_view p.part, way_application k a p.way (value p.schema.now) (part_view p.part) (subject_value p.subject))
 
 -- what the keyword with this value applied, each with its outcome
 abbrev pub outcomes_of : Rules → (Application → Outcome) → List Text → List ℕ → Application → Text → Meaning → Value → List (definition.Part × Outcome)

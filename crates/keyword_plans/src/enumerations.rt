@@ -63,7 +63,7 @@ impl<'a> Enumeration<'a> {
         match subject {
             Subject::Value(doc) => Ok(self.values.contains(doc)),
             Subject::Name(name) => {
-                let name = Doc::string(alloc, name)?;
+                let name = Doc::string(alloc, name.as_str())?;
                 Ok(self.values.contains(&name))
             }
         }

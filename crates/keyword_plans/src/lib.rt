@@ -21,7 +21,7 @@ pub use enumerations::Enumerations;
 pub use faults::Fault;
 pub use followed_references::FollowedReferences;
 pub use plan_memory::PlanMemory;
-pub use planned::{Chosen, Part, Planned};
+pub use planned::{Part, Planned, Way};
 pub use planning::plan;
 pub use searches::Searches;
 pub use site::{Earlier, Evaluated, Site};

@@ -5,7 +5,7 @@ ghost use Rattle.definitions.specs.Values.{elements, members, get, as_string, is
 ghost use Rattle.json_doc.specs.Docs.{value, members_value};
 ghost use Rattle.keyword_plans.specs.Subjects.{subject_value};
 
-use json_doc::{Doc, Members};
+use json_doc::{Doc, Members, Name};
 
 /// What a schema is applied to: a value of the instance, or one of its names as a string (JSON Schema 2020-12 Core,
 /// 10.3.2.4).
@@ -16,7 +16,7 @@ pub enum Subject<'a> {
     /// A value of the instance.
     Value(&'a Doc),
     /// A name of an object.
-    Name(&'a str),
+    Name(Name<'a>),
 }
 
 impl<'a> Subject<'a> {
@@ -47,7 +47,7 @@ impl<'a> Subject<'a> {
     {
         match self {
             Subject::Value(doc) => doc.as_str(),
-            Subject::Name(name) => Some(name),
+            Subject::Name(name) => Some(name.as_str()),
         }
     }
 

@@ -81,7 +81,7 @@ pub fn holds_of(
 {
     match subject {
         Subject::Value(doc) => holds(alloc, assertion, keyword_value, doc),
-        Subject::Name(name) => holds_of_name(alloc, assertion, keyword_value, name),
+        Subject::Name(name) => holds_of_name(alloc, assertion, keyword_value, name.as_str()),
     }
 }
 

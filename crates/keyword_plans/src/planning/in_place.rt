@@ -8,10 +8,9 @@ ghost use Rattle.keyword_plans.specs.Applications.{planned_elements, planned_dep
 ghost use Rattle.keyword_plans.specs.Plans.{planned_view};
 ghost use Rattle.keyword_plans.specs.Subjects.{subject_value};
 
-use crate::planned::{Chosen, Part, Planned};
+use crate::planned::{Part, Planned, Way};
 use crate::subject::Subject;
 use json_doc::{Doc, Members};
-use locations::Step;
 use std::alloc::AllocError;
 
 /// The keyword's value itself.
@@ -26,7 +25,8 @@ pub(crate) fn plan_own<'a>(
         ≡ in_place a (k ∷ []) (value schema.now) ∷ []) }
 {
     planned.push(Planned {
-        chosen: Chosen::Below(None, schema),
+        way: Way::Own,
+        schema,
         part: Part::Whole,
         subject: *subject,
     })?;
@@ -63,7 +63,8 @@ fn plan_elements<'a>(
     planned.reserve(schemas.len())?;
     for (index, schema) in schemas.iter().enumerate() {
         planned.push(Planned {
-            chosen: Chosen::Below(Some(Step::Index(index)), schema),
+            way: Way::Element(index),
+            schema,
             part: Part::Whole,
             subject: *subject,
         })?;
@@ -175,10 +176,11 @@ fn plan_dependents_of_members<'a>(
         → OnOk result (map (planned_view k a) planned.new.items
         ≡ planned_under_names k a (members_value schemas.now) (members_value members.now)) }
 {
-    for (name, _) in members.iter() {
-        if let Some(schema) = schemas.get(name) {
+    for (name, _) in members.iter().named() {
+        if let Some(schema) = schemas.get(name.as_str()) {
             planned.push(Planned {
-                chosen: Chosen::Below(Some(Step::Name(name)), schema),
+                way: Way::Member(name),
+                schema,
                 part: Part::Whole,
                 subject: *subject,
             })?;
@@ -197,10 +199,11 @@ fn plan_dependents_along_schemas<'a>(
         → OnOk result (map (planned_view k a) planned.new.items
         ≡ planned_dependents k a (members_value schemas.now)) }
 {
-    for (name, schema) in schemas.iter() {
-        if subject.get(name).is_some() {
+    for (name, schema) in schemas.iter().named() {
+        if subject.get(name.as_str()).is_some() {
             planned.push(Planned {
-                chosen: Chosen::Below(Some(Step::Name(name)), schema),
+                way: Way::Member(name),
+                schema,
                 part: Part::Whole,
                 subject: *subject,
             })?;

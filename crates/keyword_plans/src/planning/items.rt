@@ -8,11 +8,10 @@ ghost use Rattle.keyword_plans.specs.Applications.{planned_pairs};
 ghost use Rattle.keyword_plans.specs.Plans.{planned_view};
 ghost use Rattle.keyword_plans.specs.Subjects.{subject_value};
 
-use crate::planned::{Chosen, Part, Planned};
+use crate::planned::{Part, Planned, Way};
 use crate::subject::{Subject, elements_of};
 use json_doc::Doc;
 use keywords::Keyword;
-use locations::Step;
 use std::alloc::AllocError;
 use std::cmp::min;
 
@@ -46,7 +45,8 @@ fn plan_pairs<'a>(
             return Ok(());
         }
         planned.push(Planned {
-            chosen: Chosen::Below(Some(Step::Index(index)), schema),
+            way: Way::Element(index),
+            schema,
             part: Part::Element(index),
             subject: Subject::Value(&items[index]),
         })?;
@@ -83,7 +83,8 @@ fn plan_from<'a>(
     planned.reserve(items.len().saturating_sub(start))?;
     for index in start..items.len() {
         planned.push(Planned {
-            chosen: Chosen::Below(None, schema),
+            way: Way::Own,
+            schema,
             part: Part::Element(index),
             subject: Subject::Value(&items[index]),
         })?;

@@ -7,17 +7,17 @@ ghost use Rattle.definitions.specs.Patterns.{has_match};
 ghost use Rattle.definitions.specs.Schemas.{Schema};
 ghost use Rattle.definitions.specs.Applied.{Application};
 ghost use Rattle.json_doc.specs.Docs.{value, members_value};
+ghost use Rattle.json_doc.specs.NamedMembers.{name_text};
 ghost use Rattle.keyword_plans.specs.Applications.{ArePatternsOf, planned_matches, planned_pattern};
 ghost use Rattle.keyword_plans.specs.Plans.{planned_view};
 ghost use Rattle.keyword_plans.specs.SearchedIn.{searched_in};
 ghost use Rattle.keyword_plans.specs.Sites.{Shows};
 
-use crate::planned::{Chosen, Part, Planned};
+use crate::planned::{Part, Planned, Way};
 use crate::searches::Searches;
 use crate::site::Site;
 use crate::subject::{Subject, members_of};
-use json_doc::{Doc, Members};
-use locations::Step;
+use json_doc::{Doc, Members, Name};
 use std::alloc::AllocError;
 
 /// The schemas under the patterns that match a name of the instance, at that member.
@@ -57,7 +57,7 @@ fn plan_matched<'a>(
         ≡ planned_pattern k a (members_value patterns.now) (members_value members.now)) }
     ensures searched { searched_in searches.new ≡ searched_in searches.old }
 {
-    for (name, member) in members.iter() {
+    for (name, member) in members.iter().named() {
         push_matches(planned, searches, patterns, name, member)?;
     }
     Ok(())
@@ -67,20 +67,22 @@ fn push_matches<'a>(
     planned: &mut Vec<Planned<'a>>,
     searches: &mut Searches<'a>,
     patterns: &'a Members,
-    name: &'a str,
+    name: Name<'a>,
     member: &'a Doc,
 ) -> Result<(), AllocError>
     ensures ok { (a : Application) (k : Text) (s : Schema)
         → ArePatternsOf (searched_in searches.old).now s (members_value patterns.now)
         → OnOk result (map (planned_view k a) planned.new.items
         ≡ map (planned_view k a) planned.old.items
-        ++ planned_matches k a name.now (value member.now) (members_value patterns.now)) }
+        ++ planned_matches k a (name_text name.entry) (value member.now)
+        (members_value patterns.now)) }
     ensures searched { searched_in searches.new ≡ searched_in searches.old }
 {
-    for (pattern, schema) in patterns.iter() {
-        if searches.is_match(pattern, name)? {
+    for (pattern, schema) in patterns.iter().named() {
+        if searches.is_match(pattern.as_str(), name.as_str())? {
             planned.push(Planned {
-                chosen: Chosen::Below(Some(Step::Name(pattern)), schema),
+                way: Way::Member(pattern),
+                schema,
                 part: Part::Member(name),
                 subject: Subject::Value(member),
             })?;

@@ -8,10 +8,9 @@ ghost use Rattle.keyword_plans.specs.Applications.{planned_members, planned_at_n
 ghost use Rattle.keyword_plans.specs.Plans.{planned_view};
 ghost use Rattle.keyword_plans.specs.Subjects.{subject_value};
 
-use crate::planned::{Chosen, Part, Planned};
+use crate::planned::{Part, Planned, Way};
 use crate::subject::Subject;
 use json_doc::{Doc, Members};
-use locations::Step;
 use std::alloc::AllocError;
 use std::cmp::{Ordering, min};
 
@@ -124,9 +123,9 @@ fn plan_merged<'a>(
             Ordering::Less => first_schema = other_schemas.next(),
             Ordering::Greater => first_member = other_members.next(),
             Ordering::Equal => {
-                let name = name.as_str();
                 planned.push(Planned {
-                    chosen: Chosen::Below(Some(Step::Name(name)), schema),
+                    way: Way::Member(name),
+                    schema,
                     part: Part::Member(name),
                     subject: Subject::Value(member),
                 })?;
@@ -149,10 +148,11 @@ fn plan_each_member<'a>(
         ≡ planned_at_names k a (members_value schemas.now) (members_value members.now)) }
 {
     planned.reserve(min(schemas.len(), members.len()))?;
-    for (name, member) in members.iter() {
-        if let Some(schema) = schemas.get(name) {
+    for (name, member) in members.iter().named() {
+        if let Some(schema) = schemas.get(name.as_str()) {
             planned.push(Planned {
-                chosen: Chosen::Below(Some(Step::Name(name)), schema),
+                way: Way::Member(name),
+                schema,
                 part: Part::Member(name),
                 subject: Subject::Value(member),
             })?;
@@ -172,10 +172,11 @@ fn plan_along_schemas<'a>(
         ≡ planned_members k a (members_value schemas.now)) }
 {
     planned.reserve(min(schemas.len(), present.len()))?;
-    for (name, schema) in schemas.iter() {
-        if let Some(member) = present.get(name) {
+    for (name, schema) in schemas.iter().named() {
+        if let Some(member) = present.get(name.as_str()) {
             planned.push(Planned {
-                chosen: Chosen::Below(Some(Step::Name(name)), schema),
+                way: Way::Member(name),
+                schema,
                 part: Part::Member(name),
                 subject: Subject::Value(member),
             })?;
@@ -212,9 +213,10 @@ fn plan_each_name<'a>(
         ≡ planned_names k a (value schema.now) (members_value members.now)) }
 {
     planned.reserve(members.len())?;
-    for (name, _) in members.iter() {
+    for (name, _) in members.iter().named() {
         planned.push(Planned {
-            chosen: Chosen::Below(None, schema),
+            way: Way::Own,
+            schema,
             part: Part::NameOf(name),
             subject: Subject::Name(name),
         })?;

@@ -19,7 +19,7 @@ ghost use Rattle.keyword_plans.specs.Plans.{planned_view};
 ghost use Rattle.keyword_plans.specs.SearchedIn.{searched_in};
 ghost use Rattle.keyword_plans.specs.Sites.{Shows, linked_rules};
 
-use crate::planned::{Chosen, Part, Planned};
+use crate::planned::{Part, Planned, Way};
 use crate::planning::matching::is_matched;
 use crate::planning::members::FAR_LONGER;
 use crate::searches::Searches;
@@ -157,8 +157,9 @@ fn plan_unnamed<'a>(
             }
             Ordering::Greater => {
                 planned.push(Planned {
-                    chosen: Chosen::Below(None, schema),
-                    part: Part::Member(name.as_str()),
+                    way: Way::Own,
+                    schema,
+                    part: Part::Member(name),
                     subject: Subject::Value(member),
                 })?;
                 first_member = other_members.next();
@@ -195,10 +196,11 @@ fn plan_each_untaken<'a>(
         (members_value members.now)) }
     ensures searched { searched_in searches.new ≡ searched_in searches.old }
 {
-    for (name, member) in members.iter() {
-        if !is_taken(searches, beside, name)? {
+    for (name, member) in members.iter().named() {
+        if !is_taken(searches, beside, name.as_str())? {
             planned.push(Planned {
-                chosen: Chosen::Below(None, schema),
+                way: Way::Own,
+                schema,
                 part: Part::Member(name),
                 subject: Subject::Value(member),
             })?;

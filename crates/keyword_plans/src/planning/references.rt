@@ -14,7 +14,7 @@ ghost use Rattle.keyword_plans.specs.Sites.{Shows};
 ghost use Rattle.keyword_plans.specs.Subjects.{subject_value};
 
 use crate::dynamic_scope::DynamicScope;
-use crate::planned::{Chosen, Part, Planned};
+use crate::planned::{Part, Planned, Way};
 use crate::site::Site;
 use crate::subject::Subject;
 use crate::target::Target;
@@ -90,7 +90,8 @@ fn plan_target<'a>(
     match target {
         Some(target) => {
             planned.push(Planned {
-                chosen: Chosen::Target(target),
+                way: Way::Target(target.origin),
+                schema: target.schema,
                 part: Part::Whole,
                 subject: *subject,
             })?;

@@ -14,7 +14,7 @@ ghost use Rattle.keyword_plans.specs.Plans.{planned_view};
 ghost use Rattle.keyword_plans.specs.Subjects.{subject_value};
 ghost use Rattle.lemmas.proofs.Texts.{text_order};
 
-use crate::planned::{Chosen, Part, Planned};
+use crate::planned::{Part, Planned, Way};
 use crate::subject::Subject;
 use json_doc::{Doc, Members};
 use std::alloc::{AllocError, Global};
@@ -100,7 +100,8 @@ fn plan_unevaluated_elements<'a>(
     for (index, item) in items.iter().enumerate() {
         if !is_in(&evaluated, index) {
             planned.push(Planned {
-                chosen: Chosen::Below(None, schema),
+                way: Way::Own,
+                schema,
                 part: Part::Element(index),
                 subject: Subject::Value(item),
             })?;
@@ -141,10 +142,11 @@ fn plan_unevaluated_members<'a>(
         (members_value members.now)) }
 {
     let mut evaluated = NamesInOrder::new(*planned.allocator(), names);
-    for (name, member) in members.iter() {
-        if !evaluated.has(name)? {
+    for (name, member) in members.iter().named() {
+        if !evaluated.has(name.as_str())? {
             planned.push(Planned {
-                chosen: Chosen::Below(None, schema),
+                way: Way::Own,
+                schema,
                 part: Part::Member(name),
                 subject: Subject::Value(member),
             })?;

@@ -1,5 +1,6 @@
 use Rattle.std.proofs.Common.{◌≡◌, ap, ◌∙◌}
 use Rattle.std.proofs.lemmas.Result.{IfOk-weaker, on_ok_weaker}
+use Rattle.json_doc.specs.Docs.{value}
 use Rattle.linker.specs.LinkedDocuments.{linked_schemas}
 use Rattle.basic_output.specs.PointerViews.{origin_view}
 use Rattle.keyword_plans.specs.Plans.{step_view}
@@ -9,26 +10,27 @@ use Rattle.evaluation_context.proofs.FrameLaws.{context_within, onward_at, onwar
 use Rattle.evaluation_context.proofs.PlannedLaws.{below_there, target_there}
 use Rattle.evaluation_context.proofs.context.Context.enter_chosen.Goals as goal
 
-pub returns-in_ok-enter_step-in-Below-clause-there : goal.returns-in_ok-enter_step-in-Below-clause-there
-returns-in_ok-enter_step-in-Below-clause-there c =
-    below_there c.enter_schema.result (linked_schemas c.args.linked.now) (context_view c.args.self.now) (context_view c.enter_step.new.self) (context_view c.enter_schema.new.self) c.args.chosen.now c.in-Below.step c.in-Below.schema
-    (context_within c.args.self.now) c.in-Below.is c.in_ok-enter_step-in-Below.ensures.moved c.enter_schema.ensures.there
+pub returns-in_ok-enter_step-in_default-clause-there : goal.returns-in_ok-enter_step-in_default-clause-there
+returns-in_ok-enter_step-in_default-clause-there c =
+    below_there c.enter_schema.result (linked_schemas c.args.linked.now) (context_view c.args.self.now) (context_view c.enter_step.new.self) (context_view c.enter_schema.new.self)
+    c.args.planned.now.way (value c.args.planned.now.schema.now) c.step.result
+    (context_within c.args.self.now) c.in_default.not-Target c.step.ensures c.in_ok-enter_step-in_default.ensures.moved c.enter_schema.ensures.there
 
-pub returns-in_ok-enter_step-in-Below-clause-onward : goal.returns-in_ok-enter_step-in-Below-clause-onward
-returns-in_ok-enter_step-in-Below-clause-onward c =
+pub returns-in_ok-enter_step-in_default-clause-onward : goal.returns-in_ok-enter_step-in_default-clause-onward
+returns-in_ok-enter_step-in_default-clause-onward c =
     let first : Onward (context_view c.args.self.now) (context_view c.enter_step.new.self) =
-    onward_at c.in_ok-enter_step-in-Below.ensures.moved (onward_stepped (step_view c.in-Below.step) (context_view c.args.self.now)) in
+    onward_at c.in_ok-enter_step-in_default.ensures.moved (onward_stepped (step_view c.step.result) (context_view c.args.self.now)) in
     on_ok_weaker c.enter_schema.result (λ next. onward_onward first next) c.enter_schema.ensures.onward
 
-pub returns-in_ok-enter_step-in-Below-clause-left : goal.returns-in_ok-enter_step-in-Below-clause-left
-returns-in_ok-enter_step-in-Below-clause-left c =
+pub returns-in_ok-enter_step-in_default-clause-left : goal.returns-in_ok-enter_step-in_default-clause-left
+returns-in_ok-enter_step-in_default-clause-left c =
     let old = context_view c.args.self.now in
-    let stays : (context_view c.enter_step.new.self).origin ≡ old.origin = ap (λ (f : Frame). f.origin) c.in_ok-enter_step-in-Below.ensures.moved ∙ origin_below (step_view c.in-Below.step) old in
+    let stays : (context_view c.enter_step.new.self).origin ≡ old.origin = ap (λ (f : Frame). f.origin) c.in_ok-enter_step-in_default.ensures.moved ∙ origin_below (step_view c.step.result) old in
     IfOk-weaker c.enter_schema.result _ _ (λ left before. before ∙ stays) c.enter_schema.ensures.left
 
 pub returns-in_ok-clone-in-Target-clause-there : goal.returns-in_ok-clone-in-Target-clause-there
 returns-in_ok-clone-in-Target-clause-there c = λ contains.
-    target_there (context_view c.args.self.now) (context_view c.enter_origin-left.new.self) c.args.chosen.now c.in-Target.target (origin_view c.in_ok-clone-in-Target.field-0.value) c.in-Target.is
+    target_there (context_view c.args.self.now) (context_view c.enter_origin-left.new.self) c.args.planned.now.way (value c.args.planned.now.schema.now) c.in-Target.origin (origin_view c.in_ok-clone-in-Target.field-0.value) c.in-Target.is
     (ap origin_view c.in_ok-clone-in-Target.ensures.cases) c.enter_origin-left.ensures.moved
 
 pub returns-in_ok-clone-in-Target-clause-onward : goal.returns-in_ok-clone-in-Target-clause-onward

@@ -1,6 +1,6 @@
 use Rattle.std.proofs.Common.{refl, sym, ap, ◌∙◌}
 use Rattle.keyword_plans.specs.Plans.{part_view}
-use Rattle.definitions.specs.Applied.{part_location}
+use Rattle.definitions.specs.Applied.{name_of, named, part_location}
 use Rattle.evaluation_context.specs.Frames.{context_view}
 use Rattle.evaluation_context.specs.Moves.{frame_at}
 use Rattle.evaluation_context.specs.Runnings.{steps_between}
@@ -20,6 +20,7 @@ returns-in_ok-deepen-in-Member-clause-moved c =
     let old = c.args.self.now in
     let e = c.in_ok-deepen-in-Member.ensures in
     same_frames e.path refl refl (same_locations e.instance_location refl) refl e.running (ap (steps_between 0) e.ends) (same_beyond e.path e.ends)
+    ∙ ap (λ n. frame_at (part_location (context_view old).instance_location (named n)) (context_view old)) c.as_str.ensures
     ∙ ap (λ part. frame_at (part_location (context_view old).instance_location (part_view part)) (context_view old)) (sym c.in-Member.is)
 
 pub returns-in_ok-deepen-in-Element-clause-moved : goal.returns-in_ok-deepen-in-Element-clause-moved
@@ -35,4 +36,5 @@ unfolding context_view frame_at
 returns-in-NameOf-clause-moved c =
     let old = c.args.self.now in
     same_frames refl refl refl refl refl refl refl refl
+    ∙ ap (λ n. frame_at (part_location (context_view old).instance_location (name_of n)) (context_view old)) c.as_str-in-NameOf.ensures
     ∙ ap (λ part. frame_at (part_location (context_view old).instance_location (part_view part)) (context_view old)) (sym c.in-NameOf.is)

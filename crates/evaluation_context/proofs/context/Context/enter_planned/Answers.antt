@@ -1,5 +1,6 @@
 use Rattle.std.proofs.Common.{◌≡◌, length, refl, ap, ◌∙◌}
 use Rattle.definitions.specs.Applied.{part_location}
+use Rattle.json_doc.specs.Docs.{value}
 use Rattle.linker.specs.LinkedDocuments.{linked_schemas}
 use Rattle.keyword_plans.specs.Plans.{part_view}
 use Rattle.keyword_plans.specs.Subjects.{subject_value}
@@ -14,7 +15,7 @@ use Rattle.evaluation_context.proofs.context.Context.enter_planned.Goals as goal
 pub returns-clause-there : goal.returns-clause-there
 returns-clause-there c = λ a k here contains.
     let planned = c.args.planned.now in
-    planned_there (linked_schemas c.args.linked.now) (context_view c.args.self.now) (context_view c.enter_chosen.new.self) (context_view c.enter_part.new.self) a k planned.chosen (part_view planned.part) (subject_value planned.subject)
+    planned_there (linked_schemas c.args.linked.now) (context_view c.args.self.now) (context_view c.enter_chosen.new.self) (context_view c.enter_part.new.self) a k planned.way (value planned.schema.now) (part_view planned.part) (subject_value planned.subject)
     here c.in_ok-enter_part.ensures.moved c.in_ok-origin.ensures.there contains
 
 -- the way back leads to where the context stood

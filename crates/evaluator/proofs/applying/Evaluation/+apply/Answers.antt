@@ -198,20 +198,8 @@ apply_all-returns-clause-found = one_keyword.apply_all-returns-clause-found
 pub apply_all-returns-clause-noted : goal.apply_all-returns-clause-noted
 apply_all-returns-clause-noted = one_keyword.apply_all-returns-clause-noted
 
-pub apply_chosen-returns-then-is_true-clause-valid : goal.apply_chosen-returns-then-is_true-clause-valid
-apply_chosen-returns-then-is_true-clause-valid = one_keyword.apply_chosen-returns-then-is_true-clause-valid
+pub apply_entered-returns-in-Ok-clause-valid : goal.apply_entered-returns-in-Ok-clause-valid
+apply_entered-returns-in-Ok-clause-valid = one_keyword.apply_entered-returns-in-Ok-clause-valid
 
-pub apply_chosen-returns-then-is_true-clause-noted : goal.apply_chosen-returns-then-is_true-clause-noted
-apply_chosen-returns-then-is_true-clause-noted = one_keyword.apply_chosen-returns-then-is_true-clause-noted
-
-pub apply_chosen-returns-then-passes-clause-valid : goal.apply_chosen-returns-then-passes-clause-valid
-apply_chosen-returns-then-passes-clause-valid = one_keyword.apply_chosen-returns-then-passes-clause-valid
-
-pub apply_chosen-returns-then-passes-clause-noted : goal.apply_chosen-returns-then-passes-clause-noted
-apply_chosen-returns-then-passes-clause-noted = one_keyword.apply_chosen-returns-then-passes-clause-noted
-
-pub apply_chosen-returns-in-Ok-clause-valid : goal.apply_chosen-returns-in-Ok-clause-valid
-apply_chosen-returns-in-Ok-clause-valid = one_keyword.apply_chosen-returns-in-Ok-clause-valid
-
-pub apply_chosen-returns-in-Err-clause-err : goal.apply_chosen-returns-in-Err-clause-err
-apply_chosen-returns-in-Err-clause-err = one_keyword.apply_chosen-returns-in-Err-clause-err
+pub apply_entered-returns-in-Err-clause-err : goal.apply_entered-returns-in-Err-clause-err
+apply_entered-returns-in-Err-clause-err = one_keyword.apply_entered-returns-in-Err-clause-err

@@ -15,49 +15,52 @@ use Rattle.keyword_plans.specs.declared.planned.Planned.{Planned}
 use Rattle.evaluator.proofs.applying.Evaluation.+apply.Given as goal
 
 abbrev pub decreases-apply_object : goal.decreases-apply_object
-decreases-apply_object l = 15 * l.nesting + 14
+decreases-apply_object l = 16 * l.nesting + 15
 
 abbrev pub decreases-use_keywords : goal.decreases-use_keywords
-decreases-use_keywords l = 15 * l.nesting + 13
+decreases-use_keywords l = 16 * l.nesting + 14
 
 abbrev pub decreases-use_groups : goal.decreases-use_groups
-decreases-use_groups l = 15 * l.nesting + 12
+decreases-use_groups l = 16 * l.nesting + 13
 
 abbrev pub decreases-use_group : goal.decreases-use_group
-decreases-use_group l = 15 * l.nesting + 11
+decreases-use_group l = 16 * l.nesting + 12
 
 abbrev pub decreases-use_conditional : goal.decreases-use_conditional
-decreases-use_conditional l = 15 * l.nesting + 10
+decreases-use_conditional l = 16 * l.nesting + 11
 
 abbrev pub decreases-use_counted : goal.decreases-use_counted
-decreases-use_counted l = 15 * l.nesting + 9
+decreases-use_counted l = 16 * l.nesting + 10
 
 abbrev pub decreases-use_one : goal.decreases-use_one
-decreases-use_one l = 15 * l.nesting + 8
+decreases-use_one l = 16 * l.nesting + 9
 
 abbrev pub decreases-use_two : goal.decreases-use_two
-decreases-use_two l = 15 * l.nesting + 7
+decreases-use_two l = 16 * l.nesting + 8
 
 abbrev pub decreases-use_named : goal.decreases-use_named
-decreases-use_named l = 15 * l.nesting + 6
+decreases-use_named l = 16 * l.nesting + 7
 
 abbrev pub decreases-use_keyword : goal.decreases-use_keyword
-decreases-use_keyword l = 15 * l.nesting + 5
+decreases-use_keyword l = 16 * l.nesting + 6
 
 abbrev pub decreases-apply_all : goal.decreases-apply_all
-decreases-apply_all l = 15 * l.nesting + 4
+decreases-apply_all l = 16 * l.nesting + 5
+
+abbrev pub decreases-apply_part : goal.decreases-apply_part
+decreases-apply_part l = 16 * l.nesting + 4
 
 abbrev pub decreases-apply_planned : goal.decreases-apply_planned
-decreases-apply_planned l = 15 * l.nesting + 3
+decreases-apply_planned l = 16 * l.nesting + 3
 
-abbrev pub decreases-apply_chosen : goal.decreases-apply_chosen
-decreases-apply_chosen l = 15 * l.nesting + 2
+abbrev pub decreases-apply_entered : goal.decreases-apply_entered
+decreases-apply_entered l = 16 * l.nesting + 2
 
 abbrev pub decreases-apply : goal.decreases-apply
-decreases-apply l = 15 * l.nesting + 1
+decreases-apply l = 16 * l.nesting + 1
 
 abbrev pub decreases-apply_other : goal.decreases-apply_other
-decreases-apply_other l = 15 * l.nesting
+decreases-apply_other l = 16 * l.nesting
 
 abbrev pub decreases-use_groups-loop-next : goal.decreases-use_groups-loop-next
 decreases-use_groups-loop-next l = length l.groups - l.next

@@ -9,8 +9,8 @@ pub returns-in-Member : goal.returns-in-Member
 returns-in-Member c older o m e valid =
     rw c.in-Member.is
     (on_ok_weaker c.push_name.result (λ pushed.
-    pushed ∙ ap (λ n. notes_of_both n (record no_notes { names = c.in-Member.name.now ∷ [] })) (c.cut_evaluated.ensures older (outcome_notes o) m e)
-    ∙ name_after older o c.in-Member.name.now) c.push_name.ensures)
+    pushed ∙ ap (λ n. notes_of_both n (record no_notes { names = c.as_str.result.now ∷ [] })) (c.cut_evaluated.ensures older (outcome_notes o) m e)
+    ∙ name_after older o c.as_str.result.now ∙ ap (λ n. notes_of_both older (record (outcome_notes o) { names = n ∷ []; indexes = [] })) c.as_str.ensures) c.push_name.ensures)
 
 pub returns-else-is_left_out : goal.returns-else-is_left_out
 returns-else-is_left_out c older o m e valid =

@@ -3,7 +3,7 @@ use Rattle.definitions.specs.Values.{Text}
 use Rattle.definitions.specs.Applied.{Application}
 use Rattle.keyword_plans.specs.Applications.{planned_dependents}
 use Rattle.json_doc.specs.Docs.{members_value}
-use Rattle.json_doc.specs.Members.{members_left}
+use Rattle.json_doc.specs.NamedMembers.{named_left}
 use Rattle.keyword_plans.specs.Subjects.{subject_value}
 use Rattle.keyword_plans.specs.Plans.{planned_view}
 use Rattle.keyword_plans.proofs.planning.in_place.plan_dependents_along_schemas.Given as goal
@@ -12,4 +12,4 @@ use Rattle.keyword_plans.proofs.planning.in_place.plan_dependents_along_schemas.
 abbrev pub invariant-loop-name : goal.invariant-loop-name
 invariant-loop-name l =
     (a : Application) (k : Text) → a.instance ≡ subject_value l.subject
-    → map (planned_view k a) l.planned.items ++ planned_dependents k a (members_left l.name-iterator) ≡ planned_dependents k a (members_value l.schemas)
+    → map (planned_view k a) l.planned.items ++ planned_dependents k a (named_left l.name-iterator) ≡ planned_dependents k a (members_value l.schemas)

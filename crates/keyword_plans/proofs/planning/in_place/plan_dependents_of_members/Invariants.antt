@@ -2,7 +2,7 @@ use Rattle.std.proofs.Common.{◌≡◌, ◌++◌, map}
 use Rattle.definitions.specs.Values.{Text}
 use Rattle.definitions.specs.Applied.{Application}
 use Rattle.json_doc.specs.Docs.{members_value}
-use Rattle.json_doc.specs.Members.{members_left}
+use Rattle.json_doc.specs.NamedMembers.{named_left}
 use Rattle.keyword_plans.specs.Applications.{planned_under_names}
 use Rattle.keyword_plans.specs.Plans.{planned_view}
 use Rattle.keyword_plans.specs.Subjects.{subject_value}
@@ -12,5 +12,5 @@ use Rattle.keyword_plans.proofs.planning.in_place.plan_dependents_of_members.Giv
 abbrev pub invariant-loop-name : goal.invariant-loop-name
 invariant-loop-name l =
     (a : Application) (k : Text) → a.instance ≡ subject_value l.subject
-    → map (planned_view k a) l.planned.items ++ planned_under_names k a (members_value l.schemas) (members_left l.name-iterator)
+    → map (planned_view k a) l.planned.items ++ planned_under_names k a (members_value l.schemas) (named_left l.name-iterator)
     ≡ planned_under_names k a (members_value l.schemas) (members_value l.members)

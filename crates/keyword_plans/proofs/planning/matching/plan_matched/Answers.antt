@@ -1,6 +1,6 @@
 use Rattle.std.proofs.Common.{◌∙◌, ap, map}
 use Rattle.json_doc.specs.Docs.{members_value}
-use Rattle.json_doc.specs.Members.{members_left}
+use Rattle.json_doc.specs.NamedMembers.{named_left}
 use Rattle.keyword_plans.specs.Applications.{planned_pattern}
 use Rattle.keyword_plans.specs.Plans.{planned_view}
 use Rattle.keyword_plans.proofs.Growing.{grown, ended}
@@ -13,7 +13,7 @@ loop-name-preserved c =
     record {
       searched = c.push_matches.ensures.searched ∙ c.loop-name.invariant.searched;
       planned = λ a k s are.
-          grown (map (planned_view k a) c.loop-name.planned.items) _ _ _ (planned_pattern k a ps (members_left c.next.new.self)) _
+          grown (map (planned_view k a) c.loop-name.planned.items) _ _ _ (planned_pattern k a ps (named_left c.next.new.self)) _
           (c.in_ok-push_matches.ensures.ok a k s (same_patterns _ _ s ps c.loop-name.invariant.searched are)) (ap (planned_pattern k a ps) c.in-Some.ensures.steps)
           (c.loop-name.invariant.planned a k s are);
     }

@@ -2,7 +2,7 @@ use Rattle.std.proofs.Common.{◌≡◌, ◌++◌, map}
 use Rattle.definitions.specs.Values.{Text, members}
 use Rattle.definitions.specs.Applied.{Application}
 use Rattle.json_doc.specs.Docs.{members_value}
-use Rattle.json_doc.specs.Members.{members_left}
+use Rattle.json_doc.specs.NamedMembers.{named_left}
 use Rattle.keyword_plans.specs.Applications.{planned_members}
 use Rattle.keyword_plans.specs.Plans.{planned_view}
 use Rattle.keyword_plans.proofs.planning.members.plan_along_schemas.Given as goal
@@ -11,4 +11,4 @@ use Rattle.keyword_plans.proofs.planning.members.plan_along_schemas.Given as goa
 abbrev pub invariant-loop-name : goal.invariant-loop-name
 invariant-loop-name l =
     (a : Application) (k : Text) → members a.instance ≡ members_value l.present
-    → map (planned_view k a) l.planned.items ++ planned_members k a (members_left l.name-iterator) ≡ planned_members k a (members_value l.schemas)
+    → map (planned_view k a) l.planned.items ++ planned_members k a (named_left l.name-iterator) ≡ planned_members k a (members_value l.schemas)

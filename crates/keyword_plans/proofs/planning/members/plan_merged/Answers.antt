@@ -70,8 +70,7 @@ names-preserved c =
       planned = λ a k.
           let here = at_part a (k ∷ m.0 ∷ []) s.1 (named m.0) m.1 in
           grown (map (planned_view k a) c.names.planned.items) _ (here ∷ []) _ _ _
-          (ap (map (planned_view k a)) c.in_ok-push-in-Equal.ensures.items ∙ map-append (planned_view k a) c.names.planned.items _
-          ∙ ap (λ t. map (planned_view k a) c.names.planned.items ++ at_part a (k ∷ t ∷ []) s.1 (named t) m.1 ∷ []) c.as_str-name.ensures)
+          (ap (map (planned_view k a)) c.in_ok-push-in-Equal.ensures.items ∙ map-append (planned_view k a) c.names.planned.items _)
           (ap₂ (planned_at_names k a) schemas members ∙ of-both k a s m ss ms h ordered (sym c.compare.ensures ∙ c.in-Equal.is)
           ∙ ap (λ ys. here ∷ ys) (ap₂ (planned_at_names k a) (sym schemas_left) (sym members_left)))
           (c.names.invariant.planned a k);

@@ -2,7 +2,7 @@ use Rattle.std.proofs.Common.{◌≡◌, ◌++◌, map}
 use Rattle.definitions.specs.Values.{Text}
 use Rattle.definitions.specs.Applied.{Application}
 use Rattle.json_doc.specs.Docs.{value, members_value}
-use Rattle.json_doc.specs.Members.{members_left}
+use Rattle.json_doc.specs.NamedMembers.{named_left}
 use Rattle.keyword_plans.specs.Applications.{planned_others}
 use Rattle.keyword_plans.specs.Beside.{StandsBeside}
 use Rattle.keyword_plans.specs.Plans.{planned_view}
@@ -15,6 +15,6 @@ invariant-loop-name l =
     record {
       searched : searched_in l.searches ≡ searched_in l.fn.searches;
       planned : (a : Application) (k : Text) → StandsBeside (searched_in l.fn.searches).now l.beside a
-          → map (planned_view k a) l.planned.items ++ planned_others (searched_in l.fn.searches).now k a (value l.schema) (members_left l.name-iterator)
+          → map (planned_view k a) l.planned.items ++ planned_others (searched_in l.fn.searches).now k a (value l.schema) (named_left l.name-iterator)
           ≡ planned_others (searched_in l.fn.searches).now k a (value l.schema) (members_value l.members);
     }

@@ -71,8 +71,7 @@ names-preserved c =
       planned = λ a k.
           let here = at_part a (k ∷ []) v (named m.0) m.1 in
           grown (map (planned_view k a) c.names.planned.items) _ (here ∷ []) _ _ _
-          (ap (map (planned_view k a)) c.in_ok-push-in-Greater.ensures.items ∙ map-append (planned_view k a) c.names.planned.items _
-          ∙ ap (λ t. map (planned_view k a) c.names.planned.items ++ at_part a (k ∷ []) v (named t) m.1 ∷ []) c.as_str.ensures)
+          (ap (map (planned_view k a)) c.in_ok-push-in-Greater.ensures.items ∙ map-append (planned_view k a) c.names.planned.items _)
           (ap (planned_unnamed k a v schemas) members ∙ here-unnamed k a v c.names.first_schema c.names.other_schemas m ms order c.names.invariant.schemas
           ∙ ap (λ xs. here ∷ planned_unnamed k a v schemas xs) (sym left))
           (c.names.invariant.planned a k);

@@ -3,7 +3,7 @@ use Rattle.std.proofs.lemmas.List.{map-append}
 use Rattle.definitions.specs.Values.{Text}
 use Rattle.definitions.specs.Applied.{has}
 use Rattle.json_doc.specs.Docs.{value}
-use Rattle.json_doc.specs.Members.{members_left}
+use Rattle.json_doc.specs.NamedMembers.{name_text, named_left}
 use Rattle.keyword_plans.specs.Applications.{planned_unevaluated_properties}
 use Rattle.keyword_plans.specs.Plans.{planned_view}
 use Rattle.keyword_plans.proofs.Growing.{grown}
@@ -20,11 +20,11 @@ loop-name-preserved-in_ok-push c = record {
   planned = λ a k.
       let v = value c.args.schema.now in
       let ns : List Text = map (λ (n : Bor Text). n.now) c.args.names.now in
-      let rest = members_left c.next.new.self in
-      let free : has c.in-Some.name.now ns ≡ false = asked c.in-Some.name.now _ c.args.names.now _ false c.loop-name.invariant.names c.in_ok-has.ensures.has c.if-not-branch.true in
+      let rest = named_left c.next.new.self in
+      let free : has (name_text c.in-Some.name) ns ≡ false = ap (λ t. has t ns) (sym c.as_str.ensures) ∙ asked c.as_str.result.now _ c.args.names.now _ false c.loop-name.invariant.names c.in_ok-has.ensures.has c.if-not-branch.true in
       grown (map (planned_view k a) c.loop-name.planned.items) _ _ _ (planned_unevaluated_properties k a v ns rest) _
       (ap (map (planned_view k a)) c.in_ok-push.ensures.items ∙ map-append (planned_view k a) c.loop-name.planned.items _)
-      (ap (planned_unevaluated_properties k a v ns) c.in-Some.ensures.steps ∙ member-new k a v ns c.in-Some.name.now (value c.in-Some.member.now) rest free)
+      (ap (planned_unevaluated_properties k a v ns) c.in-Some.ensures.steps ∙ member-new k a v ns (name_text c.in-Some.name) (value c.in-Some.member.now) rest free)
       (c.loop-name.invariant.planned a k);
 }
 
@@ -34,9 +34,9 @@ loop-name-preserved c = record {
   planned = λ a k.
       let v = value c.args.schema.now in
       let ns : List Text = map (λ (n : Bor Text). n.now) c.args.names.now in
-      let rest = members_left c.next.new.self in
-      let taken : has c.in-Some.name.now ns ≡ true = asked c.in-Some.name.now _ c.args.names.now _ true c.loop-name.invariant.names c.in_ok-has.ensures.has c.if-not-branch.false in
+      let rest = named_left c.next.new.self in
+      let taken : has (name_text c.in-Some.name) ns ≡ true = ap (λ t. has t ns) (sym c.as_str.ensures) ∙ asked c.as_str.result.now _ c.args.names.now _ true c.loop-name.invariant.names c.in_ok-has.ensures.has c.if-not-branch.false in
       skipped (map (planned_view k a) c.loop-name.planned.items) _ (planned_unevaluated_properties k a v ns rest) _
-      (ap (planned_unevaluated_properties k a v ns) c.in-Some.ensures.steps ∙ member-old k a v ns c.in-Some.name.now (value c.in-Some.member.now) rest taken)
+      (ap (planned_unevaluated_properties k a v ns) c.in-Some.ensures.steps ∙ member-old k a v ns (name_text c.in-Some.name) (value c.in-Some.member.now) rest taken)
       (c.loop-name.invariant.planned a k);
 }

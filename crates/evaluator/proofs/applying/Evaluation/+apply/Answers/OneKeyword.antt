@@ -180,9 +180,9 @@ apply_all-loop-one-preserved t c =
           let inside : Contains-apply_all c.args.planned.now.items p = subst (λ ps. Contains-apply_all ps p) c.deref-one-items.ensures.value (i, omega arith, sym c.one-item.is) in
           let here : IsKnown c.loop-one.self.linked.now k a p = subst (λ (l : Bor Linked). IsKnown l.now k a p) (sym same) (known p inside) in
           let there : IsUnder (context_view c.loop-one.self.context) k a = ap frame_standing c.loop-one.invariant.back ∙ under in
-          child_noted m (log_view old.log) (log_view c.loop-one.self.log) (log_view c.apply_planned.new.self.log) (part_outcome old.linked.now c.args.nesting k a) items i p (omega arith) c.one-item.is
+          child_noted m (log_view old.log) (log_view c.loop-one.self.log) (log_view c.apply_part.new.self.log) (part_outcome old.linked.now c.args.nesting k a) items i p (omega arith) c.one-item.is
           (c.loop-one.invariant.noted a under known)
-          (subst (λ (l : Bor Linked). log_view c.apply_planned.new.self.log ≡ notes_of_both (log_view c.loop-one.self.log) (part_notes m (part_outcome l.now c.args.nesting k a p))) same (c.in-Ok.ensures.noted a there here));
+          (subst (λ (l : Bor Linked). log_view c.apply_part.new.self.log ≡ notes_of_both (log_view c.loop-one.self.log) (part_notes m (part_outcome l.now c.args.nesting k a p))) same (c.in-Ok.ensures.noted a there here));
     }
 
 pub apply_all-returns-in-Err-clause-err : goal.apply_all-returns-in-Err-clause-err
@@ -217,43 +217,18 @@ apply_all-returns-clause-noted t c a under known =
     (part_outcomes c.args.self.now.linked.now c.args.nesting (row_of c.args.keyword).name a ps))) whole
     (c.loop-one.invariant.noted a under known)
 
-pub apply_chosen-returns-then-is_true-clause-valid : goal.apply_chosen-returns-then-is_true-clause-valid
-apply_chosen-returns-then-is_true-clause-valid t c a k under known = sym (c.is_true.ensures.silent a k under c.if-is_true.true).passes
-
-pub apply_chosen-returns-then-is_true-clause-noted : goal.apply_chosen-returns-then-is_true-clause-noted
-apply_chosen-returns-then-is_true-clause-noted t c a k under known =
-    c.count_one.ensures ∙ ap (notes_of_both (log_view c.args.self.now.log)) (sym (c.is_true.ensures.silent a k under c.if-is_true.true).noted)
-
-pub apply_chosen-returns-then-passes-clause-valid : goal.apply_chosen-returns-then-passes-clause-valid
-apply_chosen-returns-then-passes-clause-valid t c a k under known = c.if-passes.true ∙ sym (c.in_ok-passes.ensures.silent a k under c.if-passes.true).passes
-
-pub apply_chosen-returns-then-passes-clause-noted : goal.apply_chosen-returns-then-passes-clause-noted
-apply_chosen-returns-then-passes-clause-noted t c a k under known =
-    c.count_one-then-passes.ensures ∙ ap (λ (log : Log). notes_of_both (log_view log) one_application) c.in_ok-passes.ensures.noted
-    ∙ ap (notes_of_both (log_view c.args.self.now.log)) (sym (c.in_ok-passes.ensures.silent a k under c.if-passes.true).noted)
-
-pub apply_chosen-returns-in-Ok-clause-valid : goal.apply_chosen-returns-in-Ok-clause-valid
-apply_chosen-returns-in-Ok-clause-valid t c a k under known =
+pub apply_entered-returns-in-Ok-clause-valid : goal.apply_entered-returns-in-Ok-clause-valid
+apply_entered-returns-in-Ok-clause-valid t c a k under known =
     let p = c.args.planned.now in
     let child = (planned_view k a p).1 in
-    let same : c.passes_silently.new.self.linked ≡ c.args.self.now.linked = c.in_ok-passes.ensures.linked in
-    let at : IsAt c.passes_silently.new.self.linked.now (context_view c.enter_planned.new.self) (value c.of-present.result.schema.now) (subject_value p.subject) child =
-    planned_at c.passes_silently.new.self.linked.now (context_view c.enter_planned.new.self) k a p (value c.of-present.result.schema.now)
-    (c.in_ok-back.ensures.there a k (ap (λ x. frame_standing (context_view x)) c.in_ok-passes.ensures.back ∙ under) (subst (λ (b : Bor Linked). IsKnown b.now k a p) (sym same) known))
-    (ap value c.of-present.ensures ∙ c.chosen_schema-schema.ensures) (subst (λ (b : Bor Linked). IsKnown b.now k a p) (sym same) known) in
-    subst (λ (b : Bor Linked). c.in-Ok.valid ≡ (linked_outcome b.now c.args.nesting child).valid) same (c.in-Ok.ensures.valid child at)
+    let at : IsAt c.args.self.now.linked.now (context_view c.enter_planned.new.self) (value c.of-present.result.schema.now) (subject_value p.subject) child =
+    planned_at c.args.self.now.linked.now (context_view c.enter_planned.new.self) k a p (value c.of-present.result.schema.now) (c.in_ok-back.ensures.there a k under known) (ap value c.of-present.ensures) known in
+    c.in-Ok.ensures.valid child at
 
-pub apply_chosen-returns-in-Err-clause-err : goal.apply_chosen-returns-in-Err-clause-err
-apply_chosen-returns-in-Err-clause-err t c a k under known other =
+pub apply_entered-returns-in-Err-clause-err : goal.apply_entered-returns-in-Err-clause-err
+apply_entered-returns-in-Err-clause-err t c a k under known other =
     let p = c.args.planned.now in
     let child = (planned_view k a p).1 in
-    let same : c.passes_silently.new.self.linked ≡ c.args.self.now.linked = c.in_ok-passes.ensures.linked in
-    let at : IsAt c.passes_silently.new.self.linked.now (context_view c.enter_planned.new.self) (value c.of-present.result.schema.now) (subject_value p.subject) child =
-    planned_at c.passes_silently.new.self.linked.now (context_view c.enter_planned.new.self) k a p (value c.of-present.result.schema.now)
-    (c.in_ok-back.ensures.there a k (ap (λ x. frame_standing (context_view x)) c.in_ok-passes.ensures.back ∙ under) (subst (λ (b : Bor Linked). IsKnown b.now k a p) (sym same) known))
-    (ap value c.of-present.ensures ∙ c.chosen_schema-schema.ensures) (subst (λ (b : Bor Linked). IsKnown b.now k a p) (sym same) known) in
-    let fault = c.in-Err.ensures.err child at other in (
-      fault.0,
-      subst (λ (b : Bor Linked). IsOver (log_view c.args.self.now.log) (outcome_notes (linked_outcome b.now c.args.nesting child))) same
-          (subst (λ (log : Log). IsOver (log_view log) (outcome_notes (linked_outcome c.passes_silently.new.self.linked.now c.args.nesting child))) c.in_ok-passes.ensures.noted fault.1),
-    )
+    let at : IsAt c.args.self.now.linked.now (context_view c.enter_planned.new.self) (value c.of-present.result.schema.now) (subject_value p.subject) child =
+    planned_at c.args.self.now.linked.now (context_view c.enter_planned.new.self) k a p (value c.of-present.result.schema.now) (c.in_ok-back.ensures.there a k under known) (ap value c.of-present.ensures) known in
+    c.in-Err.ensures.err child at other

@@ -13,20 +13,20 @@ use Rattle.evaluator.specs.Leaves.{HasLeafMarks, IsLeaf}
 use Rattle.evaluator.specs.Silences.{is_member_met}
 use Rattle.evaluator.proofs.LeafLaws.{annotating_last, leaf_by_marks}
 use Rattle.evaluator.proofs.MetLaws.{alone_marks, alone_met, met_silent}
-use Rattle.evaluator.proofs.PlannedLaws.{chosen_instance, chosen_schema_value}
+use Rattle.evaluator.proofs.PlannedLaws.{instance_planned, schema_value_planned}
 use Rattle.evaluator.proofs.PresentLaws.{nothing_annotates}
 use Rattle.evaluator.proofs.SilenceLaws.{apart_below, leaf_silent}
-use Rattle.evaluator.proofs.applying.Evaluation.passes_silently.Goals as goal
+use Rattle.evaluator.proofs.applying.Evaluation.object_passes_silently.Goals as goal
 
 pub returns-in-Dict-clause-silent : goal.returns-in-Dict-clause-silent
 returns-in-Dict-clause-silent c a k under =
     let p = c.args.planned.now in
     let l = c.args.self.now.linked.now in
     let left = c.args.nesting in
-    let s = value c.args.schema.now in
+    let s = value p.schema.now in
     let child = (planned_view k a p).1 in
-    let same : child.schema.value ≡ s = chosen_schema_value k a p.chosen (part_view p.part) (subject_value p.subject) ∙ sym c.requires in
-    let instance : child.instance ≡ subject_value p.subject = chosen_instance k a p.chosen (part_view p.part) (subject_value p.subject) in
+    let same : child.schema.value ≡ s = schema_value_planned k a p.way s (part_view p.part) (subject_value p.subject) in
+    let instance : child.instance ≡ subject_value p.subject = instance_planned k a p.way s (part_view p.part) (subject_value p.subject) in
     let object = ap value c.in-Dict.is ∙ value-Dict c.in-Dict.members in
     let own : members s ≡ members_value c.in-Dict.members = ap members object in
     let other : None ≡ as_boolean s = sym (ap as_boolean object) in

@@ -46,14 +46,14 @@ impl Made {
     {
         match plain_said(says) {
             Some(said) => Ok(said),
-            None => self.make(says),
+            None => Ok(written_said(self.make(says)?)),
         }
     }
 
     // The same, which is made.
     #[inline(always)]
-    fn make<'s>(&'s mut self, says: Says<'s, 's>) -> Result<Said<'s>, AllocError>
-        ensures { IfOk result (λ said. IsSaid said (text (says_value says.entry))) }
+    fn make<'s>(&'s mut self, says: Says<'s, 's>) -> Result<&'s str, AllocError>
+        ensures { IfOk result (λ made. made.now ≡ text (says_value says.entry)) }
     {
         match says {
             Says::Names(names) => self.list(names),
@@ -63,13 +63,13 @@ impl Made {
 
     // A list of names.
     #[inline(always)]
-    fn list<'s>(&'s mut self, names: &'s [&'s str]) -> Result<Said<'s>, AllocError>
-        ensures { IfOk result (λ said. IsSaid said (text (says_value (says.Names names.entry)))) }
+    fn list<'s>(&'s mut self, names: &'s [&'s str]) -> Result<&'s str, AllocError>
+        ensures { IfOk result (λ made. made.now ≡ text (says_value (says.Names names.entry))) }
     {
         match names.split_first() {
             Some((first, rest)) if are_all_unescaped(names) => {
                 write_plain_names(&mut self.names, first, rest)?;
-                Ok(written_said(self.names.as_str()))
+                Ok(self.names.as_str())
             }
             _ => self.make_other(Says::Names(names)),
         }
@@ -77,12 +77,12 @@ impl Made {
 
     // Anything.
     #[inline(never)]
-    fn make_other<'s>(&'s mut self, says: Says<'s, 's>) -> Result<Said<'s>, AllocError>
-        ensures { IfOk result (λ said. IsSaid said (text (says_value says.entry))) }
+    fn make_other<'s>(&'s mut self, says: Says<'s, 's>) -> Result<&'s str, AllocError>
+        ensures { IfOk result (λ made. made.now ≡ text (says_value says.entry)) }
     {
         self.text.clear();
         push_says(&mut self.text, says)?;
-        Ok(written_said(self.text.as_str()))
+        Ok(self.text.as_str())
     }
 }
 

@@ -6,6 +6,7 @@ ghost use Rattle.definitions.specs.Pointers.{fragment_text};
 ghost use Rattle.locations.specs.Steps.{tokens};
 ghost use Rattle.basic_output.specs.Pieces.{IsHead, unit_head};
 
+use crate::origin_memory::OriginMemory;
 use crate::unescaped::are_unescaped;
 use locations::{Step, push_fragment};
 use std::alloc::{AllocError, Global};
@@ -46,7 +47,20 @@ impl<'a> Origin<'a> {
         ensures { IfOk result
             (λ o. origin_view o ≡ (resource.entry.now, tokens steps.entry.items)) }
     {
-        let head = head_of(alloc, resource, &steps)?;
+        Origin::within(OriginMemory::new(alloc), resource, steps)
+    }
+
+    /// The same, whose text is written in memory that was kept, where it finds enough there.
+    #[inline(always)]
+    pub fn within(
+        memory: OriginMemory,
+        resource: &'a str,
+        steps: Vec<Step<'a>>,
+    ) -> Result<Origin<'a>, AllocError>
+        ensures { IfOk result
+            (λ o. origin_view o ≡ (resource.entry.now, tokens steps.entry.items)) }
+    {
+        let head = head_of(memory.text, resource, &steps)?;
         Ok(Origin {
             resource,
             steps,
@@ -67,12 +81,23 @@ impl<'a> Origin<'a> {
         }
     }
 
+    /// The memory that its text was written in, for the next origin. It is given back where the text took more than 1,048,576
+    /// bytes.
+    pub fn into_memory(self) -> OriginMemory {
+        let Origin { steps, head, .. } = self;
+        match head {
+            Some(text) => OriginMemory::keeping(text),
+            None => OriginMemory::new(*steps.allocator()),
+        }
+    }
+
     /// Whether its text is still to be written.
     pub fn lacks_text(&self) -> bool {
         !self.is_tried
     }
 
-    /// The same, with its text. The only error is want of memory.
+    /// The same, with its text. The only error is want of memory. It is called apart, since few origins lack it.
+    #[inline(never)]
     pub fn with_text(&self) -> Result<Rc<Origin<'a>>, AllocError>
         ensures { IfOk result (λ o. origin_view o.value ≡ origin_view self.now) }
     {
@@ -109,11 +134,13 @@ impl<'a> Origin<'a> {
 }
 
 // How the texts of units begin, where the URI and the pointer stand in a string as they are.
-fn head_of(alloc: Global, uri: &str, steps: &[Step<'_>]) -> Result<Option<String>, AllocError>
+fn head_of(memory: String, uri: &str, steps: &[Step<'_>]) -> Result<Option<String>, AllocError>
     ensures { IfOk result
         (λ o. IfSome o (λ h. IsHead (uri.now, tokens steps.now) (string_bytes h))) }
 {
-    let mut head = String::with_capacity(alloc, ROOM)?;
+    let mut head = memory;
+    head.clear();
+    head.reserve(ROOM)?;
     head.push_str(KEY)?;
     head.push_str(uri)?;
     head.push_str("#")?;

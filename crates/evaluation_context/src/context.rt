@@ -16,7 +16,7 @@ ghost use Rattle.evaluation_context.specs.Standings.{application_at, at_keyword,
 
 use crate::context_memory::ContextMemory;
 use crate::running_objects::RunningObjects;
-use basic_output::{Location, Origin};
+use basic_output::{Location, Origin, OriginMemory};
 use keyword_plans::DynamicScope;
 use keywords::Keyword;
 use linker::Linked;
@@ -74,19 +74,28 @@ impl<'a> Context<'a> {
             schema: _,
         } = root;
         Ok(Context {
-            origin: Rc::new(alloc, Origin::new(alloc, resource, steps)?)?,
+            origin: Rc::new(alloc, Origin::within(memory.origin, resource, steps)?)?,
             onward: 0,
             name: None,
             scope: DynamicScope::new(alloc, linked),
-            running: RunningObjects::within(alloc, memory),
+            running: RunningObjects::within(alloc, memory.pointers),
         })
     }
 
-    /// The memory that its locations were written in, for the next context. Where the text of a location took more than
-    /// 1,048,576 bytes, all of that location's is given back.
-    pub fn into_memory(self) -> ContextMemory {
-        let Context { running, .. } = self;
-        running.into_memory()
+    /// The memory that its locations and its origin were written in, for the next context. Where the text of one of them took more
+    /// than 1,048,576 bytes, all of it is given back.
+    pub fn into_memory(self, alloc: Global) -> ContextMemory {
+        let Context {
+            origin,
+            running,
+            ..
+        } = self;
+        let pointers = running.into_memory();
+        let origin = match Rc::into_inner(origin) {
+            Some(origin) => origin.into_memory(),
+            None => OriginMemory::new(alloc),
+        };
+        ContextMemory { origin, pointers }
     }
 
     /// The URI of the resource of the schema that is applied.
@@ -123,6 +132,7 @@ impl<'a> Context<'a> {
 
     /// Writes what the texts of the locations lack, so that a unit's text has only to copy them: `location` says the same
     /// before and after. The only error is want of memory.
+    #[inline(always)]
     pub fn write_locations(&mut self) -> Result<(), AllocError>
         ensures same { context_view self.new ≡ context_view self.old }
         ensures documents { scope_documents self.new.scope ≡ scope_documents self.old.scope }

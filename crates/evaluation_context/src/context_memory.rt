@@ -1,20 +1,37 @@
 //! The memory that a context's locations are written in.
 
-use basic_output::PointerMemory;
+use basic_output::{OriginMemory, PointerMemory};
 use std::alloc::Global;
 
-/// The memory that the evaluation path and the instance location of a context are written in, to be kept for the next context:
+/// The memory that a context's evaluation path, instance location and origin are written in, to be kept for the next context:
 /// what their texts of at most 1,048,576 bytes were written in. No context depends on what is in it.
 #[derive(Debug, Drop)]
 pub struct ContextMemory {
-    pub(crate) path: PointerMemory,
-    pub(crate) instance_location: PointerMemory,
+    pub(crate) origin: OriginMemory,
+    pub(crate) pointers: PointersMemory,
 }
 
 impl ContextMemory {
     /// None yet. This takes no memory; what is written takes it from `alloc`.
     pub fn new(alloc: Global) -> ContextMemory {
         ContextMemory {
+            origin: OriginMemory::new(alloc),
+            pointers: PointersMemory::new(alloc),
+        }
+    }
+}
+
+/// The same of the evaluation path and of the instance location.
+#[derive(Debug, Drop)]
+pub(crate) struct PointersMemory {
+    pub(crate) path: PointerMemory,
+    pub(crate) instance_location: PointerMemory,
+}
+
+impl PointersMemory {
+    /// None yet.
+    pub(crate) fn new(alloc: Global) -> PointersMemory {
+        PointersMemory {
             path: PointerMemory::new(alloc),
             instance_location: PointerMemory::new(alloc),
         }

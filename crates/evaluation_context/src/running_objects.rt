@@ -12,7 +12,7 @@ ghost use Rattle.basic_output.specs.PointerViews.{pointer_view};
 ghost use Rattle.evaluation_context.specs.Ends.{identity_end, tell_ends, tells_end};
 ghost use Rattle.evaluation_context.specs.Runnings.{are_above, are_laid, is_running_as, last_end, last_steps, onward_identity, running_identity, running_view};
 
-use crate::context_memory::ContextMemory;
+use crate::context_memory::PointersMemory;
 use crate::ends::{are_other_ends, end_of};
 use crate::running::Running;
 use basic_output::{Origin, WrittenPointer};
@@ -45,7 +45,7 @@ impl<'a> RunningObjects<'a> {
 
     /// None, at the whole instance. This takes no memory; what comes later takes it from `alloc`, and texts where they find too
     /// little in what was kept.
-    pub(crate) fn within(alloc: Global, memory: ContextMemory) -> RunningObjects<'a>
+    pub(crate) fn within(alloc: Global, memory: PointersMemory) -> RunningObjects<'a>
         ensures running { running_objects result ≡ [] }
         ensures ends { path_ends result ≡ [] }
         ensures path { path_pointer result ≡ [] }
@@ -59,13 +59,13 @@ impl<'a> RunningObjects<'a> {
     }
 
     /// The memory that the path and the instance location were written in.
-    pub(crate) fn into_memory(self) -> ContextMemory {
+    pub(crate) fn into_memory(self) -> PointersMemory {
         let RunningObjects {
             path,
             instance_location,
             ..
         } = self;
-        ContextMemory {
+        PointersMemory {
             path: path.into_memory(),
             instance_location: instance_location.into_memory(),
         }

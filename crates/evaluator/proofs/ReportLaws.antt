@@ -83,12 +83,12 @@ unfolding log_view
 deep_so l o e = sym (ap (λ (n : Notes). n.tally.deep) e)
 
 pub logged_annotations : (l : Log) (o : Outcome) (valid : Bool) → log_view l ≡ outcome_notes o → o.valid ≡ true → valid ≡ true
-    → unit_texts l.annotations ≡ map (unit_text valid) (output.reported_units o)
+    → unit_texts l.units.value.annotations ≡ map (unit_text valid) (output.reported_units o)
 unfolding log_view
 logged_annotations l o valid e v w = rw (v, w) (ap (λ (n : Notes). n.annotations) e)
 
 pub logged_errors : (l : Log) (o : Outcome) (valid : Bool) → log_view l ≡ outcome_notes o → o.valid ≡ false → valid ≡ false
-    → unit_texts l.errors ≡ map (unit_text valid) (output.reported_units o)
+    → unit_texts l.units.value.errors ≡ map (unit_text valid) (output.reported_units o)
 unfolding log_view
 logged_errors l o valid e v w = rw (v, w) (ap (λ (n : Notes). n.errors) e)
 

@@ -1,5 +1,6 @@
 pub mod Tallies
 pub mod Notes
+pub mod NoUnits
 pub mod Logs
 pub mod Findings
 pub mod Groups

@@ -7,8 +7,8 @@ use Rattle.evaluator.specs.declared.log.LogMark.{LogMark}
 
 unfoldable pub log_view : Log → Notes
 log_view l = record {
-  errors = unit_texts l.errors;
-  annotations = unit_texts l.annotations;
+  errors = unit_texts l.units.value.errors;
+  annotations = unit_texts l.units.value.annotations;
   names = map (λ name. name.now) l.names.items;
   indexes = l.indexes.items;
   tally = record { count = l.count; looped = l.looped; deep = l.deep };

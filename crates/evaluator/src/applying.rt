@@ -56,10 +56,15 @@ impl<'a> Evaluation<'a> {
 
     /// The memory that it worked in, for the next evaluation.
     pub(crate) fn into_memory(self) -> EvaluationMemory {
-        let Evaluation { context, log, .. } = self;
+        let Evaluation {
+            alloc,
+            context,
+            log,
+            ..
+        } = self;
         EvaluationMemory {
             log: log.into_memory(),
-            context: context.into_memory(),
+            context: context.into_memory(alloc),
         }
     }
 

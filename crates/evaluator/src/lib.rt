@@ -13,6 +13,7 @@ mod halt;
 mod here;
 mod leaves;
 mod log;
+mod logged_units;
 mod memory;
 mod object_keywords;
 mod one_keyword;

@@ -1,12 +1,14 @@
 //! The units of an evaluation so far, and what it evaluated of the instance.
 
-ghost use Rattle.std.specs.Prelude.{◌≡◌, ◌≤◌, ◌&&◌, [], not};
-ghost use Rattle.basic_output.specs.Units.{unit_texts};
+ghost use Rattle.std.specs.Prelude.{◌≡◌, ◌≤◌, ◌&&◌, [], not, IfOk, IfSome};
+ghost use Rattle.std.proofs.Props.{props};
 ghost use Rattle.definitions.specs.Limits.{limits};
 ghost use Rattle.keywords.specs.Rows.{row_of};
+ghost use Rattle.evaluator.specs.NoUnits.{HasNoUnits};
 ghost use Rattle.evaluator.specs.Notes.{needs_to_pass};
 
-use basic_output::{Location, Mark, Says, Units};
+use crate::logged_units::LoggedUnits;
+use basic_output::{Location, Mark, Says};
 use keyword_plans::Part;
 use keywords::Keyword;
 use std::alloc::{AllocError, Global};
@@ -22,8 +24,7 @@ pub(crate) const MOST_APPLICATIONS: u64 = 100_000;
 #[derive(Drop)]
 pub(crate) struct Log<'a> {
     pub(crate) alloc: Global,
-    pub(crate) errors: Units,
-    pub(crate) annotations: Units,
+    pub(crate) units: Box<LoggedUnits>,
     pub(crate) names: Vec<&'a str>,
     pub(crate) indexes: Vec<usize>,
     pub(crate) count: u64,
@@ -38,11 +39,9 @@ const MOST_INDEXES: usize = 131_072;
 /// The memory of a log's indexes and of the texts of its units, to be kept for the next log.
 #[derive(Drop)]
 pub(crate) struct LogMemory {
-    errors: Units,
-    annotations: Units,
+    units: Option<Box<LoggedUnits>>,
     indexes: Vec<usize>,
-    ghost no_errors: { unit_texts errors ≡ [] },
-    ghost no_annotations: { unit_texts annotations ≡ [] },
+    ghost no_units: { IfSome units (λ u. HasNoUnits u.value) } by { Prim.hlevel props },
     ghost no_indexes: { indexes.items ≡ [] },
 }
 
@@ -50,8 +49,7 @@ impl LogMemory {
     /// None yet. This takes no memory.
     pub(crate) fn new(alloc: Global) -> LogMemory {
         LogMemory {
-            errors: Units::new(alloc),
-            annotations: Units::new(alloc),
+            units: None,
             indexes: Vec::new(alloc),
         }
     }
@@ -97,26 +95,22 @@ impl<'a> Log<'a> {
     ghost use Rattle.evaluator.specs.Logs.{log_view, mark_view};
     ghost use Rattle.evaluator.specs.Silences.{IsSilent};
 
-    /// Nothing yet. This takes no memory; what is noted takes it from `alloc`, and indexes and texts of units where they find too
-    /// little in what was kept.
-    pub(crate) fn within(alloc: Global, memory: LogMemory) -> Log<'a>
-        ensures { log_view result ≡ no_notes }
+    /// Nothing yet. What is noted takes memory from `alloc`, and indexes and texts of units where they find too little in what was
+    /// kept. The only error is want of memory.
+    pub(crate) fn within(alloc: Global, memory: LogMemory) -> Result<Log<'a>, AllocError>
+        ensures { IfOk result (λ log. log_view log ≡ no_notes) }
     {
-        let LogMemory {
-            errors,
-            annotations,
-            indexes,
-        } = memory;
-        Log {
+        let LogMemory { units, indexes } = memory;
+        let units = none_within(alloc, units)?;
+        Ok(Log {
             alloc,
-            errors,
-            annotations,
+            units,
             names: Vec::new(alloc),
             indexes,
             count: 0,
             looped: false,
             deep: false,
-        }
+        })
     }
 
     /// The memory of the indexes and of the texts, for the next log. That of the errors is given back where a text took more
@@ -124,16 +118,13 @@ impl<'a> Log<'a> {
     pub(crate) fn into_memory(self) -> LogMemory {
         let Log {
             alloc,
-            mut errors,
-            mut annotations,
+            mut units,
             indexes,
             ..
         } = self;
-        errors.clear();
-        annotations.clear();
+        units.clear();
         LogMemory {
-            errors,
-            annotations,
+            units: Some(units),
             indexes: emptied(alloc, indexes),
         }
     }
@@ -143,8 +134,8 @@ impl<'a> Log<'a> {
         ensures { mark_view result ≡ lengths (log_view self.now) }
     {
         LogMark {
-            errors: self.errors.mark(),
-            annotations: self.annotations.mark(),
+            errors: self.units.errors.mark(),
+            annotations: self.units.annotations.mark(),
             names: self.names.len(),
             indexes: self.indexes.len(),
         }
@@ -199,7 +190,7 @@ impl<'a> Log<'a> {
                   ∷ [];
             })) }
     {
-        self.errors.push(false, location, says)
+        self.units.errors.push(false, location, says)
     }
 
     /// Puts an annotation last. The only error is want of memory.
@@ -215,7 +206,7 @@ impl<'a> Log<'a> {
                   ∷ [];
             })) }
     {
-        self.annotations.push(true, location, says)
+        self.units.annotations.push(true, location, says)
     }
 
     /// A name was evaluated. The only error is want of memory.
@@ -251,7 +242,7 @@ impl<'a> Log<'a> {
                   ∷ more.errors;
             })) }
     {
-        self.errors.insert(mark.errors, false, location, says)
+        self.units.errors.insert(mark.errors, false, location, says)
     }
 
     /// Puts an annotation at the mark, before those that came later. The only error is want of memory.
@@ -269,7 +260,8 @@ impl<'a> Log<'a> {
                   ∷ more.annotations;
             })) }
     {
-        self.annotations
+        self.units
+            .annotations
             .insert(mark.annotations, true, location, says)
     }
 
@@ -279,7 +271,7 @@ impl<'a> Log<'a> {
             → log_view self.old ≡ notes_of_both older more
             → log_view self.new ≡ notes_of_both older (record more { errors = [] }) }
     {
-        self.errors.cut_back(mark.errors);
+        self.units.errors.cut_back(mark.errors);
     }
 
     /// Cuts off the annotations that came after the mark.
@@ -288,7 +280,7 @@ impl<'a> Log<'a> {
             → log_view self.old ≡ notes_of_both older more
             → log_view self.new ≡ notes_of_both older (record more { annotations = [] }) }
     {
-        self.annotations.cut_back(mark.annotations);
+        self.units.annotations.cut_back(mark.annotations);
     }
 
     /// Cuts off the names and the indexes that came after the mark.
@@ -352,6 +344,20 @@ impl<'a> Log<'a> {
             Part::Element(index) => self.push_index(index),
             Part::NameOf(_) => Ok(()),
         }
+    }
+}
+
+// No units, in this memory where there is any. The only error is want of memory.
+fn none_within(
+    alloc: Global,
+    memory: Option<Box<LoggedUnits>>,
+) -> Result<Box<LoggedUnits>, AllocError>
+    requires { IfSome memory (λ u. HasNoUnits u.value) }
+    ensures { IfOk result (λ u. HasNoUnits u.value) }
+{
+    match memory {
+        Some(units) => Ok(units),
+        None => Ok(Box::new(alloc, LoggedUnits::new(alloc))?),
     }
 }
 

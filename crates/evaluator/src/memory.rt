@@ -4,9 +4,9 @@ use crate::log::LogMemory;
 use evaluation_context::ContextMemory;
 use std::alloc::Global;
 
-/// The memory that an evaluation works in, to be kept for the next one: that of the texts of its units, of its evaluation path
-/// and of its instance location, for each of at most 1,048,576 bytes of text, and that of the indexes that it evaluated. No
-/// answer depends on what is in it.
+/// The memory that an evaluation works in, to be kept for the next one: that of the texts of its units, of its evaluation path,
+/// of its instance location and of its root's location, for each of at most 1,048,576 bytes of text, and that of the indexes
+/// that it evaluated. No answer depends on what is in it.
 #[derive(Drop)]
 pub struct EvaluationMemory {
     pub(crate) log: LogMemory,

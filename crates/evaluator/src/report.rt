@@ -110,13 +110,14 @@ pub fn evaluate_with<'a>(
     let present = Present::of(root.schema);
     let EvaluationMemory { log, context } = replace(memory, EvaluationMemory::new(alloc));
     let context = Context::new(alloc, linked, root, context)?;
+    let log = Log::within(alloc, log)?;
     let mut evaluation = Evaluation {
         alloc,
         linked,
         enumerations: Enumerations::new(alloc, linked),
         searches: Searches::new(alloc, linked),
         context,
-        log: Log::within(alloc, log),
+        log,
         plans: PlanMemory::new(alloc),
         passing: None,
         last_passed: true,
@@ -155,7 +156,11 @@ fn made<'a>(alloc: Global, valid: bool, log: &Log<'a>) -> Result<Report, Fault>
         → IfOk result (λ r. output_text o ≡ report_text r) }
     ensures err { IfErr result (λ f. f ≡ Fault.NoRoom) }
 {
-    let units = if valid { &log.annotations } else { &log.errors };
+    let units = if valid {
+        &log.units.annotations
+    } else {
+        &log.units.errors
+    };
     let text = output_text(alloc, valid, units)?;
     Ok(Report { valid, text })
 }

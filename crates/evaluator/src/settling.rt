@@ -133,7 +133,7 @@ fn note_own<'a>(
             };
             insert_own(
                 context,
-                &mut log.annotations,
+                &mut log.units.annotations,
                 mark.annotations,
                 keyword,
                 subject,
@@ -143,7 +143,7 @@ fn note_own<'a>(
         }
         _ => insert_own(
             context,
-            &mut log.annotations,
+            &mut log.units.annotations,
             mark.annotations,
             keyword,
             subject,

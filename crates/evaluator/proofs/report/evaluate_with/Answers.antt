@@ -17,8 +17,8 @@ returns c =
     let o = linked_outcome l 1000 a in
     let at = subst (λ v. IsAt l (context_view c.in_ok-context.context) v x a) (ap value (sym c.of-present.ensures))
     (first_is_at l (context_view c.in_ok-context.context) s x c.root-root.ensures (c.in_ok-context.ensures.there x)) in
-    let noted = noted_first c.apply-passed.result (log_view c.apply-passed.new.self.log) _ o c.within.ensures (c.apply-passed.ensures.noted a at) in
-    let costly = costly_first c.apply-passed.result _ o c.within.ensures (c.apply-passed.ensures.err a at) in
+    let noted = noted_first c.apply-passed.result (log_view c.apply-passed.new.self.log) _ o c.in_ok-log.ensures (c.apply-passed.ensures.noted a at) in
+    let costly = costly_first c.apply-passed.result _ o c.in_ok-log.ensures (c.apply-passed.ensures.err a at) in
     let r = c.reported-report.result in
     let given = gives_same r (first_outcome l s x c.root-root.ensures) (c.reported-report.ensures o (c.apply-passed.ensures.valid a at) noted costly) in
     record {

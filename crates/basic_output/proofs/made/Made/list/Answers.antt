@@ -1,10 +1,9 @@
-use Rattle.std.proofs.Common.{◌≡◌, ◌∷◌, List, map, subst, sym, ap, ◌∙◌}
+use Rattle.std.proofs.Common.{◌≡◌, ◌∷◌, List, map, sym, ap, ◌∙◌}
 use Rattle.std.specs.Borrow.{Bor}
 use Rattle.std.specs.List.{list_all}
 use Rattle.definitions.specs.Texts.{text}
 use Rattle.definitions.specs.Values.{Text, string}
 use Rattle.basic_output.specs.Pieces.{array_text, is_unescaped}
-use Rattle.basic_output.specs.Ready.{IsSaid}
 use Rattle.basic_output.proofs.PieceLaws.{names_pieces, plain_names}
 use Rattle.basic_output.proofs.made.Made.list.Goals as goal
 
@@ -17,7 +16,7 @@ returns-in_ok-write_plain_names-in-Some c =
     let are_unescaped = λ (ns : List (Bor Text)). list_all (λ name. list_all is_unescaped name.now) ns in
     let plain = ap are_unescaped (sym both) ∙ sym c.are_all_unescaped.ensures ∙ c.if-are_all_unescaped.true in
     let listed = plain_names first rest plain ∙ ap (λ ns. array_text (map (λ name. text (string name.now)) ns)) (sym both) ∙ sym (names_pieces names) in
-    subst (IsSaid c.written_said.result) (c.as_str.ensures ∙ c.in_ok-write_plain_names-in-Some.ensures ∙ listed) c.written_said.ensures
+    c.as_str.ensures ∙ c.in_ok-write_plain_names-in-Some.ensures ∙ listed
 
 pub returns-in_default : goal.returns-in_default
 returns-in_default c = c.make_other.ensures

@@ -14,12 +14,12 @@ unfolding context_view frame_standing
 returns-clause-there c = λ x.
     let root = c.args.root in
     let start : Standing = record { path = []; resource = root.resource.now; pointer = tokens root.steps.items; instance_location = record { pointer = []; name = None }; scope = []; running = [] } in
-    let origin : origin_view c.in_ok-new-2.field-0.value ≡ (root.resource.now, tokens root.steps.items) = ap origin_view c.in_ok-new-2.ensures.ok ∙ c.in_ok-new.ensures in
+    let origin : origin_view c.in_ok-new.field-0.value ≡ (root.resource.now, tokens root.steps.items) = ap origin_view c.in_ok-new.ensures.ok ∙ c.in_ok-within.ensures in
     ap (λ st. application_at st (value root.schema.now) x)
     (same_standings {t = start}
-    c.within.ensures.path
+    c.within-2.ensures.path
     (ap (λ (i : Identity). i.0) origin)
-    (pointer_begins (origin_view c.in_ok-new-2.field-0.value).1 (path_pointer c.within.result) ∙ ap (λ (i : Identity). i.1) origin)
-    (same_locations c.within.ensures.instance_location refl)
-    c.new-3.ensures.uris
-    c.within.ensures.running)
+    (pointer_begins (origin_view c.in_ok-new.field-0.value).1 (path_pointer c.within-2.result) ∙ ap (λ (i : Identity). i.1) origin)
+    (same_locations c.within-2.ensures.instance_location refl)
+    c.new-2.ensures.uris
+    c.within-2.ensures.running)

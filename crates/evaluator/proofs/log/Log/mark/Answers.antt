@@ -1,6 +1,8 @@
-use Rattle.std.proofs.Common.{◌∙◌, sym}
+use Rattle.std.proofs.Common.{◌∙◌, ap, length, sym}
 use Rattle.std.proofs.lemmas.List.{length-map}
+use Rattle.basic_output.specs.Units.{unit_texts}
 use Rattle.evaluator.specs.Logs.{log_view}
+use Rattle.evaluator.specs.declared.logged_units.LoggedUnits.{LoggedUnits}
 use Rattle.evaluator.proofs.LogLaws.{same_lengths}
 use Rattle.evaluator.proofs.log.Log.mark.Goals as goal
 
@@ -8,4 +10,6 @@ pub returns : goal.returns
 unfolding log_view
 returns c =
     let log = c.args.self.now in
-    same_lengths c.mark.ensures c.mark-2.ensures (c.len.ensures ∙ log.names.ok.0 ∙ sym (length-map log.names.items (λ name. name.now))) (c.len-2.ensures ∙ log.indexes.ok.0)
+    same_lengths (c.mark.ensures ∙ ap (λ (u : LoggedUnits). length (unit_texts u.errors)) c.deref.ensures)
+    (c.mark-2.ensures ∙ ap (λ (u : LoggedUnits). length (unit_texts u.annotations)) c.deref-2.ensures)
+    (c.len.ensures ∙ log.names.ok.0 ∙ sym (length-map log.names.items (λ name. name.now))) (c.len-2.ensures ∙ log.indexes.ok.0)

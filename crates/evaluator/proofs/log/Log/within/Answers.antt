@@ -5,4 +5,4 @@ use Rattle.evaluator.proofs.log.Log.within.Goals as goal
 
 pub returns : goal.returns
 unfolding log_view
-returns c = same_notes c.args.memory.no_errors c.args.memory.no_annotations (ap (map (λ name. name.now)) c.new.ensures.items) c.args.memory.no_indexes refl
+returns c = same_notes c.in_ok-units.ensures.errors c.in_ok-units.ensures.annotations (ap (map (λ name. name.now)) c.new.ensures.items) c.args.memory.no_indexes refl

@@ -1,16 +1,13 @@
 //! What keywords look at, their names, and how they annotate.
 
 use basic_output::Says;
-use json_doc::read;
+use json_doc::{Doc, Name, read};
 use keyword_plans::{Evaluated, Subject, annotate, distinct_names};
 use keywords::Keyword;
 use std::test::Fail;
 
 #[test]
 fn subjects_are_strings_arrays_or_objects(rt: HostRuntime) -> Result<(), Fail> {
-    let name = Subject::Name("a");
-    assert!(rt; name.as_str() == Some("a") && name.members().is_none() && name.get("a").is_none());
-    assert!(rt; name.elements().is_empty() && !name.is_array() && !name.is_object());
     let doc = read(rt.alloc(), b"[null,true]")?;
     let array = Subject::Value(&doc);
     assert!(rt; array.elements().len() == 2 && array.is_array() && array.as_str().is_none());
@@ -19,6 +16,29 @@ fn subjects_are_strings_arrays_or_objects(rt: HostRuntime) -> Result<(), Fail> {
     assert!(rt; object.is_object() && object.members().is_some());
     assert!(rt; object.get("a").is_some() && object.get("b").is_none());
     Ok(())
+}
+
+#[test]
+fn a_name_of_an_object_is_a_string(rt: HostRuntime) -> Result<(), Fail> {
+    let doc = read(rt.alloc(), br#"{"a":null}"#)?;
+    match first_name(&doc) {
+        Some(name) => {
+            let name = Subject::Name(name);
+            assert!(rt; name.as_str() == Some("a") && name.members().is_none());
+            assert!(rt; name.get("a").is_none() && name.elements().is_empty());
+            assert!(rt; !name.is_array() && !name.is_object());
+        }
+        None => assert!(rt; false),
+    }
+    Ok(())
+}
+
+fn first_name(doc: &Doc) -> Option<Name<'_>> {
+    let mut members = doc.as_dict()?.iter().named();
+    match members.next() {
+        Some((name, _)) => Some(name),
+        None => None,
+    }
 }
 
 #[test]

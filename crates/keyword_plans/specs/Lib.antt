@@ -1,6 +1,5 @@
 pub mod Subjects
 pub mod Sites
-pub mod ValueSets
 pub mod Followed
 pub mod FollowedIn
 pub mod Searched

@@ -12,7 +12,7 @@ ghost use Rattle.linker.specs.declared.linked.Linked.{Linked};
 ghost use Rattle.keyword_plans.specs.Followed.{Refers, followed_in_scope, target_view};
 ghost use Rattle.keyword_plans.specs.FollowedIn.{followed_in};
 ghost use Rattle.keyword_plans.specs.Searched.{IsSearched};
-ghost use Rattle.keyword_plans.specs.ValueSets.{value_set};
+ghost use Rattle.linker.specs.ValueSets.{value_set};
 
 use crate::followed_references::{Followed, FollowedReferences};
 use crate::target::Target;

@@ -10,7 +10,7 @@ ghost use Rattle.definitions.specs.Values.{Text};
 ghost use Rattle.linker.specs.LinkedDocuments.{linked_schemas};
 ghost use Rattle.linker.specs.ReferenceNumbers.{reference_pair};
 ghost use Rattle.keyword_plans.specs.Followed.{AreFollowed, IsFollowed, IsNamed, Refers, target_view};
-ghost use Rattle.keyword_plans.specs.ValueSets.{value_set};
+ghost use Rattle.linker.specs.ValueSets.{value_set};
 
 use crate::target::Target;
 use linker::{Linked, ReferenceNumber};

@@ -1,5 +1,5 @@
 -- A document that is put among others with which it shares no resource.
-use Rattle.std.proofs.Common.{◌≡◌, Bool, true, false, ◌||◌, cond, not, List, [], ◌∷◌, find, is_some, is_none, Option, Some, None, Result, Ok, Err, IfOk, OnErr, ◌⊎◌, Contains, Ordering, Less, Equal, Greater, sym, refl, ap, ◌∙◌, subst, inl, inr, true≢false}
+use Rattle.std.proofs.Common.{◌≡◌, ◌≢◌, Bool, true, false, ◌||◌, cond, not, List, [], ◌∷◌, find, is_some, is_none, Option, Some, None, Result, Ok, Err, IfOk, OnErr, ◌⊎◌, Contains, Ordering, Less, Equal, Greater, sym, refl, ap, ◌∙◌, subst, inl, inr, true≢false}
 use Rattle.std.proofs.lemmas.Bool.{and_from, and_parts}
 use Rattle.std.proofs.lemmas.Cmp.{nat_list_cmp_total}
 use Rattle.std.specs.Cmp.Lexicographic.{slice_cmp, bytes_decides}
@@ -87,15 +87,17 @@ sound_after old new d sound fine free way = elim way [
 ]
 
 -- where no resource is shared, none has the canonical URI
-unfound_at : (ds : List Document) (d : Document) (o : Option Document) → document_of ds d.canonical ≡ o → ((e : Document) → Contains ds e → e ≡ document_from e.base e.value)
-    → holds_resource d.canonical d ≡ true → shares_resource ds d ≡ false → is_none o ≡ true
-unfound_at ds d None e made own free = refl
-unfound_at ds d (Some other) e made own free =
-    let found = found_there (λ (x : Document). same_text d.canonical x.canonical) ds other e in
-    absurd (true≢false (sym (shares_its_own ds d other own
-    (subst (λ (x : Document). holds_resource x.canonical x ≡ true) (sym (made other found.0)) (holds_itself other.base other.value))
-    found.0 (sym ((bytes_decides d.canonical other.canonical).0 found.1))) ∙ free))
+pub unnamed : (ds : List Document) (d : Document) → ((e : Document) → Contains ds e → e ≡ document_from e.base e.value) → holds_resource d.canonical d ≡ true → shares_resource ds d ≡ false
+    → (e : Document) → Contains ds e → e.canonical ≢ d.canonical
+unnamed ds d made own free e c same =
+    true≢false (sym (shares_its_own ds d e own (subst (λ (x : Document). holds_resource x.canonical x ≡ true) (sym (made e c)) (holds_itself e.base e.value)) c same) ∙ free)
+
+unfound_at : (ds : List Document) (d : Document) (o : Option Document) → document_of ds d.canonical ≡ o → ((e : Document) → Contains ds e → e.canonical ≢ d.canonical) → is_none o ≡ true
+unfound_at ds d None e other = refl
+unfound_at ds d (Some found) e other =
+    let there = found_there (λ (x : Document). same_text d.canonical x.canonical) ds found e in
+    absurd (other found there.0 (sym ((bytes_decides d.canonical found.canonical).0 there.1)))
 
 pub unfound : (ds : List Document) (d : Document) → ((e : Document) → Contains ds e → e ≡ document_from e.base e.value) → holds_resource d.canonical d ≡ true → shares_resource ds d ≡ false
     → is_none (document_of ds d.canonical) ≡ not (shares_resource ds d)
-unfound ds d made own free = unfound_at ds d (document_of ds d.canonical) refl made own free ∙ ap not (sym free)
+unfound ds d made own free = unfound_at ds d (document_of ds d.canonical) refl (unnamed ds d made own free) ∙ ap not (sym free)

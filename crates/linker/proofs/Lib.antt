@@ -17,3 +17,5 @@ pub mod DynamicAnchors
 pub mod ShortArrays
 pub mod Distinct
 pub mod StandingSchemas
+pub mod HeldResources
+pub mod NumberedResources

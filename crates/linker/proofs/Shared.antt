@@ -1,23 +1,18 @@
 -- Lists of shared documents.
-use Rattle.std.proofs.Common.{◌≡◌, ℕ, ◌+◌, ◌<◌, ◌++◌, take, length, get_or, Bool, cond, List, [], ◌∷◌, Option, Some, map, find, option_and_then, sym, refl, ap, ◌∙◌, arith}
+use Rattle.std.proofs.Common.{◌≡◌, ℕ, ◌+◌, ◌<◌, ◌++◌, take, length, get_or, Bool, cond, List, [], ◌∷◌, Some, map, refl, ap, arith}
 use Rattle.std.proofs.lemmas.List.{map-append}
-use Rattle.std.specs.List.{position_from, slice_get}
+use Rattle.std.specs.List.{position_from}
 use Rattle.std.specs.Global.{Global}
 use Rattle.std.specs.declared.rc.Rc.{Rc}
 use Rattle.lemmas.proofs.Lists.{map-take_more}
-use Rattle.schema_index.proofs.Paired.{found-by_number}
 use Rattle.schema_scan.specs.CompiledDocuments.{compiled_view}
 use Rattle.schema_scan.specs.declared.compiled.Compiled.{Compiled}
 use Rattle.linker.specs.SharedDocuments.{shared_documents}
 
--- what is found among the images, by its number among the elements
-position_from-map : {X Y : Type 0} (p : Y → Bool) (f : X → Y) (k : ℕ) (xs : List X) → position_from p k (map f xs) ≡ position_from (λ x. p (f x)) k xs
+-- the number of what is found among the images
+pub position_from-map : {X Y : Type 0} (p : Y → Bool) (f : X → Y) (k : ℕ) (xs : List X) → position_from p k (map f xs) ≡ position_from (λ x. p (f x)) k xs
 position_from-map p f k [] = refl
 position_from-map p f k (x ∷ xs) = ap (cond (p (f x)) (Some k)) (position_from-map p f (k + 1) xs)
-
-pub found_numbered : {X Y : Type 0} (p : Y → Bool) (f : X → Y) (xs : List X) (n : Option ℕ) → n ≡ position_from (λ x. p (f x)) 0 xs
-    → option_and_then (slice_get (map f xs)) n ≡ find p (map f xs)
-found_numbered p f xs n e = ap (option_and_then (slice_get (map f xs))) (e ∙ sym (position_from-map p f 0 xs)) ∙ found-by_number p (map f xs)
 
 -- one document more
 pub shared_more : (ds : List (Rc Compiled Global)) (i : ℕ) (d : Rc Compiled Global) → i < length ds → d ≡ get_or ds i d

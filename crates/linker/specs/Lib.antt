@@ -13,3 +13,5 @@ pub mod SoundLists
 pub mod Together
 pub mod ReferenceNumbers
 pub mod PatternNumbers
+pub mod CompoundDocuments
+pub mod ValueSets

@@ -1,7 +1,9 @@
 -- A visit of documents: those that are reached so far, and those of them whose references wait to be followed.
-use Rattle.std.specs.Prelude.{◌≡◌, ◌⊎◌, ◌+◌, ◌++◌, List, [], ◌∷◌, Bool, true, false, Contains, if◌then◌else◌, is_some, length, nat_lt}
+use Rattle.std.specs.Prelude.{◌≡◌, ◌⊎◌, ◌+◌, ◌++◌, List, [], ◌∷◌, Bool, true, false, Contains, find, if◌then◌else◌, is_some, length, nat_lt}
 use Rattle.definitions.specs.Schemas.{Document}
 use Rattle.definitions.specs.Documents.{document_of, documents_with, resources_of, Ascend}
+use Rattle.definitions.specs.Values.{Text}
+use Rattle.linker.specs.Sources.{embeds}
 
 -- documents of the source, in byte order of canonical URIs
 pub record IsPart (reached all : List Document) : Type 0 where
@@ -12,6 +14,10 @@ pub record IsPart (reached all : List Document) : Type 0 where
 pub record AreCompound (ds compound : List Document) : Type 0 where
   pub inside : (d : Document) → Contains compound d → Contains ds d
   pub each : (d : Document) → Contains ds d → nat_lt 1 (length (resources_of d)) ≡ true → Contains compound d
+
+-- which of them has a resource is found there as among all
+abbrev pub EmbedAlike : List Document → List Document → Type 0
+EmbedAlike ds compound = (uri : Text) → find (embeds uri) compound ≡ find (embeds uri) ds
 
 -- and one document more, if it has several
 unfoldable pub with_compound : Document → List Document → List Document

@@ -10,9 +10,12 @@ ghost use Rattle.definitions.specs.Targets.{target, target_in};
 ghost use Rattle.definitions.specs.Values.{Text, same_text};
 ghost use Rattle.definitions.specs.Lists.{has_repeat};
 ghost use Rattle.schema_scan.specs.CompiledDocuments.{compiled_schemas, compiled_view};
+ghost use Rattle.linker.specs.CompoundDocuments.{compound_documents};
 ghost use Rattle.linker.specs.Missing.{missing_in};
 ghost use Rattle.linker.specs.SharedDocuments.{shared_documents};
+ghost use Rattle.linker.specs.Visits.{EmbedAlike};
 
+use crate::compound_documents::CompoundDocuments;
 use crate::holders::holder;
 use faults::Fault;
 use schema_scan::Compiled;
@@ -22,17 +25,24 @@ use std::rc::Rc;
 use uri_ref::{fragment_kind, split, without_fragment};
 
 // Whether the absolute reference names a schema of these documents. A fragment that can't be read names nothing.
-fn names_schema(alloc: Global, documents: &[Rc<Compiled>], reference: &str) -> Result<bool, Fault>
+fn names_schema(
+    alloc: Global,
+    documents: &[Rc<Compiled>],
+    compound: &CompoundDocuments,
+    reference: &str,
+) -> Result<bool, Fault>
     requires ascend { Ascend (shared_documents documents.now) }
     requires distinct { has_repeat same_text
         (resource_uris (table_of (shared_documents documents.now))) ≡ false }
+    requires known { EmbedAlike (shared_documents documents.now)
+        (compound_documents compound.now) }
     ensures ok { IfOk result
         (λ named. named ≡ is_some
         (target (table_of (shared_documents documents.now)) reference.now)) }
     ensures err { IfErr result (λ f. f ≡ Fault.NoRoom) }
 {
     let uri = without_fragment(reference);
-    match holder(documents, uri) {
+    match holder(documents, compound, uri) {
         Some(document) => names_in(alloc, document, uri, split(reference).fragment()),
         None => Ok(false),
     }
@@ -62,10 +72,13 @@ fn names_in(
 pub(crate) fn least_missing<'a>(
     alloc: Global,
     documents: &'a [Rc<Compiled>],
+    compound: &CompoundDocuments,
 ) -> Result<Option<&'a str>, Fault>
     requires ascend { Ascend (shared_documents documents.now) }
     requires distinct { has_repeat same_text
         (resource_uris (table_of (shared_documents documents.now))) ≡ false }
+    requires known { EmbedAlike (shared_documents documents.now)
+        (compound_documents compound.now) }
     ensures ok { IfOk result
         (λ t. option_map (λ t. t.now) t
         ≡ least (missing_references (shared_documents documents.now))) }
@@ -73,7 +86,7 @@ pub(crate) fn least_missing<'a>(
 {
     let mut found = None;
     for document in documents {
-        found = least_missing_of(alloc, documents, document, found)?;
+        found = least_missing_of(alloc, documents, compound, document, found)?;
     }
     Ok(found)
 }
@@ -82,12 +95,15 @@ pub(crate) fn least_missing<'a>(
 fn least_missing_of<'a>(
     alloc: Global,
     documents: &[Rc<Compiled>],
+    compound: &CompoundDocuments,
     document: &'a Compiled,
     found: Option<&'a str>,
 ) -> Result<Option<&'a str>, Fault>
     requires ascend { Ascend (shared_documents documents.now) }
     requires distinct { has_repeat same_text
         (resource_uris (table_of (shared_documents documents.now))) ≡ false }
+    requires known { EmbedAlike (shared_documents documents.now)
+        (compound_documents compound.now) }
     ensures ok { (before : List Text) → option_map (λ t. t.now) found.entry ≡ least before
         → IfOk result (λ t. option_map (λ t. t.now) t
         ≡ least (before ++ missing_in (shared_documents documents.now)
@@ -96,7 +112,7 @@ fn least_missing_of<'a>(
 {
     let mut least = found;
     for reference in document.references() {
-        least = least_with(alloc, documents, reference, least)?;
+        least = least_with(alloc, documents, compound, reference, least)?;
     }
     Ok(least)
 }
@@ -105,12 +121,15 @@ fn least_missing_of<'a>(
 fn least_with<'a>(
     alloc: Global,
     documents: &[Rc<Compiled>],
+    compound: &CompoundDocuments,
     reference: &'a str,
     found: Option<&'a str>,
 ) -> Result<Option<&'a str>, Fault>
     requires ascend { Ascend (shared_documents documents.now) }
     requires distinct { has_repeat same_text
         (resource_uris (table_of (shared_documents documents.now))) ≡ false }
+    requires known { EmbedAlike (shared_documents documents.now)
+        (compound_documents compound.now) }
     ensures ok { IfOk result
         (λ t. option_map (λ t. t.now) t
         ≡ (if is_some (target (table_of (shared_documents documents.now))
@@ -118,7 +137,7 @@ fn least_with<'a>(
         (lesser reference.now (option_map (λ t. t.now) found.entry)))) }
     ensures err { IfErr result (λ f. f ≡ Fault.NoRoom) }
 {
-    if names_schema(alloc, documents, reference)? {
+    if names_schema(alloc, documents, compound, reference)? {
         Ok(found)
     } else {
         Ok(Some(lesser(reference, found)))

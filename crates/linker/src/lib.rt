@@ -2,6 +2,7 @@
 #![tactic(auto)]
 
 mod both;
+mod compound_documents;
 mod contents;
 mod dynamic_resources;
 mod holders;

@@ -7,11 +7,16 @@ ghost use Rattle.definitions.specs.Reach.{missing_references};
 ghost use Rattle.definitions.specs.Scanning.{resource_uris};
 ghost use Rattle.definitions.specs.Schemas.{table_of};
 ghost use Rattle.definitions.specs.Targets.{resource_root, schema_with_dynamic_anchor};
+ghost use Rattle.linker.specs.CompoundDocuments.{compound_documents};
 ghost use Rattle.linker.specs.SharedDocuments.{shared_documents};
+ghost use Rattle.linker.specs.ValueSets.{value_set};
+ghost use Rattle.linker.specs.Visits.{EmbedAlike};
 ghost use Rattle.schema_index.specs.DynamicResources.{has_resource};
+ghost use Rattle.std.proofs.Props.{props};
 ghost use Rattle.std.specs.List.Sorted.{IsStrictlySortedBy-prop};
 ghost use Rattle.definitions.specs.Documents.{Ascend};
 
+use crate::compound_documents::CompoundDocuments;
 use schema_scan::Compiled;
 use std::collections::{BTreeMap, BTreeSet};
 use std::rc::Rc;
@@ -24,10 +29,13 @@ pub struct Linked {
     pub(crate) uri: String,
     // In byte order of canonical URIs.
     pub(crate) documents: Vec<Rc<Compiled>>,
+    // Those of them that have several resources.
+    pub(crate) compound: CompoundDocuments,
     // The URIs of the resources that have a dynamic anchor, by its name.
     pub(crate) dynamic_resources: BTreeMap<String, BTreeSet<String>>,
     ghost ascend: { Ascend (shared_documents documents.items) } by { IsStrictlySortedBy-prop _ _ },
     ghost distinct: { has_repeat same_text (resource_uris (table_of (shared_documents documents.items))) ≡ false },
+    ghost known: { EmbedAlike (shared_documents documents.items) (compound_documents compound) } by { Prim.hlevel (props, value_set) },
     ghost whole: { missing_references (shared_documents documents.items) ≡ [] },
     ghost asked: { is_some (resource_root (table_of (shared_documents documents.items)) (string_bytes uri)) ≡ true },
     ghost by_dynamic_anchor: { (uri name : Text) → has_resource dynamic_resources uri name

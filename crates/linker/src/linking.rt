@@ -8,15 +8,18 @@ ghost use Rattle.definitions.specs.Schemas.{table_of};
 ghost use Rattle.definitions.specs.Values.{same_text};
 ghost use Rattle.definitions.specs.Lists.{has_repeat};
 ghost use Rattle.faults.specs.View.{fault_view};
+ghost use Rattle.linker.specs.CompoundDocuments.{compound_documents};
 ghost use Rattle.linker.specs.LinkFaults.{link_fault};
 ghost use Rattle.linker.specs.LinkedDocuments.{linked_uri, linked_documents};
 ghost use Rattle.linker.specs.SharedDocuments.{shared_documents};
+ghost use Rattle.linker.specs.Visits.{EmbedAlike};
 
+use crate::compound_documents::CompoundDocuments;
 use crate::dynamic_resources::dynamic_resources_of;
 use crate::judging::least_missing;
 use crate::linked::Linked;
 use crate::source::Source;
-use crate::visiting::reached_documents;
+use crate::visiting::{Reached, reached_documents};
 use faults::Fault;
 use schema_scan::Compiled;
 use std::alloc::Global;
@@ -38,22 +41,32 @@ pub fn link<S: Source>(alloc: Global, source: &mut S, resource: &str) -> Result<
         ≡ Some (fault_view f)) }
     ensures same { S.documents source.new ≡ S.documents source.old }
 {
-    let documents = reached_documents(alloc, source, resource)?;
-    judge(alloc, &documents)?;
+    let Reached {
+        documents,
+        compound,
+    } = reached_documents(alloc, source, resource)?;
+    judge(alloc, &documents, &compound)?;
     let dynamic_resources = dynamic_resources_of(alloc, &documents)?;
     let uri = resource.to_owned(alloc)?;
     Ok(Linked {
         uri,
         documents,
+        compound,
         dynamic_resources,
     })
 }
 
 // Fails where there are no documents, or where a reference of theirs names no schema.
-fn judge(alloc: Global, documents: &[Rc<Compiled>]) -> Result<(), Fault>
+fn judge(
+    alloc: Global,
+    documents: &[Rc<Compiled>],
+    compound: &CompoundDocuments,
+) -> Result<(), Fault>
     requires ascend { Ascend (shared_documents documents.now) }
     requires distinct { has_repeat same_text
         (resource_uris (table_of (shared_documents documents.now))) ≡ false }
+    requires known { EmbedAlike (shared_documents documents.now)
+        (compound_documents compound.now) }
     ensures ok { OnOk result (link_fault (shared_documents documents.now) ≡ None) }
     ensures err { IfErr result
         (λ f. f ≢ Fault.NoRoom → link_fault (shared_documents documents.now)
@@ -62,7 +75,7 @@ fn judge(alloc: Global, documents: &[Rc<Compiled>]) -> Result<(), Fault>
     if documents.is_empty() {
         return Err(Fault::NotFound);
     }
-    match least_missing(alloc, documents)? {
+    match least_missing(alloc, documents, compound)? {
         Some(reference) => Err(Fault::Unresolved(reference.to_owned(alloc)?)),
         None => Ok(()),
     }

@@ -6,7 +6,6 @@ ghost use Rattle.schema_scan.specs.CompiledDocuments.{compiled_view};
 ghost use Rattle.linker.specs.ListedDocuments.{listed_documents};
 ghost use Rattle.linker.specs.SoundLists.{listed_sound};
 
-use crate::holders::holder;
 use crate::list_source::ListSource;
 use crate::source::Source;
 use faults::Fault;
@@ -41,7 +40,7 @@ fn holding(list: &ListSource, resource: &str) -> Result<Option<Rc<Compiled>>, Fa
         ≡ find (holds_resource resource.now) (listed_documents list.now)) }
     ensures err { IfErr result (λ f. f ≡ Fault.NoRoom) }
 {
-    match holder(&list.documents, resource) {
+    match list.holder(resource) {
         Some(document) => Ok(Some(document.clone()?)),
         None => Ok(None),
     }

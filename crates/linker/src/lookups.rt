@@ -154,7 +154,7 @@ impl Linked {
         ensures { option_map (λ d. compiled_view d.now) result
             ≡ find (holds_resource uri.now) (linked_documents self.now) }
     {
-        match holder(self.documents.as_slice(), uri) {
+        match holder(self.documents.as_slice(), &self.compound, uri) {
             Some(document) => Some(document),
             None => None,
         }

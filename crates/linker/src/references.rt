@@ -101,7 +101,7 @@ impl Linked {
         if documents.len() == 1 {
             return Some(0);
         }
-        holder_number(documents, uri)
+        holder_number(documents, &self.compound, uri)
     }
 
     // The document of this number.

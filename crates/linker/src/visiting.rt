@@ -3,10 +3,12 @@
 ghost use Rattle.std.specs.Prelude.{◌≡◌, IfErr, IfOk, OnOk};
 ghost use Rattle.definitions.specs.Reach.{holds_resource, reach, refers_to};
 ghost use Rattle.schema_scan.specs.CompiledDocuments.{compiled_view};
+ghost use Rattle.linker.specs.CompoundDocuments.{compound_documents};
 ghost use Rattle.linker.specs.SharedDocuments.{shared_documents};
 ghost use Rattle.definitions.specs.Documents.{Ascend};
-ghost use Rattle.linker.specs.Visits.{Adds, AreCompound, IsPart, Keeps, with_compound};
+ghost use Rattle.linker.specs.Visits.{Adds, AreCompound, EmbedAlike, IsPart, Keeps};
 
+use crate::compound_documents::CompoundDocuments;
 use crate::holders::is_reached;
 use crate::insertion::insert_in_order;
 use crate::source::Source;
@@ -16,19 +18,30 @@ use std::alloc::{AllocError, Global};
 use std::rc::Rc;
 use uri_ref::without_fragment;
 
-// The documents that the resource reaches, in byte order of their canonical URIs: none where no document has it.
+/// Documents that a resource reaches.
+#[derive(Drop)]
+pub(crate) struct Reached {
+    /// All of them, in byte order of their canonical URIs.
+    pub(crate) documents: Vec<Rc<Compiled>>,
+    /// Those of several resources.
+    pub(crate) compound: CompoundDocuments,
+}
+
+// The documents that the resource reaches: none where no document has it.
 pub(crate) fn reached_documents<S: Source>(
     alloc: Global,
     source: &mut S,
     resource: &str,
-) -> Result<Vec<Rc<Compiled>>, Fault>
-    ensures ok { IfOk result
-        (λ ds. shared_documents ds.items ≡ reach (S.documents source.old) resource.now) }
+) -> Result<Reached, Fault>
+    ensures ok { IfOk result (λ r. shared_documents r.documents.items
+        ≡ reach (S.documents source.old) resource.now) }
+    ensures known { IfOk result (λ r. EmbedAlike (shared_documents r.documents.items)
+        (compound_documents r.compound)) }
     ensures err { IfErr result (λ f. f ≡ Fault.NoRoom) }
     ensures same { S.documents source.new ≡ S.documents source.old }
 {
     let mut reached = Vec::new(alloc);
-    let mut compound = Vec::new(alloc);
+    let mut compound = CompoundDocuments::new(alloc);
     let mut waiting = Vec::new(alloc);
     visit(
         alloc,
@@ -48,7 +61,10 @@ pub(crate) fn reached_documents<S: Source>(
             &mut waiting,
         )?;
     }
-    Ok(reached)
+    Ok(Reached {
+        documents: reached,
+        compound,
+    })
 }
 
 // Follows the references of a document. Those of the reached documents that have several resources are known.
@@ -57,18 +73,18 @@ fn follow<S: Source>(
     source: &mut S,
     document: &Compiled,
     reached: &mut Vec<Rc<Compiled>>,
-    compound: &mut Vec<Rc<Compiled>>,
+    compound: &mut CompoundDocuments,
     waiting: &mut Vec<Rc<Compiled>>,
 ) -> Result<(), Fault>
     requires part { IsPart (shared_documents reached.old.items) (S.documents source.old) }
     requires known { AreCompound (shared_documents reached.old.items)
-        (shared_documents compound.old.items) }
+        (compound_documents compound.old) }
     ensures ok { OnOk result
         (Adds (S.documents source.old) (refers_to (compiled_view document.now))
         (shared_documents reached.old.items) (shared_documents waiting.old.items)
         (shared_documents reached.new.items) (shared_documents waiting.new.items)) }
     ensures known { OnOk result
-        (AreCompound (shared_documents reached.new.items) (shared_documents compound.new.items)) }
+        (AreCompound (shared_documents reached.new.items) (compound_documents compound.new)) }
     ensures err { IfErr result (λ f. f ≡ Fault.NoRoom) }
     ensures same { S.documents source.new ≡ S.documents source.old }
 {
@@ -91,18 +107,18 @@ fn visit<S: Source>(
     source: &mut S,
     uri: &str,
     reached: &mut Vec<Rc<Compiled>>,
-    compound: &mut Vec<Rc<Compiled>>,
+    compound: &mut CompoundDocuments,
     waiting: &mut Vec<Rc<Compiled>>,
 ) -> Result<(), Fault>
     requires part { IsPart (shared_documents reached.old.items) (S.documents source.old) }
     requires known { AreCompound (shared_documents reached.old.items)
-        (shared_documents compound.old.items) }
+        (compound_documents compound.old) }
     ensures ok { OnOk result
         (Adds (S.documents source.old) (holds_resource uri.now) (shared_documents reached.old.items)
         (shared_documents waiting.old.items) (shared_documents reached.new.items)
         (shared_documents waiting.new.items)) }
     ensures known { OnOk result
-        (AreCompound (shared_documents reached.new.items) (shared_documents compound.new.items)) }
+        (AreCompound (shared_documents reached.new.items) (compound_documents compound.new)) }
     ensures err { IfErr result (λ f. f ≡ Fault.NoRoom) }
     ensures same { S.documents source.new ≡ S.documents source.old }
 {
@@ -110,44 +126,33 @@ fn visit<S: Source>(
         return Ok(());
     }
     match source.holding(alloc, uri)? {
-        Some(document) => Ok(keep(document, reached, compound, waiting)?),
+        Some(document) => Ok(keep(alloc, document, reached, compound, waiting)?),
         None => Ok(()),
     }
 }
 
 // Adds a document to those that are reached and wait, unless it is reached already.
 fn keep(
+    alloc: Global,
     document: Rc<Compiled>,
     reached: &mut Vec<Rc<Compiled>>,
-    compound: &mut Vec<Rc<Compiled>>,
+    compound: &mut CompoundDocuments,
     waiting: &mut Vec<Rc<Compiled>>,
 ) -> Result<(), AllocError>
     requires ascend { Ascend (shared_documents reached.old.items) }
     requires known { AreCompound (shared_documents reached.old.items)
-        (shared_documents compound.old.items) }
+        (compound_documents compound.old) }
     ensures kept { OnOk result
         (Keeps (compiled_view document.value) (shared_documents reached.old.items)
         (shared_documents waiting.old.items) (shared_documents reached.new.items)
         (shared_documents waiting.new.items)) }
     ensures known { OnOk result
-        (AreCompound (shared_documents reached.new.items) (shared_documents compound.new.items)) }
+        (AreCompound (shared_documents reached.new.items) (compound_documents compound.new)) }
 {
     let again = document.clone()?;
     if insert_in_order(reached, document)? {
-        note(&again, compound)?;
+        compound.add(alloc, &again)?;
         waiting.push(again)?;
-    }
-    Ok(())
-}
-
-// Adds a document to those of several resources, if it has several.
-fn note(document: &Rc<Compiled>, compound: &mut Vec<Rc<Compiled>>) -> Result<(), AllocError>
-    ensures { OnOk result (shared_documents compound.new.items
-        ≡ with_compound (compiled_view document.now.value)
-        (shared_documents compound.old.items)) }
-{
-    if document.resource_uris().len() > 1 {
-        compound.push(document.clone()?)?;
     }
     Ok(())
 }

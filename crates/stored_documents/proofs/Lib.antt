@@ -1,4 +1,3 @@
-pub mod HeldResources
 pub mod TextSets
 pub mod StandingDocuments
 pub mod KeptStored

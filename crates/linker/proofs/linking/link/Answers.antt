@@ -7,7 +7,9 @@ use Rattle.definitions.specs.Values.{same_text}
 use Rattle.definitions.specs.Lists.{has_repeat}
 use Rattle.linker.specs.LinkFaults.{link_fault}
 use Rattle.linker.specs.LinkedDocuments.{linked_uri, linked_documents}
+use Rattle.linker.specs.CompoundDocuments.{compound_documents}
 use Rattle.linker.specs.SharedDocuments.{shared_documents}
+use Rattle.linker.specs.Visits.{EmbedAlike}
 use Rattle.linker.proofs.LinkFaults.{IsLinked, is_linked, reached_table}
 use Rattle.linker.proofs.Visits.{reach_ascends}
 use Rattle.linker.proofs.linking.link.Goals as goal
@@ -20,11 +22,12 @@ judge-requires g c =
     record {
       ascend = subst Ascend (sym same) (reach_ascends all c.args.resource.now sound.ascend);
       distinct = ap (λ ds. has_repeat same_text (resource_uris (table_of ds))) same ∙ reached_table all c.args.resource.now sound;
+      known = subst (λ ds. EmbedAlike (shared_documents ds) (compound_documents c.in_ok-documents.field-0.compound)) (sym c.deref.ensures.value) c.in_ok-documents.ensures.known;
     }
 
 pub invariant_of-result : goal.invariant_of-result
 invariant_of-result g c =
-    let ds = shared_documents c.in_ok-documents.documents.items in
+    let ds = shared_documents c.in_ok-documents.field-0.documents.items in
     let linked : IsLinked ds (string_bytes c.in_ok-uri.uri) =
     subst (IsLinked ds) (sym c.in_ok-uri.ensures.ok)
     (is_linked (g.S.Source.documents c.args.source.now) ds c.args.resource.now (g.met.S.Source.sound c.args.source.now) c.in_ok-documents.ensures.ok
@@ -32,6 +35,7 @@ invariant_of-result g c =
     record {
       ascend = linked.ascend;
       distinct = linked.distinct;
+      known = c.in_ok-documents.ensures.known;
       whole = linked.whole;
       asked = linked.asked;
       by_dynamic_anchor = λ uri name.

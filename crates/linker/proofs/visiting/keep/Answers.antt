@@ -2,6 +2,7 @@ use Rattle.std.proofs.Common.{◌≡◌, ◌++◌, ◌∷◌, [], true, false, c
 use Rattle.definitions.specs.Documents.{document_of, documents_with}
 use Rattle.schema_scan.specs.CompiledDocuments.{compiled_view}
 use Rattle.schema_scan.specs.declared.compiled.Compiled.{Compiled}
+use Rattle.linker.specs.CompoundDocuments.{compound_documents}
 use Rattle.linker.specs.SharedDocuments.{shared_documents}
 use Rattle.linker.specs.Visits.{AreCompound, with_compound}
 use Rattle.linker.proofs.Compound.{compound_placed}
@@ -30,13 +31,13 @@ returns-in_ok-push-clause-known c =
     let ds = shared_documents c.args.reached.now.items in
     let put = c.in_ok-insert_in_order.ensures.put ∙ ap (λ b. cond b (documents_with d ds) ds) c.if-branch.true in
     let new : is_some (document_of ds d.canonical) ≡ false = nothing _ (sym c.in_ok-insert_in_order.ensures.absent ∙ c.if-branch.true) in
-    let noted = c.in_ok-note.ensures ∙ ap (λ (x : Compiled). with_compound (compiled_view x) (shared_documents c.args.compound.now.items)) c.in_ok-again.ensures.cases in
-    subst (λ r. AreCompound r (shared_documents c.note.new.compound.items)) (sym put)
-    (subst (AreCompound (documents_with d ds)) (sym noted) (compound_placed ds (shared_documents c.args.compound.now.items) d c.requires.known (nothing_found ds d new)))
+    let noted = c.in_ok-add.ensures.ok ∙ ap (λ (x : Compiled). with_compound (compiled_view x) (compound_documents c.args.compound.now)) c.in_ok-again.ensures.cases in
+    subst (λ r. AreCompound r (compound_documents c.add.new.self)) (sym put)
+    (subst (AreCompound (documents_with d ds)) (sym noted) (compound_placed ds (compound_documents c.args.compound.now) d c.requires.known (nothing_found ds d new)))
 
 pub returns-else-branch-clause-known : goal.returns-else-branch-clause-known
 returns-else-branch-clause-known c =
     let d = compiled_view c.args.document.value in
     let ds = shared_documents c.args.reached.now.items in
-    subst (λ r. AreCompound r (shared_documents c.args.compound.now.items))
+    subst (λ r. AreCompound r (compound_documents c.args.compound.now))
     (sym (c.in_ok-insert_in_order.ensures.put ∙ ap (λ b. cond b (documents_with d ds) ds) c.if-branch.false)) c.requires.known

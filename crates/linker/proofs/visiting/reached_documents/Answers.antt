@@ -1,9 +1,10 @@
 use Rattle.std.proofs.Common.{◌≡◌, [], length, ap, sym, ◌∙◌, subst, arith}
 use Rattle.definitions.specs.Reach.{holds_resource, refers_to}
 use Rattle.schema_scan.specs.CompiledDocuments.{compiled_view}
+use Rattle.linker.specs.CompoundDocuments.{compound_documents}
 use Rattle.linker.specs.SharedDocuments.{shared_documents}
 use Rattle.linker.specs.Visits.{Adds, AreCompound, IsPart}
-use Rattle.linker.proofs.Compound.{none_compound}
+use Rattle.linker.proofs.Compound.{embed_alike, none_compound}
 use Rattle.linker.proofs.Positions.{shared_as_long}
 use Rattle.linker.proofs.Shared.{shared_empty, shared_none, shared_pushed}
 use Rattle.linker.proofs.Visits.{IsVisit, begun, finished, gone_on, no_more, none_part, part_after}
@@ -15,8 +16,8 @@ visit-requires g c =
     let reached = sym (ap shared_documents c.new-reached.ensures.items ∙ shared_none) in
     record {
       part = subst (λ ds. IsPart ds all) reached (none_part all);
-      known = subst (λ ds. AreCompound ds (shared_documents c.new-compound.result.items)) reached
-          (subst (AreCompound []) (sym (ap shared_documents c.new-compound.ensures.items ∙ shared_none)) none_compound);
+      known = subst (λ ds. AreCompound ds (compound_documents c.new-compound.result)) reached
+          (subst (AreCompound []) (sym c.new-compound.ensures) none_compound);
     }
 
 pub follow-requires : goal.follow-requires
@@ -79,3 +80,9 @@ returns-clause-ok g c =
     let none : length c.loop-document.waiting.items ≡ 0 = omega (arith, c.in_default.ensures.cases.0) in
     finished all c.args.resource.now (shared_documents c.loop-document.reached.items) (g.met.S.Source.sound c.args.source.now).ascend
     (subst (IsVisit all c.args.resource.now (shared_documents c.loop-document.reached.items)) (shared_empty c.loop-document.waiting.items none) c.loop-document.invariant.visit)
+
+pub returns-clause-known : goal.returns-clause-known
+returns-clause-known g c =
+    let all = g.S.Source.documents c.args.source.now in
+    embed_alike all (shared_documents c.loop-document.reached.items) (compound_documents c.loop-document.compound) (g.met.S.Source.sound c.args.source.now)
+    c.loop-document.invariant.visit.part c.loop-document.invariant.known

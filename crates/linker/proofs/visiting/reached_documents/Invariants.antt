@@ -1,4 +1,5 @@
 use Rattle.std.proofs.Common.{◌≡◌, ◌+◌, ◌-◌, length}
+use Rattle.linker.specs.CompoundDocuments.{compound_documents}
 use Rattle.linker.specs.SharedDocuments.{shared_documents}
 use Rattle.linker.specs.Visits.{AreCompound}
 use Rattle.linker.proofs.Visits.{IsVisit}
@@ -10,7 +11,7 @@ invariant-loop-document g l =
     record {
       same : g.S.Source.documents l.source ≡ all;
       visit : IsVisit all l.resource (shared_documents l.reached.items) (shared_documents l.waiting.items);
-      known : AreCompound (shared_documents l.reached.items) (shared_documents l.compound.items);
+      known : AreCompound (shared_documents l.reached.items) (compound_documents l.compound);
     }
 
 abbrev pub decreases-loop-document : goal.decreases-loop-document

@@ -4,6 +4,7 @@ use Rattle.std.specs.Option.{option_map}
 use Rattle.definitions.specs.Documents.{Ascend}
 use Rattle.definitions.specs.Reach.{holds_resource}
 use Rattle.schema_scan.specs.CompiledDocuments.{compiled_view}
+use Rattle.linker.specs.CompoundDocuments.{compound_documents}
 use Rattle.linker.specs.SharedDocuments.{shared_documents}
 use Rattle.linker.proofs.Tables.{no_holder}
 use Rattle.linker.specs.Visits.{AreCompound}
@@ -15,8 +16,7 @@ is_reached-requires g c =
     let same = sym c.deref.ensures.value in
     record {
       ascend = subst (λ ds. Ascend (shared_documents ds)) same c.requires.part.ascend;
-      known = subst (λ ds. AreCompound (shared_documents ds) (shared_documents c.deref-2.result.now)) same
-          (subst (λ ds. AreCompound (shared_documents c.args.reached.now.items) (shared_documents ds)) (sym c.deref-2.ensures.value) c.requires.known);
+      known = subst (λ ds. AreCompound (shared_documents ds) (compound_documents c.args.compound.now)) same c.requires.known;
     }
 
 pub keep-requires : goal.keep-requires

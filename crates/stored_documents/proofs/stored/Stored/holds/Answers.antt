@@ -3,7 +3,7 @@ use Rattle.std.specs.List.{list_any}
 use Rattle.definitions.specs.Schemas.{schemas_of}
 use Rattle.definitions.specs.Values.{same_text}
 use Rattle.stored_documents.specs.StoredDocuments.{stored_view}
-use Rattle.stored_documents.proofs.HeldResources.{held}
+use Rattle.linker.proofs.HeldResources.{held}
 use Rattle.stored_documents.proofs.stored.Stored.holds.Goals as goal
 
 pub returns : goal.returns

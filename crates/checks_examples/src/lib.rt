@@ -33,6 +33,8 @@ mod references;
 #[cfg(test)]
 mod refusals;
 #[cfg(test)]
+mod several_documents;
+#[cfg(test)]
 mod subjects;
 #[cfg(test)]
 mod texts;

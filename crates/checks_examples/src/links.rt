@@ -1,6 +1,6 @@
 //! What links reach, and what they refuse.
 
-use crate::documents::{compiled, listed};
+use crate::documents::{SEVEN, compiled, listed};
 use linker::{Both, Fault, ListSource, Source, asked, link, reached, value_of};
 use std::alloc::Global;
 use std::test::Fail;
@@ -84,6 +84,17 @@ const LINKS: &[(&[(&str, &str)], &str, &str)] = &[
         "https://ex.org/s",
         "https://ex.org/s https://ex.org/p https://ex.org/q https://ex.org/s",
     ),
+    (
+        SEVEN,
+        "https://ex.org/m",
+        "https://ex.org/m https://ex.org/d0 https://ex.org/d1 https://ex.org/d2 https://ex.org/d3 https://ex.org/d4 https://ex.org/d5 https://ex.org/d6 https://ex.org/m",
+    ),
+    (
+        SEVEN,
+        "https://ex.org/e6",
+        "https://ex.org/e6 https://ex.org/d6",
+    ),
+    (SEVEN, "https://ex.org/e7", "14 NotFound"),
 ];
 
 fn linked<S: Source>(alloc: Global, source: &mut S, uri: &str) -> Result<String, Fault> {
@@ -146,6 +157,26 @@ fn a_list_holds_each_resource_once(rt: HostRuntime) -> Result<(), Fail> {
     }
     assert!(rt; source.holding(alloc, "https://ex.org/d")?.is_some());
     assert!(rt; source.holding(alloc, "https://ex.org/t")?.is_none());
+    Ok(())
+}
+
+// The same of the seven.
+const ADDED_TO_SEVEN: &[(&str, &str, bool)] = &[
+    ("https://ex.org/d", r#"{"$defs":{"d":{"$id":"e0"}}}"#, false),
+    ("https://ex.org/d", r#"{"$defs":{"d":{"$id":"e6"}}}"#, false),
+    ("https://ex.org/e5", "{}", false),
+    ("https://ex.org/d", r#"{"$defs":{"d":{"$id":"e7"}}}"#, true),
+    ("https://ex.org/e7", "{}", false),
+];
+
+#[test]
+fn a_long_list_holds_each_resource_once(rt: HostRuntime) -> Result<(), Fail> {
+    let alloc = rt.alloc();
+    let mut source = listed(alloc, SEVEN)?;
+    for (base, text, is_added) in ADDED_TO_SEVEN {
+        let added = source.add(compiled(alloc, base, text)?)?;
+        assert_eq!(rt; added, *is_added, "{text} under {base}");
+    }
     Ok(())
 }
 

@@ -17,3 +17,4 @@ pub mod Verdicts
 pub mod SearchedScopes
 pub mod PlaceOrders
 pub mod Enumerating
+pub mod HeldPatterns

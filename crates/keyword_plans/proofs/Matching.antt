@@ -12,13 +12,13 @@ use Rattle.keyword_plans.specs.Sites.{Shows}
 use Rattle.keyword_plans.specs.declared.site.Site.{Site}
 use Rattle.keyword_plans.specs.Applications.{ArePatternsOf, planned_matches}
 
-pub first_pattern : (l : Linked) (s : Schema) (left : List (Text × Value)) (p : Text × Value) (rest : List (Text × Value)) → left ≡ p ∷ rest
-    → ArePatternsOf l s left → Contains (patterns_of s) p.0
-first_pattern l s left p rest e are = (subst (λ ps. AllByRecursion (λ p. Contains (patterns_of s) p.0) ps) e are.patterns).0
+pub first_pattern : (l : Linked) (uri : Text) (s : Schema) (left : List (Text × Value)) (p : Text × Value) (rest : List (Text × Value)) → left ≡ p ∷ rest
+    → ArePatternsOf l uri s left → Contains (patterns_of s) p.0
+first_pattern l uri s left p rest e are = (subst (λ ps. AllByRecursion (λ p. Contains (patterns_of s) p.0) ps) e are.patterns).0
 
-pub rest_patterns : (l : Linked) (s : Schema) (left : List (Text × Value)) (p : Text × Value) (rest : List (Text × Value)) → left ≡ p ∷ rest
-    → ArePatternsOf l s left → ArePatternsOf l s rest
-rest_patterns l s left p rest e are = record { inside = are.inside; patterns = (subst (λ ps. AllByRecursion (λ p. Contains (patterns_of s) p.0) ps) e are.patterns).1 }
+pub rest_patterns : (l : Linked) (uri : Text) (s : Schema) (left : List (Text × Value)) (p : Text × Value) (rest : List (Text × Value)) → left ≡ p ∷ rest
+    → ArePatternsOf l uri s left → ArePatternsOf l uri s rest
+rest_patterns l uri s left p rest e are = record { inside = are.inside; resource = are.resource; patterns = (subst (λ ps. AllByRecursion (λ p. Contains (patterns_of s) p.0) ps) e are.patterns).1 }
 
 module _ (name : Text) where
   abbrev pub some_match : List (Text × Value) → Bool
@@ -56,8 +56,8 @@ module _ (k : Text) (a : Application) (name : Text) (x : Value) where
 pub same_inside : (l m : Bor Linked) (s : Schema) → l ≡ m → Contains (linked_schemas m.now) s → Contains (linked_schemas l.now) s
 same_inside l m s e inside = subst (λ (k : Bor Linked). Contains (linked_schemas k.now) s) (sym e) inside
 
-pub same_patterns : (l m : Bor Linked) (s : Schema) (ps : List (Text × Value)) → l ≡ m → ArePatternsOf m.now s ps → ArePatternsOf l.now s ps
-same_patterns l m s ps e are = subst (λ (k : Bor Linked). ArePatternsOf k.now s ps) (sym e) are
+pub same_patterns : (l m : Bor Linked) (uri : Text) (s : Schema) (ps : List (Text × Value)) → l ≡ m → ArePatternsOf m.now uri s ps → ArePatternsOf l.now uri s ps
+same_patterns l m uri s ps e are = subst (λ (k : Bor Linked). ArePatternsOf k.now uri s ps) (sym e) are
 
 pub same_shown : (l : Bor Linked) (site : Site) (a : Application) → l ≡ site.linked → Shows site a → Contains (linked_schemas l.now) a.schema
 same_shown l site a e shows = same_inside l site.linked a.schema e shows.inside

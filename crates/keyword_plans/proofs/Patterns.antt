@@ -30,16 +30,16 @@ patterns-of s v e =
     (sym e) (all_in (λ (m : Text × Value). m.0) (option_list (text_at (codes "pattern") s.value)) (members v))
 
 pub site_patterns : (site : Site) (a : Application) (v : Value) → Shows site a → get (codes "patternProperties") a.schema.value ≡ Some v
-    → ArePatternsOf site.linked.now a.schema (members v)
-site_patterns site a v shows e = record { inside = shows.inside; patterns = patterns-of a.schema v e }
+    → ArePatternsOf site.linked.now site.resource.now a.schema (members v)
+site_patterns site a v shows e = record { inside = shows.inside; resource = shows.resource; patterns = patterns-of a.schema v e }
 
 -- where the keyword may be absent
 beside-of : (s : Schema) (o : Option Value) → get (codes "patternProperties") s.value ≡ o → AllByRecursion (λ p. Contains (patterns_of s) p.0) (members (unwrap_or o null))
 beside-of s None e = tt
 beside-of s (Some v) e = patterns-of s v e
 
-pub patterns_beside : (site : Site) (a : Application) → Shows site a → ArePatternsOf site.linked.now a.schema (members (beside a (codes "patternProperties")))
-patterns_beside site a shows = record { inside = shows.inside; patterns = beside-of a.schema (get (codes "patternProperties") a.schema.value) refl }
+pub patterns_beside : (site : Site) (a : Application) → Shows site a → ArePatternsOf site.linked.now site.resource.now a.schema (members (beside a (codes "patternProperties")))
+patterns_beside site a shows = record { inside = shows.inside; resource = shows.resource; patterns = beside-of a.schema (get (codes "patternProperties") a.schema.value) refl }
 
 -- ---- what stands under `pattern`
 pub string-of : (v : Value) (p : Text) → Some p ≡ as_string v → v ≡ string p

@@ -1,5 +1,5 @@
 -- What a keyword applies, read off lists of schemas, elements and members.
-use Rattle.std.specs.Prelude.{ℕ, List, [], ◌∷◌, Option, Some, None, ◌==◌, decimal, map, flat_map, filter, zip, is_some, not, length, codes, Contains}
+use Rattle.std.specs.Prelude.{◌≡◌, ℕ, List, [], ◌∷◌, Option, Some, None, ◌==◌, decimal, map, flat_map, filter, zip, is_some, not, length, codes, Contains}
 use Rattle.std.specs.List.{AllByRecursion, list_any, enumerate_from}
 use Rattle.definitions.specs.Values.{Text, Value, entry, get, members, string}
 use Rattle.definitions.specs.Patterns.{has_match}
@@ -81,7 +81,8 @@ planned_unevaluated_items k a v is i xs = map (λ e. at_part a (k ∷ []) v (ind
 abbrev pub planned_unevaluated_properties : Text → Application → Value → List Text → List (Text × Value) → List (Part × Application)
 planned_unevaluated_properties k a v ns ms = at_members a k v (filter (λ m. not (has m.0 ns)) ms)
 
--- each of these names is a pattern of a schema of the linked documents
-pub record ArePatternsOf (l : Linked) (s : Schema) (ps : List (Text × Value)) : Type 0 where
+-- each of these names is a pattern of a schema of the linked documents' resource with this URI
+pub record ArePatternsOf (l : Linked) (uri : Text) (s : Schema) (ps : List (Text × Value)) : Type 0 where
   pub inside : Contains (linked_schemas l) s
+  pub resource : s.resource ≡ uri
   pub patterns : AllByRecursion (λ p. Contains (patterns_of s) p.0) ps

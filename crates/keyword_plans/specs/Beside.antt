@@ -11,4 +11,4 @@ use Rattle.keyword_plans.specs.declared.planning.others.PropertyKeywords.{Proper
 pub record StandsBeside (l : Linked) (b : PropertyKeywords) (a : Application) : Type 0 where
   pub properties : unwrap_or (option_map (λ m. members_value m.now) b.properties) [] ≡ members (beside a (codes "properties"))
   pub patterns : unwrap_or (option_map (λ m. members_value m.now) b.patterns) [] ≡ members (beside a (codes "patternProperties"))
-  pub inside : ArePatternsOf l a.schema (members (beside a (codes "patternProperties")))
+  pub inside : ArePatternsOf l b.resource.now a.schema (members (beside a (codes "patternProperties")))

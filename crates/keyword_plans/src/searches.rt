@@ -9,10 +9,10 @@ ghost use Rattle.definitions.specs.Values.{Text};
 ghost use Rattle.linker.specs.LinkedDocuments.{linked_schemas};
 ghost use Rattle.linker.specs.PatternNumbers.{pattern_text};
 ghost use Rattle.linker.specs.declared.linked.Linked.{Linked};
-ghost use Rattle.keyword_plans.specs.Held.{AreHeld, IsHeld};
+ghost use Rattle.keyword_plans.specs.Held.{AreHeld, IsHeld, number_of};
 ghost use Rattle.patterns.specs.HeldPatterns.{held_text};
 
-use linker::Linked;
+use linker::{Linked, PatternNumber};
 use patterns::HeldPattern;
 use std::alloc::{AllocError, Global};
 use std::collections::BTreeMap;
@@ -28,7 +28,7 @@ const SHORT: usize = 64;
 pub struct Searches<'a> {
     alloc: Global,
     linked: &'a Linked,
-    held: BTreeMap<usize, HeldPattern<'a>>,
+    held: BTreeMap<(usize, usize), HeldPattern<'a>>,
     ghost right: { AreHeld linked.now held } by { Prim.hlevel props },
 }
 
@@ -51,36 +51,43 @@ impl<'a> Searches<'a> {
         self.alloc
     }
 
-    /// Whether the pattern of a schema of the documents matches somewhere in the text (JSON Schema 2020-12 Validation, section
-    /// 6.3.3). The only error is want of memory. Of a text that no schema has it answers for some pattern, or false.
-    pub(crate) fn is_match(&mut self, pattern: &str, text: &str) -> Result<bool, AllocError>
+    /// Whether the pattern of a schema of the documents' resource with this URI matches somewhere in the text (JSON Schema 2020-12
+    /// Validation, section 6.3.3). The only error is want of memory. Of a text that no schema has it answers for some pattern, or
+    /// false.
+    pub(crate) fn is_match(
+        &mut self,
+        resource: &str,
+        pattern: &str,
+        text: &str,
+    ) -> Result<bool, AllocError>
         ensures ok { (s : Schema) → Contains (linked_schemas (searched_in self.old).now) s
-            → Contains (patterns_of s) pattern.now
+            → s.resource ≡ resource.now → Contains (patterns_of s) pattern.now
             → IfOk result (λ found. found ≡ has_match pattern.now text.now) }
         ensures linked { searched_in self.new ≡ searched_in self.old }
     {
-        match self.linked.pattern_number(pattern) {
+        match self.linked.pattern_number(resource, pattern) {
             Some(number) if pattern.len() > SHORT => self.numbered(number, text),
             Some(number) => is_numbered_match(self.alloc, self.linked, number, text),
-            None => is_match(self.alloc, self.linked, pattern, text),
+            // Never: a schema of the resource has the pattern.
+            None => Ok(false),
         }
     }
 
     // Whether the pattern of this number matches somewhere in the text.
-    fn numbered(&mut self, number: usize, text: &str) -> Result<bool, AllocError>
+    fn numbered(&mut self, number: PatternNumber, text: &str) -> Result<bool, AllocError>
         ensures ok { (pattern : Text)
             → pattern_text (searched_in self.old).now number ≡ Some pattern
             → IfOk result (λ found. found ≡ has_match pattern text.now) }
         ensures linked { searched_in self.new ≡ searched_in self.old }
     {
-        match search_again(&mut self.held, self.alloc, number, text) {
+        match search_again(&mut self.held, self.alloc, number.parts(), text) {
             Some(found) => found,
             None => self.search_first(number, text),
         }
     }
 
     // The same of one that isn't held, and is from now on.
-    fn search_first(&mut self, number: usize, text: &str) -> Result<bool, AllocError>
+    fn search_first(&mut self, number: PatternNumber, text: &str) -> Result<bool, AllocError>
         ensures ok { (pattern : Text)
             → pattern_text (searched_in self.old).now number ≡ Some pattern
             → IfOk result (λ found. found ≡ has_match pattern text.now) }
@@ -88,24 +95,24 @@ impl<'a> Searches<'a> {
     {
         let mut pattern = hold(self.linked, number)?;
         let found = search(&mut pattern, self.alloc, text)?;
-        self.held.insert(number, pattern)?;
+        self.held.insert(number.parts(), pattern)?;
         Ok(found)
     }
 }
 
-// Searches for the pattern of this number, where it is held.
+// Searches for the pattern of the number of these parts, where it is held.
 fn search_again(
-    held: &mut BTreeMap<usize, HeldPattern<'_>>,
+    held: &mut BTreeMap<(usize, usize), HeldPattern<'_>>,
     alloc: Global,
-    number: usize,
+    parts: (usize, usize),
     text: &str,
 ) -> Option<Result<bool, AllocError>>
     ensures ok { (linked : Linked) (pattern : Text) → AreHeld linked held.old
-        → pattern_text linked number ≡ Some pattern
+        → pattern_text linked (number_of parts) ≡ Some pattern
         → IfSome result (λ r. IfOk r (λ found. found ≡ has_match pattern text.now)) }
     ensures held { (linked : Linked) → AreHeld linked held.old → AreHeld linked held.new }
 {
-    match held.get_mut(&number) {
+    match held.get_mut(&parts) {
         Some(pattern) => Some(search(pattern, alloc, text)),
         None => None,
     }
@@ -121,7 +128,7 @@ fn search(pattern: &mut HeldPattern<'_>, alloc: Global, text: &str) -> Result<bo
 }
 
 // The pattern of this number, held. The error says that it can't be, which never is: nothing else holds it.
-fn hold<'a>(linked: &'a Linked, number: usize) -> Result<HeldPattern<'a>, AllocError>
+fn hold<'a>(linked: &'a Linked, number: PatternNumber) -> Result<HeldPattern<'a>, AllocError>
     ensures { IfOk result (IsHeld linked.entry.now number) }
 {
     match linked.numbered_pattern(number) {
@@ -138,7 +145,7 @@ fn hold<'a>(linked: &'a Linked, number: usize) -> Result<HeldPattern<'a>, AllocE
 fn is_numbered_match(
     alloc: Global,
     linked: &Linked,
-    number: usize,
+    number: PatternNumber,
     text: &str,
 ) -> Result<bool, AllocError>
     ensures { (pattern : Text) → pattern_text linked.now number ≡ Some pattern
@@ -147,18 +154,6 @@ fn is_numbered_match(
     match linked.numbered_pattern(number) {
         Some(built) => built.matches(alloc, text),
         // Never: the number is that of a pattern.
-        None => Ok(false),
-    }
-}
-
-// The same of a pattern that has no number.
-fn is_match(alloc: Global, linked: &Linked, pattern: &str, text: &str) -> Result<bool, AllocError>
-    ensures { (s : Schema) → Contains (linked_schemas linked.now) s
-        → Contains (patterns_of s) pattern.now
-        → IfOk result (λ found. found ≡ has_match pattern.now text.now) }
-{
-    match linked.pattern(pattern) {
-        Some(built) => built.matches(alloc, text),
         None => Ok(false),
     }
 }

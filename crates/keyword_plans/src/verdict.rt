@@ -114,7 +114,7 @@ fn is_pattern_met(
 {
     match pattern.as_str() {
         Some(pattern) => match site.subject.as_str() {
-            Some(text) => searches.is_match(pattern, text),
+            Some(text) => searches.is_match(site.resource, pattern, text),
             None => Ok(true),
         },
         None => Ok(true),

@@ -3,15 +3,12 @@ use Rattle.std.proofs.Common.{◌≡◌, ◌++◌, [], List, Contains, refl, sym
 use Rattle.definitions.specs.Keywords.{Keyword, keywords}
 use Rattle.definitions.specs.Pointers.{Pointer}
 use Rattle.definitions.specs.Searches.{patterns, patterns_of}
-use Rattle.definitions.specs.Schemas.{Schema, Document, below, schema_at, schemas_from, schemas_of, table_of}
+use Rattle.definitions.specs.Schemas.{Schema, below, schema_at, schemas_from, schemas_of}
 use Rattle.definitions.specs.Values.{Text, Value, members, nesting}
 use Rattle.definition_laws.proofs.Occurrences.{IsIn, in_from_contains, contains_from_in, in_map, into_map}
 use Rattle.definition_laws.proofs.Places.{IsStep, IsBelow, here, further, value-below, value-opened}
-use Rattle.definition_laws.proofs.Repeats.{in_flat_map, from_flat_map}
+use Rattle.definition_laws.proofs.Repeats.{in_flat_map}
 use Rattle.definition_laws.proofs.Roots.{within_from, within_to}
-use Rattle.schema_scan.specs.CompiledDocuments.{compiled_value, compiled_view}
-use Rattle.schema_scan.specs.declared.compiled.Compiled.{Compiled}
-use Rattle.linker.specs.DocumentPatterns.{HasPattern}
 
 -- what stands below a schema stands below another of the same value
 mirrored : (rows : List Keyword) (s t : Schema) (way : Pointer) → IsBelow rows s t way → (r : Schema) → r.value ≡ s.value
@@ -45,17 +42,3 @@ document_pattern base v s text c k =
     let value_is : s.value ≡ u.0.value = ap (λ y. y.value) (sym x.2) ∙ sym u.1.1 in
     in_flat_map patterns_of u.0 text (schemas_of [] v) (contains_from_in (schemas_of [] v) u.0 stands)
     (subst (λ w. Contains (patterns_of (record { resource = []; pointer = []; value = w })) text) value_is k)
-
--- a pattern of a table's schema is one of a document's
-pub table_pattern : (ds : List Document) (s : Schema) (text : Text) → Contains (table_of ds) s → Contains (patterns_of s) text
-    → (d : Document) × (Contains ds d × HasPattern d text)
-unfolding HasPattern
-table_pattern ds s text c k =
-    let d : (d : Document) × (Contains ds d × Contains (schemas_of d.base d.value) s) = from_flat_map (λ d. schemas_of d.base d.value) s ds c in
-    (d.0, (d.1.0, document_pattern d.0.base d.0.value s text d.1.1 k))
-
--- a compiled document that lacks a pattern means a document that does
-pub lacks_pattern : (x y : Compiled) (text : Text) → y ≡ x → (Contains (patterns (compiled_value y)) text → ⊥) → (d : Document) → HasPattern d text → compiled_view x ≡ d → ⊥
-unfolding HasPattern
-lacks_pattern x y text e none d has same =
-    none (subst (λ (z : Compiled). Contains (patterns (compiled_value z)) text) (sym e) (subst (λ (f : Document). Contains (patterns f.value) text) (sym same) has))

@@ -1,5 +1,5 @@
 -- The document that a schema of linked documents stands in.
-use Rattle.std.proofs.Common.{◌≡◌, ℕ, List, [], ◌∷◌, Option, Some, None, Contains, IfSome, find, length, option_and_then, option_map, sym, ap, ap₂, ◌∙◌, subst, arith, append-nil, true}
+use Rattle.std.proofs.Common.{◌≡◌, ℕ, List, [], ◌∷◌, Option, Some, None, Contains, IfSome, find, is_some, length, option_and_then, refl, option_map, sym, ap, ap₂, ◌∙◌, subst, arith, append-nil, true}
 use Rattle.std.proofs.lemmas.Option.{same_Some, slice_get-map}
 use Rattle.std.specs.Global.{Global}
 use Rattle.std.specs.List.{slice_get}
@@ -10,6 +10,7 @@ use Rattle.definitions.specs.Scanning.{resource_uris}
 use Rattle.definitions.specs.Schemas.{Document, Schema, schemas_of, table_of}
 use Rattle.definitions.specs.Values.{Text, same_text}
 use Rattle.lemmas.proofs.Texts.{same_text_itself}
+use Rattle.definition_laws.proofs.Membership.{found_some}
 use Rattle.definition_laws.proofs.Repeats.{from_flat_map}
 use Rattle.definition_laws.proofs.Resources.{one_document, table_uris}
 use Rattle.schema_scan.specs.CompiledDocuments.{compiled_schemas, compiled_texts, compiled_view}
@@ -52,6 +53,32 @@ held l s uri (Some n) e inside resource = λ d at.
     let holds : holds_resource uri own.0 ≡ true = resource_held own.0 uri s own.1.1 (ap (same_text uri) resource ∙ same_text_itself uri) in
     let same : compiled_view d ≡ own.0 = one_document ds uri (compiled_view d) own.0 (ap (has_repeat same_text) (sym (table_uris ds)) ∙ l.distinct) there.0 own.1.0 there.1 holds in
     subst (λ (x : Document). Contains (schemas_of x.base x.value) s) (sym same) own.1.1
+
+-- there is such a document
+alone_at : (items : List (Rc Compiled Global)) → length items ≡ 1 → is_some (option_map (λ (x : Rc Compiled Global). x.value) (slice_get items 0)) ≡ true
+alone_at [] one = absurd (omega (arith, one))
+alone_at (x ∷ xs) one = refl
+
+pub alone_there : (l : Linked) → length l.documents.items ≡ 1 → is_some (option_and_then (document_at l) (Some 0)) ≡ true
+unfolding document_at
+alone_there l one = alone_at l.documents.items one
+
+some_viewed : (o : Option (Rc Compiled Global)) (d : Document) → option_map (λ (x : Rc Compiled Global). compiled_view x.value) o ≡ Some d → is_some (option_map (λ (x : Rc Compiled Global). x.value) o) ≡ true
+some_viewed None d e = absurd (cc)
+some_viewed (Some x) d e = refl
+
+number_some : (l : Linked) (n : Option ℕ) (d : Document) → option_and_then (slice_get (linked_documents l)) n ≡ Some d → is_some (option_and_then (document_at l) n) ≡ true
+unfolding linked_documents shared_documents document_at
+number_some l None d e = absurd (cc)
+number_some l (Some k) d e = some_viewed (slice_get l.documents.items k) d (sym (slice_get-map (λ (x : Rc Compiled Global). compiled_view x.value) l.documents.items k) ∙ e)
+
+pub number_there : (l : Linked) (s : Schema) (uri : Text) (n : Option ℕ) → option_and_then (slice_get (linked_documents l)) n ≡ find (holds_resource uri) (linked_documents l)
+    → Contains (linked_schemas l) s → s.resource ≡ uri → is_some (option_and_then (document_at l) n) ≡ true
+number_there l s uri n e inside resource =
+    let ds = linked_documents l in
+    let own = from_flat_map (λ (x : Document). schemas_of x.base x.value) s ds inside in
+    let found = found_some (holds_resource uri) own.0 ds own.1.0 (resource_held own.0 uri s own.1.1 (ap (same_text uri) resource ∙ same_text_itself uri)) in
+    number_some l n found.0 (e ∙ found.1)
 
 -- there its reference has its numbers
 pub numbered : (l : Linked) (s : Schema) (d : Compiled) (n : ReferenceNumber) (uri text : Text) → document_at l n.document ≡ Some d

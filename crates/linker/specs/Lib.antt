@@ -1,5 +1,4 @@
 pub mod SharedDocuments
-pub mod DocumentPatterns
 pub mod LinkedDocuments
 pub mod AbsoluteReferences
 pub mod DynamicTargets

@@ -26,5 +26,6 @@ pub use linked::Linked;
 pub use linking::link;
 pub use list_source::ListSource;
 pub use named::Named;
+pub use pattern_numbers::PatternNumber;
 pub use references::ReferenceNumber;
 pub use source::Source;

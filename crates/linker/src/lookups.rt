@@ -1,4 +1,4 @@
-//! What the linked documents have under a URI, a reference and a pattern's text (JSON Schema 2020-12 Core, section 8.2).
+//! What the linked documents have under a URI and a reference (JSON Schema 2020-12 Core, section 8.2).
 
 ghost use Rattle.std.specs.Prelude.{◌≡◌, [], List, false, Some, Ok, Err, IfOk, IfErr, IfSome, IsTrue, Contains, codes, is_some, map, option_map, find, unwrap_or, string_bytes};
 ghost use Rattle.std.specs.BTreeSet.{contains_text};
@@ -6,14 +6,12 @@ ghost use Rattle.std.specs.List.{position_or_len};
 ghost use Rattle.definitions.specs.Fragments.{tokens};
 ghost use Rattle.definitions.specs.Reach.{holds_resource};
 ghost use Rattle.definitions.specs.Resolution.{target_uri};
-ghost use Rattle.definitions.specs.Searches.{patterns_of};
 ghost use Rattle.definitions.specs.Schemas.{Document, Schema, identity};
 ghost use Rattle.definitions.specs.Targets.{resource_root, target, target_by, schema_with_dynamic_anchor, dynamic_by, dynamic_target};
 ghost use Rattle.definitions.specs.Uris.{without_fragment};
 ghost use Rattle.definitions.specs.Values.{Text, same_text, text_at};
 ghost use Rattle.json_doc.specs.Docs.{value};
 ghost use Rattle.linker.specs.AbsoluteReferences.{dynamic_target_of, target_of};
-ghost use Rattle.linker.specs.DocumentPatterns.{HasPattern};
 ghost use Rattle.linker.specs.DynamicTargets.{first_target, is_anchored, target_by_anchor, target_in_scope};
 ghost use Rattle.linker.specs.SharedDocuments.{shared_documents};
 ghost use Rattle.linker.specs.LinkedDocuments.{linked_uri, linked_documents, linked_schemas};
@@ -27,11 +25,9 @@ use crate::linked::Linked;
 use crate::named::Named;
 use faults::Fault;
 use json_doc::{Doc, Pointer};
-use patterns::Pattern;
 use schema_scan::{Compiled, Located};
 use std::alloc::Global;
 use std::collections::BTreeSet;
-use std::rc::Rc;
 use uri_ref::{AbsoluteReference, FragmentKind, absolute_reference, opened_uri};
 
 impl Linked {
@@ -138,15 +134,6 @@ impl Linked {
         }
         let uri = opened_uri(alloc, around, id)?;
         Ok(self.resource_uri(uri.as_str()))
-    }
-
-    /// The pattern with this text, where a schema of these documents has it.
-    pub fn pattern(&self, text: &str) -> Option<&Pattern>
-        ensures same { IfSome result (λ p. p.now ≡ text.now) }
-        ensures there { (s : Schema) → Contains (linked_schemas self.now) s
-            → Contains (patterns_of s) text.now → IsTrue (is_some result) }
-    {
-        first_pattern(self.documents.as_slice(), text)
     }
 
     // The document that has a resource with this URI.
@@ -269,18 +256,4 @@ fn outermost_of(uris: &BTreeSet<String>, scope: &[&str]) -> usize
         }
     }
     scope.len()
-}
-
-// The first document's pattern with this text, of those that have one.
-fn first_pattern<'a>(documents: &'a [Rc<Compiled>], text: &str) -> Option<&'a Pattern>
-    ensures same { IfSome result (λ p. p.now ≡ text.now) }
-    ensures there { (d : Document) → Contains (shared_documents documents.now) d
-        → HasPattern d text.now → IsTrue (is_some result) }
-{
-    for document in documents {
-        if let Some(pattern) = document.pattern(text) {
-            return Some(pattern);
-        }
-    }
-    None
 }

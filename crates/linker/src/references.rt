@@ -1,6 +1,6 @@
 //! References of linked documents by number.
 
-ghost use Rattle.std.specs.Prelude.{◌≡◌, [], Contains, IfSome, Some, codes, option_map, slice_get, true};
+ghost use Rattle.std.specs.Prelude.{◌≡◌, [], Contains, IfSome, IsTrue, Some, codes, is_some, option_and_then, option_map, slice_get, true};
 ghost use Rattle.definitions.specs.Scanning.{resource_uris};
 ghost use Rattle.definitions.specs.Schemas.{Schema};
 ghost use Rattle.definitions.specs.Values.{text_at};
@@ -93,9 +93,12 @@ impl Linked {
     }
 
     // The number of the document that the schemas of the resource with this URI stand in.
-    fn document_number(&self, uri: &str) -> Option<usize>
-        ensures { (s : Schema) → Contains (linked_schemas self.now) s → s.resource ≡ uri.now
-            → IfSome result (StandsIn self.now s) }
+    pub(crate) fn document_number(&self, uri: &str) -> Option<usize>
+        ensures stands { (s : Schema) → Contains (linked_schemas self.now) s
+            → s.resource ≡ uri.now → IfSome result (StandsIn self.now s) }
+        ensures there { (s : Schema) → Contains (linked_schemas self.now) s
+            → s.resource ≡ uri.now
+            → IsTrue (is_some (option_and_then (document_at self.now) result)) }
     {
         let documents = self.documents.as_slice();
         if documents.len() == 1 {

@@ -37,7 +37,7 @@ pub(crate) fn plan_patterns<'a>(
 {
     match members_of(schemas) {
         Some(patterns) => match site.subject.members() {
-            Some(members) => plan_matched(planned, searches, patterns, members),
+            Some(members) => plan_matched(planned, searches, site.resource, patterns, members),
             None => Ok(()),
         },
         None => Ok(()),
@@ -47,18 +47,19 @@ pub(crate) fn plan_patterns<'a>(
 fn plan_matched<'a>(
     planned: &mut Vec<Planned<'a>>,
     searches: &mut Searches<'a>,
+    resource: &str,
     patterns: &'a Members,
     members: &'a Members,
 ) -> Result<(), AllocError>
     requires { planned.old.items ≡ [] }
     ensures ok { (a : Application) (k : Text) (s : Schema)
-        → ArePatternsOf (searched_in searches.old).now s (members_value patterns.now)
+        → ArePatternsOf (searched_in searches.old).now resource.now s (members_value patterns.now)
         → OnOk result (map (planned_view k a) planned.new.items
         ≡ planned_pattern k a (members_value patterns.now) (members_value members.now)) }
     ensures searched { searched_in searches.new ≡ searched_in searches.old }
 {
     for (name, member) in members.iter().named() {
-        push_matches(planned, searches, patterns, name, member)?;
+        push_matches(planned, searches, resource, patterns, name, member)?;
     }
     Ok(())
 }
@@ -66,12 +67,13 @@ fn plan_matched<'a>(
 fn push_matches<'a>(
     planned: &mut Vec<Planned<'a>>,
     searches: &mut Searches<'a>,
+    resource: &str,
     patterns: &'a Members,
     name: Name<'a>,
     member: &'a Doc,
 ) -> Result<(), AllocError>
     ensures ok { (a : Application) (k : Text) (s : Schema)
-        → ArePatternsOf (searched_in searches.old).now s (members_value patterns.now)
+        → ArePatternsOf (searched_in searches.old).now resource.now s (members_value patterns.now)
         → OnOk result (map (planned_view k a) planned.new.items
         ≡ map (planned_view k a) planned.old.items
         ++ planned_matches k a (name_text name.entry) (value member.now)
@@ -79,7 +81,7 @@ fn push_matches<'a>(
     ensures searched { searched_in searches.new ≡ searched_in searches.old }
 {
     for (pattern, schema) in patterns.iter().named() {
-        if searches.is_match(pattern.as_str(), name.as_str())? {
+        if searches.is_match(resource, pattern.as_str(), name.as_str())? {
             planned.push(Planned {
                 way: Way::Member(pattern),
                 schema,
@@ -91,20 +93,21 @@ fn push_matches<'a>(
     Ok(())
 }
 
-/// Whether one of the patterns matches the name.
+/// Whether one of the patterns matches the name, of a schema of the resource with this URI.
 pub(crate) fn is_matched(
     searches: &mut Searches<'_>,
+    resource: &str,
     patterns: &Members,
     name: &str,
 ) -> Result<bool, AllocError>
     ensures ok { (s : Schema)
-        → ArePatternsOf (searched_in searches.old).now s (members_value patterns.now)
+        → ArePatternsOf (searched_in searches.old).now resource.now s (members_value patterns.now)
         → IfOk result (λ b. b ≡ list_any (λ p. has_match p.0 name.now)
         (members_value patterns.now)) }
     ensures searched { searched_in searches.new ≡ searched_in searches.old }
 {
     for (pattern, _) in patterns.iter() {
-        if searches.is_match(pattern, name)? {
+        if searches.is_match(resource, pattern, name)? {
             return Ok(true);
         }
     }

@@ -36,6 +36,8 @@ struct PropertyKeywords<'a> {
     // The members of `properties`, and of `patternProperties`.
     properties: Option<&'a Members>,
     patterns: Option<&'a Members>,
+    // The URI of the resource that they stand in.
+    resource: &'a str,
 }
 
 /// The schema, at each member of the instance that neither `properties` nor `patternProperties` beside takes, where `properties`
@@ -92,6 +94,7 @@ fn keywords_beside<'a>(site: &Site<'a>) -> PropertyKeywords<'a>
     PropertyKeywords {
         properties: members_beside(site.schema, Keyword::Properties),
         patterns: members_beside(site.schema, Keyword::PatternProperties),
+        resource: site.resource,
     }
 }
 
@@ -224,7 +227,7 @@ fn is_taken(
         return Ok(true);
     }
     match beside.patterns {
-        Some(patterns) => is_matched(searches, patterns, name),
+        Some(patterns) => is_matched(searches, beside.resource, patterns, name),
         None => Ok(false),
     }
 }

@@ -12,9 +12,9 @@ returns-then-branch-clause-ok c s are =
     let p : Text × Value = (c.in-Some.pattern.now, value c.in-Some.field-0-1.now) in
     let rest = members_left c.next.new.self in
     let e = c.in-Some.ensures.steps in
-    let known = first_pattern (searched_in c.args.searches.now).now s left p rest e (c.loop-pattern.invariant.patterns s are) in
+    let known = first_pattern (searched_in c.args.searches.now).now c.args.resource.now s left p rest e (c.loop-pattern.invariant.patterns s are) in
     matched-here c.args.name.now (members_value c.args.patterns.now) left p rest e
-    (sym c.if-branch.true ∙ c.in_ok-is_match.ensures.ok s (same_inside (searched_in c.loop-pattern.searches) (searched_in c.args.searches.now) s c.loop-pattern.invariant.searched are.inside) known) (c.loop-pattern.invariant.matches s are)
+    (sym c.if-branch.true ∙ c.in_ok-is_match.ensures.ok s (same_inside (searched_in c.loop-pattern.searches) (searched_in c.args.searches.now) s c.loop-pattern.invariant.searched are.inside) are.resource known) (c.loop-pattern.invariant.matches s are)
 
 pub loop-pattern-preserved : goal.loop-pattern-preserved
 loop-pattern-preserved c =
@@ -24,9 +24,9 @@ loop-pattern-preserved c =
     let e = c.in-Some.ensures.steps in
     record {
       searched = c.is_match.ensures.linked ∙ c.loop-pattern.invariant.searched;
-      patterns = λ s are. rest_patterns (searched_in c.args.searches.now).now s left p rest e (c.loop-pattern.invariant.patterns s are);
+      patterns = λ s are. rest_patterns (searched_in c.args.searches.now).now c.args.resource.now s left p rest e (c.loop-pattern.invariant.patterns s are);
       matches = λ s are. matched-past c.args.name.now (members_value c.args.patterns.now) left p rest e
-          (sym c.if-branch.false ∙ c.in_ok-is_match.ensures.ok s (same_inside (searched_in c.loop-pattern.searches) (searched_in c.args.searches.now) s c.loop-pattern.invariant.searched are.inside) (first_pattern (searched_in c.args.searches.now).now s left p rest e (c.loop-pattern.invariant.patterns s are)))
+          (sym c.if-branch.false ∙ c.in_ok-is_match.ensures.ok s (same_inside (searched_in c.loop-pattern.searches) (searched_in c.args.searches.now) s c.loop-pattern.invariant.searched are.inside) are.resource (first_pattern (searched_in c.args.searches.now).now c.args.resource.now s left p rest e (c.loop-pattern.invariant.patterns s are)))
           (c.loop-pattern.invariant.matches s are);
     }
 

@@ -13,7 +13,7 @@ abbrev pub invariant-loop-pattern : goal.invariant-loop-pattern
 invariant-loop-pattern l =
     record {
       searched : searched_in l.searches ≡ searched_in l.fn.searches;
-      patterns : (s : Schema) → ArePatternsOf (searched_in l.fn.searches).now s (members_value l.patterns) → ArePatternsOf (searched_in l.fn.searches).now s (members_left l.pattern-iterator);
-      matches : (s : Schema) → ArePatternsOf (searched_in l.fn.searches).now s (members_value l.patterns)
+      patterns : (s : Schema) → ArePatternsOf (searched_in l.fn.searches).now l.resource s (members_value l.patterns) → ArePatternsOf (searched_in l.fn.searches).now l.resource s (members_left l.pattern-iterator);
+      matches : (s : Schema) → ArePatternsOf (searched_in l.fn.searches).now l.resource s (members_value l.patterns)
           → list_any (λ p. has_match p.0 l.name) (members_value l.patterns) ≡ list_any (λ p. has_match p.0 l.name) (members_left l.pattern-iterator);
     }

@@ -14,7 +14,7 @@ loop-name-preserved c =
       searched = c.push_matches.ensures.searched ∙ c.loop-name.invariant.searched;
       planned = λ a k s are.
           grown (map (planned_view k a) c.loop-name.planned.items) _ _ _ (planned_pattern k a ps (named_left c.next.new.self)) _
-          (c.in_ok-push_matches.ensures.ok a k s (same_patterns _ _ s ps c.loop-name.invariant.searched are)) (ap (planned_pattern k a ps) c.in-Some.ensures.steps)
+          (c.in_ok-push_matches.ensures.ok a k s (same_patterns _ _ _ s ps c.loop-name.invariant.searched are)) (ap (planned_pattern k a ps) c.in-Some.ensures.steps)
           (c.loop-name.invariant.planned a k s are);
     }
 

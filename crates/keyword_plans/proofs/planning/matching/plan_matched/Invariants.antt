@@ -14,7 +14,7 @@ abbrev pub invariant-loop-name : goal.invariant-loop-name
 invariant-loop-name l =
     record {
       searched : searched_in l.searches ≡ searched_in l.fn.searches;
-      planned : (a : Application) (k : Text) (s : Schema) → ArePatternsOf (searched_in l.fn.searches).now s (members_value l.patterns)
+      planned : (a : Application) (k : Text) (s : Schema) → ArePatternsOf (searched_in l.fn.searches).now l.resource s (members_value l.patterns)
           → map (planned_view k a) l.planned.items ++ planned_pattern k a (members_value l.patterns) (named_left l.name-iterator)
           ≡ planned_pattern k a (members_value l.patterns) (members_value l.members);
     }

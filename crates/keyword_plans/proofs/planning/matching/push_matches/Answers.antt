@@ -25,12 +25,12 @@ loop-pattern-preserved-in-Continue-branch-2 c =
     let x = value c.args.member.now in
     record {
       searched = c.is_match.ensures.linked ∙ same;
-      patterns = λ s are. rest_patterns l s left p rest e (c.loop-pattern.invariant.patterns s are);
+      patterns = λ s are. rest_patterns l c.args.resource.now s left p rest e (c.loop-pattern.invariant.patterns s are);
       planned = λ a k s are.
           ap (λ ps. map (planned_view k a) ps ++ planned_matches k a name x rest) c.in_ok-push.ensures.items
           ∙ ap (λ ps. ps ++ planned_matches k a name x rest) (map-append (planned_view k a) c.loop-pattern.planned.items _)
           ∙ matches-more k a name x (map (planned_view k a) c.loop-pattern.planned.items) _ left p rest e
-          (sym c.if-branch.true ∙ c.in_ok-is_match.ensures.ok s (same_inside _ _ s same are.inside) (subst (Contains (patterns_of s)) (sym c.as_str.ensures) (first_pattern l s left p rest e (c.loop-pattern.invariant.patterns s are)))
+          (sym c.if-branch.true ∙ c.in_ok-is_match.ensures.ok s (same_inside _ _ s same are.inside) are.resource (subst (Contains (patterns_of s)) (sym c.as_str.ensures) (first_pattern l c.args.resource.now s left p rest e (c.loop-pattern.invariant.patterns s are)))
           ∙ ap₂ has_match c.as_str.ensures c.as_str-in-loop-pattern.ensures)
           (c.loop-pattern.invariant.planned a k s are);
     }
@@ -45,10 +45,10 @@ loop-pattern-preserved c =
     let e = c.in-Some.ensures.steps in
     record {
       searched = c.is_match.ensures.linked ∙ same;
-      patterns = λ s are. rest_patterns l s left p rest e (c.loop-pattern.invariant.patterns s are);
+      patterns = λ s are. rest_patterns l c.args.resource.now s left p rest e (c.loop-pattern.invariant.patterns s are);
       planned = λ a k s are.
           matches-past k a (name_text c.args.name) (value c.args.member.now) (map (planned_view k a) c.loop-pattern.planned.items) _ left p rest e
-          (sym c.if-branch.false ∙ c.in_ok-is_match.ensures.ok s (same_inside _ _ s same are.inside) (subst (Contains (patterns_of s)) (sym c.as_str.ensures) (first_pattern l s left p rest e (c.loop-pattern.invariant.patterns s are)))
+          (sym c.if-branch.false ∙ c.in_ok-is_match.ensures.ok s (same_inside _ _ s same are.inside) are.resource (subst (Contains (patterns_of s)) (sym c.as_str.ensures) (first_pattern l c.args.resource.now s left p rest e (c.loop-pattern.invariant.patterns s are)))
           ∙ ap₂ has_match c.as_str.ensures c.as_str-in-loop-pattern.ensures)
           (c.loop-pattern.invariant.planned a k s are);
     }

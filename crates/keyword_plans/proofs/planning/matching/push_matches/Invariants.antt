@@ -14,8 +14,8 @@ abbrev pub invariant-loop-pattern : goal.invariant-loop-pattern
 invariant-loop-pattern l =
     record {
       searched : searched_in l.searches ≡ searched_in l.fn.searches;
-      patterns : (s : Schema) → ArePatternsOf (searched_in l.fn.searches).now s (members_value l.patterns) → ArePatternsOf (searched_in l.fn.searches).now s (named_left l.pattern-iterator);
-      planned : (a : Application) (k : Text) (s : Schema) → ArePatternsOf (searched_in l.fn.searches).now s (members_value l.patterns)
+      patterns : (s : Schema) → ArePatternsOf (searched_in l.fn.searches).now l.resource s (members_value l.patterns) → ArePatternsOf (searched_in l.fn.searches).now l.resource s (named_left l.pattern-iterator);
+      planned : (a : Application) (k : Text) (s : Schema) → ArePatternsOf (searched_in l.fn.searches).now l.resource s (members_value l.patterns)
           → map (planned_view k a) l.planned.items ++ planned_matches k a (name_text l.name) (value l.member) (named_left l.pattern-iterator)
           ≡ map (planned_view k a) l.initial.planned.items ++ planned_matches k a (name_text l.name) (value l.member) (members_value l.patterns);
     }

@@ -14,6 +14,6 @@ returns-in-Some-clause-ok c a stands =
     let same : members_value c.in-Some.patterns.now ≡ members (beside a (codes "patternProperties")) =
     sym (ap (λ (o : Option (Bor Members)). unwrap_or (option_map (λ m. members_value m.now) o) []) c.in-Some.is) ∙ stands.patterns in
     let l = (searched_in c.args.searches.now).now in
-    let are = subst (ArePatternsOf l a.schema) (sym same) stands.inside in
+    let are = subst (ArePatternsOf l c.args.beside.resource.now a.schema) (sym same) stands.inside in
     let all = taken_by_patterns l a c.args.name.now _ (members_value c.in-Some.patterns.now) stands.properties same (sym c.is_named.ensures ∙ c.if-is_named.false) in
     IfOk-weaker c.is_matched.result _ _ (λ b d. d ∙ all) (c.is_matched.ensures.ok a.schema are)

@@ -7,7 +7,7 @@ returns c = λ s inside resource has.
     let l = c.args.self.now in
     let d = c.in_ok-document.document.now in
     let at = sym c.in_ok-document.ensures in
-    let there = c.in_ok-number.ensures s inside resource d at in
+    let there = c.in_ok-number.ensures.stands s inside resource d at in
     numbered l s d _ c.args.resource.now c.args.reference.now at
     (c.resource_number.ensures (held_there s d c.args.resource.now there resource))
     (c.reference_number.ensures s there has)

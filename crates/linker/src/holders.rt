@@ -40,7 +40,8 @@ pub(crate) fn holder<'a>(
     }
 }
 
-// Its number.
+// Its number. It is called apart, since most often one document is linked.
+#[inline(never)]
 pub(crate) fn holder_number(
     documents: &[Rc<Compiled>],
     compound: &CompoundDocuments,

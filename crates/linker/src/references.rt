@@ -93,6 +93,7 @@ impl Linked {
     }
 
     // The number of the document that the schemas of the resource with this URI stand in.
+    #[inline(always)]
     pub(crate) fn document_number(&self, uri: &str) -> Option<usize>
         ensures stands { (s : Schema) → Contains (linked_schemas self.now) s
             → s.resource ≡ uri.now → IfSome result (StandsIn self.now s) }

@@ -6,13 +6,18 @@ use crate::texts::URI;
 use basic_output::Step;
 use evaluation_context::{Context, ContextMemory};
 use keywords::Keyword;
-use linker::link;
+use linker::{Linked, link};
+use std::alloc::Global;
 use std::test::Fail;
+
+fn linked(alloc: Global) -> Result<Linked, Fail> {
+    let mut source = listed(alloc, &[(URI, "{}")])?;
+    Ok(link(alloc, &mut source, URI)?)
+}
 
 #[test]
 fn knows_what_is_being_applied_and_where(rt: HostRuntime) -> Result<(), Fail> {
-    let mut source = listed(rt.alloc(), &[(URI, "{}")])?;
-    let linked = link(rt.alloc(), &mut source, URI)?;
+    let linked = linked(rt.alloc())?;
     let root = linked.root(rt.alloc());
     let memory = ContextMemory::new(rt.alloc());
     let mut context = Context::new(rt.alloc(), &linked, root, memory)?;

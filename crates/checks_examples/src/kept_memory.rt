@@ -39,8 +39,8 @@ const ANSWERS: &[(&str, &str)] = &[
 #[test]
 fn no_answer_depends_on_what_is_kept(rt: HostRuntime) -> Result<(), Fail> {
     let alloc = rt.alloc();
-    let mut source = listed(alloc, ITEM)?;
-    let linked = link(alloc, &mut source, "https://ex.org/item")?;
+    let source = listed(alloc, ITEM)?;
+    let linked = link(alloc, &mut &source, "https://ex.org/item")?;
     let mut memory = EvaluationMemory::new(alloc);
     for (text, answer) in ANSWERS {
         let instance = read(alloc, text.as_bytes())?;
@@ -62,8 +62,8 @@ const LENGTHS: &[usize] = &[3, 300, 1, 10_000, 2, 0, 3];
 #[test]
 fn short_and_long_answers_are_those_of_new_memory(rt: HostRuntime) -> Result<(), Fail> {
     let alloc = rt.alloc();
-    let mut source = listed(alloc, PAIR)?;
-    let linked = link(alloc, &mut source, "https://ex.org/pair")?;
+    let source = listed(alloc, PAIR)?;
+    let linked = link(alloc, &mut &source, "https://ex.org/pair")?;
     let mut memory = EvaluationMemory::new(alloc);
     for length in LENGTHS {
         let instance = read(alloc, twos(alloc, *length)?.as_bytes())?;

@@ -77,7 +77,8 @@ impl ListSource {
 
     // Whether some resource of the document is held by one of these.
     fn shares_resource(&self, document: &Compiled) -> bool
-        ensures { result ≡ shares_resource (listed_documents self.now) (compiled_view document.now) }
+        ensures { result
+            ≡ shares_resource (listed_documents self.now) (compiled_view document.now) }
     {
         document.resource_uris().iter().any(|uri| self.is_held(uri))
     }

@@ -47,7 +47,8 @@ impl CompoundDocuments {
         }
     }
 
-    /// Adds a document, if it has several resources. The only error is want of memory, and then there are none any more.
+    /// Adds a document, if it has several resources. The only error is want of memory, after which nothing is said of what is there:
+    /// who meets it lets these go.
     pub(crate) fn add(&mut self, alloc: Global, document: &Rc<Compiled>) -> Result<(), AllocError>
         ensures ok { OnOk result (compound_documents self.new
             ≡ with_compound (compiled_view document.now.value) (compound_documents self.old)) }

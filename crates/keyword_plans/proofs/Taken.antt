@@ -7,8 +7,9 @@ use Rattle.definitions.specs.Applied.{Application, named, at_part, beside, is_ta
 use Rattle.linker.specs.declared.linked.Linked.{Linked}
 use Rattle.keyword_plans.specs.Applications.{planned_others}
 use Rattle.keyword_plans.specs.Sites.{linked_rules}
-use Rattle.keyword_plans.specs.Beside.{StandsBeside}
+use Rattle.keyword_plans.specs.Beside.{AreTakers, StandsBeside}
 use Rattle.keyword_plans.specs.declared.planning.others.PropertyKeywords.{PropertyKeywords}
+use Rattle.keyword_plans.specs.declared.planning.others.Takers.{Takers}
 
 -- a name that `properties` beside lacks is taken by patterns alone
 pub taken_by_patterns : (l : Linked) (a : Application) (name : Text) (schemas patterns : List (Text × Value))
@@ -25,6 +26,9 @@ others-here l k a v name x ms free = rw free refl
 -- the same documents
 pub same_beside : (l m : Bor Linked) (b : PropertyKeywords) (a : Application) → l ≡ m → StandsBeside m.now b a → StandsBeside l.now b a
 same_beside l m b a e stands = subst (λ (k : Bor Linked). StandsBeside k.now b a) (sym e) stands
+
+pub same_takers : (l m : Bor Linked) (t : Takers) (a : Application) → l ≡ m → AreTakers m.now t a → AreTakers l.now t a
+same_takers l m t a e take = subst (λ (k : Bor Linked). AreTakers k.now t a) (sym e) take
 
 pub taken-same : (l m : Bor Linked) (a : Application) (name : Text) → l ≡ m → is_taken (linked_rules m.now) a name ≡ is_taken (linked_rules l.now) a name
 taken-same l m a name e = ap (λ (k : Bor Linked). is_taken (linked_rules k.now) a name) (sym e)

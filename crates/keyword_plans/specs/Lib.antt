@@ -13,3 +13,4 @@ pub mod Enumerated
 pub mod EnumeratedIn
 pub mod Held
 pub mod SearchedIn
+pub mod NumberedPatterns

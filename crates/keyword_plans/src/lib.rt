@@ -5,6 +5,7 @@ mod annotating;
 mod dynamic_scope;
 mod enumerations;
 mod followed_references;
+mod numbered_pattern;
 mod places;
 mod plan_memory;
 mod planned;

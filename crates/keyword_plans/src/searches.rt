@@ -9,13 +9,17 @@ ghost use Rattle.definitions.specs.Values.{Text};
 ghost use Rattle.linker.specs.LinkedDocuments.{linked_schemas};
 ghost use Rattle.linker.specs.PatternNumbers.{pattern_text};
 ghost use Rattle.linker.specs.declared.linked.Linked.{Linked};
+ghost use Rattle.json_doc.specs.NamedMembers.{name_text};
 ghost use Rattle.keyword_plans.specs.Held.{AreHeld, IsHeld, number_of};
+ghost use Rattle.keyword_plans.specs.NumberedPatterns.{IsNumbered};
 ghost use Rattle.patterns.specs.HeldPatterns.{held_text};
 
+use crate::numbered_pattern::NumberedPattern;
 use linker::{Linked, PatternNumber};
 use patterns::HeldPattern;
 use std::alloc::{AllocError, Global};
 use std::collections::BTreeMap;
+use std::mem::replace;
 
 /// To compare a text of so many bytes takes no longer than to hold its pattern.
 const SHORT: usize = 64;
@@ -29,10 +33,13 @@ pub struct Searches<'a> {
     alloc: Global,
     linked: &'a Linked,
     held: BTreeMap<(usize, usize), HeldPattern<'a>>,
+    /// Memory for patterns with their numbers.
+    numbered: Vec<NumberedPattern<'a>>,
     ghost right: { AreHeld linked.now held } by { Prim.hlevel props },
 }
 
 impl<'a> Searches<'a> {
+    ghost use Rattle.std.specs.Prelude.{[]};
     ghost use Rattle.keyword_plans.specs.SearchedIn.{searched_in};
 
     /// None yet. This takes no memory.
@@ -43,6 +50,50 @@ impl<'a> Searches<'a> {
             alloc,
             linked,
             held: BTreeMap::new(alloc),
+            numbered: Vec::new(alloc),
+        }
+    }
+
+    /// The documents that the patterns stand in.
+    pub(crate) fn linked(&self) -> &'a Linked
+        ensures { result ≡ searched_in self.now }
+    {
+        self.linked
+    }
+
+    /// Memory for patterns with their numbers, to be given back.
+    pub(crate) fn take_numbered(&mut self) -> Vec<NumberedPattern<'a>>
+        ensures none { result.items ≡ [] }
+        ensures linked { searched_in self.new ≡ searched_in self.old }
+    {
+        let mut numbered = replace(&mut self.numbered, Vec::new(self.alloc));
+        numbered.clear();
+        numbered
+    }
+
+    /// Keeps the memory of these for the next ones.
+    pub(crate) fn give_back(&mut self, numbered: Vec<NumberedPattern<'a>>)
+        ensures linked { searched_in self.new ≡ searched_in self.old }
+    {
+        self.numbered = numbered;
+    }
+
+    /// Whether a pattern with its number matches somewhere in the text (JSON Schema 2020-12 Core, 10.3.2.2). The only error is want
+    /// of memory.
+    #[inline(always)]
+    pub(crate) fn matches(
+        &mut self,
+        pattern: &NumberedPattern<'_>,
+        text: &str,
+    ) -> Result<bool, AllocError>
+        ensures ok { IsNumbered (searched_in self.old).now pattern.now
+            → IfOk result (λ found. found ≡ has_match (name_text pattern.now.pattern) text.now) }
+        ensures linked { searched_in self.new ≡ searched_in self.old }
+    {
+        if pattern.pattern.as_str().len() > SHORT {
+            self.numbered(pattern.number, text)
+        } else {
+            is_numbered_match(self.alloc, self.linked, pattern.number, text)
         }
     }
 

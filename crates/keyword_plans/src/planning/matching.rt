@@ -1,7 +1,7 @@
 //! Members whose names match patterns (JSON Schema 2020-12 Core, 10.3.2.2).
 
 ghost use Rattle.std.specs.Prelude.{◌≡◌, [], ◌++◌, Some, map, codes, IfOk, IfErr, OnOk};
-ghost use Rattle.std.specs.List.{list_any};
+ghost use Rattle.std.specs.List.{All, list_any};
 ghost use Rattle.definitions.specs.Values.{Text, get, members};
 ghost use Rattle.definitions.specs.Patterns.{has_match};
 ghost use Rattle.definitions.specs.Schemas.{Schema};
@@ -9,10 +9,12 @@ ghost use Rattle.definitions.specs.Applied.{Application};
 ghost use Rattle.json_doc.specs.Docs.{value, members_value};
 ghost use Rattle.json_doc.specs.NamedMembers.{name_text};
 ghost use Rattle.keyword_plans.specs.Applications.{ArePatternsOf, planned_matches, planned_pattern};
+ghost use Rattle.keyword_plans.specs.NumberedPatterns.{IsNumbered, numbered_view};
 ghost use Rattle.keyword_plans.specs.Plans.{planned_view};
 ghost use Rattle.keyword_plans.specs.SearchedIn.{searched_in};
 ghost use Rattle.keyword_plans.specs.Sites.{Shows};
 
+use crate::numbered_pattern::{NumberedPattern, push_numbered};
 use crate::planned::{Part, Planned, Way};
 use crate::searches::Searches;
 use crate::site::Site;
@@ -58,8 +60,29 @@ fn plan_matched<'a>(
         ≡ planned_pattern k a (members_value patterns.now) (members_value members.now)) }
     ensures searched { searched_in searches.new ≡ searched_in searches.old }
 {
+    let mut numbered = searches.take_numbered();
+    push_numbered(&mut numbered, searches.linked(), resource, patterns)?;
+    plan_numbered(planned, searches, &numbered, members)?;
+    searches.give_back(numbered);
+    Ok(())
+}
+
+// The same of patterns with their numbers.
+fn plan_numbered<'a>(
+    planned: &mut Vec<Planned<'a>>,
+    searches: &mut Searches<'a>,
+    patterns: &[NumberedPattern<'a>],
+    members: &'a Members,
+) -> Result<(), AllocError>
+    requires { planned.old.items ≡ [] }
+    ensures ok { (a : Application) (k : Text)
+        → All (IsNumbered (searched_in searches.old).now) patterns.now
+        → OnOk result (map (planned_view k a) planned.new.items
+        ≡ planned_pattern k a (map numbered_view patterns.now) (members_value members.now)) }
+    ensures searched { searched_in searches.new ≡ searched_in searches.old }
+{
     for (name, member) in members.iter().named() {
-        push_matches(planned, searches, resource, patterns, name, member)?;
+        push_matches(planned, searches, patterns, name, member)?;
     }
     Ok(())
 }
@@ -67,24 +90,23 @@ fn plan_matched<'a>(
 fn push_matches<'a>(
     planned: &mut Vec<Planned<'a>>,
     searches: &mut Searches<'a>,
-    resource: &str,
-    patterns: &'a Members,
+    patterns: &[NumberedPattern<'a>],
     name: Name<'a>,
     member: &'a Doc,
 ) -> Result<(), AllocError>
-    ensures ok { (a : Application) (k : Text) (s : Schema)
-        → ArePatternsOf (searched_in searches.old).now resource.now s (members_value patterns.now)
+    ensures ok { (a : Application) (k : Text)
+        → All (IsNumbered (searched_in searches.old).now) patterns.now
         → OnOk result (map (planned_view k a) planned.new.items
         ≡ map (planned_view k a) planned.old.items
         ++ planned_matches k a (name_text name.entry) (value member.now)
-        (members_value patterns.now)) }
+        (map numbered_view patterns.now)) }
     ensures searched { searched_in searches.new ≡ searched_in searches.old }
 {
-    for (pattern, schema) in patterns.iter().named() {
-        if searches.is_match(resource, pattern.as_str(), name.as_str())? {
+    for one in patterns {
+        if searches.matches(one, name.as_str())? {
             planned.push(Planned {
-                way: Way::Member(pattern),
-                schema,
+                way: Way::Member(one.pattern),
+                schema: one.schema,
                 part: Part::Member(name),
                 subject: Subject::Value(member),
             })?;
@@ -93,21 +115,19 @@ fn push_matches<'a>(
     Ok(())
 }
 
-/// Whether one of the patterns matches the name, of a schema of the resource with this URI.
+/// Whether one of the patterns matches the name.
 pub(crate) fn is_matched(
     searches: &mut Searches<'_>,
-    resource: &str,
-    patterns: &Members,
+    patterns: &[NumberedPattern<'_>],
     name: &str,
 ) -> Result<bool, AllocError>
-    ensures ok { (s : Schema)
-        → ArePatternsOf (searched_in searches.old).now resource.now s (members_value patterns.now)
+    ensures ok { All (IsNumbered (searched_in searches.old).now) patterns.now
         → IfOk result (λ b. b ≡ list_any (λ p. has_match p.0 name.now)
-        (members_value patterns.now)) }
+        (map numbered_view patterns.now)) }
     ensures searched { searched_in searches.new ≡ searched_in searches.old }
 {
-    for (pattern, _) in patterns.iter() {
-        if searches.is_match(resource, pattern, name)? {
+    for one in patterns {
+        if searches.matches(one, name)? {
             return Ok(true);
         }
     }

@@ -1,8 +1,8 @@
 //! Members that no keyword beside takes (JSON Schema 2020-12 Core, 10.3.2.3).
 
-ghost use Rattle.std.specs.Prelude.{◌≡◌, ◌≤◌, [], true, map, option_map, unwrap_or, is_some, IfOk, IfErr, OnOk};
+ghost use Rattle.std.specs.Prelude.{◌≡◌, ◌≤◌, [], true, codes, map, option_map, unwrap_or, is_some, IfOk, IfErr, OnOk};
 ghost use Rattle.std.specs.Cmp.Lexicographic.{slice_cmp};
-ghost use Rattle.std.specs.List.{list_any};
+ghost use Rattle.std.specs.List.{All, list_any};
 ghost use Rattle.std.specs.Ordering.{nat_cmp};
 ghost use Rattle.std.specs.declared.cmp.Ordering.TheVariants.{Greater};
 ghost use Rattle.definitions.specs.Values.{Text, Value, entry, members};
@@ -13,12 +13,14 @@ ghost use Rattle.json_doc.specs.Docs.{value, members_value};
 ghost use Rattle.json_doc.specs.NamedMembers.{name_text};
 ghost use Rattle.keyword_plans.specs.Applications.{ArePatternsOf, named_count, planned_others, planned_unnamed};
 ghost use Rattle.linker.specs.declared.linked.Linked.{Linked};
-ghost use Rattle.keyword_plans.specs.Beside.{StandsBeside};
+ghost use Rattle.keyword_plans.specs.Beside.{AreTakers, StandsBeside};
 ghost use Rattle.keywords.specs.Rows.{row_of};
+ghost use Rattle.keyword_plans.specs.NumberedPatterns.{IsNumbered, numbered_view};
 ghost use Rattle.keyword_plans.specs.Plans.{planned_view};
 ghost use Rattle.keyword_plans.specs.SearchedIn.{searched_in};
 ghost use Rattle.keyword_plans.specs.Sites.{Shows, linked_rules};
 
+use crate::numbered_pattern::{NumberedPattern, push_numbered};
 use crate::planned::{Part, Planned, Way};
 use crate::planning::matching::is_matched;
 use crate::planning::members::FAR_LONGER;
@@ -27,6 +29,7 @@ use crate::site::Site;
 use crate::subject::{Subject, members_of};
 use json_doc::{Doc, Members, Name};
 use keywords::Keyword;
+use linker::Linked;
 use std::alloc::AllocError;
 use std::cmp::Ordering;
 
@@ -38,6 +41,13 @@ struct PropertyKeywords<'a> {
     patterns: Option<&'a Members>,
     // The URI of the resource that they stand in.
     resource: &'a str,
+}
+
+// The same, the patterns with their numbers.
+#[derive(Clone, Copy)]
+struct Takers<'s, 'a> {
+    properties: Option<&'a Members>,
+    patterns: &'s [NumberedPattern<'a>],
 }
 
 /// The schema, at each member of the instance that neither `properties` nor `patternProperties` beside takes, where `properties`
@@ -199,8 +209,54 @@ fn plan_each_untaken<'a>(
         (members_value members.now)) }
     ensures searched { searched_in searches.new ≡ searched_in searches.old }
 {
+    let mut numbered = searches.take_numbered();
+    push_patterns(&mut numbered, searches.linked(), beside)?;
+    let takers = Takers {
+        properties: beside.properties,
+        patterns: &numbered,
+    };
+    push_untaken(planned, searches, takers, schema, members)?;
+    searches.give_back(numbered);
+    Ok(())
+}
+
+// The patterns of these keywords, with their numbers. The only error is want of memory.
+fn push_patterns<'a>(
+    numbered: &mut Vec<NumberedPattern<'a>>,
+    linked: &Linked,
+    keywords: PropertyKeywords<'a>,
+) -> Result<(), AllocError>
+    requires { numbered.old.items ≡ [] }
+    ensures patterns { (a : Application) → StandsBeside linked.now keywords.entry a
+        → OnOk result (map numbered_view numbered.new.items
+        ≡ members (beside a (codes "patternProperties"))) }
+    ensures numbers { (a : Application) → StandsBeside linked.now keywords.entry a
+        → OnOk result (All (IsNumbered linked.now) numbered.new.items) }
+{
+    match keywords.patterns {
+        Some(patterns) => push_numbered(numbered, linked, keywords.resource, patterns),
+        None => Ok(()),
+    }
+}
+
+// Each of the members that nothing takes.
+fn push_untaken<'a>(
+    planned: &mut Vec<Planned<'a>>,
+    searches: &mut Searches<'a>,
+    takers: Takers<'_, 'a>,
+    schema: &'a Doc,
+    members: &'a Members,
+) -> Result<(), AllocError>
+    requires { planned.old.items ≡ [] }
+    ensures ok { (a : Application) (k : Text)
+        → AreTakers (searched_in searches.old).now takers.entry a
+        → OnOk result (map (planned_view k a) planned.new.items
+        ≡ planned_others (searched_in searches.old).now k a (value schema.now)
+        (members_value members.now)) }
+    ensures searched { searched_in searches.new ≡ searched_in searches.old }
+{
     for (name, member) in members.iter().named() {
-        if !is_taken(searches, beside, name.as_str())? {
+        if !is_taken(searches, takers, name.as_str())? {
             planned.push(Planned {
                 way: Way::Own,
                 schema,
@@ -215,21 +271,18 @@ fn plan_each_untaken<'a>(
 // Whether a keyword beside takes the member of this name.
 fn is_taken(
     searches: &mut Searches<'_>,
-    beside: PropertyKeywords<'_>,
+    takers: Takers<'_, '_>,
     name: &str,
 ) -> Result<bool, AllocError>
-    ensures ok { (a : Application) → StandsBeside (searched_in searches.old).now beside.entry a
+    ensures ok { (a : Application) → AreTakers (searched_in searches.old).now takers.entry a
         → IfOk result (λ b. b
         ≡ is_taken (linked_rules (searched_in searches.old).now) a name.now) }
     ensures searched { searched_in searches.new ≡ searched_in searches.old }
 {
-    if is_named(beside.properties, name) {
+    if is_named(takers.properties, name) {
         return Ok(true);
     }
-    match beside.patterns {
-        Some(patterns) => is_matched(searches, beside.resource, patterns, name),
-        None => Ok(false),
-    }
+    is_matched(searches, takers.patterns, name)
 }
 
 fn is_named(schemas: Option<&Members>, name: &str) -> bool

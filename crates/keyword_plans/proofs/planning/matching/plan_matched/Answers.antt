@@ -1,23 +1,17 @@
-use Rattle.std.proofs.Common.{◌∙◌, ap, map}
+use Rattle.std.proofs.Common.{◌∙◌, ap, map, subst, sym, Bor}
+use Rattle.std.specs.List.{All}
 use Rattle.json_doc.specs.Docs.{members_value}
-use Rattle.json_doc.specs.NamedMembers.{named_left}
-use Rattle.keyword_plans.specs.Applications.{planned_pattern}
-use Rattle.keyword_plans.specs.Plans.{planned_view}
-use Rattle.keyword_plans.proofs.Growing.{grown, ended}
-use Rattle.keyword_plans.proofs.Matching.{same_patterns}
+use Rattle.linker.specs.declared.linked.Linked.{Linked}
+use Rattle.keyword_plans.specs.Applications.{ArePatternsOf, planned_pattern}
+use Rattle.keyword_plans.specs.NumberedPatterns.{IsNumbered, numbered_view}
+use Rattle.keyword_plans.specs.SearchedIn.{searched_in}
 use Rattle.keyword_plans.proofs.planning.matching.plan_matched.Goals as goal
-
-pub loop-name-preserved : goal.loop-name-preserved
-loop-name-preserved c =
-    let ps = members_value c.args.patterns.now in
-    record {
-      searched = c.push_matches.ensures.searched ∙ c.loop-name.invariant.searched;
-      planned = λ a k s are.
-          grown (map (planned_view k a) c.loop-name.planned.items) _ _ _ (planned_pattern k a ps (named_left c.next.new.self)) _
-          (c.in_ok-push_matches.ensures.ok a k s (same_patterns _ _ _ s ps c.loop-name.invariant.searched are)) (ap (planned_pattern k a ps) c.in-Some.ensures.steps)
-          (c.loop-name.invariant.planned a k s are);
-    }
 
 pub returns-clause-ok : goal.returns-clause-ok
 returns-clause-ok c a k s are =
-    ended (map (planned_view k a) c.loop-name.planned.items) _ _ (ap (planned_pattern k a (members_value c.args.patterns.now)) c.in-None.ensures.steps.0) (c.loop-name.invariant.planned a k s are)
+    let same = c.linked.ensures in
+    let back = c.take_numbered-numbered.ensures.linked in
+    let here = subst (λ (l : Bor Linked). ArePatternsOf l.now c.args.resource.now s (members_value c.args.patterns.now)) (sym (same ∙ back)) are in
+    let numbers = subst (λ (l : Bor Linked). All (IsNumbered l.now) c.push_numbered.new.numbered.items) same (c.in_ok-push_numbered.ensures.numbers s here) in
+    c.in_ok-plan_numbered.ensures.ok a k (subst (All (IsNumbered (searched_in c.take_numbered-numbered.new.self).now)) (sym c.deref.ensures.value) numbers)
+    ∙ ap (λ ps. planned_pattern k a ps (members_value c.args.members.now)) (ap (map numbered_view) c.deref.ensures.value ∙ c.in_ok-push_numbered.ensures.patterns s here)

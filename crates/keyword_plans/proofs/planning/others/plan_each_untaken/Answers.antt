@@ -1,29 +1,24 @@
-use Rattle.std.proofs.Common.{◌≡◌, ◌∙◌, sym, ap, map, false}
-use Rattle.std.proofs.lemmas.List.{map-append}
-use Rattle.definitions.specs.Applied.{is_taken}
-use Rattle.json_doc.specs.Docs.{value}
-use Rattle.json_doc.specs.NamedMembers.{name_text, named_left}
+use Rattle.std.proofs.Common.{◌∙◌, ap, map, subst, sym, Bor}
+use Rattle.std.specs.List.{All}
+use Rattle.linker.specs.declared.linked.Linked.{Linked}
+use Rattle.json_doc.specs.Docs.{members_value, value}
 use Rattle.keyword_plans.specs.Applications.{planned_others}
-use Rattle.keyword_plans.specs.Plans.{planned_view}
+use Rattle.keyword_plans.specs.Beside.{StandsBeside}
+use Rattle.keyword_plans.specs.NumberedPatterns.{IsNumbered, numbered_view}
 use Rattle.keyword_plans.specs.SearchedIn.{searched_in}
-use Rattle.keyword_plans.specs.Sites.{linked_rules}
-use Rattle.keyword_plans.proofs.Growing.{grown}
-use Rattle.keyword_plans.proofs.Taken.{others-here, same_beside, taken-same}
 use Rattle.keyword_plans.proofs.planning.others.plan_each_untaken.Goals as goal
 
-pub loop-name-preserved-in_ok-push : goal.loop-name-preserved-in_ok-push
-loop-name-preserved-in_ok-push c =
-    let l = (searched_in c.args.searches.now).now in
-    let v = value c.args.schema.now in
-    let rest = named_left c.next.new.self in
-    let same : searched_in c.loop-name.searches ≡ searched_in c.args.searches.now = c.loop-name.invariant.searched in
+pub returns-clause-ok : goal.returns-clause-ok
+returns-clause-ok c a k stands =
+    let same = c.linked.ensures in
+    let back = c.take_numbered-numbered.ensures.linked in
+    let here = subst (λ (l : Bor Linked). StandsBeside l.now c.args.beside a) (sym (same ∙ back)) stands in
+    let numbers = subst (λ (l : Bor Linked). All (IsNumbered l.now) c.push_patterns.new.numbered.items) same (c.in_ok-push_patterns.ensures.numbers a here) in
+    let searched = (searched_in c.take_numbered-numbered.new.self).now in
+    c.in_ok-push_untaken.ensures.ok a k (
     record {
-      searched = c.is_taken.ensures.searched ∙ same;
-      planned = λ a k stands.
-          let free : is_taken (linked_rules l) a (name_text c.in-Some.name) ≡ false =
-          ap (is_taken (linked_rules l) a) (sym c.as_str.ensures) ∙ taken-same _ _ a c.as_str.result.now same ∙ sym (c.in_ok-is_taken.ensures.ok a (same_beside _ _ c.args.beside a same stands)) ∙ c.if-not-branch.true in
-          grown (map (planned_view k a) c.loop-name.planned.items) _ _ _ (planned_others l k a v rest) _
-          (ap (map (planned_view k a)) c.in_ok-push.ensures.items ∙ map-append (planned_view k a) c.loop-name.planned.items _)
-          (ap (planned_others l k a v) c.in-Some.ensures.steps ∙ others-here l k a v (name_text c.in-Some.name) (value c.in-Some.member.now) rest free)
-          (c.loop-name.invariant.planned a k stands);
-    }
+      properties = stands.properties;
+      patterns = ap (map numbered_view) c.deref.ensures.value ∙ c.in_ok-push_patterns.ensures.patterns a here;
+      numbers = subst (All (IsNumbered searched)) (sym c.deref.ensures.value) numbers;
+    })
+    ∙ ap (λ (l : Bor Linked). planned_others l.now k a (value c.args.schema.now) (members_value c.args.members.now)) back

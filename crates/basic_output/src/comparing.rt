@@ -1,6 +1,6 @@
 //! Bytes compared with others. A few are compared by two loads of a fixed size, which may overlap.
 
-ghost use Rattle.std.specs.Prelude.{◌≡◌, ◌+◌, ◌≤◌, ◌++◌, length, IfSome};
+ghost use Rattle.std.specs.Prelude.{◌≡◌, ◌+◌, ◌≤◌, ◌<◌, ◌++◌, length, IfSome};
 ghost use Rattle.std.specs.Bool.{OnTrue};
 ghost use Rattle.basic_output.specs.Begins.{SameBetween};
 
@@ -25,13 +25,26 @@ fn begin_with(bytes: &[u8], text: &[u8]) -> bool
     ensures { OnTrue result (SameBetween bytes.now text.now 0 (length text.now)) }
 {
     let len = text.len();
-    if len > 16 {
-        begin_with_many(bytes, text)
-    } else if len >= 8 {
-        are_same_at::<8>(bytes, text, 0) && are_same_at::<8>(bytes, text, len - 8)
-    } else if len >= 4 {
+    if len < 4 {
+        begin_with_few(bytes, text)
+    } else if len <= 8 {
         are_same_at::<4>(bytes, text, 0) && are_same_at::<4>(bytes, text, len - 4)
-    } else if len >= 2 {
+    } else if len <= 16 {
+        are_same_at::<8>(bytes, text, 0) && are_same_at::<8>(bytes, text, len - 8)
+    } else {
+        begin_with_many(bytes, text)
+    }
+}
+
+// The same of less than four bytes.
+#[inline(always)]
+fn begin_with_few(bytes: &[u8], text: &[u8]) -> bool
+    requires fits { length text.now ≤ length bytes.now }
+    requires few { length text.now < 4 }
+    ensures { OnTrue result (SameBetween bytes.now text.now 0 (length text.now)) }
+{
+    let len = text.len();
+    if len >= 2 {
         are_same_at::<2>(bytes, text, 0) && are_same_at::<2>(bytes, text, len - 2)
     } else {
         len == 0 || bytes[0] == text[0]

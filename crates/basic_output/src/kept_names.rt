@@ -1,6 +1,6 @@
 //! Texts of lists of names that are kept, since the same few lists are written again and again.
 
-ghost use Rattle.std.specs.Prelude.{◌≡◌, ◌+◌, ◌++◌, ◌∷◌, ◌<◌, codes, length, string_bytes, IfSome, OnOk};
+ghost use Rattle.std.specs.Prelude.{◌≡◌, ◌+◌, ◌++◌, ◌∷◌, ◌<◌, codes, length, string_bytes, IfSome, OnErr, OnOk};
 ghost use Rattle.std.specs.Bool.{OnTrue};
 ghost use Rattle.definitions.specs.Texts.{text};
 ghost use Rattle.definitions.specs.Values.{Text};
@@ -54,6 +54,8 @@ impl NamesText {
     // From now on the text of so many names. The only error is want of memory, and then it is that of none.
     fn set(&mut self, names: usize, text: &str) -> Result<(), AllocError>
         requires { escaped_count text.now ≡ names + names }
+        ensures ok { OnOk result (string_bytes self.new.text ≡ text.now) }
+        ensures none { OnErr result (self.new.names ≡ 0) }
     {
         self.names = 0;
         self.text.clear();
@@ -122,15 +124,17 @@ impl KeptNames {
         }
     }
 
-    /// Whether the text of the list of these names is kept at that place.
-    #[inline(always)]
-    pub(crate) fn holds(&self, place: usize, names: &[&str]) -> bool
-        ensures { OnTrue result (IsKept self.now place
+    /// The place at which the text of the list of these names is kept, if it is.
+    #[inline(never)]
+    pub(crate) fn find(&self, names: &[&str]) -> Option<usize>
+        ensures { IfSome result (λ place. IsKept self.now place
             (text (says_value (says.Names names.entry)))) }
     {
-        match self.texts.get(place) {
-            Some(kept) => kept.is_of(names),
-            None => false,
+        let place = place_of(names);
+        if self.texts.get(place)?.is_of(names) {
+            Some(place)
+        } else {
+            None
         }
     }
 
@@ -143,13 +147,15 @@ impl KeptNames {
         self.texts[place].text.as_str()
     }
 
-    /// Keeps the text of so many names at that place, where it is short. The only error is want of memory.
-    pub(crate) fn keep(&mut self, place: usize, names: usize, text: &str) -> Result<(), AllocError>
-        requires { escaped_count text.now ≡ names + names }
+    /// Keeps the text of the list of these names, which stand in strings as they are, where it is short. The only error is want
+    /// of memory.
+    pub(crate) fn keep(&mut self, names: &[&str], text: &str) -> Result<(), AllocError>
+        requires { escaped_count text.now ≡ length names.now + length names.now }
     {
-        if place < PLACES && text.len() <= LONGEST {
+        let place = place_of(names);
+        if text.len() <= LONGEST {
             self.make_place(place)?;
-            self.texts[place].set(names, text)?;
+            self.texts[place].set(names.len(), text)?;
         }
         Ok(())
     }
@@ -166,9 +172,11 @@ impl KeptNames {
     }
 }
 
-/// The place at which the text of the list of these names is kept, told by how many there are, and by the first one and the last.
+// The place of the list of these names, told by how many there are, and by the first one and the last.
 #[inline(always)]
-pub(crate) fn place_of(names: &[&str]) -> usize {
+fn place_of(names: &[&str]) -> usize
+    ensures { result < 64 }
+{
     match (names.first(), names.last()) {
         (Some(first), Some(last)) => {
             (names.len() ^ (ends_of(first) << 2) ^ (ends_of(last) << 1)) & (PLACES - 1)

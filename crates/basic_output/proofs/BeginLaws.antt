@@ -1,17 +1,11 @@
 -- Bytes that are those of a text.
-use Rattle.std.proofs.Common.{◌≡◌, ℕ, zero, suc, ◌+◌, ◌-◌, ◌*◌, ◌%◌, ◌^◌, ◌≤◌, Bool, true, false, not, cond, eqb, List, [], ◌∷◌, ◌++◌, length, drop, get_or, map, w8, refl, sym, ap, ap₂, ◌∙◌, arith, get_or-take, get_or-drop}
-use Rattle.std.proofs.lemmas.Bool.{eqb-true, not-false}
+use Rattle.std.proofs.Common.{◌≡◌, ℕ, suc, ◌+◌, ◌-◌, ◌*◌, ◌%◌, ◌^◌, ◌≤◌, Bool, true, false, not, cond, eqb, List, [], ◌∷◌, ◌++◌, length, drop, get_or, map, w8, refl, sym, ap, ap₂, ◌∙◌, arith, get_or-take, get_or-drop}
+use Rattle.std.proofs.lemmas.Bool.{OnTrue_from, eqb-true, not-false}
 use Rattle.std.proofs.lemmas.Simd.{length-chunk, mask_l-mod, tops_compared}
 use Rattle.std.specs.Bool.{OnTrue}
 use lib.Lanes.{chunk, mask_l, zip2, top}
 use Rattle.definitions.specs.Values.{Text}
 use Rattle.basic_output.specs.Begins.{SameBetween}
-
-pub begins : (text bytes : Text) → length text ≤ length bytes → SameBetween bytes text 0 (length text) → bytes ≡ text ++ drop (length text) bytes
-begins [] bytes le same = refl
-begins (x ∷ xs) [] le same = absurd (omega arith)
-begins (x ∷ xs) (y ∷ ys) le same =
-    ap₂ (λ a b. a ∷ b) (same 0 (omega arith) (omega arith)) (begins xs ys (omega arith) (λ k p q. same (suc k) (omega arith) (omega arith)))
 
 no_bit : (b : Bool) (n : ℕ) → cond b 1 0 + 2 * n ≡ 0 → (b ≡ false) × (n ≡ 0)
 no_bit true n e = absurd (omega arith)
@@ -27,10 +21,6 @@ no_difference (x ∷ xs) [] e none = absurd (omega arith)
 no_difference (x ∷ xs) (y ∷ ys) e none =
     let both = no_bit (not (eqb x y)) (mask_l (zip2 (λ a b. not (eqb a b)) xs ys)) none in
     ap₂ (λ a b. a ∷ b) (equal_numbers x y both.0) (no_difference xs ys (omega arith) both.1)
-
-on_true : (b : Bool) (P : Type 0) → (b ≡ true → P) → OnTrue b P
-on_true true P f = f refl
-on_true false P f = tt
 
 same_chunks : (bytes text : Text) (i n : ℕ) → chunk i n bytes ≡ chunk i n text → SameBetween bytes text i (i + n)
 same_chunks bytes text i n e k p q =
@@ -53,4 +43,4 @@ same_by_lanes bytes text i n in_bytes in_text few =
     let also = length-chunk i n text in_text in
     let differ = zip2 (λ a b. not (eqb a b)) xs ys in
     let mask = ap (λ ms. mask_l ms % 2 ^ 64) (tops_compared w8 (λ a b. not (eqb a b)) xs ys) ∙ mask_l-mod differ 64 (omega (arith, lanes_within xs ys, long)) in
-    on_true _ _ (λ e. same_chunks bytes text i n (no_difference xs ys (omega (arith, long, also)) (sym mask ∙ eqb-true _ 0 e)))
+    OnTrue_from _ _ (λ e. same_chunks bytes text i n (no_difference xs ys (omega (arith, long, also)) (sym mask ∙ eqb-true _ 0 e)))

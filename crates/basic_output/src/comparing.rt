@@ -76,7 +76,6 @@ fn are_same_at<const N: usize>(bytes: &[u8], text: &[u8], at: usize) -> bool
     requires lanes { N ≤ 64 }
     ensures { OnTrue result (SameBetween bytes.now text.now at (at + N)) }
 {
-    let differing = Simd::<u8, N>::from_slice(&bytes[at..])
-        .simd_ne(Simd::from_slice(&text[at..]));
+    let differing = Simd::<u8, N>::from_slice(&bytes[at..]).simd_ne(Simd::from_slice(&text[at..]));
     differing.to_bitmask() == 0
 }

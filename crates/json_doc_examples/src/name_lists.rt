@@ -45,11 +45,15 @@ const LISTS: &[(&[&str], &str)] = &[
         r#"["a","A name of many words","b"]"#,
     ),
     (
-        &[ALPHABET, ALPHABET, "ä", ALPHABET, ALPHABET, ALPHABET, ALPHABET, ALPHABET, ALPHABET],
+        &[
+            ALPHABET, ALPHABET, "ä", ALPHABET, ALPHABET, ALPHABET, ALPHABET, ALPHABET, ALPHABET,
+        ],
         r#"["abcdefghijklmnopqrstuvwxyz","abcdefghijklmnopqrstuvwxyz","ä","abcdefghijklmnopqrstuvwxyz","abcdefghijklmnopqrstuvwxyz","abcdefghijklmnopqrstuvwxyz","abcdefghijklmnopqrstuvwxyz","abcdefghijklmnopqrstuvwxyz","abcdefghijklmnopqrstuvwxyz"]"#,
     ),
     (
-        &[ALPHABET, ALPHABET, "ö", ALPHABET, ALPHABET, ALPHABET, ALPHABET, ALPHABET, ALPHABET],
+        &[
+            ALPHABET, ALPHABET, "ö", ALPHABET, ALPHABET, ALPHABET, ALPHABET, ALPHABET, ALPHABET,
+        ],
         r#"["abcdefghijklmnopqrstuvwxyz","abcdefghijklmnopqrstuvwxyz","ö","abcdefghijklmnopqrstuvwxyz","abcdefghijklmnopqrstuvwxyz","abcdefghijklmnopqrstuvwxyz","abcdefghijklmnopqrstuvwxyz","abcdefghijklmnopqrstuvwxyz","abcdefghijklmnopqrstuvwxyz"]"#,
     ),
 ];
@@ -77,7 +81,9 @@ fn writes_lists_behind_others(rt: HostRuntime) -> Result<(), Fail> {
             units.clear();
             push_names(rt.alloc(), &mut units, names)?;
             let found = output_text(rt.alloc(), true, &units)?;
-            let wanted = format!(in rt.alloc(); r#"{{"annotations":[{{"absoluteKeywordLocation":"urn:x#","annotation":{text},"instanceLocation":"","keywordLocation":""}}],"valid":true}}"#)?;
+            let wanted = format!(in rt.alloc();
+                r#"{{"annotations":[{{"absoluteKeywordLocation":"urn:x#","annotation":{text},"instanceLocation":"","keywordLocation":""}}],"valid":true}}"#
+            )?;
             assert_eq!(rt; found.as_str(), wanted.as_str());
         }
     }

@@ -10,5 +10,5 @@ returns-then-is_of c =
     let kept = c.in_ok-get.field-0.now in
     let found = c.in_ok-get.ensures.lookup in
     let there : slice_get c.args.self.now.texts.items place ≡ Some kept =
-        ap (λ ts. slice_get ts place) (sym c.deref.ensures.value) ∙ slice_get_read texts _ place kept refl found.3.0 found.1 in
+    ap (λ ts. slice_get ts place) (sym c.deref.ensures.value) ∙ slice_get_read texts _ place kept refl found.3.0 found.1 in
     (kept, there, c.if-is_of.ensures)

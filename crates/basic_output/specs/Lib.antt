@@ -1,4 +1,6 @@
+pub mod Begins
 pub mod Buffers
+pub mod KeptNames
 pub mod WrittenOver
 pub mod PointerViews
 pub mod Sayings

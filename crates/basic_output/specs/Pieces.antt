@@ -1,5 +1,5 @@
 -- The output's text, piece by piece.
-use Rattle.std.specs.Prelude.{◌≡◌, ℕ, List, [], ◌∷◌, ◌++◌, Bool, true, false, not, ◌&&◌, ◌||◌, ◌==◌, nat_le, codes, flat_map}
+use Rattle.std.specs.Prelude.{◌≡◌, ℕ, List, [], ◌∷◌, ◌++◌, Bool, true, false, not, ◌&&◌, ◌||◌, ◌==◌, nat_le, codes, count_by, flat_map}
 use Rattle.std.specs.Borrow.{Bor}
 use Rattle.std.specs.List.{list_all}
 use Rattle.json.specs.Print.{quoted}
@@ -40,6 +40,10 @@ later_names = flat_map (λ name. codes "\",\"" ++ name.now)
 
 abbrev pub plain_names_text : Text → List (Bor Text) → Text
 plain_names_text first rest = codes "[\"" ++ (first ++ (later_names rest ++ codes "\"]"))
+
+-- how many bytes have to be escaped in a string
+abbrev pub escaped_count : Text → ℕ
+escaped_count = count_by (λ c. not (is_unescaped c))
 
 -- ---- what the units are called
 abbrev pub kind : Bool → Text

@@ -2,7 +2,9 @@
 #![tactic(auto)]
 
 mod appending;
+mod comparing;
 mod keeping;
+mod kept_names;
 mod location;
 mod made;
 mod origin;

@@ -9,6 +9,7 @@ ghost use Rattle.basic_output.specs.Sayings.{says_value};
 ghost use Rattle.basic_output.specs.declared.says.Says.TheVariants as says;
 
 use crate::keeping::is_kept;
+use crate::kept_names::KeptNames;
 use crate::ready::{Said, plain_said, written_said};
 use crate::saying::{are_all_unescaped, push_says};
 use crate::says::Says;
@@ -21,6 +22,8 @@ use std::alloc::{AllocError, Global};
 pub(crate) struct Made {
     /// A list of names, each of which stands in a string as it is.
     names: TextBuffer,
+    /// Such lists that were made before, where they are short.
+    kept: KeptNames,
     /// Any other text.
     pub(crate) text: String,
 }
@@ -30,6 +33,7 @@ impl Made {
     pub(crate) fn new(alloc: Global) -> Made {
         Made {
             names: TextBuffer::new(alloc),
+            kept: KeptNames::new(alloc),
             text: String::new(alloc),
         }
     }
@@ -66,9 +70,21 @@ impl Made {
     fn list<'s>(&'s mut self, names: &'s [&'s str]) -> Result<&'s str, AllocError>
         ensures { IfOk result (λ made. made.now ≡ text (says_value (says.Names names.entry))) }
     {
+        match self.kept.find(names) {
+            Some(place) => Ok(self.kept.text(place)),
+            None => self.other_list(names),
+        }
+    }
+
+    // One that is not kept.
+    #[inline(never)]
+    fn other_list<'s>(&'s mut self, names: &'s [&'s str]) -> Result<&'s str, AllocError>
+        ensures { IfOk result (λ made. made.now ≡ text (says_value (says.Names names.entry))) }
+    {
         match names.split_first() {
             Some((first, rest)) if are_all_unescaped(names) => {
                 write_plain_names(&mut self.names, first, rest)?;
+                self.kept.keep(names, self.names.as_str())?;
                 Ok(self.names.as_str())
             }
             _ => self.make_other(Says::Names(names)),

@@ -9,6 +9,8 @@ mod keyword_names;
 #[cfg(test)]
 mod large_texts;
 #[cfg(test)]
+mod name_lists;
+#[cfg(test)]
 mod names;
 #[cfg(test)]
 mod outputs;

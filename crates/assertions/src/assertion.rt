@@ -133,9 +133,52 @@ pub fn holds(
     }
 }
 
-// The same, whatever the keyword. It is called apart: what most objects ask is a type.
+// The same, whatever the keyword. It is called apart: what most objects ask is a type. What compares numbers and counts is
+// judged in place, which calls nothing where it holds.
 #[inline(never)]
 fn holds_in_full(
+    alloc: Global,
+    assertion: Assertion,
+    keyword_value: &Doc,
+    instance: &Doc,
+) -> Result<bool, AllocError>
+    ensures { IfOk result (λ b. b
+        ≡ holds (assertion_view assertion) (value keyword_value.now) (value instance.now)) }
+{
+    match assertion {
+        Assertion::MultipleOf
+        | Assertion::Maximum
+        | Assertion::ExclusiveMaximum
+        | Assertion::Minimum
+        | Assertion::ExclusiveMinimum
+        | Assertion::MaxLength
+        | Assertion::MinLength
+        | Assertion::MaxProperties
+        | Assertion::MinProperties => holds_in_place(alloc, assertion, keyword_value, instance),
+        Assertion::MaxItems | Assertion::MinItems => {
+            holds_in_place(alloc, assertion, keyword_value, instance)
+        }
+        _ => holds_apart(alloc, assertion, keyword_value, instance),
+    }
+}
+
+// The same, called apart.
+#[inline(never)]
+fn holds_apart(
+    alloc: Global,
+    assertion: Assertion,
+    keyword_value: &Doc,
+    instance: &Doc,
+) -> Result<bool, AllocError>
+    ensures { IfOk result (λ b. b
+        ≡ holds (assertion_view assertion) (value keyword_value.now) (value instance.now)) }
+{
+    holds_in_place(alloc, assertion, keyword_value, instance)
+}
+
+// The same, judged where it is called.
+#[inline(always)]
+fn holds_in_place(
     alloc: Global,
     assertion: Assertion,
     keyword_value: &Doc,
@@ -152,6 +195,7 @@ fn holds_in_full(
 }
 
 // Whether the value has the keyword's shape.
+#[inline(never)]
 fn has_its_shape(assertion: Assertion, keyword_value: &Doc) -> bool
     ensures { result ≡ has_shape (shape_of (assertion_view assertion)) (value keyword_value.now) }
 {
@@ -166,6 +210,7 @@ fn shape_of(assertion: Assertion) -> Shape
 }
 
 // What the keyword asks. Of a value of another shape the answer tells nothing.
+#[inline(always)]
 fn is_asserted(
     alloc: Global,
     assertion: Assertion,

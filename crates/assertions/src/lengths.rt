@@ -8,6 +8,7 @@ use crate::limits::{is_at_least, is_at_most, size_of};
 use json_doc::Doc;
 
 /// Whether the instance, where it is a string, has at most so many code points.
+#[inline(always)]
 pub(crate) fn has_length_at_most(instance: &Doc, limit: &Doc) -> bool
     ensures { result ≡ on_length (is_at_most (value limit.now)) (value instance.now) }
 {
@@ -18,6 +19,7 @@ pub(crate) fn has_length_at_most(instance: &Doc, limit: &Doc) -> bool
     }
 }
 
+#[inline(always)]
 fn is_length_at_most(text: &str, limit: &Doc) -> bool
     ensures { result ≡ is_at_most (value limit.now) (length (chars text.now)) }
 {
@@ -28,6 +30,7 @@ fn is_length_at_most(text: &str, limit: &Doc) -> bool
 }
 
 // A code point has one to four bytes, so the code points are counted only where the bytes leave it open.
+#[inline(always)]
 fn has_at_most(text: &str, size: u64) -> bool
     ensures { result ≡ nat_le (length (chars text.now)) size }
 {
@@ -42,6 +45,7 @@ fn has_at_most(text: &str, size: u64) -> bool
 }
 
 /// Whether the instance, where it is a string, has at least so many code points.
+#[inline(always)]
 pub(crate) fn has_length_at_least(instance: &Doc, limit: &Doc) -> bool
     ensures { result ≡ on_length (is_at_least (value limit.now)) (value instance.now) }
 {
@@ -52,6 +56,7 @@ pub(crate) fn has_length_at_least(instance: &Doc, limit: &Doc) -> bool
     }
 }
 
+#[inline(always)]
 fn is_length_at_least(text: &str, limit: &Doc) -> bool
     ensures { result ≡ is_at_least (value limit.now) (length (chars text.now)) }
 {
@@ -61,6 +66,7 @@ fn is_length_at_least(text: &str, limit: &Doc) -> bool
     }
 }
 
+#[inline(always)]
 fn has_at_least(text: &str, size: u64) -> bool
     ensures { result ≡ nat_le size (length (chars text.now)) }
 {
@@ -82,6 +88,7 @@ fn count_of(text: &str) -> u64
 }
 
 /// Whether the instance, where it is a list, has at most so many elements.
+#[inline(always)]
 pub(crate) fn has_elements_at_most(instance: &Doc, limit: &Doc) -> bool
     ensures { result ≡ on_elements (is_at_most (value limit.now)) (value instance.now) }
 {
@@ -92,6 +99,7 @@ pub(crate) fn has_elements_at_most(instance: &Doc, limit: &Doc) -> bool
 }
 
 /// Whether the instance, where it is a list, has at least so many elements.
+#[inline(always)]
 pub(crate) fn has_elements_at_least(instance: &Doc, limit: &Doc) -> bool
     ensures { result ≡ on_elements (is_at_least (value limit.now)) (value instance.now) }
 {
@@ -102,6 +110,7 @@ pub(crate) fn has_elements_at_least(instance: &Doc, limit: &Doc) -> bool
 }
 
 /// Whether the instance, where it is an object, has at most so many members.
+#[inline(always)]
 pub(crate) fn has_members_at_most(instance: &Doc, limit: &Doc) -> bool
     ensures { result ≡ on_members (is_at_most (value limit.now)) (value instance.now) }
 {
@@ -112,6 +121,7 @@ pub(crate) fn has_members_at_most(instance: &Doc, limit: &Doc) -> bool
 }
 
 /// Whether the instance, where it is an object, has at least so many members.
+#[inline(always)]
 pub(crate) fn has_members_at_least(instance: &Doc, limit: &Doc) -> bool
     ensures { result ≡ on_members (is_at_least (value limit.now)) (value instance.now) }
 {

@@ -8,6 +8,7 @@ ghost use Rattle.assertions.specs.Limits.{size_of};
 use json_doc::Doc;
 
 /// Whether the count is at most the limit: true where that is no whole number of at least 0.
+#[inline(always)]
 pub fn is_at_most(count: u64, limit: &Doc) -> bool
     ensures { result ≡ is_at_most (value limit.now) count }
 {
@@ -18,6 +19,7 @@ pub fn is_at_most(count: u64, limit: &Doc) -> bool
 }
 
 /// Whether the count is at least the limit: true where that is no whole number of at least 0.
+#[inline(always)]
 pub fn is_at_least(count: u64, limit: &Doc) -> bool
     ensures { result ≡ is_at_least (value limit.now) count }
 {
@@ -28,6 +30,7 @@ pub fn is_at_least(count: u64, limit: &Doc) -> bool
 }
 
 /// The number, where it is one of at least 0.
+#[inline(always)]
 pub(crate) fn size_of(limit: &Doc) -> Option<u64>
     ensures { result ≡ size_of (value limit.now) }
 {

@@ -8,6 +8,7 @@ ghost use Rattle.json_doc.specs.Docs.{value};
 use json_doc::{Doc, Whole};
 
 /// Whether both are numbers and the divisor, above 0, divides the instance (Validation, section 6.2.1).
+#[inline(always)]
 pub fn is_multiple(instance: &Doc, divisor: &Doc) -> bool
     ensures { result ≡ is_multiple (value instance.now) (value divisor.now) }
 {
@@ -17,6 +18,7 @@ pub fn is_multiple(instance: &Doc, divisor: &Doc) -> bool
     }
 }
 
+#[inline(always)]
 fn is_number_multiple(number: Whole, divisor: &Doc) -> bool
     ensures { result ≡ is_multiple (integer number) (value divisor.now) }
 {
@@ -26,6 +28,7 @@ fn is_number_multiple(number: Whole, divisor: &Doc) -> bool
     }
 }
 
+#[inline(always)]
 fn divides(divisor: Whole, number: Whole) -> bool
     ensures { result ≡ is_multiple (integer number) (integer divisor) }
 {
@@ -36,6 +39,7 @@ fn divides(divisor: Whole, number: Whole) -> bool
 }
 
 // The number without its sign.
+#[inline(always)]
 fn magnitude(number: Whole) -> u64
     ensures { result ≡ nat_abs number }
 {
@@ -43,6 +47,7 @@ fn magnitude(number: Whole) -> u64
 }
 
 /// Whether the instance, where it is a number, is a multiple of the divisor.
+#[inline(always)]
 pub(crate) fn is_multiple_if(instance: &Doc, divisor: &Doc) -> bool
     ensures { result ≡ on_integer (λ y. is_multiple y (value divisor.now)) (value instance.now) }
 {
@@ -53,6 +58,7 @@ pub(crate) fn is_multiple_if(instance: &Doc, divisor: &Doc) -> bool
 }
 
 /// Whether the first number is not above the second, where both are numbers.
+#[inline(always)]
 pub(crate) fn is_not_above(first: &Doc, second: &Doc) -> bool
     ensures { result ≡ are_ordered int_le (value first.now) (value second.now) }
 {
@@ -66,6 +72,7 @@ pub(crate) fn is_not_above(first: &Doc, second: &Doc) -> bool
 }
 
 /// Whether the first number is below the second, where both are numbers.
+#[inline(always)]
 pub(crate) fn is_below(first: &Doc, second: &Doc) -> bool
     ensures { result ≡ are_ordered int_lt (value first.now) (value second.now) }
 {

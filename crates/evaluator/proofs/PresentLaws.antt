@@ -1,5 +1,5 @@
 -- Laws of the keywords that a schema object has.
-use Rattle.std.proofs.Common.{◌≡◌, ◌≢◌, ◌<◌, ◌≤◌, ◌+◌, ◌-◌, ◌*◌, ◌^◌, ◌%◌, nat_lt, ◌&&◌, ◌||◌, not, ℕ, zero, suc, List, [], ◌∷◌, ◌++◌, Bool, true, false, Option, Some, None, option_map, is_some, append-nil, length, get_or, take, w64, cond, inl, inr, filter, flat_map, codes, refl, sym, ap, ◌∙◌, arith}
+use Rattle.std.proofs.Common.{◌≡◌, ◌≢◌, ◌<◌, ◌≤◌, ◌+◌, ◌-◌, ◌*◌, ◌^◌, ◌%◌, nat_lt, ◌&&◌, ◌||◌, not, ℕ, zero, suc, List, [], ◌∷◌, ◌++◌, Bool, true, false, Option, Some, None, option_map, is_some, append-nil, length, get_or, slice_index_or, take, w64, cond, inl, inr, filter, flat_map, codes, refl, sym, ap, ◌∙◌, arith}
 use Rattle.std.specs.Prelude.{◌==◌}
 use Rattle.std.specs.Int.{bit_at}
 use Rattle.std.specs.Int.RustNames.{bit_or}
@@ -19,10 +19,11 @@ use Rattle.lemmas.proofs.Texts.{same_text_differs, same_text_is}
 use Rattle.linker.specs.declared.linked.Linked.{Linked}
 use Rattle.keywords.specs.Rows.{row_named, row_of}
 use Rattle.keywords.specs.Groups.{group_number, groups_before, in_order}
-use Rattle.keywords.proofs.Grouped.{number_within}
+use Rattle.keywords.proofs.Grouped.{number_within, position}
 use Rattle.keywords.specs.declared.keyword.Keyword as listed
 use Rattle.keyword_plans.specs.Sites.{linked_rules}
-use Rattle.keywords.specs.declared.keyword.Keyword.TheVariants.{ContentSchema, Ref, UnevaluatedItems, UnevaluatedProperties}
+use Rattle.keywords.specs.declared.keyword.Keyword.TheVariants.{Ref, UnevaluatedItems, UnevaluatedProperties}
+use Rattle.evaluator.specs.declared.present.TheConstants.{MARKS}
 use Rattle.evaluator.specs.Groups.{first_groups, rows_of}
 use Rattle.evaluator.specs.Presents.{has_mark, mark_of, may_annotate_itself}
 use Rattle.evaluator.specs.Rounds.{group_uses, groups_uses, linked_outcome, object_uses, unevaluated_uses}
@@ -46,14 +47,11 @@ pub mark_within : (name : Text) → mark_of name < 64
 unfolding mark_of
 mark_within name = below_last (may_annotate_itself name) (group_number name) (number_below name)
 
-pub number_marks : (k : listed.Keyword) → (k ≡ ContentSchema → ⊥) → group_number (row_of k).name ≡ mark_of (row_of k).name
-unfolding mark_of
-number_marks ContentSchema other = absurd (other refl)
-number_marks _ other = refl
-
-pub schema_last : 63 ≡ mark_of (row_of ContentSchema).name
-unfolding mark_of
-schema_last = refl
+-- the table of marks, by computing
+pub mark_there : (k : listed.Keyword) → slice_index_or MARKS (position k) 0 ≡ mark_of (row_of k).name
+unfolding mark_of group_number groups_before in_order
+mark_there Ref = refl
+mark_there _ = refl
 
 -- the name of a keyword has the mark of the keyword
 pub mark_of_named : (name : Text) (k : listed.Keyword) (o : Option listed.Keyword) (n : ℕ) → o ≡ Some k → option_map row_of o ≡ row_named name

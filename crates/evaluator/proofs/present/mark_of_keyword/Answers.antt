@@ -1,14 +1,9 @@
-use Rattle.std.proofs.Common.{◌∙◌, ap, sym, arith}
+use Rattle.evaluator.proofs.PresentLaws.{mark_there, mark_within}
 use Rattle.keywords.specs.Rows.{row_of}
-use Rattle.evaluator.specs.Presents.{mark_of}
-use Rattle.evaluator.proofs.PresentLaws.{number_below, number_marks, schema_last}
 use Rattle.evaluator.proofs.present.mark_of_keyword.Goals as goal
 
-pub returns-in-ContentSchema-clause-mark : goal.returns-in-ContentSchema-clause-mark
-returns-in-ContentSchema-clause-mark c = schema_last ∙ ap (λ k. mark_of (row_of k).name) (sym c.in-ContentSchema.is)
-
-pub returns-in_default : goal.returns-in_default
-returns-in_default c = record {
-  mark = c.group_number.ensures ∙ number_marks c.args.keyword c.in_default.not-ContentSchema;
-  within = omega (arith, c.group_number.ensures, number_below (row_of c.args.keyword).name);
+pub returns : goal.returns
+returns c = record {
+  mark = mark_there c.args.keyword;
+  within = rw (mark_there c.args.keyword) (mark_within (row_of c.args.keyword).name);
 }

@@ -2,8 +2,7 @@ use Rattle.std.proofs.Common.{◌≡◌, [], ◌∷◌, ◌∙◌, ◌&&◌, not
 use Rattle.std.proofs.lemmas.Bool.{and_right}
 use Rattle.std.proofs.lemmas.Result.{on_ok_weaker}
 use Rattle.evaluator.specs.Logs.{log_view}
-use Rattle.evaluator.specs.Notes.{needs_to_pass, no_notes, notes_of_both, outcome_notes, part_notes}
-use Rattle.evaluator.specs.Silences.{IsSilent}
+use Rattle.evaluator.specs.Notes.{needs_to_pass, no_notes, notes_of_both, outcome_notes}
 use Rattle.evaluator.proofs.LogLaws.{name_after, index_after, silent_before}
 use Rattle.evaluator.proofs.log.Log.note_silent.Goals as goal
 

@@ -7,7 +7,7 @@ use Rattle.evaluation_context.specs.Frames.{context_view, frame_standing}
 use Rattle.evaluation_context.specs.Standings.{at_keyword}
 use Rattle.evaluator.specs.Findings.{FindsAll}
 use Rattle.evaluator.specs.Logs.{log_view}
-use Rattle.evaluator.specs.Notes.{IsOver, notes_of_both, one_application, outcome_notes, uses_notes, parts_notes, part_notes}
+use Rattle.evaluator.specs.Notes.{IsOver, notes_of_both, uses_notes, parts_notes, part_notes}
 use Rattle.evaluator.specs.declared.log.Log.{Log}
 use Rattle.evaluator.specs.Rounds.{IsAt, names_since, indexes_since, IsAtKeyword, IsKnown, part_outcomes, linked_outcome, use_there, IsUnder, part_outcome}
 use Rattle.linker.specs.declared.linked.Linked.{Linked}

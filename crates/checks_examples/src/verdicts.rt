@@ -35,6 +35,61 @@ const VALID: &[(&str, &str, bool)] = &[
         r#"[{"a":1,"b":2},{"b":2,"a":1}]"#,
         false,
     ),
+    (
+        r#"{"patternProperties":{"^a":{"type":"integer"},"b$":{"minimum":3}}}"#,
+        r#"{"a":1,"ab":3,"b":5,"c":"x"}"#,
+        true,
+    ),
+    (
+        r#"{"patternProperties":{"^a":{"type":"integer"},"b$":{"minimum":3}}}"#,
+        r#"{"ab":2}"#,
+        false,
+    ),
+    (
+        r#"{"patternProperties":{"^a":{"type":"integer"},"b$":{"minimum":3}}}"#,
+        r#"{"a":"x","ab":3}"#,
+        false,
+    ),
+    (
+        r#"{"patternProperties":{"^a":{"type":"integer"},"b$":{"minimum":3}}}"#,
+        r#"{"ab":3,"xb":2}"#,
+        false,
+    ),
+    (
+        r#"{"patternProperties":{"^a":true,"^(bcdefghijklmnopqrstuvwxyz|cdefghijklmnopqrstuvwxyz|defghijklmnopqrstuvwxyz)$":{"type":"integer"}},"additionalProperties":false}"#,
+        r#"{}"#,
+        true,
+    ),
+    (
+        r#"{"patternProperties":{"^a":true,"^(bcdefghijklmnopqrstuvwxyz|cdefghijklmnopqrstuvwxyz|defghijklmnopqrstuvwxyz)$":{"type":"integer"}},"additionalProperties":false}"#,
+        r#"{"a":0,"bcdefghijklmnopqrstuvwxyz":1,"cdefghijklmnopqrstuvwxyz":2,"defghijklmnopqrstuvwxyz":3}"#,
+        true,
+    ),
+    (
+        r#"{"patternProperties":{"^a":true,"^(bcdefghijklmnopqrstuvwxyz|cdefghijklmnopqrstuvwxyz|defghijklmnopqrstuvwxyz)$":{"type":"integer"}},"additionalProperties":false}"#,
+        r#"{"bcdefghijklmnopqrstuvwxyz":1,"cdefghijklmnopqrstuvwxyz":"x"}"#,
+        false,
+    ),
+    (
+        r#"{"patternProperties":{"^a":true,"^(bcdefghijklmnopqrstuvwxyz|cdefghijklmnopqrstuvwxyz|defghijklmnopqrstuvwxyz)$":{"type":"integer"}},"additionalProperties":false}"#,
+        r#"{"a":0,"bcdefghijklmnopqrstuvwxy":1}"#,
+        false,
+    ),
+    (
+        r#"{"properties":{"c":true},"patternProperties":{"^a":true,"^b":true},"additionalProperties":{"type":"string"}}"#,
+        r#"{"a1":1,"b1":2,"c":3,"d":"x"}"#,
+        true,
+    ),
+    (
+        r#"{"properties":{"c":true},"patternProperties":{"^a":true,"^b":true},"additionalProperties":{"type":"string"}}"#,
+        r#"{"a1":1,"b1":2,"d":4}"#,
+        false,
+    ),
+    (
+        r#"{"properties":{"c":true},"patternProperties":{"^a":true,"^b":true},"additionalProperties":{"type":"string"}}"#,
+        r#"{"a1":1,"b1":2,"C":3}"#,
+        false,
+    ),
     (r#"{"dependentRequired":{"a":["b"]}}"#, "{}", true),
     (
         r#"{"dependentRequired":{"a":["b"]}}"#,

@@ -1,5 +1,5 @@
 -- Bytes that are those of a text.
-use Rattle.std.proofs.Common.{◌≡◌, ℕ, suc, ◌+◌, ◌-◌, ◌*◌, ◌%◌, ◌^◌, ◌≤◌, Bool, true, false, not, cond, eqb, List, [], ◌∷◌, ◌++◌, length, drop, get_or, map, w8, refl, sym, ap, ap₂, ◌∙◌, arith, get_or-take, get_or-drop}
+use Rattle.std.proofs.Common.{◌≡◌, ℕ, ◌+◌, ◌-◌, ◌*◌, ◌%◌, ◌^◌, ◌≤◌, Bool, true, false, not, cond, eqb, List, [], ◌∷◌, length, drop, get_or, map, w8, refl, sym, ap, ap₂, ◌∙◌, arith, get_or-take, get_or-drop}
 use Rattle.std.proofs.lemmas.Bool.{OnTrue_from, eqb-true, not-false}
 use Rattle.std.proofs.lemmas.Simd.{length-chunk, mask_l-mod, tops_compared}
 use Rattle.std.specs.Bool.{OnTrue}

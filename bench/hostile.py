@@ -256,6 +256,14 @@ CASES = [
         [0] * 49_000), "200 valid", over="product"),
     Case("of two documents two patterns of 400 KB, searched for 66,000 times in turn", lambda: check_two(
         *patterns_in_turn(33_000)), "200 valid"),
+    Case("2,000 patterns of names, 2,000 other names", lambda: check(
+        {"patternProperties": {f"^a{n}$": True for n in range(2_000)}},
+        {f"b{n}": 1 for n in range(2_000)}), "200 valid", over="product"),
+    Case("additionalProperties beside 4,000 patterns of names, 4,000 names", lambda: check(
+        {"patternProperties": {f"^a{n}$": True for n in range(4_000)}, "additionalProperties": False},
+        {f"a{n}": 1 for n in range(4_000)}), "200 valid", over="product"),
+    Case("maxLength by 2,000 schemas in place on 500 KB of two bytes each", lambda: check(
+        {"allOf": [{"maxLength": 300_000}] * 2_000}, "ä" * 250_000), "200 valid", over="product"),
     Case("required of 2,000 names by 2,000 schemas in place", lambda: check(
         {"allOf": [{"$ref": "#/$defs/r"}] * 2_000, "$defs": {"r": {"required": names(2_000)}}},
         {name: 1 for name in names(2_000)}), "200 valid", over="product"),

@@ -10,5 +10,3 @@ pub mod UnitLaws
 pub mod BufferLaws
 pub mod Written
 pub mod UnescapedLaws
-pub mod BeginLaws
-pub mod NamesLaws

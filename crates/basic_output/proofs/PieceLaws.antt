@@ -1,7 +1,6 @@
 -- The pieces are the definitions' text.
 use Rattle.std.proofs.Common.{◌≡◌, Bool, true, false, Result, Ok, Err, OnOk, List, [], ◌∷◌, ◌++◌, codes, map, pos, ℕ, refl, sym, ap, ap₂, ◌∙◌, append_assoc}
 use Rattle.std.proofs.lemmas.Bool.{and_parts}
-use Rattle.std.specs.Borrow.{Bor}
 use Rattle.std.specs.List.{list_all}
 use Rattle.std.specs.Prelude.{if◌then◌else◌, is_ok}
 use Rattle.json.specs.Print.{escape_byte}
@@ -10,8 +9,10 @@ use Rattle.definitions.specs.Answers.{unit_value, units_value}
 use Rattle.definitions.specs.Applied.{OutputUnit}
 use Rattle.definitions.specs.Texts.{items_of, text}
 use Rattle.definitions.specs.Values.{Text, Value, array, integer, string, to_elements}
+use Rattle.json_doc.specs.NamedMembers.{name_text}
+use Rattle.json_doc.specs.declared.named_members.Name.{Name}
 use Rattle.basic_output.specs.Outputs.{units_output}
-use Rattle.basic_output.specs.Pieces.{array_text, is_unescaped, kind, later_names, later_texts, list_key, plain_names_text, unit_text, valid_member}
+use Rattle.basic_output.specs.Pieces.{array_text, is_unescaped, kind, later_names, later_texts, list_key, names_text, plain_names_text, unit_text, valid_member}
 use Rattle.basic_output.proofs.PlainLaws.{as_it_is}
 
 -- what a text becomes where a piece is appended last
@@ -32,12 +33,12 @@ array_pieces : (vs : List Value) → text (array (to_elements vs)) ≡ array_tex
 array_pieces [] = refl
 array_pieces (v ∷ vs) = ap (λ r. 91 ∷ (text v ++ r)) (later_items vs)
 
-name_texts : (names : List (Bor Text)) → map text (map (λ name. string name.now) names) ≡ map (λ name. text (string name.now)) names
+name_texts : (names : List Name) → map text (map string (map name_text names)) ≡ map (λ name. text (string (name_text name))) names
 name_texts [] = refl
-name_texts (n ∷ ns) = ap (λ ts. text (string n.now) ∷ ts) (name_texts ns)
+name_texts (n ∷ ns) = ap (λ ts. text (string (name_text n)) ∷ ts) (name_texts ns)
 
-pub names_pieces : (names : List (Bor Text)) → text (array (to_elements (map (λ name. string name.now) names))) ≡ array_text (map (λ name. text (string name.now)) names)
-names_pieces names = array_pieces (map (λ name. string name.now) names) ∙ ap array_text (name_texts names)
+pub names_pieces : (names : List Name) → names_text (map name_text names) ≡ array_text (map (λ name. text (string (name_text name))) names)
+names_pieces names = array_pieces (map string (map name_text names)) ∙ ap array_text (name_texts names)
 
 index_texts : (indexes : List ℕ) → map text (map (λ index. integer (pos index)) indexes) ≡ map (λ index. text (integer (pos index))) indexes
 index_texts [] = refl
@@ -69,20 +70,26 @@ output_pieces true us = ap (λ t. list_key true ++ (t ++ valid_member true)) (un
 output_pieces false us = ap (λ t. list_key false ++ (t ++ valid_member false)) (units_pieces false us)
 
 -- ---- names that stand in strings as they are
-later_plain : (names : List (Bor Text)) → list_all (λ name. list_all is_unescaped name.now) names ≡ true
-    → 34 ∷ (later_texts (map (λ name. text (string name.now)) names) ++ 93 ∷ []) ≡ later_names names ++ codes "\"]"
+later_plain : (names : List Name) → list_all (λ name. list_all is_unescaped (name_text name)) names ≡ true
+    → 34 ∷ (later_texts (map (λ name. text (string (name_text name))) names) ++ 93 ∷ []) ≡ later_names (map name_text names) ++ codes "\"]"
 later_plain [] h = refl
 later_plain (n ∷ ns) h =
-    let both = and_parts (list_all is_unescaped n.now) (list_all (λ name. list_all is_unescaped name.now) ns) h in
-    let rest = later_texts (map (λ name. text (string name.now)) ns) in
-    ap (λ q. 34 ∷ 44 ∷ ((q ++ rest) ++ 93 ∷ [])) (as_it_is n.now both.0)
-    ∙ ap (λ t. 34 ∷ 44 ∷ 34 ∷ t) (append_assoc (n.now ++ 34 ∷ []) rest (93 ∷ []) ∙ append_assoc n.now (34 ∷ []) (rest ++ 93 ∷ []) ∙ ap (λ t. n.now ++ t) (later_plain ns both.1))
-    ∙ ap (λ t. 34 ∷ 44 ∷ 34 ∷ t) (sym (append_assoc n.now (later_names ns) (codes "\"]")))
+    let both = and_parts (list_all is_unescaped (name_text n)) (list_all (λ name. list_all is_unescaped (name_text name)) ns) h in
+    let rest = later_texts (map (λ name. text (string (name_text name))) ns) in
+    ap (λ q. 34 ∷ 44 ∷ ((q ++ rest) ++ 93 ∷ [])) (as_it_is (name_text n) both.0)
+    ∙ ap (λ t. 34 ∷ 44 ∷ 34 ∷ t) (append_assoc (name_text n ++ 34 ∷ []) rest (93 ∷ []) ∙ append_assoc (name_text n) (34 ∷ []) (rest ++ 93 ∷ []) ∙ ap (λ t. name_text n ++ t) (later_plain ns both.1))
+    ∙ ap (λ t. 34 ∷ 44 ∷ 34 ∷ t) (sym (append_assoc (name_text n) (later_names (map name_text ns)) (codes "\"]")))
 
-pub plain_names : (n : Bor Text) (ns : List (Bor Text)) → list_all (λ name. list_all is_unescaped name.now) (n ∷ ns) ≡ true
-    → plain_names_text n.now ns ≡ array_text (map (λ name. text (string name.now)) (n ∷ ns))
+plain_names : (n : Name) (ns : List Name) → list_all (λ name. list_all is_unescaped (name_text name)) (n ∷ ns) ≡ true
+    → plain_names_text (name_text n) (map name_text ns) ≡ array_text (map (λ name. text (string (name_text name))) (n ∷ ns))
 plain_names n ns h =
-    let both = and_parts (list_all is_unescaped n.now) (list_all (λ name. list_all is_unescaped name.now) ns) h in
-    let rest = later_texts (map (λ name. text (string name.now)) ns) in
-    sym (ap (λ q. 91 ∷ (q ++ (rest ++ 93 ∷ []))) (as_it_is n.now both.0)
-    ∙ ap (λ t. 91 ∷ 34 ∷ t) (append_assoc n.now (34 ∷ []) (rest ++ 93 ∷ []) ∙ ap (λ t. n.now ++ t) (later_plain ns both.1)))
+    let both = and_parts (list_all is_unescaped (name_text n)) (list_all (λ name. list_all is_unescaped (name_text name)) ns) h in
+    let rest = later_texts (map (λ name. text (string (name_text name))) ns) in
+    sym (ap (λ q. 91 ∷ (q ++ (rest ++ 93 ∷ []))) (as_it_is (name_text n) both.0)
+    ∙ ap (λ t. 91 ∷ 34 ∷ t) (append_assoc (name_text n) (34 ∷ []) (rest ++ 93 ∷ []) ∙ ap (λ t. name_text n ++ t) (later_plain ns both.1)))
+
+-- the text of the list
+pub listed : (names : List Name) (first : Name) (rest : List Name) → names ≡ first ∷ rest → list_all (λ name. list_all is_unescaped (name_text name)) (first ∷ rest) ≡ true
+    → plain_names_text (name_text first) (map name_text rest) ≡ names_text (map name_text names)
+listed names first rest are plain =
+    plain_names first rest plain ∙ ap (λ ns. array_text (map (λ name. text (string (name_text name))) ns)) (sym are) ∙ sym (names_pieces names)

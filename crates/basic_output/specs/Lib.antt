@@ -1,4 +1,3 @@
-pub mod Begins
 pub mod Buffers
 pub mod KeptNames
 pub mod WrittenOver

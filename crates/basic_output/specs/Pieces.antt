@@ -1,6 +1,5 @@
 -- The output's text, piece by piece.
-use Rattle.std.specs.Prelude.{◌≡◌, ℕ, List, [], ◌∷◌, ◌++◌, Bool, true, false, not, ◌&&◌, ◌||◌, ◌==◌, nat_le, codes, count_by, flat_map}
-use Rattle.std.specs.Borrow.{Bor}
+use Rattle.std.specs.Prelude.{◌≡◌, ℕ, List, [], ◌∷◌, ◌++◌, Bool, true, false, not, ◌&&◌, ◌||◌, ◌==◌, nat_le, codes, flat_map, map}
 use Rattle.std.specs.List.{list_all}
 use Rattle.json.specs.Print.{quoted}
 use Rattle.definitions.specs.Answers.{absolute_location}
@@ -9,7 +8,7 @@ use Rattle.definitions.specs.Bytes.{is_capital, is_digit, is_small, number_sign,
 use Rattle.definitions.specs.Pointers.{Pointer, fragment_text, pointer_text}
 use Rattle.definitions.specs.Schemas.{Identity}
 use Rattle.definitions.specs.Texts.{text}
-use Rattle.definitions.specs.Values.{Text}
+use Rattle.definitions.specs.Values.{Text, array, string, to_elements}
 
 -- a byte that stands in a string of JSON as it is
 abbrev pub is_unescaped : ℕ → Bool
@@ -34,16 +33,16 @@ abbrev pub array_text : List Text → Text
 array_text [] = codes "[]"
 array_text (t ∷ ts) = 91 ∷ (t ++ (later_texts ts ++ 93 ∷ []))
 
--- names that stand in strings as they are
-abbrev pub later_names : List (Bor Text) → Text
-later_names = flat_map (λ name. codes "\",\"" ++ name.now)
+-- the text of a list of names
+abbrev pub names_text : List Text → Text
+names_text names = text (array (to_elements (map string names)))
 
-abbrev pub plain_names_text : Text → List (Bor Text) → Text
+-- the same of names that stand in strings as they are
+abbrev pub later_names : List Text → Text
+later_names = flat_map (λ name. codes "\",\"" ++ name)
+
+abbrev pub plain_names_text : Text → List Text → Text
 plain_names_text first rest = codes "[\"" ++ (first ++ (later_names rest ++ codes "\"]"))
-
--- how many bytes have to be escaped in a string
-abbrev pub escaped_count : Text → ℕ
-escaped_count = count_by (λ c. not (is_unescaped c))
 
 -- ---- what the units are called
 abbrev pub kind : Bool → Text

@@ -1,9 +1,18 @@
 //! How much memory is kept.
 
-/// How large the memory of a text may be that is kept for the next text, in bytes.
-const MOST_KEPT: usize = 1_048_576;
+/// How large the memory of a text may be that is always kept for the next text, in bytes.
+const ALWAYS_KEPT: usize = 1_048_576;
+
+/// How large it may be where it is kept as long as the texts are large, in bytes.
+const MOST_KEPT: usize = 16_777_216;
 
 /// Whether the memory of a text, of so many bytes, is kept for the next one: it doesn't stay large because of one large text.
 pub(crate) fn is_kept(bytes: usize) -> bool {
-    bytes <= MOST_KEPT
+    bytes <= ALWAYS_KEPT
+}
+
+/// The same, where the last text took so many of them: as long as texts take a quarter of it or more, it is kept, up to
+/// 16,777,216 bytes, since to make and to fill it anew takes longer than such a text.
+pub(crate) fn is_still_kept(bytes: usize, taken: usize) -> bool {
+    is_kept(bytes) || (bytes <= MOST_KEPT && taken >= bytes / 4)
 }

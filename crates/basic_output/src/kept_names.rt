@@ -1,15 +1,15 @@
 //! Texts of lists of names that are kept, since the same few lists are written again and again.
 
-ghost use Rattle.std.specs.Prelude.{◌≡◌, ◌+◌, ◌++◌, ◌∷◌, ◌<◌, codes, length, string_bytes, IfSome, OnErr, OnOk};
+ghost use Rattle.std.specs.Prelude.{◌≡◌, ◌≢◌, ◌<◌, [], length, map, string_bytes, true, IfOk, IfSome, OnOk};
 ghost use Rattle.std.specs.Bool.{OnTrue};
-ghost use Rattle.definitions.specs.Texts.{text};
 ghost use Rattle.definitions.specs.Values.{Text};
-ghost use Rattle.basic_output.specs.Pieces.{escaped_count, later_names, plain_names_text};
-ghost use Rattle.basic_output.specs.Sayings.{says_value};
-ghost use Rattle.basic_output.specs.declared.says.Says.TheVariants as says;
+ghost use Rattle.json_doc.specs.NamedMembers.{name_text};
+ghost use Rattle.json_doc.specs.SmallTexts.{short_text};
+ghost use Rattle.basic_output.specs.Pieces.{names_text};
 
-use crate::comparing::behind;
+use json_doc::{Name, ShortText};
 use std::alloc::{AllocError, Global};
+use std::mem::replace;
 
 /// How many texts are kept at most.
 const PLACES: usize = 64;
@@ -17,98 +17,87 @@ const PLACES: usize = 64;
 /// How many bytes a text has at most that is kept.
 const LONGEST: usize = 256;
 
-/// The text of a list of names that stand in strings as they are.
+/// The text of a list of short names.
 #[derive(Debug, Drop)]
 struct NamesText {
     text: String,
-    // How many names there are.
-    names: usize,
-    // No byte of it has to be escaped but the quotation marks, two for each name.
-    ghost quoted: { escaped_count (string_bytes text) ≡ names + names },
+    names: Vec<ShortText>,
+    ghost right: { names.items ≢ [] → string_bytes text ≡ names_text (map short_text names.items) },
 }
 
 impl NamesText {
-    // No name. This takes no memory; what comes later takes it from `alloc`.
+    // Of no list. This takes no memory; what comes later takes it from `alloc`.
     fn new(alloc: Global) -> NamesText {
         NamesText {
             text: String::new(alloc),
-            names: 0,
+            names: Vec::new(alloc),
         }
     }
 
-    // Whether it is the text of these names.
+    // Whether it surely is the text of the list of these names.
     #[inline(always)]
-    fn is_of(&self, names: &[&str]) -> bool
+    fn is_of(&self, names: &[Name<'_>]) -> bool
         ensures { OnTrue result (string_bytes self.now.text
-            ≡ text (says_value (says.Names names.entry))) }
+            ≡ names_text (map name_text names.now)) }
     {
-        if self.names != names.len() {
-            return false;
-        }
-        match names.split_first() {
-            Some((first, rest)) => is_plain_text(self.text.as_bytes(), first, rest),
-            None => false,
-        }
+        !names.is_empty() && are_surely(names, &self.names)
     }
 
-    // From now on the text of so many names. The only error is want of memory, and then it is that of none.
-    fn set(&mut self, names: usize, text: &str) -> Result<(), AllocError>
-        requires { escaped_count text.now ≡ names + names }
-        ensures ok { OnOk result (string_bytes self.new.text ≡ text.now) }
-        ensures none { OnErr result (self.new.names ≡ 0) }
+    // From now on the text of the list of these names, where all of them are short, and else of no list. The only error is want
+    // of memory, and then it is of no list.
+    fn set(&mut self, names: &[Name<'_>], text: &str) -> Result<(), AllocError>
+        requires { text.now ≡ names_text (map name_text names.now) }
     {
-        self.names = 0;
-        self.text.clear();
-        self.text.push_str(text)?;
-        self.names = names;
+        let alloc = *self.names.allocator();
+        let NamesText {
+            text: mut kept,
+            names: mut short,
+        } = replace(self, NamesText::new(alloc));
+        short.clear();
+        if push_short(&mut short, names)? {
+            kept.clear();
+            kept.push_str(text)?;
+            *self = NamesText {
+                text: kept,
+                names: short,
+            };
+        }
         Ok(())
     }
 }
 
-// Whether the bytes are the text of the names as they are.
+// Whether the names surely are these.
 #[inline(always)]
-fn is_plain_text(bytes: &[u8], first: &str, rest: &[&str]) -> bool
-    ensures { OnTrue result (bytes.now ≡ plain_names_text first.now rest.now) }
+fn are_surely(names: &[Name<'_>], short: &[ShortText]) -> bool
+    ensures { OnTrue result (map name_text names.now ≡ map short_text short.now) }
 {
-    match behind_names(bytes, first, rest) {
-        Some(left) => is_end(left),
-        None => false,
+    if names.len() != short.len() {
+        return false;
     }
-}
-
-// What stands behind the names, of which the first one is led by a bracket.
-#[inline(always)]
-fn behind_names<'b>(bytes: &'b [u8], first: &str, rest: &[&str]) -> Option<&'b [u8]>
-    ensures { IfSome result (λ left. bytes.now
-        ≡ codes "[\"" ++ (first.now ++ (later_names rest.now ++ left.now))) }
-{
-    let mut left = behind_led(bytes, "[\"", first)?;
-    for name in rest {
-        left = behind_led(left, "\",\"", name)?;
+    for at in 0..names.len() {
+        if !names[at].is_short(&short[at]) {
+            return false;
+        }
     }
-    Some(left)
+    true
 }
 
-// Whether the bytes end the list.
-#[inline(always)]
-fn is_end(bytes: &[u8]) -> bool
-    ensures { OnTrue result (bytes.now ≡ codes "\"]") }
+// Appends the names: whether all of them are short.
+fn push_short(short: &mut Vec<ShortText>, names: &[Name<'_>]) -> Result<bool, AllocError>
+    requires { short.old.items ≡ [] }
+    ensures { IfOk result (λ all. all ≡ true
+        → map short_text short.new.items ≡ map name_text names.now) }
 {
-    match behind(bytes, b"\"]") {
-        Some(left) => left.is_empty(),
-        None => false,
+    for name in names {
+        match name.short() {
+            Some(text) => short.push(*text)?,
+            None => return Ok(false),
+        }
     }
+    Ok(true)
 }
 
-// What stands behind the name and what leads it.
-#[inline(always)]
-fn behind_led<'b>(bytes: &'b [u8], lead: &str, name: &str) -> Option<&'b [u8]>
-    ensures { IfSome result (λ left. bytes.now ≡ lead.now ++ (name.now ++ left.now)) }
-{
-    behind(behind(bytes, lead.as_bytes())?, name.as_bytes())
-}
-
-/// Texts of lists of names, each of which stands in a string as it is.
+/// Texts of lists of short names.
 #[derive(Debug, Drop)]
 pub(crate) struct KeptNames {
     texts: Vec<NamesText>,
@@ -126,9 +115,9 @@ impl KeptNames {
 
     /// The place at which the text of the list of these names is kept, if it is.
     #[inline(never)]
-    pub(crate) fn find(&self, names: &[&str]) -> Option<usize>
-        ensures { IfSome result (λ place. IsKept self.now place
-            (text (says_value (says.Names names.entry)))) }
+    pub(crate) fn find(&self, names: &[Name<'_>]) -> Option<usize>
+        ensures { IfSome result
+            (λ place. IsKept self.now place (names_text (map name_text names.now))) }
     {
         let place = place_of(names);
         if self.texts.get(place)?.is_of(names) {
@@ -147,15 +136,14 @@ impl KeptNames {
         self.texts[place].text.as_str()
     }
 
-    /// Keeps the text of the list of these names, which stand in strings as they are, where it is short. The only error is want
-    /// of memory.
-    pub(crate) fn keep(&mut self, names: &[&str], text: &str) -> Result<(), AllocError>
-        requires { escaped_count text.now ≡ length names.now + length names.now }
+    /// Keeps the text of the list of these names, where it is short. The only error is want of memory.
+    pub(crate) fn keep(&mut self, names: &[Name<'_>], text: &str) -> Result<(), AllocError>
+        requires { text.now ≡ names_text (map name_text names.now) }
     {
         let place = place_of(names);
         if text.len() <= LONGEST {
             self.make_place(place)?;
-            self.texts[place].set(names.len(), text)?;
+            self.texts[place].set(names, text)?;
         }
         Ok(())
     }
@@ -174,12 +162,12 @@ impl KeptNames {
 
 // The place of the list of these names, told by how many there are, and by the first one and the last.
 #[inline(always)]
-fn place_of(names: &[&str]) -> usize
+fn place_of(names: &[Name<'_>]) -> usize
     ensures { result < 64 }
 {
     match (names.first(), names.last()) {
         (Some(first), Some(last)) => {
-            (names.len() ^ (ends_of(first) << 2) ^ (ends_of(last) << 1)) & (PLACES - 1)
+            (names.len() ^ (ends_of(*first) << 2) ^ (ends_of(*last) << 1)) & (PLACES - 1)
         }
         _ => 0,
     }
@@ -187,8 +175,8 @@ fn place_of(names: &[&str]) -> usize
 
 // A number that its length and its two ends give.
 #[inline(always)]
-fn ends_of(name: &str) -> usize {
-    let bytes = name.as_bytes();
+fn ends_of(name: Name<'_>) -> usize {
+    let bytes = name.as_str().as_bytes();
     match (bytes.first(), bytes.last()) {
         (Some(first), Some(last)) => bytes.len() ^ usize::from(*first) ^ (usize::from(*last) << 2),
         _ => 0,

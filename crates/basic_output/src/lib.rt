@@ -2,7 +2,6 @@
 #![tactic(auto)]
 
 mod appending;
-mod comparing;
 mod keeping;
 mod kept_names;
 mod location;

@@ -1,12 +1,12 @@
 //! Where what a unit says is made, where that doesn't stand ready.
 
-ghost use Rattle.std.specs.Prelude.{◌≡◌, IfOk, OnOk};
+ghost use Rattle.std.specs.Prelude.{◌≡◌, map, IfOk, OnOk};
 ghost use Rattle.definitions.specs.Texts.{text};
 ghost use Rattle.basic_output.specs.Buffers.{buffer_text};
-ghost use Rattle.basic_output.specs.Pieces.{plain_names_text};
+ghost use Rattle.json_doc.specs.NamedMembers.{name_text};
+ghost use Rattle.basic_output.specs.Pieces.{names_text, plain_names_text};
 ghost use Rattle.basic_output.specs.Ready.{IsSaid};
 ghost use Rattle.basic_output.specs.Sayings.{says_value};
-ghost use Rattle.basic_output.specs.declared.says.Says.TheVariants as says;
 
 use crate::keeping::is_kept;
 use crate::kept_names::KeptNames;
@@ -14,6 +14,7 @@ use crate::ready::{Said, plain_said, written_said};
 use crate::saying::{are_all_unescaped, push_says};
 use crate::says::Says;
 use crate::text_buffer::TextBuffer;
+use json_doc::Name;
 use std::alloc::{AllocError, Global};
 
 /// Where what a unit says is made, or all of the unit, where that isn't put together of ready texts. Nothing of it shows in a
@@ -22,7 +23,7 @@ use std::alloc::{AllocError, Global};
 pub(crate) struct Made {
     /// A list of names, each of which stands in a string as it is.
     names: TextBuffer,
-    /// Such lists that were made before, where they are short.
+    /// Lists of short names that were made before, where they are short.
     kept: KeptNames,
     /// Any other text.
     pub(crate) text: String,
@@ -67,8 +68,8 @@ impl Made {
 
     // A list of names.
     #[inline(always)]
-    fn list<'s>(&'s mut self, names: &'s [&'s str]) -> Result<&'s str, AllocError>
-        ensures { IfOk result (λ made. made.now ≡ text (says_value (says.Names names.entry))) }
+    fn list<'s>(&'s mut self, names: &'s [Name<'s>]) -> Result<&'s str, AllocError>
+        ensures { IfOk result (λ made. made.now ≡ names_text (map name_text names.now)) }
     {
         match self.kept.find(names) {
             Some(place) => Ok(self.kept.text(place)),
@@ -78,12 +79,12 @@ impl Made {
 
     // One that is not kept.
     #[inline(never)]
-    fn other_list<'s>(&'s mut self, names: &'s [&'s str]) -> Result<&'s str, AllocError>
-        ensures { IfOk result (λ made. made.now ≡ text (says_value (says.Names names.entry))) }
+    fn other_list<'s>(&'s mut self, names: &'s [Name<'s>]) -> Result<&'s str, AllocError>
+        ensures { IfOk result (λ made. made.now ≡ names_text (map name_text names.now)) }
     {
         match names.split_first() {
             Some((first, rest)) if are_all_unescaped(names) => {
-                write_plain_names(&mut self.names, first, rest)?;
+                write_plain_names(&mut self.names, *first, rest)?;
                 self.kept.keep(names, self.names.as_str())?;
                 Ok(self.names.as_str())
             }
@@ -104,13 +105,18 @@ impl Made {
 
 // Writes the names anew, which stand as they are.
 #[inline(never)]
-fn write_plain_names(out: &mut TextBuffer, first: &str, rest: &[&str]) -> Result<(), AllocError>
-    ensures { OnOk result (buffer_text out.new ≡ plain_names_text first.now rest.now) }
+fn write_plain_names(
+    out: &mut TextBuffer,
+    first: Name<'_>,
+    rest: &[Name<'_>],
+) -> Result<(), AllocError>
+    ensures { OnOk result (buffer_text out.new
+        ≡ plain_names_text (name_text first.entry) (map name_text rest.now)) }
 {
     out.clear();
-    out.push_led("[\"", first)?;
+    out.push_led("[\"", first.as_str())?;
     for name in rest {
-        out.push_led("\",\"", name)?;
+        out.push_led("\",\"", name.as_str())?;
     }
     out.push_str("\"]")
 }

@@ -5,6 +5,7 @@ ghost use Rattle.std.specs.List.{list_all};
 ghost use Rattle.definitions.specs.Texts.{text};
 ghost use Rattle.definitions.specs.Values.{integer, string};
 ghost use Rattle.json_doc.specs.Docs.{value};
+ghost use Rattle.json_doc.specs.NamedMembers.{name_text};
 ghost use Rattle.basic_output.specs.Pieces.{array_text, is_unescaped, later_texts};
 ghost use Rattle.basic_output.specs.Sayings.{says_value};
 
@@ -12,7 +13,7 @@ use crate::quoting::{push_decimal, push_message, push_quoted, push_written};
 use crate::says::Says;
 use crate::unescaped::are_unescaped;
 use json::Writer;
-use json_doc::{Doc, write_doc};
+use json_doc::{Doc, Name, write_doc};
 use std::alloc::AllocError;
 
 /// Appends what the unit says.
@@ -52,21 +53,24 @@ fn push_other_value(out: &mut String, doc: &Doc) -> Result<(), AllocError>
 }
 
 /// Whether all of them stand in strings as they are.
-pub(crate) fn are_all_unescaped(names: &[&str]) -> bool
-    ensures { result ≡ list_all (λ name. list_all is_unescaped name.now) names.now }
+pub(crate) fn are_all_unescaped(names: &[Name<'_>]) -> bool
+    ensures { result
+        ≡ list_all (λ name. list_all is_unescaped (name_text name)) names.now }
 {
-    names.iter().all(|name| are_unescaped(name.as_bytes()))
+    names
+        .iter()
+        .all(|name| are_unescaped(name.as_str().as_bytes()))
 }
 
 // The list of names.
-fn push_names(out: &mut String, names: &[&str]) -> Result<(), AllocError>
+fn push_names(out: &mut String, names: &[Name<'_>]) -> Result<(), AllocError>
     ensures { OnOk result (string_bytes out.new ≡ string_bytes out.old
-        ++ array_text (map (λ name. text (string name.now)) names.now)) }
+        ++ array_text (map (λ name. text (string (name_text name))) names.now)) }
 {
     match names.split_first() {
         Some((first, rest)) => {
             out.push_str("[")?;
-            push_quoted(out, first)?;
+            push_quoted(out, first.as_str())?;
             push_later_names(out, rest)?;
             out.push_str("]")
         }
@@ -75,13 +79,13 @@ fn push_names(out: &mut String, names: &[&str]) -> Result<(), AllocError>
 }
 
 // Each name behind a comma.
-fn push_later_names(out: &mut String, names: &[&str]) -> Result<(), AllocError>
+fn push_later_names(out: &mut String, names: &[Name<'_>]) -> Result<(), AllocError>
     ensures { OnOk result (string_bytes out.new ≡ string_bytes out.old
-        ++ later_texts (map (λ name. text (string name.now)) names.now)) }
+        ++ later_texts (map (λ name. text (string (name_text name))) names.now)) }
 {
     for name in names {
         out.push_str(",")?;
-        push_quoted(out, name)?;
+        push_quoted(out, name.as_str())?;
     }
     Ok(())
 }

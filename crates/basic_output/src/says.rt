@@ -1,6 +1,6 @@
 //! What a unit says.
 
-use json_doc::Doc;
+use json_doc::{Doc, Name};
 use keywords::Keyword;
 
 /// What a unit says: an error's message, or an annotation's value.
@@ -17,7 +17,7 @@ pub enum Says<'s, 'a> {
     /// An index.
     Index(usize),
     /// A list of names.
-    Names(&'s [&'a str]),
+    Names(&'s [Name<'a>]),
     /// A list of indexes.
     Indexes(&'s [usize]),
     /// A value of the schema's document.

@@ -9,7 +9,7 @@ ghost use Rattle.basic_output.specs.Sayings.{unit_at};
 ghost use Rattle.basic_output.specs.declared.location.Location.{Location};
 ghost use Rattle.basic_output.specs.Spans.{IsSpan, ascends, last_reach, raise_from, span_text};
 
-use crate::keeping::is_kept;
+use crate::keeping::is_still_kept;
 use crate::location::Location;
 use crate::made::Made;
 use crate::quoting::fragment_of;
@@ -163,12 +163,12 @@ impl Units {
         self.text.truncate(reach_of(self.spans.as_slice()));
     }
 
-    /// No units any more. Their memory is kept for the texts of later ones; where a text took more than 1,048,576 bytes, all
-    /// of it is given back.
+    /// No units any more. Their memory is kept for the texts of later ones; but where it is more than what 1,048,576 bytes of text
+    /// took, only as long as the texts take a quarter of it, and up to 16,777,216 bytes: else all of it is given back.
     pub fn clear(&mut self)
         ensures { unit_texts self.new ≡ [] }
     {
-        if is_kept(self.text.room()) && self.made.is_kept() {
+        if is_still_kept(self.text.room(), self.text.len()) && self.made.is_kept() {
             self.spans.clear();
             self.text.clear();
         } else {

@@ -1,5 +1,6 @@
 -- What a log shows.
 use Rattle.std.specs.Prelude.{map}
+use Rattle.json_doc.specs.NamedMembers.{name_text}
 use Rattle.basic_output.specs.Units.{unit_texts}
 use Rattle.evaluator.specs.Notes.{Notes, Lengths}
 use Rattle.evaluator.specs.declared.log.Log.{Log}
@@ -9,7 +10,7 @@ unfoldable pub log_view : Log → Notes
 log_view l = record {
   errors = unit_texts l.units.value.errors;
   annotations = unit_texts l.units.value.annotations;
-  names = map (λ name. name.now) l.names.items;
+  names = map name_text l.names.items;
   indexes = l.indexes.items;
   tally = record { count = l.count; looped = l.looped; deep = l.deep };
 }

@@ -3,12 +3,14 @@
 ghost use Rattle.std.specs.Prelude.{◌≡◌, ◌≤◌, ◌&&◌, [], not, IfOk, IfSome};
 ghost use Rattle.std.proofs.Props.{props};
 ghost use Rattle.definitions.specs.Limits.{limits};
+ghost use Rattle.json_doc.specs.NamedMembers.{name_text};
 ghost use Rattle.keywords.specs.Rows.{row_of};
 ghost use Rattle.evaluator.specs.NoUnits.{HasNoUnits};
 ghost use Rattle.evaluator.specs.Notes.{needs_to_pass};
 
 use crate::logged_units::LoggedUnits;
 use basic_output::{Location, Mark, Says};
+use json_doc::Name;
 use keyword_plans::Part;
 use keywords::Keyword;
 use std::alloc::{AllocError, Global};
@@ -25,7 +27,7 @@ pub(crate) const MOST_APPLICATIONS: u64 = 100_000;
 pub(crate) struct Log<'a> {
     pub(crate) alloc: Global,
     pub(crate) units: Box<LoggedUnits>,
-    pub(crate) names: Vec<&'a str>,
+    pub(crate) names: Vec<Name<'a>>,
     pub(crate) indexes: Vec<usize>,
     pub(crate) count: u64,
     pub(crate) looped: bool,
@@ -113,8 +115,9 @@ impl<'a> Log<'a> {
         })
     }
 
-    /// The memory of the indexes and of the texts, for the next log. That of the errors is given back where a text took more
-    /// than 1,048,576 bytes, and so is that of the annotations; that of the indexes where there was room for more than 131,072.
+    /// The memory of the indexes and of the texts, for the next log. That of the errors is given back where it is more than what
+    /// 1,048,576 bytes of text took and more than four times what these took, and so is that of the annotations; that of the
+    /// indexes where there was room for more than 131,072.
     pub(crate) fn into_memory(self) -> LogMemory {
         let Log {
             alloc,
@@ -210,9 +213,9 @@ impl<'a> Log<'a> {
     }
 
     /// A name was evaluated. The only error is want of memory.
-    pub(crate) fn push_name(&mut self, name: &'a str) -> Result<(), AllocError>
+    pub(crate) fn push_name(&mut self, name: Name<'a>) -> Result<(), AllocError>
         ensures { OnOk result (log_view self.new
-            ≡ notes_of_both (log_view self.old) (record no_notes { names = name.now ∷ [] })) }
+            ≡ notes_of_both (log_view self.old) (record no_notes { names = name_text name.entry ∷ [] })) }
     {
         self.names.push(name)?;
         Ok(())
@@ -312,7 +315,7 @@ impl<'a> Log<'a> {
             Part::Whole => Ok(()),
             Part::Member(name) => {
                 self.cut_evaluated(mark);
-                self.push_name(name.as_str())
+                self.push_name(name)
             }
             Part::Element(index) => {
                 self.cut_evaluated(mark);
@@ -340,7 +343,7 @@ impl<'a> Log<'a> {
         self.count_one();
         match part {
             Part::Whole => Ok(()),
-            Part::Member(name) => self.push_name(name.as_str()),
+            Part::Member(name) => self.push_name(name),
             Part::Element(index) => self.push_index(index),
             Part::NameOf(_) => Ok(()),
         }

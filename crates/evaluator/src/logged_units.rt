@@ -23,8 +23,8 @@ impl LoggedUnits {
         }
     }
 
-    /// None any more. Their memory is kept for the next ones; that of the errors is given back where a text took more than
-    /// 1,048,576 bytes, and so is that of the annotations.
+    /// None any more. Their memory is kept for the next ones; that of the errors is given back where it is more than what
+    /// 1,048,576 bytes of text took and more than four times what these took, and so is that of the annotations.
     pub(crate) fn clear(&mut self)
         ensures { HasNoUnits self.new }
     {

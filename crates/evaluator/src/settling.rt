@@ -12,6 +12,7 @@ ghost use Rattle.evaluation_context.specs.Frames.{context_view};
 ghost use Rattle.keyword_plans.specs.Annotations.{annotation_names};
 ghost use Rattle.keyword_plans.specs.ScopeViews.{scope_documents};
 ghost use Rattle.keyword_plans.specs.Plans.{outcomes_of};
+ghost use Rattle.json_doc.specs.NamedMembers.{name_text};
 ghost use Rattle.keywords.specs.Rows.{row_of};
 ghost use Rattle.keyword_plans.specs.Subjects.{subject_value};
 ghost use Rattle.linker.specs.declared.linked.Linked.{Linked};
@@ -22,6 +23,7 @@ ghost use Rattle.evaluator.specs.Rounds.{IsUnder, linked_outcome, use_there};
 use crate::log::{Before, Log, LogMark};
 use basic_output::{Mark, Says, Units};
 use evaluation_context::Context;
+use json_doc::Name;
 use keyword_plans::{Evaluated, Subject, annotate, distinct_names};
 use keywords::Keyword;
 use std::alloc::AllocError;
@@ -172,7 +174,7 @@ fn insert_own<'a>(
         a.instance ≡ subject_value subject.entry → applied ≡ length u.outcomes
         → IsUnder (context_view context.old) (row_of keyword).name a
         → mark ≡ length older → unit_texts annotations.old ≡ older ++ more
-        → map (λ n. n.now) evaluated.entry.names.now
+        → map name_text evaluated.entry.names.now
         ≡ annotation_names (row_of keyword).meaning u.names
         → evaluated.entry.indexes.now ≡ u.indexes
         → OnOk result (unit_texts annotations.new
@@ -191,12 +193,12 @@ fn insert_own<'a>(
 /// The names and the indexes that were evaluated later, where the keyword looks at them (Core, 11); else none.
 pub(crate) fn evaluated_for<'s, 'a>(
     keyword: Keyword,
-    names: &'s [&'a str],
+    names: &'s [Name<'a>],
     indexes: &'s [usize],
     before: Before,
 ) -> Evaluated<'s, 'a>
     ensures names { looks_at_evaluated (row_of keyword).meaning ≡ true
-        → map (λ n. n.now) result.names.now ≡ drop before.names (map (λ n. n.now) names.now) }
+        → map name_text result.names.now ≡ drop before.names (map name_text names.now) }
     ensures indexes { looks_at_evaluated (row_of keyword).meaning ≡ true
         → result.indexes.now ≡ drop before.indexes indexes.now }
 {
@@ -212,12 +214,12 @@ pub(crate) fn evaluated_for<'s, 'a>(
 
 // The names and the indexes that were evaluated later.
 fn evaluated_since<'s, 'a>(
-    names: &'s [&'a str],
+    names: &'s [Name<'a>],
     indexes: &'s [usize],
     before: Before,
 ) -> Evaluated<'s, 'a>
-    ensures names { map (λ n. n.now) result.names.now
-        ≡ drop before.names (map (λ n. n.now) names.now) }
+    ensures names { map name_text result.names.now
+        ≡ drop before.names (map name_text names.now) }
     ensures indexes { result.indexes.now ≡ drop before.indexes indexes.now }
 {
     Evaluated {

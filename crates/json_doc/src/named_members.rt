@@ -1,16 +1,18 @@
 //! Members with their names as they stand there, so that keywords' names needn't be compared to be told.
 
-ghost use Rattle.std.specs.Prelude.{◌≡◌, option_map};
+ghost use Rattle.std.specs.Prelude.{◌≡◌, IfSome, IsTrue, option_map};
 ghost use Rattle.std.specs.Cmp.Lexicographic.{slice_cmp};
 ghost use Rattle.std.specs.Iterator.{YieldsFirstBy, item_count};
 ghost use Rattle.std.specs.Ordering.{nat_cmp};
 ghost use Rattle.definitions.specs.Values.{same_text};
 ghost use Rattle.json_doc.specs.Members.{members_left};
 ghost use Rattle.json_doc.specs.NamedMembers.{name_text, named_left, named_view};
+ghost use Rattle.json_doc.specs.SmallTexts.{short_text};
 ghost use Rattle.keywords.specs.Rows.{row_named, row_of};
 
 use crate::doc::Doc;
 use crate::members::MembersIter;
+use crate::short_text::ShortText;
 use crate::small_text::SmallText;
 use keywords::Keyword;
 use std::cmp::Ordering;
@@ -47,6 +49,30 @@ impl<'a> Name<'a> {
         ensures { result ≡ slice_cmp nat_cmp (name_text self.entry) (name_text other.entry) }
     {
         self.stored.compare(other.stored)
+    }
+
+    /// Whether it surely is the other one: short names that are the same are told without a call.
+    #[inline(always)]
+    pub fn is_surely(self, other: Name<'_>) -> bool
+        ensures { IsTrue result → name_text self.entry ≡ name_text other.entry }
+    {
+        self.stored.is_surely(other.stored)
+    }
+
+    /// Whether it surely is this short text.
+    #[inline(always)]
+    pub fn is_short(self, text: &ShortText) -> bool
+        ensures { IsTrue result → name_text self.entry ≡ short_text text.now }
+    {
+        self.stored.is_short(text)
+    }
+
+    /// The text, where it is short and doesn't stand as a keyword.
+    #[inline(always)]
+    pub fn short(self) -> Option<&'a ShortText>
+        ensures { IfSome result (λ s. short_text s.now ≡ name_text self.entry) }
+    {
+        self.stored.short()
     }
 
     /// Whether it is the name of this keyword.

@@ -1,6 +1,6 @@
 //! Names, of which short ones stand in the value itself, and keywords' names as the keyword.
 
-ghost use Rattle.std.specs.Prelude.{◌≡◌, ◌≤◌, IsTrue, Some, IfOk, length, nat_eq, option_map, refl};
+ghost use Rattle.std.specs.Prelude.{◌≡◌, ◌≤◌, IsTrue, Some, IfOk, length, nat_eq, option_map, refl, IfSome};
 ghost use Rattle.std.specs.Result.{IsOk};
 ghost use Rattle.std.specs.Cmp.{on_equiv, on_total, on_po, on_per, partial_equiv_from_equiv};
 ghost use Rattle.std.specs.Cmp.Lexicographic.{pointwise, slice_cmp, nat_list_eq_equiv, nat_list_cmp_total, texts_po, texts_ties};
@@ -85,6 +85,28 @@ impl SmallText {
         match self {
             SmallText::Short(own) => own.is_same(text),
             _ => false,
+        }
+    }
+
+    /// Whether it surely is the other one, as short texts are told that are the same.
+    #[inline(always)]
+    pub fn is_surely(&self, other: &SmallText) -> bool
+        ensures { IsTrue result → text_view self.now ≡ text_view other.now }
+    {
+        match other {
+            SmallText::Short(short) => self.is_short(short),
+            _ => false,
+        }
+    }
+
+    /// The text, where it is short and doesn't stand as a keyword.
+    #[inline(always)]
+    pub fn short(&self) -> Option<&ShortText>
+        ensures { IfSome result (λ s. short_text s.now ≡ text_view self.now) }
+    {
+        match self {
+            SmallText::Short(short) => Some(short),
+            _ => None,
         }
     }
 

@@ -1,11 +1,14 @@
 //! Lists of names that units say one after the other, by RFC 8259, section 7.
 
 use basic_output::{Location, Origin, Says, Units, WrittenPointer, output_text};
-use json_doc::Fault;
-use std::alloc::Global;
+use json_doc::{Doc, Fault, Members, Name};
+use std::alloc::{AllocError, Global};
 use std::test::Fail;
 
 const ALPHABET: &str = "abcdefghijklmnopqrstuvwxyz";
+
+// The longest that stands in the value itself.
+const SHORT: &str = "abcdefghijklmnopqrstuvwx";
 
 /// Lists of names and their texts. Most are much like the one before, or have its first name and its last.
 const LISTS: &[(&[&str], &str)] = &[
@@ -29,6 +32,8 @@ const LISTS: &[(&[&str], &str)] = &[
     (&["", ""], r#"["",""]"#),
     (&[], "[]"),
     (&["", ""], r#"["",""]"#),
+    (&["a", "ä\"", ""], r#"["a","ä\"",""]"#),
+    (&["a", "ä", ""], r#"["a","ä",""]"#),
     (&["length", "name"], r#"["length","name"]"#),
     (&["lenght", "name"], r#"["lenght","name"]"#),
     (&["length", "nine"], r#"["length","nine"]"#),
@@ -56,10 +61,49 @@ const LISTS: &[(&[&str], &str)] = &[
         ],
         r#"["abcdefghijklmnopqrstuvwxyz","abcdefghijklmnopqrstuvwxyz","ö","abcdefghijklmnopqrstuvwxyz","abcdefghijklmnopqrstuvwxyz","abcdefghijklmnopqrstuvwxyz","abcdefghijklmnopqrstuvwxyz","abcdefghijklmnopqrstuvwxyz","abcdefghijklmnopqrstuvwxyz"]"#,
     ),
+    (
+        &[
+            SHORT, SHORT, SHORT, SHORT, SHORT, "y", SHORT, SHORT, SHORT, SHORT, SHORT,
+        ],
+        r#"["abcdefghijklmnopqrstuvwx","abcdefghijklmnopqrstuvwx","abcdefghijklmnopqrstuvwx","abcdefghijklmnopqrstuvwx","abcdefghijklmnopqrstuvwx","y","abcdefghijklmnopqrstuvwx","abcdefghijklmnopqrstuvwx","abcdefghijklmnopqrstuvwx","abcdefghijklmnopqrstuvwx","abcdefghijklmnopqrstuvwx"]"#,
+    ),
+    (
+        &[
+            SHORT, SHORT, SHORT, SHORT, SHORT, "z", SHORT, SHORT, SHORT, SHORT, SHORT,
+        ],
+        r#"["abcdefghijklmnopqrstuvwx","abcdefghijklmnopqrstuvwx","abcdefghijklmnopqrstuvwx","abcdefghijklmnopqrstuvwx","abcdefghijklmnopqrstuvwx","z","abcdefghijklmnopqrstuvwx","abcdefghijklmnopqrstuvwx","abcdefghijklmnopqrstuvwx","abcdefghijklmnopqrstuvwx","abcdefghijklmnopqrstuvwx"]"#,
+    ),
 ];
+
+/// For each name an object with a member of it.
+pub(crate) fn objects_of(alloc: Global, names: &[&str]) -> Result<Vec<Members>, Fault> {
+    let mut objects = Vec::new(alloc);
+    for name in names {
+        let mut object = Members::new(alloc);
+        object.insert(alloc, name, Doc::Null)?;
+        objects.push(object)?;
+    }
+    Ok(objects)
+}
+
+/// The names of the members of these objects, one after the other.
+pub(crate) fn names_of<'a>(
+    alloc: Global,
+    objects: &'a [Members],
+) -> Result<Vec<Name<'a>>, AllocError> {
+    let mut names = Vec::new(alloc);
+    for object in objects {
+        for (name, _) in object.iter().named() {
+            names.push(name)?;
+        }
+    }
+    Ok(names)
+}
 
 /// An annotation of these names at the root.
 fn push_names(alloc: Global, units: &mut Units, names: &[&str]) -> Result<(), Fault> {
+    let objects = objects_of(alloc, names)?;
+    let names = names_of(alloc, &objects)?;
     let origin = Origin::new(alloc, "urn:x", Vec::new(alloc))?;
     let root = WrittenPointer::new(alloc);
     let location = Location {
@@ -68,7 +112,7 @@ fn push_names(alloc: Global, units: &mut Units, names: &[&str]) -> Result<(), Fa
         onward: 0,
         instance_location: &root,
     };
-    units.push(true, location, Says::Names(names))?;
+    units.push(true, location, Says::Names(&names))?;
     Ok(())
 }
 

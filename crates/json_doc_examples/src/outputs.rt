@@ -146,18 +146,6 @@ fn writes_what_units_say(rt: HostRuntime) -> Result<(), Fail> {
             r#"{"annotations":[{"absoluteKeywordLocation":"https://ex.org/s#","annotation":10,"instanceLocation":"","keywordLocation":""}],"valid":true}"#,
         ),
         (
-            Says::Names(&["a", "ä\"", ""]),
-            r#"{"annotations":[{"absoluteKeywordLocation":"https://ex.org/s#","annotation":["a","ä\"",""],"instanceLocation":"","keywordLocation":""}],"valid":true}"#,
-        ),
-        (
-            Says::Names(&["a", "ä", ""]),
-            r#"{"annotations":[{"absoluteKeywordLocation":"https://ex.org/s#","annotation":["a","ä",""],"instanceLocation":"","keywordLocation":""}],"valid":true}"#,
-        ),
-        (
-            Says::Names(&[]),
-            r#"{"annotations":[{"absoluteKeywordLocation":"https://ex.org/s#","annotation":[],"instanceLocation":"","keywordLocation":""}],"valid":true}"#,
-        ),
-        (
             Says::Indexes(&[0, 2]),
             r#"{"annotations":[{"absoluteKeywordLocation":"https://ex.org/s#","annotation":[0,2],"instanceLocation":"","keywordLocation":""}],"valid":true}"#,
         ),

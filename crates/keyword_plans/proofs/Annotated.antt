@@ -7,11 +7,6 @@ use Rattle.definitions.specs.Applied.{Application, Outcome, Part, Rules, named, 
 use Rattle.definitions.specs.Keywords.{Meaning, properties, pattern_properties, additional_properties, unevaluated_properties, prefix_items}
 use Rattle.definitions.specs.Evaluated.{evaluated_names, evaluated_indexes, part_names, part_indexes, outcomes_that_pass, is_in_place, last_index, value_if_any_apply}
 
--- ---- texts
-pub string-names : (ns : List (Bor Text)) → map (λ (n : Bor Text). string n.now) ns ≡ map string (map (λ (n : Bor Text). n.now) ns)
-string-names [] = refl
-string-names (n ∷ ns) = ap (λ vs. string n.now ∷ vs) (string-names ns)
-
 -- ---- what is applied to no whole instance evaluates nothing but its parts
 abbrev pub NoneWhole : List (Part × Application) → Type 0
 NoneWhole es = AllByRecursion (λ e. is_in_place e.0 ≡ false) es

@@ -2,11 +2,12 @@
 use Rattle.std.proofs.Common.{◌≡◌, ℕ, ◌<◌, List, [], ◌∷◌, ◌||◌, Bool, true, false, cond, ◌==◌, nat_cmp, Bor, map, length, get_or, refl, sym, ap, ap₂, ◌∙◌, rules}
 use Rattle.std.proofs.Math.Bool.{or-false}
 use Rattle.std.proofs.lemmas.List.Folds.{list_any_at}
-use Rattle.std.proofs.lemmas.Map.Text.{is_eq-slice_cmp}
 use Rattle.std.specs.List.{list_any}
 use Rattle.std.specs.Ordering.{eq_by_cmp}
 use Rattle.definitions.specs.Values.{Text, same_text}
 use Rattle.definitions.specs.Applied.{has}
+use Rattle.json_doc.specs.NamedMembers.{name_text}
+use Rattle.json_doc.specs.declared.named_members.Name.{Name}
 use Rattle.lemmas.proofs.Texts.{text_order, text_order-same, same_text_turned}
 
 pub seen-all : {K : Type 0} (b : Bool) (test : K → Bool) (left : List K) (all : Bool) → left ≡ [] → (b || list_any test left) ≡ all → b ≡ all
@@ -24,12 +25,17 @@ seen-more old new test k left rest all e f same =
     ap (λ b. b || list_any test rest) f ∙ moved (test k) old (list_any test rest) ∙ ap (λ ks. old || list_any test ks) (sym e) ∙ same
 
 -- ---- names
-pub has-by_order : (q : Bor Text) (ns : List (Bor Text)) → list_any (λ n. eq_by_cmp text_order n q) ns ≡ has q.now (map (λ (n : Bor Text). n.now) ns)
-has-by_order q [] = refl
-has-by_order q (n ∷ ns) = ap₂ (λ a b. a || b) (is_eq-slice_cmp n.now q.now ∙ same_text_turned n.now q.now) (has-by_order q ns)
+pub has-by_name : (q : Text) (ns : List Name) → list_any (λ n. same_text q (name_text n)) ns ≡ has q (map name_text ns)
+has-by_name q [] = refl
+has-by_name q (n ∷ ns) = ap (λ b. same_text q (name_text n) || b) (has-by_name q ns)
 
-pub has-at : (q : Bor Text) (ns : List (Bor Text)) (i : ℕ) (d : Bor Text) → i < length ns → same_text (get_or ns i d).now q.now ≡ true → has q.now (map (λ (n : Bor Text). n.now) ns) ≡ true
-has-at q ns i d within same = sym (has-by_order q ns) ∙ list_any_at (λ n. eq_by_cmp text_order n q) ns i d within (text_order-same (get_or ns i d) q ∙ same)
+pub has-at : (q : Text) (ns : List Name) (i : ℕ) (d : Name) → i < length ns → same_text (name_text (get_or ns i d)) q ≡ true → has q (map name_text ns) ≡ true
+has-at q ns i d within same =
+    sym (has-by_name q ns) ∙ list_any_at (λ n. same_text q (name_text n)) ns i d within (same_text_turned q (name_text (get_or ns i d)) ∙ same)
+
+-- one more name
+pub added : (x q : Bor Text) (n : Text) (old : Bool) → x.now ≡ n → cond (eq_by_cmp text_order x q) true old ≡ cond (same_text q.now n) true old
+added x q n old same = ap (λ b. cond b true old) (text_order-same x q ∙ same_text_turned x.now q.now ∙ ap (same_text q.now) same)
 
 -- ---- indexes
 same_index : (i j : ℕ) → eq_by_cmp nat_cmp i j ≡ (i == j)

@@ -4,6 +4,7 @@ ghost use Rattle.std.specs.Prelude.{◌≡◌, ◌==◌, ℕ, pos, true, List, S
 ghost use Rattle.definitions.specs.Values.{Text, Value, boolean, integer, string, array, elements, to_elements, is_array, is_object};
 ghost use Rattle.definitions.specs.Applied.{Application, Outcome, Rules};
 ghost use Rattle.definitions.specs.Evaluated.{annotation_of, evaluated_indexes, evaluated_names, last_index, once};
+ghost use Rattle.json_doc.specs.NamedMembers.{name_text};
 ghost use Rattle.keywords.specs.Rows.{row_of};
 ghost use Rattle.basic_output.specs.Sayings.{says_value};
 ghost use Rattle.keyword_plans.specs.Annotations.{annotation_names};
@@ -13,6 +14,7 @@ ghost use Rattle.keyword_plans.specs.Subjects.{subject_value};
 use crate::site::Evaluated;
 use crate::subject::Subject;
 use basic_output::Says;
+use json_doc::Name;
 use keywords::Keyword;
 use std::alloc::{AllocError, Global};
 use std::collections::BTreeSet;
@@ -30,7 +32,7 @@ pub fn annotate<'s, 'a>(
         → a.instance ≡ subject_value subject.entry
         → let os = outcomes_of rules run names indexes a (row_of keyword).name
         (row_of keyword).meaning v in
-        applied ≡ length os → map (λ n. n.now) evaluated.entry.names.now
+        applied ≡ length os → map name_text evaluated.entry.names.now
         ≡ annotation_names (row_of keyword).meaning (evaluated_names (row_of keyword).meaning os)
         → evaluated.entry.indexes.now ≡ evaluated_indexes (row_of keyword).meaning os
         → option_map says_value result ≡ annotation_of a (row_of keyword).meaning os }
@@ -51,14 +53,13 @@ pub fn annotate<'s, 'a>(
 
 /// Each of the names once, in the order in which they come first: `patternProperties` annotates with these, where
 /// several patterns match a name (JSON Schema 2020-12 Core, 10.3.2.2). The only error is want of memory.
-pub fn distinct_names<'a>(alloc: Global, names: &[&'a str]) -> Result<Vec<&'a str>, AllocError>
-    ensures { IfOk result (λ kept. map (λ n. n.now) kept.items
-        ≡ once (map (λ n. n.now) names.now)) }
+pub fn distinct_names<'a>(alloc: Global, names: &[Name<'a>]) -> Result<Vec<Name<'a>>, AllocError>
+    ensures { IfOk result (λ kept. map name_text kept.items ≡ once (map name_text names.now)) }
 {
     let mut seen = BTreeSet::new(alloc);
     let mut kept = Vec::new(alloc);
     for name in names {
-        if seen.insert(*name)? {
+        if seen.insert(name.as_str())? {
             kept.push(*name)?;
         }
     }
@@ -66,10 +67,10 @@ pub fn distinct_names<'a>(alloc: Global, names: &[&'a str]) -> Result<Vec<&'a st
 }
 
 // The names, on an object (10.3.2).
-fn annotate_names<'s, 'a>(subject: Subject<'a>, names: &'s [&'a str]) -> Option<Says<'s, 'a>>
+fn annotate_names<'s, 'a>(subject: Subject<'a>, names: &'s [Name<'a>]) -> Option<Says<'s, 'a>>
     ensures { option_map says_value result
         ≡ (if is_object (subject_value subject.entry) then Some
-        (array (to_elements (map string (map (λ n. n.now) names.now)))) else None) }
+        (array (to_elements (map string (map name_text names.now)))) else None) }
 {
     if subject.is_object() {
         Some(Says::Names(names))

@@ -4,6 +4,7 @@ ghost use Rattle.std.specs.Prelude.{◌≡◌, ◌≤◌, [], ℕ, List, Some, f
 ghost use Rattle.definitions.specs.Values.{get};
 ghost use Rattle.definitions.specs.Applied.{Application, Outcome, condition_outcome, keyword_applications};
 ghost use Rattle.json_doc.specs.Docs.{value};
+ghost use Rattle.json_doc.specs.NamedMembers.{name_text};
 ghost use Rattle.keywords.specs.Rows.{row_of};
 ghost use Rattle.keyword_plans.specs.ScopeViews.{scope_documents, scope_uris};
 ghost use Rattle.keyword_plans.specs.SearchedIn.{searched_in};
@@ -59,7 +60,7 @@ pub fn plan<'a>(
         → (takes_others (row_of keyword).meaning ≡ true → earlier.entry.named ≤ named_count a)
         → OnOk result (map (planned_view (row_of keyword).name a) planned.new.items
         ≡ keyword_applications (linked_rules site.entry.linked.now) run
-        (map (λ n. n.now) earlier.entry.evaluated.names.now)
+        (map name_text earlier.entry.evaluated.names.now)
         earlier.entry.evaluated.indexes.now a
         (row_of keyword).name (row_of keyword).meaning (value keyword_value.now)) }
     ensures uris { scope_uris scope.new ≡ scope_uris scope.old }
@@ -104,7 +105,7 @@ fn plan_subschemas<'a>(
         → option_map (λ o. o.valid) (condition_outcome run a) ≡ condition)
         → OnOk result (map (planned_view (row_of keyword).name a) planned.new.items
         ≡ keyword_applications (linked_rules site.now.linked.now) run
-        (map (λ n. n.now) evaluated.entry.names.now) evaluated.entry.indexes.now a
+        (map name_text evaluated.entry.names.now) evaluated.entry.indexes.now a
         (row_of keyword).name (row_of keyword).meaning (value keyword_value.now)) }
 {
     let subject = &site.subject;
@@ -137,7 +138,7 @@ fn plan_children<'a>(
         → get (row_of keyword).name a.schema.value ≡ Some (value keyword_value.now)
         → OnOk result (map (planned_view (row_of keyword).name a) planned.new.items
         ≡ keyword_applications (linked_rules site.now.linked.now) run
-        (map (λ n. n.now) evaluated.entry.names.now) evaluated.entry.indexes.now a
+        (map name_text evaluated.entry.names.now) evaluated.entry.indexes.now a
         (row_of keyword).name (row_of keyword).meaning (value keyword_value.now)) }
 {
     let subject = &site.subject;

@@ -1,7 +1,7 @@
 //! Where a keyword is used.
 
 use crate::subject::Subject;
-use json_doc::Doc;
+use json_doc::{Doc, Name};
 use linker::Linked;
 
 /// The application of a schema object, as its keywords see it.
@@ -22,7 +22,7 @@ pub struct Site<'a> {
 #[derive(Clone, Copy)]
 pub struct Evaluated<'s, 'a> {
     /// The names.
-    pub names: &'s [&'a str],
+    pub names: &'s [Name<'a>],
     /// The indexes.
     pub indexes: &'s [usize],
 }

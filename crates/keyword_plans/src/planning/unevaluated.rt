@@ -6,9 +6,10 @@ ghost use Rattle.std.specs.Borrow.{Bor};
 ghost use Rattle.std.specs.List.{list_any};
 ghost use Rattle.std.specs.Ordering.{eq_by_cmp};
 ghost use Rattle.std.proofs.Props.{props};
-ghost use Rattle.definitions.specs.Values.{Text, elements, members};
+ghost use Rattle.definitions.specs.Values.{Text, elements, members, same_text};
 ghost use Rattle.definitions.specs.Applied.{Application, has};
 ghost use Rattle.json_doc.specs.Docs.{value, members_value};
+ghost use Rattle.json_doc.specs.NamedMembers.{name_text};
 ghost use Rattle.keyword_plans.specs.Applications.{planned_unevaluated_items, planned_unevaluated_properties};
 ghost use Rattle.keyword_plans.specs.Plans.{planned_view};
 ghost use Rattle.keyword_plans.specs.Subjects.{subject_value};
@@ -16,7 +17,7 @@ ghost use Rattle.lemmas.proofs.Texts.{text_order};
 
 use crate::planned::{Part, Planned, Way};
 use crate::subject::Subject;
-use json_doc::{Doc, Members};
+use json_doc::{Doc, Members, Name};
 use std::alloc::{AllocError, Global};
 use std::collections::BTreeSet;
 
@@ -25,16 +26,16 @@ use std::collections::BTreeSet;
 #[derive(Drop)]
 struct NamesInOrder<'n, 'a> {
     alloc: Global,
-    names: &'n [&'a str],
+    names: &'n [Name<'a>],
     // So many were asked for in order.
     passed: usize,
     all: Option<BTreeSet<&'a str>>,
     ghost right: { IfSome all (λ s. (q : Bor Text)
-        → contains text_order s q ≡ list_any (λ n. eq_by_cmp text_order n q) names.now) } by { Prim.hlevel props },
+        → contains text_order s q ≡ list_any (λ n. same_text q.now (name_text n)) names.now) } by { Prim.hlevel props },
 }
 
 impl<'n, 'a> NamesInOrder<'n, 'a> {
-    fn new(alloc: Global, names: &'n [&'a str]) -> NamesInOrder<'n, 'a>
+    fn new(alloc: Global, names: &'n [Name<'a>]) -> NamesInOrder<'n, 'a>
         ensures { result.names.now ≡ names.now }
     {
         NamesInOrder {
@@ -45,26 +46,26 @@ impl<'n, 'a> NamesInOrder<'n, 'a> {
         }
     }
 
-    fn has(&mut self, name: &'a str) -> Result<bool, AllocError>
-        ensures has { IfOk result (λ b. b ≡ has name.now (map (λ n. n.now) self.old.names.now)) }
+    fn has(&mut self, name: Name<'a>) -> Result<bool, AllocError>
+        ensures has { IfOk result (λ b. b ≡ has (name_text name.entry) (map name_text self.old.names.now)) }
         ensures names { self.new.names.now ≡ self.old.names.now }
     {
-        if self.passed < self.names.len() && self.names[self.passed] == name {
+        if self.passed < self.names.len() && is_same(self.names[self.passed], name) {
             self.passed += 1;
             return Ok(true);
         }
         self.is_among_all(name)
     }
 
-    fn is_among_all(&mut self, name: &'a str) -> Result<bool, AllocError>
-        ensures has { IfOk result (λ b. b ≡ has name.now (map (λ n. n.now) self.old.names.now)) }
+    fn is_among_all(&mut self, name: Name<'a>) -> Result<bool, AllocError>
+        ensures has { IfOk result (λ b. b ≡ has (name_text name.entry) (map name_text self.old.names.now)) }
         ensures names { self.new.names.now ≡ self.old.names.now }
     {
         if let Some(all) = &self.all {
-            return Ok(is_in(all, name));
+            return Ok(is_in(all, name.as_str()));
         }
-        let all = set_of(self.alloc, self.names)?;
-        let found = is_in(&all, name);
+        let all = names_of(self.alloc, self.names)?;
+        let found = is_in(&all, name.as_str());
         self.all = Some(all);
         Ok(found)
     }
@@ -115,12 +116,12 @@ pub(crate) fn plan_unevaluated_properties<'a>(
     planned: &mut Vec<Planned<'a>>,
     schema: &'a Doc,
     subject: &Subject<'a>,
-    names: &[&'a str],
+    names: &[Name<'a>],
 ) -> Result<(), AllocError>
     requires { planned.old.items ≡ [] }
     ensures { (a : Application) (k : Text) → a.instance ≡ subject_value subject.now
         → OnOk result (map (planned_view k a) planned.new.items
-        ≡ planned_unevaluated_properties k a (value schema.now) (map (λ n. n.now) names.now)
+        ≡ planned_unevaluated_properties k a (value schema.now) (map name_text names.now)
         (members a.instance)) }
 {
     match subject.members() {
@@ -133,17 +134,17 @@ fn plan_unevaluated_members<'a>(
     planned: &mut Vec<Planned<'a>>,
     schema: &'a Doc,
     members: &'a Members,
-    names: &[&'a str],
+    names: &[Name<'a>],
 ) -> Result<(), AllocError>
     requires { planned.old.items ≡ [] }
     ensures { (a : Application) (k : Text)
         → OnOk result (map (planned_view k a) planned.new.items
-        ≡ planned_unevaluated_properties k a (value schema.now) (map (λ n. n.now) names.now)
+        ≡ planned_unevaluated_properties k a (value schema.now) (map name_text names.now)
         (members_value members.now)) }
 {
     let mut evaluated = NamesInOrder::new(*planned.allocator(), names);
     for (name, member) in members.iter().named() {
-        if !evaluated.has(name.as_str())? {
+        if !evaluated.has(name)? {
             planned.push(Planned {
                 way: Way::Own,
                 schema,
@@ -153,6 +154,26 @@ fn plan_unevaluated_members<'a>(
         }
     }
     Ok(())
+}
+
+// Whether two names are the same: most that are, are short, and are told at once.
+#[inline(always)]
+fn is_same(name: Name<'_>, other: Name<'_>) -> bool
+    ensures { result ≡ same_text (name_text name.entry) (name_text other.entry) }
+{
+    name.is_surely(other) || name.as_str() == other.as_str()
+}
+
+// The names in order, to look up.
+fn names_of<'a>(alloc: Global, names: &[Name<'a>]) -> Result<BTreeSet<&'a str>, AllocError>
+    ensures { IfOk result (λ s. (q : Bor Text)
+        → contains text_order s q ≡ list_any (λ n. same_text q.now (name_text n)) names.now) }
+{
+    let mut seen = BTreeSet::new(alloc);
+    for name in names {
+        seen.insert(name.as_str())?;
+    }
+    Ok(seen)
 }
 
 // The keys in order, to look up.

@@ -1,5 +1,6 @@
 use Rattle.std.proofs.Common.{◌∙◌, ap, sym, map, append-nil}
 use Rattle.std.proofs.lemmas.List.{take-map}
+use Rattle.json_doc.specs.NamedMembers.{name_text}
 use Rattle.evaluator.specs.Notes.{Lengths, notes_of_both}
 use Rattle.evaluator.specs.Logs.{log_view}
 use Rattle.evaluator.proofs.LogLaws.{same_notes, cut_list, errors_of, annotations_of, names_of, indexes_of, tally_of}
@@ -9,6 +10,6 @@ pub returns : goal.returns
 unfolding log_view notes_of_both
 returns c older more m e =
     same_notes (errors_of _ older more e) (annotations_of _ older more e)
-    (ap (map (λ name. name.now)) c.truncate.ensures.items ∙ sym (take-map (λ name. name.now) c.args.mark.now.names c.args.self.now.names.items)
+    (ap (map name_text) c.truncate.ensures.items ∙ sym (take-map name_text c.args.mark.now.names c.args.self.now.names.items)
     ∙ cut_list c.args.mark.now.names older.names more.names _ (ap (λ (l : Lengths). l.names) m) (names_of _ older more e) ∙ sym (append-nil _))
     (c.truncate-2.ensures.items ∙ cut_list c.args.mark.now.indexes older.indexes more.indexes _ (ap (λ (l : Lengths). l.indexes) m) (indexes_of _ older more e) ∙ sym (append-nil _)) (tally_of _ older more e)

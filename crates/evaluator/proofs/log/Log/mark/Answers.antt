@@ -1,5 +1,6 @@
 use Rattle.std.proofs.Common.{◌∙◌, ap, length, sym}
 use Rattle.std.proofs.lemmas.List.{length-map}
+use Rattle.json_doc.specs.NamedMembers.{name_text}
 use Rattle.basic_output.specs.Units.{unit_texts}
 use Rattle.evaluator.specs.Logs.{log_view}
 use Rattle.evaluator.specs.declared.logged_units.LoggedUnits.{LoggedUnits}
@@ -12,4 +13,4 @@ returns c =
     let log = c.args.self.now in
     same_lengths (c.mark.ensures ∙ ap (λ (u : LoggedUnits). length (unit_texts u.errors)) c.deref.ensures)
     (c.mark-2.ensures ∙ ap (λ (u : LoggedUnits). length (unit_texts u.annotations)) c.deref-2.ensures)
-    (c.len.ensures ∙ log.names.ok.0 ∙ sym (length-map log.names.items (λ name. name.now))) (c.len-2.ensures ∙ log.indexes.ok.0)
+    (c.len.ensures ∙ log.names.ok.0 ∙ sym (length-map log.names.items name_text)) (c.len-2.ensures ∙ log.indexes.ok.0)

@@ -1,0 +1,20 @@
+use Rattle.std.proofs.Common.{◌∙◌, refl}
+use Rattle.std.specs.BTreeSet.{contains}
+use Rattle.definitions.specs.Values.{same_text}
+use Rattle.json_doc.specs.NamedMembers.{name_text}
+use Rattle.lemmas.proofs.Texts.{text_order}
+use Rattle.schema_scan.proofs.Gathered.{next_item, no_more}
+use Rattle.keyword_plans.proofs.Seen.{added, seen-more, seen-all}
+use Rattle.keyword_plans.proofs.planning.unevaluated.names_of.Goals as goal
+
+pub loop-name-preserved : goal.loop-name-preserved
+loop-name-preserved c q =
+    let x = c.name-item.result in
+    let old = contains text_order c.loop-name.seen q in
+    seen-more old (contains text_order c.insert.new.self q) (λ n. same_text q.now (name_text n)) x _ _ _
+    (next_item c.args.names.now c.args.names.now c.loop-name.name-index x refl c.loop-name-test.true c.name-item.is)
+    (c.in_ok-insert.ensures.updates.0 q ∙ added c.as_str.result q (name_text x) old c.as_str.ensures) (c.loop-name.invariant q)
+
+pub returns : goal.returns
+returns c q =
+    seen-all (contains text_order c.loop-name.seen q) (λ n. same_text q.now (name_text n)) _ _ (no_more c.args.names.now c.args.names.now c.loop-name.name-index refl c.loop-name-test.false) (c.loop-name.invariant q)

@@ -1,6 +1,7 @@
 use Rattle.std.proofs.Common.{◌≡◌, [], ◌∷◌, ◌∙◌, ◌&&◌, not, false, ap, sym}
 use Rattle.std.proofs.lemmas.Bool.{and_right}
 use Rattle.std.proofs.lemmas.Result.{on_ok_weaker}
+use Rattle.json_doc.specs.NamedMembers.{name_text}
 use Rattle.evaluator.specs.Logs.{log_view}
 use Rattle.evaluator.specs.Notes.{needs_to_pass, no_notes, notes_of_both, outcome_notes}
 use Rattle.evaluator.proofs.LogLaws.{name_after, index_after, silent_before}
@@ -15,8 +16,8 @@ returns-in-Member c m o silent =
     let old = log_view c.args.self.now in
     rw c.in-Member.is
     (on_ok_weaker c.push_name.result (λ pushed.
-    pushed ∙ ap (λ n. notes_of_both n (record no_notes { names = c.as_str.result.now ∷ [] })) (c.count_one.ensures ∙ ap (notes_of_both old) (silent_before o silent))
-    ∙ name_after old o c.as_str.result.now ∙ ap (λ n. notes_of_both old (record (outcome_notes o) { names = n ∷ []; indexes = [] })) c.as_str.ensures) c.push_name.ensures)
+    pushed ∙ ap (λ n. notes_of_both n (record no_notes { names = name_text c.in-Member.name ∷ [] })) (c.count_one.ensures ∙ ap (notes_of_both old) (silent_before o silent))
+    ∙ name_after old o (name_text c.in-Member.name)) c.push_name.ensures)
 
 pub returns-in-Element : goal.returns-in-Element
 returns-in-Element c m o silent =

@@ -1,6 +1,7 @@
 use Rattle.std.proofs.Common.{◌≡◌, [], ◌∷◌, ◌∙◌, ◌&&◌, not, false, ap, sym}
 use Rattle.std.proofs.lemmas.Result.{on_ok_weaker}
 use Rattle.keywords.specs.Rows.{row_of}
+use Rattle.json_doc.specs.NamedMembers.{name_text}
 use Rattle.evaluator.specs.Notes.{needs_to_pass, no_notes, notes_of_both, outcome_notes}
 use Rattle.evaluator.proofs.LogLaws.{name_after, index_after}
 use Rattle.evaluator.proofs.log.Log.settle_part.Goals as goal
@@ -9,8 +10,8 @@ pub returns-in-Member : goal.returns-in-Member
 returns-in-Member c older o m e valid =
     rw c.in-Member.is
     (on_ok_weaker c.push_name.result (λ pushed.
-    pushed ∙ ap (λ n. notes_of_both n (record no_notes { names = c.as_str.result.now ∷ [] })) (c.cut_evaluated.ensures older (outcome_notes o) m e)
-    ∙ name_after older o c.as_str.result.now ∙ ap (λ n. notes_of_both older (record (outcome_notes o) { names = n ∷ []; indexes = [] })) c.as_str.ensures) c.push_name.ensures)
+    pushed ∙ ap (λ n. notes_of_both n (record no_notes { names = name_text c.in-Member.name ∷ [] })) (c.cut_evaluated.ensures older (outcome_notes o) m e)
+    ∙ name_after older o (name_text c.in-Member.name)) c.push_name.ensures)
 
 pub returns-else-is_left_out : goal.returns-else-is_left_out
 returns-else-is_left_out c older o m e valid =

@@ -205,13 +205,6 @@ impl Compiled {
         self.pattern_table.number(text)
     }
 
-    /// The patterns of its schemas, by number.
-    pub fn patterns(&self) -> &[Pattern]
-        ensures { result.now ≡ compiled_patterns self.now }
-    {
-        self.pattern_table.patterns()
-    }
-
     /// The pattern of this number.
     pub fn numbered_pattern(&self, number: usize) -> Option<&Pattern>
         ensures { option_map (λ p. p.now) result ≡ slice_get (compiled_patterns self.now) number }

@@ -72,14 +72,6 @@ impl PatternTable {
         self.numbers.number(text)
     }
 
-    /// The patterns, by number.
-    #[tactic(auto, unfolding(crate::specs::PatternTables::table_texts))]
-    pub(crate) fn patterns(&self) -> &[Pattern]
-        ensures { result.now ≡ table_texts self.now }
-    {
-        self.patterns.as_slice()
-    }
-
     /// The pattern of this number.
     #[tactic(auto, unfolding(crate::specs::PatternTables::table_texts))]
     pub(crate) fn numbered(&self, number: usize) -> Option<&Pattern>

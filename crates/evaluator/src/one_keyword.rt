@@ -354,7 +354,7 @@ impl<'a> Evaluation<'a> {
         let present = Present::of(planned.schema);
         let back = self
             .context
-            .enter_planned(self.alloc, self.linked, planned)?;
+            .enter_planned(self.alloc, planned)?;
         match self.apply(&present, planned.subject, nesting) {
             Ok(valid) => {
                 self.context.leave_planned(back);

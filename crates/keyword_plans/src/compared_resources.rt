@@ -20,8 +20,8 @@ const TIMES: usize = 64;
 
 /// The resources of linked documents, which are told by their URIs and by the `$id`s that open them.
 ///
-/// These texts are compared; and where several documents are linked, and they are long and many were compared, they are
-/// numbered, so that from then on few of their bytes are looked at. Before that it takes no memory.
+/// These texts are compared until that was much: then they are numbered, and from there on few of their bytes are looked at.
+/// Before that it takes no memory.
 ///
 /// Contracts see the documents, by `compared_in`.
 #[derive(Drop)]

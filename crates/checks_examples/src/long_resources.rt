@@ -32,10 +32,13 @@ fn rows(alloc: Global, last: &str) -> Result<String, Fail> {
 
 // The answer to these rows.
 fn answer_to(alloc: Global, id: &str, last: &str) -> Result<String, Fail> {
-    let opens = format!(in alloc; "\"allOf\":[{{\"$id\":\"{id}\",\"$ref\":\"#/$defs/p\",\"$defs\":{{\"p\":{{\"pattern\":")?;
+    let opens = format!(in alloc;
+        "\"allOf\":[{{\"$id\":\"{id}\",\"$ref\":\"#/$defs/p\",\"$defs\":{{\"p\":{{\"pattern\":"
+    )?;
     let one = format!(in alloc; "{{{opens}\"a\"}}}}}}]}}")?;
-    let two =
-        format!(in alloc; "{{{opens}\"b\"}}}}}}],\"$defs\":{{\"o\":{{\"$id\":\"c/\",{opens}\"c\"}}}}}}]}}}}}}")?;
+    let two = format!(in alloc;
+        "{{{opens}\"b\"}}}}}}],\"$defs\":{{\"o\":{{\"$id\":\"c/\",{opens}\"c\"}}}}}}]}}}}}}"
+    )?;
     let documents = [
         ("https://ex.org/m", MAIN),
         ("https://ex.org/a/one", one.as_str()),
@@ -50,12 +53,15 @@ fn answer_to(alloc: Global, id: &str, last: &str) -> Result<String, Fail> {
 fn failing(alloc: Global, place: usize, around: &str, opened: &str) -> Result<String, Fail> {
     let row = "https://ex.org/m#/items";
     let path = format!(in alloc; "/items/prefixItems/{place}/$ref")?;
-    let above =
-        format!(in alloc; "{{\"errors\":[{{\"absoluteKeywordLocation\":\"{row}\",\"error\":\"items is not met\",\"instanceLocation\":\"\",\"keywordLocation\":\"/items\"}},{{\"absoluteKeywordLocation\":\"{row}/prefixItems\",\"error\":\"prefixItems is not met\",\"instanceLocation\":\"/200\",\"keywordLocation\":\"/items/prefixItems\"}},{{\"absoluteKeywordLocation\":\"https://ex.org/m#{path}\",\"error\":\"$ref is not met\"")?;
-    let at = format!(in alloc; "\"instanceLocation\":\"/200/{place}\",\"keywordLocation\":\"{path}")?;
-    Ok(
-        format!(in alloc; "{above},{at}\"}},{{\"absoluteKeywordLocation\":\"{around}#/allOf\",\"error\":\"allOf is not met\",{at}/allOf\"}},{{\"absoluteKeywordLocation\":\"{opened}#/$ref\",\"error\":\"$ref is not met\",{at}/allOf/0/$ref\"}},{{\"absoluteKeywordLocation\":\"{opened}#/$defs/p/pattern\",\"error\":\"pattern is not met\",{at}/allOf/0/$ref/pattern\"}}],\"valid\":false}}")?,
-    )
+    let above = format!(in alloc;
+        "{{\"errors\":[{{\"absoluteKeywordLocation\":\"{row}\",\"error\":\"items is not met\",\"instanceLocation\":\"\",\"keywordLocation\":\"/items\"}},{{\"absoluteKeywordLocation\":\"{row}/prefixItems\",\"error\":\"prefixItems is not met\",\"instanceLocation\":\"/200\",\"keywordLocation\":\"/items/prefixItems\"}},{{\"absoluteKeywordLocation\":\"https://ex.org/m#{path}\",\"error\":\"$ref is not met\""
+    )?;
+    let at = format!(in alloc;
+        "\"instanceLocation\":\"/200/{place}\",\"keywordLocation\":\"{path}"
+    )?;
+    Ok(format!(in alloc;
+        "{above},{at}\"}},{{\"absoluteKeywordLocation\":\"{around}#/allOf\",\"error\":\"allOf is not met\",{at}/allOf\"}},{{\"absoluteKeywordLocation\":\"{opened}#/$ref\",\"error\":\"$ref is not met\",{at}/allOf/0/$ref\"}},{{\"absoluteKeywordLocation\":\"{opened}#/$defs/p/pattern\",\"error\":\"pattern is not met\",{at}/allOf/0/$ref/pattern\"}}],\"valid\":false}}"
+    )?)
 }
 
 #[test]
@@ -65,11 +71,26 @@ fn an_identifier_opens_the_resource_of_its_base(rt: HostRuntime) -> Result<(), F
     let id = id.as_str();
     let found = answer_to(alloc, id, r#"["a"]"#)?;
     assert!(rt; found.as_str().ends_with("\"valid\":true}"));
-    let first = failing(alloc, 0, "https://ex.org/a/one", format!(in alloc; "https://ex.org/a/{id}")?.as_str())?;
+    let first = failing(
+        alloc,
+        0,
+        "https://ex.org/a/one",
+        format!(in alloc; "https://ex.org/a/{id}")?.as_str(),
+    )?;
     assert!(rt; answer_to(alloc, id, r#"["b"]"#)?.as_str() == first.as_str());
-    let second = failing(alloc, 1, "https://ex.org/b/two", format!(in alloc; "https://ex.org/b/{id}")?.as_str())?;
+    let second = failing(
+        alloc,
+        1,
+        "https://ex.org/b/two",
+        format!(in alloc; "https://ex.org/b/{id}")?.as_str(),
+    )?;
     assert!(rt; answer_to(alloc, id, r#"["a","c"]"#)?.as_str() == second.as_str());
-    let third = failing(alloc, 2, "https://ex.org/b/c/", format!(in alloc; "https://ex.org/b/c/{id}")?.as_str())?;
+    let third = failing(
+        alloc,
+        2,
+        "https://ex.org/b/c/",
+        format!(in alloc; "https://ex.org/b/c/{id}")?.as_str(),
+    )?;
     assert!(rt; answer_to(alloc, id, r#"["a","b","a"]"#)?.as_str() == third.as_str());
     Ok(())
 }

@@ -89,11 +89,7 @@ impl<'a> ComparedResources<'a> {
 
     // The same where several documents are linked.
     #[inline(never)]
-    fn document_of_several(
-        &mut self,
-        alloc: Global,
-        uri: &str,
-    ) -> Result<Option<usize>, AllocError>
+    fn document_of_several(&mut self, alloc: Global, uri: &str) -> Result<Option<usize>, AllocError>
         ensures ok { (s : Schema) → Contains (linked_schemas (compared_in self.old).now) s
             → s.resource ≡ uri.now → IfOk result (IsDocument (compared_in self.old).now uri.now) }
         ensures linked { compared_in self.new ≡ compared_in self.old }

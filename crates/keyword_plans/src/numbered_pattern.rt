@@ -8,8 +8,8 @@ ghost use Rattle.keyword_plans.specs.Applications.{ArePatternsOf};
 ghost use Rattle.keyword_plans.specs.NumberedPatterns.{IsNumbered, numbered_view};
 ghost use Rattle.keyword_plans.specs.SearchedIn.{searched_in};
 
-use json_doc::{Doc, Members, Name};
 use crate::searches::Searches;
+use json_doc::{Doc, Members, Name};
 use linker::PatternNumber;
 use std::alloc::AllocError;
 

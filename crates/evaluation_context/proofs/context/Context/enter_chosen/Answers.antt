@@ -18,7 +18,7 @@ returns-in_ok-enter_step-in_default-clause-there c =
     let g = frame_standing (context_view c.enter_step.new.self) in
     let s = schema_at g.resource g.pointer (value c.args.planned.now.schema.now) in
     let there : (p : Schema) → Contains (linked_schemas (scope_documents c.args.self.now.scope).now) p → p.resource ≡ g.resource
-        → Contains (linked_schemas (scope_documents c.args.self.now.scope).now) s → OnOk c.enter_schema.result (frame_standing (context_view c.enter_schema.new.self) ≡ standing_at [] s g) =
+    → Contains (linked_schemas (scope_documents c.args.self.now.scope).now) s → OnOk c.enter_schema.result (frame_standing (context_view c.enter_schema.new.self) ≡ standing_at [] s g) =
     subst (λ (l : Bor Linked). (p : Schema) → Contains (linked_schemas l.now) p → p.resource ≡ g.resource → Contains (linked_schemas l.now) s
     → OnOk c.enter_schema.result (frame_standing (context_view c.enter_schema.new.self) ≡ standing_at [] s g))
     c.in_ok-enter_step-in_default.ensures.documents c.enter_schema.ensures.there in

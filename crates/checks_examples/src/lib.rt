@@ -27,6 +27,8 @@ mod long_enums;
 #[cfg(test)]
 mod long_patterns;
 #[cfg(test)]
+mod long_resources;
+#[cfg(test)]
 mod outputs;
 #[cfg(test)]
 mod references;

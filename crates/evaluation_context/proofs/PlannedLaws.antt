@@ -43,9 +43,11 @@ from_below st (ways.Target o) v other = absurd (other o refl)
 
 pub below_there : {T E : Type 0} (r : Result T E) (xs : List Schema) (f g h : Frame) (w : Way) (v : Value) (step : Option Step) → f.onward ≤ length f.path
     → ((o : Rc Origin Global) → w ≡ ways.Target o → ⊥) → step_view step ≡ way_view w → g ≡ frame_below (step_view step) f
-    → (Contains xs (schema_standing (frame_standing g) v) → OnOk r (frame_standing h ≡ standing_at [] (schema_standing (frame_standing g) v) (frame_standing g)))
-    → Contains xs (schema_from (frame_standing f) w v) → OnOk r (frame_standing h ≡ standing_at (way_view w) (schema_from (frame_standing f) w v) (frame_standing f))
-below_there r xs f g h w v step within other way e there contains =
+    → ((p : Schema) → Contains xs p → p.resource ≡ (frame_standing g).resource → Contains xs (schema_standing (frame_standing g) v)
+    → OnOk r (frame_standing h ≡ standing_at [] (schema_standing (frame_standing g) v) (frame_standing g)))
+    → (p : Schema) → Contains xs p → p.resource ≡ (frame_standing f).resource → Contains xs (schema_from (frame_standing f) w v)
+    → OnOk r (frame_standing h ≡ standing_at (way_view w) (schema_from (frame_standing f) w v) (frame_standing f))
+below_there r xs f g h w v step within other way e there p known resource contains =
     let st = frame_standing f in
     let s = schema_standing (frame_standing g) v in
     let t = schema_from st w v in
@@ -53,7 +55,8 @@ below_there r xs f g h w v step within other way e there contains =
     let same : s ≡ t = ap (λ x. schema_standing x v) stands ∙ sym (from_below st w v other) in
     let arrived : standing_at [] s (frame_standing g) ≡ standing_at (way_view w) t st =
     ap (standing_at [] s) stands ∙ identified_below s st (way_view w) ∙ ap (λ x. standing_at (way_view w) x st) same in
-    on_ok_weaker r (λ o. o ∙ arrived) (there (subst (Contains xs) (sym same) contains))
+    let around : p.resource ≡ (frame_standing g).resource = resource ∙ sym (ap (λ (x : Standing). x.resource) stands) in
+    on_ok_weaker r (λ o. o ∙ arrived) (there p known around (subst (Contains xs) (sym same) contains))
 
 -- ---- at what a reference names
 pub target_there : (f h : Frame) (w : Way) (v : Value) (o : Rc Origin Global) (origin : Identity) → w ≡ ways.Target o → origin ≡ origin_view o.value → h ≡ at_origin origin f

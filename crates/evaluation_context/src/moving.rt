@@ -1,13 +1,12 @@
 //! From a keyword to what it applies, and back.
 
-ghost use Rattle.std.specs.Prelude.{◌≡◌, ◌++◌, [], true, false, IfOk, IfErr, OnOk, Contains, Some, codes, option_map};
-ghost use Rattle.definitions.specs.Values.{Text, text_at};
-ghost use Rattle.definitions.specs.Resolution.{target_uri};
+ghost use Rattle.std.specs.Prelude.{◌≡◌, ◌++◌, [], true, false, IfOk, IfErr, OnOk, Contains, Some, codes};
+ghost use Rattle.definitions.specs.Values.{Text};
 ghost use Rattle.definitions.specs.Schemas.{Schema, schema_at};
-ghost use Rattle.definitions.specs.Uris.{without_fragment};
 ghost use Rattle.definitions.specs.Applied.{Application, part_location};
 ghost use Rattle.basic_output.specs.PointerViews.{origin_view};
 ghost use Rattle.json_doc.specs.Docs.{value};
+ghost use Rattle.keyword_plans.specs.OpenedResources.{Opens};
 ghost use Rattle.keyword_plans.specs.Plans.{part_view, planned_view, step_view, way_view};
 ghost use Rattle.keyword_plans.specs.ScopeViews.{scope_documents};
 ghost use Rattle.linker.specs.LinkedDocuments.{linked_schemas};
@@ -21,7 +20,6 @@ use crate::identifier::identifier;
 use basic_output::Origin;
 use json_doc::Doc;
 use keyword_plans::{Part, Planned, Way};
-use linker::Linked;
 use locations::Step;
 use std::alloc::{AllocError, Global};
 use std::mem::replace;
@@ -32,12 +30,13 @@ impl<'a> Context<'a> {
     pub fn enter_planned(
         &mut self,
         alloc: Global,
-        linked: &'a Linked,
         planned: &Planned<'a>,
     ) -> Result<Return<'a>, AllocError>
         ensures there { (a : Application) (k : Text)
             → frame_standing (context_view self.old) ≡ at_keyword k (standing_of a)
-            → Contains (linked_schemas linked.now) (planned_view k a planned.now).1.schema
+            → Contains (linked_schemas (scope_documents self.old.scope).now) a.schema
+            → Contains (linked_schemas (scope_documents self.old.scope).now)
+            (planned_view k a planned.now).1.schema
             → OnOk result (frame_standing (context_view self.new)
             ≡ standing_of (planned_view k a planned.now).1) }
         ensures entered { IfOk result
@@ -48,7 +47,7 @@ impl<'a> Context<'a> {
         let onward = self.onward;
         let instance_location = self.running.instance_location().len();
         let name = self.name;
-        let origin = self.enter_chosen(alloc, linked, planned)?;
+        let origin = self.enter_chosen(alloc, planned)?;
         self.enter_part(planned.part)?;
         Ok(Return {
             path,
@@ -84,13 +83,15 @@ impl<'a> Context<'a> {
     fn enter_chosen(
         &mut self,
         alloc: Global,
-        linked: &'a Linked,
         planned: &Planned<'a>,
     ) -> Result<Option<Rc<Origin<'a>>>, AllocError>
         ensures there { let st = frame_standing (context_view self.old) in
             let p = planned.now in
             let s = schema_on_way st.resource st.pointer p.way (value p.schema.now) in
-            Contains (linked_schemas linked.now) s
+            (parent : Schema)
+            → Contains (linked_schemas (scope_documents self.old.scope).now) parent
+            → parent.resource ≡ st.resource
+            → Contains (linked_schemas (scope_documents self.old.scope).now) s
             → OnOk result (frame_standing (context_view self.new)
             ≡ standing_at (way_view p.way) s st) }
         ensures onward { OnOk result (Onward (context_view self.old) (context_view self.new)) }
@@ -106,7 +107,7 @@ impl<'a> Context<'a> {
             }
             below => {
                 self.enter_step(below.step())?;
-                self.enter_schema(alloc, linked, planned.schema)
+                self.enter_schema(alloc, planned.schema)
             }
         }
     }
@@ -131,12 +132,14 @@ impl<'a> Context<'a> {
     fn enter_schema(
         &mut self,
         alloc: Global,
-        linked: &'a Linked,
         schema: &'a Doc,
     ) -> Result<Option<Rc<Origin<'a>>>, AllocError>
         ensures there { let st = frame_standing (context_view self.old) in
             let s = schema_at st.resource st.pointer (value schema.now) in
-            Contains (linked_schemas linked.now) s
+            (parent : Schema)
+            → Contains (linked_schemas (scope_documents self.old.scope).now) parent
+            → parent.resource ≡ st.resource
+            → Contains (linked_schemas (scope_documents self.old.scope).now) s
             → OnOk result (frame_standing (context_view self.new) ≡ standing_at [] s st) }
         ensures onward { OnOk result (Onward (context_view self.old) (context_view self.new)) }
         ensures left { IfOk result
@@ -146,12 +149,27 @@ impl<'a> Context<'a> {
     {
         match identifier(schema) {
             Some(id) => {
-                let resource = resource_opened(alloc, linked, self.resource(), id)?;
+                let resource = self.resource_opened(alloc, id)?;
                 let origin = Rc::new(alloc, Origin::root(alloc, resource))?;
                 Ok(Some(self.enter_origin(origin)))
             }
             None => Ok(None),
         }
+    }
+
+    // The URI of the resource that a schema opens here by this `$id`.
+    fn resource_opened(&mut self, alloc: Global, id: &str) -> Result<&'a str, AllocError>
+        ensures ok { let around = (frame_standing (context_view self.old)).resource in
+            (parent s : Schema)
+            → Contains (linked_schemas (scope_documents self.old.scope).now) parent
+            → parent.resource ≡ around
+            → Opens (scope_documents self.old.scope).now s around id.now
+            → IfOk result (λ uri. uri.now ≡ s.resource) }
+        ensures same { context_view self.new ≡ context_view self.old }
+        ensures documents { scope_documents self.new.scope ≡ scope_documents self.old.scope }
+    {
+        let around = self.resource();
+        self.scope.resource_opened(alloc, around, id)
     }
 
     // To another origin: the one that was left.
@@ -179,25 +197,5 @@ impl<'a> Context<'a> {
             Part::NameOf(name) => self.name = Some(name.as_str()),
         }
         Ok(())
-    }
-}
-
-// The URI of the resource that a schema opens by this `$id`, where the resource around it has this URI. The only error is
-// want of memory.
-fn resource_opened<'a>(
-    alloc: Global,
-    linked: &'a Linked,
-    around: &str,
-    id: &str,
-) -> Result<&'a str, AllocError>
-    ensures { (s : Schema) → Contains (linked_schemas linked.entry.now) s → s.pointer ≡ []
-        → s.resource ≡ without_fragment (target_uri around.now id.now)
-        → text_at (codes "$id") s.value ≡ Some id.now
-        → IfOk result (λ uri. uri.now ≡ s.resource) }
-{
-    match linked.resource_opened(alloc, around, id) {
-        Ok(uri) => Ok(uri),
-        // Want of memory is the only fault.
-        Err(_) => Err(AllocError),
     }
 }

@@ -53,7 +53,7 @@ planned_at l f k a p s e v known = record {
       at_same (planned_view k a p).1 (frame_standing f) s (subject_value p.subject) e
       (schema_value_planned k a p.way (value p.schema.now) (part_view p.part) (subject_value p.subject) ∙ sym v)
       (instance_planned k a p.way (value p.schema.now) (part_view p.part) (subject_value p.subject));
-  inside = known;
+  inside = known.1;
 }
 
 -- ---- one more

@@ -113,9 +113,11 @@ pub planned_known : (l : Linked) (left : ℕ) (keyword : Keyword) (a : Applicati
 planned_known l left keyword a ps names indexes v inside found same p here =
     let k = (row_of keyword).name in
     let e = planned_view k a p in
-    let there : Contains (map (planned_view k a) ps) e = contains_from_in (map (planned_view k a) ps) e (into_map (planned_view k a) ps p (in_from_contains ps p here)) in
-    applied_schemas_are_known (linked_rules l) (linked_documents l) refl (linked_outcome l left) names indexes a (row_of keyword) v e (row_in keyword) inside found
-    (subst (λ es. Contains es e) same there)
+    let there : Contains (map (planned_view k a) ps) e = contains_from_in (map (planned_view k a) ps) e (into_map (planned_view k a) ps p (in_from_contains ps p here)) in (
+      inside,
+      applied_schemas_are_known (linked_rules l) (linked_documents l) refl (linked_outcome l left) names indexes a (row_of keyword) v e (row_in keyword) inside found
+          (subst (λ es. Contains es e) same there),
+    )
 
 -- ---- one use
 pub use_valid : (b : Bool) (u : Use) → b ≡ u.passes → b ≡ list_all (λ u. u.passes) (u ∷ [])

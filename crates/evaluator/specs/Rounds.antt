@@ -43,8 +43,9 @@ part_outcome l left k a p = let e = planned_view k a p in (e.0, linked_outcome l
 abbrev pub part_outcomes : Linked → ℕ → Text → Application → List Planned → Outcomes
 part_outcomes l left k a ps = map (part_outcome l left k a) ps
 
+-- the application's schema and the one that is planned are the linked documents'
 abbrev pub IsKnown : Linked → Text → Application → Planned → Type 0
-IsKnown l k a p = Contains (linked_schemas l) (planned_view k a p).1.schema
+IsKnown l k a p = Contains (linked_schemas l) a.schema × Contains (linked_schemas l) (planned_view k a p).1.schema
 
 -- ---- what keywords beside said
 pub record Knows (l : Linked) (left : ℕ) (a : Application) (meaning : Meaning) (beside : Beside) : Type 0 where

@@ -352,9 +352,7 @@ impl<'a> Evaluation<'a> {
             (part_outcome self.old.linked.now nesting k a planned.now).1)) }
     {
         let present = Present::of(planned.schema);
-        let back = self
-            .context
-            .enter_planned(self.alloc, self.linked, planned)?;
+        let back = self.context.enter_planned(self.alloc, planned)?;
         match self.apply(&present, planned.subject, nesting) {
             Ok(valid) => {
                 self.context.leave_planned(back);

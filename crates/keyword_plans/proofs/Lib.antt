@@ -17,4 +17,6 @@ pub mod Verdicts
 pub mod SearchedScopes
 pub mod PlaceOrders
 pub mod Enumerating
+pub mod KeptByNumber
 pub mod HeldPatterns
+pub mod KeptResources

@@ -14,3 +14,5 @@ pub mod EnumeratedIn
 pub mod Held
 pub mod SearchedIn
 pub mod NumberedPatterns
+pub mod ComparedIn
+pub mod OpenedResources

@@ -1,6 +1,6 @@
 //! The dynamic scope, and what references name in it.
 
-ghost use Rattle.std.specs.Prelude.{◌≡◌, ◌<◌, ◌≤◌, ◌++◌, [], ◌∷◌, List, IfOk, IfErr, IfSome, OnOk, length, map, option_map, unwrap_or};
+ghost use Rattle.std.specs.Prelude.{◌≡◌, ◌<◌, ◌≤◌, ◌++◌, [], ◌∷◌, Contains, List, IfOk, IfErr, IfSome, OnOk, length, map, option_map, unwrap_or};
 ghost use Rattle.std.specs.List.{All};
 ghost use Rattle.std.proofs.Props.{props};
 ghost use Rattle.definitions.specs.Resolution.{target_uri};
@@ -11,6 +11,7 @@ ghost use Rattle.linker.specs.LinkedDocuments.{linked_schemas};
 ghost use Rattle.linker.specs.declared.linked.Linked.{Linked};
 ghost use Rattle.keyword_plans.specs.Followed.{Refers, followed_in_scope, target_view};
 ghost use Rattle.keyword_plans.specs.FollowedIn.{followed_in};
+ghost use Rattle.keyword_plans.specs.OpenedResources.{Opens};
 ghost use Rattle.keyword_plans.specs.Searched.{IsSearched};
 ghost use Rattle.linker.specs.ValueSets.{value_set};
 
@@ -105,6 +106,23 @@ impl<'a> DynamicScope<'a> {
         if self.uris.pop().is_some() {
             cut(self.searched.as_mut_slice(), self.uris.len());
         }
+    }
+
+    /// The URI of the resource that a schema of the documents opens by this `$id` (section 8.2.1), where the resource around it, which
+    /// is one of theirs, has this URI. The only error is want of memory. Of other texts it answers some text.
+    pub fn resource_opened(
+        &mut self,
+        alloc: Global,
+        around: &str,
+        id: &str,
+    ) -> Result<&'a str, AllocError>
+        ensures ok { (p s : Schema) → Contains (linked_schemas (scope_documents self.old).now) p
+            → p.resource ≡ around.now → Opens (scope_documents self.old).now s around.now id.now
+            → IfOk result (λ uri. uri.now ≡ s.resource) }
+        ensures uris { scope_uris self.new ≡ scope_uris self.old }
+        ensures documents { scope_documents self.new ≡ scope_documents self.old }
+    {
+        self.references.opened(alloc, around, id)
     }
 
     /// The schema that a reference of the documents' schemas names (section 8.2.3): the reference's text, and the URI of the resource that it stands in.

@@ -1,6 +1,6 @@
 //! What the references that were followed last name.
 
-ghost use Rattle.std.specs.Prelude.{◌≡◌, ◌<◌, List, Some, IfOk, IfErr, IfSome, option_map};
+ghost use Rattle.std.specs.Prelude.{◌≡◌, ◌<◌, Contains, List, Some, IfOk, IfErr, IfSome, option_map};
 ghost use Rattle.std.specs.List.{All};
 ghost use Rattle.std.proofs.Props.{props};
 ghost use Rattle.definitions.specs.Resolution.{target_uri};
@@ -9,9 +9,11 @@ ghost use Rattle.definitions.specs.Targets.{target};
 ghost use Rattle.definitions.specs.Values.{Text};
 ghost use Rattle.linker.specs.LinkedDocuments.{linked_schemas};
 ghost use Rattle.linker.specs.ReferenceNumbers.{reference_pair};
+ghost use Rattle.keyword_plans.specs.ComparedIn.{compared_in};
 ghost use Rattle.keyword_plans.specs.Followed.{AreFollowed, IsFollowed, IsNamed, Refers, target_view};
 ghost use Rattle.linker.specs.ValueSets.{value_set};
 
+use crate::compared_resources::ComparedResources;
 use crate::target::Target;
 use linker::{Linked, ReferenceNumber};
 use std::alloc::{AllocError, Global};
@@ -50,12 +52,15 @@ pub struct FollowedReferences<'a> {
     linked: &'a Linked,
     short: Vec<Option<FollowedReference<'a>>>,
     long: BTreeMap<(usize, usize, usize), FollowedReference<'a>>,
+    resources: ComparedResources<'a>,
+    ghost same: { compared_in resources ≡ linked } by { Prim.hlevel (props, value_set) },
     ghost short_right: { All (λ o. IfSome o (IsFollowed linked.now)) short.items } by { Prim.hlevel (props, value_set) },
     ghost long_right: { AreFollowed linked.now long } by { Prim.hlevel (props, value_set) },
 }
 
 impl<'a> FollowedReferences<'a> {
     ghost use Rattle.keyword_plans.specs.FollowedIn.{followed_in};
+    ghost use Rattle.keyword_plans.specs.OpenedResources.{Opens};
 
     /// None yet. This takes no memory.
     pub fn new(alloc: Global, linked: &'a Linked) -> FollowedReferences<'a>
@@ -65,6 +70,7 @@ impl<'a> FollowedReferences<'a> {
             linked,
             short: Vec::new(alloc),
             long: BTreeMap::new(alloc),
+            resources: ComparedResources::new(linked),
         }
     }
 
@@ -102,10 +108,49 @@ impl<'a> FollowedReferences<'a> {
             (target_uri resource.now reference.now) n) }
         ensures linked { followed_in self.new ≡ followed_in self.old }
     {
-        match self.linked.reference_number(resource, reference) {
+        match self.number(alloc, resource, reference)? {
             Some(number) => self.numbered(alloc, number),
             // Never: some schema has the reference.
             None => named_first(alloc, self.linked, resource, reference),
+        }
+    }
+
+    // The number of a reference of theirs.
+    #[inline(always)]
+    fn number(
+        &mut self,
+        alloc: Global,
+        resource: &str,
+        reference: &str,
+    ) -> Result<Option<ReferenceNumber>, AllocError>
+        ensures ok { (s : Schema)
+            → Refers (followed_in self.old).now s resource.now reference.now
+            → IfOk result (λ n. IfSome n (λ n. reference_pair (followed_in self.old).now n
+            ≡ Some (resource.now, reference.now))) }
+        ensures linked { followed_in self.new ≡ followed_in self.old }
+    {
+        match self.resources.document(alloc, resource)? {
+            Some(document) => Ok(self.linked.reference_number(document, resource, reference)),
+            None => Ok(None),
+        }
+    }
+
+    /// The URI of the resource that a schema of the documents opens by this `$id`, where the resource around it has this URI (section
+    /// 8.2.1). The only error is want of memory. Of texts that open no resource of theirs it answers some text.
+    pub(crate) fn opened(
+        &mut self,
+        alloc: Global,
+        around: &str,
+        id: &str,
+    ) -> Result<&'a str, AllocError>
+        ensures ok { (p s : Schema) → Contains (linked_schemas (followed_in self.old).now) p
+            → p.resource ≡ around.now → Opens (followed_in self.old).now s around.now id.now
+            → IfOk result (λ uri. uri.now ≡ s.resource) }
+        ensures linked { followed_in self.new ≡ followed_in self.old }
+    {
+        match self.linked.resource_identified(id) {
+            Some(uri) => Ok(uri),
+            None => self.resources.opened(alloc, around, id),
         }
     }
 

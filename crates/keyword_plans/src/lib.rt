@@ -2,10 +2,12 @@
 #![tactic(auto)]
 
 mod annotating;
+mod compared_resources;
 mod dynamic_scope;
 mod enumerations;
 mod followed_references;
 mod numbered_pattern;
+mod numbered_resources;
 mod places;
 mod plan_memory;
 mod planned;

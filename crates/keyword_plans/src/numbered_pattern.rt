@@ -6,10 +6,11 @@ ghost use Rattle.definitions.specs.Schemas.{Schema};
 ghost use Rattle.json_doc.specs.Docs.{members_value};
 ghost use Rattle.keyword_plans.specs.Applications.{ArePatternsOf};
 ghost use Rattle.keyword_plans.specs.NumberedPatterns.{IsNumbered, numbered_view};
-ghost use Rattle.linker.specs.declared.linked.Linked.{Linked};
+ghost use Rattle.keyword_plans.specs.SearchedIn.{searched_in};
 
+use crate::searches::Searches;
 use json_doc::{Doc, Members, Name};
-use linker::{Linked, PatternNumber};
+use linker::PatternNumber;
 use std::alloc::AllocError;
 
 /// A pattern, the schema under it, and the number by which it is searched for.
@@ -26,20 +27,21 @@ pub(crate) struct NumberedPattern<'a> {
 /// the documents' resource with this URI. The only error is want of memory.
 pub(crate) fn push_numbered<'a>(
     numbered: &mut Vec<NumberedPattern<'a>>,
-    linked: &Linked,
+    searches: &mut Searches<'a>,
     resource: &str,
     patterns: &'a Members,
 ) -> Result<(), AllocError>
     requires { numbered.old.items ≡ [] }
     ensures patterns { (s : Schema)
-        → ArePatternsOf linked.now resource.now s (members_value patterns.now)
+        → ArePatternsOf (searched_in searches.old).now resource.now s (members_value patterns.now)
         → OnOk result (map numbered_view numbered.new.items ≡ members_value patterns.now) }
     ensures numbers { (s : Schema)
-        → ArePatternsOf linked.now resource.now s (members_value patterns.now)
-        → OnOk result (All (IsNumbered linked.now) numbered.new.items) }
+        → ArePatternsOf (searched_in searches.old).now resource.now s (members_value patterns.now)
+        → OnOk result (All (IsNumbered (searched_in searches.old).now) numbered.new.items) }
+    ensures searched { searched_in searches.new ≡ searched_in searches.old }
 {
     for (pattern, schema) in patterns.iter().named() {
-        match linked.pattern_number(resource, pattern.as_str()) {
+        match searches.number(resource, pattern.as_str())? {
             Some(number) => numbered.push(NumberedPattern {
                 pattern,
                 schema,

@@ -1,6 +1,6 @@
 //! Searches for the patterns of linked documents.
 
-ghost use Rattle.std.specs.Prelude.{◌≡◌, Some, Contains, IfOk, IfSome};
+ghost use Rattle.std.specs.Prelude.{◌≡◌, Some, Contains, IfOk, IfSome, IsTrue, is_some};
 ghost use Rattle.std.proofs.Props.{props};
 ghost use Rattle.definitions.specs.Patterns.{has_match};
 ghost use Rattle.definitions.specs.Schemas.{Schema};
@@ -10,10 +10,13 @@ ghost use Rattle.linker.specs.LinkedDocuments.{linked_schemas};
 ghost use Rattle.linker.specs.PatternNumbers.{pattern_text};
 ghost use Rattle.linker.specs.declared.linked.Linked.{Linked};
 ghost use Rattle.json_doc.specs.NamedMembers.{name_text};
+ghost use Rattle.keyword_plans.specs.ComparedIn.{compared_in};
+ghost use Rattle.linker.specs.ValueSets.{value_set};
 ghost use Rattle.keyword_plans.specs.Held.{AreHeld, IsHeld, number_of};
 ghost use Rattle.keyword_plans.specs.NumberedPatterns.{IsNumbered};
 ghost use Rattle.patterns.specs.HeldPatterns.{held_text};
 
+use crate::compared_resources::ComparedResources;
 use crate::numbered_pattern::NumberedPattern;
 use linker::{Linked, PatternNumber};
 use patterns::HeldPattern;
@@ -35,7 +38,9 @@ pub struct Searches<'a> {
     held: BTreeMap<(usize, usize), HeldPattern<'a>>,
     /// Memory for patterns with their numbers.
     numbered: Vec<NumberedPattern<'a>>,
+    resources: ComparedResources<'a>,
     ghost right: { AreHeld linked.now held } by { Prim.hlevel props },
+    ghost same: { compared_in resources ≡ linked } by { Prim.hlevel (props, value_set) },
 }
 
 impl<'a> Searches<'a> {
@@ -51,14 +56,8 @@ impl<'a> Searches<'a> {
             linked,
             held: BTreeMap::new(alloc),
             numbered: Vec::new(alloc),
+            resources: ComparedResources::new(linked),
         }
-    }
-
-    /// The documents that the patterns stand in.
-    pub(crate) fn linked(&self) -> &'a Linked
-        ensures { result ≡ searched_in self.now }
-    {
-        self.linked
     }
 
     /// Memory for patterns with their numbers, to be given back.
@@ -116,11 +115,32 @@ impl<'a> Searches<'a> {
             → IfOk result (λ found. found ≡ has_match pattern.now text.now) }
         ensures linked { searched_in self.new ≡ searched_in self.old }
     {
-        match self.linked.pattern_number(resource, pattern) {
+        match self.number(resource, pattern)? {
             Some(number) if pattern.len() > SHORT => self.numbered(number, text),
             Some(number) => is_numbered_match(self.alloc, self.linked, number, text),
             // Never: a schema of the resource has the pattern.
             None => Ok(false),
+        }
+    }
+
+    /// The number of a pattern of a schema of the documents' resource with this URI. The only error is want of memory.
+    #[inline(always)]
+    pub(crate) fn number(
+        &mut self,
+        resource: &str,
+        pattern: &str,
+    ) -> Result<Option<PatternNumber>, AllocError>
+        ensures text { (s : Schema) → Contains (linked_schemas (searched_in self.old).now) s
+            → s.resource ≡ resource.now → Contains (patterns_of s) pattern.now
+            → IfOk result (λ n. IfSome n
+            (λ n. pattern_text (searched_in self.old).now n ≡ Some pattern.now)) }
+        ensures there { (s : Schema) → Contains (linked_schemas (searched_in self.old).now) s
+            → s.resource ≡ resource.now → IfOk result (λ n. IsTrue (is_some n)) }
+        ensures linked { searched_in self.new ≡ searched_in self.old }
+    {
+        match self.resources.document(self.alloc, resource)? {
+            Some(document) => Ok(self.linked.pattern_number(document, pattern)),
+            None => Ok(None),
         }
     }
 

@@ -19,3 +19,4 @@ pub mod Distinct
 pub mod StandingSchemas
 pub mod HeldResources
 pub mod NumberedResources
+pub mod ToldTexts

@@ -14,3 +14,5 @@ pub mod ReferenceNumbers
 pub mod PatternNumbers
 pub mod CompoundDocuments
 pub mod ValueSets
+pub mod DocumentTexts
+pub mod NumberedTexts

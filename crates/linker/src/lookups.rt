@@ -117,8 +117,9 @@ impl Linked {
         self.target_by(alloc, resource, &FragmentKind::Pointer(pointer))
     }
 
-    /// The URI of the resource that a schema opens by this `$id`, where the resource around it has this URI (section 8.2.1).
-    /// The only error is want of memory. Of texts that open no resource of these documents it answers some text.
+    /// The URI of the resource that a schema opens by this `$id`, where the resource around it has this URI (section 8.2.1): both
+    /// are compared with what was read. The only error is want of memory. Of texts that open no resource of these documents it
+    /// answers some text.
     pub fn resource_opened(&self, alloc: Global, around: &str, id: &str) -> Result<&str, Fault>
         ensures ok { (s : Schema) → Contains (linked_schemas self.now) s → s.pointer ≡ []
             → s.resource ≡ without_fragment (target_uri around.now id.now)
@@ -126,9 +127,6 @@ impl Linked {
             → IfOk result (λ uri. uri.now ≡ s.resource) }
         ensures err { IfErr result (λ f. f ≡ Fault.NoRoom) }
     {
-        if let Some(uri) = self.resource_identified(id) {
-            return Ok(uri);
-        }
         if let Some(read) = self.absolute_reference(around, id) {
             return Ok(read.uri.as_str());
         }

@@ -3,8 +3,8 @@
 ghost use Rattle.std.specs.Prelude.{◌≡◌, Contains, IfSome, IsTrue, Some, is_some, option_map};
 ghost use Rattle.definitions.specs.Schemas.{Schema};
 ghost use Rattle.definitions.specs.Searches.{patterns_of};
-ghost use Rattle.linker.specs.LinkedDocuments.{linked_schemas};
 ghost use Rattle.linker.specs.PatternNumbers.{pattern_text};
+ghost use Rattle.linker.specs.ReferenceNumbers.{StandsIn, document_at};
 
 use crate::linked::Linked;
 use patterns::Pattern;
@@ -28,20 +28,18 @@ impl PatternNumber {
 }
 
 impl Linked {
-    /// The number of the pattern with this text that a schema of the resource with this URI has. It is told by the bytes in which
-    /// the patterns of its document differ: of another text it is some number, or nothing.
-    pub fn pattern_number(&self, resource: &str, text: &str) -> Option<PatternNumber>
-        ensures text { (s : Schema) → Contains (linked_schemas self.now) s
-            → s.resource ≡ resource.now → Contains (patterns_of s) text.now
+    /// The number of the pattern with this text that a schema of the document of this number has. It is told by the bytes in which
+    /// the document's patterns differ: of another text it is some number, or nothing.
+    pub fn pattern_number(&self, document: usize, text: &str) -> Option<PatternNumber>
+        ensures text { (s : Schema) → StandsIn self.now s document
+            → Contains (patterns_of s) text.now
             → IfSome result (λ n. pattern_text self.now n ≡ Some text.now) }
-        ensures there { (s : Schema) → Contains (linked_schemas self.now) s
-            → s.resource ≡ resource.now → IsTrue (is_some result) }
+        ensures there { IsTrue (is_some (document_at self.now document)) → IsTrue (is_some result) }
     {
-        let number = self.document_number(resource)?;
-        let document = self.document(number)?;
+        let compiled = self.document(document)?;
         Some(PatternNumber {
-            document: number,
-            pattern: document.pattern_number(text),
+            document,
+            pattern: compiled.pattern_number(text),
         })
     }
 

@@ -1,10 +1,11 @@
 //! References of linked documents by number.
 
-ghost use Rattle.std.specs.Prelude.{◌≡◌, [], Contains, IfSome, IsTrue, Some, codes, is_some, option_and_then, option_map, slice_get, true};
+ghost use Rattle.std.specs.Prelude.{◌≡◌, [], Contains, IfSome, IsTrue, Some, codes, find, is_some, option_and_then, option_map, slice_get, true};
+ghost use Rattle.definitions.specs.Reach.{holds_resource};
 ghost use Rattle.definitions.specs.Scanning.{resource_uris};
 ghost use Rattle.definitions.specs.Schemas.{Schema};
 ghost use Rattle.definitions.specs.Values.{text_at};
-ghost use Rattle.linker.specs.LinkedDocuments.{linked_schemas};
+ghost use Rattle.linker.specs.LinkedDocuments.{linked_documents, linked_schemas};
 ghost use Rattle.linker.specs.ReferenceNumbers.{StandsIn, document_at, pair_in, reference_pair};
 ghost use Rattle.schema_index.specs.ReferenceTexts.{HasReference};
 ghost use Rattle.schema_scan.specs.CompiledDocuments.{compiled_schemas};
@@ -51,20 +52,46 @@ impl ReferenceNumber {
 }
 
 impl Linked {
-    /// The number of a reference of the documents' schemas: its text, and the URI of the resource that it stands in. Both are
-    /// told by the bytes in which they differ from others, where one document is linked, and else the URI is compared: of a
-    /// reference that no schema has it answers nothing, or some number. It takes no memory.
-    pub fn reference_number(&self, resource: &str, reference: &str) -> Option<ReferenceNumber>
-        ensures { (s : Schema) → Contains (linked_schemas self.now) s → s.resource ≡ resource.now
+    /// The number of the only document, where one is linked.
+    #[inline(always)]
+    pub fn only_number(&self) -> Option<usize>
+        ensures stands { (s : Schema) → Contains (linked_schemas self.now) s
+            → IfSome result (StandsIn self.now s) }
+        ensures there { IfSome result (λ n. IsTrue (is_some (document_at self.now n))) }
+    {
+        if self.documents.as_slice().len() == 1 {
+            Some(0)
+        } else {
+            None
+        }
+    }
+
+    /// The number of the document that has a resource with this URI, which is compared with those of the documents.
+    pub fn document_number(&self, uri: &str) -> Option<usize>
+        ensures { option_and_then (slice_get (linked_documents self.now)) result
+            ≡ find (holds_resource uri.now) (linked_documents self.now) }
+    {
+        holder_number(self.documents.as_slice(), &self.compound, uri)
+    }
+
+    /// The number of a reference of the document's schemas: its text, and the URI of the resource that it stands in. Both are told
+    /// by the bytes in which they differ from others of the document: of a reference that no schema of it has it answers nothing, or
+    /// some number. It takes no memory.
+    pub fn reference_number(
+        &self,
+        document: usize,
+        resource: &str,
+        reference: &str,
+    ) -> Option<ReferenceNumber>
+        ensures { (s : Schema) → StandsIn self.now s document → s.resource ≡ resource.now
             → HasReference s reference.now
             → IfSome result (λ n. reference_pair self.now n ≡ Some (resource.now, reference.now)) }
     {
-        let number = self.document_number(resource)?;
-        let document = self.document(number)?;
+        let compiled = self.document(document)?;
         Some(ReferenceNumber {
-            document: number,
-            resource: document.resource_number(resource),
-            text: document.reference_number(reference),
+            document,
+            resource: compiled.resource_number(resource),
+            text: compiled.reference_number(reference),
         })
     }
 
@@ -81,7 +108,7 @@ impl Linked {
 
     /// The URI of the resource that a schema with this `$id` opens, where one document is linked, and the `$id` is told from all
     /// others by the bytes in which they differ.
-    pub(crate) fn resource_identified(&self, id: &str) -> Option<&str>
+    pub fn resource_identified(&self, id: &str) -> Option<&str>
         ensures { (s : Schema) → Contains (linked_schemas self.now) s → s.pointer ≡ []
             → text_at (codes "$id") s.value ≡ Some id.now
             → IfSome result (λ uri. uri.now ≡ s.resource) }
@@ -90,22 +117,6 @@ impl Linked {
             return None;
         }
         self.document(0)?.resource_identified(id)
-    }
-
-    // The number of the document that the schemas of the resource with this URI stand in.
-    #[inline(always)]
-    pub(crate) fn document_number(&self, uri: &str) -> Option<usize>
-        ensures stands { (s : Schema) → Contains (linked_schemas self.now) s
-            → s.resource ≡ uri.now → IfSome result (StandsIn self.now s) }
-        ensures there { (s : Schema) → Contains (linked_schemas self.now) s
-            → s.resource ≡ uri.now
-            → IsTrue (is_some (option_and_then (document_at self.now) result)) }
-    {
-        let documents = self.documents.as_slice();
-        if documents.len() == 1 {
-            return Some(0);
-        }
-        holder_number(documents, &self.compound, uri)
     }
 
     // The document of this number.

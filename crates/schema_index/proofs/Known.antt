@@ -1,9 +1,11 @@
 -- What stands in a document has its number there.
-use Rattle.std.proofs.Common.{◌≡◌, ◌⊎◌, ◌++◌, ℕ, List, [], ◌∷◌, Option, Some, None, Contains, codes, filter, map, option_map, unwrap_or, sym, ap, ◌∙◌, subst, inl, inr, true, find}
+use Rattle.std.proofs.Common.{◌≡◌, ◌⊎◌, ◌++◌, ℕ, List, [], ◌∷◌, Option, Some, None, Contains, codes, filter, map, option_map, unwrap_or, sym, ap, ◌∙◌, subst, inl, inr, true, find, length}
+use Rattle.std.proofs.lemmas.List.{length-map}
 use Rattle.std.proofs.lemmas.Option.{slice_get-get_or, slice_get-map}
 use Rattle.std.specs.List.{flat_map, slice_get}
 use Rattle.definitions.specs.Lists.{option_list}
 use Rattle.definitions.specs.Reach.{holds_resource}
+use Rattle.definitions.specs.Scanning.{resource_uris}
 use Rattle.definitions.specs.Schemas.{Schema}
 use Rattle.definitions.specs.Values.{Text, Value, same_text, text_at}
 use Rattle.definition_laws.proofs.Membership.{found_there, in_filter, is_first, is_later}
@@ -11,13 +13,13 @@ use Rattle.definition_laws.proofs.Occurrences.{IsIn, contains_from_in, in_from_c
 use Rattle.definition_laws.proofs.Repeats.{in_flat_map}
 use Rattle.definition_laws.proofs.Roots.{pointer_root}
 use Rattle.schema_index.specs.Gathering.{gathered_identifiers, gathered_uris, identifier_at, spot_texts, texts_at}
-use Rattle.schema_index.specs.IndexedDocuments.{indexed_base, indexed_value, indexed_schemas, indexed_texts, indexed_view}
+use Rattle.schema_index.specs.IndexedDocuments.{indexed_base, indexed_identifiers, indexed_value, indexed_schemas, indexed_texts, indexed_view}
 use Rattle.schema_index.specs.ReferenceTexts.{HasReference}
 use Rattle.schema_index.specs.Spots.{Spot, at_root, spot_view}
 use Rattle.schema_index.specs.declared.indexed.Indexed.{Indexed}
 use Rattle.schema_index.proofs.Indexing.{standing}
 use Rattle.schema_index.proofs.Standing.{schemas_of-spots}
-use Rattle.schema_index.proofs.Owned.{owned-held}
+use Rattle.schema_index.proofs.Owned.{owned-held, owned-uris}
 use Rattle.schema_index.proofs.Tables.{is_root-spot, uri-found}
 use Rattle.lemmas.proofs.Options.{some_from_is_some}
 use Rattle.text_numbers.specs.TextNumbers.{AreNumbers, is_only, text_number}
@@ -92,3 +94,17 @@ module _ (d : Indexed) (s : Schema) (id : Text) (inside : Contains (indexed_sche
   identified-only numbers only =
       let there = identified-there in
       ap (slice_get (gathered_uris d.gathered)) (sym (numbers.only id there.0 there.1 only)) ∙ there.2
+
+-- ---- the `$id`s beside the resources' URIs
+pub identified-at : (d : Indexed) (s : Schema) (id : Text) → Contains (indexed_schemas d) s → s.pointer ≡ [] → text_at (codes "$id") s.value ≡ Some id
+    → (i : ℕ) × (slice_get (indexed_identifiers d) i ≡ Some id) × (slice_get (resource_uris (indexed_schemas d)) i ≡ Some s.resource)
+unfolding indexed_identifiers
+identified-at d s id inside root has =
+    let there = identified-there d s id inside root has in (there.0, there.1, ap (λ us. slice_get us there.0) (sym (owned-uris d)) ∙ there.2)
+
+pub as-many-identifiers : (d : Indexed) → length (indexed_identifiers d) ≡ length (resource_uris (indexed_schemas d))
+unfolding indexed_identifiers indexed_base indexed_value
+as-many-identifiers d =
+    let roots = filter at_root (standing (indexed_base d) (indexed_value d)) in
+    ap length d.of_document.identifiers ∙ length-map roots (λ (q : Spot). identifier_at q.value)
+    ∙ sym (length-map roots (λ (q : Spot). q.resource)) ∙ ap length (sym d.of_document.uris ∙ owned-uris d)

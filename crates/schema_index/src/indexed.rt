@@ -69,7 +69,7 @@ pub struct Indexed {
 }
 
 impl Indexed {
-    ghost use Rattle.schema_index.specs.IndexedDocuments.{indexed_base, indexed_value, indexed_schemas, indexed_texts, indexed_view};
+    ghost use Rattle.schema_index.specs.IndexedDocuments.{indexed_base, indexed_identifiers, indexed_value, indexed_schemas, indexed_texts, indexed_view};
 
     /// Makes the index of a copy of the document, which stands under this base. The only error is want of memory.
     pub fn of(alloc: Global, base: String, document: &Doc) -> Result<Indexed, Fault>
@@ -131,6 +131,14 @@ impl Indexed {
         ensures { map string_bytes result.now ≡ resource_uris (indexed_schemas self.now) }
     {
         self.gathered.uris.as_slice()
+    }
+
+    /// The `$id` of each resource's root, or no text where it has none, in the order of [`resource_uris`](Self::resource_uris).
+    #[tactic(auto, unfolding(crate::specs::IndexedDocuments::indexed_identifiers, crate::specs::Gathering::gathered_identifiers))]
+    pub fn identifiers(&self) -> &[String]
+        ensures { map string_bytes result.now ≡ indexed_identifiers self.now }
+    {
+        self.gathered.identifiers.as_slice()
     }
 
     /// The absolute references of its schemas, in the order of a walk; some may stand more than once.

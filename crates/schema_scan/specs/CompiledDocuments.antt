@@ -2,7 +2,7 @@
 use Rattle.std.specs.Prelude.{List}
 use Rattle.definitions.specs.Values.{Text, Value}
 use Rattle.definitions.specs.Schemas.{Schema, Document, document_from, schemas_of}
-use Rattle.schema_index.specs.IndexedDocuments.{indexed_base, indexed_texts, indexed_value}
+use Rattle.schema_index.specs.IndexedDocuments.{indexed_base, indexed_identifiers, indexed_texts, indexed_value}
 use Rattle.schema_scan.specs.PatternTables.{table_texts}
 use Rattle.schema_scan.specs.declared.compiled.Compiled.{Compiled}
 
@@ -19,6 +19,10 @@ compiled_schemas c = schemas_of (compiled_base c) (compiled_value c)
 -- the texts of its schemas' references, in the order of a walk
 abbrev pub compiled_texts : Compiled → List Text
 compiled_texts c = indexed_texts c.indexed
+
+-- the `$id` of each resource's root, or no text, in the order of a walk
+abbrev pub compiled_identifiers : Compiled → List Text
+compiled_identifiers c = indexed_identifiers c.indexed
 
 -- the texts of its patterns, by number
 abbrev pub compiled_patterns : Compiled → List Text

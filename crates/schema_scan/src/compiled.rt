@@ -41,7 +41,7 @@ pub struct Compiled {
 }
 
 impl Compiled {
-    ghost use Rattle.schema_scan.specs.CompiledDocuments.{compiled_base, compiled_patterns, compiled_value, compiled_schemas, compiled_texts, compiled_view};
+    ghost use Rattle.schema_scan.specs.CompiledDocuments.{compiled_base, compiled_identifiers, compiled_patterns, compiled_value, compiled_schemas, compiled_texts, compiled_view};
 
     /// The text of the base that the document stands under.
     pub fn base(&self) -> &str
@@ -64,6 +64,13 @@ impl Compiled {
         ensures { map string_bytes result.now ≡ resource_uris (compiled_schemas self.now) }
     {
         self.indexed.resource_uris()
+    }
+
+    /// The `$id` of each resource's root, or no text where it has none, in the order of [`resource_uris`](Self::resource_uris).
+    pub fn identifiers(&self) -> &[String]
+        ensures { map string_bytes result.now ≡ compiled_identifiers self.now }
+    {
+        self.indexed.identifiers()
     }
 
     /// The absolute references of its schemas, in the order of a walk; some may stand more than once.

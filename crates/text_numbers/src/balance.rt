@@ -8,7 +8,7 @@ const VALUES: usize = 257;
 
 /// A bound below which about half of the texts of these numbers are at the position, as far as their values there let it. Where
 /// half of them have the same value, it divides that one from those on one side of it.
-pub(crate) fn balanced(texts: &[String], numbers: &[usize], position: usize) -> u16 {
+pub(crate) fn balanced(texts: &[&str], numbers: &[usize], position: usize) -> u16 {
     let counts = counts_at(texts, numbers, position);
     let half = numbers.len() / 2;
     let mut below: usize = 0;
@@ -23,7 +23,7 @@ pub(crate) fn balanced(texts: &[String], numbers: &[usize], position: usize) -> 
 }
 
 // How many of the texts have each value at the position.
-fn counts_at(texts: &[String], numbers: &[usize], position: usize) -> [usize; VALUES] {
+fn counts_at(texts: &[&str], numbers: &[usize], position: usize) -> [usize; VALUES] {
     let mut counts: [usize; VALUES] = [0; VALUES];
     for number in numbers {
         let value = value_of(texts, position, *number);

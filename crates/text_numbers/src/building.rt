@@ -1,6 +1,6 @@
 //! The tree of texts.
 
-ghost use Rattle.std.specs.Prelude.{◌≡◌, IfOk, filter, map, not, string_bytes};
+ghost use Rattle.std.specs.Prelude.{◌≡◌, IfOk, filter, map, not};
 ghost use Rattle.std.specs.List.{range_with_len};
 ghost use Rattle.text_numbers.specs.Places.{AreAlike, is_below, is_rest, is_side};
 ghost use Rattle.text_numbers.specs.Trees.{Tells, leaf_of, only_leaf};
@@ -43,13 +43,13 @@ pub(crate) fn all_numbers(alloc: Global, end: usize) -> Result<Vec<usize>, Alloc
 /// the logarithm of the count of numbers.
 pub(crate) fn built(
     alloc: Global,
-    texts: &[String],
+    texts: &[&str],
     numbers: Vec<usize>,
     from: usize,
 ) -> Result<Tree, AllocError>
-    requires { AreAlike (map string_bytes texts.now) numbers.items from }
+    requires { AreAlike (map (λ t. t.now) texts.now) numbers.items from }
     ensures { IfOk result
-        (λ tree. Tells (leaf_of tree) (map string_bytes texts.now) numbers.items) }
+        (λ tree. Tells (leaf_of tree) (map (λ t. t.now) texts.now) numbers.items) }
 {
     let mut turns = Vec::new(alloc);
     let mut asides = Vec::new(alloc);
@@ -90,15 +90,15 @@ fn only_leaf(numbers: &[usize]) -> Leaf
 // The numbers of the texts on both sides, the smaller one aside.
 fn divide(
     alloc: Global,
-    texts: &[String],
+    texts: &[&str],
     numbers: Vec<usize>,
     at: Division,
 ) -> Result<Divided, AllocError>
     ensures aside { IfOk result (λ divided. divided.aside.items
-        ≡ filter (is_side (map string_bytes texts.now) at.position at.bound divided.is_below)
+        ≡ filter (is_side (map (λ t. t.now) texts.now) at.position at.bound divided.is_below)
         numbers.items) }
     ensures ahead { IfOk result (λ divided. divided.ahead.items
-        ≡ filter (is_side (map string_bytes texts.now) at.position at.bound (not divided.is_below))
+        ≡ filter (is_side (map (λ t. t.now) texts.now) at.position at.bound (not divided.is_below))
         numbers.items) }
 {
     let Sides { below, rest } = both_sides(alloc, texts, numbers, at)?;
@@ -120,14 +120,14 @@ fn divide(
 // The numbers of the texts that have less than the bound at the position, and the rest.
 fn both_sides(
     alloc: Global,
-    texts: &[String],
+    texts: &[&str],
     numbers: Vec<usize>,
     at: Division,
 ) -> Result<Sides, AllocError>
     ensures below { IfOk result (λ sides. sides.below.items
-        ≡ filter (is_below (map string_bytes texts.now) at.position at.bound) numbers.items) }
+        ≡ filter (is_below (map (λ t. t.now) texts.now) at.position at.bound) numbers.items) }
     ensures rest { IfOk result (λ sides. sides.rest.items
-        ≡ filter (is_rest (map string_bytes texts.now) at.position at.bound) numbers.items) }
+        ≡ filter (is_rest (map (λ t. t.now) texts.now) at.position at.bound) numbers.items) }
 {
     let mut below = Vec::new(alloc);
     let mut rest = Vec::new(alloc);

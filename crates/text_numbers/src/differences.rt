@@ -1,6 +1,6 @@
 //! Where texts differ.
 
-ghost use Rattle.std.specs.Prelude.{◌≡◌, ◌<◌, ◌+◌, ℕ, true, false, IfNone, IfSome, Some, length, map, nat_lt, slice_get, string_bytes};
+ghost use Rattle.std.specs.Prelude.{◌≡◌, ◌<◌, ◌+◌, ℕ, true, false, IfNone, IfSome, Some, length, map, nat_lt, slice_get};
 ghost use Rattle.std.specs.List.{list_all, list_any};
 ghost use Rattle.definitions.specs.Values.{Text};
 ghost use Rattle.text_numbers.specs.Places.{AgreeAt, AreAlike, AreSame, Divides, has_value, is_above, is_below, is_rest};
@@ -20,11 +20,11 @@ pub(crate) struct Division {
 
 /// The first position at which the texts of these numbers don't agree, where they are not the same text. Before the given
 /// position they agree.
-pub(crate) fn difference(texts: &[String], numbers: &[usize], from: usize) -> Option<Division>
-    requires { AreAlike (map string_bytes texts.now) numbers.now from }
+pub(crate) fn difference(texts: &[&str], numbers: &[usize], from: usize) -> Option<Division>
+    requires { AreAlike (map (λ t. t.now) texts.now) numbers.now from }
     ensures parts { IfSome result
-        (λ d. Divides (map string_bytes texts.now) numbers.now d.position d.bound) }
-    ensures same { IfNone result (AreSame (map string_bytes texts.now) numbers.now) }
+        (λ d. Divides (map (λ t. t.now) texts.now) numbers.now d.position d.bound) }
+    ensures same { IfNone result (AreSame (map (λ t. t.now) texts.now) numbers.now) }
 {
     if numbers.len() < 2 {
         return None;
@@ -38,28 +38,35 @@ pub(crate) fn difference(texts: &[String], numbers: &[usize], from: usize) -> Op
 }
 
 // One more than the length of the first text.
-fn first_end(texts: &[String], numbers: &[usize]) -> usize
+fn first_end(texts: &[&str], numbers: &[usize]) -> usize
     ensures { (number : ℕ) (text : Text) → slice_get numbers.now 0 ≡ Some number
-        → slice_get (map string_bytes texts.now) number ≡ Some text
+        → slice_get (map (λ t. t.now) texts.now) number ≡ Some text
         → result ≡ length text + 1 }
 {
     match numbers.first() {
         Some(number) => match texts.get(*number) {
-            Some(text) => text.len() + 1,
+            Some(text) => end_of(text),
             None => 0,
         },
         None => 0,
     }
 }
 
+// One more than the length of the text.
+fn end_of(text: &str) -> usize
+    ensures { result ≡ length text.now + 1 }
+{
+    text.len() + 1
+}
+
 // A bound that divides the texts of these numbers at the position, where they don't agree there. Of many texts it leaves about
 // as many on both sides as it can, so that a part has three quarters of them at most, or those of one value alone.
-fn bound_at(texts: &[String], numbers: &[usize], position: usize) -> Option<u16>
+fn bound_at(texts: &[&str], numbers: &[usize], position: usize) -> Option<u16>
     ensures below { IfSome result (λ bound.
-        list_any (is_below (map string_bytes texts.now) position bound) numbers.now ≡ true) }
+        list_any (is_below (map (λ t. t.now) texts.now) position bound) numbers.now ≡ true) }
     ensures rest { IfSome result (λ bound.
-        list_any (is_rest (map string_bytes texts.now) position bound) numbers.now ≡ true) }
-    ensures agree { IfNone result (AgreeAt (map string_bytes texts.now) numbers.now position) }
+        list_any (is_rest (map (λ t. t.now) texts.now) position bound) numbers.now ≡ true) }
+    ensures agree { IfNone result (AgreeAt (map (λ t. t.now) texts.now) numbers.now position) }
 {
     let bound = middle_bound(texts, numbers, position)?;
     if numbers.len() < MANY {
@@ -74,12 +81,12 @@ fn bound_at(texts: &[String], numbers: &[usize], position: usize) -> Option<u16>
 }
 
 // The same, of few texts: what the middle one has, where another has less, and otherwise the next above it.
-fn middle_bound(texts: &[String], numbers: &[usize], position: usize) -> Option<u16>
+fn middle_bound(texts: &[&str], numbers: &[usize], position: usize) -> Option<u16>
     ensures below { IfSome result (λ bound.
-        list_any (is_below (map string_bytes texts.now) position bound) numbers.now ≡ true) }
+        list_any (is_below (map (λ t. t.now) texts.now) position bound) numbers.now ≡ true) }
     ensures rest { IfSome result (λ bound.
-        list_any (is_rest (map string_bytes texts.now) position bound) numbers.now ≡ true) }
-    ensures agree { IfNone result (AgreeAt (map string_bytes texts.now) numbers.now position) }
+        list_any (is_rest (map (λ t. t.now) texts.now) position bound) numbers.now ≡ true) }
+    ensures agree { IfNone result (AgreeAt (map (λ t. t.now) texts.now) numbers.now position) }
 {
     let middle = value_of(texts, position, *numbers.get(numbers.len() / 2)?);
     if is_level(texts, numbers, position, middle) {
@@ -93,25 +100,25 @@ fn middle_bound(texts: &[String], numbers: &[usize], position: usize) -> Option<
 }
 
 // Whether all of them have this value there.
-fn is_level(texts: &[String], numbers: &[usize], position: usize, value: u16) -> bool
+fn is_level(texts: &[&str], numbers: &[usize], position: usize, value: u16) -> bool
     ensures { result
-        ≡ list_all (has_value (map string_bytes texts.now) position value) numbers.now }
+        ≡ list_all (has_value (map (λ t. t.now) texts.now) position value) numbers.now }
 {
     numbers
         .iter()
         .all(|number| value_of(texts, position, *number) == value)
 }
 
-fn has_below(texts: &[String], numbers: &[usize], position: usize, bound: u16) -> bool
-    ensures { result ≡ list_any (is_below (map string_bytes texts.now) position bound) numbers.now }
+fn has_below(texts: &[&str], numbers: &[usize], position: usize, bound: u16) -> bool
+    ensures { result ≡ list_any (is_below (map (λ t. t.now) texts.now) position bound) numbers.now }
 {
     numbers
         .iter()
         .any(|number| value_of(texts, position, *number) < bound)
 }
 
-fn has_rest(texts: &[String], numbers: &[usize], position: usize, bound: u16) -> bool
-    ensures { result ≡ list_any (is_rest (map string_bytes texts.now) position bound) numbers.now }
+fn has_rest(texts: &[&str], numbers: &[usize], position: usize, bound: u16) -> bool
+    ensures { result ≡ list_any (is_rest (map (λ t. t.now) texts.now) position bound) numbers.now }
 {
     numbers
         .iter()
@@ -119,12 +126,12 @@ fn has_rest(texts: &[String], numbers: &[usize], position: usize, bound: u16) ->
 }
 
 // The least that one has there and that is above this value.
-fn least_above(texts: &[String], numbers: &[usize], position: usize, value: u16) -> Option<u16>
+fn least_above(texts: &[&str], numbers: &[usize], position: usize, value: u16) -> Option<u16>
     ensures above { IfSome result (λ least. value < least) }
     ensures rest { IfSome result (λ least.
-        list_any (is_rest (map string_bytes texts.now) position least) numbers.now ≡ true) }
+        list_any (is_rest (map (λ t. t.now) texts.now) position least) numbers.now ≡ true) }
     ensures none { IfNone result
-        (list_any (is_above (map string_bytes texts.now) position value) numbers.now ≡ false) }
+        (list_any (is_above (map (λ t. t.now) texts.now) position value) numbers.now ≡ false) }
 {
     let mut least = value;
     for number in numbers {

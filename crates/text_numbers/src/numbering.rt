@@ -21,6 +21,14 @@ impl TextNumbers {
     pub fn of(alloc: Global, texts: &[String]) -> Result<TextNumbers, AllocError>
         ensures { IfOk result (λ numbers. AreNumbers numbers (map string_bytes texts.now)) }
     {
+        let borrowed = borrowed(alloc, texts)?;
+        TextNumbers::of_borrowed(alloc, &borrowed)
+    }
+
+    /// The same of texts that stand elsewhere, none of which is copied.
+    pub fn of_borrowed(alloc: Global, texts: &[&str]) -> Result<TextNumbers, AllocError>
+        ensures { IfOk result (λ numbers. AreNumbers numbers (map (λ t. t.now) texts.now)) }
+    {
         Ok(TextNumbers {
             tree: built(alloc, texts, all_numbers(alloc, texts.len())?, 0)?,
         })
@@ -42,4 +50,15 @@ impl TextNumbers {
         let leaf = self.tree.leaf(text);
         if leaf.only { Some(leaf.number) } else { None }
     }
+}
+
+// The same texts, borrowed.
+fn borrowed(alloc: Global, texts: &[String]) -> Result<Vec<&str>, AllocError>
+    ensures { IfOk result (λ ts. map (λ t. t.now) ts.items ≡ map string_bytes texts.now) }
+{
+    let mut borrowed = Vec::with_capacity(alloc, texts.len())?;
+    for text in texts {
+        borrowed.push(text.as_str())?;
+    }
+    Ok(borrowed)
 }

@@ -1,6 +1,6 @@
 //! What texts have at a position.
 
-ghost use Rattle.std.specs.Prelude.{◌≡◌, map, string_bytes};
+ghost use Rattle.std.specs.Prelude.{◌≡◌, map};
 ghost use Rattle.text_numbers.specs.Places.{place_value, value_of};
 
 /// What the text has at the position: 0 behind its end, and one more than the byte within it.
@@ -16,11 +16,11 @@ pub(crate) fn place_value(text: &str, position: usize) -> u16
 
 /// What the text of this number has at the position, and 0 where there is no such text.
 #[inline(always)]
-pub(crate) fn value_of(texts: &[String], position: usize, number: usize) -> u16
-    ensures { result ≡ value_of (map string_bytes texts.now) position number }
+pub(crate) fn value_of(texts: &[&str], position: usize, number: usize) -> u16
+    ensures { result ≡ value_of (map (λ t. t.now) texts.now) position number }
 {
     match texts.get(number) {
-        Some(text) => place_value(text.as_str(), position),
+        Some(text) => place_value(text, position),
         None => 0,
     }
 }

@@ -61,7 +61,7 @@ fn plan_matched<'a>(
     ensures searched { searched_in searches.new ≡ searched_in searches.old }
 {
     let mut numbered = searches.take_numbered();
-    push_numbered(&mut numbered, searches.linked(), resource, patterns)?;
+    push_numbered(&mut numbered, searches, resource, patterns)?;
     plan_numbered(planned, searches, &numbered, members)?;
     searches.give_back(numbered);
     Ok(())

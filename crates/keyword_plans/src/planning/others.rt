@@ -29,7 +29,6 @@ use crate::site::Site;
 use crate::subject::{Subject, members_of};
 use json_doc::{Doc, Members, Name};
 use keywords::Keyword;
-use linker::Linked;
 use std::alloc::AllocError;
 use std::cmp::Ordering;
 
@@ -210,7 +209,7 @@ fn plan_each_untaken<'a>(
     ensures searched { searched_in searches.new ≡ searched_in searches.old }
 {
     let mut numbered = searches.take_numbered();
-    push_patterns(&mut numbered, searches.linked(), beside)?;
+    push_patterns(&mut numbered, searches, beside)?;
     let takers = Takers {
         properties: beside.properties,
         patterns: &numbered,
@@ -223,18 +222,21 @@ fn plan_each_untaken<'a>(
 // The patterns of these keywords, with their numbers. The only error is want of memory.
 fn push_patterns<'a>(
     numbered: &mut Vec<NumberedPattern<'a>>,
-    linked: &Linked,
+    searches: &mut Searches<'a>,
     keywords: PropertyKeywords<'a>,
 ) -> Result<(), AllocError>
     requires { numbered.old.items ≡ [] }
-    ensures patterns { (a : Application) → StandsBeside linked.now keywords.entry a
+    ensures patterns { (a : Application)
+        → StandsBeside (searched_in searches.old).now keywords.entry a
         → OnOk result (map numbered_view numbered.new.items
         ≡ members (beside a (codes "patternProperties"))) }
-    ensures numbers { (a : Application) → StandsBeside linked.now keywords.entry a
-        → OnOk result (All (IsNumbered linked.now) numbered.new.items) }
+    ensures numbers { (a : Application)
+        → StandsBeside (searched_in searches.old).now keywords.entry a
+        → OnOk result (All (IsNumbered (searched_in searches.old).now) numbered.new.items) }
+    ensures searched { searched_in searches.new ≡ searched_in searches.old }
 {
     match keywords.patterns {
-        Some(patterns) => push_numbered(numbered, linked, keywords.resource, patterns),
+        Some(patterns) => push_numbered(numbered, searches, keywords.resource, patterns),
         None => Ok(()),
     }
 }

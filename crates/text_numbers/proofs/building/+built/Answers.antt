@@ -1,4 +1,4 @@
-use Rattle.std.proofs.Common.{◌≡◌, ◌<◌, ◌++◌, ◌∷◌, [], filter, length, map, not, string_bytes, subst, ap, sym, ◌∙◌, arith}
+use Rattle.std.proofs.Common.{◌≡◌, ◌<◌, ◌++◌, ◌∷◌, [], filter, length, map, not, subst, ap, sym, ◌∙◌, arith}
 use Rattle.text_numbers.specs.Places.{AreSame, Divides, is_side}
 use Rattle.text_numbers.specs.Turns.{turned}
 use Rattle.text_numbers.specs.Trees.{Tells, leaf_of, only_leaf}
@@ -13,7 +13,7 @@ use Rattle.text_numbers.proofs.building.+built.Goals as goal
 
 pub built-requires : goal.built-requires
 built-requires t c =
-    let texts = map string_bytes c.args.texts.now in
+    let texts = map (λ t. t.now) c.args.texts.now in
     let left = c.loop-at.left.items in
     let at = c.in-Some.at in
     let divided = c.in_ok-is_below.field-0 in
@@ -25,7 +25,7 @@ built-requires t c =
 
 pub loop-at-smaller : goal.loop-at-smaller
 loop-at-smaller t c =
-    let texts = map string_bytes c.args.texts.now in
+    let texts = map (λ t. t.now) c.args.texts.now in
     let left = c.loop-at.left.items in
     let at = c.in-Some.at in
     let divided = c.in_ok-is_below.field-0 in
@@ -34,7 +34,7 @@ loop-at-smaller t c =
 
 pub loop-at-preserved : goal.loop-at-preserved
 loop-at-preserved t c =
-    let texts = map string_bytes c.args.texts.now in
+    let texts = map (λ t. t.now) c.args.texts.now in
     let left = c.loop-at.left.items in
     let at = c.in-Some.at in
     let divided = c.in_ok-is_below.field-0 in
@@ -54,7 +54,7 @@ loop-at-preserved t c =
 
 pub returns : goal.returns
 returns t c =
-    let texts = map string_bytes c.args.texts.now in
+    let texts = map (λ t. t.now) c.args.texts.now in
     let left = c.loop-at.left.items in
     let turns = c.loop-at.turns.items in
     let leaves = map leaf_of c.loop-at.asides.items in

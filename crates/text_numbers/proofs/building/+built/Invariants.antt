@@ -1,4 +1,4 @@
-use Rattle.std.proofs.Common.{◌≤◌, length, map, string_bytes}
+use Rattle.std.proofs.Common.{◌≤◌, length, map}
 use Rattle.text_numbers.specs.Places.{AreAlike}
 use Rattle.text_numbers.proofs.Telling.{TurnsTell}
 use Rattle.text_numbers.proofs.building.+built.Given as goal
@@ -9,8 +9,8 @@ decreases-built l = length l.numbers.items
 abbrev pub invariant-loop-at : goal.invariant-loop-at
 invariant-loop-at l =
     record {
-      alike : AreAlike (map string_bytes l.texts) l.left.items l.agreed;
-      tell : TurnsTell l.turns.items l.asides.items (map string_bytes l.texts) l.left.items l.fn.numbers.items;
+      alike : AreAlike (map (λ t. t.now) l.texts) l.left.items l.agreed;
+      tell : TurnsTell l.turns.items l.asides.items (map (λ t. t.now) l.texts) l.left.items l.fn.numbers.items;
       fewer : length l.left.items ≤ length l.fn.numbers.items;
     }
 

@@ -1,4 +1,4 @@
-use Rattle.std.proofs.Common.{map, string_bytes, arith}
+use Rattle.std.proofs.Common.{map, arith}
 use Rattle.text_numbers.proofs.Sameness.{same_at_end}
 use Rattle.text_numbers.proofs.differences.difference.Goals as goal
 
@@ -8,5 +8,5 @@ returns-in-Some-clause-parts c =
 
 pub returns-clause-same : goal.returns-clause-same
 returns-clause-same c =
-    same_at_end (map string_bytes c.args.texts.now) c.args.numbers.now c.loop-position.position c.first_end-position-end.result
+    same_at_end (map (λ t. t.now) c.args.texts.now) c.args.numbers.now c.loop-position.position c.first_end-position-end.result
     c.loop-position.invariant (omega arith) c.first_end-position-end.ensures c.loop-position-test.false

@@ -10,15 +10,15 @@ use Rattle.keyword_plans.proofs.planning.others.plan_each_untaken.Goals as goal
 
 pub returns-clause-ok : goal.returns-clause-ok
 returns-clause-ok c a k stands =
-    let same = c.linked.ensures in
     let back = c.take_numbered-numbered.ensures.linked in
-    let here = subst (λ (l : Bor Linked). StandsBeside l.now c.args.beside a) (sym (same ∙ back)) stands in
-    let numbers = subst (λ (l : Bor Linked). All (IsNumbered l.now) c.push_patterns.new.numbered.items) same (c.in_ok-push_patterns.ensures.numbers a here) in
-    let searched = (searched_in c.take_numbered-numbered.new.self).now in
+    let same = c.in_ok-push_patterns.ensures.searched in
+    let here = subst (λ (l : Bor Linked). StandsBeside l.now c.args.beside a) (sym back) stands in
+    let numbers = subst (λ (l : Bor Linked). All (IsNumbered l.now) c.push_patterns.new.numbered.items) (sym same) (c.in_ok-push_patterns.ensures.numbers a here) in
+    let searched = (searched_in c.push_patterns.new.searches).now in
     c.in_ok-push_untaken.ensures.ok a k (
     record {
       properties = stands.properties;
       patterns = ap (map numbered_view) c.deref.ensures.value ∙ c.in_ok-push_patterns.ensures.patterns a here;
       numbers = subst (All (IsNumbered searched)) (sym c.deref.ensures.value) numbers;
     })
-    ∙ ap (λ (l : Bor Linked). planned_others l.now k a (value c.args.schema.now) (members_value c.args.members.now)) back
+    ∙ ap (λ (l : Bor Linked). planned_others l.now k a (value c.args.schema.now) (members_value c.args.members.now)) (same ∙ back)

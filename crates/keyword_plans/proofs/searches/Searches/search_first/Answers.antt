@@ -7,4 +7,4 @@ pub invariant_of-self : goal.invariant_of-self
 invariant_of-self c =
     let l = c.args.self.now.linked.now in
     let right : IsHeld l (number_of c.parts.result) c.search.new.pattern = subst (λ p. IsHeld l (number_of p) c.search.new.pattern) (sym c.parts.ensures) (λ text is. c.search.ensures.same ∙ c.in_ok-pattern.ensures text is) in
-    record { right = held_after l c.args.self.now.held c.insert.new.self c.parts.result c.search.new.pattern c.insert.result c.args.self.now.right c.insert.ensures.updates c.insert.ensures.err right }
+    record { right = held_after l c.args.self.now.held c.insert.new.self c.parts.result c.search.new.pattern c.insert.result c.args.self.now.right c.insert.ensures.updates c.insert.ensures.err right; same = c.args.self.now.same }

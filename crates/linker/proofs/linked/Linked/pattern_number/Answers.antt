@@ -6,15 +6,11 @@ use Rattle.linker.proofs.linked.Linked.pattern_number.Goals as goal
 
 pub returns-clause-text : goal.returns-clause-text
 unfolding pattern_text
-returns-clause-text c = λ s inside resource has.
-    let d = c.in_ok-document.document.now in
-    let at = sym c.in_ok-document.ensures in
-    let there = c.in_ok-number.ensures.stands s inside resource d at in
+returns-clause-text c = λ s stands has.
+    let d = c.in_ok-compiled.compiled.now in
+    let at = sym c.in_ok-compiled.ensures in
     ap (option_and_then (λ x. slice_get (compiled_patterns x) c.pattern_number.result)) at
-    ∙ c.pattern_number.ensures (document_pattern (compiled_base d) (compiled_value d) s c.args.text.now there has)
+    ∙ c.pattern_number.ensures (document_pattern (compiled_base d) (compiled_value d) s c.args.text.now (stands d at) has)
 
-pub returns-in_err-number-clause-there : goal.returns-in_err-number-clause-there
-returns-in_err-number-clause-there c s inside resource = let never : false ≡ true = c.in_err-number.ensures.there s inside resource in cc
-
-pub returns-in_err-document-clause-there : goal.returns-in_err-document-clause-there
-returns-in_err-document-clause-there c s inside resource = let never : false ≡ true = ap is_some c.in_err-document.ensures ∙ c.in_ok-number.ensures.there s inside resource in cc
+pub returns-in_err-compiled-clause-there : goal.returns-in_err-compiled-clause-there
+returns-in_err-compiled-clause-there c there = let never : false ≡ true = ap is_some c.in_err-compiled.ensures ∙ there in cc

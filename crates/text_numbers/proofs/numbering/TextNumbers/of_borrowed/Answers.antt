@@ -1,4 +1,4 @@
-use Rattle.std.proofs.Common.{◌≡◌, ◌+◌, ◌∙◌, ℕ, Global, List, Some, String, ap, length, map, string_bytes, subst, sym, arith}
+use Rattle.std.proofs.Common.{◌≡◌, ◌+◌, ◌∙◌, ℕ, Bor, List, Some, ap, length, map, subst, sym, arith}
 use Rattle.std.specs.Prelude.{slice_get}
 use Rattle.std.specs.List.{range_with_len}
 use Rattle.std.proofs.lemmas.List.{length-map}
@@ -9,18 +9,18 @@ use Rattle.text_numbers.specs.TextNumbers.{is_only, text_number}
 use Rattle.text_numbers.specs.Trees.{Tells, leaf_of}
 use Rattle.text_numbers.proofs.Members.{range_at}
 use Rattle.text_numbers.proofs.Sameness.{alike_at_first}
-use Rattle.text_numbers.proofs.numbering.TextNumbers.of.Goals as goal
+use Rattle.text_numbers.proofs.numbering.TextNumbers.of_borrowed.Goals as goal
 
 -- as many numbers as texts
-counted : (texts : List (String Global)) (numbers : List ℕ) → numbers ≡ range_with_len 0 (length texts)
-    → range_with_len 0 (length (map string_bytes texts)) ≡ numbers
-counted texts numbers are = ap (range_with_len 0) (length-map texts string_bytes) ∙ sym are
+counted : (texts : List (Bor Text)) (numbers : List ℕ) → numbers ≡ range_with_len 0 (length texts)
+    → range_with_len 0 (length (map (λ (t : Bor Text). t.now) texts)) ≡ numbers
+counted texts numbers are = ap (range_with_len 0) (length-map texts (λ t. t.now)) ∙ sym are
 
 pub built-requires : goal.built-requires
 built-requires c =
     let texts = c.args.texts.now in
-    subst (λ ns. AreAlike (map string_bytes texts) ns 0) (counted texts c.in_ok-all_numbers.field-0.items c.in_ok-all_numbers.ensures)
-    (alike_at_first (map string_bytes texts))
+    subst (λ ns. AreAlike (map (λ (t : Bor Text). t.now) texts) ns 0) (counted texts c.in_ok-all_numbers.field-0.items c.in_ok-all_numbers.ensures)
+    (alike_at_first (map (λ (t : Bor Text). t.now) texts))
 
 -- each number below the end is one of them
 member : (texts : List Text) (numbers : List ℕ) (i : ℕ) (text : Text) → range_with_len 0 (length texts) ≡ numbers → slice_get texts i ≡ Some text
@@ -33,7 +33,7 @@ member texts numbers i text are is =
 pub returns : goal.returns
 unfolding is_only text_number
 returns c =
-    let texts = map string_bytes c.args.texts.now in
+    let texts = map (λ (t : Bor Text). t.now) c.args.texts.now in
     let numbers = c.in_ok-all_numbers.field-0.items in
     let are : range_with_len 0 (length texts) ≡ numbers = counted c.args.texts.now numbers c.in_ok-all_numbers.ensures in
     let tells : Tells (leaf_of c.in_ok-built.field-0) texts numbers = c.in_ok-built.ensures in

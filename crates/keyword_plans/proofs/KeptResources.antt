@@ -1,0 +1,52 @@
+-- What was asked of resources stays right under the numbers of their texts.
+use Rattle.std.proofs.Common.{◌≡◌, ℕ, Bor, Option, Result, Some, nat_cmp, slice_get, sym, ap, subst, ◌∙◌}
+use Rattle.std.proofs.lemmas.Map.Lookups.{exact_pairs, exact_unsigned}
+use Rattle.std.proofs.lemmas.Option.{same_Some}
+use Rattle.std.specs.BTreeMap.{BTreeMap, IsUnchanged, Updates, get}
+use Rattle.std.specs.Option.{IfSome}
+use Rattle.std.specs.Result.{OnErr, OnOk}
+use Rattle.definitions.specs.Schemas.{Schema}
+use Rattle.definitions.specs.Values.{Text}
+use Rattle.linker.specs.LinkedDocuments.{linked_schemas}
+use Rattle.linker.specs.NumberedTexts.{AreTold, numbered_texts, told_number}
+use Rattle.linker.specs.declared.linked.Linked.{Linked}
+use Rattle.linker.specs.declared.linked_texts.LinkedTexts.{LinkedTexts}
+use Rattle.keyword_plans.specs.Held.{parts_cmp}
+use Rattle.keyword_plans.specs.OpenedResources.{AreDocuments, AreOpened, IsDocument, IsOpened, Opens}
+use Rattle.keyword_plans.proofs.KeptByNumber.{right_after}
+
+-- ---- what an `$id` opens
+opened_once : (l : Linked) (t : LinkedTexts) (numbers : ℕ × ℕ) (around id : Text) (uri : Bor Text) → slice_get (numbered_texts t) numbers.0 ≡ Some around
+    → slice_get (numbered_texts t) numbers.1 ≡ Some id → ((s : Schema) → Opens l s around id → uri.now ≡ s.resource) → IsOpened l t numbers uri
+opened_once l t numbers around id uri first second right s other_around other_id e f opens =
+    right s (subst (λ a. Opens l s a id) (same_Some _ _ (sym e ∙ first)) (subst (λ i. Opens l s other_around i) (same_Some _ _ (sym f ∙ second)) opens))
+
+pub opened_after : {E : Type 0} (l : Linked) (t : LinkedTexts) (old new : BTreeMap (ℕ × ℕ) (Bor Text)) (numbers : ℕ × ℕ) (around id : Text) (uri : Bor Text) (r : Result (Option (Bor Text)) E)
+    → AreOpened l t old → OnOk r (Updates parts_cmp old new numbers (Some uri)) → OnErr r (IsUnchanged old new) → slice_get (numbered_texts t) numbers.0 ≡ Some around
+    → slice_get (numbered_texts t) numbers.1 ≡ Some id → ((s : Schema) → Opens l s around id → uri.now ≡ s.resource) → AreOpened l t new
+opened_after l t old new numbers around id uri r are updated same first second right =
+    right_after parts_cmp (exact_pairs nat_cmp nat_cmp exact_unsigned exact_unsigned) (IsOpened l t) old new numbers uri r are updated same
+    (opened_once l t numbers around id uri first second right)
+
+pub opened_found : (l : Linked) (t : LinkedTexts) (kept : BTreeMap (ℕ × ℕ) (Bor Text)) (around id : Text) (uri : Bor Text) (s : Schema) → AreTold l t → AreOpened l t kept
+    → get parts_cmp kept (told_number t around, told_number t id) ≡ Some uri → slice_get (numbered_texts t) (told_number t around) ≡ Some around → Opens l s around id → uri.now ≡ s.resource
+opened_found l t kept around id uri s told are there known opens =
+    subst (λ o. IfSome o (IsOpened l t (told_number t around, told_number t id))) there (are (told_number t around, told_number t id)) s around id known
+    (told.identifiers s id opens.inside opens.root opens.has) opens
+
+-- ---- the document of a resource
+document_once : (l : Linked) (t : LinkedTexts) (number document : ℕ) (uri : Text) → slice_get (numbered_texts t) number ≡ Some uri → IsDocument l uri (Some document)
+    → (other : Text) → slice_get (numbered_texts t) number ≡ Some other → IsDocument l other (Some document)
+document_once l t number document uri at is other e = subst (λ u. IsDocument l u (Some document)) (same_Some _ _ (sym at ∙ e)) is
+
+pub document_after : {E : Type 0} (l : Linked) (t : LinkedTexts) (old new : BTreeMap ℕ ℕ) (number document : ℕ) (uri : Text) (r : Result (Option ℕ) E) → AreDocuments l t old
+    → OnOk r (Updates nat_cmp old new number (Some document)) → OnErr r (IsUnchanged old new) → slice_get (numbered_texts t) number ≡ Some uri → IsDocument l uri (Some document)
+    → AreDocuments l t new
+document_after l t old new number document uri r are updated same at is =
+    right_after nat_cmp exact_unsigned (λ n d. (other : Text) → slice_get (numbered_texts t) n ≡ Some other → IsDocument l other (Some d)) old new number document r are updated same
+    (document_once l t number document uri at is)
+
+pub document_found : (l : Linked) (t : LinkedTexts) (kept : BTreeMap ℕ ℕ) (uri : Text) (document : ℕ) → AreDocuments l t kept → get nat_cmp kept (told_number t uri) ≡ Some document
+    → slice_get (numbered_texts t) (told_number t uri) ≡ Some uri → IsDocument l uri (Some document)
+document_found l t kept uri document are there known =
+    subst (λ o. IfSome o (λ d. (other : Text) → slice_get (numbered_texts t) (told_number t uri) ≡ Some other → IsDocument l other (Some d))) there (are (told_number t uri)) uri known

@@ -1,0 +1,14 @@
+use Rattle.std.proofs.Common.{◌≡◌, Bor, Contains, IfOk, IfSome, ap, subst, ◌∙◌}
+use Rattle.definitions.specs.Schemas.{Schema}
+use Rattle.linker.specs.LinkedDocuments.{linked_schemas}
+use Rattle.linker.specs.declared.linked.Linked.{Linked}
+use Rattle.keyword_plans.specs.OpenedResources.{IsDocument}
+use Rattle.keyword_plans.specs.declared.numbered_resources.NumberedResources.{NumberedResources}
+use Rattle.keyword_plans.proofs.compared_resources.ComparedResources.document_of_several.Goals as goal
+
+pub returns-in-Some-clause-ok : goal.returns-in-Some-clause-ok
+returns-in-Some-clause-ok c =
+    let now = c.compare.new.self in
+    let same : c.deref_mut.result.now.linked ≡ c.args.self.now.linked =
+    ap (λ (n : NumberedResources). n.linked) c.deref_mut.ensures.value ∙ subst (λ o. IfSome o (λ n. n.value.linked ≡ now.linked)) c.in-Some.is now.same ∙ c.in_ok-compare.ensures.linked in
+    subst (λ (l : Bor Linked). (s : Schema) → Contains (linked_schemas l.now) s → s.resource ≡ c.args.uri.now → IfOk c.document.result (IsDocument l.now c.args.uri.now)) same c.document.ensures.ok

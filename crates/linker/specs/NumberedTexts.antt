@@ -1,0 +1,25 @@
+-- What contracts see of texts of linked documents that have numbers.
+use Rattle.std.specs.Prelude.{◌≡◌, ℕ, [], Contains, List, Some, codes, map, slice_get}
+use Rattle.definitions.specs.Schemas.{Schema}
+use Rattle.definitions.specs.Values.{Text, text_at}
+use Rattle.text_numbers.specs.TextNumbers.{text_number}
+use Rattle.linker.specs.LinkedDocuments.{linked_schemas}
+use Rattle.linker.specs.declared.linked.Linked.{Linked}
+use Rattle.linker.specs.declared.linked_texts.LinkedTexts.{LinkedTexts}
+
+-- in the order of their numbers
+unfoldable pub numbered_texts : LinkedTexts → List Text
+numbered_texts t = map (λ text. text.now) t.texts.items
+
+-- the number that is told of a text
+unfoldable pub told_number : LinkedTexts → Text → ℕ
+told_number t text = text_number t.numbers text
+
+-- that is its own
+abbrev pub IsTold : LinkedTexts → Text → Type 0
+IsTold t text = slice_get (numbered_texts t) (told_number t text) ≡ Some text
+
+-- the URI of each resource of the documents, and the `$id` of each resource's root, are told their own numbers
+pub record AreTold (l : Linked) (t : LinkedTexts) : Type 0 where
+  pub resources : (s : Schema) → Contains (linked_schemas l) s → IsTold t s.resource
+  pub identifiers : (s : Schema) (id : Text) → Contains (linked_schemas l) s → s.pointer ≡ [] → text_at (codes "$id") s.value ≡ Some id → IsTold t id

@@ -1,5 +1,5 @@
 -- Where a context stands after a move.
-use Rattle.std.specs.Prelude.{◌≡◌, ◌+◌, ◌++◌, [], length, take}
+use Rattle.std.specs.Prelude.{◌≡◌, ◌+◌, ◌++◌, length, take}
 use Rattle.definitions.specs.Values.{Text, Value}
 use Rattle.definitions.specs.Pointers.{Pointer}
 use Rattle.definitions.specs.Schemas.{Identity, Schema, schema_at}

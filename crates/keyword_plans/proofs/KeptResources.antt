@@ -1,5 +1,5 @@
 -- What was asked of resources stays right under the numbers of their texts.
-use Rattle.std.proofs.Common.{◌≡◌, ℕ, Bor, Option, Result, Some, nat_cmp, slice_get, sym, ap, subst, ◌∙◌}
+use Rattle.std.proofs.Common.{◌≡◌, ℕ, Bor, Option, Result, Some, nat_cmp, slice_get, sym, subst, ◌∙◌}
 use Rattle.std.proofs.lemmas.Map.Lookups.{exact_pairs, exact_unsigned}
 use Rattle.std.proofs.lemmas.Option.{same_Some}
 use Rattle.std.specs.BTreeMap.{BTreeMap, IsUnchanged, Updates, get}
@@ -7,7 +7,6 @@ use Rattle.std.specs.Option.{IfSome}
 use Rattle.std.specs.Result.{OnErr, OnOk}
 use Rattle.definitions.specs.Schemas.{Schema}
 use Rattle.definitions.specs.Values.{Text}
-use Rattle.linker.specs.LinkedDocuments.{linked_schemas}
 use Rattle.linker.specs.NumberedTexts.{AreTold, numbered_texts, told_number}
 use Rattle.linker.specs.declared.linked.Linked.{Linked}
 use Rattle.linker.specs.declared.linked_texts.LinkedTexts.{LinkedTexts}

@@ -1,12 +1,11 @@
 -- The texts by which resources of linked documents are told.
-use Rattle.std.proofs.Common.{◌≡◌, ◌<◌, ◌+◌, ◌++◌, ◌∷◌, [], ℕ, List, Some, Contains, codes, get_or, length, map, take, refl, sym, ap, ◌∙◌, subst, true}
+use Rattle.std.proofs.Common.{◌≡◌, ◌<◌, ◌+◌, ◌++◌, [], ℕ, List, Some, Contains, codes, get_or, length, map, take, refl, sym, ap, ◌∙◌, subst}
 use Rattle.std.proofs.lemmas.List.{take_more}
 use Rattle.std.proofs.lemmas.List.Elements.{Contains-append_left, Contains-append_right}
 use Rattle.std.proofs.lemmas.Option.{get_or_from_slice_get, slice_get-get_or, slice_get_within}
 use Rattle.std.specs.Global.{Global}
 use Rattle.std.specs.List.{flat_map, slice_get}
 use Rattle.std.specs.declared.rc.Rc.{Rc}
-use Rattle.definitions.specs.Reach.{holds_resource}
 use Rattle.definitions.specs.Scanning.{resource_uris}
 use Rattle.definitions.specs.Schemas.{Document, Schema, schemas_of}
 use Rattle.definitions.specs.Values.{Text, text_at}

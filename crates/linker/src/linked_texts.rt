@@ -76,7 +76,8 @@ impl Linked {
 
 // The URIs of the documents' resources, and the `$id`s of their roots.
 fn texts_of<'a>(alloc: Global, documents: &'a [Rc<Compiled>]) -> Result<Vec<&'a str>, AllocError>
-    ensures { IfOk result (λ ts. map (λ t. t.now) ts.items ≡ flat_map identifying_texts documents.now) }
+    ensures { IfOk result
+        (λ ts. map (λ t. t.now) ts.items ≡ flat_map identifying_texts documents.now) }
 {
     let mut texts = Vec::new(alloc);
     for document in documents {

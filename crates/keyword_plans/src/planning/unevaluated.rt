@@ -47,7 +47,8 @@ impl<'n, 'a> NamesInOrder<'n, 'a> {
     }
 
     fn has(&mut self, name: Name<'a>) -> Result<bool, AllocError>
-        ensures has { IfOk result (λ b. b ≡ has (name_text name.entry) (map name_text self.old.names.now)) }
+        ensures has { IfOk result
+            (λ b. b ≡ has (name_text name.entry) (map name_text self.old.names.now)) }
         ensures names { self.new.names.now ≡ self.old.names.now }
     {
         if self.passed < self.names.len() && is_same(self.names[self.passed], name) {
@@ -58,7 +59,8 @@ impl<'n, 'a> NamesInOrder<'n, 'a> {
     }
 
     fn is_among_all(&mut self, name: Name<'a>) -> Result<bool, AllocError>
-        ensures has { IfOk result (λ b. b ≡ has (name_text name.entry) (map name_text self.old.names.now)) }
+        ensures has { IfOk result
+            (λ b. b ≡ has (name_text name.entry) (map name_text self.old.names.now)) }
         ensures names { self.new.names.now ≡ self.old.names.now }
     {
         if let Some(all) = &self.all {

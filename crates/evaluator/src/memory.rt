@@ -6,7 +6,8 @@ use std::alloc::Global;
 
 /// The memory that an evaluation works in, to be kept for the next one: that of the texts of its units, of its evaluation path,
 /// of its instance location and of its root's location, for each of at most 1,048,576 bytes of text, and that of the indexes
-/// that it evaluated. The memory of the texts of units stays larger as long as they take a quarter of it, up to 16,777,216 bytes. No answer depends on what is in it.
+/// that it evaluated. The memory of the texts of units stays larger as long as they take a quarter of it, up to 16,777,216
+/// bytes. No answer depends on what is in it.
 #[derive(Drop)]
 pub struct EvaluationMemory {
     pub(crate) log: LogMemory,

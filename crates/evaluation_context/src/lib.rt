@@ -5,7 +5,6 @@
 mod context;
 mod context_memory;
 mod ends;
-mod identifier;
 mod lower_parts;
 mod moving;
 mod running;

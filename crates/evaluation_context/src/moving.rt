@@ -1,7 +1,7 @@
 //! From a keyword to what it applies, and back.
 
-ghost use Rattle.std.specs.Prelude.{◌≡◌, ◌++◌, [], true, false, IfOk, IfErr, OnOk, Contains, Some, codes};
-ghost use Rattle.definitions.specs.Values.{Text};
+ghost use Rattle.std.specs.Prelude.{◌≡◌, ◌++◌, [], true, false, IfOk, IfErr, OnOk, Contains, Some, codes, option_map};
+ghost use Rattle.definitions.specs.Values.{Text, Value, text_at};
 ghost use Rattle.definitions.specs.Schemas.{Schema, schema_at};
 ghost use Rattle.definitions.specs.Applied.{Application, part_location};
 ghost use Rattle.basic_output.specs.PointerViews.{origin_view};
@@ -16,9 +16,7 @@ ghost use Rattle.evaluation_context.specs.Moves.{Onward, at_origin, frame_at, fr
 ghost use Rattle.evaluation_context.specs.Returns.{CameFrom, origin_before};
 
 use crate::context::{Context, Return};
-use crate::identifier::identifier;
 use basic_output::Origin;
-use json_doc::Doc;
 use keyword_plans::{Part, Planned, Way};
 use locations::Step;
 use std::alloc::{AllocError, Global};
@@ -26,13 +24,15 @@ use std::mem::replace;
 use std::rc::Rc;
 
 impl<'a> Context<'a> {
-    /// From a keyword to what it applies. The only error is want of memory.
+    /// From a keyword to what it applies, a schema with this `$id`, where it has one. The only error is want of memory.
     pub fn enter_planned(
         &mut self,
         alloc: Global,
         planned: &Planned<'a>,
+        id: Option<&str>,
     ) -> Result<Return<'a>, AllocError>
         ensures there { (a : Application) (k : Text)
+            → option_map (λ t. t.now) id.entry ≡ text_at (codes "$id") (value planned.now.schema.now)
             → frame_standing (context_view self.old) ≡ at_keyword k (standing_of a)
             → Contains (linked_schemas (scope_documents self.old.scope).now) a.schema
             → Contains (linked_schemas (scope_documents self.old.scope).now)
@@ -47,7 +47,7 @@ impl<'a> Context<'a> {
         let onward = self.onward;
         let instance_location = self.running.instance_location().len();
         let name = self.name;
-        let origin = self.enter_chosen(alloc, planned)?;
+        let origin = self.enter_chosen(alloc, planned, id)?;
         self.enter_part(planned.part)?;
         Ok(Return {
             path,
@@ -84,11 +84,13 @@ impl<'a> Context<'a> {
         &mut self,
         alloc: Global,
         planned: &Planned<'a>,
+        id: Option<&str>,
     ) -> Result<Option<Rc<Origin<'a>>>, AllocError>
         ensures there { let st = frame_standing (context_view self.old) in
             let p = planned.now in
             let s = schema_on_way st.resource st.pointer p.way (value p.schema.now) in
             (parent : Schema)
+            → option_map (λ t. t.now) id.entry ≡ text_at (codes "$id") (value p.schema.now)
             → Contains (linked_schemas (scope_documents self.old.scope).now) parent
             → parent.resource ≡ st.resource
             → Contains (linked_schemas (scope_documents self.old.scope).now) s
@@ -107,7 +109,7 @@ impl<'a> Context<'a> {
             }
             below => {
                 self.enter_step(below.step())?;
-                self.enter_schema(alloc, planned.schema)
+                self.enter_schema(alloc, id)
             }
         }
     }
@@ -132,12 +134,13 @@ impl<'a> Context<'a> {
     fn enter_schema(
         &mut self,
         alloc: Global,
-        schema: &'a Doc,
+        id: Option<&str>,
     ) -> Result<Option<Rc<Origin<'a>>>, AllocError>
         ensures there { let st = frame_standing (context_view self.old) in
-            let s = schema_at st.resource st.pointer (value schema.now) in
-            (parent : Schema)
-            → Contains (linked_schemas (scope_documents self.old.scope).now) parent
+            (parent : Schema) (v : Value)
+            → option_map (λ t. t.now) id.entry ≡ text_at (codes "$id") v
+            → let s = schema_at st.resource st.pointer v in
+            Contains (linked_schemas (scope_documents self.old.scope).now) parent
             → parent.resource ≡ st.resource
             → Contains (linked_schemas (scope_documents self.old.scope).now) s
             → OnOk result (frame_standing (context_view self.new) ≡ standing_at [] s st) }
@@ -147,7 +150,7 @@ impl<'a> Context<'a> {
             ≡ (context_view self.old).origin) }
         ensures documents { scope_documents self.new.scope ≡ scope_documents self.old.scope }
     {
-        match identifier(schema) {
+        match id {
             Some(id) => {
                 let resource = self.resource_opened(alloc, id)?;
                 let origin = Rc::new(alloc, Origin::root(alloc, resource))?;

@@ -12,7 +12,7 @@ use crate::log::LogMark;
 use crate::present::Present;
 use crate::settling::{evaluated_for, settle};
 use json_doc::Doc;
-use keyword_plans::{Earlier, Planned, Site, passes, plan};
+use keyword_plans::{Earlier, Planned, Site, passes, plan, surely_applies_nothing};
 use keywords::Keyword;
 use std::alloc::AllocError;
 
@@ -112,11 +112,13 @@ impl<'a> Evaluation<'a> {
             (indexes_since here.entry.before (log_view self.old.log))
             a (row_of keyword).name (row_of keyword).meaning (value keyword_value.now)) }
     {
+        if surely_applies_nothing(keyword, here.subject, beside.named) {
+            return Ok(Vec::new(self.alloc));
+        }
         let mut planned = self.plans.take();
         let log = &self.log;
         let earlier = Earlier {
             condition: beside.condition,
-            named: beside.named,
             evaluated: evaluated_for(keyword, &log.names, &log.indexes, here.before),
         };
         let context = &mut self.context;
@@ -352,7 +354,9 @@ impl<'a> Evaluation<'a> {
             (part_outcome self.old.linked.now nesting k a planned.now).1)) }
     {
         let present = Present::of(planned.schema);
-        let back = self.context.enter_planned(self.alloc, planned)?;
+        let back = self
+            .context
+            .enter_planned(self.alloc, planned, present.identifier())?;
         match self.apply(&present, planned.subject, nesting) {
             Ok(valid) => {
                 self.context.leave_planned(back);

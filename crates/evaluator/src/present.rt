@@ -4,7 +4,7 @@
 ghost use Rattle.std.specs.Prelude.{◌≡◌, ◌≤◌, ◌<◌, ◌||◌, ℕ, None, Some, [], false, true, codes, is_some, option_map};
 ghost use Rattle.std.specs.List.{list_any};
 ghost use Rattle.std.specs.Int.{bit_at};
-ghost use Rattle.definitions.specs.Values.{Text, get, members};
+ghost use Rattle.definitions.specs.Values.{Text, get, members, text_at};
 ghost use Rattle.definitions.specs.Uris.{begins};
 ghost use Rattle.definitions.specs.Applied.{Application};
 ghost use Rattle.definitions.specs.Outcomes.{other_annotations};
@@ -109,6 +109,18 @@ impl<'a> Present<'a> {
             → other_annotations a ≡ [] }
     {
         self.first_mark(ANNOTATES) == ANNOTATES
+    }
+
+    /// The text of its `$id`, where it has one (Core, section 8.2.1).
+    #[inline(always)]
+    pub(crate) fn identifier(&self) -> Option<&'a str>
+        ensures { option_map (λ t. t.now) result
+            ≡ text_at (codes "$id") (value self.now.schema.now) }
+    {
+        if !self.may_have(Keyword::Id) {
+            return None;
+        }
+        self.value(Keyword::Id)?.as_str()
     }
 
     /// The value of the keyword, where it is there.

@@ -1,13 +1,26 @@
 -- Members all of which `properties` names.
-use Rattle.std.proofs.Common.{◌≡◌, ◌≤◌, ◌+◌, ◌∙◌, ℕ, List, [], ◌∷◌, ◌++◌, ◌||◌, Bool, true, length, Option, Some, None, is_some, codes, refl, sym, ap, subst, arith}
+use Rattle.std.proofs.Common.{◌≡◌, ◌≤◌, ◌+◌, ℕ, List, [], ◌∷◌, ◌++◌, ◌||◌, Bool, true, length, map, Option, Some, None, Contains, Less, nat_cmp, is_some, unwrap_or, codes, refl, sym, ap, subst, arith}
 use Rattle.std.proofs.lemmas.Bool.{and_from, and_parts}
-use Rattle.std.specs.List.{list_all, list_any}
-use Rattle.definitions.specs.Values.{Text, Value, entry, members}
+use Rattle.std.proofs.lemmas.Cmp.{nat_list_cmp_total}
+use Rattle.std.specs.Cmp.Lexicographic.{slice_cmp}
+use Rattle.std.specs.List.{AllByRecursion, list_all, list_any}
+use Rattle.std.specs.List.Sorted.{IsStrictlySortedBy}
+use Rattle.definitions.specs.Values.{Text, Value, null, boolean, integer, string, array, object, Members, no_members, member, members_list, entry, get, members, are_well_formed_members, is_before}
+use Rattle.definitions.specs.Schemas.{Schema}
+use Rattle.definition_laws.specs.Identities.{IsDefinite}
+use Rattle.definition_laws.proofs.Applying.{get_in}
+use Rattle.definition_laws.proofs.Occurrences.{contains_from_in, in_from_contains}
+use Rattle.definition_laws.proofs.Places.{definite_members}
+use Rattle.definition_laws.proofs.Roots.{table_definite}
+use Rattle.lemmas.proofs.Members.{member_parts}
+use Rattle.lemmas.proofs.Orders.{is_less}
+use Rattle.linker.specs.LinkedDocuments.{linked_documents, linked_schemas}
+use Rattle.linker.proofs.Distinct.{compiled_definite, shared_each}
 use Rattle.definitions.specs.Patterns.{has_match}
 use Rattle.definitions.specs.Applied.{Application, Part, beside, is_taken}
 use Rattle.json_doc.specs.Members.{HasNamesInOrder}
 use Rattle.linker.specs.declared.linked.Linked.{Linked}
-use Rattle.keyword_plans.specs.Applications.{at_schema, named_count, planned_at_names, planned_members, planned_others}
+use Rattle.keyword_plans.specs.Applications.{at_schema, named_count, planned_at_names, planned_others}
 use Rattle.keyword_plans.specs.Sites.{linked_rules}
 use Rattle.keyword_plans.proofs.SharedNames.{along_members}
 
@@ -46,11 +59,52 @@ module _ (k : Text) (a : Application) where
       ap (λ b. b || list_any (λ (p : Text × Value). has_match p.0 m.0) (members (beside a (codes "patternProperties")))) parts.0 in
       rw taken (others_none l v ms parts.1)
 
+-- ---- names of linked documents' values are in order
+before_later : (n k : Text) (ms : Members) → slice_cmp nat_cmp n k ≡ Less → is_before k ms ≡ true → is_before n ms ≡ true
+before_later n k no_members first later = refl
+before_later n k (member j v ms) first later = rw (nat_list_cmp_total.trans n k j first (is_less _ later)) refl
+
+before_each : (n : Text) (ms : Members) → is_before n ms ≡ true → are_well_formed_members ms ≡ true → AllByRecursion (λ k. slice_cmp nat_cmp n k ≡ Less) (map (λ m. m.0) (members_list ms))
+before_each n no_members before formed = tt
+before_each n (member k v ms) before formed =
+    let parts = member_parts k v ms formed in
+    let first = is_less _ before in
+    (first, before_each n ms (before_later n k ms first parts.0) parts.2)
+
+in_order : (ms : Members) → are_well_formed_members ms ≡ true → HasNamesInOrder (members_list ms)
+unfolding IsStrictlySortedBy
+in_order no_members formed = tt
+in_order (member n v ms) formed = let parts = member_parts n v ms formed in (before_each n ms parts.0 parts.2, in_order ms parts.2)
+
+none_in_order : HasNamesInOrder []
+unfolding IsStrictlySortedBy
+none_in_order = tt
+
+members_in_order : (v : Value) → IsDefinite v → HasNamesInOrder (members v)
+members_in_order null d = none_in_order
+members_in_order (boolean b) d = none_in_order
+members_in_order (integer i) d = none_in_order
+members_in_order (string s) d = none_in_order
+members_in_order (array vs) d = none_in_order
+members_in_order (object ms) d = in_order ms d.well_formed
+
+linked_definite : (l : Linked) (s : Schema) → Contains (linked_schemas l) s → IsDefinite s.value
+unfolding linked_documents
+linked_definite l s inside =
+    table_definite (linked_documents l) (λ d i. shared_each (λ e. IsDefinite e.value) compiled_definite l.documents.items d (contains_from_in (linked_documents l) d i)) s
+    (in_from_contains (linked_schemas l) s inside)
+
+beside_in_order : (k : Text) (a : Application) → IsDefinite a.schema.value → HasNamesInOrder (members (beside a k))
+beside_in_order k a d = by (get k a.schema.value) refl where
+  by : (o : Option Value) → get k a.schema.value ≡ o → HasNamesInOrder (members (unwrap_or o null))
+  by None e = none_in_order
+  by (Some v) e = members_in_order v (definite_members a.schema.value k v d (get_in k a.schema.value v e))
+
 -- where it names as many as there are, none is left
-pub none_left : (l : Linked) (k : Text) (a : Application) (v : Value) (ss ms : List (Text × Value)) (n : ℕ) → ss ≡ members (beside a (codes "properties"))
-    → members a.instance ≡ ms → HasNamesInOrder ss → HasNamesInOrder ms → n ≤ named_count a → length ms ≤ n → planned_others l k a v ms ≡ []
-none_left l k a v ss ms n there same h ordered most least =
-    let count : named_count a ≡ length (planned_at_names (codes "properties") a ss ms) =
-    ap (λ xs. length (planned_members (codes "properties") a xs)) (sym there) ∙ ap length (sym (along_members (codes "properties") a ss ms same h ordered)) in
-    let enough : length ms ≤ length (planned_at_names (codes "properties") a ss ms) = subst (λ c. length ms ≤ c) count (omega (arith, most, least)) in
-    others_none k a l v ms (subst (λ xs. list_all (is_named xs) ms ≡ true) there (all_named (codes "properties") a ss ms enough))
+pub none_left : (l : Linked) (k : Text) (a : Application) (v : Value) (ms : List (Text × Value)) (n : ℕ) → Contains (linked_schemas l) a.schema
+    → members a.instance ≡ ms → HasNamesInOrder ms → n ≤ named_count a → length ms ≤ n → planned_others l k a v ms ≡ []
+none_left l k a v ms n inside same ordered most least =
+    let ss = members (beside a (codes "properties")) in
+    let h = beside_in_order (codes "properties") a (linked_definite l a.schema inside) in
+    let count : named_count a ≡ length (planned_at_names (codes "properties") a ss ms) = sym (ap length (along_members (codes "properties") a ss ms same h ordered)) in
+    others_none k a l v ms (all_named (codes "properties") a ss ms (subst (λ c. length ms ≤ c) count (omega (arith, most, least))))

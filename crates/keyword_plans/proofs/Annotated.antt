@@ -1,8 +1,8 @@
 -- What a keyword annotates with, read off what it evaluated.
-use Rattle.std.proofs.Common.{◌≡◌, ℕ, suc, ◌-◌, ◌==◌, List, [], ◌∷◌, ◌++◌, Bool, true, false, cond, Option, Some, None, length, get_or, filter, flat_map, Bor, map, refl, sym, ap, ◌∙◌, arith, not, zip, decimal, append-nil}
+use Rattle.std.proofs.Common.{◌≡◌, ℕ, suc, ◌-◌, ◌==◌, List, [], ◌∷◌, ◌++◌, Bool, true, false, cond, Option, Some, None, length, get_or, filter, flat_map, map, refl, sym, ap, ◌∙◌, arith, not, zip, decimal, append-nil}
 use Rattle.std.proofs.lemmas.Bool.Decides.{nat_tests}
 use Rattle.std.specs.List.{AllByRecursion, enumerate_from}
-use Rattle.definitions.specs.Values.{Text, Value, string, get, members, elements}
+use Rattle.definitions.specs.Values.{Text, Value, get, members, elements}
 use Rattle.definitions.specs.Applied.{Application, Outcome, Part, Rules, named, indexed, at_present, at_part, keyword_applications, is_taken, has}
 use Rattle.definitions.specs.Keywords.{Meaning, properties, pattern_properties, additional_properties, unevaluated_properties, prefix_items}
 use Rattle.definitions.specs.Evaluated.{evaluated_names, evaluated_indexes, part_names, part_indexes, outcomes_that_pass, is_in_place, last_index, value_if_any_apply}

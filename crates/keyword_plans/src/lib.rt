@@ -25,7 +25,7 @@ pub use faults::Fault;
 pub use followed_references::FollowedReferences;
 pub use plan_memory::PlanMemory;
 pub use planned::{Part, Planned, Way};
-pub use planning::plan;
+pub use planning::{plan, surely_applies_nothing};
 pub use searches::Searches;
 pub use site::{Earlier, Evaluated, Site};
 pub use subject::Subject;

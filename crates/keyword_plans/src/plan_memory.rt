@@ -33,13 +33,13 @@ impl<'a> PlanMemory<'a> {
         }
     }
 
-    /// Drops the plans, which are done with, and keeps their memory, unless it has room for more than 64 plans, or there is no
-    /// memory to note it in.
+    /// Drops the plans, which are done with, and keeps their memory, if there is any, unless it has room for more than 64 plans,
+    /// or there is no memory to note it in.
     #[inline(always)]
     pub fn give_back(&mut self, planned: Vec<Planned<'a>>) {
         let mut planned = planned;
         planned.clear();
-        if planned.capacity() <= MOST_KEPT {
+        if planned.capacity() > 0 && planned.capacity() <= MOST_KEPT {
             let _ = self.kept.push(planned);
         }
     }

@@ -1,7 +1,7 @@
 //! What each keyword applies, to which part of the instance.
 
-ghost use Rattle.std.specs.Prelude.{◌≡◌, ◌≤◌, [], ℕ, List, Some, false, true, IfErr, OnOk, map, option_map};
-ghost use Rattle.definitions.specs.Values.{get};
+ghost use Rattle.std.specs.Prelude.{◌≡◌, ◌≤◌, [], ℕ, List, Some, Contains, false, true, IfErr, OnOk, map, option_map};
+ghost use Rattle.definitions.specs.Values.{Text, Value, get};
 ghost use Rattle.definitions.specs.Applied.{Application, Outcome, condition_outcome, keyword_applications};
 ghost use Rattle.json_doc.specs.Docs.{value};
 ghost use Rattle.json_doc.specs.NamedMembers.{name_text};
@@ -11,6 +11,9 @@ ghost use Rattle.keyword_plans.specs.SearchedIn.{searched_in};
 ghost use Rattle.keyword_plans.specs.Plans.{applies_in_place, follows_reference, is_consequence, planned_view, searches_patterns, takes_others};
 ghost use Rattle.keyword_plans.specs.Applications.{named_count};
 ghost use Rattle.keyword_plans.specs.Sites.{Shows, linked_rules};
+ghost use Rattle.keyword_plans.specs.Subjects.{subject_value};
+ghost use Rattle.linker.specs.LinkedDocuments.{linked_schemas};
+ghost use Rattle.linker.specs.declared.linked.Linked.{Linked};
 
 mod in_place;
 mod items;
@@ -26,11 +29,12 @@ use crate::planning::in_place::{plan_consequence, plan_dependents, plan_listed, 
 use crate::planning::items::{plan_items, plan_prefix, prefix_length};
 use crate::planning::matching::plan_patterns;
 use crate::planning::members::{plan_names, plan_properties};
-use crate::planning::others::plan_others;
+use crate::planning::others::{are_all_named, plan_others};
 use crate::planning::references::{plan_dynamic_reference, plan_reference};
 use crate::planning::unevaluated::{plan_unevaluated_items, plan_unevaluated_properties};
 use crate::searches::Searches;
 use crate::site::{Earlier, Evaluated, Site};
+use crate::subject::Subject;
 use json_doc::Doc;
 use keywords::Keyword;
 use std::alloc::AllocError;
@@ -38,8 +42,7 @@ use std::alloc::AllocError;
 /// What the keyword of the schema, with this value, applies, in order (JSON Schema 2020-12 Core, 7.1, 10 and 11): it stands
 /// in `planned` in place of all that stood there.
 ///
-/// `then`, `else`, `additionalProperties`, `unevaluatedItems` and `unevaluatedProperties` need what was said `earlier`. `scope`
-/// is the dynamic scope, the schema's own resource last, and keeps what is followed here, as `searches` keep the patterns that
+/// `then`, `else`, `unevaluatedItems` and `unevaluatedProperties` need what was said `earlier`. `scope` is the dynamic scope, the schema's own resource last, and keeps what is followed here, as `searches` keep the patterns that
 /// are searched for. The only error is want of memory.
 #[inline(always)]
 pub fn plan<'a>(
@@ -57,7 +60,6 @@ pub fn plan<'a>(
         → get (row_of keyword).name a.schema.value ≡ Some (value keyword_value.now)
         → (is_consequence (row_of keyword).meaning ≡ true
         → option_map (λ o. o.valid) (condition_outcome run a) ≡ earlier.entry.condition)
-        → (takes_others (row_of keyword).meaning ≡ true → earlier.entry.named ≤ named_count a)
         → OnOk result (map (planned_view (row_of keyword).name a) planned.new.items
         ≡ keyword_applications (linked_rules site.entry.linked.now) run
         (map name_text earlier.entry.evaluated.names.now)
@@ -72,9 +74,7 @@ pub fn plan<'a>(
         Keyword::Ref => plan_reference(planned, scope, &site, keyword_value),
         Keyword::DynamicRef => plan_dynamic_reference(planned, scope, &site, keyword_value),
         Keyword::PatternProperties => plan_patterns(planned, searches, &site, keyword_value),
-        Keyword::AdditionalProperties => {
-            plan_others(planned, searches, &site, keyword_value, earlier.named)
-        }
+        Keyword::AdditionalProperties => plan_others(planned, searches, &site, keyword_value),
         _ => plan_subschemas(
             planned,
             &site,
@@ -83,6 +83,23 @@ pub fn plan<'a>(
             earlier.condition,
             earlier.evaluated,
         ),
+    }
+}
+
+/// Whether the keyword surely applies nothing: it is `additionalProperties`, and `properties` beside it takes all members of the
+/// instance, of which it names so many at least.
+#[inline(always)]
+pub fn surely_applies_nothing(keyword: Keyword, subject: Subject<'_>, named: u64) -> bool
+    ensures { (l : Linked) (a : Application) (run : Application → Outcome) (names : List Text)
+        (indexes : List ℕ) (v : Value) → Contains (linked_schemas l) a.schema
+        → a.instance ≡ subject_value subject.entry
+        → (takes_others (row_of keyword).meaning ≡ true → named ≤ named_count a) → result ≡ true
+        → keyword_applications (linked_rules l) run names indexes a
+        (row_of keyword).name (row_of keyword).meaning v ≡ [] }
+{
+    match keyword {
+        Keyword::AdditionalProperties => are_all_named(subject, named),
+        _ => false,
     }
 }
 

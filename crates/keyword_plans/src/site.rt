@@ -32,8 +32,6 @@ pub struct Evaluated<'s, 'a> {
 pub struct Earlier<'s, 'a> {
     /// Whether `if` passed, where it is there.
     pub condition: Option<bool>,
-    /// How many members of the instance `properties` names, at least.
-    pub named: u64,
     /// What the keywords but `unevaluatedItems` and `unevaluatedProperties` evaluated.
     pub evaluated: Evaluated<'s, 'a>,
 }

@@ -1,6 +1,6 @@
 //! Members that no keyword beside takes (JSON Schema 2020-12 Core, 10.3.2.3).
 
-ghost use Rattle.std.specs.Prelude.{◌≡◌, ◌≤◌, [], true, codes, map, option_map, unwrap_or, is_some, IfOk, IfErr, OnOk};
+ghost use Rattle.std.specs.Prelude.{◌≡◌, ◌≤◌, [], Contains, true, codes, map, option_map, unwrap_or, is_some, IfOk, IfErr, OnOk};
 ghost use Rattle.std.specs.Cmp.Lexicographic.{slice_cmp};
 ghost use Rattle.std.specs.List.{All, list_any};
 ghost use Rattle.std.specs.Ordering.{nat_cmp};
@@ -12,6 +12,8 @@ ghost use Rattle.definitions.specs.Applied.{Application, beside, is_taken};
 ghost use Rattle.json_doc.specs.Docs.{value, members_value};
 ghost use Rattle.json_doc.specs.NamedMembers.{name_text};
 ghost use Rattle.keyword_plans.specs.Applications.{ArePatternsOf, named_count, planned_others, planned_unnamed};
+ghost use Rattle.keyword_plans.specs.Subjects.{subject_value};
+ghost use Rattle.linker.specs.LinkedDocuments.{linked_schemas};
 ghost use Rattle.linker.specs.declared.linked.Linked.{Linked};
 ghost use Rattle.keyword_plans.specs.Beside.{AreTakers, StandsBeside};
 ghost use Rattle.keywords.specs.Rows.{row_of};
@@ -49,50 +51,44 @@ struct Takers<'s, 'a> {
     patterns: &'s [NumberedPattern<'a>],
 }
 
-/// The schema, at each member of the instance that neither `properties` nor `patternProperties` beside takes, where `properties`
-/// names so many of them at least: none is left where these are all.
+/// Whether `additionalProperties` surely applies nothing, since `properties` beside it takes all members of the instance, of
+/// which it names so many at least.
+#[inline(always)]
+pub(crate) fn are_all_named(subject: Subject<'_>, named: u64) -> bool
+    ensures { (l : Linked) (a : Application) (k : Text) (v : Value)
+        → Contains (linked_schemas l) a.schema → a.instance ≡ subject_value subject.entry
+        → named ≤ named_count a → result ≡ true
+        → planned_others l k a v (members a.instance) ≡ [] }
+{
+    match subject.members() {
+        Some(members) => {
+            // Its contract says that the names are in order.
+            let _ = members.iter();
+            named >= members.len() as u64
+        }
+        None => true,
+    }
+}
+
+/// The schema, at each member of the instance that neither `properties` nor `patternProperties` beside takes.
 pub(crate) fn plan_others<'a>(
     planned: &mut Vec<Planned<'a>>,
     searches: &mut Searches<'a>,
     site: &Site<'a>,
     schema: &'a Doc,
-    named: u64,
 ) -> Result<(), AllocError>
     requires { planned.old.items ≡ [] }
     ensures ok { (a : Application) (k : Text) → Shows site.now a
-        → searched_in searches.old ≡ site.now.linked → named ≤ named_count a
+        → searched_in searches.old ≡ site.now.linked
         → OnOk result (map (planned_view k a) planned.new.items
         ≡ planned_others site.now.linked.now k a (value schema.now) (members a.instance)) }
     ensures searched { searched_in searches.new ≡ searched_in searches.old }
 {
     match site.subject.members() {
-        Some(members) if are_all_named(site.schema, members, named) => Ok(()),
         Some(members) => {
             plan_untaken(planned, searches, keywords_beside(site), schema, members)
         },
         None => Ok(()),
-    }
-}
-
-// Whether `properties` surely takes all of the members, of which it names so many at least.
-#[inline(always)]
-fn are_all_named(schema: &Doc, present: &Members, named: u64) -> bool
-    ensures { (l : Linked) (a : Application) (k : Text) (v : Value)
-        → a.schema.value ≡ value schema.now → members a.instance ≡ members_value present.now
-        → named ≤ named_count a → result ≡ true
-        → planned_others l k a v (members_value present.now) ≡ [] }
-{
-    if named < present.len() as u64 {
-        return false;
-    }
-    match members_beside(schema, Keyword::Properties) {
-        Some(schemas) => {
-            // Their contracts say that the names are in order.
-            let _ = schemas.iter();
-            let _ = present.iter();
-            true
-        }
-        None => false,
     }
 }
 

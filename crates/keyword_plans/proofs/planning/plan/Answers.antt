@@ -1,12 +1,9 @@
-use Rattle.std.proofs.Common.{ap}
-use Rattle.keywords.specs.Rows.{row_of}
-use Rattle.keyword_plans.specs.Plans.{takes_others}
 use Rattle.keyword_plans.proofs.planning.plan.Goals as goal
 
 pub returns-in-PatternProperties-clause-ok : goal.returns-in-PatternProperties-clause-ok
-returns-in-PatternProperties-clause-ok c a run shows documents scope searched beside condition named =
+returns-in-PatternProperties-clause-ok c a run shows documents scope searched beside condition =
     rw c.in-PatternProperties.is (c.plan_patterns.ensures.ok a _ shows searched (rw c.in-PatternProperties.is at beside))
 
 pub returns-in-AdditionalProperties-clause-ok : goal.returns-in-AdditionalProperties-clause-ok
-returns-in-AdditionalProperties-clause-ok c a run shows documents scope searched beside condition named =
-    rw c.in-AdditionalProperties.is (c.plan_others.ensures.ok a _ shows searched (named (ap (λ k. takes_others (row_of k).meaning) c.in-AdditionalProperties.is)))
+returns-in-AdditionalProperties-clause-ok c a run shows documents scope searched beside condition =
+    rw c.in-AdditionalProperties.is (c.plan_others.ensures.ok a _ shows searched)

@@ -14,17 +14,18 @@ use Rattle.evaluation_context.proofs.PlannedLaws.{below_there, target_there}
 use Rattle.evaluation_context.proofs.context.Context.enter_chosen.Goals as goal
 
 pub returns-in_ok-enter_step-in_default-clause-there : goal.returns-in_ok-enter_step-in_default-clause-there
-returns-in_ok-enter_step-in_default-clause-there c =
+returns-in_ok-enter_step-in_default-clause-there c parent opens =
+    let v = value c.args.planned.now.schema.now in
     let g = frame_standing (context_view c.enter_step.new.self) in
-    let s = schema_at g.resource g.pointer (value c.args.planned.now.schema.now) in
+    let s = schema_at g.resource g.pointer v in
     let there : (p : Schema) → Contains (linked_schemas (scope_documents c.args.self.now.scope).now) p → p.resource ≡ g.resource
     → Contains (linked_schemas (scope_documents c.args.self.now.scope).now) s → OnOk c.enter_schema.result (frame_standing (context_view c.enter_schema.new.self) ≡ standing_at [] s g) =
     subst (λ (l : Bor Linked). (p : Schema) → Contains (linked_schemas l.now) p → p.resource ≡ g.resource → Contains (linked_schemas l.now) s
     → OnOk c.enter_schema.result (frame_standing (context_view c.enter_schema.new.self) ≡ standing_at [] s g))
-    c.in_ok-enter_step-in_default.ensures.documents c.enter_schema.ensures.there in
+    c.in_ok-enter_step-in_default.ensures.documents (λ p. c.enter_schema.ensures.there p v opens) in
     below_there c.enter_schema.result (linked_schemas (scope_documents c.args.self.now.scope).now) (context_view c.args.self.now) (context_view c.enter_step.new.self) (context_view c.enter_schema.new.self)
-    c.args.planned.now.way (value c.args.planned.now.schema.now) c.step.result
-    (context_within c.args.self.now) c.in_default.not-Target c.step.ensures c.in_ok-enter_step-in_default.ensures.moved there
+    c.args.planned.now.way v c.step.result
+    (context_within c.args.self.now) c.in_default.not-Target c.step.ensures c.in_ok-enter_step-in_default.ensures.moved there parent
 
 pub returns-in_ok-enter_step-in_default-clause-onward : goal.returns-in_ok-enter_step-in_default-clause-onward
 returns-in_ok-enter_step-in_default-clause-onward c =
@@ -39,7 +40,7 @@ returns-in_ok-enter_step-in_default-clause-left c =
     IfOk-weaker c.enter_schema.result _ _ (λ left before. before ∙ stays) c.enter_schema.ensures.left
 
 pub returns-in_ok-clone-in-Target-clause-there : goal.returns-in_ok-clone-in-Target-clause-there
-returns-in_ok-clone-in-Target-clause-there c = λ parent known resource contains.
+returns-in_ok-clone-in-Target-clause-there c = λ parent opens known resource contains.
     target_there (context_view c.args.self.now) (context_view c.enter_origin-left.new.self) c.args.planned.now.way (value c.args.planned.now.schema.now) c.in-Target.origin (origin_view c.in_ok-clone-in-Target.field-0.value) c.in-Target.is
     (ap origin_view c.in_ok-clone-in-Target.ensures.cases) c.enter_origin-left.ensures.moved
 

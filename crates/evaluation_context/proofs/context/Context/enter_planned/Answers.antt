@@ -15,11 +15,11 @@ use Rattle.evaluation_context.proofs.PlannedLaws.{front_of_part, planned_there}
 use Rattle.evaluation_context.proofs.context.Context.enter_planned.Goals as goal
 
 pub returns-clause-there : goal.returns-clause-there
-returns-clause-there c = λ a k here known contains.
+returns-clause-there c = λ a k opens here known contains.
     let planned = c.args.planned.now in
     let around : a.schema.resource ≡ (frame_standing (context_view c.args.self.now)).resource = sym (ap (λ (st : Standing). st.resource) here) in
     planned_there (linked_schemas (scope_documents c.args.self.now.scope).now) (context_view c.args.self.now) (context_view c.enter_chosen.new.self) (context_view c.enter_part.new.self) a k planned.way (value planned.schema.now) (part_view planned.part) (subject_value planned.subject)
-    here c.in_ok-enter_part.ensures.moved (c.in_ok-origin.ensures.there a.schema known around) contains
+    here c.in_ok-enter_part.ensures.moved (c.in_ok-origin.ensures.there a.schema opens known around) contains
 
 -- the way back leads to where the context stood
 leads : (c : goal.In_ok-enter_part) → LeadsTo (record { path = c.len-path.result; origin = c.in_ok-origin.origin; onward = c.args.self.now.onward; instance_location = c.len-instance_location.result; name = c.args.self.now.name }) (context_view c.args.self.now)

@@ -1,9 +1,8 @@
-use Rattle.std.proofs.Common.{◌≡◌, [], Some, sym, ap, ◌∙◌, codes}
+use Rattle.std.proofs.Common.{◌≡◌, [], Some, option_map, sym, ap, ◌∙◌, codes}
 use Rattle.definitions.specs.Values.{text_at}
 use Rattle.definitions.specs.Schemas.{Identity, schema_at, opened_schema}
 use Rattle.definitions.specs.Resolution.{target_uri}
 use Rattle.definitions.specs.Uris.{without_fragment}
-use Rattle.json_doc.specs.Docs.{value}
 use Rattle.basic_output.specs.PointerViews.{origin_view}
 use Rattle.keyword_plans.specs.OpenedResources.{Opens}
 use Rattle.keyword_plans.specs.ScopeViews.{scope_documents}
@@ -13,12 +12,11 @@ use Rattle.evaluation_context.proofs.FrameLaws.{schema_entered, schema_stays, on
 use Rattle.evaluation_context.proofs.context.Context.enter_schema.Goals as goal
 
 pub returns-in_ok-origin-in-Some-clause-there : goal.returns-in_ok-origin-in-Some-clause-there
-returns-in_ok-origin-in-Some-clause-there c = λ parent known around contains.
+returns-in_ok-origin-in-Some-clause-there c = λ parent v opens known around contains.
     let f = context_view c.args.self.now in
     let st = frame_standing f in
-    let v = value c.args.schema.now in
     let s = schema_at st.resource st.pointer v in
-    let is : text_at (codes "$id") v ≡ Some c.in-Some.id.now = sym c.in-Some.ensures in
+    let is : text_at (codes "$id") v ≡ Some c.in-Some.id.now = sym opens ∙ ap (option_map (λ t. t.now)) c.in-Some.is in
     let root : s.pointer ≡ [] = ap (λ o. (opened_schema st.resource st.pointer v o).pointer) is in
     let resource : s.resource ≡ without_fragment (target_uri st.resource c.in-Some.id.now) =
     ap (λ o. (opened_schema st.resource st.pointer v o).resource) is in
@@ -35,7 +33,6 @@ returns-in_ok-origin-in-Some-clause-onward c =
     onward_at (c.enter_origin.ensures.moved ∙ ap (at_origin (origin_view c.in_ok-origin-in-Some.origin.value)) c.in_ok-resource-in-Some.ensures.same) (onward_origin (origin_view c.in_ok-origin-in-Some.origin.value) (context_view c.args.self.now))
 
 pub returns-in-None-clause-there : goal.returns-in-None-clause-there
-returns-in-None-clause-there c = λ parent known around contains.
+returns-in-None-clause-there c = λ parent v opens known around contains.
     let st = frame_standing (context_view c.args.self.now) in
-    let v = value c.args.schema.now in
-    schema_stays st v (ap (opened_schema st.resource st.pointer v) c.in-None.ensures)
+    schema_stays st v (ap (opened_schema st.resource st.pointer v) (ap (option_map (λ t. t.now)) (sym c.in-None.is) ∙ opens))

@@ -4,6 +4,7 @@ use Rattle.definitions.specs.Keywords.{looks_at_evaluated}
 use Rattle.json_doc.specs.NamedMembers.{name_text}
 use Rattle.json_doc.specs.Docs.{value}
 use Rattle.keywords.specs.Rows.{row_of}
+use Rattle.keyword_plans.specs.Plans.{planned_view}
 use Rattle.keyword_plans.specs.Sites.{linked_rules}
 use Rattle.evaluation_context.specs.Frames.{context_view, frame_standing}
 use Rattle.evaluator.specs.Logs.{log_view}
@@ -25,7 +26,7 @@ returns-clause-planned c a left at knows got =
       instance = ap (λ (b : Application). b.instance) at.there;
       inside = at.inside;
     })
-    c.args.self.now.followed (ap (λ (b : Application). b.scope) at.there) c.args.self.now.searched got knows.condition knows.named
+    c.args.self.now.followed (ap (λ (b : Application). b.scope) at.there) c.args.self.now.searched got knows.condition
     ∙ same_looked (linked_rules l) (linked_outcome l left) _ _ _ _ a row.name row.meaning (value c.args.keyword_value.now) names indexes
 
 pub returns-clause-back : goal.returns-clause-back
@@ -35,3 +36,9 @@ returns-clause-back c = ap (λ uris. record (context_view c.args.self.now.contex
 pub returns-in_err-plan-clause-back : goal.returns-in_err-plan-clause-back
 unfolding context_view
 returns-in_err-plan-clause-back c = ap (λ uris. record (context_view c.args.self.now.context) { scope = uris }) c.plan.ensures.uris
+
+pub returns-then-surely_applies_nothing-clause-planned : goal.returns-then-surely_applies_nothing-clause-planned
+returns-then-surely_applies_nothing-clause-planned c a left at knows got =
+    let l = c.args.self.now.linked.now in
+    ap (map (planned_view (row_of c.args.keyword).name a)) c.new.ensures.items
+    ∙ sym (c.surely_applies_nothing.ensures l a (linked_outcome l left) _ _ (value c.args.keyword_value.now) at.inside (ap (λ (b : Application). b.instance) at.there) knows.named c.if-surely_applies_nothing.true)

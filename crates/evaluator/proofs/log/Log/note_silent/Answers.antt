@@ -3,7 +3,7 @@ use Rattle.std.proofs.lemmas.Bool.{and_right}
 use Rattle.std.proofs.lemmas.Result.{on_ok_weaker}
 use Rattle.json_doc.specs.NamedMembers.{name_text}
 use Rattle.evaluator.specs.Logs.{log_view}
-use Rattle.evaluator.specs.Notes.{needs_to_pass, no_notes, notes_of_both, outcome_notes}
+use Rattle.evaluator.specs.Notes.{needs_to_pass, no_notes, notes_of_both}
 use Rattle.evaluator.proofs.LogLaws.{name_after, index_after, silent_before}
 use Rattle.evaluator.proofs.log.Log.note_silent.Goals as goal
 

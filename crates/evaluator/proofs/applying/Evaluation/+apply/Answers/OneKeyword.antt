@@ -1,6 +1,7 @@
 -- One keyword, and the schemas that it applies.
-use Rattle.std.proofs.Common.{◌≡◌, ◌∙◌, sym, ap, subst, Bor, refl, arith, length, OnOk, ◌∷◌, [], map, Contains as Contains-use_keyword, IfOk, Contains as Contains-apply_all}
+use Rattle.std.proofs.Common.{◌≡◌, ◌∙◌, sym, ap, subst, Bor, refl, arith, codes, length, OnOk, ◌∷◌, [], map, Contains as Contains-use_keyword, IfOk, Contains as Contains-apply_all}
 use Rattle.definitions.specs.Applied.{Application, Part}
+use Rattle.definitions.specs.Values.{text_at}
 use Rattle.json_doc.specs.Docs.{value}
 use Rattle.keyword_plans.specs.ScopeViews.{scope_documents}
 use Rattle.keyword_plans.specs.Subjects.{subject_value}
@@ -224,7 +225,7 @@ apply_entered-returns-in-Ok-clause-valid t c a k under known =
     let child = (planned_view k a p).1 in
     let here : IsKnown (scope_documents c.args.self.now.context.scope).now k a p = subst (λ (l : Bor Linked). IsKnown l.now k a p) (sym c.args.self.now.followed) known in
     let at : IsAt c.args.self.now.linked.now (context_view c.enter_planned.new.self) (value c.of-present.result.schema.now) (subject_value p.subject) child =
-    planned_at c.args.self.now.linked.now (context_view c.enter_planned.new.self) k a p (value c.of-present.result.schema.now) (c.in_ok-back.ensures.there a k under here.0 here.1) (ap value c.of-present.ensures) known in
+    planned_at c.args.self.now.linked.now (context_view c.enter_planned.new.self) k a p (value c.of-present.result.schema.now) (c.in_ok-back.ensures.there a k (c.identifier.ensures ∙ ap (λ d. text_at (codes "$id") (value d)) c.of-present.ensures) under here.0 here.1) (ap value c.of-present.ensures) known in
     c.in-Ok.ensures.valid child at
 
 pub apply_entered-returns-in-Err-clause-err : goal.apply_entered-returns-in-Err-clause-err
@@ -233,5 +234,5 @@ apply_entered-returns-in-Err-clause-err t c a k under known other =
     let child = (planned_view k a p).1 in
     let here : IsKnown (scope_documents c.args.self.now.context.scope).now k a p = subst (λ (l : Bor Linked). IsKnown l.now k a p) (sym c.args.self.now.followed) known in
     let at : IsAt c.args.self.now.linked.now (context_view c.enter_planned.new.self) (value c.of-present.result.schema.now) (subject_value p.subject) child =
-    planned_at c.args.self.now.linked.now (context_view c.enter_planned.new.self) k a p (value c.of-present.result.schema.now) (c.in_ok-back.ensures.there a k under here.0 here.1) (ap value c.of-present.ensures) known in
+    planned_at c.args.self.now.linked.now (context_view c.enter_planned.new.self) k a p (value c.of-present.result.schema.now) (c.in_ok-back.ensures.there a k (c.identifier.ensures ∙ ap (λ d. text_at (codes "$id") (value d)) c.of-present.ensures) under here.0 here.1) (ap value c.of-present.ensures) known in
     c.in-Err.ensures.err child at other

@@ -1,6 +1,6 @@
 //! The types of instances (Validation, section 6.1.1).
 
-ghost use Rattle.std.specs.Prelude.{◌≡◌, IsTrue, true};
+ghost use Rattle.std.specs.Prelude.{◌≡◌, IsTrue, take, true};
 ghost use Rattle.std.specs.List.{list_any};
 ghost use Rattle.definitions.specs.Values.{same_text};
 ghost use Rattle.definitions.specs.Assertions.{is_of_types, is_of_type, types_of};
@@ -69,13 +69,21 @@ fn surely_has_type(instance: &Doc, name: &ShortText) -> bool
         → list_any (same_text (short_text name.now)) (types_of (value instance.now)) ≡ true }
 {
     match instance {
-        Doc::Null => name.is_padded(4, NULL),
-        Doc::Bool(_) => name.is_padded(7, BOOLEAN),
-        Doc::Int(_) => name.is_padded(7, INTEGER) || name.is_padded(6, NUMBER),
-        Doc::Str(_) | Doc::Short(_) => name.is_padded(6, STRING),
-        Doc::List(_) => name.is_padded(5, ARRAY),
-        Doc::Dict(_) => name.is_padded(6, OBJECT),
+        Doc::Null => is_named(name, 4, NULL),
+        Doc::Bool(_) => is_named(name, 7, BOOLEAN),
+        Doc::Int(_) => is_named(name, 7, INTEGER) || is_named(name, 6, NUMBER),
+        Doc::Str(_) | Doc::Short(_) => is_named(name, 6, STRING),
+        Doc::List(_) => is_named(name, 5, ARRAY),
+        Doc::Dict(_) => is_named(name, 6, OBJECT),
     }
+}
+
+// Whether the name surely is that of so many of these bytes. It is inlined for its size: to ask for it would count all that the
+// comparison is written as, for each type.
+fn is_named(name: &ShortText, len: u32, padded: &[u8; 24]) -> bool
+    ensures { IsTrue result → short_text name.now ≡ take len padded.now }
+{
+    name.is_padded(len, padded)
 }
 
 // Whether the instance has a type of this name. A whole number is both `number` and `integer`.

@@ -130,7 +130,6 @@ fn write_unit(bytes: &mut [u8], start: usize, unit: ReadyUnit<'_>) -> usize
 
 // The same of what stands before what the unit says. Each text is written in a branch of its own, since one of a length
 // that is known takes few instructions.
-#[inline(always)]
 fn write_kind(bytes: &mut [u8], start: usize, annotates: bool) -> usize
     requires { start + length (34 ∷ kind_key annotates) ≤ length bytes.old }
     ensures end { result ≡ start + length (34 ∷ kind_key annotates) }
@@ -145,7 +144,6 @@ fn write_kind(bytes: &mut [u8], start: usize, annotates: bool) -> usize
     }
 }
 
-#[inline(always)]
 fn write_opening(bytes: &mut [u8], start: usize, form: Form) -> usize
     requires { start + length (said_opening form) ≤ length bytes.old }
     ensures end { result ≡ start + length (said_opening form) }
@@ -160,7 +158,6 @@ fn write_opening(bytes: &mut [u8], start: usize, form: Form) -> usize
     }
 }
 
-#[inline(always)]
 fn write_ending(bytes: &mut [u8], start: usize, form: Form) -> usize
     requires { start + length (said_ending form) ≤ length bytes.old }
     ensures end { result ≡ start + length (said_ending form) }

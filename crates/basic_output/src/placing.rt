@@ -45,8 +45,8 @@ fn place_many(bytes: &mut [u8], start: usize, from: &[u8]) -> usize
     place_ends::<32>(bytes, start + done, &from[done..])
 }
 
-// Places the first N and the last N of at most twice as many bytes.
-#[inline(always)]
+// Places the first N and the last N of at most twice as many bytes. This and the next are inlined for their size, and not asked
+// to be: what is asked is counted as it is written, and where that comes to much the whole is left a call.
 fn place_ends<const N: usize>(bytes: &mut [u8], start: usize, from: &[u8]) -> usize
     requires fits { start + length from.now ≤ length bytes.old }
     requires covers { (N ≤ length from.now) × (length from.now ≤ N + N) }
@@ -58,7 +58,6 @@ fn place_ends<const N: usize>(bytes: &mut [u8], start: usize, from: &[u8]) -> us
 }
 
 // Places the first N bytes.
-#[inline(always)]
 fn place_first<const N: usize>(bytes: &mut [u8], start: usize, from: &[u8]) -> usize
     requires { (N ≤ length from.now) × (start + N ≤ length bytes.old) }
     ensures { Placed bytes.old bytes.new start (take N from.now) result }

@@ -114,7 +114,7 @@ impl KeptNames {
     }
 
     /// The place at which the text of the list of these names is kept, if it is.
-    #[inline(never)]
+    #[inline(always)]
     pub(crate) fn find(&self, names: &[Name<'_>]) -> Option<usize>
         ensures { IfSome result
             (λ place. IsKept self.now place (names_text (map name_text names.now))) }

@@ -195,7 +195,6 @@ impl Units {
 
 // Appends a comma and the text of a unit, of which a part may be made apart. The only error is want of memory, and then
 // nothing was appended.
-#[inline(always)]
 fn append_unit(
     out: &mut TextBuffer,
     made: &mut Made,

@@ -13,7 +13,7 @@ use Rattle.std.specs.Ordering.{is_gt, is_lt, match_ordering, ordering_reverse}
 use Rattle.std.specs.Str.{is_utf8}
 use Rattle.definitions.specs.Values.{Text, Value, entry}
 use Rattle.json_doc.specs.Docs.{value}
-use Rattle.json_doc.specs.Members.{member_value, members_with, is_below, AreBelow, AreNotBelow, HasNamesInOrder, HasTextsAsNames}
+use Rattle.json_doc.specs.Members.{member_value, members_with, is_below, AreBelow, AreNotBelow, AreAbove, HasNamesInOrder, HasTextsAsNames}
 use Rattle.json_doc.specs.SmallTexts.{text_view, text_cmp}
 use Rattle.json_doc.specs.declared.small_text.SmallText.{SmallText}
 use Rattle.json_doc.specs.declared.small_text.SmallText.TheVariants.{Short, Keyword, Long}
@@ -65,8 +65,7 @@ pub put_members : (name : Text) (d : Doc) (es fs : List Entry) → IsPut name d 
 put_members name d es fs p = ap (map member_value) p.put ∙ put-insert_entry es p.key d ∙ ap (λ n. members_with n (value d) (map member_value es)) p.is
 
 -- ---- the order of names
-above : (name : SmallText) (es : List Entry) → AllByRecursion (λ k. text_cmp name k ≡ Less) (keys_of es)
-    → AllByRecursion (λ n. slice_cmp nat_cmp (text_view name) n ≡ Less) (map (λ m. m.0) (map member_value es))
+above : (name : SmallText) (es : List Entry) → AllByRecursion (λ k. text_cmp name k ≡ Less) (keys_of es) → AreAbove (text_view name) (map member_value es)
 above name [] h = tt
 above name (e ∷ es) h = (h.0, above name es h.1)
 

@@ -3,6 +3,7 @@ pub mod Views
 pub mod Entries
 pub mod Converted
 pub mod Nestings
+pub mod NamesInOrder
 pub mod Puts
 pub mod Equality
 pub mod Texts

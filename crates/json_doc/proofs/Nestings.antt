@@ -1,12 +1,10 @@
 -- Nesting and form of a value, element by element and member by member.
-use Rattle.std.proofs.Common.{◌≡◌, ◌≤◌, ◌<◌, ◌&&◌, ℕ, zero, suc, max, min, List, [], ◌∷◌, ◌++◌, map, length, get_or, true, false, Bool, refl, arith, nat_cmp, Less}
-use Rattle.std.specs.Cmp.Lexicographic.{slice_cmp}
-use Rattle.std.specs.List.{AllByRecursion}
+use Rattle.std.proofs.Common.{◌≡◌, ◌≤◌, ◌<◌, ◌&&◌, ℕ, zero, suc, max, min, List, [], ◌∷◌, ◌++◌, map, length, get_or, true, false, Bool, refl, arith}
 use Rattle.std.specs.List.Sorted.{IsStrictlySortedBy}
 use Rattle.std.specs.Str.{is_utf8}
 use Rattle.definitions.specs.Values.{Text, Value, nesting, elements_nesting, members_nesting, is_well_formed, are_well_formed, are_well_formed_members, is_before, to_elements, to_members}
 use Rattle.json_doc.specs.Docs.{value}
-use Rattle.json_doc.specs.Members.{HasNamesInOrder}
+use Rattle.json_doc.specs.Members.{AreAbove, HasNamesInOrder}
 use Rattle.json_doc.specs.declared.doc.Doc.{Doc}
 
 -- ---- elements
@@ -32,7 +30,7 @@ pub member_nesting : (done : List (Text × Value)) (m : Text × Value) (rest : L
 member_nesting [] m rest = omega arith
 member_nesting (d ∷ done) m rest = omega (arith, member_nesting done m rest)
 
-before_rest : (n : Text) (ms : List (Text × Value)) → AllByRecursion (λ k. slice_cmp nat_cmp n k ≡ Less) (map (λ m. m.0) ms) → is_before n (to_members ms) ≡ true
+before_rest : (n : Text) (ms : List (Text × Value)) → AreAbove n ms → is_before n (to_members ms) ≡ true
 before_rest n [] h = refl
 before_rest n (m ∷ ms) h = rw h.0 refl
 

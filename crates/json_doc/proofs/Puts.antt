@@ -1,15 +1,14 @@
 -- Members put in one after the other, in order of names.
-use Rattle.std.proofs.Common.{◌≡◌, List, [], ◌∷◌, ◌++◌, map, Less, Greater, nat_cmp, refl, ap, ◌∙◌}
+use Rattle.std.proofs.Common.{◌≡◌, List, [], ◌∷◌, ◌++◌, Less, Greater, nat_cmp, refl, ap, ◌∙◌}
 use Rattle.std.proofs.lemmas.Cmp.{nat_list_cmp_total}
 use Rattle.std.specs.Cmp.Lexicographic.{slice_cmp}
-use Rattle.std.specs.List.{AllByRecursion}
 use Rattle.std.specs.List.Sorted.{IsStrictlySortedBy}
 use Rattle.std.specs.Ordering.{ordering_reverse}
 use Rattle.definitions.specs.Values.{Text, Value}
-use Rattle.json_doc.specs.Members.{members_with, HasNamesInOrder}
+use Rattle.json_doc.specs.Members.{members_with, AreAbove, HasNamesInOrder}
 
-before_middle : (name : Text) (done : List (Text × Value)) (m : Text × Value) (rest : List (Text × Value))
-    → AllByRecursion (λ n. slice_cmp nat_cmp name n ≡ Less) (map (λ e. e.0) (done ++ m ∷ rest)) → slice_cmp nat_cmp name m.0 ≡ Less
+before_middle : (name : Text) (done : List (Text × Value)) (m : Text × Value) (rest : List (Text × Value)) → AreAbove name (done ++ m ∷ rest)
+    → slice_cmp nat_cmp name m.0 ≡ Less
 before_middle name [] m rest h = h.0
 before_middle name (d ∷ done) m rest h = before_middle name done m rest h.1
 

@@ -5,6 +5,7 @@ use Rattle.std.specs.Cmp.Lexicographic.{slice_cmp}
 use Rattle.std.specs.List.{AllByRecursion}
 use Rattle.std.specs.List.Sorted.{IsStrictlySortedBy}
 use Rattle.std.specs.Ordering.{is_lt, nat_cmp, match_ordering}
+use Rattle.std.specs.declared.cmp.Ordering.TheVariants.{Less}
 use Rattle.std.specs.Slice.Iter.{iter_rest}
 use Rattle.std.specs.Str.{is_utf8}
 use Rattle.definitions.specs.Values.{Text, Value}
@@ -38,6 +39,10 @@ AreBelow name ms = AllByRecursion (λ m. is_below m.0 name ≡ true) ms
 -- no name is below this one
 abbrev pub AreNotBelow : Text → List (Text × Value) → Type 0
 AreNotBelow name ms = AllByRecursion (λ m. is_below m.0 name ≡ false) ms
+
+-- each name is above this one
+abbrev pub AreAbove : Text → List (Text × Value) → Type 0
+AreAbove name ms = AllByRecursion (λ n. slice_cmp nat_cmp name n ≡ Less) (map (λ m. m.0) ms)
 
 -- the name and the value of an entry of the map
 abbrev pub member_value : SmallText × Doc → Text × Value

@@ -5,8 +5,9 @@ ghost use Rattle.std.specs.Cmp.Lexicographic.{slice_cmp};
 ghost use Rattle.std.specs.Iterator.{YieldsFirstBy, item_count};
 ghost use Rattle.std.specs.Ordering.{nat_cmp};
 ghost use Rattle.definitions.specs.Values.{same_text};
-ghost use Rattle.json_doc.specs.Members.{members_left};
-ghost use Rattle.json_doc.specs.NamedMembers.{name_text, named_left, named_view};
+ghost use Rattle.json_doc.specs.Docs.{value};
+ghost use Rattle.json_doc.specs.Members.{HasNamesInOrder, members_left};
+ghost use Rattle.json_doc.specs.NamedMembers.{IsTaken, name_text, named_left, named_view};
 ghost use Rattle.json_doc.specs.SmallTexts.{short_text};
 ghost use Rattle.keywords.specs.Rows.{row_named, row_of};
 
@@ -98,6 +99,28 @@ impl<'a> NamedMembers<'a> {
         ensures { named_left result ≡ members_left members.entry }
     {
         NamedMembers { members }
+    }
+
+    /// The member of this name, among those that are left. It is passed over, and so are those whose names come before.
+    #[inline(always)]
+    pub fn take_named(&mut self, name: Name<'_>) -> Option<&'a Doc>
+        ensures { HasNamesInOrder (named_left self.old)
+            → IsTaken (name_text name.entry) (named_left self.old) (named_left self.new)
+            (option_map (λ d. value d.now) result) }
+    {
+        'names: while let Some((key, _)) = self.members.entries.as_slice().first() {
+            match key.compare(name.stored) {
+                Ordering::Less => drop(self.members.entries.next()),
+                Ordering::Equal => {
+                    return match self.members.entries.next() {
+                        Some((_, member)) => Some(member),
+                        None => None,
+                    };
+                }
+                Ordering::Greater => return None,
+            }
+        }
+        None
     }
 }
 

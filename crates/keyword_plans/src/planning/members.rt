@@ -12,7 +12,7 @@ use crate::planned::{Part, Planned, Way};
 use crate::subject::Subject;
 use json_doc::{Doc, Members};
 use std::alloc::AllocError;
-use std::cmp::{Ordering, min};
+use std::cmp::min;
 
 /// How many times as long a list is that is searched for each name of the other, rather than walked along beside it.
 pub(crate) const FAR_LONGER: usize = 4;
@@ -102,7 +102,7 @@ fn plan_at_names<'a>(
     }
 }
 
-// Along both: of the first schema and the first member that are left, the one of the lesser name has no partner.
+// Along both: each member takes the one of its name from the schemas that are left.
 fn plan_merged<'a>(
     planned: &mut Vec<Planned<'a>>,
     schemas: &'a Members,
@@ -115,23 +115,14 @@ fn plan_merged<'a>(
 {
     planned.reserve(min(schemas.len(), members.len()))?;
     let mut other_schemas = schemas.iter().named();
-    let mut other_members = members.iter().named();
-    let mut first_schema = other_schemas.next();
-    let mut first_member = other_members.next();
-    'names: while let (Some((key, schema)), Some((name, member))) = (first_schema, first_member) {
-        match key.compare(name) {
-            Ordering::Less => first_schema = other_schemas.next(),
-            Ordering::Greater => first_member = other_members.next(),
-            Ordering::Equal => {
-                planned.push(Planned {
-                    way: Way::Member(name),
-                    schema,
-                    part: Part::Member(name),
-                    subject: Subject::Value(member),
-                })?;
-                first_schema = other_schemas.next();
-                first_member = other_members.next();
-            }
+    for (name, member) in members.iter().named() {
+        if let Some(schema) = other_schemas.take_named(name) {
+            planned.push(Planned {
+                way: Way::Member(name),
+                schema,
+                part: Part::Member(name),
+                subject: Subject::Value(member),
+            })?;
         }
     }
     Ok(())

@@ -1,16 +1,12 @@
 //! Members that no keyword beside takes (JSON Schema 2020-12 Core, 10.3.2.3).
 
 ghost use Rattle.std.specs.Prelude.{◌≡◌, ◌≤◌, [], Contains, true, codes, map, option_map, unwrap_or, is_some, IfOk, IfErr, OnOk};
-ghost use Rattle.std.specs.Cmp.Lexicographic.{slice_cmp};
 ghost use Rattle.std.specs.List.{All, list_any};
-ghost use Rattle.std.specs.Ordering.{nat_cmp};
-ghost use Rattle.std.specs.declared.cmp.Ordering.TheVariants.{Greater};
 ghost use Rattle.definitions.specs.Values.{Text, Value, entry, members};
 ghost use Rattle.definitions.specs.Patterns.{has_match};
 ghost use Rattle.definitions.specs.Schemas.{Schema};
 ghost use Rattle.definitions.specs.Applied.{Application, beside, is_taken};
 ghost use Rattle.json_doc.specs.Docs.{value, members_value};
-ghost use Rattle.json_doc.specs.NamedMembers.{name_text};
 ghost use Rattle.keyword_plans.specs.Applications.{ArePatternsOf, named_count, planned_others, planned_unnamed};
 ghost use Rattle.keyword_plans.specs.Subjects.{subject_value};
 ghost use Rattle.linker.specs.LinkedDocuments.{linked_schemas};
@@ -29,10 +25,9 @@ use crate::planning::members::FAR_LONGER;
 use crate::searches::Searches;
 use crate::site::Site;
 use crate::subject::{Subject, members_of};
-use json_doc::{Doc, Members, Name};
+use json_doc::{Doc, Members};
 use keywords::Keyword;
 use std::alloc::AllocError;
-use std::cmp::Ordering;
 
 // The keywords beside `additionalProperties` that take members.
 #[derive(Clone, Copy)]
@@ -139,7 +134,7 @@ fn plan_untaken<'a>(
     }
 }
 
-// Along both: a member whose name comes before that of the first schema that is left has no schema.
+// Along both: a member that takes none of the schemas that are left has none of its name.
 fn plan_unnamed<'a>(
     planned: &mut Vec<Planned<'a>>,
     schemas: &Members,
@@ -153,40 +148,17 @@ fn plan_unnamed<'a>(
         (members_value members.now)) }
 {
     let mut other_schemas = schemas.iter().named();
-    let mut other_members = members.iter().named();
-    let mut first_schema = other_schemas.next();
-    let mut first_member = other_members.next();
-    'names: while let Some((name, member)) = first_member {
-        match order_of_first(first_schema, name) {
-            Ordering::Less => first_schema = other_schemas.next(),
-            Ordering::Equal => {
-                first_schema = other_schemas.next();
-                first_member = other_members.next();
-            }
-            Ordering::Greater => {
-                planned.push(Planned {
-                    way: Way::Own,
-                    schema,
-                    part: Part::Member(name),
-                    subject: Subject::Value(member),
-                })?;
-                first_member = other_members.next();
-            }
+    for (name, member) in members.iter().named() {
+        if other_schemas.take_named(name).is_none() {
+            planned.push(Planned {
+                way: Way::Own,
+                schema,
+                part: Part::Member(name),
+                subject: Subject::Value(member),
+            })?;
         }
     }
     Ok(())
-}
-
-// How the name of the first schema that is left stands to this one, which comes before where none is left.
-fn order_of_first(first: Option<(Name<'_>, &Doc)>, name: Name<'_>) -> Ordering
-    ensures { result ≡ unwrap_or
-        (option_map (λ s. slice_cmp nat_cmp (name_text s.0) (name_text name.entry)) first.entry)
-        Greater }
-{
-    match first {
-        Some((key, _)) => key.compare(name),
-        None => Ordering::Greater,
-    }
 }
 
 fn plan_each_untaken<'a>(

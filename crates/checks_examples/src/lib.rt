@@ -28,6 +28,7 @@ mod long_enums;
 mod long_patterns;
 #[cfg(test)]
 mod long_resources;
+mod long_scopes;
 #[cfg(test)]
 mod outputs;
 #[cfg(test)]

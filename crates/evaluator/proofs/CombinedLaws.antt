@@ -1,7 +1,8 @@
 -- Laws of the outcome of a schema object, from the uses of its keywords.
-use Rattle.std.proofs.Common.{◌≡◌, ◌+◌, length, List, [], ◌∷◌, ◌++◌, true, false, refl, sym, ap, ◌∙◌, arith, append-nil, flat_map}
+use Rattle.std.proofs.Common.{◌≡◌, ◌+◌, length, List, [], ◌∷◌, ◌++◌, true, false, inl, inr, refl, sym, ap, ◌∙◌, arith, append-nil, flat_map}
 use Rattle.std.proofs.lemmas.Bool.{and_parts}
 use Rattle.std.proofs.lemmas.List.{map-append}
+use Rattle.std.proofs.lemmas.List.Elements.{Contains-push_cases}
 use Rattle.std.specs.List.{list_all}
 use Rattle.definitions.specs.Values.{Value}
 use Rattle.definitions.specs.Applied.{Application, application_within}
@@ -52,6 +53,11 @@ pub entered_at : (l : Linked) (f g : Frame) (s x : Value) (a : Application) → 
 entered_at l f g s x a at e = record {
   there = ap application_within at.there ∙ entered_there (frame_standing f) s x ∙ ap (λ st. application_at st s x) (sym e);
   inside = at.inside;
+  scope =
+      λ uri c. elim (Contains-push_cases a.scope a.schema.resource uri c) [
+        | inl older ↦ at.scope uri older
+        | inr own ↦ (a.schema, at.inside, own)
+      ];
 }
 
 pub stands_there : (st : Standing) (s x : Value) (a : Application) → a ≡ application_at st s x → st ≡ standing_of a

@@ -1,5 +1,5 @@
 -- Laws of planned applications, and of what they found and noted so far.
-use Rattle.std.proofs.Common.{◌≡◌, ℕ, ◌+◌, ◌<◌, ◌≤◌, List, [], ◌∷◌, ◌++◌, map, length, cond, Bool, true, false, ◌||◌, refl, sym, ap, ◌∙◌, arith, length-append, append_assoc, take, drop, get_or}
+use Rattle.std.proofs.Common.{◌≡◌, ℕ, ◌+◌, ◌<◌, ◌≤◌, List, [], ◌∷◌, ◌++◌, map, length, cond, Bool, true, false, ◌||◌, refl, sym, ap, ◌∙◌, subst, arith, length-append, append_assoc, take, drop, get_or}
 use Rattle.std.proofs.Math.Bool.{or-false, or_assoc}
 use Rattle.std.specs.List.{list_any}
 use Rattle.std.proofs.lemmas.List.{map-append, take_more, take-append-drop}
@@ -13,6 +13,7 @@ use Rattle.lemmas.proofs.Lists.{flat_map-push, map-take_more}
 use Rattle.definition_laws.proofs.Places.{value-opened}
 use Rattle.json_doc.specs.Docs.{value}
 use Rattle.linker.specs.declared.linked.Linked.{Linked}
+use Rattle.keyword_plans.specs.LinkedResources.{HasResources}
 use Rattle.keyword_plans.specs.Plans.{part_view, planned_view, way_application}
 use Rattle.keyword_plans.specs.Subjects.{subject_value}
 use Rattle.keyword_plans.specs.declared.planned.Planned.{Planned}
@@ -40,6 +41,12 @@ instance_planned k a (Member name) v part x = refl
 instance_planned k a (Element i) v part x = refl
 instance_planned k a (Target origin) v part x = refl
 
+scope_planned : (k : Text) (a : Application) (way : Way) (v : Value) (part : definition.Part) (x : Value) → (way_application k a way v part x).scope ≡ a.scope
+scope_planned k a Own v part x = refl
+scope_planned k a (Member name) v part x = refl
+scope_planned k a (Element i) v part x = refl
+scope_planned k a (Target origin) v part x = refl
+
 at_itself : (a : Application) → application_at (standing_of a) a.schema.value a.instance ≡ a
 at_itself a = refl
 
@@ -53,7 +60,8 @@ planned_at l f k a p s e v known = record {
       at_same (planned_view k a p).1 (frame_standing f) s (subject_value p.subject) e
       (schema_value_planned k a p.way (value p.schema.now) (part_view p.part) (subject_value p.subject) ∙ sym v)
       (instance_planned k a p.way (value p.schema.now) (part_view p.part) (subject_value p.subject));
-  inside = known.1;
+  inside = known.planned;
+  scope = subst (HasResources l) (sym (scope_planned k a p.way (value p.schema.now) (part_view p.part) (subject_value p.subject))) known.scope;
 }
 
 -- ---- one more

@@ -16,7 +16,7 @@ use Rattle.definitions.specs.Patterns.{has_match}
 use Rattle.definitions.specs.Applied.{Outcome}
 use Rattle.definitions.specs.Answers.{answer, answer_of, answer_from, first_application, output_text}
 use Rattle.definitions.specs.Limits.{limits}
-use Rattle.definition_laws.proofs.Membership.{found_there}
+use Rattle.definition_laws.proofs.Membership.{nothing_in, found_there}
 use Rattle.basic_output.specs.Outputs as output
 use Rattle.basic_output.specs.Pieces.{unit_text}
 use Rattle.basic_output.specs.Units.{unit_texts}
@@ -53,6 +53,7 @@ pub first_is_at : (l : Linked) (f : Frame) (s : Schema) (x : Value) → resource
 first_is_at l f s x e there = record {
   there = sym there;
   inside = (found_there (λ t. same_text (linked_uri l) t.resource && is_root t) (linked_schemas l) s e).0;
+  scope = λ uri c. absurd (nothing_in uri c);
 }
 
 -- ---- what was noted from nothing on

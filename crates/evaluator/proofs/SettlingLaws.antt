@@ -17,6 +17,7 @@ use Rattle.basic_output.specs.Pieces.{unit_text}
 use Rattle.linker.specs.LinkedDocuments.{linked_documents, linked_schemas}
 use Rattle.linker.specs.declared.linked.Linked.{Linked}
 use Rattle.keyword_plans.specs.Annotations.{annotation_names}
+use Rattle.keyword_plans.specs.LinkedResources.{HasResources}
 use Rattle.keyword_plans.specs.Plans.{planned_view}
 use Rattle.keywords.specs.Rows.{row_of}
 use Rattle.keywords.proofs.Grouped.{row_in}
@@ -107,17 +108,20 @@ planned_outcomes l left k a [] = refl
 planned_outcomes l left k a (p ∷ ps) = ap (λ os. (let e = planned_view k a p in (e.0, linked_outcome l left e.1)) ∷ os) (planned_outcomes l left k a ps)
 
 pub planned_known : (l : Linked) (left : ℕ) (keyword : Keyword) (a : Application) (ps : List Planned) (names : List Text) (indexes : List ℕ) (v : Value)
-    → Contains (linked_schemas l) a.schema → get (row_of keyword).name a.schema.value ≡ Some v
+    → Contains (linked_schemas l) a.schema → HasResources l a.scope → get (row_of keyword).name a.schema.value ≡ Some v
     → map (planned_view (row_of keyword).name a) ps ≡ keyword_applications (linked_rules l) (linked_outcome l left) names indexes a (row_of keyword).name (row_of keyword).meaning v
     → (p : Planned) → Contains ps p → IsKnown l (row_of keyword).name a p
-planned_known l left keyword a ps names indexes v inside found same p here =
+planned_known l left keyword a ps names indexes v inside scope found same p here =
     let k = (row_of keyword).name in
     let e = planned_view k a p in
-    let there : Contains (map (planned_view k a) ps) e = contains_from_in (map (planned_view k a) ps) e (into_map (planned_view k a) ps p (in_from_contains ps p here)) in (
-      inside,
-      applied_schemas_are_known (linked_rules l) (linked_documents l) refl (linked_outcome l left) names indexes a (row_of keyword) v e (row_in keyword) inside found
-          (subst (λ es. Contains es e) same there),
-    )
+    let there : Contains (map (planned_view k a) ps) e = contains_from_in (map (planned_view k a) ps) e (into_map (planned_view k a) ps p (in_from_contains ps p here)) in
+    record {
+      inside = inside;
+      scope = scope;
+      planned =
+          applied_schemas_are_known (linked_rules l) (linked_documents l) refl (linked_outcome l left) names indexes a (row_of keyword) v e (row_in keyword) inside found
+          (subst (λ es. Contains es e) same there);
+    }
 
 -- ---- one use
 pub use_valid : (b : Bool) (u : Use) → b ≡ u.passes → b ≡ list_all (λ u. u.passes) (u ∷ [])
@@ -138,6 +142,7 @@ at_keyword_of l left f g s x keyword v beside a at e knows valued = record {
   schema = ap (λ (b : Application). b.schema.value) at.there;
   instance = ap (λ (b : Application). b.instance) at.there;
   inside = at.inside;
+  scope = at.scope;
   knows = knows;
   valued = valued;
 }

@@ -8,6 +8,7 @@ use Rattle.definitions.specs.Outcomes.{Use, boolean_outcome, leaf, outcome, use_
 use Rattle.linker.specs.LinkedDocuments.{linked_schemas}
 use Rattle.linker.specs.declared.linked.Linked.{Linked}
 use Rattle.keyword_plans.specs.Applications.{named_count}
+use Rattle.keyword_plans.specs.LinkedResources.{HasResources}
 use Rattle.keyword_plans.specs.Plans.{counts_contained, is_consequence, outcomes_of, planned_view, takes_others}
 use Rattle.keywords.specs.Rows.{row_of}
 use Rattle.keyword_plans.specs.Sites.{linked_rules}
@@ -27,10 +28,11 @@ use Rattle.evaluator.specs.declared.log.Before.{Before}
 abbrev pub linked_outcome : Linked → ℕ → Application → Outcome
 linked_outcome l left = outcome (linked_rules l) left
 
--- the application of this schema, which is one of the linked documents', to this instance there
+-- the application of this schema, which is one of the linked documents', to this instance there; its scope has their resources
 pub record IsAt (l : Linked) (f : Frame) (s x : Value) (a : Application) : Type 0 where
   pub there : a ≡ application_at (frame_standing f) s x
   pub inside : Contains (linked_schemas l) a.schema
+  pub scope : HasResources l a.scope
 
 -- at the keyword of this name, under this application's schema object
 abbrev pub IsUnder : Frame → Text → Application → Type 0
@@ -43,9 +45,11 @@ part_outcome l left k a p = let e = planned_view k a p in (e.0, linked_outcome l
 abbrev pub part_outcomes : Linked → ℕ → Text → Application → List Planned → Outcomes
 part_outcomes l left k a ps = map (part_outcome l left k a) ps
 
--- the application's schema and the one that is planned are the linked documents'
-abbrev pub IsKnown : Linked → Text → Application → Planned → Type 0
-IsKnown l k a p = Contains (linked_schemas l) a.schema × Contains (linked_schemas l) (planned_view k a p).1.schema
+-- the application's schema, the resources of its scope, and the schema that is planned are the linked documents'
+pub record IsKnown (l : Linked) (k : Text) (a : Application) (p : Planned) : Type 0 where
+  pub inside : Contains (linked_schemas l) a.schema
+  pub scope : HasResources l a.scope
+  pub planned : Contains (linked_schemas l) (planned_view k a p).1.schema
 
 -- ---- what keywords beside said
 pub record Knows (l : Linked) (left : ℕ) (a : Application) (meaning : Meaning) (beside : Beside) : Type 0 where
@@ -59,6 +63,7 @@ pub record IsAtKeyword (l : Linked) (left : ℕ) (f : Frame) (s x : Value) (keyw
   pub schema : a.schema.value ≡ s
   pub instance : a.instance ≡ x
   pub inside : Contains (linked_schemas l) a.schema
+  pub scope : HasResources l a.scope
   pub knows : Knows l left a (row_of keyword).meaning beside
   pub valued : get (row_of keyword).name a.schema.value ≡ Some v
 

@@ -1,17 +1,22 @@
 -- What was asked of resources stays right under the numbers of their texts.
-use Rattle.std.proofs.Common.{◌≡◌, ℕ, Bor, Option, Result, Some, nat_cmp, slice_get, sym, subst, ◌∙◌}
+use Rattle.std.proofs.Common.{◌≡◌, ℕ, Bor, Option, Result, Some, nat_cmp, option_map, slice_get, sym, ap₂, subst, ◌∙◌}
 use Rattle.std.proofs.lemmas.Map.Lookups.{exact_pairs, exact_unsigned}
 use Rattle.std.proofs.lemmas.Option.{same_Some}
 use Rattle.std.specs.BTreeMap.{BTreeMap, IsUnchanged, Updates, get}
 use Rattle.std.specs.Option.{IfSome}
 use Rattle.std.specs.Result.{OnErr, OnOk}
 use Rattle.definitions.specs.Schemas.{Schema}
+use Rattle.definitions.specs.Targets.{schema_with_dynamic_anchor}
 use Rattle.definitions.specs.Values.{Text}
+use Rattle.linker.specs.LinkedDocuments.{linked_schemas}
 use Rattle.linker.specs.NumberedTexts.{AreTold, numbered_texts, told_number}
 use Rattle.linker.specs.declared.linked.Linked.{Linked}
 use Rattle.linker.specs.declared.linked_texts.LinkedTexts.{LinkedTexts}
 use Rattle.keyword_plans.specs.Held.{parts_cmp}
-use Rattle.keyword_plans.specs.OpenedResources.{AreDocuments, AreOpened, IsDocument, IsOpened, Opens}
+use Rattle.keyword_plans.specs.Followed.{target_view}
+use Rattle.keyword_plans.specs.LinkedResources.{HasAnchor, HasResource}
+use Rattle.keyword_plans.specs.OpenedResources.{AreAnchored, AreDocuments, AreOpened, IsAnchored, IsDocument, IsOpened, Opens}
+use Rattle.keyword_plans.specs.declared.target.Target.{Target}
 use Rattle.keyword_plans.proofs.KeptByNumber.{right_after}
 
 -- ---- what an `$id` opens
@@ -49,3 +54,26 @@ pub document_found : (l : Linked) (t : LinkedTexts) (kept : BTreeMap ℕ ℕ) (u
     → slice_get (numbered_texts t) (told_number t uri) ≡ Some uri → IsDocument l uri (Some document)
 document_found l t kept uri document are there known =
     subst (λ o. IfSome o (λ d. (other : Text) → slice_get (numbered_texts t) (told_number t uri) ≡ Some other → IsDocument l other (Some d))) there (are (told_number t uri)) uri known
+
+-- ---- the schema with a dynamic anchor in a resource
+anchored_once : (l : Linked) (t : LinkedTexts) (numbers : ℕ × ℕ) (uri name : Text) (found : Option Target) → slice_get (numbered_texts t) numbers.0 ≡ Some uri
+    → slice_get (numbered_texts t) numbers.1 ≡ Some name → option_map target_view found ≡ schema_with_dynamic_anchor (linked_schemas l) uri name → IsAnchored l t numbers found
+anchored_once l t numbers uri name found first second is other_uri other_name e f =
+    is ∙ ap₂ (schema_with_dynamic_anchor (linked_schemas l)) (same_Some _ _ (sym first ∙ e)) (same_Some _ _ (sym second ∙ f))
+
+pub anchored_after : {E : Type 0} (l : Linked) (t : LinkedTexts) (old new : BTreeMap (ℕ × ℕ) (Option Target)) (numbers : ℕ × ℕ) (uri name : Text) (found : Option Target)
+    (r : Result (Option (Option Target)) E) → AreAnchored l t old → OnOk r (Updates parts_cmp old new numbers (Some found)) → OnErr r (IsUnchanged old new)
+    → slice_get (numbered_texts t) numbers.0 ≡ Some uri → slice_get (numbered_texts t) numbers.1 ≡ Some name
+    → option_map target_view found ≡ schema_with_dynamic_anchor (linked_schemas l) uri name → AreAnchored l t new
+anchored_after l t old new numbers uri name found r are updated same first second is =
+    right_after parts_cmp (exact_pairs nat_cmp nat_cmp exact_unsigned exact_unsigned) (IsAnchored l t) old new numbers found r are updated same
+    (anchored_once l t numbers uri name found first second is)
+
+pub anchored_found : (l : Linked) (t : LinkedTexts) (kept : BTreeMap (ℕ × ℕ) (Option Target)) (uri name : Text) (found : Option Target) → AreTold l t → AreAnchored l t kept
+    → get parts_cmp kept (told_number t uri, told_number t name) ≡ Some found → HasResource l uri → HasAnchor l name
+    → option_map target_view found ≡ schema_with_dynamic_anchor (linked_schemas l) uri name
+anchored_found l t kept uri name found told are there resource anchor =
+    let known : slice_get (numbered_texts t) (told_number t uri) ≡ Some uri =
+    subst (λ u. slice_get (numbered_texts t) (told_number t u) ≡ Some u) resource.2 (told.resources resource.0 resource.1) in
+    subst (λ o. IfSome o (IsAnchored l t (told_number t uri, told_number t name))) there (are (told_number t uri, told_number t name)) uri name known
+    (told.anchors name anchor)

@@ -1,5 +1,5 @@
 -- References that were followed, and what they name.
-use Rattle.std.specs.Prelude.{◌≡◌, ℕ, Contains, List, Option, Some, option_map}
+use Rattle.std.specs.Prelude.{◌≡◌, ℕ, Contains, IfSome, List, Option, Some, option_map}
 use Rattle.std.specs.BTreeMap.{BTreeMap, values}
 use Rattle.std.specs.List.{All}
 use Rattle.definitions.specs.Resolution.{target_uri}
@@ -14,6 +14,7 @@ use Rattle.schema_index.specs.ReferenceTexts.{HasReference}
 use Rattle.json_doc.specs.Docs.{value}
 use Rattle.basic_output.specs.PointerViews.{origin_view}
 use Rattle.basic_output.specs.declared.origin.Origin.{Origin}
+use Rattle.keyword_plans.specs.LinkedResources.{HasAnchor}
 use Rattle.keyword_plans.specs.declared.target.Target.{Target}
 use Rattle.keyword_plans.specs.declared.followed_references.Followed.{Followed}
 use Rattle.keyword_plans.specs.declared.followed_references.FollowedReference.{FollowedReference}
@@ -35,9 +36,14 @@ abbrev pub IsNamed : List Schema → Text → Option Followed → Type 0
 IsNamed table text n =
     (option_map (λ f. target_view f.target) n ≡ target table text) × ((scope : List Text) → option_map (followed_in_scope table scope) n ≡ dynamic_target table scope text)
 
+-- the dynamic anchor by which it names the schema is one of the documents'
+abbrev pub HasItsAnchor : Linked → Option Followed → Type 0
+HasItsAnchor l n = IfSome n (λ f. IfSome f.anchor (λ a. HasAnchor l a.now))
+
 -- what is kept of the reference is what it names in these documents
-abbrev pub IsFollowed : Linked → FollowedReference → Type 0
-IsFollowed l f = (resource text : Text) → reference_pair l f.number ≡ Some (resource, text) → IsNamed (linked_schemas l) (target_uri resource text) f.named
+pub record IsFollowed (l : Linked) (f : FollowedReference) : Type 0 where
+  pub named : (resource text : Text) → reference_pair l f.number ≡ Some (resource, text) → IsNamed (linked_schemas l) (target_uri resource text) f.named
+  pub anchored : HasItsAnchor l f.named
 
 -- all are that are kept in a map
 abbrev pub AreFollowed : Linked → BTreeMap (ℕ × ℕ × ℕ) FollowedReference → Type 0

@@ -16,3 +16,4 @@ pub mod SearchedIn
 pub mod NumberedPatterns
 pub mod ComparedIn
 pub mod OpenedResources
+pub mod LinkedResources

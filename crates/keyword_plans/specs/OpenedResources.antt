@@ -1,18 +1,21 @@
 -- What was asked of the resources of linked documents.
-use Rattle.std.specs.Prelude.{◌≡◌, ℕ, [], Contains, Option, Some, IfSome, codes, find, option_and_then, slice_get}
+use Rattle.std.specs.Prelude.{◌≡◌, ℕ, [], Contains, Option, Some, IfSome, codes, find, option_and_then, option_map, slice_get}
 use Rattle.std.specs.BTreeMap.{BTreeMap, get}
 use Rattle.std.specs.Borrow.{Bor}
 use Rattle.std.specs.Ordering.{nat_cmp}
 use Rattle.definitions.specs.Reach.{holds_resource}
 use Rattle.definitions.specs.Resolution.{target_uri}
 use Rattle.definitions.specs.Schemas.{Schema}
+use Rattle.definitions.specs.Targets.{schema_with_dynamic_anchor}
 use Rattle.definitions.specs.Uris.{without_fragment}
 use Rattle.definitions.specs.Values.{Text, text_at}
 use Rattle.linker.specs.LinkedDocuments.{linked_documents, linked_schemas}
 use Rattle.linker.specs.NumberedTexts.{numbered_texts}
 use Rattle.linker.specs.declared.linked.Linked.{Linked}
 use Rattle.linker.specs.declared.linked_texts.LinkedTexts.{LinkedTexts}
+use Rattle.keyword_plans.specs.Followed.{target_view}
 use Rattle.keyword_plans.specs.Held.{parts_cmp}
+use Rattle.keyword_plans.specs.declared.target.Target.{Target}
 
 -- this schema of the documents opens its resource by the `$id`, where the resource around it has the URI
 pub record Opens (l : Linked) (s : Schema) (around id : Text) : Type 0 where
@@ -39,3 +42,13 @@ IsDocument l uri n = option_and_then (slice_get (linked_documents l)) n ≡ find
 abbrev pub AreDocuments : Linked → LinkedTexts → BTreeMap ℕ ℕ → Type 0
 AreDocuments l t kept =
     (number : ℕ) → IfSome (get nat_cmp kept number) (λ document. (uri : Text) → slice_get (numbered_texts t) number ≡ Some uri → IsDocument l uri (Some document))
+
+-- where these numbers are those of a URI and of a dynamic anchor, this is the schema with the anchor in the resource
+abbrev pub IsAnchored : Linked → LinkedTexts → ℕ × ℕ → Option Target → Type 0
+IsAnchored l t numbers found =
+    (uri name : Text) → slice_get (numbered_texts t) numbers.0 ≡ Some uri → slice_get (numbered_texts t) numbers.1 ≡ Some name
+    → option_map target_view found ≡ schema_with_dynamic_anchor (linked_schemas l) uri name
+
+-- so it is with all that are kept of dynamic anchors
+abbrev pub AreAnchored : Linked → LinkedTexts → BTreeMap (ℕ × ℕ) (Option Target) → Type 0
+AreAnchored l t kept = (numbers : ℕ × ℕ) → IfSome (get parts_cmp kept numbers) (IsAnchored l t numbers)

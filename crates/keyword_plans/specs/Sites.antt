@@ -6,6 +6,7 @@ use Rattle.definitions.specs.Answers.{rules_of}
 use Rattle.json_doc.specs.Docs.{value}
 use Rattle.linker.specs.LinkedDocuments.{linked_documents, linked_schemas}
 use Rattle.linker.specs.declared.linked.Linked.{Linked}
+use Rattle.keyword_plans.specs.LinkedResources.{HasResources}
 use Rattle.keyword_plans.specs.Subjects.{subject_value}
 use Rattle.keyword_plans.specs.declared.site.Site.{Site}
 
@@ -13,9 +14,10 @@ use Rattle.keyword_plans.specs.declared.site.Site.{Site}
 abbrev pub linked_rules : Linked → Rules
 linked_rules l = rules_of has_match (linked_documents l)
 
--- the site of this application, whose schema is one of the linked documents'
+-- the site of this application, whose schema is one of the linked documents', and whose dynamic scope has their resources
 pub record Shows (site : Site) (a : Application) : Type 0 where
   pub schema : a.schema.value ≡ value site.schema.now
   pub resource : a.schema.resource ≡ site.resource.now
   pub instance : a.instance ≡ subject_value site.subject
   pub inside : Contains (linked_schemas site.linked.now) a.schema
+  pub scope : HasResources site.linked.now a.scope

@@ -1,14 +1,19 @@
 //! Resources that are told by their texts.
 
-ghost use Rattle.std.specs.Prelude.{◌≡◌, Contains, IfOk, IfSome, IsTrue, is_some, option_and_then};
+ghost use Rattle.std.specs.Prelude.{◌≡◌, Contains, IfOk, IfSome, IsTrue, is_some, option_and_then, option_map};
 ghost use Rattle.std.proofs.Props.{props};
 ghost use Rattle.definitions.specs.Schemas.{Schema};
+ghost use Rattle.definitions.specs.Targets.{schema_with_dynamic_anchor};
 ghost use Rattle.linker.specs.LinkedDocuments.{linked_schemas};
+ghost use Rattle.linker.specs.NumberedTexts.{telling_texts};
 ghost use Rattle.linker.specs.ReferenceNumbers.{StandsIn, document_at};
 ghost use Rattle.linker.specs.ValueSets.{value_set};
+ghost use Rattle.keyword_plans.specs.Followed.{target_view};
+ghost use Rattle.keyword_plans.specs.LinkedResources.{HasAnchor, HasNumber, HasResource};
 ghost use Rattle.keyword_plans.specs.OpenedResources.{IsDocument, Opens};
 
 use crate::numbered_resources::{NumberedResources, resource_opened};
+use crate::target::{Target, dynamically_anchored};
 use linker::Linked;
 use std::alloc::{AllocError, Global};
 
@@ -98,6 +103,45 @@ impl<'a> ComparedResources<'a> {
         match &mut self.numbered {
             Some(numbered) => numbered.document(uri),
             None => Ok(self.linked.document_number(uri)),
+        }
+    }
+
+    /// The number of a dynamic anchor of the documents, where the texts have numbers. The only error is want of memory.
+    pub(crate) fn anchor_number(
+        &mut self,
+        alloc: Global,
+        name: &str,
+    ) -> Result<Option<usize>, AllocError>
+        ensures ok { HasAnchor (compared_in self.old).now name.now → IfOk result
+            (HasNumber (telling_texts (compared_in self.old).now) name.now) }
+        ensures linked { compared_in self.new ≡ compared_in self.old }
+    {
+        self.compare(alloc, name.len())?;
+        match &self.numbered {
+            Some(numbered) => Ok(Some(numbered.anchor_number(name))),
+            None => Ok(None),
+        }
+    }
+
+    /// The schema with this dynamic anchor, which one of the documents' resources has, in the resource with this URI (section
+    /// 8.2.2). The only error is want of memory.
+    pub(crate) fn anchored(
+        &mut self,
+        alloc: Global,
+        uri: &str,
+        name: &str,
+    ) -> Result<Option<Target<'a>>, AllocError>
+        ensures ok { HasResource (compared_in self.old).now uri.now
+            → HasAnchor (compared_in self.old).now name.now
+            → IfOk result (λ t. option_map target_view t
+            ≡ schema_with_dynamic_anchor (linked_schemas (compared_in self.old).now)
+            uri.now name.now) }
+        ensures linked { compared_in self.new ≡ compared_in self.old }
+    {
+        self.compare(alloc, uri.len().saturating_add(name.len()))?;
+        match &mut self.numbered {
+            Some(numbered) => numbered.anchored(alloc, uri, name),
+            None => dynamically_anchored(alloc, self.linked, uri, name),
         }
     }
 

@@ -1,22 +1,24 @@
 //! The dynamic scope, and what references name in it.
 
-ghost use Rattle.std.specs.Prelude.{◌≡◌, ◌<◌, ◌≤◌, ◌++◌, [], ◌∷◌, Contains, List, IfOk, IfErr, IfSome, OnOk, length, map, option_map, unwrap_or};
+ghost use Rattle.std.specs.Prelude.{◌≡◌, ◌<◌, ◌++◌, [], ◌∷◌, Contains, List, Some, IfOk, IfErr, IfSome, OnOk, is_none, length, map, option_map, true, unwrap_or};
 ghost use Rattle.std.specs.List.{All};
 ghost use Rattle.std.proofs.Props.{props};
 ghost use Rattle.definitions.specs.Resolution.{target_uri};
 ghost use Rattle.definitions.specs.Schemas.{Schema};
-ghost use Rattle.definitions.specs.Targets.{dynamic_target, outermost, schema_with_dynamic_anchor, target};
+ghost use Rattle.definitions.specs.Targets.{dynamic_target, outermost, target};
 ghost use Rattle.definitions.specs.Values.{Text};
 ghost use Rattle.linker.specs.LinkedDocuments.{linked_schemas};
+ghost use Rattle.linker.specs.NumberedTexts.{telling_texts};
 ghost use Rattle.linker.specs.declared.linked.Linked.{Linked};
-ghost use Rattle.keyword_plans.specs.Followed.{Refers, followed_in_scope, target_view};
+ghost use Rattle.keyword_plans.specs.Followed.{HasItsAnchor, Refers, followed_in_scope, target_view};
 ghost use Rattle.keyword_plans.specs.FollowedIn.{followed_in};
+ghost use Rattle.keyword_plans.specs.LinkedResources.{HasAnchor, HasNumber, HasResources};
 ghost use Rattle.keyword_plans.specs.OpenedResources.{Opens};
 ghost use Rattle.keyword_plans.specs.Searched.{IsSearched};
 ghost use Rattle.linker.specs.ValueSets.{value_set};
 
 use crate::followed_references::{Followed, FollowedReferences};
-use crate::target::Target;
+use crate::target::{Target, again};
 use linker::Linked;
 use std::alloc::{AllocError, Global};
 
@@ -28,6 +30,8 @@ const MOST_KEPT: usize = 16;
 #[derive(Drop)]
 struct SearchedAnchor<'a> {
     name: &'a str,
+    // Its number, where the texts of the documents had numbers already.
+    number: Option<usize>,
     passed: usize,
     found: Option<Target<'a>>,
 }
@@ -62,6 +66,20 @@ impl<'a> SearchedAnchor<'a> {
         }
         self.passed = left;
         self.found = None;
+    }
+
+    // Whether it surely is the anchor of this name, which has the number: one that was searched for before the texts had numbers
+    // is searched for once more.
+    fn is(&self, name: &str, number: Option<usize>) -> bool
+        ensures { (texts : List Text) → HasNumber texts self.now.name.now self.now.number
+            → HasNumber texts name.now number → result ≡ true
+            → self.now.name.now ≡ name.now }
+    {
+        match (self.number, number) {
+            (Some(own), Some(other)) => own == other,
+            (None, None) => self.name == name,
+            _ => false,
+        }
     }
 }
 
@@ -143,7 +161,8 @@ impl<'a> DynamicScope<'a> {
         self.references.target(alloc, resource, reference)
     }
 
-    /// The schema that a dynamic reference of theirs names here (section 8.2.3.2). The only error is want of memory.
+    /// The schema that a dynamic reference of theirs names here (section 8.2.3.2), where the scope's resources are theirs. The only
+    /// error is want of memory.
     pub fn dynamic_target(
         &mut self,
         alloc: Global,
@@ -151,7 +170,8 @@ impl<'a> DynamicScope<'a> {
         reference: &'a str,
     ) -> Result<Option<Target<'a>>, AllocError>
         ensures ok { (s : Schema)
-            → Refers (scope_documents self.old).now s resource.now reference.now → IfOk result
+            → Refers (scope_documents self.old).now s resource.now reference.now
+            → HasResources (scope_documents self.old).now (scope_uris self.old) → IfOk result
             (λ t. option_map target_view t
             ≡ dynamic_target (linked_schemas (scope_documents self.old).now) (scope_uris self.old)
             (target_uri resource.now reference.now)) }
@@ -166,8 +186,9 @@ impl<'a> DynamicScope<'a> {
 
     // The schema that a dynamic reference names in this scope, of what it names first.
     fn in_scope(&mut self, alloc: Global, first: Followed<'a>) -> Result<Target<'a>, AllocError>
-        ensures ok { IfOk result
-            (λ t. target_view t
+        requires { HasItsAnchor (scope_documents self.old).now (Some first) }
+        ensures ok { HasResources (scope_documents self.old).now (scope_uris self.old)
+            → IfOk result (λ t. target_view t
             ≡ followed_in_scope (linked_schemas (scope_documents self.old).now) (scope_uris self.old)
             first.entry) }
         ensures uris { scope_uris self.new ≡ scope_uris self.old }
@@ -179,15 +200,17 @@ impl<'a> DynamicScope<'a> {
         }
     }
 
-    // The schema with this dynamic anchor in the outermost resource that has it, or else this one.
+    // The schema with this dynamic anchor, which one of the documents' resources has, in the outermost resource that has it, or
+    // else this one.
     fn outermost_or(
         &mut self,
         alloc: Global,
         name: &'a str,
         first: Target<'a>,
     ) -> Result<Target<'a>, AllocError>
-        ensures ok { IfOk result
-            (λ t. target_view t
+        requires { HasAnchor (scope_documents self.old).now name.now }
+        ensures ok { HasResources (scope_documents self.old).now (scope_uris self.old)
+            → IfOk result (λ t. target_view t
             ≡ outermost (linked_schemas (scope_documents self.old).now) (scope_uris self.old)
             name.now (target_view first.entry)) }
         ensures uris { scope_uris self.new ≡ scope_uris self.old }
@@ -199,35 +222,41 @@ impl<'a> DynamicScope<'a> {
         }
     }
 
-    // The schema with this dynamic anchor in the outermost resource that has it.
+    // The same without this one.
     fn outermost(&mut self, alloc: Global, name: &'a str) -> Result<Option<Target<'a>>, AllocError>
-        ensures ok { IfOk result
+        requires { HasAnchor (scope_documents self.old).now name.now }
+        ensures ok { HasResources (scope_documents self.old).now (scope_uris self.old)
+            → IfOk result
             (λ t. (first : Schema) → unwrap_or (option_map target_view t) first
             ≡ outermost (linked_schemas (scope_documents self.old).now) (scope_uris self.old)
             name.now first) }
         ensures uris { scope_uris self.new ≡ scope_uris self.old }
         ensures documents { scope_documents self.new ≡ scope_documents self.old }
     {
-        let begun = self.begun(name)?;
+        let number = self.references.anchor_number(alloc, name)?;
+        let begun = self.begun(name, number)?;
         if begun.found.is_some() {
             return Ok(begun.found);
         }
-        let searched = search(alloc, self.references.linked(), &self.uris, begun)?;
+        let searched = search(alloc, &mut self.references, &self.uris, begun)?;
         let found = again(&searched.found)?;
         self.keep(searched)?;
         Ok(found)
     }
 
     // How far the scope was searched for this dynamic anchor.
-    fn begun(&self, name: &'a str) -> Result<SearchedAnchor<'a>, AllocError>
+    fn begun(&self, name: &'a str, number: Option<usize>) -> Result<SearchedAnchor<'a>, AllocError>
+        requires anchor { HasAnchor (scope_documents self.now).now name.now }
+        requires number { HasNumber (telling_texts (scope_documents self.now).now) name.now number }
         ensures right { IfOk result
             (λ s. IsSearched (scope_documents self.now).now (scope_uris self.now) s) }
         ensures name { IfOk result (λ s. s.name.now ≡ name.now) }
     {
         for searched in &self.searched {
-            if searched.name == name {
+            if searched.is(name, number) {
                 return Ok(SearchedAnchor {
                     name,
+                    number,
                     passed: searched.passed,
                     found: again(&searched.found)?,
                 });
@@ -235,6 +264,7 @@ impl<'a> DynamicScope<'a> {
         }
         Ok(SearchedAnchor {
             name,
+            number,
             passed: 0,
             found: None,
         })
@@ -246,7 +276,7 @@ impl<'a> DynamicScope<'a> {
         ensures uris { scope_uris self.new ≡ scope_uris self.old }
         ensures documents { scope_documents self.new ≡ scope_documents self.old }
     {
-        match position(&self.searched, searched.name) {
+        match position(&self.searched, &searched) {
             Some(at) => self.searched[at] = searched,
             None => {
                 if self.searched.len() < MOST_KEPT {
@@ -261,68 +291,52 @@ impl<'a> DynamicScope<'a> {
     }
 }
 
-// Where the one of this name stands.
-fn position(searched: &[SearchedAnchor<'_>], name: &str) -> Option<usize>
+// Where one of the same anchor stands.
+fn position(searched: &[SearchedAnchor<'_>], other: &SearchedAnchor<'_>) -> Option<usize>
     ensures { IfSome result (λ at. at < length searched.now) }
 {
     for (at, one) in searched.iter().enumerate() {
-        if one.name == name {
+        if one.is(other.name, other.number) {
             return Some(at);
         }
     }
     None
 }
 
-// The scope has been searched to the outermost resource that has the anchor.
+// The scope has been searched to the outermost resource that has the anchor, or to its end.
 fn search<'a>(
     alloc: Global,
-    linked: &'a Linked,
+    references: &mut FollowedReferences<'a>,
     uris: &[&'a str],
     begun: SearchedAnchor<'a>,
 ) -> Result<SearchedAnchor<'a>, AllocError>
-    requires within { begun.passed ≤ length uris.now }
-    requires right { IsSearched linked.now (map (λ uri. uri.now) uris.now) begun }
-    ensures right { IfOk result
-        (λ s. IsSearched linked.entry.now (map (λ uri. uri.now) uris.entry.now) s) }
-    ensures found { IfOk result
-        (λ s. (first : Schema) → unwrap_or (option_map target_view s.found) first
-        ≡ outermost (linked_schemas linked.entry.now) (map (λ uri. uri.now) uris.entry.now)
-        begun.entry.name.now first) }
+    requires { IsSearched (followed_in references.old).now (map (λ uri. uri.now) uris.now) begun }
+    ensures right { IfOk result (IsSearched (followed_in references.old).now
+        (map (λ uri. uri.now) uris.entry.now)) }
+    ensures name { IfOk result (λ s. s.name.now ≡ begun.entry.name.now) }
+    ensures whole { IfOk result
+        (λ s. is_none s.found ≡ true → s.passed ≡ length uris.entry.now) }
+    ensures linked { followed_in references.new ≡ followed_in references.old }
 {
     let name = begun.name;
-    let passed = begun.passed + linked.outermost(&uris[begun.passed..], name);
-    if passed < uris.len() {
-        let found = dynamically_anchored(alloc, linked, uris[passed], name)?;
-        return Ok(SearchedAnchor {
-            name,
-            passed,
-            found,
-        });
+    let number = begun.number;
+    for passed in begun.passed..uris.len() {
+        let found = references.anchored(alloc, uris[passed], name)?;
+        if found.is_some() {
+            return Ok(SearchedAnchor {
+                name,
+                number,
+                passed,
+                found,
+            });
+        }
     }
     Ok(SearchedAnchor {
         name,
-        passed,
+        number,
+        passed: uris.len(),
         found: None,
     })
-}
-
-// The schema with this dynamic anchor in the resource with this URI, to be shared.
-fn dynamically_anchored<'a>(
-    alloc: Global,
-    linked: &'a Linked,
-    uri: &str,
-    name: &str,
-) -> Result<Option<Target<'a>>, AllocError>
-    ensures { IfOk result
-        (λ t. option_map target_view t
-        ≡ schema_with_dynamic_anchor (linked_schemas linked.entry.now) uri.now name.now) }
-{
-    match linked.dynamically_anchored(alloc, uri, name) {
-        Ok(Some(schema)) => Ok(Some(Target::of(alloc, schema)?)),
-        Ok(None) => Ok(None),
-        // Want of memory is the only fault.
-        Err(_) => Err(AllocError),
-    }
 }
 
 // So many resources are left, of which no more are passed.
@@ -333,16 +347,5 @@ fn cut(searched: &mut [SearchedAnchor<'_>], left: usize)
 {
     for one in searched.iter_mut() {
         one.cut(left);
-    }
-}
-
-// The same schema once more.
-fn again<'a>(found: &Option<Target<'a>>) -> Result<Option<Target<'a>>, AllocError>
-    ensures { IfOk result
-        (λ t. option_map target_view t ≡ option_map target_view found.now) }
-{
-    match found {
-        Some(schema) => Ok(Some(schema.again()?)),
-        None => Ok(None),
     }
 }

@@ -5,12 +5,14 @@ ghost use Rattle.std.specs.List.{All};
 ghost use Rattle.std.proofs.Props.{props};
 ghost use Rattle.definitions.specs.Resolution.{target_uri};
 ghost use Rattle.definitions.specs.Schemas.{Schema};
-ghost use Rattle.definitions.specs.Targets.{target};
+ghost use Rattle.definitions.specs.Targets.{schema_with_dynamic_anchor, target};
 ghost use Rattle.definitions.specs.Values.{Text};
 ghost use Rattle.linker.specs.LinkedDocuments.{linked_schemas};
+ghost use Rattle.linker.specs.declared.linked.Linked.{Linked};
+ghost use Rattle.linker.specs.NumberedTexts.{telling_texts};
 ghost use Rattle.linker.specs.ReferenceNumbers.{reference_pair};
 ghost use Rattle.keyword_plans.specs.ComparedIn.{compared_in};
-ghost use Rattle.keyword_plans.specs.Followed.{AreFollowed, IsFollowed, IsNamed, Refers, target_view};
+ghost use Rattle.keyword_plans.specs.Followed.{AreFollowed, HasItsAnchor, IsFollowed, IsNamed, Refers, target_view};
 ghost use Rattle.linker.specs.ValueSets.{value_set};
 
 use crate::compared_resources::ComparedResources;
@@ -60,6 +62,7 @@ pub struct FollowedReferences<'a> {
 
 impl<'a> FollowedReferences<'a> {
     ghost use Rattle.keyword_plans.specs.FollowedIn.{followed_in};
+    ghost use Rattle.keyword_plans.specs.LinkedResources.{HasAnchor, HasNumber, HasResource};
     ghost use Rattle.keyword_plans.specs.OpenedResources.{Opens};
 
     /// None yet. This takes no memory.
@@ -106,6 +109,7 @@ impl<'a> FollowedReferences<'a> {
             → Refers (followed_in self.old).now s resource.now reference.now → IfOk result
             (λ n. IsNamed (linked_schemas (followed_in self.old).now)
             (target_uri resource.now reference.now) n) }
+        ensures anchored { IfOk result (HasItsAnchor (followed_in self.old).now) }
         ensures linked { followed_in self.new ≡ followed_in self.old }
     {
         match self.number(alloc, resource, reference)? {
@@ -154,11 +158,35 @@ impl<'a> FollowedReferences<'a> {
         }
     }
 
-    /// The documents that the references stand in.
-    pub(crate) fn linked(&self) -> &'a Linked
-        ensures { result ≡ followed_in self.now }
+    /// The number of a dynamic anchor of the documents, where their texts have numbers. The only error is want of memory.
+    pub(crate) fn anchor_number(
+        &mut self,
+        alloc: Global,
+        name: &str,
+    ) -> Result<Option<usize>, AllocError>
+        ensures ok { HasAnchor (followed_in self.old).now name.now → IfOk result
+            (HasNumber (telling_texts (followed_in self.old).now) name.now) }
+        ensures linked { followed_in self.new ≡ followed_in self.old }
     {
-        self.linked
+        self.resources.anchor_number(alloc, name)
+    }
+
+    /// The schema with this dynamic anchor, which one of the documents' resources has, in the resource with this URI (section
+    /// 8.2.2). The only error is want of memory.
+    pub(crate) fn anchored(
+        &mut self,
+        alloc: Global,
+        uri: &str,
+        name: &str,
+    ) -> Result<Option<Target<'a>>, AllocError>
+        ensures ok { HasResource (followed_in self.old).now uri.now
+            → HasAnchor (followed_in self.old).now name.now
+            → IfOk result (λ t. option_map target_view t
+            ≡ schema_with_dynamic_anchor (linked_schemas (followed_in self.old).now)
+            uri.now name.now) }
+        ensures linked { followed_in self.new ≡ followed_in self.old }
+    {
+        self.resources.anchored(alloc, uri, name)
     }
 
     // What the reference of this number names first.
@@ -171,6 +199,7 @@ impl<'a> FollowedReferences<'a> {
             → reference_pair (followed_in self.old).now number ≡ Some (resource, text)
             → IfOk result (λ n. IsNamed (linked_schemas (followed_in self.old).now)
             (target_uri resource text) n) }
+        ensures anchored { IfOk result (HasItsAnchor (followed_in self.old).now) }
         ensures linked { followed_in self.new ≡ followed_in self.old }
     {
         match self.find(number) {
@@ -181,10 +210,12 @@ impl<'a> FollowedReferences<'a> {
 
     // The one of this number, where it is kept.
     fn find(&self, number: ReferenceNumber) -> Option<&FollowedReference<'a>>
-        ensures { (resource text : Text)
+        ensures named { (resource text : Text)
             → reference_pair (followed_in self.now).now number ≡ Some (resource, text)
             → IfSome result (λ f. IsNamed (linked_schemas (followed_in self.now).now)
             (target_uri resource text) f.now.named) }
+        ensures anchored { IfSome result
+            (λ f. HasItsAnchor (followed_in self.now).now f.now.named) }
     {
         match self.short.get(place_of(number)) {
             Some(Some(followed)) if followed.number.is(number) => Some(followed),
@@ -194,10 +225,12 @@ impl<'a> FollowedReferences<'a> {
 
     // The same among those that aren't short.
     fn find_long(&self, number: ReferenceNumber) -> Option<&FollowedReference<'a>>
-        ensures { (resource text : Text)
+        ensures named { (resource text : Text)
             → reference_pair (followed_in self.now).now number ≡ Some (resource, text)
             → IfSome result (λ f. IsNamed (linked_schemas (followed_in self.now).now)
             (target_uri resource text) f.now.named) }
+        ensures anchored { IfSome result
+            (λ f. HasItsAnchor (followed_in self.now).now f.now.named) }
     {
         match self.long.get(&number.parts()) {
             Some(followed) if followed.number.is(number) => Some(followed),
@@ -215,6 +248,7 @@ impl<'a> FollowedReferences<'a> {
             → reference_pair (followed_in self.old).now number ≡ Some (resource, text)
             → IfOk result (λ n. IsNamed (linked_schemas (followed_in self.old).now)
             (target_uri resource text) n) }
+        ensures anchored { IfOk result (HasItsAnchor (followed_in self.old).now) }
         ensures linked { followed_in self.new ≡ followed_in self.old }
     {
         match self.linked.reference(number) {
@@ -278,8 +312,9 @@ fn named_first<'a>(
     resource: &str,
     reference: &str,
 ) -> Result<Option<Followed<'a>>, AllocError>
-    ensures { IfOk result (λ n. IsNamed (linked_schemas linked.entry.now)
+    ensures named { IfOk result (λ n. IsNamed (linked_schemas linked.entry.now)
         (target_uri resource.now reference.now) n) }
+    ensures anchored { IfOk result (HasItsAnchor linked.entry.now) }
 {
     match linked.named(alloc, resource, reference) {
         Ok(Some(named)) => Ok(Some(Followed {
@@ -294,8 +329,9 @@ fn named_first<'a>(
 
 // The same once more.
 fn again<'a>(named: &Option<Followed<'a>>) -> Result<Option<Followed<'a>>, AllocError>
-    ensures { (table : List Schema) (text : Text) → IsNamed table text named.now
+    ensures named { (table : List Schema) (text : Text) → IsNamed table text named.now
         → IfOk result (λ n. IsNamed table text n) }
+    ensures anchored { (l : Linked) → HasItsAnchor l named.now → IfOk result (HasItsAnchor l) }
 {
     match named {
         Some(followed) => Ok(Some(Followed {

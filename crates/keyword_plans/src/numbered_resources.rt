@@ -1,13 +1,17 @@
 //! Resources that are told by the numbers of their texts.
 
-ghost use Rattle.std.specs.Prelude.{◌≡◌, Contains, IfOk};
+ghost use Rattle.std.specs.Prelude.{◌≡◌, Contains, IfOk, Some, option_map, slice_get};
 ghost use Rattle.std.proofs.Props.{props};
 ghost use Rattle.definitions.specs.Schemas.{Schema};
+ghost use Rattle.definitions.specs.Targets.{schema_with_dynamic_anchor};
 ghost use Rattle.linker.specs.LinkedDocuments.{linked_schemas};
 ghost use Rattle.linker.specs.ValueSets.{value_set};
-ghost use Rattle.linker.specs.NumberedTexts.{AreTold};
-ghost use Rattle.keyword_plans.specs.OpenedResources.{AreDocuments, AreOpened, IsDocument, Opens};
+ghost use Rattle.linker.specs.NumberedTexts.{AreTold, telling_texts};
+ghost use Rattle.keyword_plans.specs.Followed.{target_view};
+ghost use Rattle.keyword_plans.specs.LinkedResources.{HasAnchor, HasResource};
+ghost use Rattle.keyword_plans.specs.OpenedResources.{AreAnchored, AreDocuments, AreOpened, IsDocument, Opens};
 
+use crate::target::{Target, again, dynamically_anchored};
 use linker::{Linked, LinkedTexts};
 use std::alloc::{AllocError, Global};
 use std::collections::BTreeMap;
@@ -21,9 +25,12 @@ pub(crate) struct NumberedResources<'a> {
     opened: BTreeMap<(usize, usize), &'a str>,
     // The number of the document of a resource, by that of its URI.
     documents: BTreeMap<usize, usize>,
+    // The schema with a dynamic anchor in a resource, by the numbers of the resource's URI and of the anchor.
+    anchored: BTreeMap<(usize, usize), Option<Target<'a>>>,
     ghost told: { AreTold linked.now texts },
     ghost opened_right: { AreOpened linked.now texts opened } by { Prim.hlevel (props, value_set) },
     ghost documents_right: { AreDocuments linked.now texts documents } by { Prim.hlevel (props, value_set) },
+    ghost anchored_right: { AreAnchored linked.now texts anchored } by { Prim.hlevel (props, value_set) },
 }
 
 impl<'a> NumberedResources<'a> {
@@ -36,6 +43,7 @@ impl<'a> NumberedResources<'a> {
             texts: linked.texts(alloc)?,
             opened: BTreeMap::new(alloc),
             documents: BTreeMap::new(alloc),
+            anchored: BTreeMap::new(alloc),
         })
     }
 
@@ -105,6 +113,55 @@ impl<'a> NumberedResources<'a> {
             }
             None => Ok(None),
         }
+    }
+
+    /// The number of a dynamic anchor of the documents.
+    pub(crate) fn anchor_number(&self, name: &str) -> usize
+        ensures { HasAnchor self.now.linked.now name.now
+            → slice_get (telling_texts self.now.linked.now) result ≡ Some name.now }
+    {
+        self.texts.number(name)
+    }
+
+    /// The schema with this dynamic anchor, which one of the documents' resources has, in the resource with this URI (section
+    /// 8.2.2). The only error is want of memory.
+    pub(crate) fn anchored(
+        &mut self,
+        alloc: Global,
+        uri: &str,
+        name: &str,
+    ) -> Result<Option<Target<'a>>, AllocError>
+        ensures ok { HasResource self.old.linked.now uri.now
+            → HasAnchor self.old.linked.now name.now → IfOk result (λ t. option_map target_view t
+            ≡ schema_with_dynamic_anchor (linked_schemas self.old.linked.now) uri.now name.now) }
+        ensures linked { self.new.linked ≡ self.old.linked }
+    {
+        let numbers = (self.texts.number(uri), self.texts.number(name));
+        match self.anchored.get(&numbers) {
+            Some(found) => again(found),
+            None => self.find_anchored(alloc, uri, name, numbers),
+        }
+    }
+
+    // The same of one that isn't kept, and is from now on, where the texts are those of these numbers.
+    fn find_anchored(
+        &mut self,
+        alloc: Global,
+        uri: &str,
+        name: &str,
+        numbers: (usize, usize),
+    ) -> Result<Option<Target<'a>>, AllocError>
+        ensures ok { IfOk result
+            (λ t. option_map target_view t
+            ≡ schema_with_dynamic_anchor (linked_schemas self.old.linked.now) uri.now name.now) }
+        ensures linked { self.new.linked ≡ self.old.linked }
+    {
+        let found = dynamically_anchored(alloc, self.linked, uri, name)?;
+        if self.texts.is(numbers.0, uri) && self.texts.is(numbers.1, name) {
+            let kept = again(&found)?;
+            self.anchored.insert(numbers, kept)?;
+        }
+        Ok(found)
     }
 }
 

@@ -1,10 +1,14 @@
 //! What references name.
 
-ghost use Rattle.std.specs.Prelude.{◌≡◌, IfOk};
+ghost use Rattle.std.specs.Prelude.{◌≡◌, IfOk, option_map};
+ghost use Rattle.definitions.specs.Targets.{schema_with_dynamic_anchor};
+ghost use Rattle.linker.specs.LinkedDocuments.{linked_schemas};
+ghost use Rattle.keyword_plans.specs.Followed.{target_view};
 ghost use Rattle.schema_index.specs.Locateds.{located_view};
 
 use basic_output::Origin;
 use json_doc::Doc;
+use linker::Linked;
 use schema_index::Located;
 use std::alloc::{AllocError, Global};
 use std::rc::Rc;
@@ -44,5 +48,36 @@ impl<'a> Target<'a> {
             origin: self.origin.clone()?,
             schema: self.schema,
         })
+    }
+}
+
+/// The schema with this dynamic anchor in the resource with this URI, to be shared: both are compared. The only error is want
+/// of memory.
+pub(crate) fn dynamically_anchored<'a>(
+    alloc: Global,
+    linked: &'a Linked,
+    uri: &str,
+    name: &str,
+) -> Result<Option<Target<'a>>, AllocError>
+    ensures { IfOk result
+        (λ t. option_map target_view t
+        ≡ schema_with_dynamic_anchor (linked_schemas linked.entry.now) uri.now name.now) }
+{
+    match linked.dynamically_anchored(alloc, uri, name) {
+        Ok(Some(schema)) => Ok(Some(Target::of(alloc, schema)?)),
+        Ok(None) => Ok(None),
+        // Want of memory is the only fault.
+        Err(_) => Err(AllocError),
+    }
+}
+
+/// The same schema once more, where there is one. The only error is want of memory.
+pub(crate) fn again<'a>(found: &Option<Target<'a>>) -> Result<Option<Target<'a>>, AllocError>
+    ensures { IfOk result
+        (λ t. option_map target_view t ≡ option_map target_view found.now) }
+{
+    match found {
+        Some(schema) => Ok(Some(schema.again()?)),
+        None => Ok(None),
     }
 }

@@ -1,16 +1,23 @@
 -- What references name, by what they are read as.
-use Rattle.std.proofs.Common.{◌≡◌, List, [], true, None, Ok, Err, Result, IsTrue, is_err, is_some, Contains, option_map, string_bytes, refl, sym, ap, ◌∙◌}
+use Rattle.std.proofs.Common.{◌≡◌, ◌&&◌, List, [], true, None, Some, Ok, Err, Result, IsTrue, is_err, is_some, Contains, find, option_map, string_bytes, refl, sym, ap, ◌∙◌}
 use Rattle.definitions.specs.Faults.{Fault}
-use Rattle.definitions.specs.Fragments.{Fragment}
+use Rattle.std.proofs.lemmas.Bool.{and_from}
+use Rattle.definitions.specs.Fragments.{Fragment, plain_name}
 use Rattle.definitions.specs.Schemas.{Schema}
-use Rattle.definitions.specs.Targets.{resource_root, fragment_of, target_in, target, dynamic_by, dynamic_target}
+use Rattle.definitions.specs.Targets.{resource_root, fragment_of, is_anchor, is_dynamic_anchor, target_by, target_in, target, dynamic_by, dynamic_target}
 use Rattle.definitions.specs.Uris.{without_fragment}
-use Rattle.definitions.specs.Values.{Text}
+use Rattle.definitions.specs.Values.{Text, same_text}
 use Rattle.uri_ref.specs.FragmentViews.{fragment_view}
+use Rattle.definition_laws.proofs.Membership.{found_there}
+use Rattle.definition_laws.proofs.Occurrences.{found_somewhere, in_from_contains}
 use Rattle.definition_laws.proofs.Roots.{roots_found, pointer_root}
+use Rattle.lemmas.proofs.Options.{some_from_is_some}
+use Rattle.lemmas.proofs.Texts.{same_text_itself}
 use Rattle.linker.specs.AbsoluteReferences.{target_of, dynamic_target_of}
+use Rattle.linker.specs.DynamicTargets.{has_anchor, is_anchored}
 use Rattle.linker.specs.LinkedDocuments.{linked_documents, linked_schemas}
 use Rattle.linker.specs.declared.linked.Linked.{Linked}
+use Rattle.linker.proofs.Adding.{is_some-find}
 use Rattle.uri_ref.specs.declared.absolute_references.AbsoluteReference.{AbsoluteReference}
 
 no_target : (table : List Schema) (uri : Text) (f : Result Fragment Fault) → is_err f ≡ true → None ≡ target_in table uri f
@@ -34,6 +41,25 @@ pub read_dynamic : (table : List Schema) (scope : List Text) (text : Text) (r : 
 read_dynamic table scope text r e f =
     ap (option_map (λ first. dynamic_by table scope first (Ok (fragment_view r.fragment)))) (read table text r e f)
     ∙ ap (λ kind. option_map (λ first. dynamic_by table scope first kind) (target table text)) (sym f)
+
+-- one of the schemas has the plain name that names this one, where that is its dynamic anchor
+pub anchor_there : (table : List Schema) (uri name : Text) (s : Schema) → target_by table uri (plain_name name) ≡ Some s → is_dynamic_anchor name s ≡ true
+    → has_anchor table name ≡ true
+anchor_there table uri name s e own =
+    let there = found_there (λ (t : Schema). same_text uri t.resource && is_anchor name t) table s e in
+    sym (is_some-find (is_dynamic_anchor name) table) ∙ found_somewhere (is_dynamic_anchor name) table s (in_from_contains table s there.0) own
+
+-- a resource of the one that has an anchor has it
+pub anchored_there : (table : List Schema) (name : Text) → has_anchor table name ≡ true → (uri : Text) × (is_anchored table name uri ≡ true)
+anchored_there table name has =
+    let p = is_dynamic_anchor name in
+    let found : (s : Schema) × (find p table ≡ Some s) = some_from_is_some (find p table) (is_some-find p table ∙ has) in
+    let s = found.0 in
+    let there = found_there p table s found.1 in (
+      s.resource,
+      found_somewhere (λ t. same_text s.resource t.resource && is_dynamic_anchor name t) table s (in_from_contains table s there.0)
+          (and_from (same_text s.resource s.resource) (is_dynamic_anchor name s) (same_text_itself s.resource) there.1),
+    )
 
 -- the URI of a schema that opens a resource has a root
 pub opened_has_root : (l : Linked) (s : Schema) (uri : Text) → Contains (linked_schemas l) s → s.pointer ≡ [] → s.resource ≡ uri

@@ -1,8 +1,9 @@
 -- What dynamic references name, by dynamic anchors (JSON Schema 2020-12 Core, 8.2.3.2).
-use Rattle.std.specs.Prelude.{List, Bool, Option, Some, None, is_some, option_map}
+use Rattle.std.specs.Prelude.{◌≡◌, List, Bool, Option, Some, None, IfSome, is_some, option_map, true}
+use Rattle.std.specs.List.{list_any}
 use Rattle.definitions.specs.Values.{Text}
 use Rattle.definitions.specs.Schemas.{Schema}
-use Rattle.definitions.specs.Targets.{outermost, schema_with_dynamic_anchor}
+use Rattle.definitions.specs.Targets.{is_dynamic_anchor, outermost, schema_with_dynamic_anchor}
 use Rattle.schema_index.specs.Locateds.{located_view}
 use Rattle.linker.specs.declared.named.Named.{Named}
 
@@ -22,3 +23,11 @@ first_target n = located_view n.target
 -- and the one that it names in the scope, where it is dynamic
 abbrev pub target_in_scope : List Schema → List Text → Named → Schema
 target_in_scope table scope n = target_by_anchor table scope (option_map (λ a. a.now) n.anchor) (located_view n.target)
+
+-- whether one of the schemas has this dynamic anchor
+abbrev pub has_anchor : List Schema → Text → Bool
+has_anchor table name = list_any (is_dynamic_anchor name) table
+
+-- one of the schemas has the anchor by which it names that schema
+abbrev pub HasItsAnchor : List Schema → Named → Type 0
+HasItsAnchor table n = IfSome n.anchor (λ a. has_anchor table a.now ≡ true)

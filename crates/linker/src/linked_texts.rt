@@ -1,17 +1,19 @@
-//! The texts by which resources of linked documents are told, by number.
+//! The texts by which resources of linked documents, and their dynamic anchors, are told, by number.
 
 ghost use Rattle.std.specs.Prelude.{◌≡◌, ◌++◌, true, IfOk, OnOk, Some, map, option_map, slice_get, string_bytes};
 ghost use Rattle.std.specs.List.{flat_map};
+ghost use Rattle.std.specs.BTreeMap.{keys};
 ghost use Rattle.linker.specs.DocumentTexts.{identifying_texts};
 
 use crate::linked::Linked;
 use schema_scan::Compiled;
 use std::alloc::{AllocError, Global};
+use std::collections::{BTreeMap, BTreeSet};
 use std::rc::Rc;
 use text_numbers::TextNumbers;
 
-/// The URIs of the resources of linked documents, and the `$id`s of these resources' roots, by number: each is told by the bytes
-/// in which it differs from the others.
+/// The URIs of the resources of linked documents, the `$id`s of these resources' roots, and the names of their dynamic anchors,
+/// by number: each is told by the bytes in which it differs from the others.
 ///
 /// Contracts see them in the order of their numbers, by `numbered_texts`, and the number that is told of a text, by `told_number`.
 #[derive(Drop)]
@@ -53,11 +55,13 @@ impl<'a> LinkedTexts<'a> {
 impl Linked {
     ghost use Rattle.linker.specs.NumberedTexts.{AreTold};
 
-    /// The URIs of the documents' resources and the `$id`s of their roots, by number. The only error is want of memory.
+    /// The URIs of the documents' resources, the `$id`s of their roots and the names of their dynamic anchors, by number. The
+    /// only error is want of memory.
     pub fn texts(&self, alloc: Global) -> Result<LinkedTexts<'_>, AllocError>
         ensures { IfOk result (AreTold self.now) }
     {
-        let texts = texts_of(alloc, &self.documents)?;
+        let mut texts = texts_of(alloc, &self.documents)?;
+        add_names(&mut texts, &self.dynamic_resources)?;
         let numbers = TextNumbers::of_borrowed(alloc, &texts)?;
         Ok(LinkedTexts { texts, numbers })
     }
@@ -69,6 +73,9 @@ impl Linked {
             bytes = bytes
                 .saturating_add(bytes_of(document.resource_uris()))
                 .saturating_add(bytes_of(document.identifiers()));
+        }
+        for name in self.dynamic_resources.keys() {
+            bytes = bytes.saturating_add(name.len());
         }
         bytes
     }
@@ -94,6 +101,21 @@ fn add<'a>(texts: &mut Vec<&'a str>, strings: &'a [String]) -> Result<(), AllocE
 {
     for string in strings {
         texts.push(string.as_str())?;
+    }
+    Ok(())
+}
+
+// Appends the names.
+fn add_names<'a>(
+    texts: &mut Vec<&'a str>,
+    resources: &'a BTreeMap<String, BTreeSet<String>>,
+) -> Result<(), AllocError>
+    ensures { OnOk result (map (λ t. t.now) texts.new.items
+        ≡ map (λ t. t.now) texts.old.items
+        ++ map string_bytes (keys resources.now)) }
+{
+    for name in resources.keys() {
+        texts.push(name.as_str())?;
     }
     Ok(())
 }

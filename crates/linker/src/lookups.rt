@@ -1,18 +1,16 @@
 //! What the linked documents have under a URI and a reference (JSON Schema 2020-12 Core, section 8.2).
 
-ghost use Rattle.std.specs.Prelude.{◌≡◌, [], List, false, Some, Ok, Err, IfOk, IfErr, IfSome, IsTrue, Contains, codes, is_some, map, option_map, find, unwrap_or, string_bytes};
-ghost use Rattle.std.specs.BTreeSet.{contains_text};
-ghost use Rattle.std.specs.List.{position_or_len};
-ghost use Rattle.definitions.specs.Fragments.{tokens};
+ghost use Rattle.std.specs.Prelude.{◌≡◌, [], List, false, true, Some, Ok, Err, IfOk, IfErr, IfSome, IsTrue, Contains, codes, is_some, map, option_map, find, unwrap_or, string_bytes};
+ghost use Rattle.definitions.specs.Fragments.{plain_name, tokens};
 ghost use Rattle.definitions.specs.Reach.{holds_resource};
 ghost use Rattle.definitions.specs.Resolution.{target_uri};
 ghost use Rattle.definitions.specs.Schemas.{Document, Schema, identity};
-ghost use Rattle.definitions.specs.Targets.{resource_root, target, target_by, schema_with_dynamic_anchor, dynamic_by, dynamic_target};
+ghost use Rattle.definitions.specs.Targets.{is_dynamic_anchor, resource_root, target, target_by, schema_with_dynamic_anchor, dynamic_by, dynamic_target};
 ghost use Rattle.definitions.specs.Uris.{without_fragment};
 ghost use Rattle.definitions.specs.Values.{Text, same_text, text_at};
 ghost use Rattle.json_doc.specs.Docs.{value};
 ghost use Rattle.linker.specs.AbsoluteReferences.{dynamic_target_of, target_of};
-ghost use Rattle.linker.specs.DynamicTargets.{first_target, is_anchored, target_by_anchor, target_in_scope};
+ghost use Rattle.linker.specs.DynamicTargets.{HasItsAnchor, first_target, is_anchored, target_by_anchor, target_in_scope};
 ghost use Rattle.linker.specs.SharedDocuments.{shared_documents};
 ghost use Rattle.linker.specs.LinkedDocuments.{linked_uri, linked_documents, linked_schemas};
 ghost use Rattle.schema_index.specs.Locateds.{located_view};
@@ -27,7 +25,6 @@ use faults::Fault;
 use json_doc::{Doc, Pointer};
 use schema_scan::{Compiled, Located};
 use std::alloc::Global;
-use std::collections::BTreeSet;
 use uri_ref::{AbsoluteReference, FragmentKind, absolute_reference, opened_uri};
 
 impl Linked {
@@ -57,6 +54,8 @@ impl Linked {
             (λ n. option_map (target_in_scope (linked_schemas self.now) scope) n
             ≡ dynamic_target (linked_schemas self.now) scope
             (target_uri resource.now reference.now)) }
+        ensures anchored { IfOk result
+            (λ n. IfSome n (HasItsAnchor (linked_schemas self.now))) }
         ensures err { IfErr result (λ f. f ≡ Fault.NoRoom) }
     {
         if let Some(named) = self.absolute_reference(resource, reference) {
@@ -68,15 +67,13 @@ impl Linked {
         }
     }
 
-    /// How many resources of a dynamic scope stand before the outermost that has this dynamic anchor (section 8.2.3.2), or
-    /// all of them where none has it: the URIs of the scope's resources, the outermost first.
-    pub fn outermost(&self, scope: &[&str], name: &str) -> usize
-        ensures { result ≡ position_or_len (is_anchored (linked_schemas self.now) name.now)
-            (map (λ uri. uri.now) scope.now) }
+    /// Whether the resource with this URI has this dynamic anchor (section 8.2.2).
+    pub fn is_anchored(&self, uri: &str, name: &str) -> bool
+        ensures { result ≡ is_anchored (linked_schemas self.now) name.now uri.now }
     {
         match self.dynamic_resources.get(name) {
-            Some(uris) => outermost_of(uris, scope),
-            None => scope.len(),
+            Some(uris) => uris.contains(uri),
+            None => false,
         }
     }
 
@@ -92,6 +89,10 @@ impl Linked {
             ≡ schema_with_dynamic_anchor (linked_schemas self.now) uri.now name.now) }
         ensures err { IfErr result (λ f. f ≡ Fault.NoRoom) }
     {
+        // Most resources are told by this look not to have it.
+        if !self.is_anchored(uri, name) {
+            return Ok(None);
+        }
         match self.holder(uri) {
             Some(document) => document.dynamically_anchored(alloc, uri, name),
             None => Ok(None),
@@ -174,6 +175,8 @@ impl Linked {
         ensures dynamic { (scope : List Text) → IfOk result
             (λ n. option_map (target_in_scope (linked_schemas self.now) scope) n
             ≡ dynamic_target_of (linked_schemas self.now) scope named.now) }
+        ensures anchored { IfOk result
+            (λ n. IfSome n (HasItsAnchor (linked_schemas self.now))) }
         ensures err { IfErr result (λ f. f ≡ Fault.NoRoom) }
     {
         match self.target_by(alloc, named.uri.as_str(), &named.fragment) {
@@ -221,7 +224,9 @@ impl Linked {
 
 // The dynamic anchor by which the fragment names the schema, where it does (section 8.2.3.2).
 fn dynamic_anchor<'a>(target: &Located<'a>, fragment: &FragmentKind) -> Option<&'a str>
-    ensures { (table : List Schema) (scope : List Text)
+    ensures own { IfSome result (λ a. (fragment_view fragment.now ≡ plain_name a.now)
+        × (is_dynamic_anchor a.now (located_view target.now) ≡ true)) }
+    ensures named { (table : List Schema) (scope : List Text)
         → target_by_anchor table scope (option_map (λ a. a.now) result) (located_view target.now)
         ≡ dynamic_by table scope (located_view target.now) (Ok (fragment_view fragment.now)) }
 {
@@ -241,17 +246,4 @@ fn text_of_anchor<'a>(schema: &'a Doc, name: &str) -> Option<&'a str>
         Some(anchor) => { if anchor == name { Some(anchor) } else { None } }
         None => None,
     }
-}
-
-// How many texts stand before the first that is one of these.
-fn outermost_of(uris: &BTreeSet<String>, scope: &[&str]) -> usize
-    ensures { result
-        ≡ position_or_len (contains_text uris.now) (map (λ uri. uri.now) scope.now) }
-{
-    for (at, uri) in scope.iter().enumerate() {
-        if uris.contains(*uri) {
-            return at;
-        }
-    }
-    scope.len()
 }

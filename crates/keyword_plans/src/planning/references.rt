@@ -8,6 +8,7 @@ ghost use Rattle.definitions.specs.Applied.{Application, to_target};
 ghost use Rattle.json_doc.specs.Docs.{value};
 ghost use Rattle.linker.specs.LinkedDocuments.{linked_schemas};
 ghost use Rattle.keyword_plans.specs.Followed.{target_view};
+ghost use Rattle.keyword_plans.specs.LinkedResources.{HasResources};
 ghost use Rattle.keyword_plans.specs.ScopeViews.{scope_documents, scope_uris};
 ghost use Rattle.keyword_plans.specs.Plans.{planned_view};
 ghost use Rattle.keyword_plans.specs.Sites.{Shows};
@@ -59,6 +60,7 @@ pub(crate) fn plan_dynamic_reference<'a>(
     ensures ok { (a : Application) → Shows site.now a
         → scope_documents scope.old ≡ site.now.linked
         → a.scope ≡ scope_uris scope.old
+        → HasResources (scope_documents scope.old).now (scope_uris scope.old)
         → get (codes "$dynamicRef") a.schema.value ≡ Some (value reference.now)
         → OnOk result (map (planned_view (codes "$dynamicRef") a) planned.new.items
         ≡ to_target a (codes "$dynamicRef") (option_and_then

@@ -1,42 +1,47 @@
-use Rattle.std.proofs.Common.{◌≤◌, ◌+◌, [], List, Bor, map, option_map, length, sym, ap, ◌∙◌, rules, arith}
-use Rattle.std.proofs.lemmas.List.{get_or-map, length-map}
+use Rattle.std.proofs.Common.{◌≡◌, [], Bor, get_or, is_some, option_map, subst, sym, ap, ◌∙◌, arith}
 use Rattle.definitions.specs.Targets.{schema_with_dynamic_anchor}
-use Rattle.definitions.specs.Values.{Text}
 use Rattle.linker.specs.LinkedDocuments.{linked_schemas}
+use Rattle.linker.specs.declared.linked.Linked.{Linked}
+use Rattle.lemmas.proofs.Options.{is_some-map}
 use Rattle.keyword_plans.specs.Followed.{target_view}
-use Rattle.keyword_plans.proofs.SearchedScopes.{found_outermost, found_searched, none_outermost, none_searched, passed_further, passed_short}
+use Rattle.keyword_plans.specs.FollowedIn.{followed_in}
+use Rattle.keyword_plans.specs.LinkedResources.{HasAnchor, HasResource}
+use Rattle.keyword_plans.proofs.SearchedScopes.{found_searched, none_searched, passed_one_more}
 use Rattle.keyword_plans.proofs.dynamic_scope.search.Goals as goal
 
-abbrev none : Bor Text
-none = record { ref_ptr = (0, 0); now = [] }
+pub returns-then-is_some-clause-right : goal.returns-then-is_some-clause-right
+returns-then-is_some-clause-right c =
+    let l = (followed_in c.args.references.now).now in
+    let name = c.args.begun.name.now in
+    let uri = (get_or c.args.uris.now c.loop-passed.passed (record { ref_ptr = (0, 0); now = [] })).now in
+    let right =
+    subst (λ (d : Bor Linked). HasResource d.now uri → HasAnchor d.now name → option_map target_view c.in_ok-found.found ≡ schema_with_dynamic_anchor (linked_schemas d.now) uri name)
+    c.loop-passed.invariant.linked c.in_ok-found.ensures.ok in
+    record {
+      anchor = c.requires.anchor;
+      number = c.requires.number;
+      searched = found_searched l name c.args.uris.now c.loop-passed.passed (option_map target_view c.in_ok-found.found) c.loop-passed-test.true c.loop-passed.invariant.before (λ known. right known c.requires.anchor);
+    }
 
-abbrev texts : List (Bor Text) → List Text
-texts uris = map (λ u. u.now) uris
-
-pub overflow_add-passed : goal.overflow_add-passed
-overflow_add-passed c =
-    let long = length-map c.args.uris.now (λ (u : Bor Text). u.now) in
-    let short : c.args.begun.passed + c.outermost.result ≤ length c.args.uris.now =
-    omega (arith, (passed_further c.args.linked.now c.args.uris.now c.args.begun.name.now c.args.begun.passed (option_map target_view c.args.begun.found) c.outermost.result c.requires.right c.outermost.ensures), long, passed_short c.args.linked.now (texts c.args.uris.now) c.args.begun.name.now) in
-    search rules
-
-pub returns-then-passed-uris-clause-right : goal.returns-then-passed-uris-clause-right
-returns-then-passed-uris-clause-right c =
-    let less = c.if-passed-uris.true in
-    found_searched c.args.linked.now (texts c.args.uris.now) c.args.begun.name.now _ (option_map target_view c.in_ok-found.found) (passed_further c.args.linked.now c.args.uris.now c.args.begun.name.now c.args.begun.passed (option_map target_view c.args.begun.found) c.outermost.result c.requires.right c.outermost.ensures)
-    (omega (arith, less, length-map c.args.uris.now (λ (u : Bor Text). u.now)))
-    (c.in_ok-found.ensures ∙ ap (λ u. schema_with_dynamic_anchor (linked_schemas c.args.linked.now) u c.args.begun.name.now) (sym (get_or-map (λ (u : Bor Text). u.now) c.args.uris.now _ none [] less)))
-
-pub returns-then-passed-uris-clause-found : goal.returns-then-passed-uris-clause-found
-returns-then-passed-uris-clause-found c =
-    let less = c.if-passed-uris.true in
-    found_outermost c.args.linked.now (texts c.args.uris.now) c.args.begun.name.now _ (option_map target_view c.in_ok-found.found) (passed_further c.args.linked.now c.args.uris.now c.args.begun.name.now c.args.begun.passed (option_map target_view c.args.begun.found) c.outermost.result c.requires.right c.outermost.ensures)
-    (omega (arith, less, length-map c.args.uris.now (λ (u : Bor Text). u.now)))
-    (c.in_ok-found.ensures ∙ ap (λ u. schema_with_dynamic_anchor (linked_schemas c.args.linked.now) u c.args.begun.name.now) (sym (get_or-map (λ (u : Bor Text). u.now) c.args.uris.now _ none [] less)))
+pub loop-passed-preserved : goal.loop-passed-preserved
+loop-passed-preserved c =
+    let l = (followed_in c.args.references.now).now in
+    let name = c.args.begun.name.now in
+    let uri = (get_or c.args.uris.now c.loop-passed.passed (record { ref_ptr = (0, 0); now = [] })).now in
+    let right =
+    subst (λ (d : Bor Linked). HasResource d.now uri → HasAnchor d.now name → option_map target_view c.in_ok-found.found ≡ schema_with_dynamic_anchor (linked_schemas d.now) uri name)
+    c.loop-passed.invariant.linked c.in_ok-found.ensures.ok in
+    record {
+      linked = c.in_ok-found.ensures.linked ∙ c.loop-passed.invariant.linked;
+      before =
+          passed_one_more l name c.args.uris.now c.loop-passed.passed c.loop-passed-test.true c.loop-passed.invariant.before
+          (λ known. sym (ap is_some (right known c.requires.anchor)) ∙ is_some-map target_view c.in_ok-found.found ∙ sym c.is_some.ensures ∙ c.if-is_some.false);
+    }
 
 pub returns-clause-right : goal.returns-clause-right
-returns-clause-right c = none_searched c.args.linked.now (texts c.args.uris.now) c.args.begun.name.now _ (passed_further c.args.linked.now c.args.uris.now c.args.begun.name.now c.args.begun.passed (option_map target_view c.args.begun.found) c.outermost.result c.requires.right c.outermost.ensures)
-
-pub returns-clause-found : goal.returns-clause-found
-returns-clause-found c =
-    none_outermost c.args.linked.now (texts c.args.uris.now) c.args.begun.name.now _ (passed_further c.args.linked.now c.args.uris.now c.args.begun.name.now c.args.begun.passed (option_map target_view c.args.begun.found) c.outermost.result c.requires.right c.outermost.ensures) (omega (arith, c.if-passed-uris.false, length-map c.args.uris.now (λ (u : Bor Text). u.now)))
+returns-clause-right c =
+    record {
+      anchor = c.requires.anchor;
+      number = c.requires.number;
+      searched = none_searched (followed_in c.args.references.now).now c.args.begun.name.now c.args.uris.now c.loop-passed.passed (omega (arith, c.loop-passed-test.false)) c.loop-passed.invariant.before;
+    }

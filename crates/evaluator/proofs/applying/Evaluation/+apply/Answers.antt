@@ -201,5 +201,8 @@ apply_all-returns-clause-noted = one_keyword.apply_all-returns-clause-noted
 pub apply_entered-returns-in-Ok-clause-valid : goal.apply_entered-returns-in-Ok-clause-valid
 apply_entered-returns-in-Ok-clause-valid = one_keyword.apply_entered-returns-in-Ok-clause-valid
 
+pub apply_entered-returns-in-Ok-clause-noted : goal.apply_entered-returns-in-Ok-clause-noted
+apply_entered-returns-in-Ok-clause-noted = one_keyword.apply_entered-returns-in-Ok-clause-noted
+
 pub apply_entered-returns-in-Err-clause-err : goal.apply_entered-returns-in-Err-clause-err
 apply_entered-returns-in-Err-clause-err = one_keyword.apply_entered-returns-in-Err-clause-err

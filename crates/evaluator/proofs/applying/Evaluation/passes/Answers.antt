@@ -11,5 +11,6 @@ returns-clause-passes c a left names indexes at number passing =
       resource = sym (ap (λ (s : Standing). s.resource) at.under) ∙ sym c.resource.ensures;
       instance = at.instance;
       inside = at.inside;
+      scope = at.scope;
     })
     c.args.self.now.searched at.valued at.knows.containing number passing

@@ -25,6 +25,7 @@ returns-clause-planned c a left at knows got =
       resource = ap (λ (b : Application). b.schema.resource) at.there ∙ sym c.resource.ensures;
       instance = ap (λ (b : Application). b.instance) at.there;
       inside = at.inside;
+      scope = at.scope;
     })
     c.args.self.now.followed (ap (λ (b : Application). b.scope) at.there) c.args.self.now.searched got knows.condition
     ∙ same_looked (linked_rules l) (linked_outcome l left) _ _ _ _ a row.name row.meaning (value c.args.keyword_value.now) names indexes

@@ -12,7 +12,7 @@ pushed_or_not : (l : Linked) (uris : List (Bor Text)) (uri : Bor Text) (ss : Lis
     → All (IsSearched l (map (λ u. u.now) (cond pushed (uris ++ uri ∷ []) uris))) ss
 pushed_or_not l uris uri ss true all = λ k d lt.
     subst (λ ts. IsSearched l ts (get_or ss k d)) (sym (map_push (λ (u : Bor Text). u.now) uris uri))
-    (pushed_searched l (map (λ u. u.now) uris) uri.now _ _ _ (all k d lt))
+    (let s = all k d lt in record { anchor = s.anchor; number = s.number; searched = pushed_searched l _ (map (λ u. u.now) uris) uri.now _ _ s.searched })
 pushed_or_not l uris uri ss false all = all
 
 pub invariant_of-self-clause-right : goal.invariant_of-self-clause-right

@@ -10,4 +10,5 @@ invariant_of-self c =
       documents_right =
           document_after kept.linked.now kept.texts kept.documents c.insert.new.self c.args.number c.in-Some.document c.args.uri.now c.insert.result
           kept.documents_right c.insert.ensures.updates c.insert.ensures.err (c.is.ensures c.if-is.true) c.in-Some.ensures;
+      anchored_right = kept.anchored_right;
     }

@@ -42,7 +42,7 @@ use_keyword-returns-in-Ok-clause-valid t c a at knows got =
     let there = c.in_ok-enter_keyword.ensures.there ∙ ap (λ here. at_keyword k (frame_standing here)) c.in_ok-planned.ensures.back in
     let here = at_keyword_of l left (context_view old.context) (context_view c.enter_keyword.new.self) s x keyword v c.args.beside a at there knows got in
     let known : (p : Planned) → Contains-use_keyword ps p → IsKnown c.plan_keyword.new.self.linked.now k a p =
-    λ p inside. subst (λ (b : Bor Linked). IsKnown b.now k a p) (sym c.in_ok-planned.ensures.linked) (planned_known l left keyword a ps names indexes v at.inside got same p inside) in
+    λ p inside. subst (λ (b : Bor Linked). IsKnown b.now k a p) (sym c.in_ok-planned.ensures.linked) (planned_known l left keyword a ps names indexes v at.inside at.scope got same p inside) in
     let linked = c.in-Ok.ensures.linked ∙ c.in_ok-planned.ensures.linked in
     let finds : FindsAll c.in-Ok.applied (use_there l left a keyword names indexes v).outcomes =
     subst (FindsAll c.in-Ok.applied) outcomes
@@ -73,7 +73,7 @@ use_keyword-returns-in-Ok-clause-passing t c a at knows got =
     let there = c.in_ok-enter_keyword.ensures.there ∙ ap (λ here. at_keyword k (frame_standing here)) c.in_ok-planned.ensures.back in
     let here = at_keyword_of l left (context_view old.context) (context_view c.enter_keyword.new.self) s x keyword v c.args.beside a at there knows got in
     let known : (p : Planned) → Contains-use_keyword ps p → IsKnown c.plan_keyword.new.self.linked.now k a p =
-    λ p inside. subst (λ (b : Bor Linked). IsKnown b.now k a p) (sym c.in_ok-planned.ensures.linked) (planned_known l left keyword a ps names indexes v at.inside got same p inside) in
+    λ p inside. subst (λ (b : Bor Linked). IsKnown b.now k a p) (sym c.in_ok-planned.ensures.linked) (planned_known l left keyword a ps names indexes v at.inside at.scope got same p inside) in
     let finds : FindsAll c.in-Ok.applied (use_there l left a keyword names indexes v).outcomes =
     subst (FindsAll c.in-Ok.applied) outcomes
     (subst (λ (b : Bor Linked). FindsAll c.in-Ok.applied (part_outcomes b.now left k a ps)) c.in_ok-planned.ensures.linked (c.in-Ok.ensures.found a here.under known)) in
@@ -97,7 +97,7 @@ use_keyword-returns-in-Ok-clause-noted t c a at knows got =
     let there = c.in_ok-enter_keyword.ensures.there ∙ ap (λ here. at_keyword k (frame_standing here)) c.in_ok-planned.ensures.back in
     let here = at_keyword_of l left (context_view old.context) (context_view c.enter_keyword.new.self) s x keyword v c.args.beside a at there knows got in
     let known : (p : Planned) → Contains-use_keyword ps p → IsKnown c.plan_keyword.new.self.linked.now k a p =
-    λ p inside. subst (λ (b : Bor Linked). IsKnown b.now k a p) (sym c.in_ok-planned.ensures.linked) (planned_known l left keyword a ps names indexes v at.inside got same p inside) in
+    λ p inside. subst (λ (b : Bor Linked). IsKnown b.now k a p) (sym c.in_ok-planned.ensures.linked) (planned_known l left keyword a ps names indexes v at.inside at.scope got same p inside) in
     let linked = c.in-Ok.ensures.linked ∙ c.in_ok-planned.ensures.linked in
     let finds : FindsAll c.in-Ok.applied (use_there l left a keyword names indexes v).outcomes =
     subst (FindsAll c.in-Ok.applied) outcomes
@@ -135,7 +135,7 @@ use_keyword-returns-in-Err-clause-err t c a at knows got other =
     let there = c.in_ok-enter_keyword.ensures.there ∙ ap (λ here. at_keyword k (frame_standing here)) c.in_ok-planned.ensures.back in
     let here = at_keyword_of l left (context_view old.context) (context_view c.enter_keyword.new.self) s x keyword v c.args.beside a at there knows got in
     let known : (p : Planned) → Contains-use_keyword ps p → IsKnown c.plan_keyword.new.self.linked.now k a p =
-    λ p inside. subst (λ (b : Bor Linked). IsKnown b.now k a p) (sym c.in_ok-planned.ensures.linked) (planned_known l left keyword a ps names indexes v at.inside got same p inside) in
+    λ p inside. subst (λ (b : Bor Linked). IsKnown b.now k a p) (sym c.in_ok-planned.ensures.linked) (planned_known l left keyword a ps names indexes v at.inside at.scope got same p inside) in
     let older = log_view old.log in
     let m = (row_of keyword).meaning in
     let fault = c.in-Err.ensures.err a here.under known other in (
@@ -225,8 +225,17 @@ apply_entered-returns-in-Ok-clause-valid t c a k under known =
     let child = (planned_view k a p).1 in
     let here : IsKnown (scope_documents c.args.self.now.context.scope).now k a p = subst (λ (l : Bor Linked). IsKnown l.now k a p) (sym c.args.self.now.followed) known in
     let at : IsAt c.args.self.now.linked.now (context_view c.enter_planned.new.self) (value c.of-present.result.schema.now) (subject_value p.subject) child =
-    planned_at c.args.self.now.linked.now (context_view c.enter_planned.new.self) k a p (value c.of-present.result.schema.now) (c.in_ok-back.ensures.there a k (c.identifier.ensures ∙ ap (λ d. text_at (codes "$id") (value d)) c.of-present.ensures) under here.0 here.1) (ap value c.of-present.ensures) known in
+    planned_at c.args.self.now.linked.now (context_view c.enter_planned.new.self) k a p (value c.of-present.result.schema.now) (c.in_ok-back.ensures.there a k (c.identifier.ensures ∙ ap (λ d. text_at (codes "$id") (value d)) c.of-present.ensures) under here.inside here.planned) (ap value c.of-present.ensures) known in
     c.in-Ok.ensures.valid child at
+
+pub apply_entered-returns-in-Ok-clause-noted : goal.apply_entered-returns-in-Ok-clause-noted
+apply_entered-returns-in-Ok-clause-noted t c a k under known =
+    let p = c.args.planned.now in
+    let child = (planned_view k a p).1 in
+    let here : IsKnown (scope_documents c.args.self.now.context.scope).now k a p = subst (λ (l : Bor Linked). IsKnown l.now k a p) (sym c.args.self.now.followed) known in
+    let at : IsAt c.args.self.now.linked.now (context_view c.enter_planned.new.self) (value c.of-present.result.schema.now) (subject_value p.subject) child =
+    planned_at c.args.self.now.linked.now (context_view c.enter_planned.new.self) k a p (value c.of-present.result.schema.now) (c.in_ok-back.ensures.there a k (c.identifier.ensures ∙ ap (λ d. text_at (codes "$id") (value d)) c.of-present.ensures) under here.inside here.planned) (ap value c.of-present.ensures) known in
+    c.in-Ok.ensures.noted child at
 
 pub apply_entered-returns-in-Err-clause-err : goal.apply_entered-returns-in-Err-clause-err
 apply_entered-returns-in-Err-clause-err t c a k under known other =
@@ -234,5 +243,5 @@ apply_entered-returns-in-Err-clause-err t c a k under known other =
     let child = (planned_view k a p).1 in
     let here : IsKnown (scope_documents c.args.self.now.context.scope).now k a p = subst (λ (l : Bor Linked). IsKnown l.now k a p) (sym c.args.self.now.followed) known in
     let at : IsAt c.args.self.now.linked.now (context_view c.enter_planned.new.self) (value c.of-present.result.schema.now) (subject_value p.subject) child =
-    planned_at c.args.self.now.linked.now (context_view c.enter_planned.new.self) k a p (value c.of-present.result.schema.now) (c.in_ok-back.ensures.there a k (c.identifier.ensures ∙ ap (λ d. text_at (codes "$id") (value d)) c.of-present.ensures) under here.0 here.1) (ap value c.of-present.ensures) known in
+    planned_at c.args.self.now.linked.now (context_view c.enter_planned.new.self) k a p (value c.of-present.result.schema.now) (c.in_ok-back.ensures.there a k (c.identifier.ensures ∙ ap (λ d. text_at (codes "$id") (value d)) c.of-present.ensures) under here.inside here.planned) (ap value c.of-present.ensures) known in
     c.in-Err.ensures.err child at other

@@ -1,0 +1,97 @@
+//! Dynamic references in resources with long URIs, which an evaluation numbers once it has compared them often.
+
+use crate::documents::answer;
+use std::alloc::Global;
+use std::test::Fail;
+
+// A piece of a long URI.
+const PIECE: &str =
+    "uuuuuuuuuuuuuuuuuuuuuuuuuuuuuuuuuuuuuuuuuuuuuuuuuuuuuuuuuuuuuuuuuuuuuuuuuuuuuuuuuuuuuuuuuuuuuuuuuuuu";
+
+// A URI of some 100,000 bytes.
+fn long_uri(alloc: Global) -> Result<String, Fail> {
+    let mut uri = String::from_str(alloc, "https://ex.org/")?;
+    for _ in 0..1_000 {
+        uri.push_str(PIECE)?;
+    }
+    Ok(uri)
+}
+
+// 300 rows of the three letters, and one more row.
+fn rows(alloc: Global, last: &str) -> Result<String, Fail> {
+    let mut rows = String::new(alloc);
+    for _ in 0..300 {
+        rows.push_str(r#"["a","b","c"],"#)?;
+    }
+    Ok(format!(in alloc; "[{rows}{last}]")?)
+}
+
+// A resource of the URI that ends with this letter, which its dynamic anchor asks for, and with this keyword.
+fn resource(alloc: Global, uri: &str, letter: &str, keyword: &str) -> Result<String, Fail> {
+    Ok(format!(in alloc;
+        "\"{letter}\":{{\"$id\":\"{uri}{letter}\",{keyword},\"$defs\":{{\"n\":{{\"$dynamicAnchor\":\"n\",\"const\":\"{letter}\"}}}}}}"
+    )?)
+}
+
+// The answer to these rows of three resources: two have a dynamic reference to an anchor of their own, and the third refers to the
+// first one, so that its own anchor is the outermost there (JSON Schema 2020-12 Core, 8.2.3.2).
+fn answer_to(alloc: Global, uri: &str, last: &str) -> Result<String, Fail> {
+    let dynamic = r##""$dynamicRef":"#n""##;
+    let one = resource(alloc, uri, "a", dynamic)?;
+    let two = resource(alloc, uri, "b", dynamic)?;
+    let other = format!(in alloc; "\"$ref\":\"{uri}a\"")?;
+    let three = resource(alloc, uri, "c", other.as_str())?;
+    let schema = format!(in alloc;
+        "{{\"items\":{{\"prefixItems\":[{{\"$ref\":\"{uri}a\"}},{{\"$ref\":\"{uri}b\"}},{{\"$ref\":\"{uri}c\"}}]}},\"$defs\":{{{one},{two},{three}}}}}"
+    )?;
+    let documents = [("https://ex.org/m", schema.as_str())];
+    let instance = rows(alloc, last)?;
+    answer(alloc, &documents, "https://ex.org/m", instance.as_str())
+}
+
+// The answer where the last row's letter of this place isn't the one that is asked for: the units below its reference.
+fn failing(alloc: Global, place: usize, below: &str) -> Result<String, Fail> {
+    let row = "https://ex.org/m#/items";
+    Ok(format!(in alloc;
+        "{{\"errors\":[{{\"absoluteKeywordLocation\":\"{row}\",\"error\":\"items is not met\",\"instanceLocation\":\"\",\"keywordLocation\":\"/items\"}},{{\"absoluteKeywordLocation\":\"{row}/prefixItems\",\"error\":\"prefixItems is not met\",\"instanceLocation\":\"/300\",\"keywordLocation\":\"/items/prefixItems\"}},{{\"absoluteKeywordLocation\":\"{row}/prefixItems/{place}/$ref\",\"error\":\"$ref is not met\",\"instanceLocation\":\"/300/{place}\",\"keywordLocation\":\"/items/prefixItems/{place}/$ref\"}}{below}],\"valid\":false}}"
+    )?)
+}
+
+// The unit of a keyword that isn't met, at this place of the last row.
+fn unit(
+    alloc: Global,
+    place: usize,
+    absolute: &str,
+    keyword: &str,
+    path: &str,
+) -> Result<String, Fail> {
+    Ok(format!(in alloc;
+        ",{{\"absoluteKeywordLocation\":\"{absolute}/{keyword}\",\"error\":\"{keyword} is not met\",\"instanceLocation\":\"/300/{place}\",\"keywordLocation\":\"/items/prefixItems/{place}/$ref{path}/{keyword}\"}}"
+    )?)
+}
+
+#[test]
+fn the_outermost_resource_of_the_scope_is_asked(rt: HostRuntime) -> Result<(), Fail> {
+    let alloc = rt.alloc();
+    let uri = long_uri(alloc)?;
+    let uri = uri.as_str();
+    let found = answer_to(alloc, uri, r#"["a"]"#)?;
+    assert!(rt; found.as_str().ends_with("\"valid\":true}"));
+    let first = format!(in alloc; "{uri}b#")?;
+    let own = format!(in alloc; "{uri}b#/$defs/n")?;
+    let dynamic = unit(alloc, 1, first.as_str(), "$dynamicRef", "")?;
+    let letter = unit(alloc, 1, own.as_str(), "const", "/$dynamicRef")?;
+    let below = format!(in alloc; "{dynamic}{letter}")?;
+    let second = failing(alloc, 1, below.as_str())?;
+    assert!(rt; answer_to(alloc, uri, r#"["a","a"]"#)?.as_str() == second.as_str());
+    let third = format!(in alloc; "{uri}c#")?;
+    let outer = format!(in alloc; "{uri}c#/$defs/n")?;
+    let inner = format!(in alloc; "{uri}a#")?;
+    let reference = unit(alloc, 2, third.as_str(), "$ref", "")?;
+    let dynamic = unit(alloc, 2, inner.as_str(), "$dynamicRef", "/$ref")?;
+    let letter = unit(alloc, 2, outer.as_str(), "const", "/$ref/$dynamicRef")?;
+    let below = format!(in alloc; "{reference}{dynamic}{letter}")?;
+    let last = failing(alloc, 2, below.as_str())?;
+    assert!(rt; answer_to(alloc, uri, r#"["a","b","a"]"#)?.as_str() == last.as_str());
+    Ok(())
+}

@@ -54,6 +54,20 @@ def dynamic(n):
     return dynamic_scope(n), [0] * (10 * n)
 
 
+def dynamic_within(uri, anchor):
+    """Elements that are judged in a resource with this `$id` by a dynamic reference to this anchor of its own."""
+    inner = {"$id": uri, "$dynamicRef": f"#{anchor}", "$defs": {"x": {"$dynamicAnchor": anchor}}}
+    return {"items": {"$ref": "#/$defs/e"}, "$defs": {"e": inner}}
+
+
+def dynamic_in_long_resource(n):
+    return dynamic_within("i/" * (n // 2), "a"), [0] * n
+
+
+def long_dynamic_anchor(n):
+    return dynamic_within("i/", "a" * n), [0] * n
+
+
 def ignored(n):
     return {"items": {f"$x{number}": 1 for number in range(n)}}, [0] * (4 * n)
 
@@ -104,6 +118,8 @@ ROWS = {
     "a reference in a resource with a URI of n bytes": (long_resource, 1_000),
     "an $id of n bytes, entered n times": (long_identifier, 1_000),
     "$dynamicRef with n resources in scope, 10 n times": (dynamic, 100),
+    "$dynamicRef in a resource with a URI of n bytes, n times": (dynamic_in_long_resource, 12_000),
+    "$dynamicRef to an anchor of n bytes, n times": (long_dynamic_anchor, 12_000),
     "n names that are ignored, 4 n times": (ignored, 400),
     "dependentRequired of n names, 4 n objects": (dependent_required, 400),
     "dependentSchemas of n names, 4 n objects": (dependent_schemas, 400),

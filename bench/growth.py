@@ -16,7 +16,7 @@ import sys
 import tempfile
 from pathlib import Path
 
-from hostile import deep_chain, dynamic_scope, names
+from hostile import deep_chain, dynamic_scope, dynamic_within, names
 from run import Bench, amount, print_table
 from workloads import compact, many_patterns
 
@@ -54,18 +54,12 @@ def dynamic(n):
     return dynamic_scope(n), [0] * (10 * n)
 
 
-def dynamic_within(uri, anchor):
-    """Elements that are judged in a resource with this `$id` by a dynamic reference to this anchor of its own."""
-    inner = {"$id": uri, "$dynamicRef": f"#{anchor}", "$defs": {"x": {"$dynamicAnchor": anchor}}}
-    return {"items": {"$ref": "#/$defs/e"}, "$defs": {"e": inner}}
-
-
 def dynamic_in_long_resource(n):
-    return dynamic_within("i/" * (n // 2), "a"), [0] * n
+    return dynamic_within("i/" * (n // 2), ["a"]), [0] * n
 
 
 def long_dynamic_anchor(n):
-    return dynamic_within("i/", "a" * n), [0] * n
+    return dynamic_within("i/", ["a" * n]), [0] * n
 
 
 def ignored(n):

@@ -110,6 +110,14 @@ def patterns_in_turn(elements, size=400_000):
     return take_turns(lambda number: {"pattern": f"{long_of_two(number, size)}|b"}, elements)
 
 
+def dynamic_within(uri, anchors):
+    """Elements that are judged in a resource with this `$id` by dynamic references to each of its anchors in turn."""
+    within = {f"d{number}": {"$dynamicAnchor": anchor} for number, anchor in enumerate(anchors)}
+    references = [{"$dynamicRef": f"#{anchor}"} for anchor in anchors]
+    inner = {"$id": uri, "allOf": references, "$defs": within}
+    return {"items": {"$ref": "#/$defs/e"}, "$defs": {"e": inner}}
+
+
 def deep_chain(length):
     chain = {f"d{number}": {"$ref": f"#/$defs/d{number + 1}"} for number in range(1, length)}
     return {"$ref": "#/$defs/d1", "$defs": {**chain, f"d{length}": {}}}
@@ -254,6 +262,12 @@ CASES = [
     Case("of two documents a reference in a resource of 400 KB, followed 49,000 times", lambda: check_two(
         {"$ref": "i" * 400_000, "$defs": {"e": {"$id": "i" * 400_000, "items": {"$ref": "#/$defs/t"}, "$defs": {"t": True}}}},
         [0] * 49_000), "200 valid"),
+    Case("a dynamic reference in a resource with a URI of 900 KB, entered 24,000 times", lambda: check(
+        dynamic_within("i" * 900_000, ["a"]), [0] * 24_000), "200 valid"),
+    Case("a dynamic reference to an anchor of 480 KB, entered 24,000 times", lambda: check(
+        dynamic_within("i", ["a" * 480_000]), [0] * 24_000), "200 valid"),
+    Case("17 dynamic references to anchors of 28 KB in turn, entered 2,600 times", lambda: check(
+        dynamic_within("i", ["a" * 28_000 + chr(97 + last) for last in range(17)]), [0] * 2_600), "200 valid"),
     Case("of two documents two patterns of 400 KB, searched for 66,000 times in turn", lambda: check_two(
         *patterns_in_turn(33_000)), "200 valid"),
     Case("2,000 patterns of names, 2,000 other names", lambda: check(

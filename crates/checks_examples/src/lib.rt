@@ -28,6 +28,7 @@ mod long_enums;
 mod long_patterns;
 #[cfg(test)]
 mod long_resources;
+#[cfg(test)]
 mod long_scopes;
 #[cfg(test)]
 mod outputs;

@@ -206,7 +206,7 @@ impl<'a> Evaluation<'a> {
             subject,
             before: mark.before(),
         };
-        match self.use_keywords(here, nesting) {
+        match self.use_keywords(&here, nesting) {
             Ok(valid) => {
                 self.context.leave_object();
                 settle_object(

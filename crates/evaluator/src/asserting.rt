@@ -35,16 +35,16 @@ impl<'a> Evaluation<'a> {
         &mut self,
         keyword: Keyword,
         assertion: Assertion,
-        here: Here<'_, 'a>,
+        here: &Here<'_, 'a>,
     ) -> Result<bool, Halt>
         requires asserts { Some (assertion_view assertion)
             ≡ assertion_in (row_of keyword).meaning }
         ensures linked { self.new.linked ≡ self.old.linked }
         ensures back { OnOk result (context_view self.new.context ≡ context_view self.old.context) }
-        ensures valid { (a : Application) (left : ℕ) → IsHere self.old here.entry a
+        ensures valid { (a : Application) (left : ℕ) → IsHere self.old here.now a
             → IfOk result (λ b. b ≡ list_all (λ u. u.passes)
             (group_uses self.old.linked.now left a (One keyword))) }
-        ensures noted { (a : Application) (left : ℕ) → IsHere self.old here.entry a
+        ensures noted { (a : Application) (left : ℕ) → IsHere self.old here.now a
             → OnOk result (Adds self.old self.new
             (uses_notes a (group_uses self.old.linked.now left a (One keyword)))) }
         ensures err { IfErr result (λ h. h ≡ Halt.NoRoom) }
@@ -66,14 +66,14 @@ impl<'a> Evaluation<'a> {
         keyword: Keyword,
         assertion: Assertion,
         keyword_value: &Doc,
-        here: Here<'_, 'a>,
+        here: &Here<'_, 'a>,
     ) -> Result<bool, AllocError>
         requires asserts { Some (assertion_view assertion)
             ≡ assertion_in (row_of keyword).meaning }
         ensures linked { self.new.linked ≡ self.old.linked }
         ensures back { self.new.context ≡ self.old.context }
         ensures noted { self.new.log ≡ self.old.log }
-        ensures met { (a : Application) → IsHere self.old here.entry a
+        ensures met { (a : Application) → IsHere self.old here.now a
             → get (row_of keyword).name a.schema.value ≡ Some (value keyword_value.now)
             → IfOk result (λ b. b
             ≡ holds (assertion_view assertion) (value keyword_value.now) a.instance) }
@@ -89,11 +89,11 @@ impl<'a> Evaluation<'a> {
     // Whether the instance is one of the values of the schema's `enum`, by what the evaluation has sorted. The only error is
     // want of memory. It is called apart, since few assertions get so far.
     #[inline(never)]
-    fn is_one_of(&mut self, values: &Doc, here: Here<'_, 'a>) -> Result<bool, AllocError>
+    fn is_one_of(&mut self, values: &Doc, here: &Here<'_, 'a>) -> Result<bool, AllocError>
         ensures linked { self.new.linked ≡ self.old.linked }
         ensures back { self.new.context ≡ self.old.context }
         ensures noted { self.new.log ≡ self.old.log }
-        ensures met { (a : Application) → IsHere self.old here.entry a
+        ensures met { (a : Application) → IsHere self.old here.now a
             → get (codes "enum") a.schema.value ≡ Some (value values.now)
             → IfOk result (λ b. b ≡ holds enum_of (value values.now) a.instance) }
     {

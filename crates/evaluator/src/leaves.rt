@@ -47,7 +47,7 @@ impl<'a> Evaluation<'a> {
     {
         self.log.count_one();
         let mark = self.log.mark();
-        let valid = self.use_assertions(Here {
+        let valid = self.use_assertions(&Here {
             present,
             subject,
             before: mark.before(),
@@ -64,14 +64,14 @@ impl<'a> Evaluation<'a> {
     }
 
     // The groups that the object may have, in order: whether all pass. The only error is want of memory.
-    fn use_assertions(&mut self, here: Here<'_, 'a>) -> Result<bool, Halt>
+    fn use_assertions(&mut self, here: &Here<'_, 'a>) -> Result<bool, Halt>
         requires leaf { IsLeaf (value here.present.now.schema.now) }
         ensures linked { self.new.linked ≡ self.old.linked }
         ensures back { OnOk result (context_view self.new.context ≡ context_view self.old.context) }
-        ensures valid { (a : Application) (left : ℕ) → IsHere self.old here.entry a
+        ensures valid { (a : Application) (left : ℕ) → IsHere self.old here.now a
             → IfOk result (λ b. b ≡ list_all (λ u. u.passes)
             (groups_uses self.old.linked.now left a first_groups)) }
-        ensures noted { (a : Application) (left : ℕ) → IsHere self.old here.entry a
+        ensures noted { (a : Application) (left : ℕ) → IsHere self.old here.now a
             → OnOk result (Adds self.old self.new
             (uses_notes a (groups_uses self.old.linked.now left a first_groups))) }
         ensures err { IfErr result (λ h. h ≡ Halt.NoRoom) }
@@ -88,14 +88,14 @@ impl<'a> Evaluation<'a> {
     }
 
     // A group that asserts, or that isn't there: whether it passes. The only error is want of memory.
-    fn use_asserting(&mut self, group: Group, here: Here<'_, 'a>) -> Result<bool, Halt>
+    fn use_asserting(&mut self, group: Group, here: &Here<'_, 'a>) -> Result<bool, Halt>
         ensures linked { self.new.linked ≡ self.old.linked }
         ensures back { OnOk result (context_view self.new.context ≡ context_view self.old.context) }
-        ensures valid { (a : Application) (left : ℕ) → IsHere self.old here.entry a
+        ensures valid { (a : Application) (left : ℕ) → IsHere self.old here.now a
             → (asserts_alone group ≡ false → group_uses self.old.linked.now left a group ≡ [])
             → IfOk result (λ b. b ≡ list_all (λ u. u.passes)
             (group_uses self.old.linked.now left a group)) }
-        ensures noted { (a : Application) (left : ℕ) → IsHere self.old here.entry a
+        ensures noted { (a : Application) (left : ℕ) → IsHere self.old here.now a
             → (asserts_alone group ≡ false → group_uses self.old.linked.now left a group ≡ [])
             → OnOk result (Adds self.old self.new
             (uses_notes a (group_uses self.old.linked.now left a group))) }

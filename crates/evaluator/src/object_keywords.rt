@@ -29,17 +29,17 @@ impl<'a> Evaluation<'a> {
 
     /// All keywords of a schema object, and last those that look at what the others evaluated: whether all pass.
     #[cycle(apply)]
-    pub(crate) fn use_keywords(&mut self, here: Here<'_, 'a>, nesting: u32) -> Result<bool, Halt>
+    pub(crate) fn use_keywords(&mut self, here: &Here<'_, 'a>, nesting: u32) -> Result<bool, Halt>
         requires before { here.before ≡ evaluated_in (log_view self.old.log) }
         ensures linked { self.new.linked ≡ self.old.linked }
         ensures back { OnOk result (context_view self.new.context ≡ context_view self.old.context) }
-        ensures valid { (a : Application) → IsHere self.old here.entry a
+        ensures valid { (a : Application) → IsHere self.old here.now a
             → IfOk result (λ b. b ≡ list_all (λ u. u.passes)
             (object_uses self.old.linked.now nesting a)) }
-        ensures noted { (a : Application) → IsHere self.old here.entry a
+        ensures noted { (a : Application) → IsHere self.old here.now a
             → OnOk result (Adds self.old self.new
             (uses_notes a (object_uses self.old.linked.now nesting a))) }
-        ensures err { (a : Application) → IsHere self.old here.entry a
+        ensures err { (a : Application) → IsHere self.old here.now a
             → IfErr result (λ f. IsCostly f self.old
             (uses_notes a (object_uses self.old.linked.now nesting a))) }
     {
@@ -65,16 +65,16 @@ impl<'a> Evaluation<'a> {
 
     /// The groups of keywords that the schema may have, in order: whether all pass.
     #[cycle(apply)]
-    fn use_groups(&mut self, here: Here<'_, 'a>, nesting: u32) -> Result<bool, Halt>
+    fn use_groups(&mut self, here: &Here<'_, 'a>, nesting: u32) -> Result<bool, Halt>
         ensures linked { self.new.linked ≡ self.old.linked }
         ensures back { OnOk result (context_view self.new.context ≡ context_view self.old.context) }
-        ensures valid { (a : Application) → IsHere self.old here.entry a
+        ensures valid { (a : Application) → IsHere self.old here.now a
             → IfOk result (λ b. b ≡ list_all (λ u. u.passes)
             (groups_uses self.old.linked.now nesting a first_groups)) }
-        ensures noted { (a : Application) → IsHere self.old here.entry a
+        ensures noted { (a : Application) → IsHere self.old here.now a
             → OnOk result (Adds self.old self.new
             (uses_notes a (groups_uses self.old.linked.now nesting a first_groups))) }
-        ensures err { (a : Application) → IsHere self.old here.entry a
+        ensures err { (a : Application) → IsHere self.old here.now a
             → IfErr result (λ f. IsCostly f self.old
             (uses_notes a (groups_uses self.old.linked.now nesting a first_groups))) }
     {
@@ -109,23 +109,23 @@ impl<'a> Evaluation<'a> {
     fn use_group(
         &mut self,
         group: Group,
-        here: Here<'_, 'a>,
+        here: &Here<'_, 'a>,
         named: u64,
         nesting: u32,
     ) -> Result<bool, Halt>
         requires alone { stands_alone group ≡ true }
         ensures linked { self.new.linked ≡ self.old.linked }
         ensures back { OnOk result (context_view self.new.context ≡ context_view self.old.context) }
-        ensures valid { (a : Application) → IsHere self.old here.entry a
+        ensures valid { (a : Application) → IsHere self.old here.now a
             → named ≤ named_count a → IfOk result (λ b. b ≡ list_all (λ u. u.passes)
             (group_uses self.old.linked.now nesting a group)) }
-        ensures passing { (a : Application) → IsHere self.old here.entry a
+        ensures passing { (a : Application) → IsHere self.old here.now a
             → named ≤ named_count a → group ≡ One Properties → OnOk result (self.new.passing
             ≡ passing_first (group_uses self.old.linked.now nesting a group)) }
-        ensures noted { (a : Application) → IsHere self.old here.entry a
+        ensures noted { (a : Application) → IsHere self.old here.now a
             → named ≤ named_count a → OnOk result (Adds self.old self.new
             (uses_notes a (group_uses self.old.linked.now nesting a group))) }
-        ensures err { (a : Application) → IsHere self.old here.entry a
+        ensures err { (a : Application) → IsHere self.old here.now a
             → named ≤ named_count a → IfErr result (λ f. IsCostly f self.old
             (uses_notes a (group_uses self.old.linked.now nesting a group))) }
     {
@@ -142,23 +142,23 @@ impl<'a> Evaluation<'a> {
     fn use_one(
         &mut self,
         keyword: Keyword,
-        here: Here<'_, 'a>,
+        here: &Here<'_, 'a>,
         named: u64,
         nesting: u32,
     ) -> Result<bool, Halt>
         requires alone { stands_alone (One keyword) ≡ true }
         ensures linked { self.new.linked ≡ self.old.linked }
         ensures back { OnOk result (context_view self.new.context ≡ context_view self.old.context) }
-        ensures valid { (a : Application) → IsHere self.old here.entry a
+        ensures valid { (a : Application) → IsHere self.old here.now a
             → named ≤ named_count a → IfOk result (λ b. b ≡ list_all (λ u. u.passes)
             (group_uses self.old.linked.now nesting a (One keyword))) }
-        ensures passing { (a : Application) → IsHere self.old here.entry a
+        ensures passing { (a : Application) → IsHere self.old here.now a
             → named ≤ named_count a → keyword ≡ Properties → OnOk result (self.new.passing
             ≡ passing_first (group_uses self.old.linked.now nesting a (One keyword))) }
-        ensures noted { (a : Application) → IsHere self.old here.entry a
+        ensures noted { (a : Application) → IsHere self.old here.now a
             → named ≤ named_count a → OnOk result (Adds self.old self.new
             (uses_notes a (group_uses self.old.linked.now nesting a (One keyword)))) }
-        ensures err { (a : Application) → IsHere self.old here.entry a
+        ensures err { (a : Application) → IsHere self.old here.now a
             → named ≤ named_count a → IfErr result (λ f. IsCostly f self.old
             (uses_notes a (group_uses self.old.linked.now nesting a (One keyword)))) }
     {
@@ -170,16 +170,16 @@ impl<'a> Evaluation<'a> {
 
     /// `if`, and then `then` and `else` (Core, 10.2.2).
     #[cycle(apply)]
-    fn use_conditional(&mut self, here: Here<'_, 'a>, nesting: u32) -> Result<bool, Halt>
+    fn use_conditional(&mut self, here: &Here<'_, 'a>, nesting: u32) -> Result<bool, Halt>
         ensures linked { self.new.linked ≡ self.old.linked }
         ensures back { OnOk result (context_view self.new.context ≡ context_view self.old.context) }
-        ensures valid { (a : Application) → IsHere self.old here.entry a
+        ensures valid { (a : Application) → IsHere self.old here.now a
             → IfOk result (λ b. b ≡ list_all (λ u. u.passes)
             (group_uses self.old.linked.now nesting a Conditional)) }
-        ensures noted { (a : Application) → IsHere self.old here.entry a
+        ensures noted { (a : Application) → IsHere self.old here.now a
             → OnOk result (Adds self.old self.new
             (uses_notes a (group_uses self.old.linked.now nesting a Conditional))) }
-        ensures err { (a : Application) → IsHere self.old here.entry a
+        ensures err { (a : Application) → IsHere self.old here.now a
             → IfErr result (λ f. IsCostly f self.old
             (uses_notes a (group_uses self.old.linked.now nesting a Conditional))) }
     {
@@ -197,16 +197,16 @@ impl<'a> Evaluation<'a> {
 
     /// `contains`, and then `minContains` and `maxContains` (Core, 10.3.1.3; Validation, 6.4.4 and 6.4.5).
     #[cycle(apply)]
-    fn use_counted(&mut self, here: Here<'_, 'a>, nesting: u32) -> Result<bool, Halt>
+    fn use_counted(&mut self, here: &Here<'_, 'a>, nesting: u32) -> Result<bool, Halt>
         ensures linked { self.new.linked ≡ self.old.linked }
         ensures back { OnOk result (context_view self.new.context ≡ context_view self.old.context) }
-        ensures valid { (a : Application) → IsHere self.old here.entry a
+        ensures valid { (a : Application) → IsHere self.old here.now a
             → IfOk result (λ b. b ≡ list_all (λ u. u.passes)
             (group_uses self.old.linked.now nesting a Counted)) }
-        ensures noted { (a : Application) → IsHere self.old here.entry a
+        ensures noted { (a : Application) → IsHere self.old here.now a
             → OnOk result (Adds self.old self.new
             (uses_notes a (group_uses self.old.linked.now nesting a Counted))) }
-        ensures err { (a : Application) → IsHere self.old here.entry a
+        ensures err { (a : Application) → IsHere self.old here.now a
             → IfErr result (λ f. IsCostly f self.old
             (uses_notes a (group_uses self.old.linked.now nesting a Counted))) }
     {
@@ -234,29 +234,29 @@ impl<'a> Evaluation<'a> {
         &mut self,
         first: Keyword,
         second: Keyword,
-        here: Here<'_, 'a>,
+        here: &Here<'_, 'a>,
         beside: Beside,
         nesting: u32,
     ) -> Result<bool, Halt>
         ensures linked { self.new.linked ≡ self.old.linked }
         ensures back { OnOk result (context_view self.new.context ≡ context_view self.old.context) }
-        ensures valid { (a : Application) → IsHere self.old here.entry a
+        ensures valid { (a : Application) → IsHere self.old here.now a
             → Knows self.old.linked.now nesting a (row_of first).meaning beside
             → Knows self.old.linked.now nesting a (row_of second).meaning beside
             → IfOk result (λ b. b ≡ list_all (λ u. u.passes)
-            (two_uses self.old.linked.now nesting a first second here.entry.before
+            (two_uses self.old.linked.now nesting a first second here.now.before
             (log_view self.old.log))) }
-        ensures noted { (a : Application) → IsHere self.old here.entry a
+        ensures noted { (a : Application) → IsHere self.old here.now a
             → Knows self.old.linked.now nesting a (row_of first).meaning beside
             → Knows self.old.linked.now nesting a (row_of second).meaning beside
             → OnOk result (Adds self.old self.new (uses_notes a
-            (two_uses self.old.linked.now nesting a first second here.entry.before
+            (two_uses self.old.linked.now nesting a first second here.now.before
             (log_view self.old.log)))) }
-        ensures err { (a : Application) → IsHere self.old here.entry a
+        ensures err { (a : Application) → IsHere self.old here.now a
             → Knows self.old.linked.now nesting a (row_of first).meaning beside
             → Knows self.old.linked.now nesting a (row_of second).meaning beside
             → IfErr result (λ f. IsCostly f self.old (uses_notes a
-            (two_uses self.old.linked.now nesting a first second here.entry.before
+            (two_uses self.old.linked.now nesting a first second here.now.before
             (log_view self.old.log)))) }
     {
         match self.use_named(first, here, beside, nesting) {
@@ -274,31 +274,31 @@ impl<'a> Evaluation<'a> {
     fn use_named(
         &mut self,
         keyword: Keyword,
-        here: Here<'_, 'a>,
+        here: &Here<'_, 'a>,
         beside: Beside,
         nesting: u32,
     ) -> Result<bool, Halt>
         ensures linked { self.new.linked ≡ self.old.linked }
         ensures back { OnOk result (context_view self.new.context ≡ context_view self.old.context) }
-        ensures valid { (a : Application) → IsHere self.old here.entry a
+        ensures valid { (a : Application) → IsHere self.old here.now a
             → Knows self.old.linked.now nesting a (row_of keyword).meaning beside
             → IfOk result (λ b. b ≡ list_all (λ u. u.passes)
-            (uses_since self.old.linked.now nesting a keyword here.entry.before
+            (uses_since self.old.linked.now nesting a keyword here.now.before
             (log_view self.old.log))) }
-        ensures passing { (a : Application) → IsHere self.old here.entry a
+        ensures passing { (a : Application) → IsHere self.old here.now a
             → Knows self.old.linked.now nesting a (row_of keyword).meaning beside
             → OnOk result (self.new.passing
-            ≡ passing_first (uses_since self.old.linked.now nesting a keyword here.entry.before
+            ≡ passing_first (uses_since self.old.linked.now nesting a keyword here.now.before
             (log_view self.old.log))) }
-        ensures noted { (a : Application) → IsHere self.old here.entry a
+        ensures noted { (a : Application) → IsHere self.old here.now a
             → Knows self.old.linked.now nesting a (row_of keyword).meaning beside
             → OnOk result (Adds self.old self.new (uses_notes a
-            (uses_since self.old.linked.now nesting a keyword here.entry.before
+            (uses_since self.old.linked.now nesting a keyword here.now.before
             (log_view self.old.log)))) }
-        ensures err { (a : Application) → IsHere self.old here.entry a
+        ensures err { (a : Application) → IsHere self.old here.now a
             → Knows self.old.linked.now nesting a (row_of keyword).meaning beside
             → IfErr result (λ f. IsCostly f self.old (uses_notes a
-            (uses_since self.old.linked.now nesting a keyword here.entry.before
+            (uses_since self.old.linked.now nesting a keyword here.now.before
             (log_view self.old.log)))) }
     {
         match here.present.value(keyword) {

@@ -40,43 +40,43 @@ impl<'a> Evaluation<'a> {
         &mut self,
         keyword: Keyword,
         keyword_value: &'a Doc,
-        here: Here<'_, 'a>,
+        here: &Here<'_, 'a>,
         beside: Beside,
         nesting: u32,
     ) -> Result<bool, Halt>
         ensures linked { self.new.linked ≡ self.old.linked }
         ensures back { OnOk result (context_view self.new.context ≡ context_view self.old.context) }
-        ensures valid { (a : Application) → IsHere self.old here.entry a
+        ensures valid { (a : Application) → IsHere self.old here.now a
             → Knows self.old.linked.now nesting a (row_of keyword).meaning beside
             → get (row_of keyword).name a.schema.value ≡ Some (value keyword_value.now)
             → IfOk result (λ b. b ≡ list_all (λ u. u.passes)
             (uses_with self.old.linked.now nesting a keyword
-            (names_since here.entry.before (log_view self.old.log))
-            (indexes_since here.entry.before (log_view self.old.log))
+            (names_since here.now.before (log_view self.old.log))
+            (indexes_since here.now.before (log_view self.old.log))
             (Some (value keyword_value.now)))) }
-        ensures passing { (a : Application) → IsHere self.old here.entry a
+        ensures passing { (a : Application) → IsHere self.old here.now a
             → Knows self.old.linked.now nesting a (row_of keyword).meaning beside
             → get (row_of keyword).name a.schema.value ≡ Some (value keyword_value.now)
             → OnOk result (self.new.passing ≡ passing_first
             (uses_with self.old.linked.now nesting a keyword
-            (names_since here.entry.before (log_view self.old.log))
-            (indexes_since here.entry.before (log_view self.old.log))
+            (names_since here.now.before (log_view self.old.log))
+            (indexes_since here.now.before (log_view self.old.log))
             (Some (value keyword_value.now)))) }
-        ensures noted { (a : Application) → IsHere self.old here.entry a
+        ensures noted { (a : Application) → IsHere self.old here.now a
             → Knows self.old.linked.now nesting a (row_of keyword).meaning beside
             → get (row_of keyword).name a.schema.value ≡ Some (value keyword_value.now)
             → OnOk result (Adds self.old self.new (uses_notes a
             (uses_with self.old.linked.now nesting a keyword
-            (names_since here.entry.before (log_view self.old.log))
-            (indexes_since here.entry.before (log_view self.old.log))
+            (names_since here.now.before (log_view self.old.log))
+            (indexes_since here.now.before (log_view self.old.log))
             (Some (value keyword_value.now))))) }
-        ensures err { (a : Application) → IsHere self.old here.entry a
+        ensures err { (a : Application) → IsHere self.old here.now a
             → Knows self.old.linked.now nesting a (row_of keyword).meaning beside
             → get (row_of keyword).name a.schema.value ≡ Some (value keyword_value.now)
             → IfErr result (λ f. IsCostly f self.old (uses_notes a
             (uses_with self.old.linked.now nesting a keyword
-            (names_since here.entry.before (log_view self.old.log))
-            (indexes_since here.entry.before (log_view self.old.log))
+            (names_since here.now.before (log_view self.old.log))
+            (indexes_since here.now.before (log_view self.old.log))
             (Some (value keyword_value.now))))) }
     {
         let mark = self.log.mark();
@@ -96,20 +96,20 @@ impl<'a> Evaluation<'a> {
         &mut self,
         keyword: Keyword,
         keyword_value: &'a Doc,
-        here: Here<'_, 'a>,
+        here: &Here<'_, 'a>,
         beside: Beside,
     ) -> Result<Vec<Planned<'a>>, AllocError>
         ensures linked { self.new.linked ≡ self.old.linked }
         ensures back { context_view self.new.context ≡ context_view self.old.context }
         ensures noted { self.new.log ≡ self.old.log }
-        ensures planned { (a : Application) (left : ℕ) → IsHere self.old here.entry a
+        ensures planned { (a : Application) (left : ℕ) → IsHere self.old here.now a
             → Knows self.old.linked.now left a (row_of keyword).meaning beside
             → get (row_of keyword).name a.schema.value ≡ Some (value keyword_value.now)
             → IfOk result (λ ps. map (planned_view (row_of keyword).name a) ps.items
             ≡ definition.keyword_applications (linked_rules self.old.linked.now)
             (linked_outcome self.old.linked.now left)
-            (names_since here.entry.before (log_view self.old.log))
-            (indexes_since here.entry.before (log_view self.old.log))
+            (names_since here.now.before (log_view self.old.log))
+            (indexes_since here.now.before (log_view self.old.log))
             a (row_of keyword).name (row_of keyword).meaning (value keyword_value.now)) }
     {
         if surely_applies_nothing(keyword, here.subject, beside.named) {
@@ -146,7 +146,7 @@ impl<'a> Evaluation<'a> {
         &mut self,
         keyword: Keyword,
         keyword_value: &'a Doc,
-        here: Here<'_, 'a>,
+        here: &Here<'_, 'a>,
         beside: Beside,
         mark: &LogMark,
         applied: Applied,
@@ -157,7 +157,7 @@ impl<'a> Evaluation<'a> {
             → OnOk result (context_view self.new.context ≡ older) }
         ensures valid { (a : Application) (left : ℕ) (names : List Text) (indexes : List ℕ)
             → IsAtKeyword self.old.linked.now left (context_view self.old.context)
-            (value here.entry.present.now.schema.now) (subject_value here.entry.subject) keyword
+            (value here.now.present.now.schema.now) (subject_value here.now.subject) keyword
             (value keyword_value.now) beside a
             → let u = use_there self.old.linked.now left a keyword names indexes
             (value keyword_value.now) in
@@ -166,7 +166,7 @@ impl<'a> Evaluation<'a> {
         ensures noted { (a : Application) (left : ℕ) (names : List Text) (indexes : List ℕ)
             (older : Notes)
             → IsAtKeyword self.old.linked.now left (context_view self.old.context)
-            (value here.entry.present.now.schema.now) (subject_value here.entry.subject) keyword
+            (value here.now.present.now.schema.now) (subject_value here.now.subject) keyword
             (value keyword_value.now) beside a
             → let u = use_there self.old.linked.now left a keyword names indexes
             (value keyword_value.now) in
@@ -197,7 +197,7 @@ impl<'a> Evaluation<'a> {
         &mut self,
         keyword: Keyword,
         keyword_value: &'a Doc,
-        here: Here<'_, 'a>,
+        here: &Here<'_, 'a>,
         beside: Beside,
         applied: Applied,
     ) -> Result<bool, AllocError>
@@ -206,7 +206,7 @@ impl<'a> Evaluation<'a> {
         ensures noted { self.new.log ≡ self.old.log }
         ensures passes { (a : Application) (left : ℕ) (names : List Text) (indexes : List ℕ)
             → IsAtKeyword self.old.linked.now left (context_view self.old.context)
-            (value here.entry.present.now.schema.now) (subject_value here.entry.subject) keyword
+            (value here.now.present.now.schema.now) (subject_value here.now.subject) keyword
             (value keyword_value.now) beside a
             → let u = use_there self.old.linked.now left a keyword names indexes
             (value keyword_value.now) in

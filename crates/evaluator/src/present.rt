@@ -24,10 +24,13 @@ use keywords::Keyword;
 const ANNOTATES: usize = 63;
 
 /// The marks of the keywords, in their order: of those that are evaluated the numbers of their groups.
-static MARKS: [u8; 46] = [
+static MARKS: [u8; KEYWORDS] = [
     0, 1, 2, 3, 4, 5, 6, 7, 8, 9, 10, 11, 12, 13, 14, 15, 16, 17, 18, 19, 20, 21, 22, 23, 24, 24,
     24, 25, 26, 27, 28, 28, 28, 29, 30, 31, 32, 33, 34, 35, 35, 63, 35, 35, 35, 35,
 ];
+
+/// How many keywords there are.
+const KEYWORDS: usize = 46;
 
 /// A schema, and which names stand in it: a bit for each group of keywords, in the order of evaluation, one for keywords
 /// that are not evaluated, and the last for names that may annotate with their own value.
@@ -35,6 +38,8 @@ static MARKS: [u8; 46] = [
 pub(crate) struct Present<'a> {
     pub(crate) schema: &'a Doc,
     marks: u64,
+    // Where each keyword stands among the members of a schema that has few.
+    positions: [u8; KEYWORDS],
     ghost marked: { AreMarked marks (value schema.now) },
 }
 
@@ -44,9 +49,12 @@ impl<'a> Present<'a> {
     pub(crate) fn of(schema: &'a Doc) -> Present<'a>
         ensures { result.schema.now ≡ schema.now }
     {
+        let mut positions = [0; KEYWORDS];
+        let marks = marks_in(schema, &mut positions);
         Present {
             schema,
-            marks: marks_in(schema),
+            marks,
+            positions,
         }
     }
 
@@ -129,50 +137,63 @@ impl<'a> Present<'a> {
         ensures { option_map (λ d. value d.now) result
             ≡ get (row_of keyword).name (value self.now.schema.now) }
     {
-        self.schema.keyword_value(keyword)
+        let position = self.positions[keyword as usize] as usize;
+        self.schema.keyword_value_near(keyword, position)
     }
 }
 
-// The marks of the names.
+// The marks of the names. It is noted where keywords stand.
 #[inline(always)]
-fn marks_in(schema: &Doc) -> u64
+fn marks_in(schema: &Doc, positions: &mut [u8; KEYWORDS]) -> u64
     ensures { AreMarked result (value schema.now) }
 {
     match schema.as_dict() {
-        Some(members) => marks_of(members),
+        Some(members) => marks_of(members, positions),
         None => 0,
     }
 }
 
 #[inline(always)]
-fn marks_of(members: &Members) -> u64
+fn marks_of(members: &Members, positions: &mut [u8; KEYWORDS]) -> u64
     ensures { (i : ℕ) → bit_at result i ≡ 0
         → list_any (has_mark i) (members_value members.now) ≡ false }
 {
     if are_many(members) {
-        marks_of_many(members)
+        marks_of_many(members, positions)
     } else {
-        marks_among(members.iter())
+        marks_among(members.iter(), positions)
     }
 }
 
-fn marks_of_many(members: &Members) -> u64
+fn marks_of_many(members: &Members, positions: &mut [u8; KEYWORDS]) -> u64
     ensures { (i : ℕ) → bit_at result i ≡ 0
         → list_any (has_mark i) (members_value members.now) ≡ false }
 {
     let cut = cut_at_dollar_names(members);
-    marks_among(cut.before) | dollar_marks() | marks_among(cut.after)
+    marks_among(cut.before, positions) | dollar_marks() | marks_among(cut.after, positions)
 }
 
-fn marks_among(members: MembersIter<'_>) -> u64
+fn marks_among(members: MembersIter<'_>, positions: &mut [u8; KEYWORDS]) -> u64
     ensures { (i : ℕ) → bit_at result i ≡ 0
         → list_any (has_mark i) (members_left members.entry) ≡ false }
 {
     let mut marks: u64 = 0;
+    let mut position: u8 = 0;
     for (name, _) in members.named() {
-        marks |= 1u64 << mark_of(name.keyword());
+        let keyword = name.keyword();
+        marks |= 1u64 << mark_of(keyword);
+        note_position(positions, keyword, position);
+        position = position.wrapping_add(1);
     }
     marks
+}
+
+// The keyword stands at this position.
+#[inline(always)]
+fn note_position(positions: &mut [u8; KEYWORDS], keyword: Option<Keyword>, position: u8) {
+    if let Some(keyword) = keyword {
+        positions[keyword as usize] = position;
+    }
 }
 
 // The marks that names that begin with `$` may have: those of two keywords that are evaluated, that of keywords that

@@ -1,5 +1,5 @@
 -- The entries of a map beside the members that they stand for.
-use Rattle.std.proofs.Common.{◌≡◌, List, [], ◌∷◌, ◌++◌, map, length, Option, Some, None, option_map, Ordering, Less, Equal, Greater, nat_cmp, String, Global, string_bytes, is_eq, cond, Bool, true, false, refl, sym, ap, ◌∙◌}
+use Rattle.std.proofs.Common.{◌≡◌, ℕ, zero, suc, ◌<◌, get_or, arith, List, [], ◌∷◌, ◌++◌, map, length, Option, Some, None, option_map, Ordering, Less, Equal, Greater, nat_cmp, String, Global, string_bytes, is_eq, cond, Bool, true, false, refl, sym, ap, subst, ◌∙◌}
 use Rattle.std.proofs.lemmas.Cmp.{nat_list_cmp_total}
 use Rattle.std.proofs.lemmas.List.{map-append}
 use Rattle.std.proofs.lemmas.Str.{is_utf8-from_IsUtf8, IsUtf8-string_bytes}
@@ -11,7 +11,7 @@ use Rattle.std.specs.List.Sorted.{IsStrictlySortedBy}
 use Rattle.std.specs.Map.{keys_of, lookup}
 use Rattle.std.specs.Ordering.{is_gt, is_lt, match_ordering, ordering_reverse}
 use Rattle.std.specs.Str.{is_utf8}
-use Rattle.definitions.specs.Values.{Text, Value, entry}
+use Rattle.definitions.specs.Values.{Text, Value, entry, same_text}
 use Rattle.json_doc.specs.Docs.{value}
 use Rattle.json_doc.specs.Members.{member_value, members_with, is_below, AreBelow, AreNotBelow, AreAbove, HasNamesInOrder, HasTextsAsNames}
 use Rattle.json_doc.specs.SmallTexts.{text_view, text_cmp}
@@ -19,8 +19,10 @@ use Rattle.json_doc.specs.declared.small_text.SmallText.{SmallText}
 use Rattle.json_doc.specs.declared.small_text.SmallText.TheVariants.{Short, Keyword, Long}
 use Rattle.json_doc.specs.NameMaps.{entry_named, IsAbove, IsAboveNone, IsPut}
 use Rattle.json_doc.specs.declared.doc.Doc.{Doc}
+use Rattle.json_doc.proofs.NamesInOrder.{found_first, past_first}
 use Rattle.json_doc.proofs.Views.{Entry}
 use Rattle.keywords.proofs.Names.{name_is_utf8}
+use Rattle.lemmas.proofs.Texts.{same_text_is}
 
 -- ---- looking a name up
 found_or : (b : Bool) (v : Doc) (rest : Option Doc) (d : Option Value) → option_map value rest ≡ d → option_map value (cond b (Some v) rest) ≡ cond b (Some (value v)) d
@@ -124,3 +126,25 @@ text_is_utf8 (Long s) = string_is_utf8 s
 pub texts_as_names : (es : List Entry) → HasTextsAsNames (map member_value es)
 texts_as_names [] = tt
 texts_as_names (e ∷ es) = (text_is_utf8 e.0, texts_as_names es)
+
+-- ---- an entry at a position
+below_at : (name : SmallText) (es : List Entry) (i : ℕ) (d : Entry) → AllByRecursion (λ k. text_cmp name k ≡ Less) (keys_of es) → i < length es → text_cmp name (get_or es i d).0 ≡ Less
+below_at name [] i d h within = absurd (omega arith)
+below_at name (e ∷ es) zero d h within = h.0
+below_at name (e ∷ es) (suc i) d h within = below_at name es i d h.1 (omega arith)
+
+-- names are in order, so that what stands at a position is the only one of its name
+found_within : (name : Text) (es : List Entry) (i : ℕ) (d : Entry) → IsStrictlySortedBy text_cmp (keys_of es) → i < length es → same_text name (text_view (get_or es i d).0) ≡ true
+    → entry name (map member_value es) ≡ Some (value (get_or es i d).1)
+unfolding IsStrictlySortedBy
+found_within name [] i d h within same = absurd (omega arith)
+found_within name (e ∷ es) zero d h within same = found_first name (member_value e) (map member_value es) (same_text_is name (text_view e.0) same)
+found_within name (e ∷ es) (suc i) d h within same =
+    let is : name ≡ text_view (get_or es i d).0 = same_text_is name (text_view (get_or es i d).0) same in
+    let below : slice_cmp nat_cmp (text_view e.0) name ≡ Less = subst (λ t. slice_cmp nat_cmp (text_view e.0) t ≡ Less) (sym is) (below_at e.0 es i d h.0 (omega arith)) in
+    sym (past_first (member_value e) (map member_value es) name below) ∙ found_within name es i d h.1 (omega arith) same
+
+pub found_at : (name : Text) (es : List Entry) (i : ℕ) (e : Entry) → IsStrictlySortedBy text_cmp (keys_of es) → i < length es → e ≡ get_or es i e → same_text name (text_view e.0) ≡ true
+    → entry name (map member_value es) ≡ Some (value e.1)
+found_at name es i e h within at same =
+    found_within name es i e h within (subst (λ (x : Entry). same_text name (text_view x.0) ≡ true) at same) ∙ ap (λ (x : Entry). Some (value x.1)) (sym at)

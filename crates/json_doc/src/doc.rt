@@ -160,6 +160,18 @@ impl Doc {
         }
     }
 
+    /// The same. Where the member stands at this position among the members, it needn't be searched for.
+    #[inline(always)]
+    pub fn keyword_value_near(&self, keyword: Keyword, position: usize) -> Option<&Doc>
+        ensures { option_map (λ d. value d.now) result
+            ≡ get (row_of keyword).name (value self.now) }
+    {
+        match self {
+            Doc::Dict(members) => members.keyword_value_near(keyword, position),
+            _ => None,
+        }
+    }
+
     /// The text of the member of this name, if the value is an object whose member of that name is a string.
     pub fn text_at(&self, name: &str) -> Option<&str>
         ensures { option_map (λ t. t.now) result ≡ text_at name.now (value self.now) }

@@ -87,6 +87,27 @@ impl Members {
         self.first_value(keyword)
     }
 
+    /// The same. Where the member stands at this position, it needn't be searched for.
+    #[inline(always)]
+    pub fn keyword_value_near(&self, keyword: Keyword, position: usize) -> Option<&Doc>
+        ensures { option_map (λ d. value d.now) result
+            ≡ entry (row_of keyword).name (members_value self.now) }
+    {
+        match self.entries.as_slice().get(position) {
+            Some((name, member)) if name.is(keyword) => Some(member),
+            _ => self.keyword_value_far(keyword),
+        }
+    }
+
+    // The same, searched for. It is called apart, since few members are.
+    #[inline(never)]
+    fn keyword_value_far(&self, keyword: Keyword) -> Option<&Doc>
+        ensures { option_map (λ d. value d.now) result
+            ≡ entry (row_of keyword).name (members_value self.now) }
+    {
+        self.keyword_value(keyword)
+    }
+
     // The same, one member after the other.
     #[inline(always)]
     fn first_value(&self, keyword: Keyword) -> Option<&Doc>

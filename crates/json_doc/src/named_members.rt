@@ -1,9 +1,7 @@
 //! Members with their names as they stand there, so that keywords' names needn't be compared to be told.
 
 ghost use Rattle.std.specs.Prelude.{◌≡◌, IfSome, IsTrue, option_map};
-ghost use Rattle.std.specs.Cmp.Lexicographic.{slice_cmp};
 ghost use Rattle.std.specs.Iterator.{YieldsFirstBy, item_count};
-ghost use Rattle.std.specs.Ordering.{nat_cmp};
 ghost use Rattle.definitions.specs.Values.{same_text};
 ghost use Rattle.json_doc.specs.Docs.{value};
 ghost use Rattle.json_doc.specs.Members.{HasNamesInOrder, members_left};
@@ -42,14 +40,6 @@ impl<'a> Name<'a> {
         ensures { option_map row_of result ≡ row_named (name_text self.entry) }
     {
         self.stored.keyword()
-    }
-
-    /// How it stands to the other, byte by byte.
-    #[inline(always)]
-    pub fn compare(self, other: Name<'_>) -> Ordering
-        ensures { result ≡ slice_cmp nat_cmp (name_text self.entry) (name_text other.entry) }
-    {
-        self.stored.compare(other.stored)
     }
 
     /// Whether it surely is the other one: short names that are the same are told without a call.

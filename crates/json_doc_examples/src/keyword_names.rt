@@ -73,3 +73,26 @@ fn keywords_values_are_found(rt: HostRuntime) -> Result<(), Fail> {
     assert!(rt; Doc::Null.keyword_value(Keyword::Type).is_none());
     Ok(())
 }
+
+// Whether each position gives the value that the search gives.
+fn is_found_from_everywhere(doc: &Doc, keyword: Keyword) -> bool {
+    let found = doc.keyword_value(keyword);
+    (0..20).all(|position| match doc.keyword_value_near(keyword, position) {
+        Some(near) => found.is_some_and(|found| same(near, found)),
+        None => found.is_none(),
+    })
+}
+
+#[test]
+fn keywords_values_are_found_from_everywhere(rt: HostRuntime) -> Result<(), Fail> {
+    for text in OBJECTS {
+        let doc = read(rt.alloc(), text.as_bytes())?;
+        let copied = copy(rt.alloc(), &doc)?;
+        for keyword in [Keyword::Type, Keyword::MinItems, Keyword::MaxItems] {
+            assert!(rt; is_found_from_everywhere(&doc, keyword), "{text}");
+            assert!(rt; is_found_from_everywhere(&copied, keyword), "{text}");
+        }
+    }
+    assert!(rt; Doc::Null.keyword_value_near(Keyword::Type, 0).is_none());
+    Ok(())
+}

@@ -1,6 +1,6 @@
-//! Names of members that are found by short texts, and how names stand to one another.
+//! Members that are found by short texts, and members that are taken by name from those that are left.
 
-use json_doc::{Doc, Members, ShortText, Whole};
+use json_doc::{Doc, Members, NamedMembers, ShortText, Whole};
 use std::alloc::Global;
 use std::test::Fail;
 
@@ -52,19 +52,57 @@ fn members_are_found_by_short_texts(rt: HostRuntime) -> Result<(), Fail> {
     Ok(())
 }
 
+// Whether this is the name of the first member that is left, or none is left.
+fn is_first_left(left: &mut NamedMembers<'_>, first: Option<&str>) -> bool {
+    match left.next() {
+        Some((name, _)) => first == Some(name.as_str()),
+        None => first.is_none(),
+    }
+}
+
 #[test]
-fn names_stand_as_their_bytes_do(rt: HostRuntime) -> Result<(), Fail> {
+fn members_are_taken_in_order(rt: HostRuntime) -> Result<(), Fail> {
     let doc = object(rt.alloc(), 0)?;
     let again = object(rt.alloc(), 0)?;
     let (Some(members), Some(others)) = (doc.as_dict(), again.as_dict()) else {
         assert!(rt; false);
         return Ok(());
     };
-    for (name, _) in members.iter().named() {
-        let text = name.as_str();
-        for (other, _) in others.iter().named() {
-            assert!(rt; name.compare(other) == text.cmp(other.as_str()), "{text}");
-        }
+    let mut above = NAMES.iter().skip(1);
+    for (name, _) in others.iter().named() {
+        let mut left = members.iter().named();
+        let taken = left.take_named(name);
+        assert!(rt; taken.is_some_and(|member| member.is_text(name.as_str())));
+        assert!(rt; is_first_left(&mut left, above.next().copied()), "{}", name.as_str());
+    }
+    Ok(())
+}
+
+// A name that isn't there, and the first of those above it.
+const ABSENT: &[(&str, Option<&str>)] = &[
+    ("A", Some("Type")),
+    ("abcdefghijklmnopqrstuvwxx", Some("abcdefghijklmnopqrstuvwxy")),
+    ("c", Some("type")),
+    ("ö", None),
+];
+
+#[test]
+fn what_is_not_there_is_not_taken(rt: HostRuntime) -> Result<(), Fail> {
+    let doc = object(rt.alloc(), 0)?;
+    let mut absent = Members::new(rt.alloc());
+    for (name, _) in ABSENT {
+        absent.insert(rt.alloc(), name, Doc::Null)?;
+    }
+    let Some(members) = doc.as_dict() else {
+        assert!(rt; false);
+        return Ok(());
+    };
+    let mut first_above = ABSENT.iter();
+    for (name, _) in absent.iter().named() {
+        let mut left = members.iter().named();
+        assert!(rt; left.take_named(name).is_none(), "{}", name.as_str());
+        let first = first_above.next().and_then(|(_, first)| *first);
+        assert!(rt; is_first_left(&mut left, first), "{}", name.as_str());
     }
     Ok(())
 }

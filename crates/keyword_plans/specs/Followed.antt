@@ -37,13 +37,13 @@ IsNamed table text n =
     (option_map (λ f. target_view f.target) n ≡ target table text) × ((scope : List Text) → option_map (followed_in_scope table scope) n ≡ dynamic_target table scope text)
 
 -- the dynamic anchor by which it names the schema is one of the documents'
-abbrev pub HasItsAnchor : Linked → Option Followed → Type 0
-HasItsAnchor l n = IfSome n (λ f. IfSome f.anchor (λ a. HasAnchor l a.now))
+abbrev pub HasFollowedAnchor : Linked → Option Followed → Type 0
+HasFollowedAnchor l n = IfSome n (λ f. IfSome f.anchor (λ a. HasAnchor l a.now))
 
 -- what is kept of the reference is what it names in these documents
 pub record IsFollowed (l : Linked) (f : FollowedReference) : Type 0 where
   pub named : (resource text : Text) → reference_pair l f.number ≡ Some (resource, text) → IsNamed (linked_schemas l) (target_uri resource text) f.named
-  pub anchored : HasItsAnchor l f.named
+  pub anchored : HasFollowedAnchor l f.named
 
 -- all are that are kept in a map
 abbrev pub AreFollowed : Linked → BTreeMap (ℕ × ℕ × ℕ) FollowedReference → Type 0

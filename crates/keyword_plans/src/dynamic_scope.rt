@@ -10,7 +10,7 @@ ghost use Rattle.definitions.specs.Values.{Text};
 ghost use Rattle.linker.specs.LinkedDocuments.{linked_schemas};
 ghost use Rattle.linker.specs.NumberedTexts.{telling_texts};
 ghost use Rattle.linker.specs.declared.linked.Linked.{Linked};
-ghost use Rattle.keyword_plans.specs.Followed.{HasItsAnchor, Refers, followed_in_scope, target_view};
+ghost use Rattle.keyword_plans.specs.Followed.{HasFollowedAnchor, Refers, followed_in_scope, target_view};
 ghost use Rattle.keyword_plans.specs.FollowedIn.{followed_in};
 ghost use Rattle.keyword_plans.specs.LinkedResources.{HasAnchor, HasNumber, HasResources};
 ghost use Rattle.keyword_plans.specs.OpenedResources.{Opens};
@@ -186,7 +186,7 @@ impl<'a> DynamicScope<'a> {
 
     // The schema that a dynamic reference names in this scope, of what it names first.
     fn in_scope(&mut self, alloc: Global, first: Followed<'a>) -> Result<Target<'a>, AllocError>
-        requires { HasItsAnchor (scope_documents self.old).now (Some first) }
+        requires { HasFollowedAnchor (scope_documents self.old).now (Some first) }
         ensures ok { HasResources (scope_documents self.old).now (scope_uris self.old)
             → IfOk result (λ t. target_view t
             ≡ followed_in_scope (linked_schemas (scope_documents self.old).now) (scope_uris self.old)
@@ -270,7 +270,7 @@ impl<'a> DynamicScope<'a> {
         })
     }
 
-    // In place of the one of the same name, or else of the oldest, where there are as many as are kept.
+    // In place of the one of the same anchor, or else of the oldest, where there are as many as are kept.
     fn keep(&mut self, searched: SearchedAnchor<'a>) -> Result<(), AllocError>
         requires { IsSearched (scope_documents self.old).now (scope_uris self.old) searched }
         ensures uris { scope_uris self.new ≡ scope_uris self.old }

@@ -12,7 +12,7 @@ ghost use Rattle.linker.specs.declared.linked.Linked.{Linked};
 ghost use Rattle.linker.specs.NumberedTexts.{telling_texts};
 ghost use Rattle.linker.specs.ReferenceNumbers.{reference_pair};
 ghost use Rattle.keyword_plans.specs.ComparedIn.{compared_in};
-ghost use Rattle.keyword_plans.specs.Followed.{AreFollowed, HasItsAnchor, IsFollowed, IsNamed, Refers, target_view};
+ghost use Rattle.keyword_plans.specs.Followed.{AreFollowed, HasFollowedAnchor, IsFollowed, IsNamed, Refers, target_view};
 ghost use Rattle.linker.specs.ValueSets.{value_set};
 
 use crate::compared_resources::ComparedResources;
@@ -109,7 +109,7 @@ impl<'a> FollowedReferences<'a> {
             → Refers (followed_in self.old).now s resource.now reference.now → IfOk result
             (λ n. IsNamed (linked_schemas (followed_in self.old).now)
             (target_uri resource.now reference.now) n) }
-        ensures anchored { IfOk result (HasItsAnchor (followed_in self.old).now) }
+        ensures anchored { IfOk result (HasFollowedAnchor (followed_in self.old).now) }
         ensures linked { followed_in self.new ≡ followed_in self.old }
     {
         match self.number(alloc, resource, reference)? {
@@ -199,7 +199,7 @@ impl<'a> FollowedReferences<'a> {
             → reference_pair (followed_in self.old).now number ≡ Some (resource, text)
             → IfOk result (λ n. IsNamed (linked_schemas (followed_in self.old).now)
             (target_uri resource text) n) }
-        ensures anchored { IfOk result (HasItsAnchor (followed_in self.old).now) }
+        ensures anchored { IfOk result (HasFollowedAnchor (followed_in self.old).now) }
         ensures linked { followed_in self.new ≡ followed_in self.old }
     {
         match self.find(number) {
@@ -215,7 +215,7 @@ impl<'a> FollowedReferences<'a> {
             → IfSome result (λ f. IsNamed (linked_schemas (followed_in self.now).now)
             (target_uri resource text) f.now.named) }
         ensures anchored { IfSome result
-            (λ f. HasItsAnchor (followed_in self.now).now f.now.named) }
+            (λ f. HasFollowedAnchor (followed_in self.now).now f.now.named) }
     {
         match self.short.get(place_of(number)) {
             Some(Some(followed)) if followed.number.is(number) => Some(followed),
@@ -230,7 +230,7 @@ impl<'a> FollowedReferences<'a> {
             → IfSome result (λ f. IsNamed (linked_schemas (followed_in self.now).now)
             (target_uri resource text) f.now.named) }
         ensures anchored { IfSome result
-            (λ f. HasItsAnchor (followed_in self.now).now f.now.named) }
+            (λ f. HasFollowedAnchor (followed_in self.now).now f.now.named) }
     {
         match self.long.get(&number.parts()) {
             Some(followed) if followed.number.is(number) => Some(followed),
@@ -248,7 +248,7 @@ impl<'a> FollowedReferences<'a> {
             → reference_pair (followed_in self.old).now number ≡ Some (resource, text)
             → IfOk result (λ n. IsNamed (linked_schemas (followed_in self.old).now)
             (target_uri resource text) n) }
-        ensures anchored { IfOk result (HasItsAnchor (followed_in self.old).now) }
+        ensures anchored { IfOk result (HasFollowedAnchor (followed_in self.old).now) }
         ensures linked { followed_in self.new ≡ followed_in self.old }
     {
         match self.linked.reference(number) {
@@ -314,7 +314,7 @@ fn named_first<'a>(
 ) -> Result<Option<Followed<'a>>, AllocError>
     ensures named { IfOk result (λ n. IsNamed (linked_schemas linked.entry.now)
         (target_uri resource.now reference.now) n) }
-    ensures anchored { IfOk result (HasItsAnchor linked.entry.now) }
+    ensures anchored { IfOk result (HasFollowedAnchor linked.entry.now) }
 {
     match linked.named(alloc, resource, reference) {
         Ok(Some(named)) => Ok(Some(Followed {
@@ -331,7 +331,7 @@ fn named_first<'a>(
 fn again<'a>(named: &Option<Followed<'a>>) -> Result<Option<Followed<'a>>, AllocError>
     ensures named { (table : List Schema) (text : Text) → IsNamed table text named.now
         → IfOk result (λ n. IsNamed table text n) }
-    ensures anchored { (l : Linked) → HasItsAnchor l named.now → IfOk result (HasItsAnchor l) }
+    ensures anchored { (l : Linked) → HasFollowedAnchor l named.now → IfOk result (HasFollowedAnchor l) }
 {
     match named {
         Some(followed) => Ok(Some(Followed {

@@ -17,8 +17,8 @@ unfolding log_view context_view frame_standing
 returns-clause-planned c a left at knows got =
     let l = c.args.self.now.linked.now in
     let row = row_of c.args.keyword in
-    let names = λ (looks : looks_at_evaluated row.meaning ≡ true). c.evaluated_for.ensures.names looks ∙ ap (λ ns. drop c.args.here.before.names (map name_text ns)) c.deref.ensures.value in
-    let indexes = λ (looks : looks_at_evaluated row.meaning ≡ true). c.evaluated_for.ensures.indexes looks ∙ ap (λ is. drop c.args.here.before.indexes is) c.deref-2.ensures.value in
+    let names = λ (looks : looks_at_evaluated row.meaning ≡ true). c.evaluated_for.ensures.names looks ∙ ap (λ ns. drop c.args.here.now.before.names (map name_text ns)) c.deref.ensures.value in
+    let indexes = λ (looks : looks_at_evaluated row.meaning ≡ true). c.evaluated_for.ensures.indexes looks ∙ ap (λ is. drop c.args.here.now.before.indexes is) c.deref-2.ensures.value in
     c.in_ok-plan.ensures.ok a (linked_outcome l left)
     (record {
       schema = ap (λ (b : Application). b.schema.value) at.there;

@@ -23,8 +23,8 @@ use Rattle.evaluator.proofs.applying.Evaluation.use_assertions.Goals as goal
 pub loop-next-init : goal.loop-next-init
 loop-next-init c =
     let l = c.args.self.now.linked.now in
-    let s = value c.args.here.present.now.schema.now in
-    let none = λ (a : Application) (left : ℕ) (at : IsAt l (context_view c.args.self.now.context) s (subject_value c.args.here.subject) a).
+    let s = value c.args.here.now.present.now.schema.now in
+    let none = λ (a : Application) (left : ℕ) (at : IsAt l (context_view c.args.self.now.context) s (subject_value c.args.here.now.subject) a).
     groups_passed l left a s 0 c.first_mark-next.result (ap (λ (b : Application). b.schema.value) at.there) c.first_mark-next.ensures.onward c.first_mark-next.ensures.passed in
     record {
       linked = refl;
@@ -45,14 +45,14 @@ pub loop-next-preserved : goal.loop-next-preserved
 loop-next-preserved c =
     let same = c.loop-next.invariant.linked in
     let l = c.args.self.now.linked.now in
-    let s = value c.args.here.present.now.schema.now in
+    let s = value c.args.here.now.present.now.schema.now in
     let i = c.loop-next.next in
     let inside : i < length first_groups = subst (λ gs. i < length gs) c.first_groups-groups.ensures c.loop-next-test.true in
     let here : get_or c.first_groups-groups.result.now i (One Ref) ≡ get_or first_groups i (One Ref) = ap (λ gs. get_or gs i (One Ref)) c.first_groups-groups.ensures in
-    let schema = λ (a : Application) (at : IsAt l (context_view c.args.self.now.context) s (subject_value c.args.here.subject) a). ap (λ (b : Application). b.schema.value) at.there in
-    let on = λ (a : Application) (left : ℕ) (at : IsAt l (context_view c.args.self.now.context) s (subject_value c.args.here.subject) a).
+    let schema = λ (a : Application) (at : IsAt l (context_view c.args.self.now.context) s (subject_value c.args.here.now.subject) a). ap (λ (b : Application). b.schema.value) at.there in
+    let on = λ (a : Application) (left : ℕ) (at : IsAt l (context_view c.args.self.now.context) s (subject_value c.args.here.now.subject) a).
     groups_passed l left a s (i + 1) c.first_mark-next-in-loop-next.result (schema a at) c.first_mark-next-in-loop-next.ensures.onward c.first_mark-next-in-loop-next.ensures.passed in
-    let gone = λ (a : Application) (left : ℕ) (at : IsAt l (context_view c.args.self.now.context) s (subject_value c.args.here.subject) a).
+    let gone = λ (a : Application) (left : ℕ) (at : IsAt l (context_view c.args.self.now.context) s (subject_value c.args.here.now.subject) a).
     subst (λ g. asserts_alone g ≡ false → group_uses c.loop-next.self.linked.now left a g ≡ []) (sym here)
     (subst (λ (m : Bor Linked). asserts_alone (get_or first_groups i (One Ref)) ≡ false → group_uses m.now left a (get_or first_groups i (One Ref)) ≡ []) (sym same)
     (leaf_group l left a s i (schema a at) c.requires.leaf inside)) in

@@ -37,8 +37,8 @@ use_keywords-returns-in-Ok-use_two-clause-valid t c a at =
     let mid = log_view c.use_groups.new.self.log in
     let m = c.use_groups.new.self.linked.now in
     let there = still_at c.in-Ok.ensures.linked c.in-Ok.ensures.back at in
-    keywords_valid l.now c.args.nesting a c.args.here.before n mid c.in-Ok.valid c.in-Ok-use_two.last c.requires.before (c.in-Ok.ensures.noted a at) (c.in-Ok.ensures.valid a at)
-    (subst (λ (k : Bor Linked). c.in-Ok-use_two.last ≡ list_all (λ u. u.passes) (two_uses k.now c.args.nesting a UnevaluatedItems UnevaluatedProperties c.args.here.before mid)) c.in-Ok.ensures.linked
+    keywords_valid l.now c.args.nesting a c.args.here.now.before n mid c.in-Ok.valid c.in-Ok-use_two.last c.requires.before (c.in-Ok.ensures.noted a at) (c.in-Ok.ensures.valid a at)
+    (subst (λ (k : Bor Linked). c.in-Ok-use_two.last ≡ list_all (λ u. u.passes) (two_uses k.now c.args.nesting a UnevaluatedItems UnevaluatedProperties c.args.here.now.before mid)) c.in-Ok.ensures.linked
     (c.in-Ok-use_two.ensures.valid a there (items_know m c.args.nesting a _) (properties_know m c.args.nesting a _)))
 
 pub use_keywords-returns-in-Ok-use_two-clause-noted : goal.use_keywords-returns-in-Ok-use_two-clause-noted
@@ -48,8 +48,8 @@ use_keywords-returns-in-Ok-use_two-clause-noted t c a at =
     let mid = log_view c.use_groups.new.self.log in
     let m = c.use_groups.new.self.linked.now in
     let there = still_at c.in-Ok.ensures.linked c.in-Ok.ensures.back at in
-    keywords_noted l.now c.args.nesting a c.args.here.before n mid (log_view c.use_two.new.self.log) c.requires.before (c.in-Ok.ensures.noted a at)
-    (subst (λ (k : Bor Linked). log_view c.use_two.new.self.log ≡ notes_of_both mid (uses_notes a (two_uses k.now c.args.nesting a UnevaluatedItems UnevaluatedProperties c.args.here.before mid))) c.in-Ok.ensures.linked
+    keywords_noted l.now c.args.nesting a c.args.here.now.before n mid (log_view c.use_two.new.self.log) c.requires.before (c.in-Ok.ensures.noted a at)
+    (subst (λ (k : Bor Linked). log_view c.use_two.new.self.log ≡ notes_of_both mid (uses_notes a (two_uses k.now c.args.nesting a UnevaluatedItems UnevaluatedProperties c.args.here.now.before mid))) c.in-Ok.ensures.linked
     (c.in-Ok-use_two.ensures.noted a there (items_know m c.args.nesting a _) (properties_know m c.args.nesting a _)))
 
 pub use_keywords-returns-in-Err-use_two-clause-err : goal.use_keywords-returns-in-Err-use_two-clause-err
@@ -61,8 +61,8 @@ use_keywords-returns-in-Err-use_two-clause-err t c a at other =
     let there = still_at c.in-Ok.ensures.linked c.in-Ok.ensures.back at in
     let fault = c.in-Err-use_two.ensures.err a there (items_know m c.args.nesting a _) (properties_know m c.args.nesting a _) other in (
       fault.0,
-      last_over l.now c.args.nesting a c.args.here.before n mid c.requires.before (c.in-Ok.ensures.noted a at)
-          (subst (λ (k : Bor Linked). IsOver mid (uses_notes a (two_uses k.now c.args.nesting a UnevaluatedItems UnevaluatedProperties c.args.here.before mid))) c.in-Ok.ensures.linked fault.1),
+      last_over l.now c.args.nesting a c.args.here.now.before n mid c.requires.before (c.in-Ok.ensures.noted a at)
+          (subst (λ (k : Bor Linked). IsOver mid (uses_notes a (two_uses k.now c.args.nesting a UnevaluatedItems UnevaluatedProperties c.args.here.now.before mid))) c.in-Ok.ensures.linked fault.1),
     )
 
 pub use_keywords-returns-in-Err-clause-err : goal.use_keywords-returns-in-Err-clause-err
@@ -73,21 +73,21 @@ pub use_keywords-returns-then-not-looks_at_evaluated-clause-valid : goal.use_key
 use_keywords-returns-then-not-looks_at_evaluated-clause-valid t c a at =
     c.in-Ok.ensures.valid a at
     ∙ ap (list_all (λ (u : Use). u.passes))
-    (groups_alone c.args.self.now.linked.now c.args.nesting a (value c.args.here.present.now.schema.now) (ap (λ (b : Application). b.schema.value) at.there)
+    (groups_alone c.args.self.now.linked.now c.args.nesting a (value c.args.here.now.present.now.schema.now) (ap (λ (b : Application). b.schema.value) at.there)
     (c.looks_at_evaluated.ensures c.if-not-looks_at_evaluated.true))
 
 pub use_keywords-returns-then-not-looks_at_evaluated-clause-noted : goal.use_keywords-returns-then-not-looks_at_evaluated-clause-noted
 use_keywords-returns-then-not-looks_at_evaluated-clause-noted t c a at =
     c.in-Ok.ensures.noted a at
     ∙ ap (λ us. notes_of_both (log_view c.args.self.now.log) (uses_notes a us))
-    (groups_alone c.args.self.now.linked.now c.args.nesting a (value c.args.here.present.now.schema.now) (ap (λ (b : Application). b.schema.value) at.there)
+    (groups_alone c.args.self.now.linked.now c.args.nesting a (value c.args.here.now.present.now.schema.now) (ap (λ (b : Application). b.schema.value) at.there)
     (c.looks_at_evaluated.ensures c.if-not-looks_at_evaluated.true))
 
 pub use_groups-loop-next-init : goal.use_groups-loop-next-init
 use_groups-loop-next-init t c =
     let l = c.args.self.now.linked.now in
-    let none = λ (a : Application) (at : IsAt l (context_view c.args.self.now.context) (value c.args.here.present.now.schema.now) (subject_value c.args.here.subject) a).
-    groups_passed l c.args.nesting a (value c.args.here.present.now.schema.now) 0 c.first_mark-next.result (ap (λ (b : Application). b.schema.value) at.there) c.first_mark-next.ensures.onward c.first_mark-next.ensures.passed in
+    let none = λ (a : Application) (at : IsAt l (context_view c.args.self.now.context) (value c.args.here.now.present.now.schema.now) (subject_value c.args.here.now.subject) a).
+    groups_passed l c.args.nesting a (value c.args.here.now.present.now.schema.now) 0 c.first_mark-next.result (ap (λ (b : Application). b.schema.value) at.there) c.first_mark-next.ensures.onward c.first_mark-next.ensures.passed in
     record {
       linked = refl;
       back = refl;
@@ -129,8 +129,8 @@ use_groups-loop-next-preserved t c =
     let i = c.loop-next.next in
     let inside : i < length first_groups = subst (λ gs. i < length gs) c.first_groups-groups.ensures c.loop-next-test.true in
     let here : get_or c.first_groups-groups.result.now i (One Ref) ≡ get_or first_groups i (One Ref) = ap (λ gs. get_or gs i (One Ref)) c.first_groups-groups.ensures in
-    let on = λ (a : Application) (at : IsAt l (context_view c.args.self.now.context) (value c.args.here.present.now.schema.now) (subject_value c.args.here.subject) a).
-    groups_passed l c.args.nesting a (value c.args.here.present.now.schema.now) (i + 1) c.first_mark-next-in-loop-next.result (ap (λ (b : Application). b.schema.value) at.there) c.first_mark-next-in-loop-next.ensures.onward c.first_mark-next-in-loop-next.ensures.passed in
+    let on = λ (a : Application) (at : IsAt l (context_view c.args.self.now.context) (value c.args.here.now.present.now.schema.now) (subject_value c.args.here.now.subject) a).
+    groups_passed l c.args.nesting a (value c.args.here.now.present.now.schema.now) (i + 1) c.first_mark-next-in-loop-next.result (ap (λ (b : Application). b.schema.value) at.there) c.first_mark-next-in-loop-next.ensures.onward c.first_mark-next-in-loop-next.ensures.passed in
     record {
       linked = c.in-Ok.ensures.linked ∙ same;
       back = c.in-Ok.ensures.back ∙ c.loop-next.invariant.back;
@@ -203,127 +203,127 @@ use_conditional-returns-in-Ok-use_two-clause-valid t c a at =
     let l = c.args.self.now.linked in
     let n = log_view c.args.self.now.log in
     let mid = log_view c.use_named.new.self.log in
-    let us = uses_since l.now c.args.nesting a If c.args.here.before n in
-    let vs = two_uses l.now c.args.nesting a Then Else c.args.here.before mid in
+    let us = uses_since l.now c.args.nesting a If c.args.here.now.before n in
+    let vs = two_uses l.now c.args.nesting a Then Else c.args.here.now.before mid in
     let there = still_at c.in-Ok.ensures.linked c.in-Ok.ensures.back at in
     let nothing = knows_nothing l.now c.args.nesting a condition c.nothing.result refl refl refl in
-    let told = subst (λ (m : Bor Linked). c.use_named.new.self.passing ≡ passing_first (uses_since m.now c.args.nesting a If c.args.here.before n)) (sym c.in-Ok.ensures.linked) (c.in-Ok.ensures.passing a at nothing) in
-    let first = (knows_condition c.use_named.new.self.linked.now c.args.nesting a c.use_named.new.self.passing true c.args.here.before n c.after_if-beside.result told (ap (λ (b : Beside). b.condition) c.after_if-beside.ensures)) in
-    let second = (knows_condition c.use_named.new.self.linked.now c.args.nesting a c.use_named.new.self.passing false c.args.here.before n c.after_if-beside.result told (ap (λ (b : Beside). b.condition) c.after_if-beside.ensures)) in
+    let told = subst (λ (m : Bor Linked). c.use_named.new.self.passing ≡ passing_first (uses_since m.now c.args.nesting a If c.args.here.now.before n)) (sym c.in-Ok.ensures.linked) (c.in-Ok.ensures.passing a at nothing) in
+    let first = (knows_condition c.use_named.new.self.linked.now c.args.nesting a c.use_named.new.self.passing true c.args.here.now.before n c.after_if-beside.result told (ap (λ (b : Beside). b.condition) c.after_if-beside.ensures)) in
+    let second = (knows_condition c.use_named.new.self.linked.now c.args.nesting a c.use_named.new.self.passing false c.args.here.now.before n c.after_if-beside.result told (ap (λ (b : Beside). b.condition) c.after_if-beside.ensures)) in
     both_valid c.in-Ok.valid c.in-Ok-use_two.others us vs (c.in-Ok.ensures.valid a at nothing)
-    (subst (λ (m : Bor Linked). c.in-Ok-use_two.others ≡ list_all (λ u. u.passes) (two_uses m.now c.args.nesting a Then Else c.args.here.before mid)) c.in-Ok.ensures.linked (c.in-Ok-use_two.ensures.valid a there first second))
-    ∙ ap (list_all (λ (u : Use). u.passes)) (conditional_uses l.now c.args.nesting a c.args.here.before n mid)
+    (subst (λ (m : Bor Linked). c.in-Ok-use_two.others ≡ list_all (λ u. u.passes) (two_uses m.now c.args.nesting a Then Else c.args.here.now.before mid)) c.in-Ok.ensures.linked (c.in-Ok-use_two.ensures.valid a there first second))
+    ∙ ap (list_all (λ (u : Use). u.passes)) (conditional_uses l.now c.args.nesting a c.args.here.now.before n mid)
 
 pub use_conditional-returns-in-Ok-use_two-clause-noted : goal.use_conditional-returns-in-Ok-use_two-clause-noted
 use_conditional-returns-in-Ok-use_two-clause-noted t c a at =
     let l = c.args.self.now.linked in
     let n = log_view c.args.self.now.log in
     let mid = log_view c.use_named.new.self.log in
-    let us = uses_since l.now c.args.nesting a If c.args.here.before n in
-    let vs = two_uses l.now c.args.nesting a Then Else c.args.here.before mid in
+    let us = uses_since l.now c.args.nesting a If c.args.here.now.before n in
+    let vs = two_uses l.now c.args.nesting a Then Else c.args.here.now.before mid in
     let there = still_at c.in-Ok.ensures.linked c.in-Ok.ensures.back at in
     let nothing = knows_nothing l.now c.args.nesting a condition c.nothing.result refl refl refl in
-    let told = subst (λ (m : Bor Linked). c.use_named.new.self.passing ≡ passing_first (uses_since m.now c.args.nesting a If c.args.here.before n)) (sym c.in-Ok.ensures.linked) (c.in-Ok.ensures.passing a at nothing) in
-    let first = (knows_condition c.use_named.new.self.linked.now c.args.nesting a c.use_named.new.self.passing true c.args.here.before n c.after_if-beside.result told (ap (λ (b : Beside). b.condition) c.after_if-beside.ensures)) in
-    let second = (knows_condition c.use_named.new.self.linked.now c.args.nesting a c.use_named.new.self.passing false c.args.here.before n c.after_if-beside.result told (ap (λ (b : Beside). b.condition) c.after_if-beside.ensures)) in
+    let told = subst (λ (m : Bor Linked). c.use_named.new.self.passing ≡ passing_first (uses_since m.now c.args.nesting a If c.args.here.now.before n)) (sym c.in-Ok.ensures.linked) (c.in-Ok.ensures.passing a at nothing) in
+    let first = (knows_condition c.use_named.new.self.linked.now c.args.nesting a c.use_named.new.self.passing true c.args.here.now.before n c.after_if-beside.result told (ap (λ (b : Beside). b.condition) c.after_if-beside.ensures)) in
+    let second = (knows_condition c.use_named.new.self.linked.now c.args.nesting a c.use_named.new.self.passing false c.args.here.now.before n c.after_if-beside.result told (ap (λ (b : Beside). b.condition) c.after_if-beside.ensures)) in
     let new = log_view c.use_two.new.self.log in
-    subst (λ ws. new ≡ notes_of_both n (uses_notes a ws)) (conditional_uses l.now c.args.nesting a c.args.here.before n mid)
+    subst (λ ws. new ≡ notes_of_both n (uses_notes a ws)) (conditional_uses l.now c.args.nesting a c.args.here.now.before n mid)
     (two_noted a n mid new us (λ m. vs) (c.in-Ok.ensures.noted a at nothing)
-    (subst (λ (m : Bor Linked). new ≡ notes_of_both mid (uses_notes a (two_uses m.now c.args.nesting a Then Else c.args.here.before mid))) c.in-Ok.ensures.linked (c.in-Ok-use_two.ensures.noted a there first second)))
+    (subst (λ (m : Bor Linked). new ≡ notes_of_both mid (uses_notes a (two_uses m.now c.args.nesting a Then Else c.args.here.now.before mid))) c.in-Ok.ensures.linked (c.in-Ok-use_two.ensures.noted a there first second)))
 
 pub use_conditional-returns-in-Err-use_two-clause-err : goal.use_conditional-returns-in-Err-use_two-clause-err
 use_conditional-returns-in-Err-use_two-clause-err t c a at other =
     let l = c.args.self.now.linked in
     let n = log_view c.args.self.now.log in
     let mid = log_view c.use_named.new.self.log in
-    let us = uses_since l.now c.args.nesting a If c.args.here.before n in
-    let vs = two_uses l.now c.args.nesting a Then Else c.args.here.before mid in
+    let us = uses_since l.now c.args.nesting a If c.args.here.now.before n in
+    let vs = two_uses l.now c.args.nesting a Then Else c.args.here.now.before mid in
     let there = still_at c.in-Ok.ensures.linked c.in-Ok.ensures.back at in
     let nothing = knows_nothing l.now c.args.nesting a condition c.nothing.result refl refl refl in
-    let told = subst (λ (m : Bor Linked). c.use_named.new.self.passing ≡ passing_first (uses_since m.now c.args.nesting a If c.args.here.before n)) (sym c.in-Ok.ensures.linked) (c.in-Ok.ensures.passing a at nothing) in
-    let first = (knows_condition c.use_named.new.self.linked.now c.args.nesting a c.use_named.new.self.passing true c.args.here.before n c.after_if-beside.result told (ap (λ (b : Beside). b.condition) c.after_if-beside.ensures)) in
-    let second = (knows_condition c.use_named.new.self.linked.now c.args.nesting a c.use_named.new.self.passing false c.args.here.before n c.after_if-beside.result told (ap (λ (b : Beside). b.condition) c.after_if-beside.ensures)) in
+    let told = subst (λ (m : Bor Linked). c.use_named.new.self.passing ≡ passing_first (uses_since m.now c.args.nesting a If c.args.here.now.before n)) (sym c.in-Ok.ensures.linked) (c.in-Ok.ensures.passing a at nothing) in
+    let first = (knows_condition c.use_named.new.self.linked.now c.args.nesting a c.use_named.new.self.passing true c.args.here.now.before n c.after_if-beside.result told (ap (λ (b : Beside). b.condition) c.after_if-beside.ensures)) in
+    let second = (knows_condition c.use_named.new.self.linked.now c.args.nesting a c.use_named.new.self.passing false c.args.here.now.before n c.after_if-beside.result told (ap (λ (b : Beside). b.condition) c.after_if-beside.ensures)) in
     let fault = c.in-Err-use_two.ensures.err a there first second other in (
       fault.0,
-      subst (λ ws. IsOver n (uses_notes a ws)) (conditional_uses l.now c.args.nesting a c.args.here.before n mid)
+      subst (λ ws. IsOver n (uses_notes a ws)) (conditional_uses l.now c.args.nesting a c.args.here.now.before n mid)
           (uses_then_over a n mid us vs (c.in-Ok.ensures.noted a at nothing)
-          (subst (λ (m : Bor Linked). IsOver mid (uses_notes a (two_uses m.now c.args.nesting a Then Else c.args.here.before mid))) c.in-Ok.ensures.linked fault.1)),
+          (subst (λ (m : Bor Linked). IsOver mid (uses_notes a (two_uses m.now c.args.nesting a Then Else c.args.here.now.before mid))) c.in-Ok.ensures.linked fault.1)),
     )
 
 pub use_conditional-returns-in-Err-clause-err : goal.use_conditional-returns-in-Err-clause-err
 use_conditional-returns-in-Err-clause-err t c a at other =
     let l = c.args.self.now.linked.now in
     let n = log_view c.args.self.now.log in
-    let us = uses_since l c.args.nesting a If c.args.here.before n in
-    let vs = two_uses l c.args.nesting a Then Else c.args.here.before n in
+    let us = uses_since l c.args.nesting a If c.args.here.now.before n in
+    let vs = two_uses l c.args.nesting a Then Else c.args.here.now.before n in
     let fault = c.in-Err.ensures.err a at (knows_nothing l c.args.nesting a condition _ refl refl refl) other in
-    (fault.0, subst (λ ws. IsOver n (uses_notes a ws)) (conditional_uses l c.args.nesting a c.args.here.before n n) (uses_first_over a n us vs fault.1))
+    (fault.0, subst (λ ws. IsOver n (uses_notes a ws)) (conditional_uses l c.args.nesting a c.args.here.now.before n n) (uses_first_over a n us vs fault.1))
 
 pub use_counted-returns-in-Ok-use_two-clause-valid : goal.use_counted-returns-in-Ok-use_two-clause-valid
 use_counted-returns-in-Ok-use_two-clause-valid t c a at =
     let l = c.args.self.now.linked in
     let n = log_view c.args.self.now.log in
     let mid = log_view c.use_named.new.self.log in
-    let us = uses_since l.now c.args.nesting a Contains c.args.here.before n in
-    let vs = two_uses l.now c.args.nesting a MinContains MaxContains c.args.here.before mid in
+    let us = uses_since l.now c.args.nesting a Contains c.args.here.now.before n in
+    let vs = two_uses l.now c.args.nesting a MinContains MaxContains c.args.here.now.before mid in
     let there = still_at c.in-Ok.ensures.linked c.in-Ok.ensures.back at in
     let nothing = knows_nothing l.now c.args.nesting a contains c.nothing.result refl refl refl in
-    let told = subst (λ (m : Bor Linked). c.use_named.new.self.passing ≡ passing_first (uses_since m.now c.args.nesting a Contains c.args.here.before n)) (sym c.in-Ok.ensures.linked) (c.in-Ok.ensures.passing a at nothing) in
-    let first = (knows_containing c.use_named.new.self.linked.now c.args.nesting a c.use_named.new.self.passing min_contains c.args.here.before n c.after_contains-beside.result told (ap (λ (b : Beside). b.containing) c.after_contains-beside.ensures) refl refl) in
-    let second = (knows_containing c.use_named.new.self.linked.now c.args.nesting a c.use_named.new.self.passing max_contains c.args.here.before n c.after_contains-beside.result told (ap (λ (b : Beside). b.containing) c.after_contains-beside.ensures) refl refl) in
+    let told = subst (λ (m : Bor Linked). c.use_named.new.self.passing ≡ passing_first (uses_since m.now c.args.nesting a Contains c.args.here.now.before n)) (sym c.in-Ok.ensures.linked) (c.in-Ok.ensures.passing a at nothing) in
+    let first = (knows_containing c.use_named.new.self.linked.now c.args.nesting a c.use_named.new.self.passing min_contains c.args.here.now.before n c.after_contains-beside.result told (ap (λ (b : Beside). b.containing) c.after_contains-beside.ensures) refl refl) in
+    let second = (knows_containing c.use_named.new.self.linked.now c.args.nesting a c.use_named.new.self.passing max_contains c.args.here.now.before n c.after_contains-beside.result told (ap (λ (b : Beside). b.containing) c.after_contains-beside.ensures) refl refl) in
     both_valid c.in-Ok.valid c.in-Ok-use_two.others us vs (c.in-Ok.ensures.valid a at nothing)
-    (subst (λ (m : Bor Linked). c.in-Ok-use_two.others ≡ list_all (λ u. u.passes) (two_uses m.now c.args.nesting a MinContains MaxContains c.args.here.before mid)) c.in-Ok.ensures.linked (c.in-Ok-use_two.ensures.valid a there first second))
-    ∙ ap (list_all (λ (u : Use). u.passes)) (counted_uses l.now c.args.nesting a c.args.here.before n mid)
+    (subst (λ (m : Bor Linked). c.in-Ok-use_two.others ≡ list_all (λ u. u.passes) (two_uses m.now c.args.nesting a MinContains MaxContains c.args.here.now.before mid)) c.in-Ok.ensures.linked (c.in-Ok-use_two.ensures.valid a there first second))
+    ∙ ap (list_all (λ (u : Use). u.passes)) (counted_uses l.now c.args.nesting a c.args.here.now.before n mid)
 
 pub use_counted-returns-in-Ok-use_two-clause-noted : goal.use_counted-returns-in-Ok-use_two-clause-noted
 use_counted-returns-in-Ok-use_two-clause-noted t c a at =
     let l = c.args.self.now.linked in
     let n = log_view c.args.self.now.log in
     let mid = log_view c.use_named.new.self.log in
-    let us = uses_since l.now c.args.nesting a Contains c.args.here.before n in
-    let vs = two_uses l.now c.args.nesting a MinContains MaxContains c.args.here.before mid in
+    let us = uses_since l.now c.args.nesting a Contains c.args.here.now.before n in
+    let vs = two_uses l.now c.args.nesting a MinContains MaxContains c.args.here.now.before mid in
     let there = still_at c.in-Ok.ensures.linked c.in-Ok.ensures.back at in
     let nothing = knows_nothing l.now c.args.nesting a contains c.nothing.result refl refl refl in
-    let told = subst (λ (m : Bor Linked). c.use_named.new.self.passing ≡ passing_first (uses_since m.now c.args.nesting a Contains c.args.here.before n)) (sym c.in-Ok.ensures.linked) (c.in-Ok.ensures.passing a at nothing) in
-    let first = (knows_containing c.use_named.new.self.linked.now c.args.nesting a c.use_named.new.self.passing min_contains c.args.here.before n c.after_contains-beside.result told (ap (λ (b : Beside). b.containing) c.after_contains-beside.ensures) refl refl) in
-    let second = (knows_containing c.use_named.new.self.linked.now c.args.nesting a c.use_named.new.self.passing max_contains c.args.here.before n c.after_contains-beside.result told (ap (λ (b : Beside). b.containing) c.after_contains-beside.ensures) refl refl) in
+    let told = subst (λ (m : Bor Linked). c.use_named.new.self.passing ≡ passing_first (uses_since m.now c.args.nesting a Contains c.args.here.now.before n)) (sym c.in-Ok.ensures.linked) (c.in-Ok.ensures.passing a at nothing) in
+    let first = (knows_containing c.use_named.new.self.linked.now c.args.nesting a c.use_named.new.self.passing min_contains c.args.here.now.before n c.after_contains-beside.result told (ap (λ (b : Beside). b.containing) c.after_contains-beside.ensures) refl refl) in
+    let second = (knows_containing c.use_named.new.self.linked.now c.args.nesting a c.use_named.new.self.passing max_contains c.args.here.now.before n c.after_contains-beside.result told (ap (λ (b : Beside). b.containing) c.after_contains-beside.ensures) refl refl) in
     let new = log_view c.use_two.new.self.log in
-    subst (λ ws. new ≡ notes_of_both n (uses_notes a ws)) (counted_uses l.now c.args.nesting a c.args.here.before n mid)
+    subst (λ ws. new ≡ notes_of_both n (uses_notes a ws)) (counted_uses l.now c.args.nesting a c.args.here.now.before n mid)
     (two_noted a n mid new us (λ m. vs) (c.in-Ok.ensures.noted a at nothing)
-    (subst (λ (m : Bor Linked). new ≡ notes_of_both mid (uses_notes a (two_uses m.now c.args.nesting a MinContains MaxContains c.args.here.before mid))) c.in-Ok.ensures.linked (c.in-Ok-use_two.ensures.noted a there first second)))
+    (subst (λ (m : Bor Linked). new ≡ notes_of_both mid (uses_notes a (two_uses m.now c.args.nesting a MinContains MaxContains c.args.here.now.before mid))) c.in-Ok.ensures.linked (c.in-Ok-use_two.ensures.noted a there first second)))
 
 pub use_counted-returns-in-Err-use_two-clause-err : goal.use_counted-returns-in-Err-use_two-clause-err
 use_counted-returns-in-Err-use_two-clause-err t c a at other =
     let l = c.args.self.now.linked in
     let n = log_view c.args.self.now.log in
     let mid = log_view c.use_named.new.self.log in
-    let us = uses_since l.now c.args.nesting a Contains c.args.here.before n in
-    let vs = two_uses l.now c.args.nesting a MinContains MaxContains c.args.here.before mid in
+    let us = uses_since l.now c.args.nesting a Contains c.args.here.now.before n in
+    let vs = two_uses l.now c.args.nesting a MinContains MaxContains c.args.here.now.before mid in
     let there = still_at c.in-Ok.ensures.linked c.in-Ok.ensures.back at in
     let nothing = knows_nothing l.now c.args.nesting a contains c.nothing.result refl refl refl in
-    let told = subst (λ (m : Bor Linked). c.use_named.new.self.passing ≡ passing_first (uses_since m.now c.args.nesting a Contains c.args.here.before n)) (sym c.in-Ok.ensures.linked) (c.in-Ok.ensures.passing a at nothing) in
-    let first = (knows_containing c.use_named.new.self.linked.now c.args.nesting a c.use_named.new.self.passing min_contains c.args.here.before n c.after_contains-beside.result told (ap (λ (b : Beside). b.containing) c.after_contains-beside.ensures) refl refl) in
-    let second = (knows_containing c.use_named.new.self.linked.now c.args.nesting a c.use_named.new.self.passing max_contains c.args.here.before n c.after_contains-beside.result told (ap (λ (b : Beside). b.containing) c.after_contains-beside.ensures) refl refl) in
+    let told = subst (λ (m : Bor Linked). c.use_named.new.self.passing ≡ passing_first (uses_since m.now c.args.nesting a Contains c.args.here.now.before n)) (sym c.in-Ok.ensures.linked) (c.in-Ok.ensures.passing a at nothing) in
+    let first = (knows_containing c.use_named.new.self.linked.now c.args.nesting a c.use_named.new.self.passing min_contains c.args.here.now.before n c.after_contains-beside.result told (ap (λ (b : Beside). b.containing) c.after_contains-beside.ensures) refl refl) in
+    let second = (knows_containing c.use_named.new.self.linked.now c.args.nesting a c.use_named.new.self.passing max_contains c.args.here.now.before n c.after_contains-beside.result told (ap (λ (b : Beside). b.containing) c.after_contains-beside.ensures) refl refl) in
     let fault = c.in-Err-use_two.ensures.err a there first second other in (
       fault.0,
-      subst (λ ws. IsOver n (uses_notes a ws)) (counted_uses l.now c.args.nesting a c.args.here.before n mid)
+      subst (λ ws. IsOver n (uses_notes a ws)) (counted_uses l.now c.args.nesting a c.args.here.now.before n mid)
           (uses_then_over a n mid us vs (c.in-Ok.ensures.noted a at nothing)
-          (subst (λ (m : Bor Linked). IsOver mid (uses_notes a (two_uses m.now c.args.nesting a MinContains MaxContains c.args.here.before mid))) c.in-Ok.ensures.linked fault.1)),
+          (subst (λ (m : Bor Linked). IsOver mid (uses_notes a (two_uses m.now c.args.nesting a MinContains MaxContains c.args.here.now.before mid))) c.in-Ok.ensures.linked fault.1)),
     )
 
 pub use_counted-returns-in-Err-clause-err : goal.use_counted-returns-in-Err-clause-err
 use_counted-returns-in-Err-clause-err t c a at other =
     let l = c.args.self.now.linked.now in
     let n = log_view c.args.self.now.log in
-    let us = uses_since l c.args.nesting a Contains c.args.here.before n in
-    let vs = two_uses l c.args.nesting a MinContains MaxContains c.args.here.before n in
+    let us = uses_since l c.args.nesting a Contains c.args.here.now.before n in
+    let vs = two_uses l c.args.nesting a MinContains MaxContains c.args.here.now.before n in
     let fault = c.in-Err.ensures.err a at (knows_nothing l c.args.nesting a contains _ refl refl refl) other in
-    (fault.0, subst (λ ws. IsOver n (uses_notes a ws)) (counted_uses l c.args.nesting a c.args.here.before n n) (uses_first_over a n us vs fault.1))
+    (fault.0, subst (λ ws. IsOver n (uses_notes a ws)) (counted_uses l c.args.nesting a c.args.here.now.before n n) (uses_first_over a n us vs fault.1))
 
 pub use_one-returns-in-None-clause-valid : goal.use_one-returns-in-None-clause-valid
 use_one-returns-in-None-clause-valid t c a at most =
     let l = c.args.self.now.linked.now in
-    subst (λ us. IfOk c.use_named.result (λ b. b ≡ list_all (λ u. u.passes) us)) (alone_uses l c.args.nesting a c.args.keyword c.args.here.before (log_view c.args.self.now.log) c.requires.alone)
+    subst (λ us. IfOk c.use_named.result (λ b. b ≡ list_all (λ u. u.passes) us)) (alone_uses l c.args.nesting a c.args.keyword c.args.here.now.before (log_view c.args.self.now.log) c.requires.alone)
     (c.use_named.ensures.valid a at (alone_knows l c.args.nesting a c.args.keyword c.args.named _ c.requires.alone c.after_properties.ensures most))
 
 pub use_one-returns-in-Some-clause-valid : goal.use_one-returns-in-Some-clause-valid
@@ -332,20 +332,20 @@ use_one-returns-in-Some-clause-valid t c a at most = c.use_assertion.ensures.val
 pub use_one-returns-in-None-clause-passing : goal.use_one-returns-in-None-clause-passing
 use_one-returns-in-None-clause-passing t c a at most is =
     let l = c.args.self.now.linked.now in
-    subst (λ us. OnOk c.use_named.result (c.use_named.new.self.passing ≡ passing_first us)) (alone_uses l c.args.nesting a c.args.keyword c.args.here.before (log_view c.args.self.now.log) c.requires.alone)
+    subst (λ us. OnOk c.use_named.result (c.use_named.new.self.passing ≡ passing_first us)) (alone_uses l c.args.nesting a c.args.keyword c.args.here.now.before (log_view c.args.self.now.log) c.requires.alone)
     (c.use_named.ensures.passing a at (alone_knows l c.args.nesting a c.args.keyword c.args.named _ c.requires.alone c.after_properties.ensures most))
 
 pub use_one-returns-in-None-clause-noted : goal.use_one-returns-in-None-clause-noted
 use_one-returns-in-None-clause-noted t c a at most =
     let l = c.args.self.now.linked.now in
     subst (λ us. OnOk c.use_named.result (log_view c.use_named.new.self.log ≡ notes_of_both (log_view c.args.self.now.log) (uses_notes a us)))
-    (alone_uses l c.args.nesting a c.args.keyword c.args.here.before (log_view c.args.self.now.log) c.requires.alone)
+    (alone_uses l c.args.nesting a c.args.keyword c.args.here.now.before (log_view c.args.self.now.log) c.requires.alone)
     (c.use_named.ensures.noted a at (alone_knows l c.args.nesting a c.args.keyword c.args.named _ c.requires.alone c.after_properties.ensures most))
 
 pub use_one-returns-in-None-clause-err : goal.use_one-returns-in-None-clause-err
 use_one-returns-in-None-clause-err t c a at most =
     let l = c.args.self.now.linked.now in
-    subst (λ us. IfErr c.use_named.result (λ f. IsCostly f c.args.self.now (uses_notes a us))) (alone_uses l c.args.nesting a c.args.keyword c.args.here.before (log_view c.args.self.now.log) c.requires.alone)
+    subst (λ us. IfErr c.use_named.result (λ f. IsCostly f c.args.self.now (uses_notes a us))) (alone_uses l c.args.nesting a c.args.keyword c.args.here.now.before (log_view c.args.self.now.log) c.requires.alone)
     (c.use_named.ensures.err a at (alone_knows l c.args.nesting a c.args.keyword c.args.named _ c.requires.alone c.after_properties.ensures most))
 
 pub use_two-returns-in-Ok-use_named-clause-noted : goal.use_two-returns-in-Ok-use_named-clause-noted
@@ -354,11 +354,11 @@ use_two-returns-in-Ok-use_named-clause-noted t c a at knows knows_second =
     let k = (row_of c.args.second).meaning in
     let n = log_view c.args.self.now.log in
     let mid = log_view c.use_named.new.self.log in
-    let us = uses_since l.now c.args.nesting a c.args.first c.args.here.before n in
+    let us = uses_since l.now c.args.nesting a c.args.first c.args.here.now.before n in
     let there = still_at c.in-Ok.ensures.linked c.in-Ok.ensures.back at in
     let known : Knows c.use_named.new.self.linked.now c.args.nesting a k c.args.beside = subst (λ (m : Bor Linked). Knows m.now c.args.nesting a k c.args.beside) (sym c.in-Ok.ensures.linked) knows_second in
-    two_noted a n mid (log_view c.use_named-in-Ok.new.self.log) us (λ m. uses_since l.now c.args.nesting a c.args.second c.args.here.before m) (c.in-Ok.ensures.noted a at knows)
-    (subst (λ (m : Bor Linked). log_view c.use_named-in-Ok.new.self.log ≡ notes_of_both mid (uses_notes a (uses_since m.now c.args.nesting a c.args.second c.args.here.before mid))) c.in-Ok.ensures.linked
+    two_noted a n mid (log_view c.use_named-in-Ok.new.self.log) us (λ m. uses_since l.now c.args.nesting a c.args.second c.args.here.now.before m) (c.in-Ok.ensures.noted a at knows)
+    (subst (λ (m : Bor Linked). log_view c.use_named-in-Ok.new.self.log ≡ notes_of_both mid (uses_notes a (uses_since m.now c.args.nesting a c.args.second c.args.here.now.before mid))) c.in-Ok.ensures.linked
     (c.in-Ok-use_named.ensures.noted a there known))
 
 pub use_two-returns-in-Ok-use_named-clause-valid : goal.use_two-returns-in-Ok-use_named-clause-valid
@@ -367,11 +367,11 @@ use_two-returns-in-Ok-use_named-clause-valid t c a at knows knows_second =
     let k = (row_of c.args.second).meaning in
     let n = log_view c.args.self.now.log in
     let mid = log_view c.use_named.new.self.log in
-    let us = uses_since l.now c.args.nesting a c.args.first c.args.here.before n in
+    let us = uses_since l.now c.args.nesting a c.args.first c.args.here.now.before n in
     let there = still_at c.in-Ok.ensures.linked c.in-Ok.ensures.back at in
     let known : Knows c.use_named.new.self.linked.now c.args.nesting a k c.args.beside = subst (λ (m : Bor Linked). Knows m.now c.args.nesting a k c.args.beside) (sym c.in-Ok.ensures.linked) knows_second in
-    two_valid a n mid c.in-Ok.valid c.in-Ok-use_named.last us (λ m. uses_since l.now c.args.nesting a c.args.second c.args.here.before m) (c.in-Ok.ensures.noted a at knows) (c.in-Ok.ensures.valid a at knows)
-    (subst (λ (m : Bor Linked). c.in-Ok-use_named.last ≡ list_all (λ u. u.passes) (uses_since m.now c.args.nesting a c.args.second c.args.here.before mid)) c.in-Ok.ensures.linked
+    two_valid a n mid c.in-Ok.valid c.in-Ok-use_named.last us (λ m. uses_since l.now c.args.nesting a c.args.second c.args.here.now.before m) (c.in-Ok.ensures.noted a at knows) (c.in-Ok.ensures.valid a at knows)
+    (subst (λ (m : Bor Linked). c.in-Ok-use_named.last ≡ list_all (λ u. u.passes) (uses_since m.now c.args.nesting a c.args.second c.args.here.now.before mid)) c.in-Ok.ensures.linked
     (c.in-Ok-use_named.ensures.valid a there known))
 
 pub use_two-returns-in-Err-use_named-clause-err : goal.use_two-returns-in-Err-use_named-clause-err
@@ -380,22 +380,22 @@ use_two-returns-in-Err-use_named-clause-err t c a at knows knows_second other =
     let k = (row_of c.args.second).meaning in
     let n = log_view c.args.self.now.log in
     let mid = log_view c.use_named.new.self.log in
-    let us = uses_since l.now c.args.nesting a c.args.first c.args.here.before n in
+    let us = uses_since l.now c.args.nesting a c.args.first c.args.here.now.before n in
     let there = still_at c.in-Ok.ensures.linked c.in-Ok.ensures.back at in
     let known : Knows c.use_named.new.self.linked.now c.args.nesting a k c.args.beside = subst (λ (m : Bor Linked). Knows m.now c.args.nesting a k c.args.beside) (sym c.in-Ok.ensures.linked) knows_second in
     let fault = c.in-Err-use_named.ensures.err a there known other in (
       fault.0,
-      two_over a n mid us (λ m. uses_since l.now c.args.nesting a c.args.second c.args.here.before m) (c.in-Ok.ensures.noted a at knows)
-          (subst (λ (m : Bor Linked). IsOver mid (uses_notes a (uses_since m.now c.args.nesting a c.args.second c.args.here.before mid))) c.in-Ok.ensures.linked fault.1),
+      two_over a n mid us (λ m. uses_since l.now c.args.nesting a c.args.second c.args.here.now.before m) (c.in-Ok.ensures.noted a at knows)
+          (subst (λ (m : Bor Linked). IsOver mid (uses_notes a (uses_since m.now c.args.nesting a c.args.second c.args.here.now.before mid))) c.in-Ok.ensures.linked fault.1),
     )
 
 pub use_two-returns-in-Err-clause-err : goal.use_two-returns-in-Err-clause-err
 use_two-returns-in-Err-clause-err t c a at knows knows_second other =
     let l = c.args.self.now.linked in
     let n = log_view c.args.self.now.log in
-    let us = uses_since l.now c.args.nesting a c.args.first c.args.here.before n in
+    let us = uses_since l.now c.args.nesting a c.args.first c.args.here.now.before n in
     let fault = c.in-Err.ensures.err a at knows other in
-    (fault.0, uses_first_over a n us (uses_since l.now c.args.nesting a c.args.second c.args.here.before (notes_of_both n (uses_notes a us))) fault.1)
+    (fault.0, uses_first_over a n us (uses_since l.now c.args.nesting a c.args.second c.args.here.now.before (notes_of_both n (uses_notes a us))) fault.1)
 
 pub use_named-returns-in-None-clause-noted : goal.use_named-returns-in-None-clause-noted
 use_named-returns-in-None-clause-noted t c a at knows =

@@ -62,7 +62,7 @@ impl Made {
     {
         match says {
             Says::Names(names) => self.list(names),
-            _ => self.make_other(says),
+            _ => Ok(self.make_other(says)?),
         }
     }
 
@@ -73,7 +73,7 @@ impl Made {
     {
         match self.kept.find(names) {
             Some(place) => Ok(self.kept.text(place)),
-            None => self.other_list(names),
+            None => Ok(self.other_list(names)?),
         }
     }
 

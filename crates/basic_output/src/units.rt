@@ -208,7 +208,7 @@ fn append_unit(
 {
     match ready_location(location) {
         Some(ready) => append_ready_unit(out, made, annotates, ready, says),
-        None => append_other_unit(out, made, annotates, location, says),
+        None => append_other_unit(out, made, annotates, &location, &says),
     }
 }
 
@@ -219,13 +219,15 @@ fn append_other_unit(
     out: &mut TextBuffer,
     made: &mut Made,
     annotates: bool,
-    location: Location<'_, '_>,
-    says: Says<'_, '_>,
+    location: &Location<'_, '_>,
+    says: &Says<'_, '_>,
 ) -> Result<(), AllocError>
     ensures { buffer_text out.new ≡ (if is_ok result
-        then buffer_text out.old ++ 44 ∷ unit_text annotates (unit_at location.entry says.entry)
+        then buffer_text out.old ++ 44 ∷ unit_text annotates (unit_at location.now says.now)
         else buffer_text out.old) }
 {
+    let location = *location;
+    let says = *says;
     let onward = fragment_of(out.allocator(), location.onward_steps())?;
     match escaped_location(location, onward.as_str()) {
         Some(ready) => append_ready_unit(out, made, annotates, ready, says),

@@ -33,7 +33,7 @@ use std::alloc::AllocError;
 pub(crate) fn note_others<'a>(
     context: &mut Context<'a>,
     log: &mut Log<'a>,
-    present: &Present<'a>,
+    present: &Present<'_, 'a>,
     subject: Subject<'a>,
 ) -> Result<(), AllocError>
     ensures back { OnOk result (context_view context.new ≡ context_view context.old) }

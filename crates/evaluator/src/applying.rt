@@ -72,7 +72,7 @@ impl<'a> Evaluation<'a> {
     #[cycle(apply)]
     pub(crate) fn apply(
         &mut self,
-        present: &Present<'a>,
+        present: &Present<'_, 'a>,
         subject: Subject<'a>,
         nesting: u32,
     ) -> Result<bool, Halt>
@@ -138,7 +138,7 @@ impl<'a> Evaluation<'a> {
     #[cycle(apply)]
     fn apply_other(
         &mut self,
-        present: &Present<'a>,
+        present: &Present<'_, 'a>,
         subject: Subject<'a>,
         nesting: u32,
     ) -> Result<bool, Halt>
@@ -179,7 +179,7 @@ impl<'a> Evaluation<'a> {
     #[cycle(apply)]
     fn apply_object(
         &mut self,
-        present: &Present<'a>,
+        present: &Present<'_, 'a>,
         subject: Subject<'a>,
         nesting: u32,
     ) -> Result<bool, Halt>

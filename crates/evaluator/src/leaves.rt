@@ -29,7 +29,7 @@ impl<'a> Evaluation<'a> {
     /// scope. The only error is want of memory.
     pub(crate) fn apply_leaf(
         &mut self,
-        present: &Present<'a>,
+        present: &Present<'_, 'a>,
         subject: Subject<'a>,
     ) -> Result<bool, Halt>
         requires leaf { IsLeaf (value present.now.schema.now) }

@@ -9,7 +9,7 @@ use crate::beside::Beside;
 use crate::halt::Halt;
 use crate::here::Here;
 use crate::log::LogMark;
-use crate::present::Present;
+use crate::present::{KEYWORDS, Present};
 use crate::settling::{evaluated_for, settle};
 use json_doc::Doc;
 use keyword_plans::{Earlier, Planned, Site, passes, plan, surely_applies_nothing};
@@ -353,7 +353,8 @@ impl<'a> Evaluation<'a> {
             → IfErr result (λ f. IsCostly f self.old (outcome_notes
             (part_outcome self.old.linked.now nesting k a planned.now).1)) }
     {
-        let present = Present::of(planned.schema);
+        let mut positions = [0; KEYWORDS];
+        let present = Present::of(planned.schema, &mut positions);
         let back = self
             .context
             .enter_planned(self.alloc, planned, present.identifier())?;

@@ -30,27 +30,26 @@ static MARKS: [u8; KEYWORDS] = [
 ];
 
 /// How many keywords there are.
-const KEYWORDS: usize = 46;
+pub(crate) const KEYWORDS: usize = 46;
 
 /// A schema, and which names stand in it: a bit for each group of keywords, in the order of evaluation, one for keywords
 /// that are not evaluated, and the last for names that may annotate with their own value.
 #[derive(Drop)]
-pub(crate) struct Present<'a> {
+pub(crate) struct Present<'s, 'a> {
     pub(crate) schema: &'a Doc,
     marks: u64,
-    // Where each keyword stands among the members of a schema that has few.
-    positions: [u8; KEYWORDS],
+    // Where keywords stand among the members of a schema that has few: there they are looked for first.
+    positions: &'s [u8; KEYWORDS],
     ghost marked: { AreMarked marks (value schema.now) },
 }
 
-impl<'a> Present<'a> {
+impl<'s, 'a> Present<'s, 'a> {
     /// What this schema has.
     #[inline(always)]
-    pub(crate) fn of(schema: &'a Doc) -> Present<'a>
+    pub(crate) fn of(schema: &'a Doc, positions: &'s mut [u8; KEYWORDS]) -> Present<'s, 'a>
         ensures { result.schema.now ≡ schema.now }
     {
-        let mut positions = [0; KEYWORDS];
-        let marks = marks_in(schema, &mut positions);
+        let marks = marks_in(schema, positions);
         Present {
             schema,
             marks,
@@ -142,7 +141,7 @@ impl<'a> Present<'a> {
     }
 }
 
-// The marks of the names. It is noted where keywords stand.
+// The marks of the names, and where keywords stand.
 #[inline(always)]
 fn marks_in(schema: &Doc, positions: &mut [u8; KEYWORDS]) -> u64
     ensures { AreMarked result (value schema.now) }
@@ -188,7 +187,7 @@ fn marks_among(members: MembersIter<'_>, positions: &mut [u8; KEYWORDS]) -> u64
     marks
 }
 
-// The keyword stands at this position.
+// The keyword stands at this position. What is noted wrongly costs a search, and no more.
 #[inline(always)]
 fn note_position(positions: &mut [u8; KEYWORDS], keyword: Option<Keyword>, position: u8) {
     if let Some(keyword) = keyword {

@@ -19,7 +19,7 @@ use crate::applying::Evaluation;
 use crate::halt::Halt;
 use crate::log::Log;
 use crate::memory::EvaluationMemory;
-use crate::present::Present;
+use crate::present::{KEYWORDS, Present};
 use basic_output::output_text;
 use evaluation_context::Context;
 use faults::Fault;
@@ -107,7 +107,8 @@ pub fn evaluate_with<'a>(
         → Gives result (answer has_match G (linked_uri linked.now) (value instance.now)) }
 {
     let root = linked.root(alloc);
-    let present = Present::of(root.schema);
+    let mut positions = [0; KEYWORDS];
+    let present = Present::of(root.schema, &mut positions);
     let EvaluationMemory { log, context } = replace(memory, EvaluationMemory::new(alloc));
     let context = Context::new(alloc, linked, root, context)?;
     let log = Log::within(alloc, log)?;

@@ -26,7 +26,7 @@ pub(crate) fn settle_object<'a>(
     context: &mut Context<'a>,
     log: &mut Log<'a>,
     mark: &LogMark,
-    present: &Present<'a>,
+    present: &Present<'_, 'a>,
     subject: Subject<'a>,
     valid: bool,
 ) -> Result<(), AllocError>

@@ -73,7 +73,11 @@ fn members_are_taken_in_order(rt: HostRuntime) -> Result<(), Fail> {
         let mut left = members.iter().named();
         let taken = left.take_named(name);
         assert!(rt; taken.is_some_and(|member| member.is_text(name.as_str())));
-        assert!(rt; is_first_left(&mut left, above.next().copied()), "{}", name.as_str());
+        assert!(rt;
+            is_first_left(&mut left, above.next().copied()),
+            "{}",
+            name.as_str()
+        );
     }
     Ok(())
 }
@@ -81,7 +85,10 @@ fn members_are_taken_in_order(rt: HostRuntime) -> Result<(), Fail> {
 // A name that isn't there, and the first of those above it.
 const ABSENT: &[(&str, Option<&str>)] = &[
     ("A", Some("Type")),
-    ("abcdefghijklmnopqrstuvwxx", Some("abcdefghijklmnopqrstuvwxy")),
+    (
+        "abcdefghijklmnopqrstuvwxx",
+        Some("abcdefghijklmnopqrstuvwxy"),
+    ),
     ("c", Some("type")),
     ("ö", None),
 ];

@@ -202,7 +202,7 @@ impl<'a> Evaluation<'a> {
         let mark = self.log.mark();
         self.context.enter_object()?;
         let here = Here {
-            present,
+            present: &*present,
             subject,
             before: mark.before(),
         };

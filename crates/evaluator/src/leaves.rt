@@ -48,7 +48,7 @@ impl<'a> Evaluation<'a> {
         self.log.count_one();
         let mark = self.log.mark();
         let valid = self.use_assertions(&Here {
-            present,
+            present: &*present,
             subject,
             before: mark.before(),
         })?;
@@ -65,7 +65,7 @@ impl<'a> Evaluation<'a> {
 
     // The groups that the object may have, in order: whether all pass. The only error is want of memory.
     fn use_assertions(&mut self, here: &Here<'_, 'a>) -> Result<bool, Halt>
-        requires leaf { IsLeaf (value here.present.now.schema.now) }
+        requires leaf { IsLeaf (value here.now.present.now.schema.now) }
         ensures linked { self.new.linked ≡ self.old.linked }
         ensures back { OnOk result (context_view self.new.context ≡ context_view self.old.context) }
         ensures valid { (a : Application) (left : ℕ) → IsHere self.old here.now a

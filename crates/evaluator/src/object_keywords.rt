@@ -30,7 +30,7 @@ impl<'a> Evaluation<'a> {
     /// All keywords of a schema object, and last those that look at what the others evaluated: whether all pass.
     #[cycle(apply)]
     pub(crate) fn use_keywords(&mut self, here: &Here<'_, 'a>, nesting: u32) -> Result<bool, Halt>
-        requires before { here.before ≡ evaluated_in (log_view self.old.log) }
+        requires before { here.now.before ≡ evaluated_in (log_view self.old.log) }
         ensures linked { self.new.linked ≡ self.old.linked }
         ensures back { OnOk result (context_view self.new.context ≡ context_view self.old.context) }
         ensures valid { (a : Application) → IsHere self.old here.now a

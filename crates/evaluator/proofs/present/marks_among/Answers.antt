@@ -15,4 +15,4 @@ loop-name-preserved c i zero none =
     let m : Text × Value = (name_text c.in-Some.name, value c.in-Some.field-0-1.now) in
     marked_on c.loop-name.marks m (named_left c.next.new.self) (members_left c.args.members) (mark_within m.0)
     (λ j unset rest. c.loop-name.invariant j unset (ap (list_any (has_mark j)) c.in-Some.ensures.steps ∙ rest)) i
-    (subst (λ k. bit_at (bit_or c.loop-name.marks (1 * 2 ^ k % 2 ^ 64)) i ≡ 0) (c.mark_of.ensures.mark m.0 c.keyword.ensures) zero) none
+    (subst (λ k. bit_at (bit_or c.loop-name.marks (1 * 2 ^ k % 2 ^ 64)) i ≡ 0) (c.mark_of.ensures.mark m.0 c.keyword-keyword.ensures) zero) none

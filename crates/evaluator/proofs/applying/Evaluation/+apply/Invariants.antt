@@ -71,11 +71,11 @@ invariant-use_groups-loop-next l =
     record {
       linked : l.self.linked ≡ l.fn.self.linked;
       back : context_view l.self.context ≡ context_view l.fn.self.context;
-      valid : (a : Application) → IsAt l.fn.self.linked.now (context_view l.fn.self.context) (value l.here.now.present.now.schema.now) (subject_value l.here.now.subject) a
+      valid : (a : Application) → IsAt l.fn.self.linked.now (context_view l.fn.self.context) (value l.here.present.now.schema.now) (subject_value l.here.subject) a
           → l.valid ≡ list_all (λ u. u.passes) (groups_uses l.fn.self.linked.now l.nesting a (take l.next first_groups));
-      noted : (a : Application) → IsAt l.fn.self.linked.now (context_view l.fn.self.context) (value l.here.now.present.now.schema.now) (subject_value l.here.now.subject) a
+      noted : (a : Application) → IsAt l.fn.self.linked.now (context_view l.fn.self.context) (value l.here.present.now.schema.now) (subject_value l.here.subject) a
           → log_view l.self.log ≡ notes_of_both (log_view l.fn.self.log) (uses_notes a (groups_uses l.fn.self.linked.now l.nesting a (take l.next first_groups)));
-      named : (a : Application) → IsAt l.fn.self.linked.now (context_view l.fn.self.context) (value l.here.now.present.now.schema.now) (subject_value l.here.now.subject) a
+      named : (a : Application) → IsAt l.fn.self.linked.now (context_view l.fn.self.context) (value l.here.present.now.schema.now) (subject_value l.here.subject) a
           → l.named ≤ named_count a;
     }
 

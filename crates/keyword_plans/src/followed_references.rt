@@ -331,7 +331,8 @@ fn named_first<'a>(
 fn again<'a>(named: &Option<Followed<'a>>) -> Result<Option<Followed<'a>>, AllocError>
     ensures named { (table : List Schema) (text : Text) → IsNamed table text named.now
         → IfOk result (λ n. IsNamed table text n) }
-    ensures anchored { (l : Linked) → HasFollowedAnchor l named.now → IfOk result (HasFollowedAnchor l) }
+    ensures anchored { (l : Linked) → HasFollowedAnchor l named.now
+        → IfOk result (HasFollowedAnchor l) }
 {
     match named {
         Some(followed) => Ok(Some(Followed {

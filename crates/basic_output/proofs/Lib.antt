@@ -3,6 +3,7 @@ pub mod KeywordNames
 pub mod PieceLaws
 pub mod OutputTexts
 pub mod PointerLaws
+pub mod OrderLaws
 pub mod OriginLaws
 pub mod FrontLaws
 pub mod SpanLaws

@@ -1,19 +1,18 @@
 -- Spans as their text grows, as it is cut, and as one is put among them.
-use Rattle.std.proofs.Common.{◌≡◌, ◌≤◌, ◌<◌, ◌+◌, ◌-◌, ◌++◌, ◌∷◌, [], ℕ, zero, suc, List, true, length, map, nat_le, slice_range, take, drop, get_or, set, Some, Result, Ok, Err, OnOk, OnErr, refl, sym, ap, ap₂, subst, append_assoc, ◌∙◌, arith}
-use Rattle.std.proofs.Math.Numerals.{add-one}
+use Rattle.std.proofs.Common.{◌≡◌, ◌≤◌, ◌<◌, ◌+◌, ◌-◌, ◌++◌, ◌∷◌, [], ℕ, zero, suc, List, true, length, map, nat_le, slice_range, take, drop, get_or, Some, refl, sym, ap, ap₂, append_assoc, ◌∙◌, arith}
 use Rattle.std.proofs.Math.Seq.{drop-append_seam, take-append_seam, take-length}
 use Rattle.std.proofs.lemmas.Bool.{and_parts, le-leb, leb-true}
 use Rattle.std.proofs.lemmas.List.Folds.{drop_split}
-use Rattle.std.proofs.lemmas.List.{length-append, length-take-le, take-take}
-use Rattle.std.proofs.lemmas.List.Elements.{All-append, All-cons, All-drop, All-head, All-map, All-nil, All-same, All-tail, All-take, All-weaker}
+use Rattle.std.proofs.lemmas.List.{length-append, length-take-le, map-append, take-take}
+use Rattle.std.proofs.lemmas.List.Elements.{All-append, All-cons, All-head, All-nil, All-tail}
 use Rattle.std.proofs.lemmas.Option.{slice_get_within}
 use Rattle.std.proofs.lemmas.Str.{IsUtf8-append, IsUtf8-from_ascii, IsUtf8-nil, is_utf8-from_IsUtf8}
-use Rattle.std.specs.List.{All, insert, slice_get}
+use Rattle.std.specs.List.{All, slice_get}
 use Rattle.std.specs.Str.{IsUtf8, is_utf8}
-use Rattle.lemmas.proofs.Lists.{flat_map-push, map-insert, map-take_more, range_is, range_same}
+use Rattle.lemmas.proofs.Lists.{flat_map-push, map-take_more, range_is, range_same}
 use Rattle.definitions.specs.Values.{Text}
 use Rattle.basic_output.specs.Pieces.{later_texts}
-use Rattle.basic_output.specs.Spans.{IsSpan, ascends, last_reach, raise_from, raised, span_text}
+use Rattle.basic_output.specs.Spans.{IsSpan, ascends, last_end, span_text}
 use Rattle.basic_output.specs.declared.units.Span.{Span}
 
 front_same : (t u : Text) (h i : ℕ) → take h t ≡ take h u → i ≤ h → take i t ≡ take i u
@@ -24,29 +23,29 @@ unfolding span_text
 text_of_front t s le = range_is t s.start s.end le
 
 -- ---- how far they reach
-low_le_last : (low : ℕ) (ss : List Span) → ascends low ss ≡ true → low ≤ last_reach low ss
+low_le_last : (low : ℕ) (ss : List Span) → ascends low ss ≡ true → low ≤ last_end low ss
 low_le_last low [] up = omega arith
 low_le_last low (s ∷ ss) up =
-    let q = and_parts (nat_le low s.reach) (ascends s.reach ss) up in
-    omega (arith, leb-true low s.reach q.0, low_le_last s.reach ss q.1)
+    let q = and_parts (nat_le low s.end) (ascends s.end ss) up in
+    omega (arith, leb-true low s.end q.0, low_le_last s.end ss q.1)
 
-last_within : (t : Text) (low : ℕ) (ss : List Span) → low ≤ length t → All (IsSpan t) ss → last_reach low ss ≤ length t
+last_within : (t : Text) (low : ℕ) (ss : List Span) → low ≤ length t → All (IsSpan t) ss → last_end low ss ≤ length t
 last_within t low [] le are = le
-last_within t low (s ∷ ss) le are = last_within t s.reach ss (All-head (IsSpan t) s ss are).within (All-tail (IsSpan t) s ss are)
+last_within t low (s ∷ ss) le are = last_within t s.end ss (All-head (IsSpan t) s ss are).within (All-tail (IsSpan t) s ss are)
 
-last_whole : (t : Text) (low : ℕ) (ss : List Span) → is_utf8 (take low t) ≡ true → All (IsSpan t) ss → is_utf8 (take (last_reach low ss) t) ≡ true
+last_whole : (t : Text) (low : ℕ) (ss : List Span) → is_utf8 (take low t) ≡ true → All (IsSpan t) ss → is_utf8 (take (last_end low ss) t) ≡ true
 last_whole t low [] whole are = whole
-last_whole t low (s ∷ ss) whole are = last_whole t s.reach ss (All-head (IsSpan t) s ss are).reach_whole (All-tail (IsSpan t) s ss are)
+last_whole t low (s ∷ ss) whole are = last_whole t s.end ss (All-head (IsSpan t) s ss are).end_whole (All-tail (IsSpan t) s ss are)
 
-pub whole_at_last : (t : Text) (ss : List Span) → All (IsSpan t) ss → is_utf8 (take (last_reach 0 ss) t) ≡ true
+pub whole_at_last : (t : Text) (ss : List Span) → All (IsSpan t) ss → is_utf8 (take (last_end 0 ss) t) ≡ true
 whole_at_last t ss are = last_whole t 0 ss (is_utf8-from_IsUtf8 [] IsUtf8-nil) are
 
 pub ascends_take : (n low : ℕ) (ss : List Span) → ascends low ss ≡ true → ascends low (take n ss) ≡ true
 ascends_take zero low ss up = refl
 ascends_take (suc n) low [] up = refl
 ascends_take (suc n) low (s ∷ ss) up =
-    let q = and_parts (nat_le low s.reach) (ascends s.reach ss) up in
-    rw (q.0, ascends_take n s.reach ss q.1) refl
+    let q = and_parts (nat_le low s.end) (ascends s.end ss) up in
+    rw (q.0, ascends_take n s.end ss q.1) refl
 
 -- ---- in another text that begins alike
 pub record Moved (t u : Text) (ss : List Span) : Type 0 where
@@ -59,46 +58,40 @@ comma_at_end t u start is front =
     let before : start - 1 ≡ length t = omega (arith, is, length-append t (44 ∷ [])) in
     range_is u (start - 1) start (omega arith) ∙ ap₂ (λ n b. drop n b) before front ∙ drop-append_seam t (44 ∷ [])
 
-span_moved : (t u : Text) (h : ℕ) (s : Span) → take h t ≡ take h u → h ≤ length u → s.reach ≤ h → IsSpan t s → IsSpan u s × (span_text u s ≡ span_text t s)
+span_moved : (t u : Text) (h : ℕ) (s : Span) → take h t ≡ take h u → h ≤ length u → s.end ≤ h → IsSpan t s → IsSpan u s × (span_text u s ≡ span_text t s)
 span_moved t u h s same within le is =
     let front = λ (i : ℕ) (l : i ≤ h). sym (front_same t u h i same l) in
-    let end : take s.end u ≡ take s.end t = front s.end (omega (arith, le, is.reached)) in (
+    let end : take s.end u ≡ take s.end t = front s.end le in (
       record {
         ordered = is.ordered;
-        reached = is.reached;
         within = omega (arith, le, within);
-        start_whole = ap is_utf8 (front s.start (omega (arith, le, is.reached, is.ordered))) ∙ is.start_whole;
+        start_whole = ap is_utf8 (front s.start (omega (arith, le, is.ordered))) ∙ is.start_whole;
         end_whole = ap is_utf8 end ∙ is.end_whole;
-        reach_whole = ap is_utf8 (front s.reach le) ∙ is.reach_whole;
-        led = range_same u t s.start (s.start - 1) s.start (front s.start (omega (arith, le, is.reached, is.ordered))) (omega arith) (omega arith) ∙ is.led;
+        led = range_same u t s.start (s.start - 1) s.start (front s.start (omega (arith, le, is.ordered))) (omega arith) (omega arith) ∙ is.led;
       },
       text_of_front u s is.ordered ∙ ap (drop s.start) end ∙ sym (text_of_front t s is.ordered),
     )
 
-moved : (t u : Text) (h low : ℕ) (ss : List Span) → take h t ≡ take h u → h ≤ length u → last_reach low ss ≤ h → ascends low ss ≡ true → All (IsSpan t) ss → Moved t u ss
+moved : (t u : Text) (h low : ℕ) (ss : List Span) → take h t ≡ take h u → h ≤ length u → last_end low ss ≤ h → ascends low ss ≡ true → All (IsSpan t) ss → Moved t u ss
 moved t u h low [] same within last up are = record { are_spans = All-nil (IsSpan u); same = refl }
 moved t u h low (s ∷ ss) same within last up are =
-    let q = and_parts (nat_le low s.reach) (ascends s.reach ss) up in
-    let le : s.reach ≤ h = omega (arith, last, low_le_last s.reach ss q.1) in
+    let q = and_parts (nat_le low s.end) (ascends s.end ss) up in
+    let le : s.end ≤ h = omega (arith, last, low_le_last s.end ss q.1) in
     let one = span_moved t u h s same within le (All-head (IsSpan t) s ss are) in
-    let rest = moved t u h s.reach ss same within last q.1 (All-tail (IsSpan t) s ss are) in
+    let rest = moved t u h s.end ss same within last q.1 (All-tail (IsSpan t) s ss are) in
     record { are_spans = All-cons (IsSpan u) s ss one.0 rest.are_spans; same = ap₂ (λ x xs. x ∷ xs) one.1 rest.same }
 
 pub grown : (t more u : Text) (ss : List Span) → u ≡ t ++ more → ascends 0 ss ≡ true → All (IsSpan t) ss → Moved t u ss
 grown t more u ss is up are =
     moved t u (length t) 0 ss (take-length t ∙ sym (ap (take (length t)) is ∙ take-append_seam t more)) (omega (arith, ap length is, length-append t more)) (last_within t 0 ss (omega arith) are) up are
 
-pub cut : (t : Text) (ss : List Span) → ascends 0 ss ≡ true → All (IsSpan t) ss → Moved t (take (last_reach 0 ss) t) ss
+pub cut : (t : Text) (ss : List Span) → ascends 0 ss ≡ true → All (IsSpan t) ss → Moved t (take (last_end 0 ss) t) ss
 cut t ss up are =
-    let h = last_reach 0 ss in
+    let h = last_end 0 ss in
     let within : length (take h t) ≡ h = length-take-le h t (last_within t 0 ss (omega arith) are) in
     moved t (take h t) h 0 ss (sym (take-take h h t (omega arith))) (omega (arith, within)) (omega arith) up are
 
--- ---- one more, and those behind it raised
-pub raise_last : (ss : List Span) (s : Span) → raise_from (length ss) s.reach (insert ss (length ss) s) ≡ ss ++ s ∷ []
-raise_last [] s = refl
-raise_last (x ∷ xs) s = ap (λ ys. x ∷ ys) (raise_last xs s)
-
+-- ---- one more
 comma_ascii : (i : ℕ) → get_or (44 ∷ []) i 0 < 128
 comma_ascii zero = omega arith
 comma_ascii (suc i) = omega arith
@@ -106,129 +99,66 @@ comma_ascii (suc i) = omega arith
 pub comma_whole : IsUtf8 (44 ∷ [])
 comma_whole = IsUtf8-from_ascii (44 ∷ []) comma_ascii
 
-new_span : (t more u : Text) (s : Span) → u ≡ t ++ 44 ∷ more → IsUtf8 t → IsUtf8 u → s.start ≡ length t + 1 → s.end ≡ length u → s.reach ≡ length u
+new_span : (t more u : Text) (s : Span) → u ≡ t ++ 44 ∷ more → IsUtf8 t → IsUtf8 u → s.start ≡ length t + 1 → s.end ≡ length u
     → IsSpan u s × (span_text u s ≡ more)
-new_span t more u s text old_whole both at end reach =
+new_span t more u s text old_whole both at end =
     let comma = t ++ 44 ∷ [] in
     let is : u ≡ comma ++ more = text ∙ sym (append_assoc t (44 ∷ []) more) in
     let whole : IsUtf8 comma = IsUtf8-append t (44 ∷ []) old_whole comma_whole in
     let start : s.start ≡ length comma = omega (arith, at, length-append t (44 ∷ [])) in
-    let ordered : s.start ≤ s.end = omega (arith, start, end, ap length is, length-append comma more) in
-    let up_to = λ (i : ℕ) (e : i ≡ length u). ap (λ j. is_utf8 (take j u)) e ∙ ap is_utf8 (take-length u) ∙ is_utf8-from_IsUtf8 u both in (
+    let ordered : s.start ≤ s.end = omega (arith, start, end, ap length is, length-append comma more) in (
       record {
         ordered = ordered;
-        reached = omega (arith, end, reach);
-        within = omega (arith, reach);
+        within = omega (arith, end);
         start_whole = ap₂ (λ i b. is_utf8 (take i b)) start is ∙ ap is_utf8 (take-append_seam comma more) ∙ is_utf8-from_IsUtf8 comma whole;
-        end_whole = up_to s.end end;
-        reach_whole = up_to s.reach reach;
+        end_whole = ap (λ j. is_utf8 (take j u)) end ∙ ap is_utf8 (take-length u) ∙ is_utf8-from_IsUtf8 u both;
         led = comma_at_end t u s.start start (ap₂ (λ i b. take i b) start is ∙ take-append_seam comma more);
       },
       text_of_front u s ordered ∙ ap₂ (λ i j. drop i (take j u)) start end ∙ ap (drop (length comma)) (take-length u ∙ is) ∙ drop-append_seam comma more,
     )
 
-ascends_raised : (reach low : ℕ) (ss : List Span) → low ≤ reach → ascends low (map (raised reach) ss) ≡ true
-ascends_raised reach low [] le = refl
-ascends_raised reach low (s ∷ ss) le = rw (le-leb low reach le, ascends_raised reach reach ss (omega arith)) refl
+ascends_on : (low : ℕ) (ss : List Span) (s : Span) → last_end low ss ≤ s.end → ascends low ss ≡ true → ascends low (ss ++ s ∷ []) ≡ true
+ascends_on low [] s last up = rw (le-leb low s.end last) refl
+ascends_on low (x ∷ ss) s last up =
+    let q = and_parts (nat_le low x.end) (ascends x.end ss) up in
+    rw (q.0, ascends_on x.end ss s last q.1) refl
 
-ascends_inserted : (reach low p : ℕ) (ss : List Span) (s : Span) → p ≤ length ss → last_reach low ss ≤ reach → ascends low ss ≡ true → ascends low (raise_from p reach (insert ss p s)) ≡ true
-ascends_inserted reach low zero ss s le last up = ascends_raised reach low (s ∷ ss) (omega (arith, last, low_le_last low ss up))
-ascends_inserted reach low (suc p) [] s le last up = absurd (omega arith)
-ascends_inserted reach low (suc p) (x ∷ ss) s le last up =
-    let q = and_parts (nat_le low x.reach) (ascends x.reach ss) up in
-    rw (q.0, ascends_inserted reach x.reach p ss s (omega arith) last q.1) refl
-
-raised_texts : (t : Text) (p reach : ℕ) (ss : List Span) → map (span_text t) (raise_from p reach ss) ≡ map (span_text t) ss
-unfolding span_text
-raised_texts t zero reach [] = refl
-raised_texts t zero reach (s ∷ ss) = ap (λ xs. span_text t s ∷ xs) (raised_texts t zero reach ss)
-raised_texts t (suc p) reach [] = refl
-raised_texts t (suc p) reach (s ∷ ss) = ap (λ xs. span_text t s ∷ xs) (raised_texts t p reach ss)
-
-raised_spans : (t : Text) (p reach : ℕ) (ss : List Span) → reach ≡ length t → is_utf8 (take reach t) ≡ true → All (IsSpan t) ss → All (IsSpan t) (raise_from p reach ss)
-raised_spans t zero reach ss all whole are =
-    let one : (s : Span) → IsSpan t s → IsSpan t (raised reach s) = λ s is. record {
-      ordered = is.ordered;
-      reached = omega (arith, all, is.reached, is.within);
-      within = omega (arith, all);
-      start_whole = is.start_whole;
-      end_whole = is.end_whole;
-      reach_whole = whole;
-      led = is.led;
-    } in
-    All-map (IsSpan t) (raised reach) ss (All-weaker (IsSpan t) (λ s. IsSpan t (raised reach s)) one ss are)
-raised_spans t (suc p) reach [] all whole are = All-nil (IsSpan t)
-raised_spans t (suc p) reach (s ∷ ss) all whole are =
-    All-cons (IsSpan t) s (raise_from p reach ss) (All-head (IsSpan t) s ss are) (raised_spans t p reach ss all whole (All-tail (IsSpan t) s ss are))
-
-inserted_spans : (t : Text) (p : ℕ) (ss : List Span) (s : Span) → s.reach ≡ length t → IsSpan t s → All (IsSpan t) ss → All (IsSpan t) (raise_from p s.reach (insert ss p s))
-inserted_spans t p ss s all is are =
-    raised_spans t p s.reach (insert ss p s) all is.reach_whole
-    (All-append (IsSpan t) (take p ss) (s ∷ drop p ss) (All-take (IsSpan t) p ss are) (All-cons (IsSpan t) s (drop p ss) is (All-drop (IsSpan t) p ss are)))
-
--- the text and the spans that are left, where there were others before
-pub record Kept (t more : Text) (ss : List Span) (p : ℕ) (u : Text) (xs : List Span) : Type 0 where
+-- the text and the spans, of which one is new
+pub record Kept (t more : Text) (ss : List Span) (u : Text) (xs : List Span) : Type 0 where
   pub are_spans : All (IsSpan u) xs
   pub ascend : ascends 0 xs ≡ true
-  pub texts : map (span_text u) xs ≡ insert (map (span_text t) ss) p more
+  pub texts : map (span_text u) xs ≡ map (span_text t) ss ++ more ∷ []
 
-pub kept : (t more : Text) (ss : List Span) (p : ℕ) (u : Text) (xs : List Span) (s : Span) → u ≡ t ++ 44 ∷ more → xs ≡ raise_from p s.reach (insert ss p s)
-    → IsUtf8 t → IsUtf8 u → s.start ≡ length t + 1 → s.end ≡ length u → s.reach ≡ length u → p ≤ length ss → ascends 0 ss ≡ true → All (IsSpan t) ss
-    → Kept t more ss p u xs
-kept t more ss p u xs s text spans whole both start end reach within up are =
-    let new = new_span t more u s text whole both start end reach in
+pub kept : (t more : Text) (ss : List Span) (u : Text) (s : Span) → u ≡ t ++ 44 ∷ more → IsUtf8 t → IsUtf8 u → s.start ≡ length t + 1 → s.end ≡ length u → ascends 0 ss ≡ true → All (IsSpan t) ss
+    → Kept t more ss u (ss ++ s ∷ [])
+kept t more ss u s text whole both start end up are =
+    let new = new_span t more u s text whole both start end in
     let old = grown t (44 ∷ more) u ss text up are in
     let last = last_within t 0 ss (omega arith) are in
     record {
-      are_spans = All-same (IsSpan u) xs (raise_from p s.reach (insert ss p s)) spans (inserted_spans u p ss s reach new.0 old.are_spans);
-      ascend = ap (ascends 0) spans ∙ ascends_inserted s.reach 0 p ss s within (omega (arith, reach, last, ap length text, length-append t (44 ∷ more))) up;
-      texts = ap (map (span_text u)) spans ∙ raised_texts u p s.reach (insert ss p s) ∙ map-insert (span_text u) ss p s ∙ ap₂ (λ ys x. insert ys p x) old.same new.1;
+      are_spans = All-append (IsSpan u) ss (s ∷ []) old.are_spans (All-cons (IsSpan u) s [] new.0 (All-nil (IsSpan u)));
+      ascend = ascends_on 0 ss s (omega (arith, end, last, ap length text, length-append t (44 ∷ more))) up;
+      texts = map-append (span_text u) ss (s ∷ []) ∙ ap₂ (λ ys x. ys ++ x ∷ []) old.same new.1;
     }
 
--- ---- whichever of two lists the spans are
-pub record AreSpans (u : Text) (xs : List Span) : Type 0 where
-  pub are_spans : All (IsSpan u) xs
-  pub ascend : ascends 0 xs ≡ true
-
-pub either : {A E : Type 0} (r : Result A E) (u : Text) (xs new old : List Span) → OnOk r (xs ≡ new) → OnErr r (xs ≡ old) → AreSpans u new → AreSpans u old → AreSpans u xs
-either (Ok x) u xs new old is_new is_old of_new of_old = subst (AreSpans u) (sym is_new) of_new
-either (Err e) u xs new old is_new is_old of_new of_old = subst (AreSpans u) (sym is_old) of_old
-
--- ---- the loop that raises them
-pub raise_past : (p reach : ℕ) (ss : List Span) → length ss ≤ p → raise_from p reach ss ≡ ss
-raise_past zero reach [] le = refl
-raise_past zero reach (s ∷ ss) le = absurd (omega arith)
-raise_past (suc p) reach [] le = refl
-raise_past (suc p) reach (s ∷ ss) le = ap (λ xs. s ∷ xs) (raise_past p reach ss (omega arith))
-
-raise_suc : (p reach : ℕ) (ss : List Span) (d : Span) → p < length ss → raise_from (suc p) reach (set ss p (raised reach (get_or ss p d))) ≡ raise_from p reach ss
-raise_suc p reach [] d less = absurd (omega arith)
-raise_suc zero reach (s ∷ ss) d less = refl
-raise_suc (suc p) reach (s ∷ ss) d less = ap (λ xs. s ∷ xs) (raise_suc p reach ss d (omega arith))
-
-pub raise_next : (p reach : ℕ) (ss : List Span) (d : Span) → p < length ss → raise_from (p + 1) reach (set ss p (raised reach (get_or ss p d))) ≡ raise_from p reach ss
-raise_next p reach ss d less = rw add-one (raise_suc p reach ss d less)
-
 -- ---- the last one
-last_at : (low n : ℕ) (ss : List Span) (s : Span) → length ss ≡ suc n → slice_get ss n ≡ Some s → s.reach ≡ last_reach low ss
+last_at : (low n : ℕ) (ss : List Span) (s : Span) → length ss ≡ suc n → slice_get ss n ≡ Some s → s.end ≡ last_end low ss
 last_at low n [] s len is = absurd (omega arith)
 last_at low zero (x ∷ []) s len is = cc
 last_at low (suc n) (x ∷ []) s len is = absurd (omega arith)
 last_at low zero (x ∷ y ∷ ss) s len is = absurd (omega arith)
-last_at low (suc n) (x ∷ y ∷ ss) s len is = last_at x.reach n (y ∷ ss) s (omega arith) is
+last_at low (suc n) (x ∷ y ∷ ss) s len is = last_at x.end n (y ∷ ss) s (omega arith) is
 
-pub last_is : (low : ℕ) (ss : List Span) (s : Span) → slice_get ss (length ss - 1) ≡ Some s → s.reach ≡ last_reach low ss
+pub last_is : (low : ℕ) (ss : List Span) (s : Span) → slice_get ss (length ss - 1) ≡ Some s → s.end ≡ last_end low ss
 last_is low ss s is = last_at low (length ss - 1) ss s (omega (arith, slice_get_within ss (length ss - 1) s is)) is
 
 -- ---- spans that stand one behind the other
-pub merged : (t : Text) (a b : Span) → IsSpan t a → IsSpan t b → b.start - 1 ≡ a.end → IsSpan t (record { start = a.start; end = b.end; reach = b.reach })
+pub merged : (t : Text) (a b : Span) → IsSpan t a → IsSpan t b → b.start - 1 ≡ a.end → IsSpan t (record { start = a.start; end = b.end; position = b.position })
 merged t a b first next is = record {
   ordered = omega (arith, first.ordered, next.ordered, is);
-  reached = next.reached;
   within = next.within;
   start_whole = first.start_whole;
   end_whole = next.end_whole;
-  reach_whole = next.reach_whole;
   led = first.led;
 }
 
@@ -242,7 +172,7 @@ some_in_front t zero led = cc
 some_in_front t (suc n) led = omega arith
 
 pub merged_text : (t : Text) (a b : Span) → IsSpan t a → IsSpan t b → b.start - 1 ≡ a.end
-    → span_text t (record { start = a.start; end = b.end; reach = b.reach }) ≡ span_text t a ++ 44 ∷ span_text t b
+    → span_text t (record { start = a.start; end = b.end; position = b.position }) ≡ span_text t a ++ 44 ∷ span_text t b
 unfolding span_text
 merged_text t a b first next is =
     let some : 0 < b.start = some_in_front t b.start next.led in
@@ -251,12 +181,12 @@ merged_text t a b first next is =
 
 -- ---- what was written of them
 -- a run that goes on, or another one that begins
-pub run_on : (t old out new run : Text) (a b : Span) (later : List Span) (i : ℕ) → i < length later → b ≡ get_or later i b
-    → out ++ span_text t a ≡ old ++ (run ++ later_texts (map (span_text t) (take i later))) → new ≡ (out ++ span_text t a) ++ 44 ∷ span_text t b
-    → new ≡ old ++ (run ++ later_texts (map (span_text t) (take (i + 1) later)))
-run_on t old out new run a b later i less there written is =
-    let texts = map (span_text t) (take i later) in
+pub run_on : (t old out new run : Text) (text_at : ℕ → Text) (a b : Span) (later : List ℕ) (i place : ℕ) → i < length later → place ≡ get_or later i place → text_at place ≡ span_text t b
+    → out ++ span_text t a ≡ old ++ (run ++ later_texts (map text_at (take i later))) → new ≡ (out ++ span_text t a) ++ 44 ∷ span_text t b
+    → new ≡ old ++ (run ++ later_texts (map text_at (take (i + 1) later)))
+run_on t old out new run text_at a b later i place less there at written is =
+    let texts = map text_at (take i later) in
     let next = 44 ∷ span_text t b in
-    let all : later_texts (map (span_text t) (take (i + 1) later)) ≡ later_texts texts ++ next =
-    ap later_texts (map-take_more (span_text t) later i b less there) ∙ flat_map-push (λ s. 44 ∷ s) texts (span_text t b) in
+    let all : later_texts (map text_at (take (i + 1) later)) ≡ later_texts texts ++ next =
+    ap later_texts (map-take_more text_at later i place less there) ∙ flat_map-push (λ s. 44 ∷ s) texts (text_at place) ∙ ap (λ x. later_texts texts ++ 44 ∷ x) at in
     is ∙ ap (λ r. r ++ next) written ∙ append_assoc old (run ++ later_texts texts) next ∙ ap (λ r. old ++ r) (append_assoc run (later_texts texts) next ∙ ap (λ r. run ++ r) (sym all))

@@ -1,13 +1,13 @@
 //! The text of the basic output (JSON Schema 2020-12 Core, 12.4.2).
 
-ghost use Rattle.std.specs.Prelude.{◌≡◌, ◌++◌, List, map, IfOk, IfErr, OnOk, string_bytes};
+ghost use Rattle.std.specs.Prelude.{◌≡◌, ◌<◌, ◌++◌, List, length, map, IfOk, IfErr, OnOk, string_bytes};
 ghost use Rattle.std.specs.List.{All};
 ghost use Rattle.definitions.specs.Applied.{Outcome, OutputUnit};
 ghost use Rattle.definitions.specs.Answers.{output_text};
 ghost use Rattle.definitions.specs.Texts.{text};
 ghost use Rattle.basic_output.specs.Outputs.{reported_units, units_output};
 ghost use Rattle.basic_output.specs.Pieces.{array_text, later_texts, list_key, unit_text, valid_member};
-ghost use Rattle.basic_output.specs.Spans.{IsSpan, span_text};
+ghost use Rattle.basic_output.specs.Spans.{IsSpan, text_at, texts_in_order};
 ghost use Rattle.basic_output.specs.Units.{unit_texts};
 
 use crate::units::{Span, Units};
@@ -36,7 +36,7 @@ pub fn output_text(alloc: Global, valid: bool, units: &Units) -> Result<String, 
 fn room_for(units: &Units) -> usize {
     FRAME
         .saturating_add(units.text().len())
-        .saturating_add(units.spans().len())
+        .saturating_add(units.order().len())
 }
 
 fn write_output(valid: bool, units: &Units, out: &mut String) -> Result<(), AllocError>
@@ -44,7 +44,7 @@ fn write_output(valid: bool, units: &Units, out: &mut String) -> Result<(), Allo
         ++ (list_key valid ++ (array_text (unit_texts units.now) ++ valid_member valid))) }
 {
     out.push_str(list_key(valid))?;
-    write_texts(units.text(), units.spans(), out)?;
+    write_texts(units.text(), units.spans(), units.order(), out)?;
     out.push_str(valid_member(valid))
 }
 
@@ -68,16 +68,22 @@ fn valid_member(valid: bool) -> &'static str
     }
 }
 
-// The texts that stand there.
-fn write_texts(text: &str, spans: &[Span], out: &mut String) -> Result<(), AllocError>
-    requires { All (IsSpan text.now) spans.now }
+// The texts that stand there, in this order.
+fn write_texts(
+    text: &str,
+    spans: &[Span],
+    order: &[usize],
+    out: &mut String,
+) -> Result<(), AllocError>
+    requires spans { All (IsSpan text.now) spans.now }
+    requires order { All (λ i. i < length spans.now) order.now }
     ensures { OnOk result (string_bytes out.new
-        ≡ string_bytes out.old ++ array_text (map (span_text text.now) spans.now)) }
+        ≡ string_bytes out.old ++ array_text (texts_in_order text.now spans.now order.now)) }
 {
-    match spans.split_first() {
+    match order.split_first() {
         Some((first, rest)) => {
             out.push_str("[")?;
-            write_runs(text, *first, rest, out)?;
+            write_runs(text, spans, *first, rest, out)?;
             out.push_str("]")
         }
         None => out.push_str("[]"),
@@ -85,20 +91,29 @@ fn write_texts(text: &str, spans: &[Span], out: &mut String) -> Result<(), Alloc
 }
 
 // A text, and each later one behind a comma: those that stand so already are written at once.
-fn write_runs(text: &str, first: Span, later: &[Span], out: &mut String) -> Result<(), AllocError>
-    requires first { IsSpan text.now first }
-    requires later { All (IsSpan text.now) later.now }
+fn write_runs(
+    text: &str,
+    spans: &[Span],
+    first: usize,
+    later: &[usize],
+    out: &mut String,
+) -> Result<(), AllocError>
+    requires spans { All (IsSpan text.now) spans.now }
+    requires first { first < length spans.now }
+    requires later { All (λ i. i < length spans.now) later.now }
     ensures { OnOk result (string_bytes out.new ≡ string_bytes out.old
-        ++ (span_text text.now first ++ later_texts (map (span_text text.now) later.now))) }
+        ++ (text_at text.now spans.now first
+        ++ later_texts (texts_in_order text.now spans.now later.now))) }
 {
-    let mut run = first;
-    for span in later {
-        if run.leads_to(*span) {
-            run = run.up_to(*span);
+    let mut run = spans[first];
+    for place in later {
+        let span = spans[*place];
+        if run.leads_to(span) {
+            run = run.up_to(span);
         } else {
             out.push_str(run.text_in(text))?;
             out.push_str(",")?;
-            run = *span;
+            run = span;
         }
     }
     out.push_str(run.text_in(text))

@@ -1,13 +1,13 @@
 //! The units of the basic output, as they are collected (JSON Schema 2020-12 Core, 12.4.2).
 
-ghost use Rattle.std.specs.Prelude.{◌≡◌, ◌≤◌, ◌∷◌, ◌++◌, ◌-◌, if◌then◌else◌, is_ok, length, map, nat_eq, take, true, IfOk, OnOk, OnErr};
-ghost use Rattle.std.specs.List.{All, insert};
+ghost use Rattle.std.specs.Prelude.{◌≡◌, ◌≤◌, ◌<◌, ◌∷◌, ◌++◌, ◌-◌, if◌then◌else◌, drop, false, is_ok, length, nat_eq, nat_le, take, true, IfOk, OnOk, OnErr};
+ghost use Rattle.std.specs.List.{All, insert, list_all};
 ghost use Rattle.basic_output.specs.Buffers.{buffer_text};
 ghost use Rattle.basic_output.specs.Pieces.{unit_text};
 ghost use Rattle.basic_output.specs.Ready.{AreReady};
 ghost use Rattle.basic_output.specs.Sayings.{unit_at};
 ghost use Rattle.basic_output.specs.declared.location.Location.{Location};
-ghost use Rattle.basic_output.specs.Spans.{IsSpan, ascends, last_reach, raise_from, span_text};
+ghost use Rattle.basic_output.specs.Spans.{IsSpan, ascends, last_end, order_of, span_text, texts_in_order};
 
 use crate::keeping::is_still_kept;
 use crate::location::Location;
@@ -20,12 +20,12 @@ use crate::unit::push_unit;
 use std::alloc::{AllocError, Global};
 use std::marker::Model;
 
-/// Where the text of a unit stands, and how far the texts reach of this unit and of those before it.
+/// Where the text of a unit stands, and the position that the unit took among those that were made before it.
 #[derive(Clone, Copy, Debug, Drop)]
 pub(crate) struct Span {
     start: usize,
     end: usize,
-    reach: usize,
+    position: usize,
 }
 
 impl Span {
@@ -46,12 +46,12 @@ impl Span {
 
     /// From where this one's text starts to where the other one's ends.
     pub(crate) fn up_to(self, last: Span) -> Span
-        ensures { result ≡ record { start = self.start; end = last.end; reach = last.reach } }
+        ensures { result ≡ record { start = self.start; end = last.end; position = last.position } }
     {
         Span {
             start: self.start,
             end: last.end,
-            reach: last.reach,
+            position: last.position,
         }
     }
 }
@@ -63,12 +63,18 @@ impl Span {
 pub struct Units {
     // The texts, in the order in which they were made, each behind a comma.
     text: TextBuffer,
-    // Where each stands, in the order of the units.
+    // Where each stands, in the same order.
     spans: Vec<Span>,
+    // The units in order, each by its place in that one.
+    order: Vec<usize>,
+    // Whether the order may be another one than their positions tell, as where memory was wanting: then no text is cut off.
+    loose: bool,
     // What a unit says, or all of it, where that is made apart.
     made: Made,
     ghost are_spans: { All (IsSpan (buffer_text text)) spans.items },
     ghost ascend: { ascends 0 spans.items ≡ true },
+    ghost within: { All (λ i. i < length spans.items) order.items },
+    ghost told: { loose ≡ false → order.items ≡ order_of spans.items },
 }
 
 /// How many units there are, so that a later one can be put there, or those that come later can be cut off.
@@ -100,6 +106,8 @@ impl Units {
         Units {
             text: TextBuffer::new(alloc),
             spans: Vec::new(alloc),
+            order: Vec::new(alloc),
+            loose: false,
             made: Made::new(alloc),
         }
     }
@@ -109,7 +117,7 @@ impl Units {
         ensures { result ≡ length (unit_texts self.now) }
     {
         Mark {
-            units: self.spans.len(),
+            units: self.order.len(),
         }
     }
 
@@ -144,23 +152,44 @@ impl Units {
     {
         let start = self.text.len();
         append_unit(&mut self.text, &mut self.made, annotates, location, says)?;
-        let reach = self.text.len();
-        let position = mark.units.min(self.spans.len());
+        let end = self.text.len();
+        let position = mark.units.min(self.order.len());
         let span = Span {
             start: start + 1,
-            end: reach,
-            reach,
+            end,
+            position,
         };
-        insert_span(&mut self.spans, position, span)?;
-        Ok(())
+        let place = self.spans.len();
+        self.spans.push(span)?;
+        match put(&mut self.order, position, place) {
+            Ok(()) => Ok(()),
+            Err(error) => {
+                self.loose = true;
+                Err(error)
+            }
+        }
     }
 
     /// Cuts off the units that came after the mark. Their memory is for the texts of later ones.
     pub fn cut_back(&mut self, mark: Mark)
         ensures { unit_texts self.new ≡ take mark (unit_texts self.old) }
     {
-        self.spans.truncate(mark.units);
-        self.text.truncate(reach_of(self.spans.as_slice()));
+        if mark.units < self.order.len() {
+            self.cut_to(mark.units);
+        }
+    }
+
+    // The first units stay, so many. Their texts do, and so do those of the others, unless these surely came after them.
+    fn cut_to(&mut self, units: usize)
+        ensures { unit_texts self.new ≡ take units (unit_texts self.old) }
+    {
+        self.order.truncate(units);
+        if self.loose || !are_put_behind(self.spans.as_slice(), units) {
+            self.loose = true;
+            return;
+        }
+        self.spans.truncate(units);
+        self.text.truncate(end_of(self.spans.as_slice()));
     }
 
     /// No units any more. Their memory is kept for the texts of later ones; but where it is more than what 1,048,576 bytes of text
@@ -170,6 +199,8 @@ impl Units {
     {
         if is_still_kept(self.text.room(), self.text.len()) && self.made.is_kept() {
             self.spans.clear();
+            self.order.clear();
+            self.loose = false;
             self.text.clear();
         } else {
             *self = Units::new(self.text.allocator());
@@ -183,13 +214,20 @@ impl Units {
         self.text.as_str()
     }
 
-    /// Where they stand, in the order of the units.
+    /// Where they stand, in the order in which they were made.
     pub(crate) fn spans(&self) -> &[Span]
-        ensures value { result.now ≡ self.now.spans.items }
-        ensures texts { map (span_text (buffer_text self.now.text)) result.now
-            ≡ unit_texts self.now }
+        ensures { result.now ≡ self.now.spans.items }
     {
         self.spans.as_slice()
+    }
+
+    /// The units in order, each by its place in that one.
+    pub(crate) fn order(&self) -> &[usize]
+        ensures value { result.now ≡ self.now.order.items }
+        ensures texts { texts_in_order (buffer_text self.now.text) self.now.spans.items result.now
+            ≡ unit_texts self.now }
+    {
+        self.order.as_slice()
     }
 }
 
@@ -259,49 +297,51 @@ fn append_ready_unit(
     out.push_ready(ready_unit(annotates, location, said))
 }
 
-// Puts a span at the position, before those that came later, which reach as far as it does now. The only error is want of
-// memory, and then the spans stay as they were.
+// Puts a place at the position, before those that came later. The only error is want of memory, and then the order stays as it
+// was.
 #[inline(always)]
-fn insert_span(spans: &mut Vec<Span>, position: usize, span: Span) -> Result<(), AllocError>
-    requires { position ≤ length spans.old.items }
-    ensures ok { OnOk result (spans.new.items
-        ≡ raise_from position span.reach (insert spans.old.items position span)) }
-    ensures unchanged { OnErr result (spans.new.items ≡ spans.old.items) }
+fn put(order: &mut Vec<usize>, position: usize, place: usize) -> Result<(), AllocError>
+    requires { position ≤ length order.old.items }
+    ensures ok { OnOk result (order.new.items ≡ insert order.old.items position place) }
+    ensures unchanged { OnErr result (order.new.items ≡ order.old.items) }
 {
-    if position < spans.len() {
-        return insert_among(spans, position, span);
+    if position < order.len() {
+        return put_among(order, position, place);
     }
-    spans.push(span)?;
+    order.push(place)?;
     Ok(())
 }
 
 #[inline(always)]
-fn insert_among(spans: &mut Vec<Span>, position: usize, span: Span) -> Result<(), AllocError>
-    requires { position ≤ length spans.old.items }
-    ensures ok { OnOk result (spans.new.items
-        ≡ raise_from position span.reach (insert spans.old.items position span)) }
-    ensures unchanged { OnErr result (spans.new.items ≡ spans.old.items) }
+fn put_among(order: &mut Vec<usize>, position: usize, place: usize) -> Result<(), AllocError>
+    requires { position ≤ length order.old.items }
+    ensures ok { OnOk result (order.new.items ≡ insert order.old.items position place) }
+    ensures unchanged { OnErr result (order.new.items ≡ order.old.items) }
 {
-    spans.insert(position, span)?;
-    raise(spans, position, span.reach);
+    order.insert(position, place)?;
     Ok(())
 }
 
-// How far the texts reach.
-fn reach_of(spans: &[Span]) -> usize
-    ensures { result ≡ last_reach 0 spans.now }
+// Whether all but the first units, so many, were put behind these.
+fn are_put_behind(spans: &[Span], units: usize) -> bool
+    ensures { result ≡ list_all (λ s. nat_le units s.position) (drop units spans.now) }
+{
+    let (_, later) = spans.split_at(units.min(spans.len()));
+    are_behind(later, units)
+}
+
+fn are_behind(spans: &[Span], units: usize) -> bool
+    ensures { result ≡ list_all (λ s. nat_le units s.position) spans.now }
+{
+    spans.iter().all(|span| units <= span.position)
+}
+
+// Where the last text ends.
+fn end_of(spans: &[Span]) -> usize
+    ensures { result ≡ last_end 0 spans.now }
 {
     match spans.last() {
-        Some(span) => span.reach,
+        Some(span) => span.end,
         None => 0,
-    }
-}
-
-// From that position on, all of them reach this far.
-fn raise(spans: &mut [Span], position: usize, reach: usize)
-    ensures { spans.new ≡ raise_from position reach spans.old }
-{
-    for later in position..spans.len() {
-        spans[later].reach = reach;
     }
 }

@@ -1,33 +1,51 @@
-use Rattle.std.proofs.Common.{◌≡◌, ◌-◌, ◌++◌, ◌∷◌, [], Global, String, get_or, string_bytes, subst, sym, ap, ap₂, append_assoc, ◌∙◌}
+use Rattle.std.proofs.Common.{◌≡◌, ◌-◌, ◌++◌, ◌∷◌, [], Global, String, append-nil, get_or, string_bytes, slice_index_or, subst, sym, ap, ap₂, append_assoc, ◌∙◌}
 use Rattle.std.proofs.lemmas.Bool.{eqb-true}
 use Rattle.std.proofs.lemmas.List.{get_or_default}
-use Rattle.basic_output.specs.Spans.{IsSpan, span_text}
+use Rattle.basic_output.specs.Spans.{IsSpan, span_text, text_at}
+use Rattle.basic_output.specs.declared.units.Span.{Span}
+use Rattle.basic_output.proofs.OrderLaws.{text_there}
 use Rattle.basic_output.proofs.SpanLaws.{merged, merged_text, run_on}
 use Rattle.basic_output.proofs.output.write_runs.Goals.{then-leads_to, else-leads_to+in_ok-push_str+in_ok-push_str-2}
 use Rattle.basic_output.proofs.output.write_runs.Goals as goal
 
-pub loop-span-preserved : goal.loop-span-preserved
-loop-span-preserved c =
+abbrev nowhere : Span
+nowhere = record { start = 0; end = 0; position = 0 }
+
+pub loop-place-init : goal.loop-place-init
+loop-place-init c =
     let t = c.args.text.now in
-    let i = c.loop-span.span-index in
-    let run = c.loop-span.run in
-    let next = get_or c.args.later.now i (record { start = 0; end = 0; reach = 0 }) in
-    let is_next : IsSpan t next = c.requires.later i (record { start = 0; end = 0; reach = 0 }) c.loop-span-test.true in
-    let on = run_on t (string_bytes c.args.out.now) (string_bytes c.loop-span.out) _ (span_text t c.args.first) run next c.args.later.now i c.loop-span-test.true (get_or_default c.args.later.now i (record { start = 0; end = 0; reach = 0 }) next c.loop-span-test.true) c.loop-span.invariant.written in
+    record {
+      is = c.requires.spans c.args.first nowhere c.requires.first;
+      written = ap (λ r. string_bytes c.args.out.now ++ r) (sym (text_there t c.args.spans.now c.args.first nowhere c.requires.first) ∙ sym (append-nil (text_at t c.args.spans.now c.args.first)));
+    }
+
+pub loop-place-preserved : goal.loop-place-preserved
+loop-place-preserved c =
+    let t = c.args.text.now in
+    let i = c.loop-place.place-index in
+    let ss = c.args.spans.now in
+    let later = c.args.later.now in
+    let run = c.loop-place.run in
+    let place = get_or later i 0 in
+    let within = c.requires.later i 0 c.loop-place-test.true in
+    let next = slice_index_or ss place nowhere in
+    let is_next : IsSpan t next = c.requires.spans place nowhere within in
+    let on = run_on t (string_bytes c.args.out.now) (string_bytes c.loop-place.out) _ (text_at t ss c.args.first) (text_at t ss) run next later i place c.loop-place-test.true (get_or_default later i 0 place c.loop-place-test.true)
+    (text_there t ss place nowhere within) c.loop-place.invariant.written in
     elim c.if-leads_to.branch [
       | then-leads_to w ↦
           let joined : next.start - 1 ≡ run.end = eqb-true (next.start - 1) run.end (sym c.leads_to.ensures ∙ w.if-leads_to.true) in
           let all = w.run-is ∙ w.up_to-run.ensures in
           record {
-            is = subst (IsSpan t) (sym all) (merged t run next c.loop-span.invariant.is is_next joined);
+            is = subst (IsSpan t) (sym all) (merged t run next c.loop-place.invariant.is is_next joined);
             written = on (ap₂ (λ (o : String Global) s. string_bytes o ++ span_text t s) w.out-is all
-                ∙ ap (λ r. string_bytes c.loop-span.out ++ r) (merged_text t run next c.loop-span.invariant.is is_next joined) ∙ sym (append_assoc (string_bytes c.loop-span.out) (span_text t run) (44 ∷ span_text t next)));
+                ∙ ap (λ r. string_bytes c.loop-place.out ++ r) (merged_text t run next c.loop-place.invariant.is is_next joined) ∙ sym (append_assoc (string_bytes c.loop-place.out) (span_text t run) (44 ∷ span_text t next)));
           }
       | else-leads_to+in_ok-push_str+in_ok-push_str-2 w ↦
           record {
             is = subst (IsSpan t) (sym w.run-is) is_next;
             written = on (ap₂ (λ (o : String Global) s. string_bytes o ++ span_text t s) w.out-is w.run-is
-                ∙ ap (λ b. b ++ span_text t next) (w.in_ok-push_str-2.ensures.bytes ∙ ap (λ b. b ++ 44 ∷ []) (w.in_ok-push_str.ensures.bytes ∙ ap (λ r. string_bytes c.loop-span.out ++ r) w.text_in.ensures))
-                ∙ append_assoc (string_bytes c.loop-span.out ++ span_text t run) (44 ∷ []) (span_text t next));
+                ∙ ap (λ b. b ++ span_text t next) (w.in_ok-push_str-2.ensures.bytes ∙ ap (λ b. b ++ 44 ∷ []) (w.in_ok-push_str.ensures.bytes ∙ ap (λ r. string_bytes c.loop-place.out ++ r) w.text_in.ensures))
+                ∙ append_assoc (string_bytes c.loop-place.out ++ span_text t run) (44 ∷ []) (span_text t next));
           }
     ]

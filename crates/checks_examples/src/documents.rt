@@ -1,5 +1,6 @@
 //! Documents on texts, and what they say of instances.
 
+use crate::texts::told;
 use evaluator::{Fault, Report, evaluate};
 use json_doc::read;
 use linker::{ListSource, link};
@@ -80,8 +81,5 @@ pub fn answer(
     instance: &str,
 ) -> Result<String, Fail> {
     let mut source = listed(alloc, documents)?;
-    match evaluated(alloc, &mut source, uri, instance) {
-        Ok(report) => Ok(report.into_text()),
-        Err(fault) => Ok(format!(in alloc; "{fault}")?),
-    }
+    told(alloc, evaluated(alloc, &mut source, uri, instance))
 }

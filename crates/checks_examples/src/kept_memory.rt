@@ -1,8 +1,9 @@
 //! Evaluations one after the other in memory that is kept.
 
 use crate::documents::listed;
-use evaluator::{EvaluationMemory, evaluate, evaluate_with};
-use json_doc::read;
+use crate::texts::told;
+use evaluator::{EvaluationMemory, Evaluator, evaluate, evaluate_with};
+use json_doc::{Doc, read};
 use linker::link;
 use std::alloc::Global;
 use std::test::Fail;
@@ -48,6 +49,74 @@ fn no_answer_depends_on_what_is_kept(rt: HostRuntime) -> Result<(), Fail> {
         assert!(rt; report.text() == *answer, "{text}");
     }
     Ok(())
+}
+
+#[test]
+fn one_evaluator_answers_each_instance(rt: HostRuntime) -> Result<(), Fail> {
+    let alloc = rt.alloc();
+    let source = listed(alloc, ITEM)?;
+    let linked = link(alloc, &mut &source, "https://ex.org/item")?;
+    let mut instances = Vec::new(alloc);
+    for (text, _) in ANSWERS {
+        instances.push(read(alloc, text.as_bytes())?)?;
+    }
+    let mut evaluator = Evaluator::new(alloc, &linked)?;
+    for (instance, (text, answer)) in instances.iter().zip(ANSWERS.iter()) {
+        let report = evaluator.evaluate(instance)?;
+        assert!(rt; report.text() == *answer, "{text}");
+    }
+    Ok(())
+}
+
+// What is under `again` is applied where it is being applied; each element is one application.
+const HALTING: &[(&str, &str)] = &[(
+    "https://ex.org/halting",
+    r##"{"$defs":{"a":{"$ref":"#/$defs/a"}},"properties":{"again":{"$ref":"#/$defs/a"}},"items":{"minimum":2}}"##,
+)];
+
+const EMPTY_REPORT: &str = r#"{"annotations":[],"valid":true}"#;
+
+const ALL_MET: &str =
+    r##"{"annotations":[{"absoluteKeywordLocation":"https://ex.org/halting#/items","annotation":true,"instanceLocation":"","keywordLocation":"/items"}],"valid":true}"##;
+
+// Instances, each of that many twos or, of none, a text; and the answers.
+const TURNS: &[(usize, &str, &str)] = &[
+    (1, "", ALL_MET),
+    (0, r#"{"again":1}"#, "17 Loop"),
+    (2, "", ALL_MET),
+    (100_000, "", "16 Costly"),
+    (1, "", ALL_MET),
+    (100_000, "", "16 Costly"),
+    (100_000, "", "16 Costly"),
+    (0, r#"{"again":1}"#, "17 Loop"),
+    (0, r#"{"again":1}"#, "17 Loop"),
+    (0, "1", EMPTY_REPORT),
+    (99_999, "", ALL_MET),
+];
+
+#[test]
+fn an_evaluator_answers_after_a_fault_as_before(rt: HostRuntime) -> Result<(), Fail> {
+    let alloc = rt.alloc();
+    let source = listed(alloc, HALTING)?;
+    let linked = link(alloc, &mut &source, "https://ex.org/halting")?;
+    let mut instances = Vec::new(alloc);
+    for (length, text, _) in TURNS {
+        instances.push(turn(alloc, *length, text)?)?;
+    }
+    let mut evaluator = Evaluator::new(alloc, &linked)?;
+    for (instance, (_, text, answer)) in instances.iter().zip(TURNS.iter()) {
+        let told = told(alloc, evaluator.evaluate(instance))?;
+        assert_eq!(rt; told.as_str(), *answer, "{text}");
+    }
+    Ok(())
+}
+
+// So many twos or, of none, what the text spells.
+fn turn(alloc: Global, length: usize, text: &str) -> Result<Doc, Fail> {
+    if length == 0 {
+        return Ok(read(alloc, text.as_bytes())?);
+    }
+    Ok(read(alloc, twos(alloc, length)?.as_bytes())?)
 }
 
 // Its first element is evaluated; the others are not, and have to be 1 at most.

@@ -7,7 +7,8 @@ use std::test::Fail;
 /// The URI that most schemas stand under.
 pub const URI: &str = "https://ex.org/s";
 
-fn told(alloc: Global, outcome: Result<Report, Fault>) -> Result<String, Fail> {
+/// The text of the report, or the fault.
+pub fn told(alloc: Global, outcome: Result<Report, Fault>) -> Result<String, Fail> {
     match outcome {
         Ok(report) => Ok(report.into_text()),
         Err(fault) => Ok(format!(in alloc; "{fault}")?),

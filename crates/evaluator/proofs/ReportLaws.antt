@@ -1,6 +1,7 @@
 -- Laws of the answer, and of the report of it.
-use Rattle.std.proofs.Common.{◌≡◌, ◌≢◌, ◌<◌, ◌≤◌, ℕ, arith, List, [], Bool, ◌&&◌, true, false, Some, Ok, Err, refl, subst, sym, ap, ap₂, ◌∙◌, map, Result, IfOk, IfErr, OnOk}
+use Rattle.std.proofs.Common.{◌≡◌, ◌≢◌, ◌<◌, ◌≤◌, ℕ, arith, List, [], Bool, ◌&&◌, true, false, Some, Ok, Err, refl, subst, sym, ap, ap₂, ◌∙◌, map, is_some, Result, IfOk, IfErr, OnOk}
 use Rattle.std.proofs.lemmas.Bool.{le-ltb}
+use Rattle.std.proofs.lemmas.Option.{same_Some}
 use Rattle.definitions.specs.Values.{Value, same_text}
 use Rattle.definitions.specs.Faults as meaning
 use Rattle.faults.specs.declared.Fault.{Fault}
@@ -29,6 +30,7 @@ use Rattle.evaluator.specs.Logs.{log_view}
 use Rattle.evaluator.specs.Notes.{IsOver, Notes, no_notes, notes_of_both, outcome_notes}
 use Rattle.evaluator.specs.declared.report.Report.{Report}
 use Rattle.evaluator.specs.Reports.{Gives, is_valid, report_or_fault, report_text}
+use Rattle.evaluator.specs.Roots.{StandsAtRoot}
 use Rattle.evaluator.specs.Rounds.{IsAt, linked_outcome}
 use Rattle.evaluator.specs.declared.log.Log.{Log}
 use Rattle.evaluator.proofs.LogLaws.{nothing_added}
@@ -55,6 +57,20 @@ first_is_at l f s x e there = record {
   inside = (found_there (λ t. same_text (linked_uri l) t.resource && is_root t) (linked_schemas l) s e).0;
   scope = λ uri c. absurd (nothing_in uri c);
 }
+
+pub stands_at_root : (l : Linked) (f : Frame) (s : Value) (root : Schema) → resource_root (linked_schemas l) (linked_uri l) ≡ Some root → root.value ≡ s
+    → ((x : Value) → application_at (frame_standing f) s x ≡ first_application root x) → StandsAtRoot l f s
+stands_at_root l f s root e v there = record {
+  found = ap is_some e;
+  schema = λ r e'. subst (λ (t : Schema). t.value ≡ s) (same_Some root r (sym e ∙ e')) v;
+  there = λ r x e'. there x ∙ ap (λ t. first_application t x) (same_Some root r (sym e ∙ e'));
+}
+
+pub is_at_root : (l : Linked) (f : Frame) (s x : Value) (root : Schema) → StandsAtRoot l f s → resource_root (linked_schemas l) (linked_uri l) ≡ Some root
+    → IsAt l f s x (first_application root x)
+is_at_root l f s x root stands e =
+    subst (λ v. IsAt l f v x (first_application root x)) (stands.schema root e)
+    (first_is_at l f root x e (ap (λ v. application_at (frame_standing f) v x) (stands.schema root e) ∙ stands.there root x e))
 
 -- ---- what was noted from nothing on
 pub noted_first : (r : Result Bool Halt) (n older : Notes) (o : Outcome) → older ≡ no_notes → OnOk r (n ≡ notes_of_both older (outcome_notes o)) → OnOk r (n ≡ outcome_notes o)

@@ -24,6 +24,10 @@ use Rattle.evaluator.specs.declared.here.Here.{Here}
 abbrev pub Applies : Evaluation → Doc → Subject → Application → Type 0
 Applies e schema subject a = IsAt e.linked.now (context_view e.context) (value schema) (subject_value subject) a
 
+-- it is this application of the schema to the whole instance
+abbrev pub AppliesToWhole : Evaluation → Doc → Doc → Application → Type 0
+AppliesToWhole e schema instance a = IsAt e.linked.now (context_view e.context) (value schema) (value instance) a
+
 -- it is the application of what is applied here
 abbrev pub IsHere : Evaluation → Here → Application → Type 0
 IsHere e h a = Applies e h.present.now.schema.now h.subject a

@@ -11,3 +11,5 @@ pub mod Applying
 pub mod Presents
 pub mod Leaves
 pub mod Silences
+pub mod Roots
+pub mod Evaluators

@@ -1,11 +1,14 @@
 -- What a report shows.
 use Rattle.std.specs.Prelude.{◌≡◌, ◌≢◌, Bool, Result, Ok, Err, string_bytes}
-use Rattle.definitions.specs.Values.{Text}
+use Rattle.definitions.specs.Values.{Text, Value}
 use Rattle.definitions.specs.Faults.{Fault}
 use Rattle.definitions.specs.Applied.{Outcome}
-use Rattle.definitions.specs.Answers.{output_text}
+use Rattle.definitions.specs.Answers.{answer, output_text}
+use Rattle.definitions.specs.Patterns.{has_match}
 use Rattle.faults.specs.View.{fault_view}
 use Rattle.faults.specs.declared.Fault as code
+use Rattle.linker.specs.LinkedDocuments.{linked_documents, linked_uri}
+use Rattle.linker.specs.declared.linked.Linked.{Linked}
 use Rattle.evaluator.specs.declared.report.Report.{Report}
 
 abbrev pub is_valid : Report → Bool
@@ -18,6 +21,10 @@ report_text r = string_bytes r.text
 abbrev pub report_or_fault : Result Outcome Fault → Result (Bool × Text) Fault
 report_or_fault (Ok o) = Ok (o.valid, output_text o)
 report_or_fault (Err f) = Err f
+
+-- what the linked resource's root says of the instance
+abbrev pub linked_answer : Linked → Value → Result Outcome Fault
+linked_answer l x = answer has_match (linked_documents l) (linked_uri l) x
 
 -- the answer is given, want of memory aside
 abbrev pub Gives : Result Report code.Fault → Result Outcome Fault → Type 0

@@ -4,6 +4,7 @@ use Rattle.definitions.specs.Values.{Text, Value, get}
 use Rattle.definitions.specs.Keywords.{Meaning}
 use Rattle.definitions.specs.Applied as definition
 use Rattle.definitions.specs.Applied.{Application, Outcome, condition_outcome, contains_outcomes}
+use Rattle.definitions.specs.Limits.{limits}
 use Rattle.definitions.specs.Outcomes.{Use, boolean_outcome, leaf, outcome, use_of, uses_by_keyword, uses_of}
 use Rattle.linker.specs.LinkedDocuments.{linked_schemas}
 use Rattle.linker.specs.declared.linked.Linked.{Linked}
@@ -27,6 +28,10 @@ use Rattle.evaluator.specs.declared.log.Before.{Before}
 -- by the linked documents, where so many applications may nest
 abbrev pub linked_outcome : Linked → ℕ → Application → Outcome
 linked_outcome l left = outcome (linked_rules l) left
+
+-- the same, where no application is under way
+abbrev pub root_outcome : Linked → Application → Outcome
+root_outcome l a = linked_outcome l limits.nested_applications a
 
 -- the application of this schema, which is one of the linked documents', to this instance there; its scope has their resources
 pub record IsAt (l : Linked) (f : Frame) (s x : Value) (a : Application) : Type 0 where

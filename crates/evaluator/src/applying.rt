@@ -11,7 +11,7 @@ use crate::halt::Halt;
 use crate::here::Here;
 use crate::log::Log;
 use crate::memory::EvaluationMemory;
-use crate::present::Present;
+use crate::present::{KEYWORDS, Present};
 use crate::settling_object::settle_object;
 use basic_output::Says;
 use evaluation_context::Context;
@@ -19,6 +19,9 @@ use json_doc::Doc;
 use keyword_plans::{Enumerations, PlanMemory, Searches, Subject};
 use linker::Linked;
 use std::alloc::{AllocError, Global};
+
+/// How many applications may nest, the root's among them.
+const MOST_NESTED: u32 = 1000;
 
 /// An evaluation under way: the linked documents, the long `enum`s that it met in them and the patterns that it searched for,
 /// where it stands, and what it noted.
@@ -50,9 +53,35 @@ impl<'a> Evaluation<'a> {
     ghost use Rattle.json_doc.specs.Kinds.{as_boolean};
     ghost use Rattle.evaluation_context.specs.Frames.{context_view, frame_standing};
     ghost use Rattle.evaluation_context.specs.Standings.{application_at};
-    ghost use Rattle.evaluator.specs.Applying.{Adds, Applies, IsCostly, object_said};
+    ghost use Rattle.evaluator.specs.Applying.{Adds, Applies, AppliesToWhole, IsCostly, object_said};
     ghost use Rattle.evaluator.specs.Notes.{outcome_notes};
-    ghost use Rattle.evaluator.specs.Rounds.{boolean_at, linked_outcome};
+    ghost use Rattle.evaluator.specs.Rounds.{boolean_at, linked_outcome, root_outcome};
+
+    /// At this place, with what is noted so far. No keyword has been evaluated yet.
+    #[inline(always)]
+    pub(crate) fn new(
+        alloc: Global,
+        linked: &'a Linked,
+        context: Context<'a>,
+        log: Log<'a>,
+    ) -> Evaluation<'a>
+        requires followed { scope_documents context.scope ≡ linked }
+        ensures linked { result.linked ≡ linked.entry }
+        ensures place { result.context ≡ context.entry }
+        ensures noted { result.log ≡ log.entry }
+    {
+        Evaluation {
+            alloc,
+            linked,
+            enumerations: Enumerations::new(alloc, linked),
+            searches: Searches::new(alloc, linked),
+            context,
+            log,
+            plans: PlanMemory::new(alloc),
+            passing: None,
+            last_passed: true,
+        }
+    }
 
     /// The memory that it worked in, for the next evaluation.
     pub(crate) fn into_memory(self) -> EvaluationMemory {
@@ -66,6 +95,25 @@ impl<'a> Evaluation<'a> {
             log: log.into_memory(),
             context: context.into_memory(alloc),
         }
+    }
+
+    /// Applies the schema, which is the linked resource's root where the evaluation stands there, to the whole instance.
+    #[inline(always)]
+    pub(crate) fn apply_root(&mut self, schema: &'a Doc, instance: &'a Doc) -> Result<bool, Halt>
+        ensures linked { self.new.linked ≡ self.old.linked }
+        ensures back { OnOk result (context_view self.new.context ≡ context_view self.old.context) }
+        ensures valid { (a : Application) → AppliesToWhole self.old schema.now instance.now a
+            → IfOk result (λ b. b ≡ (root_outcome self.old.linked.now a).valid) }
+        ensures noted { (a : Application) → AppliesToWhole self.old schema.now instance.now a
+            → OnOk result (Adds self.old self.new (outcome_notes
+            (root_outcome self.old.linked.now a))) }
+        ensures err { (a : Application) → AppliesToWhole self.old schema.now instance.now a
+            → IfErr result (λ f. IsCostly f self.old (outcome_notes
+            (root_outcome self.old.linked.now a))) }
+    {
+        let mut positions = [0; KEYWORDS];
+        let present = Present::of(schema, &mut positions);
+        self.apply(&present, Subject::Value(instance), MOST_NESTED)
     }
 
     /// Applies a schema to what stands here. Where there were as many applications as there may be, it is Costly.

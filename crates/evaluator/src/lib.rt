@@ -8,6 +8,7 @@ mod applying;
 mod asserting;
 mod beside;
 mod dollar_names;
+mod evaluator;
 mod groups;
 mod halt;
 mod here;
@@ -23,6 +24,7 @@ mod settling;
 mod settling_object;
 mod silent;
 
+pub use evaluator::Evaluator;
 pub use faults::Fault;
 pub use memory::EvaluationMemory;
 pub use report::{Report, evaluate, evaluate_with};

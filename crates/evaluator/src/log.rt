@@ -132,6 +132,18 @@ impl<'a> Log<'a> {
         }
     }
 
+    /// Nothing any more. Memory is kept, that of the texts of units as [`Log::into_memory`] keeps it.
+    pub(crate) fn clear(&mut self)
+        ensures { log_view self.new ≡ no_notes }
+    {
+        self.units.clear();
+        self.names.clear();
+        self.indexes.clear();
+        self.count = 0;
+        self.looped = false;
+        self.deep = false;
+    }
+
     /// All that there is.
     pub(crate) fn mark(&self) -> LogMark
         ensures { mark_view result ≡ lengths (log_view self.now) }

@@ -19,18 +19,13 @@ use crate::applying::Evaluation;
 use crate::halt::Halt;
 use crate::log::Log;
 use crate::memory::EvaluationMemory;
-use crate::present::{KEYWORDS, Present};
 use basic_output::output_text;
 use evaluation_context::Context;
 use faults::Fault;
 use json_doc::Doc;
-use keyword_plans::{Enumerations, PlanMemory, Searches, Subject};
 use linker::Linked;
 use std::alloc::Global;
 use std::mem::replace;
-
-/// How many applications may nest, the root's among them.
-const MOST_NESTED: u32 = 1000;
 
 /// What a schema says of an instance: whether it is valid, and the basic output (JSON Schema 2020-12 Core, 12.4.2).
 #[derive(Debug, Drop)]
@@ -107,30 +102,23 @@ pub fn evaluate_with<'a>(
         → Gives result (answer has_match G (linked_uri linked.now) (value instance.now)) }
 {
     let root = linked.root(alloc);
-    let mut positions = [0; KEYWORDS];
-    let present = Present::of(root.schema, &mut positions);
+    let schema = root.schema;
     let EvaluationMemory { log, context } = replace(memory, EvaluationMemory::new(alloc));
     let context = Context::new(alloc, linked, root, context)?;
     let log = Log::within(alloc, log)?;
-    let mut evaluation = Evaluation {
-        alloc,
-        linked,
-        enumerations: Enumerations::new(alloc, linked),
-        searches: Searches::new(alloc, linked),
-        context,
-        log,
-        plans: PlanMemory::new(alloc),
-        passing: None,
-        last_passed: true,
-    };
-    let passed = evaluation.apply(&present, Subject::Value(instance), MOST_NESTED);
+    let mut evaluation = Evaluation::new(alloc, linked, context, log);
+    let passed = evaluation.apply_root(schema, instance);
     let report = reported(alloc, passed, &evaluation.log);
     *memory = evaluation.into_memory();
     report
 }
 
 // The report of what was noted.
-fn reported(alloc: Global, passed: Result<bool, Halt>, log: &Log<'_>) -> Result<Report, Fault>
+pub(crate) fn reported(
+    alloc: Global,
+    passed: Result<bool, Halt>,
+    log: &Log<'_>,
+) -> Result<Report, Fault>
     ensures { (o : Outcome) → IfOk passed (λ b. b ≡ o.valid)
         → OnOk passed (log_view log.now ≡ outcome_notes o)
         → IfErr passed (λ h. h ≢ Halt.NoRoom → (h ≡ Halt.Costly) × (limits.applications < o.count))

@@ -23,7 +23,7 @@ CALLS = b"""{"before":[["put","https://ex.org/s",{"type":"null"}]],
 NO_CALL = b'{"before":[["get","https://ex.org/s"]],"repeat":[]}'
 STREAM = b"GET /bundle?uri=https://ex.org/s HTTP/1.1\r\n\r\n"
 
-USAGE = b"usage: benchmark syntax|read|compile|validate|check|ask TIMES, benchmark feed SIZE"
+USAGE = b"usage: benchmark syntax|read|compile|validate|evaluate|check|ask TIMES, benchmark feed SIZE"
 
 # A name, the words, standard input, the status, and a part of what is printed: of standard output, all of it.
 CASES = [
@@ -31,8 +31,10 @@ CASES = [
     ("reads", ["read", "3"], VALID, 0, b"3\n"),
     ("compiles", ["compile", "3"], VALID, 0, b"3\n"),
     ("validates", ["validate", "3"], VALID, 0, b"3\n"),
+    ("evaluates", ["evaluate", "3"], VALID, 0, b"3\n"),
     ("checks", ["check", "3"], VALID, 0, b"3\n"),
     ("validates what is invalid", ["validate", "3"], INVALID, 0, b"0\n"),
+    ("evaluates what is invalid", ["evaluate", "3"], INVALID, 0, b"0\n"),
     ("checks what is invalid", ["check", "3"], INVALID, 0, b"0\n"),
     ("counts replies that are no refusals", ["ask", "3"], CALLS, 0, b"12\n"),
     ("asks nothing", ["ask", "0"], CALLS, 0, b"0\n"),

@@ -119,7 +119,7 @@ class Bench:
             row["valid"] = self.took("validate", it.name, 1)[1] == 1
             for part in PARTS:
                 row[part] = self.turn(part, it.name)
-            for part in ("syntax", "read", "validate"):
+            for part in ("syntax", "read", "validate", "evaluate"):
                 row[f"{part} instructions"] = self.instructions(part, it.name)
             return row
         finally:
@@ -172,6 +172,7 @@ def workload_row(name, row):
         ratio(validate, read),
         rate(row["check"]),
         amount(counted),
+        amount(row["evaluate instructions"]),
         ratio(counted, alone),
         ratio(road, bare),
     ]
@@ -187,7 +188,8 @@ HEAD = [
     "Validate to read",
     "Whole checks a second",
     "Instructions to validate",
-    "To those to read",
+    "By one evaluator",
+    "Validate to read, by instructions",
     "Both to those to test the syntax",
 ]
 

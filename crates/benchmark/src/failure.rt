@@ -18,7 +18,7 @@ impl fmt::Display for Failure {
     fn fmt<W: fmt::Write>(&self, f: &mut fmt::Formatter<W>) -> fmt::Result {
         match self {
             Failure::Words => f.write_str(
-                "usage: benchmark syntax|read|compile|validate|check|ask TIMES, benchmark feed SIZE",
+                "usage: benchmark syntax|read|compile|validate|evaluate|check|ask TIMES, benchmark feed SIZE",
             ),
             Failure::Unmoved => f.write_str("cannot read or write"),
             Failure::Refused(fault) => write!(f, "refused: {fault}"),

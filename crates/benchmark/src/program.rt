@@ -4,7 +4,7 @@ use crate::asking::repeat_calls;
 use crate::failure::Failure;
 use crate::feeding::feed_pieces;
 use crate::repeating::{
-    linked, repeat_check, repeat_evaluate, repeat_link, repeat_read, repeat_syntax,
+    linked, repeat_check, repeat_evaluate, repeat_link, repeat_read, repeat_syntax, repeat_validate,
 };
 use crate::workload::{Workload, named};
 use checks::DEFAULT_URI;
@@ -103,12 +103,11 @@ fn count_of_check(
     if workload == Workload::Compile {
         return repeat_link(alloc, base.as_str(), schema, times);
     }
-    repeat_evaluate(
-        alloc,
-        &linked(alloc, base.as_str(), schema)?,
-        instance,
-        times,
-    )
+    let linked = linked(alloc, base.as_str(), schema)?;
+    if workload == Workload::Evaluate {
+        return repeat_evaluate(alloc, &linked, instance, times);
+    }
+    repeat_validate(alloc, &linked, instance, times)
 }
 
 fn member<'a>(input: &'a Doc, name: &str) -> Result<&'a Doc, Fault> {

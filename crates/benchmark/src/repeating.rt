@@ -10,7 +10,7 @@ ghost use Rattle.linker.specs.LinkedDocuments.{linked_documents, linked_uri};
 ghost use Rattle.benchmark.specs.Counts.{valid_count};
 
 use checks::check_input;
-use evaluator::Evaluator;
+use evaluator::{EvaluationMemory, Evaluator, evaluate_with};
 use faults::Fault;
 use json::is_valid;
 use json_doc::{Doc, Scratch, read_with};
@@ -65,7 +65,29 @@ pub fn repeat_link(alloc: Global, base: &str, schema: &Doc, times: u32) -> Resul
     Ok(times)
 }
 
-/// Evaluates the instance so often, up to the text of the output, by one evaluator, and answers how often it was valid.
+/// Evaluates the instance so often, up to the text of the output, in memory that is kept from one turn to the next, and answers
+/// how often it was valid.
+pub fn repeat_validate(
+    alloc: Global,
+    linked: &Linked,
+    instance: &Doc,
+    times: u32,
+) -> Result<u32, Fault>
+    ensures { IfOk result (λ count. count ≡ valid_count (report_or_fault (answer has_match
+        (linked_documents linked.now) (linked_uri linked.now) (value instance.now))) times) }
+{
+    let mut memory = EvaluationMemory::new(alloc);
+    let mut valid = 0;
+    for _ in 0..times {
+        let said = evaluate_with(alloc, linked, instance, &mut memory)?;
+        if said.valid() {
+            valid += 1;
+        }
+    }
+    Ok(valid)
+}
+
+/// The same by one evaluator.
 pub fn repeat_evaluate(
     alloc: Global,
     linked: &Linked,
@@ -78,8 +100,7 @@ pub fn repeat_evaluate(
     let mut evaluator = Evaluator::new(alloc, linked)?;
     let mut valid = 0;
     for _ in 0..times {
-        let said = evaluator.evaluate(instance)?;
-        if said.valid() {
+        if evaluator.evaluate(instance)?.valid() {
             valid += 1;
         }
     }

@@ -9,8 +9,10 @@ pub enum Workload {
     Read,
     /// The schema is scanned, compiled and linked.
     Compile,
-    /// The instance is evaluated by the linked schema, up to the text of the output.
+    /// The instance is evaluated by the linked schema, up to the text of the output, as a hub does it for each request.
     Validate,
+    /// The same by one evaluator, which stays from one turn to the next.
+    Evaluate,
     /// All of it, from the text that holds the schema and the instance.
     Check,
     /// A tenant's requests are answered.
@@ -26,6 +28,7 @@ pub fn named(name: &str) -> Option<Workload> {
         "read" => Some(Workload::Read),
         "compile" => Some(Workload::Compile),
         "validate" => Some(Workload::Validate),
+        "evaluate" => Some(Workload::Evaluate),
         "check" => Some(Workload::Check),
         "ask" => Some(Workload::Ask),
         "feed" => Some(Workload::Feed),

@@ -57,6 +57,7 @@ impl<'a> Context<'a> {
 
     /// Where the first application stands, of a schema to the whole instance: its locations are written in memory that was kept.
     /// The only error is want of memory.
+    #[inline(always)]
     pub fn new(
         alloc: Global,
         linked: &'a Linked,

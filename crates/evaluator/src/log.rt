@@ -99,6 +99,7 @@ impl<'a> Log<'a> {
 
     /// Nothing yet. What is noted takes memory from `alloc`, and indexes and texts of units where they find too little in what was
     /// kept. The only error is want of memory.
+    #[inline(always)]
     pub(crate) fn within(alloc: Global, memory: LogMemory) -> Result<Log<'a>, AllocError>
         ensures { IfOk result (λ log. log_view log ≡ no_notes) }
     {

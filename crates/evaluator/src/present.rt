@@ -44,7 +44,7 @@ pub(crate) struct Present<'s, 'a> {
 }
 
 impl<'s, 'a> Present<'s, 'a> {
-    /// What this schema has.
+    /// What this schema has. Where its keywords stand is noted in the positions that are lent.
     #[inline(always)]
     pub(crate) fn of(schema: &'a Doc, positions: &'s mut [u8; KEYWORDS]) -> Present<'s, 'a>
         ensures { result.schema.now ≡ schema.now }
@@ -164,6 +164,8 @@ fn marks_of(members: &Members, positions: &mut [u8; KEYWORDS]) -> u64
     }
 }
 
+// Positions are noted from the start of the part that a keyword stands in, so that a value behind the names that are passed over
+// is searched for.
 fn marks_of_many(members: &Members, positions: &mut [u8; KEYWORDS]) -> u64
     ensures { (i : ℕ) → bit_at result i ≡ 0
         → list_any (has_mark i) (members_value members.now) ≡ false }

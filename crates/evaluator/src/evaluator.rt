@@ -104,6 +104,15 @@ impl<'a> Evaluator<'a> {
         if self.is_at_root {
             return Ok(());
         }
+        self.begin_anew()
+    }
+
+    // Called apart: what it makes would stand in memory that each evaluation clears.
+    #[inline(never)]
+    fn begin_anew(&mut self) -> Result<(), AllocError>
+        ensures same { evaluator_linked self.new ≡ evaluator_linked self.old }
+        ensures there { OnOk result (self.new.is_at_root ≡ true) }
+    {
         *self = Evaluator::at_root(self.evaluation.alloc, self.evaluation.linked)?;
         Ok(())
     }

@@ -1,6 +1,6 @@
-"""Two workloads of `run.py` with large schemas: a schema of schemas, and the schema of descriptions of interfaces."""
+"""Workloads of `run.py` with large schemas: a schema of schemas, and two of descriptions of interfaces."""
 
-from workloads import contact, order
+from workloads import compact, contact, order
 
 # ---- a schema of schemas: eight resources, each of which a schema may be extended by
 
@@ -227,6 +227,88 @@ def api_description():
         if name != "callbacks":
             definitions[name]["not"] = {"required": ["$ref"]}
     return {"$id": "https://example.com/api", "$ref": "#/$defs/description", "$defs": definitions}, described_interface(28)
+
+
+# Patterns of members' names, as the schemas of such descriptions have them: a string of JSON escapes the backslashes.
+PATH = "^\\/"
+EXTENSION = "^x-"
+COMPONENT = "^[a-zA-Z0-9\\.\\-_]+$"
+STATUS = "^[1-5](?:\\d{2}|XX)$"
+REFERENCE = "^\\$ref$"
+
+
+def or_reference(name):
+    return {"oneOf": [one("reference"), one(name)]}
+
+
+def kind_with_extensions(name):
+    return {
+        "type": "object",
+        "required": REQUIRED.get(name, []),
+        "properties": KINDS[name],
+        "patternProperties": {EXTENSION: {}},
+        "additionalProperties": False,
+    }
+
+
+def by_names(schema):
+    return {"type": "object", "patternProperties": {COMPONENT: schema}}
+
+
+def api_description_by_patterns():
+    """A description of some 26 KB, by a schema whose patterns of names a string of JSON escapes, four levels deep."""
+    schema = {
+        "type": "object",
+        "properties": {
+            "type": TEXT,
+            "maximum": {"type": "number"},
+            "properties": by_names({"oneOf": [one("reference"), one("schema")]}),
+        },
+        "patternProperties": {EXTENSION: {}},
+        "additionalProperties": False,
+    }
+    definitions = {
+        **{name: kind_with_extensions(name) for name in KINDS},
+        "reference": {"type": "object", "required": ["$ref"], "patternProperties": {REFERENCE: ADDRESS_TEXT}},
+        "schema": or_reference("written-schema"),
+        "written-schema": schema,
+        "content": {"type": "object", "additionalProperties": one("media-type")},
+        "security-requirement": by_names(one("scopes")),
+        "scopes": {"type": "array", "items": TEXT},
+        "paths": {
+            "type": "object",
+            "patternProperties": {PATH: one("path-item"), EXTENSION: {}},
+            "additionalProperties": False,
+        },
+        "responses": {
+            "type": "object",
+            "properties": {"default": or_reference("response")},
+            "patternProperties": {STATUS: or_reference("response"), EXTENSION: {}},
+            "minProperties": 1,
+            "additionalProperties": False,
+        },
+        "callbacks": {"type": "object", "patternProperties": {PATH: one("path-item")}},
+    }
+    for name in ("server", "tag", "security-requirement"):
+        definitions[f"list-of-{name}"] = {"type": "array", "items": one(name)}
+    definitions["list-of-parameter-or-reference"] = {"type": "array", "items": or_reference("parameter")}
+    for name in REPLACEABLE:
+        definitions[f"{name}-or-reference"] = or_reference(name)
+        definitions[f"map-of-{name}-or-reference"] = by_names(or_reference(name))
+    for name in ("path-item", "server-variable", "schema", "encoding", "scopes"):
+        definitions[f"map-of-{name}"] = by_names(one(name))
+    root = {"$id": "https://example.com/api/3.0", **kind_with_extensions("description"), "$defs": definitions}
+    return root, explained(described_interface(13), 26_000)
+
+
+def explained(interface, size):
+    """The interface with texts that tell of each operation, so long that it has some so many bytes."""
+    operations = [path[method] for path in interface["paths"].values() for method in ("get", "post")]
+    each = (size - len(compact(interface))) // len(operations) - len(compact({"description": ""}))
+    told = "What it does, whom it is for, and what comes back. " * (each // 50 + 1)
+    for operation in operations:
+        operation["description"] = told[:each].rstrip()
+    return interface
 
 
 def described_interface(count):

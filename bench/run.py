@@ -31,7 +31,7 @@ import tempfile
 from pathlib import Path
 
 import workloads as made
-from large_schemas import api_description, schema_of_schemas
+from large_schemas import api_description, api_description_by_patterns, schema_of_schemas
 from workloads import compact
 
 TOP = Path(__file__).resolve().parent.parent
@@ -51,6 +51,9 @@ WORKLOADS = {
     "failing": lambda: made.failing(2_000),
     "schema of schemas": schema_of_schemas,
     "API description": api_description,
+    "API by patterns": api_description_by_patterns,
+    "names with escapes": lambda: made.names(True),
+    "plain names": lambda: made.names(False),
 }
 
 # The same workload at growing sizes.

@@ -203,3 +203,30 @@ def failing(count):
         "items": {"required": ["name"], "properties": {"count": {"type": "integer", "minimum": 1}}},
     }
     return schema, [{"count": 0, "size": number} for number in range(count)]
+
+
+# Names with quotation marks, backslashes, tabs and letters of other scripts, and as many plain ones of as many bytes.
+ESCAPED_NAMES = (
+    'called "Ada"', "C:\\orders\\1", "tab\there\tand", "Größe in cm", "数量と値段", "Цена за шт", 'the "last" \\', "\u0001 of 2 \U0001d54f",
+)
+
+
+def plain_name(name):
+    """As many bytes, each of which stands as it is."""
+    return "".join(chr(97 + byte % 26) for byte in name.encode())
+
+
+def names(escaped):
+    """Objects of objects, whose names a string of JSON escapes, or plain ones."""
+    held = [name if escaped else plain_name(name) for name in ESCAPED_NAMES]
+    schema = {
+        "type": "array",
+        "items": {
+            "additionalProperties": {
+                "title": "a part",
+                "additionalProperties": {"type": "integer", "description": "how many there are of it"},
+            },
+        },
+    }
+    part = {name: number for number, name in enumerate(held)}
+    return schema, [{name: part for name in held}] * 60

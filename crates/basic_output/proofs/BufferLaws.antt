@@ -8,7 +8,7 @@ use Rattle.std.specs.Str.{IsCharBoundary, IsUtf8, is_utf8}
 use Rattle.definitions.specs.Values.{Text}
 use Rattle.basic_output.specs.Buffers.{buffer_text}
 use Rattle.basic_output.specs.WrittenOver.{IsWrittenOver}
-use Rattle.basic_output.specs.declared.text_buffer.TextBuffer.{TextBuffer}
+use Rattle.basic_output.specs.declared.unit_text.buffer.TextBuffer.{TextBuffer}
 
 pub whole_buffer : (b : TextBuffer) → IsUtf8 (buffer_text b)
 unfolding buffer_text

@@ -1,4 +1,5 @@
 pub mod PlainLaws
+pub mod EscapeLaws
 pub mod KeywordNames
 pub mod PieceLaws
 pub mod OutputTexts
@@ -10,4 +11,3 @@ pub mod SpanLaws
 pub mod UnitLaws
 pub mod BufferLaws
 pub mod Written
-pub mod UnescapedLaws

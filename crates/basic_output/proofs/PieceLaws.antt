@@ -1,9 +1,7 @@
 -- The pieces are the definitions' text.
 use Rattle.std.proofs.Common.{◌≡◌, Bool, true, false, Result, Ok, Err, OnOk, List, [], ◌∷◌, ◌++◌, codes, map, pos, ℕ, refl, sym, ap, ap₂, ◌∙◌, append_assoc}
-use Rattle.std.proofs.lemmas.Bool.{and_parts}
-use Rattle.std.specs.List.{list_all}
 use Rattle.std.specs.Prelude.{if◌then◌else◌, is_ok}
-use Rattle.json.specs.Print.{escape_byte}
+use Rattle.json.specs.Print.{escape, escape_byte}
 use Rattle.serde_json.specs.Written.{items_text}
 use Rattle.definitions.specs.Answers.{unit_value, units_value}
 use Rattle.definitions.specs.Applied.{OutputUnit}
@@ -12,17 +10,12 @@ use Rattle.definitions.specs.Values.{Text, Value, array, integer, string, to_ele
 use Rattle.json_doc.specs.NamedMembers.{name_text}
 use Rattle.json_doc.specs.declared.named_members.Name.{Name}
 use Rattle.basic_output.specs.Outputs.{units_output}
-use Rattle.basic_output.specs.Pieces.{array_text, is_unescaped, kind, later_names, later_texts, list_key, names_text, plain_names_text, unit_text, valid_member}
-use Rattle.basic_output.proofs.PlainLaws.{as_it_is}
+use Rattle.basic_output.specs.Pieces.{array_text, kind, later_names, later_texts, list_key, names_text, unit_text, valid_member}
 
 -- what a text becomes where a piece is appended last
 pub pushed : {T E : Type 0} {P : Type 0} (r : Result T E) (new a b : Text) → new ≡ (if is_ok r then a else b) → (new ≡ a → P) → OnOk r P
 pushed (Ok x) new a b e f = f e
 pushed (Err x) new a b e f = tt
-
-pub regrouped : (a b c d e : Text) → (a ++ (b ++ (c ++ d))) ++ e ≡ a ++ (b ++ (c ++ (d ++ e)))
-regrouped a b c d e =
-    append_assoc a (b ++ (c ++ d)) e ∙ ap (λ r. a ++ r) (append_assoc b (c ++ d) e ∙ ap (λ r. b ++ r) (append_assoc c d e))
 
 later_items : (vs : List Value) → items_text true (items_of (to_elements vs)) ≡ later_texts (map text vs) ++ 93 ∷ []
 later_items [] = refl
@@ -37,7 +30,7 @@ name_texts : (names : List Name) → map text (map string (map name_text names))
 name_texts [] = refl
 name_texts (n ∷ ns) = ap (λ ts. text (string (name_text n)) ∷ ts) (name_texts ns)
 
-pub names_pieces : (names : List Name) → names_text (map name_text names) ≡ array_text (map (λ name. text (string (name_text name))) names)
+names_pieces : (names : List Name) → names_text (map name_text names) ≡ array_text (map (λ name. text (string (name_text name))) names)
 names_pieces names = array_pieces (map string (map name_text names)) ∙ ap array_text (name_texts names)
 
 index_texts : (indexes : List ℕ) → map text (map (λ index. integer (pos index)) indexes) ≡ map (λ index. text (integer (pos index))) indexes
@@ -69,27 +62,19 @@ unfolding escape_byte
 output_pieces true us = ap (λ t. list_key true ++ (t ++ valid_member true)) (units_pieces true us)
 output_pieces false us = ap (λ t. list_key false ++ (t ++ valid_member false)) (units_pieces false us)
 
--- ---- names that stand in strings as they are
-later_plain : (names : List Name) → list_all (λ name. list_all is_unescaped (name_text name)) names ≡ true
-    → 34 ∷ (later_texts (map (λ name. text (string (name_text name))) names) ++ 93 ∷ []) ≡ later_names (map name_text names) ++ codes "\"]"
-later_plain [] h = refl
-later_plain (n ∷ ns) h =
-    let both = and_parts (list_all is_unescaped (name_text n)) (list_all (λ name. list_all is_unescaped (name_text name)) ns) h in
+-- ---- a list of names
+later_escaped : (names : List Name) → 34 ∷ (later_texts (map (λ name. text (string (name_text name))) names) ++ 93 ∷ []) ≡ later_names (map name_text names) ++ codes "\"]"
+later_escaped [] = refl
+later_escaped (n ∷ ns) =
+    let name = escape (name_text n) in
     let rest = later_texts (map (λ name. text (string (name_text name))) ns) in
-    ap (λ q. 34 ∷ 44 ∷ ((q ++ rest) ++ 93 ∷ [])) (as_it_is (name_text n) both.0)
-    ∙ ap (λ t. 34 ∷ 44 ∷ 34 ∷ t) (append_assoc (name_text n ++ 34 ∷ []) rest (93 ∷ []) ∙ append_assoc (name_text n) (34 ∷ []) (rest ++ 93 ∷ []) ∙ ap (λ t. name_text n ++ t) (later_plain ns both.1))
-    ∙ ap (λ t. 34 ∷ 44 ∷ 34 ∷ t) (sym (append_assoc (name_text n) (later_names (map name_text ns)) (codes "\"]")))
+    ap (λ t. 34 ∷ 44 ∷ 34 ∷ t) (append_assoc (name ++ 34 ∷ []) rest (93 ∷ []) ∙ append_assoc name (34 ∷ []) (rest ++ 93 ∷ []) ∙ ap (λ t. name ++ t) (later_escaped ns))
+    ∙ ap (λ t. 34 ∷ 44 ∷ 34 ∷ t) (sym (append_assoc name (later_names (map name_text ns)) (codes "\"]")))
 
-plain_names : (n : Name) (ns : List Name) → list_all (λ name. list_all is_unescaped (name_text name)) (n ∷ ns) ≡ true
-    → plain_names_text (name_text n) (map name_text ns) ≡ array_text (map (λ name. text (string (name_text name))) (n ∷ ns))
-plain_names n ns h =
-    let both = and_parts (list_all is_unescaped (name_text n)) (list_all (λ name. list_all is_unescaped (name_text name)) ns) h in
-    let rest = later_texts (map (λ name. text (string (name_text name))) ns) in
-    sym (ap (λ q. 91 ∷ (q ++ (rest ++ 93 ∷ []))) (as_it_is (name_text n) both.0)
-    ∙ ap (λ t. 91 ∷ 34 ∷ t) (append_assoc (name_text n) (34 ∷ []) (rest ++ 93 ∷ []) ∙ ap (λ t. name_text n ++ t) (later_plain ns both.1)))
-
--- the text of the list
-pub listed : (names : List Name) (first : Name) (rest : List Name) → names ≡ first ∷ rest → list_all (λ name. list_all is_unescaped (name_text name)) (first ∷ rest) ≡ true
-    → plain_names_text (name_text first) (map name_text rest) ≡ names_text (map name_text names)
-listed names first rest are plain =
-    plain_names first rest plain ∙ ap (λ ns. array_text (map (λ name. text (string (name_text name))) ns)) (sym are) ∙ sym (names_pieces names)
+pub listed : (names : List Name) (first : Name) (rest : List Name) → names ≡ first ∷ rest
+    → codes "[\"" ++ (escape (name_text first) ++ (later_names (map name_text rest) ++ codes "\"]")) ≡ names_text (map name_text names)
+listed names first rest are =
+    let name = escape (name_text first) in
+    let later = later_texts (map (λ name. text (string (name_text name))) rest) in
+    sym (names_pieces (first ∷ rest) ∙ ap (λ t. 91 ∷ 34 ∷ t) (append_assoc name (34 ∷ []) (later ++ 93 ∷ []) ∙ ap (λ t. name ++ t) (later_escaped rest)))
+    ∙ ap (λ ns. names_text (map name_text ns)) (sym are)

@@ -2,21 +2,21 @@
 use Rattle.std.proofs.Common.{◌≡◌, ◌<◌, ◌≤◌, ◌^◌, ◌/◌, ◌%◌, ◌==◌, ◌&&◌, ◌||◌, ℕ, Bool, true, false, not, cond, List, [], ◌∷◌, ◌++◌, codes, decimal, flat_map, refl, sym, ap, ap₂, ◌∙◌, arith, append_assoc, append-nil}
 use Rattle.std.proofs.lemmas.Bool.{agree_below_at, and_parts, eqb-false, leb-true, le-leb, not-true}
 use Rattle.std.proofs.lemmas.Fmt.{decimal_is_IsNumeral}
-use Rattle.std.proofs.lemmas.List.Folds.{list_all-append, list_all-map}
+use Rattle.std.proofs.lemmas.List.Folds.{list_all-append}
 use Rattle.std.proofs.lemmas.Slice.Eq.{bytes_eq-Decides}
 use Rattle.std.proofs.lemmas.Str.Parse.{digit_from_value}
 use Rattle.std.specs.Str.Parse.{AllDigits}
 use Rattle.std.specs.List.{list_all}
 use Rattle.std.specs.Prelude.{nat_le}
-use Rattle.json.specs.Print.{escape_byte, quoted}
+use Rattle.json.specs.Print.{escape, escape_byte, quoted}
 use Rattle.json.proofs.Printed.Strings.{escape_byte_plain}
 use Rattle.definitions.specs.Bytes.{is_capital, is_small}
 use Rattle.definitions.specs.Pointers.{escaped_byte, fragment_text, hex_digit, is_fragment_byte, percent_encoded_text, pointer_text}
 use Rattle.definitions.specs.Values.{Text, same_text}
 use Rattle.std.proofs.lemmas.Grind.{flat_map-append}
-use Rattle.locations.specs.Steps.{token, tokens}
-use Rattle.locations.specs.declared.step.Step.{Step}
-use Rattle.basic_output.specs.Notes.{IsNoted}
+use Rattle.basic_output.specs.Notations.{IsPushed, kept_text, notation_text, stands_in_pointer}
+use Rattle.basic_output.specs.declared.unit_text.step_texts.Notation.{Notation}
+use Rattle.basic_output.specs.declared.unit_text.step_texts.Notation.TheVariants as notation
 use Rattle.basic_output.specs.Pieces.{are_plain, is_plain, is_unescaped, plain_text}
 
 -- what stands for each byte of a text is the byte itself
@@ -33,8 +33,11 @@ unescaped_byte x h =
     let q = and_parts (not (x == 34)) (not (x == 92)) p.1 in
     escape_byte_plain x (eqb-false x 34 (not-true (x == 34) q.0)) (eqb-false x 92 (not-true (x == 92) q.1)) (leb-true 32 x p.0)
 
+pub escape_same : (t : Text) → list_all is_unescaped t ≡ true → escape t ≡ t
+escape_same = kept escape_byte is_unescaped unescaped_byte
+
 pub as_it_is : (t : Text) → list_all is_unescaped t ≡ true → quoted t ≡ 34 ∷ (t ++ 34 ∷ [])
-as_it_is t h = ap (λ s. 34 ∷ (s ++ 34 ∷ [])) (kept escape_byte is_unescaped unescaped_byte t h)
+as_it_is t h = ap (λ s. 34 ∷ (s ++ 34 ∷ [])) (escape_same t h)
 
 pub all_of_both : (p : ℕ → Bool) (xs ys : Text) → list_all p xs ≡ true → list_all p ys ≡ true → list_all p (xs ++ ys) ≡ true
 all_of_both p xs ys h g = list_all-append p xs ys ∙ ap₂ (λ a b. a && b) h g
@@ -109,47 +112,46 @@ pointer_append ts us = flat_map-append (λ token. 47 ∷ flat_map escaped_byte t
 pub fragment_append : (ts us : List Text) → fragment_text (ts ++ us) ≡ fragment_text ts ++ fragment_text us
 fragment_append ts us = ap percent_encoded_text (pointer_append ts us) ∙ flat_map-append percent_byte (pointer_text ts) (pointer_text us)
 
-pub pointer_led : (t : Text) (ts : List Text) → (rest : Text) × (pointer_text (t ∷ ts) ≡ 47 ∷ rest)
-pointer_led t ts = (flat_map escaped_byte t ++ pointer_text ts, refl)
+-- ---- as they stand in the output
+notation_append : (n : Notation) (ts us : List Text) → notation_text n (ts ++ us) ≡ notation_text n ts ++ notation_text n us
+notation_append notation.Pointer ts us = pointer_append ts us
+notation_append notation.Fragment ts us = fragment_append ts us
 
-plain_one : (t : Text) → list_all is_plain t ≡ true → ArePlain (t ∷ [])
-plain_one t h = ap (λ b. b && true) h
+pub kept_append : (n : Notation) (ts us : List Text) → kept_text n (ts ++ us) ≡ kept_text n ts ++ kept_text n us
+kept_append n ts us = ap escape (notation_append n ts us) ∙ flat_map-append escape_byte (notation_text n ts) (notation_text n us)
 
-pub plain_noted : (t : Text) → list_all is_plain t ≡ true → pointer_text (t ∷ []) ≡ 47 ∷ t
-plain_noted t h = plain_pointer (t ∷ []) (plain_one t h) ∙ append-nil (47 ∷ t)
+pub kept_none : (n : Notation) → kept_text n [] ≡ []
+kept_none notation.Pointer = refl
+kept_none notation.Fragment = refl
 
-pub plain_step_fragment : (t : Text) → list_all is_plain t ≡ true → fragment_text (t ∷ []) ≡ 47 ∷ t
-plain_step_fragment t h = plain_fragment (t ∷ []) (plain_one t h) ∙ append-nil (47 ∷ t)
+pub kept_led : (n : Notation) (t : Text) (ts : List Text) → (rest : Text) × (kept_text n (t ∷ ts) ≡ 47 ∷ rest)
+unfolding escape_byte
+kept_led notation.Pointer t ts = (escape (flat_map escaped_byte t ++ pointer_text ts), refl)
+kept_led notation.Fragment t ts = (escape (percent_encoded_text (flat_map escaped_byte t ++ pointer_text ts)), refl)
 
-pub plain_text_unescaped : (ts : List Text) → ArePlain ts → list_all is_unescaped (plain_text ts) ≡ true
-plain_text_unescaped = all_pass is_unescaped refl (λ x e. (plain x e).in_string)
+notation_plain : (n : Notation) (ts : List Text) → ArePlain ts → notation_text n ts ≡ plain_text ts
+notation_plain notation.Pointer ts h = plain_pointer ts h
+notation_plain notation.Fragment ts h = plain_fragment ts h
 
--- ---- a pointer of which a string of JSON escapes nothing
-escaped_by : (b d : Bool) (x : ℕ) → is_unescaped x ≡ true → list_all is_unescaped (cond b (126 ∷ 48 ∷ []) (cond d (126 ∷ 49 ∷ []) (x ∷ []))) ≡ true
-escaped_by true d x h = refl
-escaped_by false true x h = refl
-escaped_by false false x h = rw h refl
+pub plain_kept : (n : Notation) (ts : List Text) → ArePlain ts → kept_text n ts ≡ plain_text ts
+plain_kept n ts h = ap escape (notation_plain n ts h) ∙ escape_same (plain_text ts) (all_pass is_unescaped refl (λ x e. (plain x e).in_string) ts h)
 
-escaped_unescaped : (t : Text) → list_all is_unescaped t ≡ true → list_all is_unescaped (flat_map escaped_byte t) ≡ true
-escaped_unescaped [] h = refl
-escaped_unescaped (x ∷ xs) h =
-    let q = and_parts (is_unescaped x) (list_all is_unescaped xs) h in
-    all_of_both is_unescaped (escaped_byte x) (flat_map escaped_byte xs) (escaped_by (x == 126) (x == 47) x q.0) (escaped_unescaped xs q.1)
+-- a token that stands in a pointer as it is
+token_byte : (a b : Bool) (x : ℕ) → not a && not b ≡ true → cond a (126 ∷ 48 ∷ []) (cond b (126 ∷ 49 ∷ []) (x ∷ [])) ≡ x ∷ []
+token_byte true b x h = cc
+token_byte false true x h = cc
+token_byte false false x h = refl
 
-abbrev AreUnescaped : List Text → Type 0
-AreUnescaped ts = list_all (λ t. list_all is_unescaped t) ts ≡ true
+pub unescaped_token : (t : Text) → list_all stands_in_pointer t ≡ true → 47 ∷ escape t ≡ kept_text notation.Pointer (t ∷ [])
+unfolding escape_byte
+unescaped_token t h = ap (λ u. 47 ∷ escape u) (sym (append-nil (flat_map escaped_byte t) ∙ kept escaped_byte stands_in_pointer (λ x e. token_byte (x == 126) (x == 47) x e) t h))
 
-pointer_unescaped : (ts : List Text) → AreUnescaped ts → list_all is_unescaped (pointer_text ts) ≡ true
-pointer_unescaped [] h = refl
-pointer_unescaped (t ∷ ts) h =
-    let q = and_parts (list_all is_unescaped t) (list_all (λ t. list_all is_unescaped t) ts) h in
-    all_of_both is_unescaped (47 ∷ flat_map escaped_byte t) (pointer_text ts) (escaped_unescaped t q.0) (pointer_unescaped ts q.1)
-
-pub unescaped_pointer : (ss : List Step) → list_all (λ s. list_all is_unescaped (token s)) ss ≡ true → quoted (pointer_text (tokens ss)) ≡ 34 ∷ (pointer_text (tokens ss) ++ 34 ∷ [])
-unescaped_pointer ss h = as_it_is (pointer_text (tokens ss)) (pointer_unescaped (tokens ss) (list_all-map (λ t. list_all is_unescaped t) token ss ∙ h))
-
-pub plain_step : (t : Text) → list_all is_plain t ≡ true → flat_map escaped_byte t ≡ t
-plain_step t h = kept escaped_byte is_plain (λ x e. (plain x e).in_pointer) t h
+-- what is appended of a plain token
+pub plain_pushed : (n : Notation) (t old new : Text) → list_all is_plain t ≡ true → new ≡ old ++ 47 ∷ t → IsPushed n t true old new
+plain_pushed n t old new h is = record {
+  text = is ∙ ap (λ u. old ++ u) (sym (plain_kept n (t ∷ []) (ap (λ b. b && true) h) ∙ append-nil (47 ∷ t)));
+  is_plain = λ e. h;
+}
 
 -- ---- the digits of an index
 third : (a b c : Bool) → (a || (b || (true || c))) ≡ true
@@ -174,16 +176,3 @@ plain_unescaped [] h = refl
 plain_unescaped (x ∷ xs) h =
     let q = and_parts (is_plain x) (list_all is_plain xs) h in
     ap₂ (λ a b. a && b) (plain x q.0).in_string (plain_unescaped xs q.1)
-
-pub index_is_unescaped : (n : ℕ) → n < 2 ^ 64 → list_all is_unescaped (decimal n) ≡ true
-index_is_unescaped n fits = plain_unescaped (decimal n) (index_is_plain n fits)
-
--- what is appended of a plain token
-pub noted_plain : (t old new : Text) → list_all is_plain t ≡ true → new ≡ old ++ 47 ∷ t → IsNoted t old new × (list_all is_plain t ≡ true)
-noted_plain t old new h is = (
-  record {
-    text = is ∙ ap (λ u. old ++ u) (sym (plain_noted t h));
-    unescaped = ap (list_all is_unescaped) (plain_noted t h) ∙ plain_unescaped t h;
-  },
-  h,
-)

@@ -1,11 +1,11 @@
 -- The output's text, piece by piece.
 use Rattle.std.specs.Prelude.{◌≡◌, ℕ, List, [], ◌∷◌, ◌++◌, Bool, true, false, not, ◌&&◌, ◌||◌, ◌==◌, nat_le, codes, flat_map, map}
 use Rattle.std.specs.List.{list_all}
-use Rattle.json.specs.Print.{quoted}
+use Rattle.json.specs.Print.{escape, quoted}
 use Rattle.definitions.specs.Answers.{absolute_location}
 use Rattle.definitions.specs.Applied.{OutputUnit}
 use Rattle.definitions.specs.Bytes.{is_capital, is_digit, is_small, number_sign, slash}
-use Rattle.definitions.specs.Pointers.{Pointer, fragment_text, pointer_text}
+use Rattle.definitions.specs.Pointers.{fragment_text, pointer_text}
 use Rattle.definitions.specs.Schemas.{Identity}
 use Rattle.definitions.specs.Texts.{text}
 use Rattle.definitions.specs.Values.{Text, array, string, to_elements}
@@ -37,12 +37,9 @@ array_text (t ∷ ts) = 91 ∷ (t ++ (later_texts ts ++ 93 ∷ []))
 abbrev pub names_text : List Text → Text
 names_text names = text (array (to_elements (map string names)))
 
--- the same of names that stand in strings as they are
+-- the names behind the first one, each behind the end of the one before it
 abbrev pub later_names : List Text → Text
-later_names = flat_map (λ name. codes "\",\"" ++ name)
-
-abbrev pub plain_names_text : Text → List Text → Text
-plain_names_text first rest = codes "[\"" ++ (first ++ (later_names rest ++ codes "\"]"))
+later_names = flat_map (λ name. codes "\",\"" ++ escape name)
 
 -- ---- what the units are called
 abbrev pub kind : Bool → Text
@@ -62,13 +59,13 @@ valid_member true = codes ",\"valid\":true}"
 valid_member false = codes ",\"valid\":false}"
 
 -- ---- a unit's text, and that of all
--- how the text begins, up to what leads onward from a pointer in the resource with this URI
-abbrev pub unit_head : Text → Pointer → Text
-unit_head uri pointer = codes "{\"absoluteKeywordLocation\":\"" ++ (uri ++ (number_sign ∷ fragment_text pointer))
+-- how the text begins, up to where this location ends
+abbrev pub head_text : Text → Text
+head_text location = codes "{\"absoluteKeywordLocation\":\"" ++ escape location
 
--- the text is that head, and the URI and the pointer stand in a string as they are
+-- the text is that head, up to a pointer in the resource with this URI
 abbrev pub IsHead : Identity → Text → Type 0
-IsHead origin t = (t ≡ unit_head origin.0 origin.1) × (list_all is_unescaped (origin.0 ++ (number_sign ∷ fragment_text origin.1)) ≡ true)
+IsHead origin t = t ≡ head_text (origin.0 ++ (number_sign ∷ fragment_text origin.1))
 
 unfoldable pub unit_text : Bool → OutputUnit → Text
 unit_text valid u =

@@ -1,19 +1,13 @@
 -- Pointers as lists of tokens, and where they begin.
-use Rattle.std.specs.Prelude.{◌≡◌, ◌-◌, ℕ, drop, length}
-use Rattle.definitions.specs.Pointers.{Pointer, pointer_text}
+use Rattle.std.specs.Prelude.{◌-◌, ℕ, drop, length}
+use Rattle.definitions.specs.Pointers.{Pointer}
 use Rattle.definitions.specs.Schemas.{Identity}
 use Rattle.locations.specs.Steps.{tokens}
-use Rattle.basic_output.specs.Buffers.{buffer_text}
 use Rattle.basic_output.specs.declared.origin.Origin.{Origin}
 use Rattle.basic_output.specs.declared.written_pointer.WrittenPointer.{WrittenPointer}
 
 unfoldable pub pointer_view : WrittenPointer → Pointer
 pointer_view p = tokens p.steps.items
-
--- the text is all of it, since each step is written
-pub record IsWritten (p : WrittenPointer) : Type 0 where
-  pub text : buffer_text p.text ≡ pointer_text (pointer_view p)
-  pub whole : length p.starts.items ≡ length p.steps.items
 
 -- the last steps, so many
 abbrev pub onward_pointer : WrittenPointer → ℕ → Pointer

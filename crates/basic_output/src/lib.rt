@@ -1,25 +1,16 @@
 //! The units of the basic output and their text (JSON Schema 2020-12 Core, 12.4.2).
 #![tactic(auto)]
 
-mod appending;
 mod keeping;
-mod kept_names;
 mod location;
-mod made;
+mod name_lists;
 mod origin;
 mod origin_memory;
 mod output;
-mod placing;
 mod pointer_memory;
-mod quoting;
-mod ready;
-mod saying;
 mod says;
-mod text_buffer;
-mod unescaped;
-mod unit;
+mod unit_text;
 mod units;
-mod writing;
 mod written_pointer;
 
 pub use faults::Fault;

@@ -1,13 +1,14 @@
 //! Where pointers of keywords begin.
 
-ghost use Rattle.std.specs.Prelude.{◌≡◌, [], string_bytes, IfOk, IfSome, OnOk};
+ghost use Rattle.std.specs.Prelude.{◌≡◌, ◌∷◌, ◌++◌, [], string_bytes, IfOk, IfSome, OnOk};
 ghost use Rattle.std.proofs.Props.{props};
+ghost use Rattle.definitions.specs.Bytes.{number_sign};
 ghost use Rattle.definitions.specs.Pointers.{fragment_text};
 ghost use Rattle.locations.specs.Steps.{tokens};
-ghost use Rattle.basic_output.specs.Pieces.{IsHead, unit_head};
+ghost use Rattle.basic_output.specs.Pieces.{IsHead, head_text};
 
 use crate::origin_memory::OriginMemory;
-use crate::unescaped::are_unescaped;
+use crate::unit_text::{TextBuffer, are_unescaped, push_escaped};
 use locations::{Step, push_fragment};
 use std::alloc::{AllocError, Global};
 use std::rc::Rc;
@@ -27,12 +28,10 @@ const ROOM: usize = 128;
 pub struct Origin<'a> {
     resource: &'a str,
     steps: Vec<Step<'a>>,
-    // How the texts of units begin whose keywords stand below, where it was written and stands in a string as it is.
+    // How the texts of units begin whose keywords stand below, where it is written.
     head: Option<String>,
-    // Whether that was tried.
-    is_tried: bool,
-    ghost is_head: { IfSome head
-        (λ h. IsHead (resource.now, tokens steps.items) (string_bytes h)) } by { Prim.hlevel props },
+    ghost is_head: { IfSome head (λ h. string_bytes h
+        ≡ head_text (resource.now ++ (number_sign ∷ fragment_text (tokens steps.items)))) } by { Prim.hlevel props },
 }
 
 impl<'a> Origin<'a> {
@@ -64,8 +63,7 @@ impl<'a> Origin<'a> {
         Ok(Origin {
             resource,
             steps,
-            head,
-            is_tried: true,
+            head: Some(head),
         })
     }
 
@@ -77,7 +75,6 @@ impl<'a> Origin<'a> {
             resource,
             steps: Vec::new(alloc),
             head: None,
-            is_tried: false,
         }
     }
 
@@ -93,7 +90,7 @@ impl<'a> Origin<'a> {
 
     /// Whether its text is still to be written.
     pub fn lacks_text(&self) -> bool {
-        !self.is_tried
+        self.head.is_none()
     }
 
     /// The same, with its text. The only error is want of memory. It is called apart, since few origins lack it.
@@ -121,7 +118,19 @@ impl<'a> Origin<'a> {
         self.steps.as_slice()
     }
 
-    /// How the texts of units begin whose keywords stand below, where the URI stands in a string as it is.
+    /// The same text, which is written anew. The only error is want of memory.
+    pub(crate) fn written_head(&self) -> Result<String, AllocError>
+        ensures { IfOk result (λ h. IsHead (origin_view self.now) (string_bytes h)) }
+    {
+        head_of(
+            String::new(*self.steps.allocator()),
+            self.resource,
+            &self.steps,
+        )
+    }
+
+    /// How the texts of units begin whose keywords stand below, where it is written.
+    #[inline(always)]
     pub(crate) fn head(&self) -> Option<&str>
         ensures { IfSome result
             (λ h. IsHead (origin_view self.now) h.now) }
@@ -133,10 +142,9 @@ impl<'a> Origin<'a> {
     }
 }
 
-// How the texts of units begin, where the URI and the pointer stand in a string as they are.
-fn head_of(memory: String, uri: &str, steps: &[Step<'_>]) -> Result<Option<String>, AllocError>
-    ensures { IfOk result
-        (λ o. IfSome o (λ h. IsHead (uri.now, tokens steps.now) (string_bytes h))) }
+// How the texts of units begin.
+fn head_of(memory: String, uri: &str, steps: &[Step<'_>]) -> Result<String, AllocError>
+    ensures { IfOk result (λ h. IsHead (uri.now, tokens steps.now) (string_bytes h)) }
 {
     let mut head = memory;
     head.clear();
@@ -146,8 +154,20 @@ fn head_of(memory: String, uri: &str, steps: &[Step<'_>]) -> Result<Option<Strin
     head.push_str("#")?;
     push_fragment(&mut head, steps)?;
     if are_unescaped(&head.as_bytes()[KEY.len()..]) {
-        Ok(Some(head))
-    } else {
-        Ok(None)
+        return Ok(head);
     }
+    escaped_head(*head.allocator(), uri, steps)
+}
+
+// The same with the escapes of the URI. It is called apart, since few URIs have any.
+#[inline(never)]
+fn escaped_head(alloc: Global, uri: &str, steps: &[Step<'_>]) -> Result<String, AllocError>
+    ensures { IfOk result (λ h. IsHead (uri.now, tokens steps.now) (string_bytes h)) }
+{
+    let mut location = String::from_str(alloc, uri)?;
+    location.push_str("#")?;
+    push_fragment(&mut location, steps)?;
+    let mut head = TextBuffer::new(alloc);
+    push_escaped(&mut head, KEY, location.as_str())?;
+    String::from_str(alloc, head.as_str())
 }

@@ -1,22 +1,16 @@
 //! The units of the basic output, as they are collected (JSON Schema 2020-12 Core, 12.4.2).
 
-ghost use Rattle.std.specs.Prelude.{◌≡◌, ◌≤◌, ◌<◌, ◌∷◌, ◌++◌, ◌-◌, if◌then◌else◌, drop, false, is_ok, length, nat_eq, nat_le, take, true, IfOk, OnOk, OnErr};
+ghost use Rattle.std.specs.Prelude.{◌≡◌, ◌≤◌, ◌<◌, ◌∷◌, ◌++◌, ◌-◌, drop, false, length, nat_eq, nat_le, take, true, IfOk, OnOk, OnErr};
 ghost use Rattle.std.specs.List.{All, insert, list_all};
 ghost use Rattle.basic_output.specs.Buffers.{buffer_text};
 ghost use Rattle.basic_output.specs.Pieces.{unit_text};
-ghost use Rattle.basic_output.specs.Ready.{AreReady};
 ghost use Rattle.basic_output.specs.Sayings.{unit_at};
-ghost use Rattle.basic_output.specs.declared.location.Location.{Location};
 ghost use Rattle.basic_output.specs.Spans.{IsSpan, ascends, last_end, order_of, span_text, texts_in_order};
 
 use crate::keeping::is_still_kept;
 use crate::location::Location;
-use crate::made::Made;
-use crate::quoting::fragment_of;
-use crate::ready::{ReadyLocation, escaped_location, ready_location, ready_unit};
 use crate::says::Says;
-use crate::text_buffer::TextBuffer;
-use crate::unit::push_unit;
+use crate::unit_text::{Saying, TextBuffer, append_unit};
 use std::alloc::{AllocError, Global};
 use std::marker::Model;
 
@@ -69,8 +63,8 @@ pub struct Units {
     order: Vec<usize>,
     // Whether the order may be another one than their positions tell, as where memory was wanting: then no text is cut off.
     loose: bool,
-    // What a unit says, or all of it, where that is made apart.
-    made: Made,
+    // Where what a unit says is written.
+    saying: Saying,
     ghost are_spans: { All (IsSpan (buffer_text text)) spans.items },
     ghost ascend: { ascends 0 spans.items ≡ true },
     ghost within: { All (λ i. i < length spans.items) order.items },
@@ -108,7 +102,7 @@ impl Units {
             spans: Vec::new(alloc),
             order: Vec::new(alloc),
             loose: false,
-            made: Made::new(alloc),
+            saying: Saying::new(alloc),
         }
     }
 
@@ -151,7 +145,7 @@ impl Units {
         ensures unchanged { OnErr result (unit_texts self.new ≡ unit_texts self.old) }
     {
         let start = self.text.len();
-        append_unit(&mut self.text, &mut self.made, annotates, location, says)?;
+        append_unit(&mut self.text, &mut self.saying, annotates, location, says)?;
         let end = self.text.len();
         let position = mark.units.min(self.order.len());
         let span = Span {
@@ -197,7 +191,7 @@ impl Units {
     pub fn clear(&mut self)
         ensures { unit_texts self.new ≡ [] }
     {
-        if is_still_kept(self.text.room(), self.text.len()) && self.made.is_kept() {
+        if is_still_kept(self.text.room(), self.text.len()) && self.saying.is_kept() {
             self.spans.clear();
             self.order.clear();
             self.loose = false;
@@ -229,72 +223,6 @@ impl Units {
     {
         self.order.as_slice()
     }
-}
-
-// Appends a comma and the text of a unit, of which a part may be made apart. The only error is want of memory, and then
-// nothing was appended.
-fn append_unit(
-    out: &mut TextBuffer,
-    made: &mut Made,
-    annotates: bool,
-    location: Location<'_, '_>,
-    says: Says<'_, '_>,
-) -> Result<(), AllocError>
-    ensures { buffer_text out.new ≡ (if is_ok result
-        then buffer_text out.old ++ 44 ∷ unit_text annotates (unit_at location.entry says.entry)
-        else buffer_text out.old) }
-{
-    match ready_location(location) {
-        Some(ready) => append_ready_unit(out, made, annotates, ready, says),
-        None => append_other_unit(out, made, annotates, &location, &says),
-    }
-}
-
-// The same, whose pointer from the origin on has a step that isn't plain, or whose locations don't stand in strings as they
-// are. It is called apart, since few units are such.
-#[inline(never)]
-fn append_other_unit(
-    out: &mut TextBuffer,
-    made: &mut Made,
-    annotates: bool,
-    location: &Location<'_, '_>,
-    says: &Says<'_, '_>,
-) -> Result<(), AllocError>
-    ensures { buffer_text out.new ≡ (if is_ok result
-        then buffer_text out.old ++ 44 ∷ unit_text annotates (unit_at location.now says.now)
-        else buffer_text out.old) }
-{
-    let location = *location;
-    let says = *says;
-    let onward = fragment_of(out.allocator(), location.onward_steps())?;
-    match escaped_location(location, onward.as_str()) {
-        Some(ready) => append_ready_unit(out, made, annotates, ready, says),
-        None => {
-            let unit = &mut made.text;
-            unit.clear();
-            unit.push_str(",")?;
-            push_unit(unit, annotates, location, says)?;
-            out.push_str(unit.as_str())
-        }
-    }
-}
-
-// The same at ready locations.
-#[inline(always)]
-fn append_ready_unit(
-    out: &mut TextBuffer,
-    made: &mut Made,
-    annotates: bool,
-    location: ReadyLocation<'_>,
-    says: Says<'_, '_>,
-) -> Result<(), AllocError>
-    ensures { (l : Location) → AreReady l location.entry
-        → buffer_text out.new ≡ (if is_ok result
-        then buffer_text out.old ++ 44 ∷ unit_text annotates (unit_at l says.entry)
-        else buffer_text out.old) }
-{
-    let said = made.said(says)?;
-    out.push_ready(ready_unit(annotates, location, said))
 }
 
 // Puts a place at the position, before those that came later. The only error is want of memory, and then the order stays as it

@@ -1,51 +1,37 @@
-//! A pointer that steps come to and go from, and its text.
+//! A pointer that steps come to and go from, and its texts.
 
-ghost use Rattle.std.specs.Prelude.{◌≡◌, ◌≤◌, ◌∷◌, ◌++◌, [], true, decimal, drop, length, take, IfOk, IfSome};
-ghost use Rattle.std.specs.List.{list_all};
+ghost use Rattle.std.specs.Prelude.{◌≡◌, ◌-◌, ◌∷◌, ◌++◌, [], true, drop, length, take, IfSome};
 ghost use Rattle.locations.specs.Steps.{token, tokens};
-ghost use Rattle.keywords.specs.Rows.{row_of};
 ghost use Rattle.basic_output.specs.Buffers.{buffer_text};
-ghost use Rattle.basic_output.specs.Notes.{IsPushed, new_starts};
-ghost use Rattle.basic_output.specs.Pieces.{are_plain, is_unescaped};
-ghost use Rattle.basic_output.specs.PointerTexts.{are_plain_steps, front_text, text_starts};
+ghost use Rattle.basic_output.specs.Notations.{kept_text};
+ghost use Rattle.basic_output.specs.StepTexts.{AreStepTexts};
+ghost use Rattle.basic_output.specs.declared.unit_text.step_texts.Notation.TheVariants as notation;
 
-use crate::keeping::is_kept;
 use crate::pointer_memory::PointerMemory;
-use crate::quoting::are_plain_bytes;
-use crate::text_buffer::TextBuffer;
-use crate::unescaped::are_unescaped;
-use keywords::Keyword;
-use locations::{Step, push_pointer};
+use crate::unit_text::{Notation, StepTexts};
+use locations::Step;
 use std::alloc::{AllocError, Global};
 
-/// A pointer (RFC 6901), as the steps of its tokens, and its text as far as it was written: it stays while steps come
-/// and go behind it, so that a step is written once for all units that stand below it.
+/// A pointer (RFC 6901), as the steps of its tokens, and its texts as far as they were written: they stay while steps come
+/// and go behind them, so that a step is written once for all units that stand below it.
 ///
 /// Contracts see it by `pointer_view`.
 #[derive(Drop)]
 pub struct WrittenPointer<'a> {
     steps: Vec<Step<'a>>,
-    // The text of so many of the first steps as `starts` has numbers.
-    text: TextBuffer,
-    // Where the text of each of these steps starts.
-    starts: Vec<usize>,
-    // From this step on all whose text is written are plain: they stand as they are in a pointer, in its fragment and in a
-    // string.
-    plain_from: usize,
-    ghost written_within: { length starts.items ≤ length steps.items },
-    ghost are_starts: { starts.items ≡ text_starts (length starts.items) steps.items },
-    ghost is_text: { buffer_text text ≡ front_text (length starts.items) steps.items },
-    ghost unescaped: { list_all is_unescaped (buffer_text text) ≡ true },
-    ghost plain: { are_plain_steps (drop plain_from (take (length starts.items) steps.items))
-        ≡ true },
+    // As a pointer.
+    pointer: StepTexts,
+    // As a fragment, where some of its steps aren't plain.
+    fragment: StepTexts,
+    ghost is_pointer: { AreStepTexts notation.Pointer pointer steps.items },
+    ghost is_fragment: { AreStepTexts notation.Fragment fragment steps.items },
 }
 
 impl<'a> WrittenPointer<'a> {
-    ghost use Rattle.std.specs.Prelude.{◌+◌, ◌<◌, if◌then◌else◌, is_ok};
+    ghost use Rattle.std.specs.Prelude.{◌≤◌, if◌then◌else◌, is_ok};
     ghost use Rattle.definitions.specs.Pointers.{Pointer};
     ghost use Rattle.definitions.specs.Values.{Text};
-    ghost use Rattle.basic_output.specs.Pieces.{plain_text};
-    ghost use Rattle.basic_output.specs.PointerViews.{IsWritten, pointer_view};
+    ghost use Rattle.basic_output.specs.PointerViews.{onward_pointer, pointer_view};
 
     /// The whole document's. This takes no memory; steps and their text take it from `alloc`.
     pub fn new(alloc: Global) -> WrittenPointer<'a>
@@ -59,29 +45,20 @@ impl<'a> WrittenPointer<'a> {
     pub fn within(alloc: Global, memory: PointerMemory) -> WrittenPointer<'a>
         ensures { pointer_view result ≡ [] }
     {
-        let PointerMemory {
-            mut text,
-            mut starts,
-        } = memory;
-        text.clear();
-        starts.clear();
+        let mut pointer = memory.pointer;
+        pointer.clear();
         WrittenPointer {
             steps: Vec::new(alloc),
-            text,
-            starts,
-            plain_from: 0,
+            pointer,
+            fragment: StepTexts::new(alloc),
         }
     }
 
     /// The memory that it was written in, for the next pointer. Where the text took more than 1,048,576 bytes, all of it is
     /// given back.
     pub fn into_memory(self) -> PointerMemory {
-        let WrittenPointer { text, starts, .. } = self;
-        if is_kept(text.room()) {
-            PointerMemory { text, starts }
-        } else {
-            PointerMemory::new(text.allocator())
-        }
+        let WrittenPointer { pointer, .. } = self;
+        PointerMemory::keeping(pointer)
     }
 
     /// How many steps there are.
@@ -132,8 +109,7 @@ impl<'a> WrittenPointer<'a> {
         }
     }
 
-    /// Writes what the text lacks, up to a step of which a string of JSON escapes something. The only error is want of
-    /// memory.
+    /// Writes what the text lacks. The only error is want of memory.
     #[inline(always)]
     pub fn write(&mut self) -> Result<(), AllocError>
         ensures { pointer_view self.new ≡ pointer_view self.old }
@@ -141,186 +117,101 @@ impl<'a> WrittenPointer<'a> {
         if self.is_written() {
             return Ok(());
         }
-        self.write_rest()
+        self.pointer.write(Notation::Pointer, &self.steps)
     }
 
-    // The same, where the text lacks something.
-    #[inline(never)]
-    fn write_rest(&mut self) -> Result<(), AllocError>
+    /// The same, and the last steps, so many, as a fragment, where they aren't written in the same way there. The only error is
+    /// want of memory.
+    #[inline(always)]
+    pub fn write_onward(&mut self, onward: usize) -> Result<(), AllocError>
         ensures { pointer_view self.new ≡ pointer_view self.old }
     {
-        while self.starts.len() < self.steps.len() {
-            if !self.write_next()? {
-                return Ok(());
-            }
+        self.write()?;
+        if self.pointer.are_plain_from(self.inward(onward)) {
+            return Ok(());
         }
-        Ok(())
+        self.write_fragment()
     }
 
-    // Appends the text of one step more, if a string of JSON escapes nothing of it: whether it was appended. Where memory is
-    // wanting no text is kept.
-    fn write_next(&mut self) -> Result<bool, AllocError>
-        requires { length self.old.starts.items < length self.old.steps.items }
-        ensures steps { self.new.steps ≡ self.old.steps }
-        ensures written { IfOk result (λ b. b ≡ true
-            → length self.new.starts.items ≡ length self.old.starts.items + 1) }
+    // Writes what the text as a fragment lacks.
+    fn write_fragment(&mut self) -> Result<(), AllocError>
+        ensures { pointer_view self.new ≡ pointer_view self.old }
     {
-        let written = self.starts.len();
-        let step = self.steps[written];
-        match push_next(&mut self.text, &mut self.starts, step) {
-            Ok(Pushed::Plain) => Ok(true),
-            Ok(Pushed::Other) => {
-                self.plain_from = written + 1;
-                Ok(true)
-            }
-            Ok(Pushed::Nothing) => Ok(false),
-            Err(error) => {
-                self.text.clear();
-                self.starts.clear();
-                Err(error)
-            }
+        if self.fragment.len() == self.steps.len() {
+            return Ok(());
         }
+        self.fragment.write(Notation::Fragment, &self.steps)
     }
 
-    // The text of so many steps at most stays.
+    // The texts of so many steps at most stay.
     fn unwrite(&mut self, len: usize)
         ensures steps { self.new.steps ≡ self.old.steps }
-        ensures fewer { length self.new.starts.items ≤ len }
+        ensures pointer { length self.new.pointer.starts.items ≤ len }
+        ensures fragment { length self.new.fragment.starts.items ≤ len }
     {
-        if len < self.starts.len() {
-            self.text.truncate(self.starts[len]);
-            self.starts.truncate(len);
-            self.plain_from = self.plain_from.min(len);
-        }
+        self.pointer.truncate(len);
+        self.fragment.truncate(len);
     }
 
-    /// Whether the text is all of it.
-    pub(crate) fn is_written(&self) -> bool
-        ensures { result ≡ true → IsWritten self.now }
+    // How many steps lead to where the last ones begin, so many.
+    fn inward(&self, onward: usize) -> usize
+        ensures value { result ≡ length (pointer_view self.now) - onward }
+        ensures onward { drop result (pointer_view self.now) ≡ onward_pointer self.now onward }
     {
-        self.starts.len() == self.steps.len()
+        self.len().saturating_sub(onward)
     }
 
-    /// The text as far as it was written.
-    pub(crate) fn text(&self) -> &str
-        ensures { result.now ≡ buffer_text self.now.text }
+    // Whether the text is all of it.
+    fn is_written(&self) -> bool
+        ensures { result ≡ true
+            → length self.now.pointer.starts.items ≡ length self.now.steps.items }
     {
-        self.text.as_str()
+        self.pointer.len() == self.steps.len()
     }
 
-    /// The text behind so many steps, where all steps from there on are written and plain.
-    pub(crate) fn plain_text_behind(&self, len: usize) -> Option<&str>
-        ensures text { IfSome result (λ t. t.now ≡ plain_text (drop len (pointer_view self.now))) }
-        ensures plain { IfSome result (λ t. are_plain (drop len (pointer_view self.now)) ≡ true) }
+    /// The text, where it is written.
+    #[inline(always)]
+    pub(crate) fn text(&self) -> Option<&str>
+        ensures { IfSome result
+            (λ t. t.now ≡ kept_text notation.Pointer (pointer_view self.now)) }
     {
-        if self.is_written() && self.plain_from <= len {
-            Some(self.text_behind(len))
+        if self.is_written() {
+            Some(self.pointer.as_str())
         } else {
             None
         }
     }
 
-    // The text behind so many steps.
-    fn text_behind(&self, len: usize) -> &str
-        requires { IsWritten self.now }
-        ensures { buffer_text self.now.text ≡ front_text len self.now.steps.items ++ result.now }
+    /// The text of the last steps, so many, as a fragment, where it is written.
+    #[inline(always)]
+    pub(crate) fn onward_text(&self, onward: usize) -> Option<&str>
+        ensures { IfSome result
+            (λ t. t.now ≡ kept_text notation.Fragment (onward_pointer self.now onward)) }
     {
-        if len < self.starts.len() {
-            &self.text.as_str()[self.starts[len]..]
+        let inward = self.inward(onward);
+        if self.is_written() && self.pointer.are_plain_from(inward) {
+            Some(self.pointer.text_behind(inward))
         } else {
-            ""
+            self.fragment_behind(inward)
         }
     }
-}
 
-// What was appended of a step.
-#[derive(Clone, Copy, Drop)]
-enum Pushed {
-    // The step, which is plain.
-    Plain,
-    // Another step.
-    Other,
-    // Nothing, since a string of JSON escapes something of it.
-    Nothing,
-}
-
-// Appends the text of a step, and where it starts, if a string of JSON escapes nothing of it.
-#[inline(always)]
-fn push_next(
-    text: &mut TextBuffer,
-    starts: &mut Vec<usize>,
-    step: Step<'_>,
-) -> Result<Pushed, AllocError>
-    ensures text { IfOk result (λ p.
-        IsPushed p (token step.entry) (buffer_text text.old) (buffer_text text.new)) }
-    ensures start { IfOk result (λ p. starts.new.items
-        ≡ starts.old.items ++ new_starts p (length (buffer_text text.old))) }
-{
-    let start = text.len();
-    let pushed = push_noted(text, step)?;
-    match pushed {
-        Pushed::Nothing => {}
-        _ => starts.push(start)?,
+    // The text behind so many steps, as a fragment, where it is written.
+    fn fragment_behind(&self, len: usize) -> Option<&str>
+        ensures { IfSome result
+            (λ t. t.now ≡ kept_text notation.Fragment (drop len (pointer_view self.now))) }
+    {
+        if self.fragment.len() == self.steps.len() {
+            Some(self.fragment.text_behind(len))
+        } else {
+            None
+        }
     }
-    Ok(pushed)
-}
 
-// Appends the text of a step, if a string of JSON escapes nothing of it.
-#[inline(always)]
-fn push_noted(text: &mut TextBuffer, step: Step<'_>) -> Result<Pushed, AllocError>
-    ensures { IfOk result (λ p.
-        IsPushed p (token step.entry) (buffer_text text.old) (buffer_text text.new)) }
-{
-    match step {
-        Step::Name(name) => push_name(text, name),
-        Step::Index(index) => push_index(text, index),
-        Step::Keyword(keyword) => push_keyword(text, keyword),
+    /// The last steps, so many.
+    pub(crate) fn onward_steps(&self, onward: usize) -> &[Step<'a>]
+        ensures { tokens result.now ≡ onward_pointer self.now onward }
+    {
+        &self.steps()[self.inward(onward)..]
     }
-}
-
-// The same of a keyword's name, which is plain.
-#[inline(always)]
-fn push_keyword(text: &mut TextBuffer, keyword: Keyword) -> Result<Pushed, AllocError>
-    ensures { IfOk result (λ p.
-        IsPushed p (row_of keyword).name (buffer_text text.old) (buffer_text text.new)) }
-{
-    text.push_led("/", keyword.name())?;
-    Ok(Pushed::Plain)
-}
-
-// The same of an index, which is plain.
-#[inline(always)]
-fn push_index(text: &mut TextBuffer, index: usize) -> Result<Pushed, AllocError>
-    ensures { IfOk result (λ p.
-        IsPushed p (decimal index) (buffer_text text.old) (buffer_text text.new)) }
-{
-    let mut digits = itoa::Buffer::new();
-    text.push_led("/", digits.format(index))?;
-    Ok(Pushed::Plain)
-}
-
-// The same of a member's name.
-#[inline(always)]
-fn push_name(text: &mut TextBuffer, name: &str) -> Result<Pushed, AllocError>
-    ensures { IfOk result (λ p. IsPushed p name.now (buffer_text text.old) (buffer_text text.new)) }
-{
-    if are_plain_bytes(name.as_bytes()) {
-        text.push_led("/", name)?;
-        return Ok(Pushed::Plain);
-    }
-    push_other_name(text, name)
-}
-
-// The same of a name that isn't plain. It is called apart, since few names are such.
-#[inline(never)]
-fn push_other_name(text: &mut TextBuffer, name: &str) -> Result<Pushed, AllocError>
-    ensures { IfOk result (λ p. IsPushed p name.now (buffer_text text.old) (buffer_text text.new)) }
-{
-    let mut piece = String::new(text.allocator());
-    push_pointer(&mut piece, &[Step::Name(name)])?;
-    if !are_unescaped(piece.as_bytes()) {
-        return Ok(Pushed::Nothing);
-    }
-    text.push_str(piece.as_str())?;
-    Ok(Pushed::Other)
 }

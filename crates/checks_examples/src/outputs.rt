@@ -52,6 +52,24 @@ const OUTPUTS: &[(&str, &str, &str)] = &[
         r#"{"ä%":1}"#,
         r#"{"errors":[{"absoluteKeywordLocation":"https://ex.org/s#/properties","error":"properties is not met","instanceLocation":"","keywordLocation":"/properties"},{"absoluteKeywordLocation":"https://ex.org/s#/properties/%C3%A4%25","error":"no value is allowed","instanceLocation":"/ä%","keywordLocation":"/properties/ä%"}],"valid":false}"#,
     ),
+    // Patterns with backslashes, one below the other.
+    (
+        r#"{"patternProperties":{"^\\$r$":{"patternProperties":{"^\\w$":{"title":"t","type":"integer"}}}}}"#,
+        r#"{"$r":{"a":1}}"#,
+        r#"{"annotations":[{"absoluteKeywordLocation":"https://ex.org/s#/patternProperties","annotation":["$r"],"instanceLocation":"","keywordLocation":"/patternProperties"},{"absoluteKeywordLocation":"https://ex.org/s#/patternProperties/%5E%5C$r$/patternProperties","annotation":["a"],"instanceLocation":"/$r","keywordLocation":"/patternProperties/^\\$r$/patternProperties"},{"absoluteKeywordLocation":"https://ex.org/s#/patternProperties/%5E%5C$r$/patternProperties/%5E%5Cw$/title","annotation":"t","instanceLocation":"/$r/a","keywordLocation":"/patternProperties/^\\$r$/patternProperties/^\\w$/title"}],"valid":true}"#,
+    ),
+    // A reference below a step with an escape, to a schema behind another.
+    (
+        r##"{"properties":{"\"":{"$ref":"#/$defs/%C3%A9"}},"$defs":{"é":{"items":{"type":"integer"}}}}"##,
+        r#"{"\"":["x"]}"#,
+        r#"{"errors":[{"absoluteKeywordLocation":"https://ex.org/s#/properties","error":"properties is not met","instanceLocation":"","keywordLocation":"/properties"},{"absoluteKeywordLocation":"https://ex.org/s#/properties/%22/$ref","error":"$ref is not met","instanceLocation":"/\"","keywordLocation":"/properties/\"/$ref"},{"absoluteKeywordLocation":"https://ex.org/s#/$defs/%C3%A9/items","error":"items is not met","instanceLocation":"/\"","keywordLocation":"/properties/\"/$ref/items"},{"absoluteKeywordLocation":"https://ex.org/s#/$defs/%C3%A9/items/type","error":"type is not met","instanceLocation":"/\"/0","keywordLocation":"/properties/\"/$ref/items/type"}],"valid":false}"#,
+    ),
+    // Lists of names with escapes, of which one comes twice.
+    (
+        r#"{"items":{"additionalProperties":true}}"#,
+        r#"[{"a\"b":1,"c\td":2,"é\\":3},{"a\"b":1,"c\td":2,"é\\":3},{"a\"b":1}]"#,
+        r#"{"annotations":[{"absoluteKeywordLocation":"https://ex.org/s#/items","annotation":true,"instanceLocation":"","keywordLocation":"/items"},{"absoluteKeywordLocation":"https://ex.org/s#/items/additionalProperties","annotation":["a\"b","c\td","é\\"],"instanceLocation":"/0","keywordLocation":"/items/additionalProperties"},{"absoluteKeywordLocation":"https://ex.org/s#/items/additionalProperties","annotation":["a\"b","c\td","é\\"],"instanceLocation":"/1","keywordLocation":"/items/additionalProperties"},{"absoluteKeywordLocation":"https://ex.org/s#/items/additionalProperties","annotation":["a\"b"],"instanceLocation":"/2","keywordLocation":"/items/additionalProperties"}],"valid":true}"#,
+    ),
     // Schemas that assert alone: some pass without a word, and others don't.
     (
         r#"{"items":{"type":"integer"}}"#,

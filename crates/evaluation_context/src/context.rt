@@ -139,7 +139,7 @@ impl<'a> Context<'a> {
         ensures documents { scope_documents self.new.scope ≡ scope_documents self.old.scope }
     {
         self.write_origin()?;
-        self.running.write()
+        self.running.write(self.onward)
     }
 
     // Writes the text of the origin, where that isn't written yet.

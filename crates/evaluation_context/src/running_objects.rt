@@ -92,14 +92,15 @@ impl<'a> RunningObjects<'a> {
         &self.instance_location
     }
 
-    /// Writes what the texts of the path and of the instance location lack. The only error is want of memory.
-    pub(crate) fn write(&mut self) -> Result<(), AllocError>
+    /// Writes what the texts of the path and of the instance location lack, for units at a keyword to which so many of the path's
+    /// last steps lead on from the origin. The only error is want of memory.
+    pub(crate) fn write(&mut self, onward: usize) -> Result<(), AllocError>
         ensures running { running_objects self.new ≡ running_objects self.old }
         ensures ends { path_ends self.new ≡ path_ends self.old }
         ensures path { path_pointer self.new ≡ path_pointer self.old }
         ensures instance_location { instance_pointer self.new ≡ instance_pointer self.old }
     {
-        self.path.write()?;
+        self.path.write_onward(onward)?;
         self.instance_location.write()
     }
 

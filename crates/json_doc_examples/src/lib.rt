@@ -3,6 +3,8 @@
 #![tactic(auto)]
 
 #[cfg(test)]
+mod escapes;
+#[cfg(test)]
 mod fault_texts;
 #[cfg(test)]
 mod keyword_names;

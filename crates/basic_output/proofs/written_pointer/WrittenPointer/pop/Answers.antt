@@ -1,6 +1,8 @@
-use Rattle.std.proofs.Common.{◌≤◌, length, sym, ap, ◌∙◌, arith}
+use Rattle.std.proofs.Common.{◌≤◌, ◌-◌, length, sym, ap, ◌∙◌, arith}
+use Rattle.basic_output.specs.Buffers.{buffer_text}
+use Rattle.basic_output.specs.declared.unit_text.step_texts.Notation.TheVariants as notation
 use Rattle.basic_output.specs.PointerViews.{pointer_view}
-use Rattle.basic_output.proofs.FrontLaws.{one_less, popped_front}
+use Rattle.basic_output.proofs.FrontLaws.{one_less, popped_texts}
 use Rattle.basic_output.proofs.PointerLaws.{none_popped, tokens_popped}
 use Rattle.basic_output.proofs.written_pointer.WrittenPointer.pop.Goals as goal
 
@@ -25,6 +27,10 @@ invariant_of-self c =
     let ys = c.pop.new.self.items in
     let same = ap (λ v. length v.items) c.unwrite.ensures.steps in
     let one = one_less p.steps.items ys c.pop.result c.pop.ensures.items in
-    let within : length p.starts.items ≤ length ys = omega (arith, c.if-count-gt0.true, c.len-count.ensures, old.steps.ok.0, same, one, c.unwrite.ensures.fewer) in
-    let v = popped_front p ys c.pop.result c.pop.ensures.items within in
-    record { written_within = v.within; are_starts = v.at; is_text = v.front; unescaped = p.unescaped; plain = v.plain }
+    let fits : length old.steps.items - 1 ≤ length ys = omega (arith, c.if-count-gt0.true, c.len-count.ensures, old.steps.ok.0, same, one) in
+    let within : length p.pointer.starts.items ≤ length ys = omega (arith, fits, c.len-count.ensures, old.steps.ok.0, c.unwrite.ensures.pointer) in
+    let fragment_within : length p.fragment.starts.items ≤ length ys = omega (arith, fits, c.len-count.ensures, old.steps.ok.0, c.unwrite.ensures.fragment) in
+    record {
+      is_pointer = popped_texts notation.Pointer (buffer_text p.pointer.text) p.pointer.starts.items p.pointer.plain_from p.steps.items ys c.pop.result c.pop.ensures.items within p.is_pointer;
+      is_fragment = popped_texts notation.Fragment (buffer_text p.fragment.text) p.fragment.starts.items p.fragment.plain_from p.steps.items ys c.pop.result c.pop.ensures.items fragment_within p.is_fragment;
+    }

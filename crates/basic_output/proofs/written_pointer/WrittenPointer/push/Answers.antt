@@ -1,15 +1,22 @@
 use Rattle.std.proofs.Common.{◌∷◌, [], ap, is_ok, ◌∙◌}
 use Rattle.std.proofs.lemmas.List.{map-append}
 use Rattle.locations.specs.Steps.{token, tokens}
+use Rattle.basic_output.specs.Buffers.{buffer_text}
 use Rattle.basic_output.specs.PointerViews.{pointer_view}
-use Rattle.basic_output.proofs.FrontLaws.{pushed_front}
+use Rattle.basic_output.specs.declared.unit_text.step_texts.Notation.TheVariants as notation
+use Rattle.basic_output.proofs.FrontLaws.{pushed_texts}
 use Rattle.basic_output.proofs.written_pointer.WrittenPointer.push.Goals as goal
 
 pub invariant_of-self : goal.invariant_of-self
 invariant_of-self c =
     let p = c.args.self.now in
-    let v = pushed_front (is_ok c.push.result) p c.push.new.self.items (c.args.step ∷ []) c.push.ensures.items in
-    record { written_within = v.within; are_starts = v.at; is_text = v.front; unescaped = p.unescaped; plain = v.plain }
+    let more = c.args.step ∷ [] in
+    let new = c.push.new.self.items in
+    let is = c.push.ensures.items in
+    record {
+      is_pointer = pushed_texts (is_ok c.push.result) notation.Pointer (buffer_text p.pointer.text) p.pointer.starts.items p.pointer.plain_from p.steps.items new more is p.is_pointer;
+      is_fragment = pushed_texts (is_ok c.push.result) notation.Fragment (buffer_text p.fragment.text) p.fragment.starts.items p.fragment.plain_from p.steps.items new more is p.is_fragment;
+    }
 
 pub returns-in-Ok : goal.returns-in-Ok
 unfolding pointer_view

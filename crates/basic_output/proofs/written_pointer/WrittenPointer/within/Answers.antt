@@ -1,7 +1,11 @@
 use Rattle.std.proofs.Common.{ap}
 use Rattle.locations.specs.Steps.{tokens}
 use Rattle.basic_output.specs.PointerViews.{pointer_view}
+use Rattle.basic_output.specs.declared.unit_text.step_texts.Notation.TheVariants as notation
 use Rattle.basic_output.proofs.written_pointer.WrittenPointer.within.Goals as goal
+
+pub invariant_of-result : goal.invariant_of-result
+invariant_of-result c = record { is_pointer = c.clear.ensures notation.Pointer _; is_fragment = c.new-2.ensures notation.Fragment _ }
 
 pub returns : goal.returns
 unfolding pointer_view

@@ -1,8 +1,0 @@
-use Rattle.std.proofs.Common.{◌≡◌, ◌++◌, map, pos, take, string_bytes}
-use Rattle.definitions.specs.Texts.{text}
-use Rattle.definitions.specs.Values.{integer}
-use Rattle.basic_output.specs.Pieces.{later_texts}
-use Rattle.basic_output.proofs.saying.push_later_indexes.Given as goal
-
-abbrev pub invariant-loop-index : goal.invariant-loop-index
-invariant-loop-index l = string_bytes l.out ≡ string_bytes l.initial.out ++ later_texts (map (λ index. text (integer (pos index))) (take l.index-index l.indexes))

@@ -1,0 +1,54 @@
+-- A unit's text, put together of its parts.
+use Rattle.std.specs.Prelude.{◌≡◌, ◌+◌, ◌∷◌, ◌++◌, [], ℕ, codes, length}
+use Rattle.definitions.specs.Values.{Text}
+use Rattle.basic_output.specs.Notations.{kept_text}
+use Rattle.basic_output.specs.Pieces.{IsHead, kind_key}
+use Rattle.basic_output.specs.PointerViews.{onward_pointer, origin_view, pointer_view}
+use Rattle.basic_output.specs.declared.location.Location.{Location}
+use Rattle.basic_output.specs.declared.unit_text.saying.Form.{Form}
+use Rattle.basic_output.specs.declared.unit_text.saying.Form.TheVariants.{NotMet, Plain, Written}
+use Rattle.basic_output.specs.declared.unit_text.step_texts.Notation.TheVariants as notation
+use Rattle.basic_output.specs.declared.unit_text.LocationParts.{LocationParts}
+use Rattle.basic_output.specs.declared.unit_text.UnitParts.{UnitParts}
+use Rattle.basic_output.specs.declared.unit_text.saying.Said.{Said}
+
+-- what stands between the instance location and the path, and behind the path
+abbrev pub path_key : Text
+path_key = codes "\",\"keywordLocation\":\""
+
+abbrev pub unit_end : Text
+unit_end = codes "\"}"
+
+-- what stands before what the unit says, and behind it, up to the instance location
+abbrev pub said_opening : Form → Text
+said_opening NotMet = 34 ∷ []
+said_opening Plain = 34 ∷ []
+said_opening Written = []
+
+abbrev pub said_ending : Form → Text
+said_ending NotMet = codes " is not met\",\"instanceLocation\":\""
+said_ending Plain = codes "\",\"instanceLocation\":\""
+said_ending Written = codes ",\"instanceLocation\":\""
+
+-- the unit
+abbrev pub parts_text : UnitParts → Text
+parts_text u =
+    u.location.head.now ++ (u.location.onward.now ++ ((34 ∷ kind_key u.annotates) ++ (said_opening u.said.form ++ (u.said.text.now ++ (said_ending u.said.form
+    ++ (u.location.instance_location.now ++ (path_key ++ (u.location.path.now ++ unit_end))))))))
+
+-- how long it is
+abbrev pub parts_length : UnitParts → ℕ
+parts_length u =
+    length u.location.head.now + (length u.location.onward.now + (length (34 ∷ kind_key u.annotates) + (length (said_opening u.said.form) + (length u.said.text.now
+    + (length (said_ending u.said.form) + (length u.location.instance_location.now + (length path_key + (length u.location.path.now + length unit_end))))))))
+
+-- the texts of a location, as they stand in the output
+pub record AreParts (location : Location) (p : LocationParts) : Type 0 where
+  pub head : IsHead (origin_view location.origin.now) p.head.now
+  pub onward : p.onward.now ≡ kept_text notation.Fragment (onward_pointer location.path.now location.onward)
+  pub instance_location : p.instance_location.now ≡ kept_text notation.Pointer (pointer_view location.instance_location.now)
+  pub path : p.path.now ≡ kept_text notation.Pointer (pointer_view location.path.now)
+
+-- the text of what the unit says, before its instance location
+abbrev pub IsSaid : Said → Text → Type 0
+IsSaid s said = said_opening s.form ++ (s.text.now ++ said_ending s.form) ≡ said ++ codes ",\"instanceLocation\":\""

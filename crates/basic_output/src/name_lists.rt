@@ -1,0 +1,184 @@
+//! Texts of lists of names that are kept, since the same few lists are written again and again.
+
+ghost use Rattle.std.specs.Prelude.{◌≡◌, ◌≢◌, ◌<◌, [], length, map, string_bytes, true, IfOk, IfSome, OnOk};
+ghost use Rattle.std.specs.Bool.{OnTrue};
+ghost use Rattle.definitions.specs.Values.{Text};
+ghost use Rattle.json_doc.specs.NamedMembers.{name_text};
+ghost use Rattle.json_doc.specs.SmallTexts.{short_text};
+ghost use Rattle.basic_output.specs.Pieces.{names_text};
+
+use json_doc::{Name, ShortText};
+use std::alloc::{AllocError, Global};
+use std::mem::replace;
+
+/// How many texts are kept at most.
+const PLACES: usize = 64;
+
+/// How many bytes a text has at most that is kept.
+const LONGEST: usize = 256;
+
+/// The text of a list of short names.
+#[derive(Debug, Drop)]
+struct NameList {
+    text: String,
+    names: Vec<ShortText>,
+    ghost right: { names.items ≢ [] → string_bytes text ≡ names_text (map short_text names.items) },
+}
+
+impl NameList {
+    // Of no list. This takes no memory; what comes later takes it from `alloc`.
+    fn new(alloc: Global) -> NameList {
+        NameList {
+            text: String::new(alloc),
+            names: Vec::new(alloc),
+        }
+    }
+
+    // Whether it surely is the text of the list of these names.
+    #[inline(always)]
+    fn is_of(&self, names: &[Name<'_>]) -> bool
+        ensures { OnTrue result (string_bytes self.now.text
+            ≡ names_text (map name_text names.now)) }
+    {
+        !names.is_empty() && are_surely(names, &self.names)
+    }
+
+    // From now on the text of the list of these names, where all of them are short, and else of no list. The only error is want
+    // of memory, and then it is of no list.
+    fn set(&mut self, names: &[Name<'_>], text: &str) -> Result<(), AllocError>
+        requires { text.now ≡ names_text (map name_text names.now) }
+    {
+        let alloc = *self.names.allocator();
+        let NameList {
+            text: mut kept,
+            names: mut short,
+        } = replace(self, NameList::new(alloc));
+        short.clear();
+        if push_short(&mut short, names)? {
+            kept.clear();
+            kept.push_str(text)?;
+            *self = NameList {
+                text: kept,
+                names: short,
+            };
+        }
+        Ok(())
+    }
+}
+
+// Whether the names surely are these.
+#[inline(always)]
+fn are_surely(names: &[Name<'_>], short: &[ShortText]) -> bool
+    ensures { OnTrue result (map name_text names.now ≡ map short_text short.now) }
+{
+    if names.len() != short.len() {
+        return false;
+    }
+    for at in 0..names.len() {
+        if !names[at].is_short(&short[at]) {
+            return false;
+        }
+    }
+    true
+}
+
+// Appends the names: whether all of them are short.
+fn push_short(short: &mut Vec<ShortText>, names: &[Name<'_>]) -> Result<bool, AllocError>
+    requires { short.old.items ≡ [] }
+    ensures { IfOk result (λ all. all ≡ true
+        → map short_text short.new.items ≡ map name_text names.now) }
+{
+    for name in names {
+        match name.short() {
+            Some(text) => short.push(*text)?,
+            None => return Ok(false),
+        }
+    }
+    Ok(true)
+}
+
+/// Texts of lists of short names.
+#[derive(Debug, Drop)]
+pub(crate) struct NameListCache {
+    texts: Vec<NameList>,
+}
+
+impl NameListCache {
+    ghost use Rattle.basic_output.specs.NameLists.{IsKept};
+
+    /// None. This takes no memory; what is kept takes it from `alloc`.
+    pub(crate) fn new(alloc: Global) -> NameListCache {
+        NameListCache {
+            texts: Vec::new(alloc),
+        }
+    }
+
+    /// The place at which the text of the list of these names is kept, if it is.
+    #[inline(always)]
+    pub(crate) fn find(&self, names: &[Name<'_>]) -> Option<usize>
+        ensures { IfSome result
+            (λ place. IsKept self.now place (names_text (map name_text names.now))) }
+    {
+        let place = place_of(names);
+        if self.texts.get(place)?.is_of(names) {
+            Some(place)
+        } else {
+            None
+        }
+    }
+
+    /// The text that is kept at that place.
+    #[inline(always)]
+    pub(crate) fn text(&self, place: usize) -> &str
+        requires { place < length self.now.texts.items }
+        ensures { (t : Text) → IsKept self.now place t → result.now ≡ t }
+    {
+        self.texts[place].text.as_str()
+    }
+
+    /// Keeps the text of the list of these names, where it is short. The only error is want of memory.
+    pub(crate) fn keep(&mut self, names: &[Name<'_>], text: &str) -> Result<(), AllocError>
+        requires { text.now ≡ names_text (map name_text names.now) }
+    {
+        let place = place_of(names);
+        if text.len() <= LONGEST {
+            self.make_place(place)?;
+            self.texts[place].set(names, text)?;
+        }
+        Ok(())
+    }
+
+    // Makes the place and those before it, where they are missing.
+    fn make_place(&mut self, place: usize) -> Result<(), AllocError>
+        ensures { OnOk result (place < length self.new.texts.items) }
+    {
+        while self.texts.len() <= place {
+            let none = NameList::new(*self.texts.allocator());
+            self.texts.push(none)?;
+        }
+        Ok(())
+    }
+}
+
+// The place of the list of these names, told by how many there are, and by the first one and the last.
+#[inline(always)]
+fn place_of(names: &[Name<'_>]) -> usize
+    ensures { result < 64 }
+{
+    match (names.first(), names.last()) {
+        (Some(first), Some(last)) => {
+            (names.len() ^ (ends_of(*first) << 2) ^ (ends_of(*last) << 1)) & (PLACES - 1)
+        }
+        _ => 0,
+    }
+}
+
+// A number that its length and its two ends give.
+#[inline(always)]
+fn ends_of(name: Name<'_>) -> usize {
+    let bytes = name.as_str().as_bytes();
+    match (bytes.first(), bytes.last()) {
+        (Some(first), Some(last)) => bytes.len() ^ usize::from(*first) ^ (usize::from(*last) << 2),
+        _ => 0,
+    }
+}

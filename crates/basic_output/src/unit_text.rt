@@ -1,0 +1,305 @@
+//! The text of a unit, put together of its parts (JSON Schema 2020-12 Core, 12.4.2).
+
+ghost use Rattle.std.specs.Prelude.{◌≡◌, ◌+◌, ◌≤◌, ◌∷◌, ◌++◌, if◌then◌else◌, is_ok, length, take, true, IfOk, IfSome, OnErr};
+ghost use Rattle.std.specs.Str.{is_utf8};
+ghost use Rattle.definitions.specs.Texts.{text};
+ghost use Rattle.locations.specs.Steps.{tokens};
+ghost use Rattle.basic_output.specs.Buffers.{buffer_text};
+ghost use Rattle.basic_output.specs.Notations.{kept_text};
+ghost use Rattle.basic_output.specs.Parts.{AreParts, parts_length, parts_text, said_ending, said_opening};
+ghost use Rattle.basic_output.specs.Pieces.{kind_key, unit_text};
+ghost use Rattle.basic_output.specs.Sayings.{says_value, unit_at};
+ghost use Rattle.basic_output.specs.WrittenOver.{IsWrittenOver};
+ghost use Rattle.basic_output.specs.declared.location.Location.{Location};
+ghost use Rattle.basic_output.specs.declared.says.Says.{Says};
+
+mod buffer;
+mod escaping;
+mod placing;
+mod saying;
+mod step_texts;
+
+use crate::location::Location;
+use crate::says::Says;
+pub(crate) use buffer::TextBuffer;
+use buffer::{make_room, write};
+pub(crate) use escaping::{are_unescaped, push_escaped};
+use locations::Step;
+pub(crate) use saying::Saying;
+use saying::{Form, Said};
+use std::alloc::{AllocError, Global};
+pub(crate) use step_texts::{Notation, StepTexts};
+
+/// The parts of a unit that say where it stands, as they stand in the output.
+#[derive(Clone, Copy)]
+struct LocationParts<'s> {
+    // How it begins, up to the origin.
+    head: &'s str,
+    // The pointer from there.
+    onward: &'s str,
+    instance_location: &'s str,
+    path: &'s str,
+}
+
+/// All parts of a unit.
+#[derive(Clone, Copy)]
+struct UnitParts<'s> {
+    annotates: bool,
+    location: LocationParts<'s>,
+    said: Said<'s>,
+}
+
+/// Appends a comma and the text of a unit: of an annotation, or else of an error. What the unit says may be written apart first.
+/// The only error is want of memory, and then nothing was appended.
+#[inline(always)]
+pub(crate) fn append_unit(
+    out: &mut TextBuffer,
+    saying: &mut Saying,
+    annotates: bool,
+    location: Location<'_, '_>,
+    says: Says<'_, '_>,
+) -> Result<(), AllocError>
+    ensures { buffer_text out.new ≡ (if is_ok result
+        then buffer_text out.old ++ 44 ∷ unit_text annotates (unit_at location.entry says.entry)
+        else buffer_text out.old) }
+{
+    match location_parts(location) {
+        Some(parts) => append_at(out, saying, annotates, parts, says),
+        None => append_unwritten(out, saying, annotates, &location, &says),
+    }
+}
+
+// The same, where a text of its location is missing, which is written for it alone.
+#[inline(never)]
+fn append_unwritten(
+    out: &mut TextBuffer,
+    saying: &mut Saying,
+    annotates: bool,
+    location: &Location<'_, '_>,
+    says: &Says<'_, '_>,
+) -> Result<(), AllocError>
+    ensures { buffer_text out.new ≡ (if is_ok result
+        then buffer_text out.old ++ 44 ∷ unit_text annotates (unit_at location.now says.now)
+        else buffer_text out.old) }
+{
+    let alloc = out.allocator();
+    let head = location.origin.written_head()?;
+    let onward = location.path.onward_steps(location.onward);
+    let onward = written(alloc, Notation::Fragment, onward)?;
+    let instance_location = location.instance_location.steps();
+    let instance_location = written(alloc, Notation::Pointer, instance_location)?;
+    let path = written(alloc, Notation::Pointer, location.path.steps())?;
+    let parts = LocationParts {
+        head: head.as_str(),
+        onward: onward.as_str(),
+        instance_location: instance_location.as_str(),
+        path: path.as_str(),
+    };
+    append_at(out, saying, annotates, parts, *says)
+}
+
+// The text of these steps.
+fn written(alloc: Global, notation: Notation, steps: &[Step<'_>]) -> Result<StepTexts, AllocError>
+    ensures { IfOk result (λ t. buffer_text t.text ≡ kept_text notation (tokens steps.now)) }
+{
+    let mut texts = StepTexts::new(alloc);
+    texts.write(notation, steps)?;
+    Ok(texts)
+}
+
+// The texts of the location, where all of them are written.
+#[inline(always)]
+fn location_parts<'s>(location: Location<'s, '_>) -> Option<LocationParts<'s>>
+    ensures { IfSome result (λ parts. AreParts location.entry parts) }
+{
+    let head = location.origin.head()?;
+    let onward = location.path.onward_text(location.onward)?;
+    let instance_location = location.instance_location.text()?;
+    let path = location.path.text()?;
+    Some(LocationParts {
+        head,
+        onward,
+        instance_location,
+        path,
+    })
+}
+
+// Appends a comma and the text of the unit at the location with these parts.
+#[inline(always)]
+fn append_at(
+    out: &mut TextBuffer,
+    saying: &mut Saying,
+    annotates: bool,
+    location: LocationParts<'_>,
+    says: Says<'_, '_>,
+) -> Result<(), AllocError>
+    ensures { (l : Location) → AreParts l location.entry
+        → buffer_text out.new ≡ (if is_ok result
+        then buffer_text out.old ++ 44 ∷ unit_text annotates (unit_at l says.entry)
+        else buffer_text out.old) }
+{
+    let said = saying.said(says)?;
+    out.push_parts(UnitParts {
+        annotates,
+        location,
+        said,
+    })
+}
+
+impl TextBuffer {
+    // Appends a comma and the parts. The only error is want of memory, and then the text stays as it was.
+    #[inline(always)]
+    fn push_parts(&mut self, unit: UnitParts<'_>) -> Result<(), AllocError>
+        ensures { buffer_text self.new ≡ (if is_ok result
+            then buffer_text self.old ++ 44 ∷ parts_text unit.entry
+            else buffer_text self.old) }
+    {
+        self.len = write_parts(&mut self.bytes, self.len, unit)?;
+        Ok(())
+    }
+}
+
+// Writes a comma and the text of the unit over the bytes from there on: the position behind it. Room is made once for all of
+// it, where there is too little. The only error is want of memory, and then the bytes stay as they were.
+#[inline(always)]
+fn write_parts(bytes: &mut Vec<u8>, start: usize, unit: UnitParts<'_>) -> Result<usize, AllocError>
+    requires { start ≤ length bytes.old.items }
+    ensures written { IfOk result (λ end.
+        IsWrittenOver start end (44 ∷ parts_text unit.entry) bytes.old.items bytes.new.items) }
+    ensures unchanged { OnErr result (bytes.new.items ≡ bytes.old.items) }
+{
+    match end_of(start, unit) {
+        Some(end) => {
+            make_room(bytes, end)?;
+            Ok(write_unit(bytes.as_mut_slice(), start, unit))
+        }
+        None => Err(AllocError),
+    }
+}
+
+// Where the unit ends behind the comma, if an address holds the number.
+#[inline(always)]
+fn end_of(start: usize, unit: UnitParts<'_>) -> Option<usize>
+    ensures { IfSome result (λ end. end ≡ start + 1 + parts_length unit.entry) }
+{
+    start
+        .checked_add(1 + KEY.len() + END.len())?
+        .checked_add(kind_opening(unit.annotates).len())?
+        .checked_add(said_opening(unit.said.form).len())?
+        .checked_add(said_ending(unit.said.form).len())?
+        .checked_add(unit.location.head.len())?
+        .checked_add(unit.location.onward.len())?
+        .checked_add(unit.said.text.len())?
+        .checked_add(unit.location.instance_location.len())?
+        .checked_add(unit.location.path.len())
+}
+
+const ANNOTATION: &str = "\",\"annotation\":";
+
+const ERROR: &str = "\",\"error\":";
+
+const NOT_MET: &str = " is not met\",\"instanceLocation\":\"";
+
+const PLAIN: &str = "\",\"instanceLocation\":\"";
+
+const WRITTEN: &str = ",\"instanceLocation\":\"";
+
+const KEY: &str = "\",\"keywordLocation\":\"";
+
+const END: &str = "\"}";
+
+// What stands before what the unit says.
+#[inline(always)]
+fn kind_opening(annotates: bool) -> &'static str
+    ensures { result.now ≡ 34 ∷ kind_key annotates }
+{
+    if annotates { ANNOTATION } else { ERROR }
+}
+
+// The quotation mark, where what the unit says lacks it.
+#[inline(always)]
+fn said_opening(form: Form) -> &'static str
+    ensures { result.now ≡ said_opening form }
+{
+    match form {
+        Form::NotMet => "\"",
+        Form::Plain => "\"",
+        Form::Written => "",
+    }
+}
+
+// What stands behind what the unit says.
+#[inline(always)]
+fn said_ending(form: Form) -> &'static str
+    ensures { result.now ≡ said_ending form }
+{
+    match form {
+        Form::NotMet => NOT_MET,
+        Form::Plain => PLAIN,
+        Form::Written => WRITTEN,
+    }
+}
+
+// Writes a comma and the unit over the bytes from there on: the position behind it.
+#[inline(always)]
+fn write_unit(bytes: &mut [u8], start: usize, unit: UnitParts<'_>) -> usize
+    requires { start + 1 + parts_length unit ≤ length bytes.old }
+    ensures written { IsWrittenOver start result (44 ∷ parts_text unit.entry) bytes.old bytes.new }
+    ensures len { length bytes.new ≡ length bytes.old }
+{
+    let head = write(bytes, start, ",");
+    let onward = write(bytes, head, unit.location.head);
+    let kind = write(bytes, onward, unit.location.onward);
+    let opening = write_kind(bytes, kind, unit.annotates);
+    let said = write_opening(bytes, opening, unit.said.form);
+    let ending = write(bytes, said, unit.said.text);
+    let instance_location = write_ending(bytes, ending, unit.said.form);
+    let key = write(bytes, instance_location, unit.location.instance_location);
+    let path = write(bytes, key, KEY);
+    let end = write(bytes, path, unit.location.path);
+    write(bytes, end, END)
+}
+
+// The same of what stands before what the unit says. Each text is written in a branch of its own, since one of a length
+// that is known takes few instructions.
+fn write_kind(bytes: &mut [u8], start: usize, annotates: bool) -> usize
+    requires { start + length (34 ∷ kind_key annotates) ≤ length bytes.old }
+    ensures end { result ≡ start + length (34 ∷ kind_key annotates) }
+    ensures written { take result bytes.new ≡ take start bytes.old ++ 34 ∷ kind_key annotates }
+    ensures len { length bytes.new ≡ length bytes.old }
+    ensures utf8 { is_utf8 (34 ∷ kind_key annotates) ≡ true }
+{
+    if annotates {
+        write(bytes, start, ANNOTATION)
+    } else {
+        write(bytes, start, ERROR)
+    }
+}
+
+fn write_opening(bytes: &mut [u8], start: usize, form: Form) -> usize
+    requires { start + length (said_opening form) ≤ length bytes.old }
+    ensures end { result ≡ start + length (said_opening form) }
+    ensures written { take result bytes.new ≡ take start bytes.old ++ said_opening form }
+    ensures len { length bytes.new ≡ length bytes.old }
+    ensures utf8 { is_utf8 (said_opening form) ≡ true }
+{
+    match form {
+        Form::NotMet => write(bytes, start, "\""),
+        Form::Plain => write(bytes, start, "\""),
+        Form::Written => write(bytes, start, ""),
+    }
+}
+
+fn write_ending(bytes: &mut [u8], start: usize, form: Form) -> usize
+    requires { start + length (said_ending form) ≤ length bytes.old }
+    ensures end { result ≡ start + length (said_ending form) }
+    ensures written { take result bytes.new ≡ take start bytes.old ++ said_ending form }
+    ensures len { length bytes.new ≡ length bytes.old }
+    ensures utf8 { is_utf8 (said_ending form) ≡ true }
+{
+    match form {
+        Form::NotMet => write(bytes, start, NOT_MET),
+        Form::Plain => write(bytes, start, PLAIN),
+        Form::Written => write(bytes, start, WRITTEN),
+    }
+}

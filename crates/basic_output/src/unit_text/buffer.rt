@@ -1,0 +1,178 @@
+//! Texts that grow and are cut back again and again, over bytes that stay.
+
+ghost use Rattle.std.specs.Prelude.{◌≡◌, ◌+◌, ◌≤◌, ◌<◌, ◌∷◌, ◌++◌, ℕ, [], if◌then◌else◌, is_ok, length, take, true, IfOk, IfSome, OnErr, OnOk};
+ghost use Rattle.std.specs.Str.{IsCharBoundary, is_utf8};
+ghost use Rattle.basic_output.specs.WrittenOver.{IsWrittenOver};
+
+use super::placing::place;
+use std::alloc::{AllocError, Global};
+use std::str;
+
+/// How many bytes there is room for at least behind what is written, where room is made.
+const ROOM: usize = 1_024;
+
+/// A text at the front of bytes that stay when it is cut back: what comes later is written over them, so that room is made for
+/// several texts at once.
+///
+/// Contracts see the text, by `buffer_text`.
+#[derive(Debug, Drop)]
+pub(crate) struct TextBuffer {
+    /// The bytes, of which the first are the text's.
+    pub(crate) bytes: Vec<u8>,
+    /// How many of them are the text's.
+    pub(crate) len: usize,
+    ghost within: { len ≤ length bytes.items },
+    ghost utf8: { is_utf8 (take len bytes.items) ≡ true },
+}
+
+impl TextBuffer {
+    ghost use Rattle.basic_output.specs.Buffers.{buffer_text};
+
+    /// No text. This takes no memory; what comes later takes it from `alloc`.
+    pub(crate) fn new(alloc: Global) -> TextBuffer
+        ensures { buffer_text result ≡ [] }
+    {
+        TextBuffer {
+            bytes: Vec::new(alloc),
+            len: 0,
+        }
+    }
+
+    /// Where it takes memory from.
+    pub(crate) fn allocator(&self) -> Global {
+        *self.bytes.allocator()
+    }
+
+    /// How many bytes the text has.
+    pub(crate) fn len(&self) -> usize
+        ensures { result ≡ length (buffer_text self.now) }
+    {
+        self.len
+    }
+
+    /// How many bytes there are in all.
+    pub(crate) fn room(&self) -> usize {
+        self.bytes.len()
+    }
+
+    /// The text.
+    #[inline(always)]
+    pub(crate) fn as_str(&self) -> &str
+        ensures { result.now ≡ buffer_text self.now }
+    {
+        unsafe { str::from_utf8_unchecked(&self.bytes[..self.len]) }
+    }
+
+    /// Only so many bytes of the text stay.
+    pub(crate) fn truncate(&mut self, len: usize)
+        requires { len ≤ length (buffer_text self.old) → IsCharBoundary (buffer_text self.old) len }
+        ensures { buffer_text self.new ≡ take len (buffer_text self.old) }
+    {
+        if len < self.len {
+            self.len = len;
+        }
+    }
+
+    /// No text any more.
+    pub(crate) fn clear(&mut self)
+        ensures { buffer_text self.new ≡ [] }
+    {
+        self.len = 0;
+    }
+
+    /// Appends a text. The only error is want of memory, and then the text stays as it was.
+    pub(crate) fn push_str(&mut self, text: &str) -> Result<(), AllocError>
+        ensures { buffer_text self.new ≡ (if is_ok result
+            then buffer_text self.old ++ text.now
+            else buffer_text self.old) }
+    {
+        self.push_led("", text)
+    }
+
+    /// Appends a text behind what leads it. The only error is want of memory, and then the text stays as it was.
+    #[inline(always)]
+    pub(crate) fn push_led(&mut self, lead: &str, text: &str) -> Result<(), AllocError>
+        ensures { buffer_text self.new ≡ (if is_ok result
+            then buffer_text self.old ++ (lead.now ++ text.now)
+            else buffer_text self.old) }
+    {
+        self.len = write_led(&mut self.bytes, self.len, lead, text)?;
+        Ok(())
+    }
+}
+
+// Writes a text behind what leads it over the bytes from there on: the position behind it. Room is made where there is too little.
+// The only error is want of memory, and then the bytes stay as they were.
+#[inline(always)]
+fn write_led(bytes: &mut Vec<u8>, start: usize, lead: &str, text: &str) -> Result<usize, AllocError>
+    requires { start ≤ length bytes.old.items }
+    ensures written { IfOk result (λ end.
+        IsWrittenOver start end (lead.now ++ text.now) bytes.old.items bytes.new.items) }
+    ensures unchanged { OnErr result (bytes.new.items ≡ bytes.old.items) }
+{
+    match end_behind(start, lead, text) {
+        Some(end) => {
+            make_room(bytes, end)?;
+            Ok(write_behind(bytes.as_mut_slice(), start, lead, text))
+        }
+        None => Err(AllocError),
+    }
+}
+
+// Where the text ends behind what leads it, if an address holds the number.
+#[inline(always)]
+fn end_behind(start: usize, lead: &str, text: &str) -> Option<usize>
+    ensures { IfSome result (λ end. end ≡ start + length lead.now + length text.now) }
+{
+    start.checked_add(lead.len())?.checked_add(text.len())
+}
+
+// Writes the text behind what leads it over the bytes from there on: the position behind it.
+#[inline(always)]
+fn write_behind(bytes: &mut [u8], start: usize, lead: &str, text: &str) -> usize
+    requires { start + length lead.now + length text.now ≤ length bytes.old }
+    ensures written { IsWrittenOver start result (lead.now ++ text.now) bytes.old bytes.new }
+    ensures len { length bytes.new ≡ length bytes.old }
+{
+    let behind = write(bytes, start, lead);
+    write(bytes, behind, text)
+}
+
+/// As many bytes as that at least: what stands there stays. The only error is want of memory, and then the bytes stay as they
+/// were.
+#[inline(always)]
+pub(crate) fn make_room(bytes: &mut Vec<u8>, end: usize) -> Result<(), AllocError>
+    ensures room { OnOk result (end ≤ length bytes.new.items) }
+    ensures front { (start : ℕ) → start ≤ length bytes.old.items
+        → take start bytes.new.items ≡ take start bytes.old.items }
+    ensures unchanged { OnErr result (bytes.new.items ≡ bytes.old.items) }
+{
+    if end <= bytes.len() {
+        return Ok(());
+    }
+    make_more_room(bytes, end)
+}
+
+// The same, where there are fewer. It is called apart, since few units find so few.
+#[inline(never)]
+fn make_more_room(bytes: &mut Vec<u8>, end: usize) -> Result<(), AllocError>
+    requires { length bytes.old.items < end }
+    ensures room { OnOk result (end ≤ length bytes.new.items) }
+    ensures front { (start : ℕ) → start ≤ length bytes.old.items
+        → take start bytes.new.items ≡ take start bytes.old.items }
+    ensures unchanged { OnErr result (bytes.new.items ≡ bytes.old.items) }
+{
+    bytes.resize(end.saturating_add(ROOM), b',')
+}
+
+/// Writes a text over as many of the bytes from there on: the position behind it.
+#[inline(always)]
+pub(crate) fn write(bytes: &mut [u8], start: usize, text: &str) -> usize
+    requires { start + length text.now ≤ length bytes.old }
+    ensures end { result ≡ start + length text.now }
+    ensures written { take result bytes.new ≡ take start bytes.old ++ text.now }
+    ensures len { length bytes.new ≡ length bytes.old }
+    ensures utf8 { is_utf8 text.now ≡ true }
+{
+    place(bytes, start, text.as_bytes())
+}

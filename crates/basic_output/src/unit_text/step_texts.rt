@@ -1,0 +1,302 @@
+//! The texts of steps, one behind the other, as they stand in the output.
+
+ghost use Rattle.std.specs.Prelude.{◌≡◌, ◌+◌, ◌≤◌, ◌<◌, ◌∷◌, ◌++◌, [], List, true, decimal, drop, get_or, length, IfOk, OnOk};
+ghost use Rattle.std.specs.List.{list_all};
+ghost use Rattle.keywords.specs.Rows.{row_of};
+ghost use Rattle.locations.specs.Steps.{token, tokens};
+ghost use Rattle.locations.specs.declared.step.Step.{Step};
+ghost use Rattle.basic_output.specs.Buffers.{buffer_text};
+ghost use Rattle.basic_output.specs.Notations.{IsPushed, kept_text, stands_in_pointer};
+ghost use Rattle.basic_output.specs.Pieces.{is_plain};
+ghost use Rattle.basic_output.specs.declared.unit_text.step_texts.Notation.TheVariants as notation;
+
+use super::buffer::TextBuffer;
+use super::escaping::push_escaped;
+use keywords::Keyword;
+use locations::{Step, push_fragment, push_pointer};
+use std::alloc::{AllocError, Global};
+
+// Each plain byte stands at its own place, and a comma at every other place.
+static PLAIN: [u8; 256] = *b"\
+    ,,,,,,,,,,,,,,,,,,,,,,,,,,,,,,,,\
+    ,,,,$,,,,,,,,-.,0123456789,,,,,,\
+    ,ABCDEFGHIJKLMNOPQRSTUVWXYZ,,,,_\
+    ,abcdefghijklmnopqrstuvwxyz,,,,,\
+    ,,,,,,,,,,,,,,,,,,,,,,,,,,,,,,,,\
+    ,,,,,,,,,,,,,,,,,,,,,,,,,,,,,,,,\
+    ,,,,,,,,,,,,,,,,,,,,,,,,,,,,,,,,\
+    ,,,,,,,,,,,,,,,,,,,,,,,,,,,,,,,,";
+
+/// How steps are written.
+#[derive(Clone, Copy, Debug)]
+pub(crate) enum Notation {
+    /// As a pointer (RFC 6901, section 3).
+    Pointer,
+    /// As a pointer in a URI's fragment (RFC 6901, section 6).
+    Fragment,
+}
+
+/// The texts of the first steps of a list, with the escapes of a string of JSON: what is written of a step stays while later ones
+/// come and go.
+///
+/// Contracts see of which steps, by `AreStepTexts`.
+#[derive(Debug, Drop)]
+pub(crate) struct StepTexts {
+    text: TextBuffer,
+    // Where the text of each step starts.
+    starts: Vec<usize>,
+    // From this step on all are plain: they are written in the same way in a pointer and in its fragment.
+    plain_from: usize,
+}
+
+impl StepTexts {
+    ghost use Rattle.basic_output.specs.StepTexts.{AreSomeTexts, AreStepTexts};
+
+    /// Of no steps. This takes no memory; what is written takes it from `alloc`.
+    pub(crate) fn new(alloc: Global) -> StepTexts
+        ensures { (n : Notation) (ss : List Step) → AreStepTexts n result ss }
+    {
+        StepTexts {
+            text: TextBuffer::new(alloc),
+            starts: Vec::new(alloc),
+            plain_from: 0,
+        }
+    }
+
+    /// Of no steps any more.
+    pub(crate) fn clear(&mut self)
+        ensures { (n : Notation) (ss : List Step) → AreStepTexts n self.new ss }
+    {
+        self.text.clear();
+        self.starts.clear();
+        self.plain_from = 0;
+    }
+
+    /// Where they take memory from.
+    pub(crate) fn allocator(&self) -> Global {
+        self.text.allocator()
+    }
+
+    /// How many bytes there are in all.
+    pub(crate) fn room(&self) -> usize {
+        self.text.room()
+    }
+
+    /// How many steps are written.
+    pub(crate) fn len(&self) -> usize
+        ensures { result ≡ length self.now.starts.items }
+    {
+        self.starts.len()
+    }
+
+    /// The text of all that are written.
+    pub(crate) fn as_str(&self) -> &str
+        ensures { result.now ≡ buffer_text self.now.text }
+    {
+        self.text.as_str()
+    }
+
+    /// Whether all steps from there on are plain.
+    pub(crate) fn are_plain_from(&self, len: usize) -> bool
+        ensures { result ≡ true → self.now.plain_from ≤ len }
+    {
+        self.plain_from <= len
+    }
+
+    /// Writes the steps that are missing. The only error is want of memory, and then none is written.
+    #[inline(never)]
+    pub(crate) fn write(&mut self, notation: Notation, steps: &[Step<'_>]) -> Result<(), AllocError>
+        requires { AreStepTexts notation self.old steps.now }
+        ensures texts { AreStepTexts notation self.new steps.now }
+        ensures all { OnOk result (length self.new.starts.items ≡ length steps.now) }
+    {
+        while self.starts.len() < steps.len() {
+            let written = self.starts.len();
+            self.push(notation, steps[written])?;
+        }
+        Ok(())
+    }
+
+    // Writes one step more.
+    fn push(&mut self, notation: Notation, step: Step<'_>) -> Result<(), AllocError>
+        ensures texts { (ss : List Step) → length self.old.starts.items < length ss
+            → step.entry ≡ get_or ss (length self.old.starts.items) step.entry
+            → AreStepTexts notation self.old ss → AreStepTexts notation self.new ss }
+        ensures one { OnOk result
+            (length self.new.starts.items ≡ length self.old.starts.items + 1) }
+    {
+        match push_next(&mut self.text, &mut self.starts, notation, step) {
+            Ok(true) => Ok(()),
+            Ok(false) => {
+                self.plain_from = self.starts.len();
+                Ok(())
+            }
+            Err(error) => {
+                self.clear();
+                Err(error)
+            }
+        }
+    }
+
+    /// The texts of so many steps at most stay.
+    pub(crate) fn truncate(&mut self, len: usize)
+        requires { AreSomeTexts self.old }
+        ensures texts { (n : Notation) (ss : List Step)
+            → AreStepTexts n self.old ss → AreStepTexts n self.new ss }
+        ensures fewer { length self.new.starts.items ≤ len }
+    {
+        if len < self.starts.len() {
+            self.text.truncate(self.starts[len]);
+            self.starts.truncate(len);
+            self.plain_from = self.plain_from.min(len);
+        }
+    }
+
+    /// The text behind so many steps.
+    pub(crate) fn text_behind(&self, len: usize) -> &str
+        requires { AreSomeTexts self.now }
+        ensures { (n : Notation) (ss : List Step) → AreStepTexts n self.now ss
+            → length self.now.starts.items ≡ length ss
+            → result.now ≡ kept_text n (drop len (tokens ss)) }
+    {
+        if len < self.starts.len() {
+            &self.text.as_str()[self.starts[len]..]
+        } else {
+            ""
+        }
+    }
+}
+
+// Appends the text of a step, and where it starts: whether the step is plain.
+#[inline(always)]
+fn push_next(
+    text: &mut TextBuffer,
+    starts: &mut Vec<usize>,
+    notation: Notation,
+    step: Step<'_>,
+) -> Result<bool, AllocError>
+    ensures text { IfOk result (λ plain. IsPushed notation (token step.entry) plain
+        (buffer_text text.old) (buffer_text text.new)) }
+    ensures start { OnOk result (starts.new.items
+        ≡ starts.old.items ++ length (buffer_text text.old) ∷ []) }
+{
+    let start = text.len();
+    let plain = push_step(text, notation, step)?;
+    starts.push(start)?;
+    Ok(plain)
+}
+
+// Appends the text of a step: whether it is plain.
+#[inline(always)]
+fn push_step(text: &mut TextBuffer, notation: Notation, step: Step<'_>) -> Result<bool, AllocError>
+    ensures { IfOk result (λ plain. IsPushed notation (token step.entry) plain
+        (buffer_text text.old) (buffer_text text.new)) }
+{
+    match step {
+        Step::Name(name) => push_name(text, notation, name),
+        Step::Index(index) => push_index(text, notation, index),
+        Step::Keyword(keyword) => push_keyword(text, notation, keyword),
+    }
+}
+
+// The same of a keyword's name, which is plain.
+#[inline(always)]
+fn push_keyword(
+    text: &mut TextBuffer,
+    notation: Notation,
+    keyword: Keyword,
+) -> Result<bool, AllocError>
+    ensures { IfOk result (λ plain. IsPushed notation (row_of keyword).name plain
+        (buffer_text text.old) (buffer_text text.new)) }
+{
+    let _notation = notation;
+    text.push_led("/", keyword.name())?;
+    Ok(true)
+}
+
+// The same of an index, which is plain.
+#[inline(always)]
+fn push_index(text: &mut TextBuffer, notation: Notation, index: usize) -> Result<bool, AllocError>
+    ensures { IfOk result (λ plain. IsPushed notation (decimal index) plain
+        (buffer_text text.old) (buffer_text text.new)) }
+{
+    let _notation = notation;
+    let mut digits = itoa::Buffer::new();
+    text.push_led("/", digits.format(index))?;
+    Ok(true)
+}
+
+// The same of a member's name.
+#[inline(always)]
+fn push_name(text: &mut TextBuffer, notation: Notation, name: &str) -> Result<bool, AllocError>
+    ensures { IfOk result (λ plain. IsPushed notation name.now plain
+        (buffer_text text.old) (buffer_text text.new)) }
+{
+    let plain = are_plain_bytes(name.as_bytes());
+    if plain {
+        text.push_led("/", name)?;
+    } else {
+        push_other_name(text, notation, name)?;
+    }
+    Ok(plain)
+}
+
+// The same of a name that isn't plain. It is called apart, since few names are such.
+#[inline(never)]
+fn push_other_name(text: &mut TextBuffer, notation: Notation, name: &str) -> Result<(), AllocError>
+    ensures { OnOk result (buffer_text text.new
+        ≡ buffer_text text.old ++ kept_text notation (name.now ∷ [])) }
+{
+    match notation {
+        Notation::Pointer => push_in_pointer(text, name),
+        Notation::Fragment => push_in_fragment(text, name),
+    }
+}
+
+fn push_in_pointer(text: &mut TextBuffer, name: &str) -> Result<(), AllocError>
+    ensures { OnOk result (buffer_text text.new
+        ≡ buffer_text text.old ++ kept_text notation.Pointer (name.now ∷ [])) }
+{
+    if stands_in_pointer(name) {
+        return push_escaped(text, "/", name);
+    }
+    let mut written = String::new(text.allocator());
+    push_pointer(&mut written, &[Step::Name(name)])?;
+    push_escaped(text, "", written.as_str())
+}
+
+fn push_in_fragment(text: &mut TextBuffer, name: &str) -> Result<(), AllocError>
+    ensures { OnOk result (buffer_text text.new
+        ≡ buffer_text text.old ++ kept_text notation.Fragment (name.now ∷ [])) }
+{
+    let mut written = String::new(text.allocator());
+    push_fragment(&mut written, &[Step::Name(name)])?;
+    push_escaped(text, "", written.as_str())
+}
+
+// Whether a pointer has the token as it is.
+fn stands_in_pointer(token: &str) -> bool
+    ensures { result ≡ list_all stands_in_pointer token.now }
+{
+    token
+        .as_bytes()
+        .iter()
+        .all(|byte| *byte != b'~' && *byte != b'/')
+}
+
+// Whether a text is written in the same way in a pointer and in its fragment, and nothing of it is escaped in a string.
+fn are_plain_bytes(bytes: &[u8]) -> bool
+    ensures { result ≡ list_all is_plain bytes.now }
+{
+    let mut plain = true;
+    for byte in bytes {
+        plain &= is_plain(*byte);
+    }
+    plain
+}
+
+fn is_plain(byte: u8) -> bool
+    ensures { result ≡ is_plain byte }
+{
+    PLAIN[byte as usize] != b','
+}

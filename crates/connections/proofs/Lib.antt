@@ -3,5 +3,8 @@ pub mod Dropped
 pub mod Whole
 pub mod Joined
 pub mod Turned
-pub mod Fed
+pub mod Sent
+pub mod AnsweredLists
+pub mod Changed
+pub mod Happened
 pub mod SameHistory

@@ -7,7 +7,7 @@ use Rattle.definitions.specs.Values.{Text}
 use Rattle.http_definitions.specs.Connections.{Answers, Connection, holding, closed, last_words}
 use Rattle.faults.specs.declared.Fault.{Fault}
 use Rattle.faults.specs.declared.Fault.TheVariants.{NoRoom, IdInUse, NoSession}
-use Rattle.connections.specs.Views.{connection_view, Feeds, FeedsSome, is_closed}
+use Rattle.connections.specs.Views.{connection_view, Feeds, FeedsSome, is_closed, held_count}
 use Rattle.connections.specs.declared.sessions.Sessions.{Sessions}
 
 -- what answers the requests of all connections
@@ -49,3 +49,8 @@ IsEnded (Some c) (Err f) now = (f ≡ NoRoom) × (now ≡ None)
 abbrev pub is_closed_at : Option Connection → Bool
 is_closed_at None = true
 is_closed_at (Some c) = is_closed c
+
+-- an id that isn't open holds nothing
+abbrev pub held_count_at : Option Connection → ℕ
+held_count_at None = 0
+held_count_at (Some c) = held_count c

@@ -4,4 +4,4 @@ pub mod Messages
 pub mod Progress
 pub mod Views
 pub mod Connected
-pub mod Feeding
+pub mod Events

@@ -1,5 +1,5 @@
 -- Connections as the definitions have them.
-use Rattle.std.specs.Prelude.{◌≡◌, [], ◌++◌, Bool, true, false}
+use Rattle.std.specs.Prelude.{◌≡◌, ℕ, [], ◌++◌, length, Bool, true, false}
 use Rattle.definitions.specs.Values.{Text}
 use Rattle.http_definitions.specs.Connections as meaning
 use Rattle.http_definitions.specs.Connections.{Answers, Takes, holding, closed}
@@ -24,3 +24,8 @@ FeedsSome answers closed piece s t = ⊥
 abbrev pub is_closed : meaning.Connection → Bool
 is_closed (holding held) = false
 is_closed closed = true
+
+-- how many bytes a connection holds
+abbrev pub held_count : meaning.Connection → ℕ
+held_count (holding held) = length held
+held_count closed = 0

@@ -1,10 +1,11 @@
 //! Answering a whole message.
-ghost use Rattle.std.specs.Prelude.{◌≡◌, IfOk, IfErr, OnOk, OnErr, string_bytes};
+ghost use Rattle.std.specs.Prelude.{◌≡◌, ◌++◌, IfOk, IfErr, OnOk, OnErr, string_bytes};
+ghost use Rattle.http_definitions.specs.ReplyTexts.{reply_text};
 ghost use Rattle.requests.specs.Views.{reply_view};
 ghost use Rattle.connections.specs.Messages.{HasMessage};
 ghost use Rattle.connections.specs.Progress.{AnswersAt, MayAnswer, Replies};
 
-use crate::handlers::Handler;
+use crate::handlers::{Exchange, Handler};
 use crate::messages::{key_at, request_at};
 use faults::Fault;
 use reply_texts::write_reply;
@@ -32,6 +33,42 @@ fn reply_to<H: Handler>(
     }
 }
 
+// Has the handler note that the message at the front was answered.
+fn note<H: Handler>(handler: &H, bytes: &[u8], heading: Heading, reply: &[u8])
+    requires { HasMessage bytes.now heading }
+{
+    handler.note(&Exchange {
+        key: key_at(bytes, heading),
+        method: heading.method,
+        target: heading.target.of(bytes),
+        reply,
+    });
+}
+
+// Appends the reply to the message at the front, and has the handler note it.
+fn tell<H: Handler>(
+    alloc: Global,
+    handler: &H,
+    out: &mut String,
+    bytes: &[u8],
+    heading: Heading,
+    reply: &Reply,
+) -> Result<(), Fault>
+    requires { HasMessage bytes.now heading }
+    ensures ok { OnOk result (string_bytes out.new
+        ≡ string_bytes out.old ++ reply_text heading.is_last (reply_view reply.now)) }
+    ensures err { IfErr result (λ f. f ≡ Fault.NoRoom) }
+{
+    let start = out.len();
+    match write_reply(alloc, out, heading.is_last, reply) {
+        Err(fault) => Err(fault),
+        Ok(()) => {
+            note(handler, bytes, heading, &out.as_bytes()[start..]);
+            Ok(())
+        }
+    }
+}
+
 /// Answers the message at the front and appends the reply. The only error is want of memory, [`Fault::NoRoom`]; the
 /// message may be answered then.
 pub fn answer<H: Handler>(
@@ -50,6 +87,6 @@ pub fn answer<H: Handler>(
 {
     match reply_to(alloc, handler, bytes, heading) {
         Err(fault) => Err(fault),
-        Ok(reply) => write_reply(alloc, out, heading.is_last, &reply),
+        Ok(reply) => tell(alloc, handler, out, bytes, heading, &reply),
     }
 }

@@ -93,7 +93,7 @@ impl Held {
 
 impl Connection {
     ghost use Rattle.http_definitions.specs.Connections.{holding, closed, last_words};
-    ghost use Rattle.connections.specs.Views.{connection_view, Feeds, FeedsSome, is_closed};
+    ghost use Rattle.connections.specs.Views.{connection_view, Feeds, FeedsSome, is_closed, held_count};
 
     /// A new connection. This takes no memory.
     pub fn new(alloc: Global) -> Connection
@@ -109,6 +109,16 @@ impl Connection {
         match self {
             Connection::Holding(_) => false,
             Connection::Closed => true,
+        }
+    }
+
+    /// How many bytes the connection holds.
+    pub fn held_len(&self) -> usize
+        ensures { result ≡ held_count (connection_view self.now) }
+    {
+        match self {
+            Connection::Holding(held) => held.buffer.len(),
+            Connection::Closed => 0,
         }
     }
 

@@ -4,7 +4,7 @@
 mod answering;
 mod buffers;
 mod connection;
-mod feeding;
+mod events;
 mod handlers;
 mod messages;
 mod phases;
@@ -12,6 +12,7 @@ mod sessions;
 mod taking;
 mod turns;
 
-pub use feeding::{cuts_decide_nothing, fed_pieces_are_answered};
-pub use handlers::Handler;
+pub use events::{cuts_decide_nothing, events_are_answered};
+pub use handlers::{Exchange, Handler};
+pub use request_heads::Method;
 pub use sessions::Sessions;

@@ -19,7 +19,7 @@ pub struct Sessions<H> {
 }
 
 impl<H> Sessions<H> {
-    ghost use Rattle.connections.specs.Connected.{handler_of, connection_at, OthersStay, IsOpened, IsEnded, is_closed_at};
+    ghost use Rattle.connections.specs.Connected.{handler_of, connection_at, OthersStay, IsOpened, IsEnded, is_closed_at, held_count_at};
 
     /// No connection. This takes no memory.
     pub fn new(alloc: Global, handler: H) -> Sessions<H>
@@ -70,6 +70,16 @@ impl<H> Sessions<H> {
             None => true,
         }
     }
+
+    /// How many bytes a connection holds, of a request that isn't whole; none where it is closed or isn't open.
+    pub fn held_len(&self, id: u64) -> usize
+        ensures { result ≡ held_count_at (connection_at self.now id) }
+    {
+        match self.connections.get(&id) {
+            Some(connection) => connection.held_len(),
+            None => 0,
+        }
+    }
 }
 
 impl<H: Handler> Sessions<H> {
@@ -79,7 +89,7 @@ impl<H: Handler> Sessions<H> {
     /// changes nothing, and want of memory, [`Fault::NoRoom`]: then the connection is closed, no bytes are answered, and
     /// the first of the requests may be answered.
     ///
-    /// How streams are cut decides nothing: [`fed_pieces_are_answered`](crate::fed_pieces_are_answered),
+    /// How streams are cut decides nothing: [`events_are_answered`](crate::events_are_answered),
     /// [`cuts_decide_nothing`](crate::cuts_decide_nothing).
     pub fn feed(&mut self, alloc: Global, id: u64, piece: &[u8]) -> Result<Vec<u8>, Fault>
         ensures fed { IsAnswered H.answers (connection_at self.old id) piece.now
@@ -107,7 +117,10 @@ impl<H: Handler> Sessions<H> {
         ensures others { OthersStay id self.old self.new }
     {
         match self.connections.get_mut(&id) {
-            Some(connection) => connection.feed(alloc, &mut self.handler, piece, out),
+            Some(connection) => {
+                self.handler.take_up(id);
+                connection.feed(alloc, &mut self.handler, piece, out)
+            }
             None => Err(Fault::NoSession),
         }
     }

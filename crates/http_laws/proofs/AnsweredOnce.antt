@@ -87,12 +87,13 @@ answered_once answers once bytes s t u out other_out now other x y =
     (one.3, subst (λ o. IsSameSoFar out now o other) (sym y.out_is) (subst (λ o. IsSameSoFar o now (reply_texts y.messages y.replies ++ y.told) other) (sym first) same))
 
 -- ---- the end of the stream
-end_words : Bool → Text → Text
+pub end_words : Bool → Text → Text
 end_words true rest = []
 end_words false [] = []
 end_words false (b ∷ rest) = closing_text
 
-ended_words : (c : Bool) (rest told : Text) (now : Connection) → Ends c rest told now → told ++ last_words now ≡ end_words c rest
+-- what is told in all does not depend on when the connection was closed
+pub ended_words : (c : Bool) (rest told : Text) (now : Connection) → Ends c rest told now → told ++ last_words now ≡ end_words c rest
 unfolding end_words
 ended_words true rest told now e = ap₂ (λ t n. t ++ last_words n) e.0 e.1
 ended_words false [] told now e = elim e [

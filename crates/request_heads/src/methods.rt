@@ -32,6 +32,18 @@ impl Method {
         }
     }
 
+    /// The name, in capital letters.
+    pub fn name(self) -> &'static str
+        ensures { result.now ≡ method_text self }
+    {
+        match self {
+            Method::Put => "PUT",
+            Method::Delete => "DELETE",
+            Method::Post => "POST",
+            Method::Get => "GET",
+        }
+    }
+
     /// Whether the head has to tell the length of the body.
     pub fn must_tell(self) -> bool
         ensures { entry (method_text self) methods ≡ Some result }

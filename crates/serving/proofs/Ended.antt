@@ -7,7 +7,7 @@ use Rattle.connections.specs.Connected.{IsOpened, IsEnded}
 use Rattle.faults.specs.declared.Fault.{Fault}
 use Rattle.serving.specs.Transfers.{Transfer}
 use Rattle.serving.specs.Writing.{IsWriting, Writes, WritesSome}
-use Rattle.serving.specs.Exchanges.{wire, Tells, HasEnded}
+use Rattle.serving.specs.Exchanges.{wire, Tells, HasEnded, IsLast}
 use Rattle.serving.specs.Serving.{IsCutOff, IsServed}
 use Rattle.serving.proofs.Exchanged.{reads_nothing, words_told, words_broken}
 
@@ -40,9 +40,15 @@ pub not_opened : {S : Type 0} (answers : Answers S) (c d : Option Connection) (s
 not_opened answers (Some c) d s t reads writes f x e = (x.0, ap (λ u. wire u reads writes) e)
 not_opened answers None d s t reads writes f x e =
     subst (λ u. IsServed answers None (wire s reads writes) (Err f) (wire u reads writes)) (sym e)
-    (inl (inr (inr (x.0, inl (holding [], [], reads_nothing answers (wire s reads writes))))))
+    (inl (inr (inr (x.0, inl (holding [], [], inl refl, reads_nothing answers (wire s reads writes))))))
 
 -- ---- one that is cut off
+last_of : (last : List Transfer) (now : Connection) → HasEnded last now → IsLast last
+last_of last now x = elim x [
+  | inl e ↦ inr e
+  | inr e ↦ inl e.0
+]
+
 pub served_cut : {S : Type 0} (answers : Answers S) (c d : Option Connection) (u : Unit {0}) (s s1 s2 t : S) (reads writes more others : List Transfer) (f : Fault)
     → IsOpened c (Ok u) d → s1 ≡ s → t ≡ s2 → IsCutOff answers (wire s1 reads writes) f (wire s2 more others)
     → IsServed answers c (wire s reads writes) (Err f) (wire t more others)
@@ -53,11 +59,11 @@ served_cut answers None d u s s1 s2 t reads writes more others f x e h y =
 
 -- its last words couldn't be made
 pub words_lack_room : {S : Type 0} (answers : Answers S) (d e : Option Connection) (now : Connection) (last : List Transfer) (s t : S) (reads writes more others : List Transfer) (f : Fault)
-    → d ≡ Some now → Tells answers (wire s reads writes) last now (wire t more others) → IsEnded d (Err f) e
+    → d ≡ Some now → HasEnded last now → Tells answers (wire s reads writes) last now (wire t more others) → IsEnded d (Err f) e
     → IsCutOff answers (wire s reads writes) f (wire t more others)
-words_lack_room answers d e now last s t reads writes more others f at x y =
+words_lack_room answers d e now last s t reads writes more others f at ended x y =
     let lacks = subst (λ k. IsEnded k (Err f) e) at y in
-    inl (inr (inr (lacks.0, inl (now, last, x))))
+    inl (inr (inr (lacks.0, inl (now, last, last_of last now ended, x))))
 
 -- ---- one that came to its end
 pub words_of : (c e : Option Connection) (now : Connection) (out : Vec ℕ Global) → c ≡ Some now → IsEnded c (Ok out) e → out.items ≡ last_words now
@@ -75,4 +81,4 @@ served_words answers None d u now last s s1 s2 t reads writes more others ends w
 served_words answers None d u now last s s1 s2 t reads writes more others ends words (Err f) x e h ended y w z =
     subst (λ v. IsServed answers None (wire v reads writes) (Err f) (wire t more ends)) e
     (subst (λ v. IsServed answers None (wire s1 reads writes) (Err f) (wire v more ends)) (sym h)
-    (inl (inr (inl (z.0, now, last, words_broken answers (wire s1 reads writes) last now s2 more others ends y (subst (λ b. WritesSome others b ends) w z.1))))))
+    (inl (inr (inl (z.0, now, last, last_of last now ended, words_broken answers (wire s1 reads writes) last now s2 more others ends y (subst (λ b. WritesSome others b ends) w z.1))))))

@@ -3,3 +3,5 @@ pub mod Written
 pub mod Exchanged
 pub mod Turned
 pub mod Ended
+pub mod Bounded
+pub mod Talked

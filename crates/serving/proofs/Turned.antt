@@ -38,7 +38,7 @@ pub piece_failed : {S : Type 0} (answers : Answers S) (start : Wire S) (held pie
     → c ≡ Some (holding held) → Tells answers start [] (holding held) (wire s reads writes) → has_bytes piece ≡ true → more ≡ reads ++ (Some piece ∷ [])
     → IsPieceAnswered answers c piece s writes (Err f) d t others → BreaksOff answers start f (wire t more others)
 piece_failed answers start held piece c d s t reads writes more others f at x h e y = elim (answered_behind answers held piece c s writes (Err f) d t others at y) [
-  | inl w ↦ inr (inl (w.0, w.1, [], piece_broken answers start held piece w.2 w.1 s t reads writes more others x h e w.3 w.4))
+  | inl w ↦ inr (inl (w.0, w.1, [], inl refl, piece_broken answers start held piece w.2 w.1 s t reads writes more others x h e w.3 w.4))
   | inr w ↦ inr (inr (w.0, inr (record { middle = wire s reads writes; held = held; told = x; piece = piece; on = e; some = w.1; untold = w.2 })))
 ]
 

@@ -60,10 +60,14 @@ pub record LacksRoom {S : Type 0} (answers : Answers S) (before after : Wire S) 
 abbrev pub HasEnded : List Transfer → Connection → Type 0
 HasEnded last now = (last ≡ Some [] ∷ []) ⊎ ((last ≡ []) × (now ≡ closed))
 
+-- what is read last where memory or a writer fails: no more, or the end of the bytes
+abbrev pub IsLast : List Transfer → Type 0
+IsLast last = (last ≡ []) ⊎ (last ≡ Some [] ∷ [])
+
 -- what each fault leaves
 abbrev pub BreaksOff : {S : Type 0} → Answers S → Wire S → Fault → Wire S → Type 0
 BreaksOff answers before f after =
     ((f ≡ ReadFailed) × (now : Connection) × Tells answers before (None ∷ []) now after)
-    ⊎ (((f ≡ WriteFailed) × (now : Connection) × (last : List Transfer) × TellsSome answers before last now after)
+    ⊎ (((f ≡ WriteFailed) × (now : Connection) × (last : List Transfer) × IsLast last × TellsSome answers before last now after)
     ⊎ ((f ≡ NoRoom)
-    × (((now : Connection) × (last : List Transfer) × Tells answers before last now after) ⊎ LacksRoom answers before after)))
+    × (((now : Connection) × (last : List Transfer) × IsLast last × Tells answers before last now after) ⊎ LacksRoom answers before after)))

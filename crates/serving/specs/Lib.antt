@@ -7,3 +7,4 @@ pub mod Writing
 pub mod Exchanges
 pub mod Turns
 pub mod Serving
+pub mod Talks

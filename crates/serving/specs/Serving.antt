@@ -1,13 +1,29 @@
 -- What a connection from its start to its end comes to.
-use Rattle.std.specs.Prelude.{◌≡◌, ◌⊎◌, ℕ, List, [], Option, Some, None, Result, Ok, Err, length}
+use Rattle.std.specs.Prelude.{◌≡◌, ◌⊎◌, ◌≤◌, ℕ, List, [], ◌∷◌, ◌++◌, All, Option, Some, None, Result, Ok, Err, length}
 use Rattle.http_definitions.specs.Connections.{Answers, Connection}
 use Rattle.faults.specs.declared.Fault.{Fault}
 use Rattle.faults.specs.declared.Fault.TheVariants.{IdInUse, ReadBound}
-use Rattle.serving.specs.Transfers.{Transfer}
+use Rattle.serving.specs.Transfers.{Transfer, transfer_size}
 use Rattle.serving.specs.Exchanges.{Wire, Tells, TellsAll, HasEnded, BreaksOff}
 
+-- how often a connection is read at most
 abbrev pub most_reads : ℕ
 most_reads = 65536
+
+-- how many bytes a read is given room for
+abbrev pub most_piece : ℕ
+most_piece = 4096
+
+-- so often at most a connection was read, and so many bytes at most each time
+pub record IsBounded (before after : List Transfer) : Type 0 where
+  pub reads : List Transfer
+  pub on : after ≡ before ++ reads
+  pub count : length reads ≤ most_reads
+  pub sizes : All (λ t. transfer_size t ≤ most_piece) reads
+
+-- one read, of so many bytes at most
+abbrev pub ReadsOnce : ℕ → List Transfer → List Transfer → Type 0
+ReadsOnce room before after = (t : Transfer) × (after ≡ before ++ t ∷ []) × (transfer_size t ≤ room)
 
 -- so many reads came to no end
 abbrev pub ReachesBound : {S : Type 0} → Answers S → Wire S → Wire S → Type 0

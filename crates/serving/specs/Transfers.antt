@@ -1,10 +1,15 @@
 -- What the calls of a reader or a writer moved.
-use Rattle.std.specs.Prelude.{ℕ, List, [], ◌∷◌, ◌++◌, Option, Some, None, Result, Ok, Err, take}
+use Rattle.std.specs.Prelude.{ℕ, List, [], ◌∷◌, ◌++◌, Option, Some, None, Result, Ok, Err, length, take}
 use Rattle.definitions.specs.Values.{Text}
 
 -- the bytes that a call moved; none where it failed
 abbrev pub Transfer : Type 0
 Transfer = Option Text
+
+-- how many they are
+abbrev pub transfer_size : Transfer → ℕ
+transfer_size (Some bytes) = length bytes
+transfer_size None = 0
 
 -- all bytes of some calls, in order
 abbrev pub transferred_bytes : List Transfer → Text

@@ -4,7 +4,7 @@ ghost use Rattle.std.specs.Prelude.{◌≡◌, [], Some};
 ghost use Rattle.http_definitions.specs.Connections.{holding};
 ghost use Rattle.connections.specs.Connected.{handler_of, connection_at, OthersStay};
 ghost use Rattle.serving.specs.Exchanges.{wire};
-ghost use Rattle.serving.specs.Serving.{IsExchanged};
+ghost use Rattle.serving.specs.Serving.{IsBounded, IsExchanged};
 
 use crate::pieces::{Progress, serve_piece};
 use crate::streams::{ByteReader, ByteWriter};
@@ -31,6 +31,7 @@ pub fn exchange<H: Handler, R: ByteReader, W: ByteWriter>(
         (wire (handler_of sessions.old) (R.reads reader.old) (W.writes writer.old)) result
         (connection_at sessions.new id)
         (wire (handler_of sessions.new) (R.reads reader.new) (W.writes writer.new)) }
+    ensures bounded { IsBounded (R.reads reader.old) (R.reads reader.new) }
     ensures others { OthersStay id sessions.old sessions.new }
 {
     let mut buffer = [0u8; MOST_PIECE];

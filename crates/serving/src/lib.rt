@@ -17,3 +17,4 @@ pub use memory::{MemoryReader, MemoryWriter, Pace, Pause};
 pub use recorded::Recorded;
 pub use served::serve;
 pub use streams::{ByteReader, ByteWriter};
+pub use writing::write_all;

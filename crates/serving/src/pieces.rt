@@ -1,7 +1,9 @@
 //! Answering a piece of a connection's stream.
 
+ghost use Rattle.std.specs.Prelude.{◌≤◌, OnOk, length, string_capacity};
 ghost use Rattle.connections.specs.Connected.{handler_of, connection_at, OthersStay};
 ghost use Rattle.serving.specs.Exchanges.{wire};
+ghost use Rattle.serving.specs.Serving.{ReadsOnce};
 ghost use Rattle.serving.specs.Turns.{IsPieceAnswered, IsTurn};
 
 use crate::streams::{ByteReader, ByteWriter};
@@ -23,9 +25,12 @@ pub enum Progress {
 }
 
 // Gives the memory for replies back, where it is more than stays.
-fn give_back(alloc: Global, out: &mut String) {
+fn give_back(out: &mut String)
+    ensures { string_capacity out.new ≤ MOST_KEPT }
+{
     if out.capacity() > MOST_KEPT {
-        *out = String::new(alloc);
+        out.clear();
+        out.shrink_to_fit();
     }
 }
 
@@ -41,19 +46,20 @@ fn answer_piece<H: Handler, W: ByteWriter>(
     ensures answered { IsPieceAnswered H.answers (connection_at sessions.old id) piece.now
         (handler_of sessions.old) (W.writes writer.old) result
         (connection_at sessions.new id) (handler_of sessions.new) (W.writes writer.new) }
+    ensures kept { OnOk result (string_capacity out.new ≤ MOST_KEPT) }
     ensures others { OthersStay id sessions.old sessions.new }
 {
     match sessions.feed_into(alloc, id, piece, out) {
         Ok(()) => {
             let written = write_all(writer, out.as_bytes());
-            give_back(alloc, out);
+            give_back(out);
             written
         }
         Err(fault) => Err(fault),
     }
 }
 
-/// Reads a piece into the buffer and answers it; `out` is lent for the replies.
+/// Reads once, a piece into the buffer, and answers it; `out` is lent for the replies, and keeps 1,048,576 bytes at most.
 pub fn serve_piece<H: Handler, R: ByteReader, W: ByteWriter>(
     alloc: Global,
     sessions: &mut Sessions<H>,
@@ -67,6 +73,9 @@ pub fn serve_piece<H: Handler, R: ByteReader, W: ByteWriter>(
         (wire (handler_of sessions.old) (R.reads reader.old) (W.writes writer.old)) result
         (connection_at sessions.new id)
         (wire (handler_of sessions.new) (R.reads reader.new) (W.writes writer.new)) }
+    ensures read { ReadsOnce (length buffer.old) (R.reads reader.old) (R.reads reader.new) }
+    ensures kept { string_capacity out.old ≤ MOST_KEPT
+        → OnOk result (string_capacity out.new ≤ MOST_KEPT) }
     ensures others { OthersStay id sessions.old sessions.new }
 {
     match reader.read(buffer) {

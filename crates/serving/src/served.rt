@@ -3,7 +3,7 @@
 ghost use Rattle.std.specs.Prelude.{◌≡◌, ℕ};
 ghost use Rattle.connections.specs.Connected.{handler_of, connection_at};
 ghost use Rattle.serving.specs.Exchanges.{wire};
-ghost use Rattle.serving.specs.Serving.{IsServed};
+ghost use Rattle.serving.specs.Serving.{IsBounded, IsServed};
 
 use crate::exchanges::exchange;
 use crate::streams::{ByteReader, ByteWriter};
@@ -32,6 +32,7 @@ pub fn serve<H: Handler, R: ByteReader, W: ByteWriter>(
     ensures served { IsServed H.answers (connection_at sessions.old id)
         (wire (handler_of sessions.old) (R.reads reader.old) (W.writes writer.old)) result
         (wire (handler_of sessions.new) (R.reads reader.new) (W.writes writer.new)) }
+    ensures bounded { IsBounded (R.reads reader.old) (R.reads reader.new) }
     ensures free { (k : ℕ) → connection_at sessions.new k ≡ connection_at sessions.old k }
 {
     match sessions.open(id) {

@@ -3,6 +3,7 @@ use Rattle.http_definitions.specs.Connections.{holding}
 use Rattle.definitions.specs.Values.{Text}
 use Rattle.connections.specs.Connected.{handler_of, connection_at, OthersStay}
 use Rattle.serving.specs.Exchanges.{wire, Tells}
+use Rattle.serving.proofs.Bounded.{HasRead}
 use Rattle.serving.proofs.exchanges.exchange.Given as goal
 
 abbrev pub invariant-loop-reads : goal.invariant-loop-reads
@@ -13,6 +14,7 @@ invariant-loop-reads g l = record {
       × (length x.0.pieces ≡ l.reads));
   others : OthersStay l.id l.fn.sessions l.sessions;
   within : l.reads ≤ 65536;
+  read : HasRead (g.R.ByteReader.reads l.fn.reader) l.reads (g.R.ByteReader.reads l.reader);
 }
 
 abbrev pub decreases-loop-reads : goal.decreases-loop-reads

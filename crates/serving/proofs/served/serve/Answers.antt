@@ -20,7 +20,7 @@ pub returns-in-Err-last-clause-served : goal.returns-in-Err-last-clause-served
 returns-in-Err-last-clause-served g c =
     let x = c.in-Ok-exchanged.ensures.exchanged in
     served_cut g.H.Handler.answers _ _ _ _ _ _ _ _ _ _ _ _ c.in-Ok.ensures.opened c.in-Ok.ensures.handler c.in-Err-last.ensures.handler
-    (words_lack_room g.H.Handler.answers _ _ x.0 x.1 _ _ _ _ _ _ _ x.2 x.4 c.in-Err-last.ensures.ended)
+    (words_lack_room g.H.Handler.answers _ _ x.0 x.1 _ _ _ _ _ _ _ x.2 x.3 x.4 c.in-Err-last.ensures.ended)
 
 pub returns-in-Ok-last-clause-served : goal.returns-in-Ok-last-clause-served
 returns-in-Ok-last-clause-served g c =

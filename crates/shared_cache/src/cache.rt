@@ -80,6 +80,13 @@ impl Cache {
         self.entries.len()
     }
 
+    /// How many documents may be kept.
+    pub fn capacity(&self) -> usize
+        ensures { result ≡ self.now.capacity }
+    {
+        self.entries.cap().get()
+    }
+
     /// Forgets every document. This takes no memory, and gives back that of each document which nothing else holds.
     pub fn clear(&mut self)
         ensures { self.new ≡ record { keys = []; capacity = self.old.capacity } }

@@ -1,12 +1,16 @@
 -- Claims in a map, where one is written.
-use Rattle.std.proofs.Common.{◌≡◌, Bool, true, false, cond, Option, Some, None, is_some, option_map, sym, refl, ap, ◌∙◌, true≢false}
+use Rattle.std.proofs.Common.{◌≡◌, ℕ, ◌+◌, ◌<◌, ◌++◌, ◌⊎◌, List, [], ◌∷◌, take, drop, map, length, get_or, Contains, string_bytes, subst, inl, inr, Bool, true, false, cond, Option, Some, None, is_some, option_map, sym, refl, ap, ◌∙◌, true≢false}
+use Rattle.std.proofs.lemmas.List.{map-append, take-append-drop}
+use Rattle.std.proofs.lemmas.List.Elements.{Contains-append_left, Contains-append_right}
 use Rattle.std.specs.BTreeMap.{BTreeMap, get_by_text}
 use Rattle.std.specs.Cmp.Lexicographic.{bytes_decides}
 use Rattle.std.specs.Global.{Global}
 use Rattle.std.specs.declared.rc.Rc.{Rc}
 use Rattle.std.specs.declared.string.String.{String}
 use Rattle.definitions.specs.Values.{Text, same_text}
-use Rattle.stored_documents.specs.Claims.{claim_of}
+use Rattle.definition_laws.proofs.Membership.{is_first}
+use Rattle.lemmas.proofs.Lists.{map-take_more}
+use Rattle.stored_documents.specs.Claims.{claim_of, claimed_uris, ClaimsOnly}
 use Rattle.stored_documents.specs.StoredDocuments.{stored_view}
 use Rattle.stored_documents.specs.declared.stored.Stored.{Stored}
 
@@ -73,3 +77,52 @@ unwritten_there claims key s none u = at (same_text key u) refl (get_by_text cla
     at b e None f = refl
     at true e (Some x) f = absurd (true≢false (sym (ap is_some f) ∙ ap (λ t. is_some (get_by_text claims t)) (sym ((bytes_decides key u).0 e)) ∙ none))
     at false e (Some x) f = refl
+
+-- ---- what is claimed, and no more
+pub only_same : (claims now : BTreeMap (String Global) (Rc Stored Global)) (us : List Text) → now.entries ≡ claims.entries → ClaimsOnly claims us now
+unfolding ClaimsOnly claim_of
+only_same claims now us e u h = inl (ap (λ o. is_some (option_map (λ (x : Rc Stored Global). (stored_view x.value).canonical) o)) (sym (same_claims claims now e u)) ∙ h)
+
+pub only_written : (claims now : BTreeMap (String Global) (Rc Stored Global)) (key uri : Text) (s : Rc Stored Global) → key ≡ uri → Writes claims now key s → ClaimsOnly claims (uri ∷ []) now
+unfolding ClaimsOnly claim_of
+only_written claims now key uri s same writes u h = at (same_text key u) refl
+  where
+    shown : Option (Rc Stored Global) → Option Text
+    shown o = option_map (λ (x : Rc Stored Global). (stored_view x.value).canonical) o
+
+    at : (b : Bool) → same_text key u ≡ b → (is_some (shown (get_by_text claims u)) ≡ true) ⊎ Contains (uri ∷ []) u
+    at true e = inr (subst (Contains (uri ∷ [])) (sym same ∙ (bytes_decides key u).0 e) (is_first uri []))
+    at false e = inl (sym (ap (λ o. is_some (shown o)) (writes u ∙ ap (λ b. cond b (Some s) (get_by_text claims u)) e)) ∙ h)
+
+pub only_made : (claims now : BTreeMap (String Global) (Rc Stored Global)) (f : Text → Text → Text) (us : List Text) → ((u : Text) → claim_of now u ≡ option_map (f u) (claim_of claims u)) → (before : BTreeMap (String Global) (Rc Stored Global))
+    → ClaimsOnly before us claims → ClaimsOnly before us now
+unfolding ClaimsOnly
+only_made claims now f us made before only u h = only u (was (claim_of claims u) (sym (ap is_some (made u)) ∙ h))
+  where
+    was : (o : Option Text) → is_some (option_map (f u) o) ≡ true → is_some o ≡ true
+    was None e = e
+    was (Some x) e = refl
+
+pub only_next : (a b c : BTreeMap (String Global) (Rc Stored Global)) (ps : List (String Global × Rc Stored Global)) (i : ℕ) (p : String Global × Rc Stored Global) (uri : Text) → i < length ps → p ≡ get_or ps i p
+    → uri ≡ string_bytes p.0 → ClaimsOnly a (claimed_uris (take i ps)) b → ClaimsOnly b (uri ∷ []) c → ClaimsOnly a (claimed_uris (take (i + 1) ps)) c
+unfolding ClaimsOnly claimed_uris
+only_next a b c ps i p uri l is same first next u h =
+    let key : String Global × Rc Stored Global → Text = λ q. string_bytes q.0 in
+    let more : map key (take (i + 1) ps) ≡ map key (take i ps) ++ string_bytes p.0 ∷ [] = map-take_more key ps i p l is in
+    elim (next u h) [
+      | inl was ↦ elim (first u was) [
+        | inl before ↦ inl before
+        | inr made ↦ inr (subst (λ us. Contains us u) (sym more) (Contains-append_left (map key (take i ps)) (string_bytes p.0 ∷ []) u made))
+      ]
+      | inr own ↦ inr (subst (λ us. Contains us u) (sym more) (Contains-append_right (map key (take i ps)) (string_bytes p.0 ∷ []) u (subst (λ t. Contains (t ∷ []) u) same own)))
+    ]
+
+pub only_part : (a b : BTreeMap (String Global) (Rc Stored Global)) (ps : List (String Global × Rc Stored Global)) (i : ℕ) → ClaimsOnly a (claimed_uris (take i ps)) b → ClaimsOnly a (claimed_uris ps) b
+unfolding ClaimsOnly claimed_uris
+only_part a b ps i only u h =
+    let key : String Global × Rc Stored Global → Text = λ q. string_bytes q.0 in
+    elim (only u h) [
+      | inl was ↦ inl was
+      | inr made ↦ inr (subst (λ us. Contains us u) (sym (map-append key (take i ps) (drop i ps)) ∙ ap (map key) (take-append-drop i ps))
+          (Contains-append_left (map key (take i ps)) (map key (drop i ps)) u made))
+    ]

@@ -24,10 +24,10 @@ use Rattle.stored_documents.specs.Claims.{claim_of, claims_of, last_claim, own_c
 use Rattle.stored_documents.specs.StoredDocuments.{stored_view}
 use Rattle.stored_documents.specs.declared.stored.Stored.{Stored}
 
-is_same : {X : Type 0} (x y : X) → Some x ≡ Some y → x ≡ y
+pub is_same : {X : Type 0} (x y : X) → Some x ≡ Some y → x ≡ y
 is_same x y e = ap (λ o. unwrap_or o x) e
 
-nowhere : {X : Type 0} (x : X) → None ≡ Some x → ⊥
+pub nowhere : {X : Type 0} (x : X) → None ≡ Some x → ⊥
 nowhere x e = cc
 
 -- ---- who has a resource
@@ -98,7 +98,7 @@ in_claims : (es : List Document) (x : Document) (u : Text) → Contains es x →
 unfolding claims_of own_claims
 in_claims es x u k h = in_flat_map own_claims x (u, x.canonical) es k (in_map (λ (t : Text). (t, x.canonical)) u (resources_of x) (root_opens (schemas_of x.base x.value) u h))
 
-from_claims : (es : List Document) (u t : Text) → Contains (claims_of es) (u, t) → (e : Document) × (Contains es e × ((holds_resource u e ≡ true) × (t ≡ e.canonical)))
+pub from_claims : (es : List Document) (u t : Text) → Contains (claims_of es) (u, t) → (e : Document) × (Contains es e × ((holds_resource u e ≡ true) × (t ≡ e.canonical)))
 unfolding claims_of own_claims
 from_claims es u t k =
     let from : (e : Document) × (Contains es e × Contains (own_claims e) (u, t)) = from_flat_map own_claims (u, t) es k in
@@ -126,7 +126,7 @@ claims_put claims now es ds after claimed there made from within distinct x k u 
     some_claim (Some before) e f = ap Some (f before)
 
 -- ---- what is put is there
-each_placed : (es ds : List Document) → has_repeat same_text (canonicals es) ≡ false → (e : Document) → Contains es e → Contains (documents_with_all es ds) e
+pub each_placed : (es ds : List Document) → has_repeat same_text (canonicals es) ≡ false → (e : Document) → Contains es e → Contains (documents_with_all es ds) e
 each_placed [] ds once e k = absurd (nothing_in e k)
 each_placed (f ∷ es) ds once e k =
     let apart = or_parts (list_any (same_text f.canonical) (canonicals es)) (has_repeat same_text (canonicals es)) once in

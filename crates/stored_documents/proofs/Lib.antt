@@ -8,3 +8,4 @@ pub mod PutTogether
 pub mod ClaimedDocuments
 pub mod ClaimMaps
 pub mod MadeClaims
+pub mod FreshClaims

@@ -1,5 +1,5 @@
 -- Which document claims the URI of a resource.
-use Rattle.std.proofs.Common.{◌≡◌, List, [], ◌∷◌, Option, Some, true, cond, map, flat_map, Contains, option_map, string_bytes}
+use Rattle.std.proofs.Common.{◌≡◌, ◌⊎◌, List, [], ◌∷◌, Option, Some, true, cond, map, flat_map, Contains, is_some, option_map, string_bytes}
 use Rattle.std.proofs.Props.{props}
 use Rattle.std.specs.BTreeMap.{BTreeMap, get_by_text}
 use Rattle.std.specs.Global.{Global}
@@ -24,9 +24,16 @@ pub AreClaimed-prop : (claims : BTreeMap (String Global) (Rc Stored Global)) (ds
 unfolding AreClaimed
 AreClaimed-prop claims ds = hlevel props
 
+-- whatever is claimed was claimed before, or is one of these URIs
+unfoldable pub ClaimsOnly : BTreeMap (String Global) (Rc Stored Global) → List Text → BTreeMap (String Global) (Rc Stored Global) → Type 0
+ClaimsOnly before uris after = (uri : Text) → is_some (claim_of after uri) ≡ true → (is_some (claim_of before uri) ≡ true) ⊎ Contains uris uri
+
 -- ---- claims to be made: URIs, each with the canonical URI of the document that claims it
 unfoldable pub claims_in : List (String Global × Rc Stored Global) → List (Text × Text)
 claims_in ps = map (λ p. (string_bytes p.0, (stored_view p.1.value).canonical)) ps
+
+unfoldable pub claimed_uris : List (String Global × Rc Stored Global) → List Text
+claimed_uris ps = map (λ p. string_bytes p.0) ps
 
 unfoldable pub own_claims : Document → List (Text × Text)
 own_claims d = map (λ u. (u, d.canonical)) (resources_of d)

@@ -4,4 +4,5 @@ pub mod SharedStored
 pub mod OrderedDocuments
 pub mod Claims
 pub mod DocumentLists
+pub mod StaleClaims
 pub mod KeptDocuments

@@ -2,7 +2,7 @@
 
 ghost use Rattle.std.specs.Prelude.{◌≡◌, ◌++◌, ◌∷◌, [], true, Contains, IfOk, OnOk, Some, if◌then◌else◌, is_some, option_map, string_bytes};
 ghost use Rattle.definitions.specs.Values.{Text, same_text};
-ghost use Rattle.stored_documents.specs.Claims.{claim_of, claims_in, claims_of, last_claim, own_claims};
+ghost use Rattle.stored_documents.specs.Claims.{ClaimsOnly, claim_of, claimed_uris, claims_in, claims_of, last_claim, own_claims};
 ghost use Rattle.stored_documents.specs.SharedStored.{stored_documents};
 ghost use Rattle.stored_documents.specs.StoredDocuments.{stored_view};
 
@@ -68,6 +68,7 @@ pub(crate) fn claim_unclaimed(
     ensures claimed { OnOk result
         ((uri claim : Text) → Contains (claims_in made.now) (uri, claim)
         → is_some (claim_of claims.new uri) ≡ true) }
+    ensures only { ClaimsOnly claims.old (claimed_uris made.now) claims.new }
 {
     for claim in made {
         claim_where_none(alloc, claims, claim.0.as_str(), &claim.1)?;
@@ -84,6 +85,7 @@ fn claim_where_none(
     ensures kept { (u claim : Text) → claim_of claims.old u ≡ Some claim
         → claim_of claims.new u ≡ Some claim }
     ensures claimed { OnOk result (is_some (claim_of claims.new uri.now) ≡ true) }
+    ensures only { ClaimsOnly claims.old (uri.now ∷ []) claims.new }
 {
     if !claims.contains_key(uri) {
         let own_uri = uri.to_owned(alloc)?;

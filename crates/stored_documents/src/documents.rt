@@ -27,17 +27,20 @@ use std::rc::Rc;
 #[derive(Drop)]
 pub struct Documents {
     ordered: OrderedDocuments,
-    // By the URI of a resource, the document that claims to have it: never missing where one has it, and else stale.
+    // By the URI of a resource, the document that claims to have it: never missing where one has it, and else stale, until
+    // it is released.
     pub(crate) claims: BTreeMap<String, Rc<Stored>>,
     ghost claimed: { AreClaimed claims (ordered_documents ordered) } by { AreClaimed-prop _ _ },
 }
 
 impl Documents {
     ghost use Rattle.stored_documents.specs.DocumentLists.{documents_in};
+    ghost use Rattle.stored_documents.specs.StaleClaims.{NoneIsStale, StaysFresh};
 
     /// No documents.
     pub fn new(alloc: Global) -> Documents
-        ensures { documents_in result ≡ [] }
+        ensures none { documents_in result ≡ [] }
+        ensures fresh { NoneIsStale result }
     {
         Documents {
             ordered: OrderedDocuments::new(alloc),
@@ -119,6 +122,7 @@ impl Documents {
             (stored_view document.value).canonical)) }
         ensures kept { OnErr result (documents_in self.new ≡ documents_in self.old) }
         ensures err { IfErr result (λ f. f ≡ Fault.NoRoom) }
+        ensures fresh { StaysFresh self.old self.new }
     {
         let mut made = Vec::new(alloc);
         push_claims(alloc, &mut made, &document)?;
@@ -156,6 +160,7 @@ impl Documents {
             (documents_in self.old)) }
         ensures kept { OnErr result (documents_in self.new ≡ documents_in self.old) }
         ensures err { IfErr result (λ f. f ≡ Fault.NoRoom) }
+        ensures fresh { StaysFresh self.old self.new }
     {
         let replaced = self.standing(alloc, &documents)?;
         let made = claims_to_make(alloc, &documents)?;
@@ -177,6 +182,7 @@ impl Documents {
     pub fn remove(&mut self, canonical: &str) -> bool
         ensures others { documents_in self.new ≡ others_of canonical.now (documents_in self.old) }
         ensures removed { result ≡ is_some (document_of (documents_in self.old) canonical.now) }
+        ensures fresh { StaysFresh self.old self.new }
     {
         match self.ordered.remove(canonical) {
             Some(removed) => {

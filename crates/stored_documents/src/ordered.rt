@@ -1,6 +1,6 @@
 //! Documents in order.
 
-ghost use Rattle.std.specs.Prelude.{◌≡◌, ◌^◌, ◌<◌, [], None, false, is_some, length, option_map, IfErr, IfOk, OnErr, OnOk};
+ghost use Rattle.std.specs.Prelude.{◌≡◌, ◌^◌, ◌<◌, [], None, false, length, option_map, IfErr, IfOk, OnErr, OnOk};
 ghost use Rattle.std.specs.List.Sorted.{IsStrictlySortedBy-prop};
 ghost use Rattle.definitions.specs.Batches.{repeated_uri, taken_by};
 ghost use Rattle.definitions.specs.Documents.{bytes_of, document_of, others_of, documents_with, documents_with_all, resource_uris_of, taken_uri, Ascend};
@@ -87,8 +87,8 @@ impl OrderedDocuments {
             (ordered_documents self.new
             ≡ documents_with (stored_view document.value) (ordered_documents self.old)) }
         ensures replaced { IfOk result
-            (λ r. is_some r ≡ is_some
-            (document_of (ordered_documents self.old) (stored_view document.value).canonical)) }
+            (λ r. option_map (λ s. stored_view s.value) r
+            ≡ document_of (ordered_documents self.old) (stored_view document.value).canonical) }
         ensures kept { OnErr result (ordered_documents self.new ≡ ordered_documents self.old) }
         ensures err { IfErr result (λ f. f ≡ Fault.NoRoom) }
     {
@@ -133,8 +133,8 @@ impl OrderedDocuments {
     pub fn remove(&mut self, canonical: &str) -> Option<Rc<Stored>>
         ensures others { ordered_documents self.new
             ≡ others_of canonical.now (ordered_documents self.old) }
-        ensures removed { is_some result
-            ≡ is_some (document_of (ordered_documents self.old) canonical.now) }
+        ensures removed { option_map (λ s. stored_view s.value) result
+            ≡ document_of (ordered_documents self.old) canonical.now }
     {
         match take_out(&mut self.stored, canonical) {
             Some(removed) => {

@@ -1,9 +1,14 @@
 //! Claims that are made before documents are put, and that are released after documents were taken out.
 
-ghost use Rattle.std.specs.Prelude.{◌≡◌, true, Contains, OnOk, is_some};
+ghost use Rattle.std.specs.Prelude.{◌≡◌, ◌∷◌, [], true, Contains, IfOk, OnErr, OnOk, is_some};
+ghost use Rattle.definitions.specs.Documents.{resource_uris_of, resources_of};
+ghost use Rattle.definitions.specs.Schemas.{Document};
 ghost use Rattle.definitions.specs.Values.{Text};
-ghost use Rattle.stored_documents.specs.Claims.{claim_of, claims_in};
+ghost use Rattle.stored_documents.specs.Claims.{ClaimsOnly, claim_of, claimed_uris, claims_in};
 ghost use Rattle.stored_documents.specs.DocumentLists.{documents_in};
+ghost use Rattle.stored_documents.specs.SharedStored.{stored_documents};
+ghost use Rattle.stored_documents.specs.StaleClaims.{Releases, StaysFresh};
+ghost use Rattle.stored_documents.specs.StoredDocuments.{stored_view};
 
 use crate::claims::claim_unclaimed;
 use crate::documents::Documents;
@@ -22,6 +27,9 @@ impl Documents {
         ensures claimed { OnOk result
             ((uri claim : Text) → Contains (claims_in made.now) (uri, claim)
             → is_some (claim_of self.new.claims uri) ≡ true) }
+        ensures only { OnOk result
+            (ClaimsOnly self.old.claims (claimed_uris made.now) self.new.claims) }
+        ensures fresh { OnErr result (StaysFresh self.old self.new) }
     {
         match claim_unclaimed(alloc, &mut self.claims, made) {
             Ok(()) => Ok(()),
@@ -37,7 +45,11 @@ impl Documents {
         &self,
         alloc: Global,
         documents: &[Rc<Stored>],
-    ) -> Result<Vec<Rc<Stored>>, AllocError> {
+    ) -> Result<Vec<Rc<Stored>>, AllocError>
+        ensures { IfOk result (λ found. (d e : Document)
+            → Contains (documents_in self.now) d → Contains (stored_documents documents.now) e
+            → e.canonical ≡ d.canonical → Contains (stored_documents found.items) d) }
+    {
         let mut standing = Vec::new(alloc);
         for document in documents {
             if let Some(found) = self.find(document.canonical()) {
@@ -49,7 +61,8 @@ impl Documents {
 
     // Releases claims that nobody has a resource for.
     pub(crate) fn release_made(&mut self, made: &[(String, Rc<Stored>)])
-        ensures { documents_in self.new ≡ documents_in self.old }
+        ensures same { documents_in self.new ≡ documents_in self.old }
+        ensures released { Releases self.old (claimed_uris made.now) self.new }
     {
         for claim in made {
             self.release(claim.0.as_str());
@@ -57,7 +70,9 @@ impl Documents {
     }
 
     pub(crate) fn release_documents(&mut self, documents: &[Rc<Stored>])
-        ensures { documents_in self.new ≡ documents_in self.old }
+        ensures same { documents_in self.new ≡ documents_in self.old }
+        ensures released { Releases self.old
+            (resource_uris_of (stored_documents documents.now)) self.new }
     {
         for document in documents {
             self.release_document(document);
@@ -65,7 +80,8 @@ impl Documents {
     }
 
     pub(crate) fn release_document(&mut self, document: &Stored)
-        ensures { documents_in self.new ≡ documents_in self.old }
+        ensures same { documents_in self.new ≡ documents_in self.old }
+        ensures released { Releases self.old (resources_of (stored_view document.now)) self.new }
     {
         for uri in document.resource_uris() {
             self.release(uri.as_str());
@@ -75,7 +91,8 @@ impl Documents {
     // Releases the claim of a URI where no document has a resource of it.
     #[tactic(auto, unfolding(crate::specs::DocumentLists::documents_in))]
     fn release(&mut self, uri: &str)
-        ensures { documents_in self.new ≡ documents_in self.old }
+        ensures same { documents_in self.new ≡ documents_in self.old }
+        ensures released { Releases self.old (uri.now ∷ []) self.new }
     {
         if self.holder(uri).is_none() {
             self.claims.remove(uri);

@@ -6,6 +6,7 @@ ghost use Rattle.definitions.specs.Documents.{bytes_of};
 ghost use Rattle.linker.specs.ListedDocuments.{listed_documents};
 ghost use Rattle.linker.specs.Sources.{shares_resource};
 ghost use Rattle.stored_documents.specs.DocumentLists.{documents_in};
+ghost use Rattle.stored_documents.specs.StaleClaims.{NoneIsStale, NoneIsStale-prop};
 
 use linker::ListSource;
 use std::alloc::Global;
@@ -24,6 +25,7 @@ pub struct Registry {
     ghost few: { nat_lt most_documents (length (documents_in documents)) ≡ false },
     ghost small: { nat_lt most_bytes (bytes_of (documents_in documents)) ≡ false },
     ghost apart: { list_any (shares_resource (documents_in documents)) (listed_documents library.value) ≡ false },
+    ghost fresh: { NoneIsStale documents } by { NoneIsStale-prop _ },
 }
 
 impl Registry {

@@ -14,8 +14,8 @@ ghost use Rattle.linker.specs.ListedDocuments.{listed_documents};
 ghost use Rattle.requests.specs.Views.{request_view, reply_view};
 ghost use Rattle.tenants_file.specs.Tenants.{tenant_view};
 ghost use Rattle.tenant_hub.specs.Calls.{call_view};
-ghost use Rattle.tenant_hub.specs.Hubs.{hub_view};
-ghost use Rattle.tenant_hub.specs.KeyedRegistries.{keyed_view, new_registry};
+ghost use Rattle.tenant_hub.specs.Hubs.{cache_capacity, hub_view};
+ghost use Rattle.tenant_hub.specs.KeyedRegistries.{keyed_view, new_registry, position_of};
 ghost use Rattle.tenant_hub.specs.Isolation.{HaveOwnCourses, HaveOwnReplies, RefuseUnknownKeys};
 ghost use Rattle.tenant_hub.specs.RefusedServers.{IsRefusedServer};
 ghost use Rattle.tenant_hub.specs.RegisteredDocuments.{is_registered};
@@ -38,7 +38,8 @@ use tenants_file::{Tenant, server_fault};
 /// The registries of all tenants, over one library, and one cache of compiled documents that they share. No reply depends
 /// on what the cache keeps.
 ///
-/// Contracts see them as the definitions' list of registries with their keys, by `hub_view`.
+/// Contracts see them as the definitions' list of registries with their keys, by `hub_view`, and how many documents the
+/// cache may keep by `cache_capacity`.
 #[derive(Drop)]
 pub struct Hub {
     registries: Vec<KeyedRegistry>,
@@ -56,6 +57,7 @@ impl Hub {
             new_server (map tenant_view tenants.items) capacity (Ok []) ≡ Ok (hub_view h)) }
         ensures err { IfErr result (λ f. f ≢ Fault.NoRoom
             → new_server (map tenant_view tenants.items) capacity (Ok []) ≡ Err (fault_view f)) }
+        ensures cache { IfOk result (λ h. cache_capacity h ≡ capacity) }
     {
         match server_fault(&tenants, capacity) {
             Some(fault) => Err(fault),
@@ -80,11 +82,19 @@ impl Hub {
             (library_of regular_search batch.now) ≡ Ok (hub_view h)) }
         ensures err { IfErr result (λ f. f ≢ Fault.NoRoom
             → IsRefusedServer (map tenant_view tenants.items) capacity batch.now (fault_view f)) }
+        ensures cache { IfOk result (λ h. cache_capacity h ≡ capacity) }
     {
         match server_fault(&tenants, capacity) {
             Some(fault) => Err(fault),
             None => over_library(alloc, tenants, capacity, library_of(alloc, batch)?),
         }
+    }
+
+    /// How many compiled documents the cache may keep.
+    pub fn cache_capacity(&self) -> usize
+        ensures { result ≡ cache_capacity self.now }
+    {
+        self.workspace.cache.capacity()
     }
 
     /// Answers one request of the tenant with this key, by its own registry alone. A refused request changes nothing.
@@ -133,6 +143,13 @@ impl Hub {
         self.replies_of(alloc, calls)
     }
 
+    /// The place of the tenant with this key in the tenants' file, counted from 0.
+    pub fn place_of(&self, key: &str) -> Option<usize>
+        ensures { result ≡ position_of key.now 0 self.now.registries.items }
+    {
+        position_of(&self.registries, key)
+    }
+
     fn replies_of(
         &mut self,
         alloc: Global,
@@ -167,6 +184,7 @@ fn over_library(
     ensures ok { IfOk result (λ h. hub_view h
         ≡ empty_registries (listed_documents library) (map tenant_view tenants.items)) }
     ensures err { IfErr result (λ f. f ≢ Fault.NoRoom → is_capacity capacity ≡ false) }
+    ensures cache { IfOk result (λ h. cache_capacity h ≡ capacity) }
 {
     let library = Rc::new(alloc, library)?;
     let registries = new_registries(alloc, tenants, &library)?;

@@ -1,6 +1,6 @@
 //! What is kept from one request to the next beside the registries. No reply depends on it.
 
-ghost use Rattle.std.specs.Prelude.{◌≡◌, ◌≢◌, [], false, IfErr};
+ghost use Rattle.std.specs.Prelude.{◌≡◌, ◌≢◌, [], false, IfErr, IfOk};
 ghost use Rattle.definitions.specs.Caches.{is_capacity};
 
 use evaluator::EvaluationMemory;
@@ -21,6 +21,7 @@ pub(crate) struct Workspace {
 impl Workspace {
     // `BadCapacity` where the capacity is outside 1 to 4096, else only `NoRoom`.
     pub(crate) fn new(alloc: Global, capacity: usize) -> Result<Workspace, Fault>
+        ensures ok { IfOk result (λ w. w.cache ≡ record { keys = []; capacity = capacity }) }
         ensures err { IfErr result (λ f. f ≢ Fault.NoRoom → is_capacity capacity ≡ false) }
     {
         Ok(Workspace {

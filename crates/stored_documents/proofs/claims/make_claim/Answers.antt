@@ -1,4 +1,4 @@
-use Rattle.std.proofs.Common.{Some, true, is_some, sym, ap, ◌∙◌, string_bytes}
+use Rattle.std.proofs.Common.{Some, is_some, sym, ap, ◌∙◌, string_bytes}
 use Rattle.std.proofs.lemmas.Map.Text.{btree_map_updates_text}
 use Rattle.std.specs.BTreeMap.{get_by_text}
 use Rattle.stored_documents.proofs.ClaimMaps.{written_there, unwritten_there}

@@ -1,6 +1,7 @@
 use Rattle.stored_documents.specs.DocumentLists.{documents_in}
 use Rattle.stored_documents.specs.OrderedDocuments.{ordered_documents}
 use Rattle.stored_documents.proofs.ClaimedDocuments.{none_claimed}
+use Rattle.stored_documents.proofs.FreshClaims.{fresh_yet}
 use Rattle.stored_documents.proofs.documents.Documents.new.Goals as goal
 
 pub invariant_of-result : goal.invariant_of-result
@@ -8,4 +9,4 @@ invariant_of-result c = record { claimed = none_claimed c.new-2.result (ordered_
 
 pub returns : goal.returns
 unfolding documents_in
-returns c = c.new.ensures
+returns c = record { none = c.new.ensures; fresh = fresh_yet _ c.new-2.ensures.empty }

@@ -1,4 +1,4 @@
-use Rattle.std.proofs.Common.{is_some, length, option_map, ap, sym, subst, ◌∙◌}
+use Rattle.std.proofs.Common.{length, option_map, ap, sym, subst, ◌∙◌}
 use Rattle.definitions.specs.Documents.{bytes_of, documents_with}
 use Rattle.definitions.specs.Keeping.{AreKept}
 use Rattle.definitions.specs.Patterns.{regular_search}
@@ -72,7 +72,7 @@ returns-in-Some-clause-placed c = c.in_ok-replaced.ensures.placed
 
 pub returns-in-Some-clause-replaced : goal.returns-in-Some-clause-replaced
 unfolding ordered_documents
-returns-in-Some-clause-replaced c = ap is_some (sym (ap (option_map (λ s. stored_view s.value)) c.in-Some.is) ∙ c.in_ok-replaced.ensures.replaced)
+returns-in-Some-clause-replaced c = sym (ap (option_map (λ s. stored_view s.value)) c.in-Some.is) ∙ c.in_ok-replaced.ensures.replaced
 
 pub returns-in-None-clause-placed : goal.returns-in-None-clause-placed
 unfolding ordered_documents
@@ -80,4 +80,4 @@ returns-in-None-clause-placed c = c.in_ok-replaced.ensures.placed
 
 pub returns-in-None-clause-replaced : goal.returns-in-None-clause-replaced
 unfolding ordered_documents
-returns-in-None-clause-replaced c = ap is_some (sym (ap (option_map (λ s. stored_view s.value)) c.in-None.is) ∙ c.in_ok-replaced.ensures.replaced)
+returns-in-None-clause-replaced c = sym (ap (option_map (λ s. stored_view s.value)) c.in-None.is) ∙ c.in_ok-replaced.ensures.replaced

@@ -1,4 +1,4 @@
-use Rattle.std.proofs.Common.{is_some, length, ap, sym, subst, ◌∙◌}
+use Rattle.std.proofs.Common.{length, ap, sym, subst, ◌∙◌}
 use Rattle.definitions.specs.Documents.{bytes_of, others_of}
 use Rattle.definitions.specs.Keeping.{AreKept}
 use Rattle.definitions.specs.Patterns.{regular_search}
@@ -51,7 +51,7 @@ returns-in-Some-clause-others c = c.take_out.ensures.others
 
 pub returns-in-Some-clause-removed : goal.returns-in-Some-clause-removed
 unfolding ordered_documents
-returns-in-Some-clause-removed c = ap is_some c.in-Some.ensures.taken
+returns-in-Some-clause-removed c = c.in-Some.ensures.taken
 
 pub returns-in-None-clause-others : goal.returns-in-None-clause-others
 unfolding ordered_documents
@@ -59,4 +59,4 @@ returns-in-None-clause-others c = c.take_out.ensures.others
 
 pub returns-in-None-clause-removed : goal.returns-in-None-clause-removed
 unfolding ordered_documents
-returns-in-None-clause-removed c = ap is_some c.in-None.ensures.taken
+returns-in-None-clause-removed c = c.in-None.ensures.taken

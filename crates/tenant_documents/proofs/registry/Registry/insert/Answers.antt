@@ -5,6 +5,7 @@ use Rattle.definitions.specs.Registries.{put_refusal, refused}
 use Rattle.faults.specs.View.{fault_view}
 use Rattle.faults.specs.declared.Fault.{Fault}
 use Rattle.stored_documents.specs.DocumentLists.{documents_in}
+use Rattle.stored_documents.specs.StaleClaims.{none_stale_later}
 use Rattle.stored_documents.specs.StoredDocuments.{stored_view}
 use Rattle.stored_documents.specs.declared.stored.Stored.{Stored}
 use Rattle.tenant_documents.specs.Puts.{IsPut}
@@ -45,7 +46,7 @@ invariant_of-self c =
     let after =
     within_after_put r d new (shared r c.args.document c.in-Ok.document.value c.in-Ok.ensures.ok c.in_ok-judge.ensures.ok)
     (either_way (new ≡ documents_with d (documents_in r.documents)) (new ≡ documents_in r.documents) c.insert.result c.insert.ensures.placed c.insert.ensures.kept) in
-    record { few = after.few; small = after.small; apart = after.apart }
+    record { few = after.few; small = after.small; apart = after.apart; fresh = none_stale_later c.args.self.now.documents c.insert.new.self c.insert.ensures.fresh c.args.self.now.fresh }
 
 pub returns-in-Ok-insert-clause-ok : goal.returns-in-Ok-insert-clause-ok
 unfolding registry_view

@@ -10,6 +10,7 @@ use Rattle.faults.specs.View.{fault_view}
 use Rattle.faults.specs.declared.Fault.{Fault}
 use Rattle.requests.specs.Views.{stored_entry_view}
 use Rattle.stored_documents.specs.DocumentLists.{documents_in}
+use Rattle.stored_documents.specs.StaleClaims.{none_stale_later}
 use Rattle.stored_documents.specs.SharedStored.{stored_documents}
 use Rattle.stored_documents.specs.declared.stored.Stored.{Stored}
 use Rattle.tenant_documents.specs.Batches.{IsPutTogether}
@@ -60,7 +61,7 @@ invariant_of-self c =
     let after =
     within_after_all r ds new granted
     (either_way (new ≡ documents_with_all ds (documents_in r.documents)) (new ≡ documents_in r.documents) c.insert_all.result c.insert_all.ensures.placed c.insert_all.ensures.kept) in
-    record { few = after.few; small = after.small; apart = after.apart }
+    record { few = after.few; small = after.small; apart = after.apart; fresh = none_stale_later c.args.self.now.documents c.insert_all.new.self c.insert_all.ensures.fresh c.args.self.now.fresh }
 
 pub returns-in-Ok-clause-ok : goal.returns-in-Ok-clause-ok
 unfolding registry_view

@@ -2,6 +2,7 @@ use Rattle.std.proofs.Common.{◌≡◌, false, true, is_some, string_bytes, sym
 use Rattle.definitions.specs.Documents.{document_of, others_of}
 use Rattle.definitions.specs.Registries.{is_in_library}
 use Rattle.stored_documents.specs.DocumentLists.{documents_in}
+use Rattle.stored_documents.specs.StaleClaims.{none_stale_later}
 use Rattle.tenant_documents.specs.Registries.{registry_view}
 use Rattle.tenant_documents.proofs.KeptRegistries.{within_after_delete}
 use Rattle.tenant_documents.proofs.SentDocuments.{deleted_after, not_found_after}
@@ -10,7 +11,7 @@ use Rattle.tenant_documents.proofs.registry.Registry.remove.Goals as goal
 pub invariant_of-self : goal.invariant_of-self
 invariant_of-self c =
     let after = within_after_delete c.args.self.now c.as_str-2.result.now (documents_in c.remove.new.self) c.remove.ensures.others in
-    record { few = after.few; small = after.small; apart = after.apart }
+    record { few = after.few; small = after.small; apart = after.apart; fresh = none_stale_later c.args.self.now.documents c.remove.new.self c.remove.ensures.fresh c.args.self.now.fresh }
 
 pub returns-then-not-remove-clause-err : goal.returns-then-not-remove-clause-err
 unfolding registry_view

@@ -1,1 +1,5 @@
 pub mod Interruptions
+pub mod Numbers
+pub mod Socket
+pub mod Sockets
+pub mod Table

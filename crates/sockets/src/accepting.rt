@@ -1,6 +1,8 @@
 //! Connections that are accepted and served, one after the other.
-ghost use Rattle.std.specs.Prelude.{◌≡◌, ℕ};
-ghost use Rattle.connections.specs.Connected.{connection_at};
+ghost use Rattle.std.specs.Prelude.{◌≡◌, ◌⊎◌, [], ℕ, None, IfOk};
+ghost use Rattle.connections.specs.Connected.{connection_at, handler_of};
+ghost use Rattle.serving.specs.Streams.{transfers_of};
+ghost use Rattle.serving.specs.Talks.{Talk, IsTalk, IsLetGo, AreAllServed};
 
 use crate::interruption::{Interruption, tell};
 use crate::limited::Limited;
@@ -29,6 +31,8 @@ pub fn bind<N: Net<Listener = TcpListener, Stream = TcpStream>>(
 /// `connection <k>: <name>`, counted from 1, and the next one is served. The error is that of an accept.
 ///
 /// A connection that waits for too long, or takes too long as a whole, has a failed reader or writer.
+///
+/// No connection of `sessions` is open at first: else the one with that number would be refused.
 pub fn serve_connections<C: Clock, H: Handler, E: Write>(
     alloc: Global,
     clock: &C,
@@ -38,11 +42,13 @@ pub fn serve_connections<C: Clock, H: Handler, E: Write>(
     sessions: &mut Sessions<H>,
     errors: &mut E,
 ) -> io::Result<()>
+    ensures served { ((k : ℕ) → connection_at sessions.old k ≡ None)
+        → AreAllServed H.answers count (handler_of sessions.old) result (handler_of sessions.new) }
     ensures free { (k : ℕ) → connection_at sessions.new k ≡ connection_at sessions.old k }
 {
-    for number in 1..=count {
+    for served in 0..count {
         let (stream, _peer) = listener.accept()?;
-        serve_connection(alloc, clock, &stream, limits, number, sessions, errors);
+        serve_connection(alloc, clock, &stream, limits, served + 1, sessions, errors);
     }
     Ok(())
 }
@@ -57,6 +63,9 @@ fn serve_connection<C: Clock, H: Handler, E: Write>(
     sessions: &mut Sessions<H>,
     errors: &mut E,
 )
+    ensures served { connection_at sessions.old number ≡ None → (x : Talk)
+        × (IsTalk H.answers (handler_of sessions.old) x (handler_of sessions.new)
+        ⊎ IsLetGo (handler_of sessions.old) x (handler_of sessions.new)) }
     ensures free { (k : ℕ) → connection_at sessions.new k ≡ connection_at sessions.old k }
 {
     let served = serve_stream(alloc, clock, stream, limits, number, sessions);
@@ -69,6 +78,20 @@ fn serve_connection<C: Clock, H: Handler, E: Write>(
     }
 }
 
+/// What is read from and written to a socket, within limits of time and without delay.
+fn streams_of<'a, C: Clock>(
+    clock: &'a C,
+    stream: &'a TcpStream,
+    limits: Limits,
+) -> io::Result<(Recorded<Limited<'a, C>>, Recorded<Limited<'a, C>>)>
+    ensures { IfOk result (λ x. (transfers_of x.0 ≡ []) × (transfers_of x.1 ≡ [])) }
+{
+    stream.set_nodelay(true)?;
+    let reader = Limited::new(clock, stream, limits.wait, limits.whole)?;
+    let writer = Limited::new(clock, stream, limits.wait, limits.whole)?;
+    Ok((Recorded::new(reader), Recorded::new(writer)))
+}
+
 /// Serves one connection on its socket. One whose limits can't be set is as one that can't be read.
 fn serve_stream<C: Clock, H: Handler>(
     alloc: Global,
@@ -78,15 +101,15 @@ fn serve_stream<C: Clock, H: Handler>(
     number: u32,
     sessions: &mut Sessions<H>,
 ) -> Result<(), Fault>
+    ensures served { connection_at sessions.old number ≡ None → (x : Talk) × (x.result ≡ result)
+        × (IsTalk H.answers (handler_of sessions.old) x (handler_of sessions.new)
+        ⊎ IsLetGo (handler_of sessions.old) x (handler_of sessions.new)) }
     ensures free { (k : ℕ) → connection_at sessions.new k ≡ connection_at sessions.old k }
 {
-    let Ok(reader) = Limited::new(clock, stream, limits.wait, limits.whole) else {
-        return Err(Fault::ReadFailed);
-    };
-    let Ok(writer) = Limited::new(clock, stream, limits.wait, limits.whole) else {
-        return Err(Fault::ReadFailed);
-    };
-    let mut reader = Recorded::new(reader);
-    let mut writer = Recorded::new(writer);
-    serve(alloc, sessions, u64::from(number), &mut reader, &mut writer)
+    match streams_of(clock, stream, limits) {
+        Err(_) => Err(Fault::ReadFailed),
+        Ok((mut reader, mut writer)) => {
+            serve(alloc, sessions, u64::from(number), &mut reader, &mut writer)
+        }
+    }
 }

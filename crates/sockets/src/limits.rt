@@ -2,6 +2,9 @@
 
 use std::time::Duration;
 
+/// How many reads of 4,096 bytes a client that is still sending has at most when its connection is over.
+pub(crate) const MOST_READS: u32 = 256;
+
 /// How long a connection on a socket may take.
 #[derive(Clone, Copy, Debug)]
 pub struct Limits {
@@ -21,6 +24,14 @@ impl Limits {
             wait: Duration::from_secs(30),
             whole: Duration::from_secs(300),
             parting: Duration::from_secs(2),
+        }
+    }
+
+    /// Those of a server that stays: 30 seconds for a read or a write, without end in all, and 2 seconds at the end.
+    pub fn lasting() -> Limits {
+        Limits {
+            whole: Duration::MAX,
+            ..Limits::standard()
         }
     }
 }

@@ -1,12 +1,10 @@
 //! The end of a connection on a socket.
 
 use crate::limited::Limited;
+use crate::limits::MOST_READS;
 use std::io::Read;
 use std::net::{Shutdown, TcpStream};
 use std::time::{Clock, Duration};
-
-/// How many reads of 4,096 bytes a client that is still sending has at most.
-const MOST_READS: u32 = 256;
 
 /// Ends what is sent, and then reads on for a short while: a socket that is dropped with bytes unread is reset, and the
 /// last reply may be lost with it.

@@ -1,6 +1,11 @@
-use Rattle.std.proofs.Common.{◌≡◌, ℕ}
-use Rattle.connections.specs.Connected.{connection_at}
+use Rattle.std.proofs.Common.{◌≡◌, ℕ, List, None, length}
+use Rattle.connections.specs.Connected.{connection_at, handler_of}
+use Rattle.serving.specs.Talks.{Talk, AreServed}
 use Rattle.sockets.proofs.accepting.serve_connections.Given as goal
 
-abbrev pub invariant-loop-number : goal.invariant-loop-number
-invariant-loop-number g l = (k : ℕ) → connection_at l.sessions k ≡ connection_at l.fn.sessions k
+abbrev pub invariant-loop-served : goal.invariant-loop-served
+invariant-loop-served g l = record {
+  free : ((k : ℕ) → connection_at l.sessions k ≡ connection_at l.fn.sessions k);
+  served : (((k : ℕ) → connection_at l.fn.sessions k ≡ None)
+      → (xs : List Talk) × AreServed g.H.Handler.answers (handler_of l.fn.sessions) xs (handler_of l.sessions) × (length xs ≡ l.served));
+}

@@ -1,0 +1,7 @@
+pub mod Traffic
+pub mod Codes
+pub mod Notes
+pub mod Readiness
+pub mod Sizes
+pub mod Outboxes
+pub mod Memory

@@ -1,0 +1,17 @@
+//! What tells which of many connections are ready, and moves their bytes.
+#![tactic(auto)]
+
+mod kept;
+mod memory;
+mod networks;
+mod outbox;
+mod scenes;
+mod transcript;
+
+pub use faults::Fault;
+pub use kept::Kept;
+pub use memory::MemoryNetwork;
+pub use networks::{Broken, Network, Occasion};
+pub use outbox::Outbox;
+pub use scenes::Happening;
+pub use transcript::{Note, Transcript};

@@ -1,0 +1,4 @@
+mod Lists
+mod Changes
+mod Turns
+mod Among

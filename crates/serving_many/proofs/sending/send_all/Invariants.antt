@@ -1,0 +1,12 @@
+use Rattle.std.proofs.Common.{drop}
+use Rattle.network.specs.Outboxes.{unsent_at}
+use Rattle.network.specs.Readiness.{AllDue}
+use Rattle.serving_many.specs.Going.{Keeps, state_of}
+use Rattle.serving_many.proofs.sending.send_all.Given as goal
+
+abbrev pub invariant-loop-id : goal.invariant-loop-id
+invariant-loop-id g l = record {
+  kept : Keeps g.H.Handler.answers (state_of l.fn.sessions l.fn.outbox (g.N.Network.reads l.fn.network) (g.N.Network.writes l.fn.network))
+      (state_of l.sessions l.outbox (g.N.Network.reads l.network) (g.N.Network.writes l.network));
+  due : (AllDue (unsent_at l.fn.outbox) (g.N.Network.due l.fn.network) l.ids → AllDue (unsent_at l.outbox) (g.N.Network.due l.network) (drop l.id-index l.ids));
+}

@@ -1,0 +1,23 @@
+-- What it comes to that many connections are served.
+use Rattle.std.specs.Prelude.{◌≡◌, ℕ, List, ◌++◌}
+use Rattle.definitions.specs.Values.{Text}
+use Rattle.http_definitions.specs.Connections.{Answers}
+use Rattle.connections.specs.Connected.{handler_of, connection_at}
+use Rattle.connections.specs.Events.{Event, Standing, Happen, none_is_open, stream_of, sent_to}
+use Rattle.connections.specs.declared.sessions.Sessions.{Sessions}
+use Rattle.network.specs.Traffic.{Moved, bytes_of}
+use Rattle.serving_many.specs.Going.{Stands}
+
+-- Some events have happened, of connections of which none was open. What was read of each connection
+-- is what it was fed, and what was written on it is a first part of what it was to be sent.
+pub record IsServed {H : Type 0} (answers : Answers H) (before : Sessions H) (reads writes : List Moved) (after : Sessions H) (more others : List Moved) : Type 0 where
+  pub events : List Event
+  pub standing : ℕ → Standing
+  pub happened : Happen answers none_is_open (handler_of before) events standing (handler_of after)
+  pub stands : (k : ℕ) → Stands (standing k) (connection_at after k)
+  pub read : List Moved
+  pub read_on : more ≡ reads ++ read
+  pub wrote : List Moved
+  pub wrote_on : others ≡ writes ++ wrote
+  pub heard : (k : ℕ) → bytes_of k read ≡ stream_of k events
+  pub told : (k : ℕ) → (unsent : Text) × (sent_to k events ≡ bytes_of k wrote ++ unsent)

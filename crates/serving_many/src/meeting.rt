@@ -1,0 +1,215 @@
+//! Meeting what happens.
+
+ghost use Rattle.std.specs.Prelude.{◌≡◌, ◌≢◌, ◌⊎◌, ℕ, Bool, Some, None, [], false};
+ghost use Rattle.definitions.specs.Values.{Text};
+ghost use Rattle.network.specs.Outboxes.{unsent_at, OthersStay};
+ghost use Rattle.network.specs.Readiness.{has_bytes, IsAmong, AllDue, OthersDue};
+ghost use Rattle.serving_many.specs.Rounds.{IsDueBut};
+ghost use Rattle.serving_many.specs.Going.{Keeps, state_of};
+
+use crate::answering::receive;
+use crate::ending::cut_off;
+use crate::observers::Observer;
+use connections::{Handler, Sessions};
+use network::{Fault, Network, Occasion, Outbox};
+use std::alloc::Global;
+
+/// How many bytes a read is given room for.
+const MOST_PIECE: usize = 4096;
+
+/// What a round has at hand.
+#[derive(Drop)]
+pub struct Round {
+    /// The connections that have something to be sent at the end of the round. One may stand there more than once.
+    pub waiting: Vec<u64>,
+    /// Where pieces are read to.
+    pub buffer: [u8; MOST_PIECE],
+}
+
+impl Round {
+    /// None waits. This takes no memory.
+    pub fn new(alloc: Global) -> Round
+        ensures { result.waiting.items ≡ [] }
+    {
+        Round {
+            waiting: Vec::new(alloc),
+            buffer: [0; MOST_PIECE],
+        }
+    }
+}
+
+// Opens a connection. Where that fails, its client is let go.
+fn open<H: Handler, N: Network, O: Observer>(
+    alloc: Global,
+    sessions: &mut Sessions<H>,
+    outbox: &mut Outbox,
+    network: &mut N,
+    observer: &mut O,
+    id: u64,
+)
+    ensures kept { Keeps H.answers
+        (state_of sessions.old outbox.old (N.reads network.old) (N.writes network.old))
+        (state_of sessions.new outbox.new (N.reads network.new) (N.writes network.new)) }
+    ensures own { ((d : Bool) → N.due network.old d id) → (bytes : Text)
+        → unsent_at outbox.new id ≡ Some bytes → N.due network.new (has_bytes bytes) id }
+    ensures stay { OthersStay id outbox.old outbox.new }
+    ensures due { OthersDue id (N.due network.old) (N.due network.new) }
+{
+    match outbox.open(id) {
+        Err(fault) => cut_off(alloc, sessions, outbox, network, observer, id, Some(fault)),
+        Ok(()) => {
+            observer.opened(id);
+            match sessions.open(id) {
+                Err(fault) => cut_off(alloc, sessions, outbox, network, observer, id, Some(fault)),
+                Ok(()) => {}
+            }
+        }
+    }
+}
+
+// The fault of a connection that took too long.
+fn lateness(outbox: &Outbox, id: u64) -> Fault {
+    match outbox.unsent(id) {
+        None | Some([]) => Fault::ReadFailed,
+        Some(_) => Fault::WriteFailed,
+    }
+}
+
+// Goes on with a connection that has nothing to be sent: it is read, or parted with where it is closed, or read later
+// where memory is short. Whether something is to be sent then.
+fn go_on<H: Handler, N: Network, O: Observer>(
+    alloc: Global,
+    sessions: &mut Sessions<H>,
+    outbox: &mut Outbox,
+    network: &mut N,
+    observer: &mut O,
+    id: u64,
+    buffer: &mut [u8],
+) -> bool
+    requires { unsent_at outbox.old id ≡ Some [] }
+    ensures kept { Keeps H.answers
+        (state_of sessions.old outbox.old (N.reads network.old) (N.writes network.old))
+        (state_of sessions.new outbox.new (N.reads network.new) (N.writes network.new)) }
+    ensures own { result ≡ false → (bytes : Text) → unsent_at outbox.new id ≡ Some bytes
+        → N.due network.new (has_bytes bytes) id }
+    ensures stay { OthersStay id outbox.old outbox.new }
+    ensures due { OthersDue id (N.due network.old) (N.due network.new) }
+{
+    if sessions.is_closed(id) {
+        cut_off(alloc, sessions, outbox, network, observer, id, None);
+        return false;
+    }
+    if !outbox.may_grow(id) {
+        network.later(id);
+        return false;
+    }
+    receive(alloc, sessions, outbox, network, observer, id, buffer)
+}
+
+// Takes a turn of a connection that is told ready. Whether something is to be sent then.
+fn take_turn<H: Handler, N: Network, O: Observer>(
+    alloc: Global,
+    sessions: &mut Sessions<H>,
+    outbox: &mut Outbox,
+    network: &mut N,
+    observer: &mut O,
+    id: u64,
+    buffer: &mut [u8],
+) -> bool
+    ensures kept { Keeps H.answers
+        (state_of sessions.old outbox.old (N.reads network.old) (N.writes network.old))
+        (state_of sessions.new outbox.new (N.reads network.new) (N.writes network.new)) }
+    ensures own { result ≡ false → (bytes : Text) → unsent_at outbox.new id ≡ Some bytes
+        → N.due network.new (has_bytes bytes) id }
+    ensures stay { OthersStay id outbox.old outbox.new }
+    ensures due { OthersDue id (N.due network.old) (N.due network.new) }
+{
+    match outbox.unsent(id) {
+        None => false,
+        Some([]) => go_on(alloc, sessions, outbox, network, observer, id, buffer),
+        Some(_) => true,
+    }
+}
+
+// Notes that a connection has something to be sent. Where memory lacks for that, it is ended.
+fn wait_for<H: Handler, N: Network, O: Observer>(
+    alloc: Global,
+    sessions: &mut Sessions<H>,
+    outbox: &mut Outbox,
+    network: &mut N,
+    observer: &mut O,
+    waiting: &mut Vec<u64>,
+    id: u64,
+)
+    ensures kept { Keeps H.answers
+        (state_of sessions.old outbox.old (N.reads network.old) (N.writes network.old))
+        (state_of sessions.new outbox.new (N.reads network.new) (N.writes network.new)) }
+    ensures noted { IsAmong id waiting.new.items ⊎ (unsent_at outbox.new id ≡ None) }
+    ensures waiting { (k : ℕ) → IsAmong k waiting.old.items → IsAmong k waiting.new.items }
+    ensures stay { OthersStay id outbox.old outbox.new }
+    ensures due { OthersDue id (N.due network.old) (N.due network.new) }
+{
+    match waiting.push(id) {
+        Ok(()) => {}
+        Err(_) => {
+            cut_off(
+                alloc,
+                sessions,
+                outbox,
+                network,
+                observer,
+                id,
+                Some(Fault::NoRoom),
+            );
+        }
+    }
+}
+
+/// Meets what happens. What is to be sent then is sent at the end of the round.
+pub fn meet<H: Handler, N: Network, O: Observer>(
+    alloc: Global,
+    sessions: &mut Sessions<H>,
+    outbox: &mut Outbox,
+    network: &mut N,
+    observer: &mut O,
+    round: &mut Round,
+    occasion: Occasion,
+)
+    requires { (k : ℕ) (d : Bool) → occasion ≡ Occasion.Opens k → N.due network.old d k }
+    ensures kept { Keeps H.answers
+        (state_of sessions.old outbox.old (N.reads network.old) (N.writes network.old))
+        (state_of sessions.new outbox.new (N.reads network.new) (N.writes network.new)) }
+    ensures due { IsDueBut occasion
+        (unsent_at outbox.old) (N.due network.old) round.old.waiting.items
+        → AllDue (unsent_at outbox.new) (N.due network.new) round.new.waiting.items }
+{
+    match occasion {
+        Occasion::Over => {}
+        Occasion::Opens(id) => open(alloc, sessions, outbox, network, observer, id),
+        Occasion::Late(id) => {
+            let fault = lateness(outbox, id);
+            cut_off(alloc, sessions, outbox, network, observer, id, Some(fault));
+        }
+        Occasion::Ready(id) => {
+            if take_turn(
+                alloc,
+                sessions,
+                outbox,
+                network,
+                observer,
+                id,
+                &mut round.buffer,
+            ) {
+                wait_for(
+                    alloc,
+                    sessions,
+                    outbox,
+                    network,
+                    observer,
+                    &mut round.waiting,
+                    id,
+                );
+            }
+        }
+    }
+}

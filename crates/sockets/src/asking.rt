@@ -1,0 +1,74 @@
+//! What the system tells.
+
+ghost use Rattle.std.specs.Prelude.{◌≡◌};
+ghost use Rattle.sockets.specs.Table.{StaysDue, StaysOpen};
+
+use crate::sockets::{INPUT, LISTENER, Sockets, TICK};
+use crate::table::Table;
+use mio::Events;
+use std::io;
+use std::time::{Clock, Duration, Instant};
+
+/// What the system told beside which connections are ready.
+#[derive(Clone, Copy)]
+struct News {
+    /// A client has come.
+    is_asked: bool,
+    /// Standard input has ended.
+    is_ended: bool,
+}
+
+/// Has each connection of which the system told something be told ready.
+fn hear(events: &Events, table: &mut Table) -> News
+    ensures due { StaysDue table.old table.new }
+    ensures opened { StaysOpen table.old table.new }
+    ensures count { table.new.count ≡ table.old.count }
+{
+    let mut news = News {
+        is_asked: false,
+        is_ended: false,
+    };
+    for event in events {
+        let number = event.token().0 as u64;
+        if number == LISTENER {
+            news.is_asked = true;
+        } else if number == INPUT {
+            news.is_ended = event.is_read_closed();
+        } else {
+            table.call(number);
+        }
+    }
+    news
+}
+
+impl<C: Clock> Sockets<'_, C> {
+    ghost use Rattle.sockets.specs.Sockets.{MovesNothing};
+
+    /// How long the system may let it wait.
+    fn patience(&self) -> Duration {
+        if self.table.queue_len() > 0 || self.may_accept && !self.ends() {
+            Duration::from_millis(0)
+        } else {
+            Duration::from_millis(TICK)
+        }
+    }
+
+    /// Asks the system what is ready, and reads the clock.
+    pub(crate) fn ask(&mut self) -> io::Result<()>
+        ensures moves { MovesNothing self.old self.new }
+        ensures due { StaysDue self.old.table self.new.table }
+        ensures opened { StaysOpen self.old.table self.new.table }
+        ensures count { self.new.table.count ≡ self.old.table.count }
+    {
+        let patience = self.patience();
+        self.poll.poll(&mut self.events, Some(patience))?;
+        self.now = Instant::now(self.clock)?;
+        let news = hear(&self.events, &mut self.table);
+        self.may_accept = self.may_accept || news.is_asked;
+        if news.is_ended {
+            self.listener = None;
+        }
+        self.left = self.table.queue_len();
+        Ok(())
+    }
+}

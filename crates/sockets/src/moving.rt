@@ -1,0 +1,118 @@
+//! Bytes that are read and written on many connections.
+
+ghost use Rattle.std.specs.Prelude.{◌≡◌, ◌++◌, ◌∷◌, [], false, None, IfSome};
+ghost use Rattle.std.specs.Io.{ReadsAtMost, WritesAtMost};
+ghost use Rattle.sockets.specs.Table.{IsDue, StaysDue, StaysOpen};
+
+use crate::sockets::Sockets;
+use network::{Broken, Network, Note, Occasion, Outbox};
+use std::io::{self, ErrorKind, Read, Write};
+use std::time::Clock;
+
+impl<C: Clock> Sockets<'_, C> {
+    /// Reads of an open connection.
+    fn read_some(&self, id: u64, buffer: &mut [u8]) -> io::Result<usize>
+        ensures { ReadsAtMost result buffer.new }
+    {
+        match self.table.stream(id) {
+            Some(stream) if self.table.is_open(id) => {
+                let mut stream = stream;
+                stream.read(buffer)
+            }
+            _ => Err(io::Error::from(ErrorKind::NotConnected)),
+        }
+    }
+
+    /// A read would wait. Once no more clients are accepted, that is the end of what the client says.
+    fn wait_to_read(&mut self, id: u64) -> Option<usize>
+        ensures none { result ≡ None → self.new.reads ≡ self.old.reads }
+        ensures some { IfSome result (λ n. (n ≡ 0)
+            × (self.new.reads.moves ≡ self.old.reads.moves ++ (id, []) ∷ [])) }
+        ensures writes { self.new.writes ≡ self.old.writes }
+        ensures waits { result ≡ None → IsDue self.new.table false id }
+        ensures due { StaysDue self.old.table self.new.table }
+        ensures opened { StaysOpen self.old.table self.new.table }
+        ensures count { self.new.table.count ≡ self.old.table.count }
+    {
+        if self.ends() {
+            self.reads = self.reads.then(&Note::Moved(id, &[]));
+            return Some(0);
+        }
+        self.table.wait_to_read(id);
+        None
+    }
+
+    /// Writes to an open connection.
+    fn write_some(&self, id: u64, bytes: &[u8]) -> io::Result<usize>
+        ensures { WritesAtMost result bytes.now }
+    {
+        match self.table.stream(id) {
+            Some(stream) if self.table.is_open(id) => {
+                let mut stream = stream;
+                stream.write(bytes)
+            }
+            _ => Err(io::Error::from(ErrorKind::NotConnected)),
+        }
+    }
+}
+
+impl<C: Clock> Network for Sockets<'_, C> {
+    ghost reads = { λ s. s.reads.moves };
+
+    ghost writes = { λ s. s.writes.moves };
+
+    ghost due = { λ s d k. IsDue s.table d k };
+
+    fn next(&mut self) -> Option<Occasion> {
+        self.happens()
+    }
+
+    fn wait(&mut self, _outbox: &Outbox) -> Result<(), Broken> {
+        match self.ask() {
+            Ok(()) => Ok(()),
+            Err(_) => Err(Broken),
+        }
+    }
+
+    fn read(&mut self, id: u64, buffer: &mut [u8]) -> Result<Option<usize>, Broken> {
+        match self.read_some(id, buffer) {
+            Ok(count) => {
+                let until = self.idle_until();
+                self.table.rest(id, until);
+                self.reads = self.reads.then(&Note::Moved(id, &buffer[..count]));
+                Ok(Some(count))
+            }
+            Err(error) if error.kind() == ErrorKind::WouldBlock => Ok(self.wait_to_read(id)),
+            Err(_) => Err(Broken),
+        }
+    }
+
+    fn write(&mut self, id: u64, bytes: &[u8]) -> Result<Option<usize>, Broken> {
+        match self.write_some(id, bytes) {
+            Ok(0) => Err(Broken),
+            Ok(count) => {
+                let until = self.idle_until();
+                self.table.rest(id, until);
+                self.writes = self.writes.then(&Note::Moved(id, &bytes[..count]));
+                Ok(Some(count))
+            }
+            Err(error) if error.kind() == ErrorKind::WouldBlock => {
+                self.table.wait_to_write(id);
+                Ok(None)
+            }
+            Err(_) => Err(Broken),
+        }
+    }
+
+    fn again(&mut self, id: u64) {
+        self.table.call(id);
+    }
+
+    fn later(&mut self, id: u64) {
+        self.table.put_off(id);
+    }
+
+    fn close(&mut self, id: u64) {
+        self.part(id);
+    }
+}

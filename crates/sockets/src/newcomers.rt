@@ -1,0 +1,71 @@
+//! Clients that come.
+
+ghost use Rattle.std.specs.Prelude.{◌≡◌, ◌+◌, Bool, IfOk, IfSome, IfNone, OnErr};
+ghost use Rattle.sockets.specs.Table.{IsOpen, IsDue, StaysDue, StaysOpen};
+
+use crate::sockets::{INPUT, Sockets};
+use crate::status::Status;
+use mio::{Interest, Token};
+use std::io::{self, ErrorKind};
+use std::time::Clock;
+
+impl<C: Clock> Sockets<'_, C> {
+    ghost use Rattle.sockets.specs.Sockets.{MovesNothing};
+
+    /// Accepts a client, and answers its number. One that can't be taken in is let go.
+    fn accept(&mut self) -> io::Result<u64>
+        ensures moves { MovesNothing self.old self.new }
+        ensures due { StaysDue self.old.table self.new.table }
+        ensures opened { StaysOpen self.old.table self.new.table }
+        ensures number { IfOk result (λ id. (id ≡ self.old.table.count)
+            × (self.new.table.count ≡ id + 1)) }
+        ensures opens { IfOk result (λ id. IsOpen self.new.table id) }
+        ensures told { IfOk result (λ id. (d : Bool) → IsDue self.new.table d id) }
+        ensures count { OnErr result (self.new.table.count ≡ self.old.table.count) }
+    {
+        self.table.reserve()?;
+        let (mut stream, _peer) = match &self.listener {
+            Some(listener) => listener.accept()?,
+            None => return Err(io::Error::from(ErrorKind::NotConnected)),
+        };
+        let _ = stream.set_nodelay(true);
+        let id = self.table.count();
+        let both = Interest::READABLE | Interest::WRITABLE;
+        self.poll
+            .registry()
+            .register(&mut stream, Token(id as usize), both)?;
+        let status = Status::new(self.idle_until(), self.now.checked_add(self.limits.whole));
+        self.table.add(stream, status)?;
+        Ok(id)
+    }
+
+    /// Accepts a client, where one may wait and there is room, and answers its number.
+    pub(crate) fn newcomer(&mut self) -> Option<u64>
+        ensures moves { MovesNothing self.old self.new }
+        ensures due { StaysDue self.old.table self.new.table }
+        ensures opened { StaysOpen self.old.table self.new.table }
+        ensures number { IfSome result (λ id. (id ≡ self.old.table.count)
+            × (self.new.table.count ≡ id + 1)) }
+        ensures opens { IfSome result (λ id. IsOpen self.new.table id) }
+        ensures told { IfSome result (λ id. (d : Bool) → IsDue self.new.table d id) }
+        ensures count { IfNone result (self.new.table.count ≡ self.old.table.count) }
+    {
+        if !self.may_accept || self.ends() {
+            return None;
+        }
+        if self.table.len() >= self.connections || self.table.count() >= INPUT {
+            self.may_accept = false;
+            self.is_short = true;
+            return None;
+        }
+        match self.accept() {
+            Ok(id) => Some(id),
+            Err(error) => {
+                let kind = error.kind();
+                self.may_accept = kind == ErrorKind::ConnectionAborted;
+                self.is_short = kind != ErrorKind::WouldBlock;
+                None
+            }
+        }
+    }
+}

@@ -1,0 +1,122 @@
+//! What happens on many connections, one after the other.
+
+ghost use Rattle.std.specs.Prelude.{◌≡◌, ◌≢◌, ℕ, Bool, Some};
+ghost use Rattle.sockets.specs.Table.{IsOpen, IsDue, StaysDue, StaysDueBut, StaysOpen};
+
+use crate::sockets::{Sockets, TICK};
+use network::Occasion;
+use std::time::{Clock, Duration};
+
+impl<C: Clock> Sockets<'_, C> {
+    ghost use Rattle.sockets.specs.Sockets.{MovesNothing};
+    ghost use Rattle.sockets.specs.Numbers.{count_after};
+
+    /// What happened next.
+    pub(crate) fn happens(&mut self) -> Option<Occasion>
+        ensures moves { MovesNothing self.old self.new }
+        ensures due { (k : ℕ) (d : Bool) → result ≢ Some (Occasion.Ready k)
+            → IsDue self.old.table d k → IsDue self.new.table d k }
+        ensures told { (k : ℕ) (d : Bool) → result ≡ Some (Occasion.Opens k)
+            → IsDue self.new.table d k }
+        ensures opens { (k : ℕ) → result ≡ Some (Occasion.Opens k) → IsOpen self.new.table k }
+        ensures opened { StaysOpen self.old.table self.new.table }
+        ensures number { (k : ℕ) → result ≡ Some (Occasion.Opens k) → k ≡ self.old.table.count }
+        ensures count { self.new.table.count ≡ count_after result self.old.table.count }
+    {
+        if let Some(id) = self.newcomer() {
+            return Some(Occasion::Opens(id));
+        }
+        if let Some(id) = self.ready() {
+            return Some(Occasion::Ready(id));
+        }
+        if let Some(id) = self.late() {
+            return Some(Occasion::Late(id));
+        }
+        if self.ends() && self.table.len() == 0 {
+            return Some(Occasion::Over);
+        }
+        None
+    }
+
+    /// The next of the queue that is to be told ready.
+    fn ready(&mut self) -> Option<u64>
+        ensures moves { MovesNothing self.old self.new }
+        ensures due { StaysDueBut result self.old.table self.new.table }
+        ensures opened { StaysOpen self.old.table self.new.table }
+        ensures count { self.new.table.count ≡ self.old.table.count }
+    {
+        for _ in 0..self.left {
+            self.left = self.left.saturating_sub(1);
+            match self.table.pop() {
+                None => return None,
+                Some(id) => {
+                    if self.table.is_open(id) {
+                        return Some(id);
+                    }
+                    self.drain(id);
+                }
+            }
+        }
+        None
+    }
+
+    /// Does what has to be done about a connection, where its time isn't over. Whether it is.
+    fn is_over(&mut self, id: u64) -> bool
+        ensures moves { MovesNothing self.old self.new }
+        ensures due { StaysDue self.old.table self.new.table }
+        ensures opened { StaysOpen self.old.table self.new.table }
+        ensures count { self.new.table.count ≡ self.old.table.count }
+    {
+        let Some(status) = self.table.status(id) else {
+            return false;
+        };
+        if status.is_parting {
+            if !self.table.is_queued(id) {
+                self.release(id);
+            }
+            return false;
+        }
+        if status.is_late(self.now) {
+            return true;
+        }
+        self.table.call(id);
+        false
+    }
+
+    /// Whether it is time to look at all connections.
+    fn is_time_to_look(&self) -> bool {
+        match self.look {
+            Some(look) => self.ends() || self.now >= look,
+            None => true,
+        }
+    }
+
+    /// A connection whose time is over, of those that weren't looked at since it is time to look.
+    fn late(&mut self) -> Option<u64>
+        ensures moves { MovesNothing self.old self.new }
+        ensures due { StaysDue self.old.table self.new.table }
+        ensures opened { StaysOpen self.old.table self.new.table }
+        ensures count { self.new.table.count ≡ self.old.table.count }
+    {
+        if !self.is_time_to_look() {
+            return None;
+        }
+        for _ in 0..self.table.len() {
+            let ends = self.ends();
+            match self.table.next_to_look_at(self.look_from, self.now, ends) {
+                None => break,
+                Some(id) => {
+                    self.look_from = id.saturating_add(1);
+                    if self.is_over(id) {
+                        return Some(id);
+                    }
+                }
+            }
+        }
+        self.look_from = 0;
+        self.look = self.now.checked_add(Duration::from_millis(TICK));
+        self.may_accept = self.may_accept || self.is_short;
+        self.is_short = false;
+        None
+    }
+}

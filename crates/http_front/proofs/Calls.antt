@@ -6,7 +6,7 @@ use Rattle.definitions.specs.Services.{KeyedRegistry, CallCourse}
 use Rattle.http_definitions.specs.Heads.{key_of}
 use Rattle.http_definitions.specs.Routes.{request_of}
 use Rattle.http_definitions.specs.Connections.{AnswersAsked, AnswersAll}
-use Rattle.connections.specs.Feeding.{Answered}
+use Rattle.connections.specs.Events.{Answered}
 use Rattle.http_front.specs.HubAnswers.{call_answers}
 use Rattle.http_front.specs.Isolation.{with_call, with_reply, calls_of, call_replies_of}
 

@@ -2,3 +2,4 @@ pub mod Viewed
 pub mod Calls
 pub mod Refused
 pub mod Libraries
+pub mod Isolated

@@ -1,16 +1,19 @@
 -- What is answered, seen by the registries alone.
-use Rattle.std.proofs.Common.{List, [], ◌∷◌, Option, Some, None, Result, Ok, Err, ap, inl, inr}
+use Rattle.std.proofs.Common.{ℕ, List, [], ◌∷◌, ◌++◌, Option, Some, None, Result, Ok, Err, ap, inl, inr}
 use Rattle.definitions.specs.Registries.{Request, Reply}
 use Rattle.definitions.specs.Values.{Text}
 use Rattle.http_definitions.specs.Heads.{key_of}
 use Rattle.http_definitions.specs.Routes.{request_of}
 use Rattle.http_definitions.specs.Streams.{Message}
-use Rattle.http_definitions.specs.Connections.{Answers, AnswersAsked, AnswersAll, Connection, Takes}
+use Rattle.http_definitions.specs.Connections.{Answers, AnswersAsked, AnswersAll, Connection, holding, closed, Takes}
 use Rattle.connections.specs.Progress.{TakesSome}
+use Rattle.connections.specs.Views.{Feeds, FeedsSome}
+use Rattle.connections.specs.Events.{Change, opens, feeds, stops, ends, breaks, Event, Standing, unopened, served, short, ended, lost, IsChange, Happen}
 use Rattle.faults.specs.declared.Fault.{Fault}
 use Rattle.serving.specs.Transfers.{Transfer}
 use Rattle.serving.specs.Exchanges.{Wire, wire, Reads, Tells, LacksRoom, BreaksOff}
 use Rattle.serving.specs.Serving.{IsCutOff, IsServed}
+use Rattle.serving.specs.Talks.{Talk, AreServed}
 
 module _ {S T : Type 0} (v : S → T) (answers : Answers T) where
   abbrev pub viewed : Answers S
@@ -75,9 +78,9 @@ module _ {S T : Type 0} (v : S → T) (answers : Answers T) where
   breaks_viewed before after f x = elim x [
     | inl w ↦ inl (w.0, w.1, (reads_viewed before after _ w.1 w.2.0, w.2.1))
     | inr y ↦ elim y [
-      | inl w ↦ inr (inl (w.0, w.1, w.2, (reads_viewed before after w.2 w.1 w.3.0, w.3.1)))
+      | inl w ↦ inr (inl (w.0, w.1, w.2, w.3, (reads_viewed before after w.2 w.1 w.4.0, w.4.1)))
       | inr w ↦ elim w.1 [
-        | inl z ↦ inr (inr (w.0, inl (z.0, z.1, (reads_viewed before after z.1 z.0 z.2.0, z.2.1))))
+        | inl z ↦ inr (inr (w.0, inl (z.0, z.1, z.2, (reads_viewed before after z.1 z.0 z.3.0, z.3.1))))
         | inr z ↦ inr (inr (w.0, inr (room_viewed before after z)))
       ]
     ]
@@ -93,3 +96,43 @@ module _ {S T : Type 0} (v : S → T) (answers : Answers T) where
       → IsServed answers None (wire_viewed before) r (wire_viewed after)
   served_viewed before after (Ok u) x = (x.0, x.1, x.2, (reads_viewed before after x.1 x.0 x.3.0, x.3.1))
   served_viewed before after (Err f) x = cut_viewed before after f x
+
+  -- ---- events
+  fed_viewed : (c : Connection) (piece out : Text) (s t : S) (d : Connection) → Feeds viewed c piece s out d t → Feeds answers c piece (v s) out d (v t)
+  fed_viewed (holding held) piece out s t d x = takes_viewed (held ++ piece) out s t d x
+  fed_viewed closed piece out s t d x = (x.0, x.1, ap v x.2)
+
+  fed_some_viewed : (c : Connection) (piece : Text) (s t : S) → FeedsSome viewed c piece s t → FeedsSome answers c piece (v s) (v t)
+  fed_some_viewed (holding held) piece s t x = some_viewed (held ++ piece) s t x
+  fed_some_viewed closed piece s t x = absurd x
+
+  change_viewed : (c : Standing) (s t : S) (change : Change) (d : Standing) → IsChange viewed c s change d t → IsChange answers c (v s) change d (v t)
+  change_viewed unopened s t opens d x = (x.0, ap v x.1)
+  change_viewed (served c) s t (feeds piece out) d x = (x.0, x.1, fed_viewed c piece out s t x.0 x.2)
+  change_viewed (served c) s t (stops piece) d x = (x.0, fed_some_viewed c piece s t x.1)
+  change_viewed (served c) s t (ends out) d x = (x.0, x.1, ap v x.2)
+  change_viewed (served c) s t breaks d x = (x.0, ap v x.1)
+  change_viewed short s t (feeds piece out) d x = (x.0, x.1, ap v x.2)
+  change_viewed short s t (ends out) d x = (x.0, x.1, ap v x.2)
+  change_viewed short s t breaks d x = (x.0, ap v x.1)
+  change_viewed unopened s t change d x = absurd x
+  change_viewed (served c) s t change d x = absurd x
+  change_viewed short s t change d x = absurd x
+  change_viewed ended s t change d x = absurd x
+  change_viewed lost s t change d x = absurd x
+
+  pub happen_viewed : (at : ℕ → Standing) (s t : S) (es : List Event) (now : ℕ → Standing) → Happen viewed at s es now t → Happen answers at (v s) es now (v t)
+  happen_viewed at s t [] now x = (x.0, ap v x.1)
+  happen_viewed at s t (e ∷ es) now x =
+      (x.0, v x.1, change_viewed (at e.connection) s x.1 e.change (x.0 e.connection) x.2, x.3, happen_viewed x.0 x.1 t es now x.4)
+
+  pub talks_viewed : (s t : S) (xs : List Talk) → AreServed viewed s xs t → AreServed answers (v s) xs (v t)
+  talks_viewed s t [] x = ap v x
+  talks_viewed s t (y ∷ xs) x = (
+    v x.0,
+    elim x.1 [
+      | inl w ↦ inl (w.0, w.1, served_viewed (wire s w.0 w.1) (wire x.0 (w.0 ++ y.read) (w.1 ++ y.wrote)) y.result w.2)
+      | inr w ↦ inr (w.0, w.1, w.2, ap v w.3)
+    ],
+    talks_viewed x.0 t xs x.2,
+  )

@@ -2,4 +2,5 @@ pub mod HubAnswers
 pub mod Isolation
 pub mod Servers
 pub mod Running
+pub mod SideBySide
 pub mod Libraries

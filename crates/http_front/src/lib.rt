@@ -3,15 +3,19 @@
 
 mod hub_handler;
 mod isolation;
+mod noted_hub;
 mod running;
 mod servers;
+mod side_by_side;
 
-pub use connections::Sessions;
+pub use connections::{Exchange, Sessions};
 pub use hub_handler::HubHandler;
-pub use isolation::connections_are_isolated;
+pub use isolation::{connections_are_isolated, served_connections_are_isolated};
+pub use noted_hub::{Journal, NotedHub};
 pub use running::{run_connection, run_connection_with};
 pub use servers::{hub_of, hub_over};
 pub use serving::{
     Broken, ByteReader, ByteWriter, MemoryReader, MemoryWriter, Pace, Pause, Recorded, serve,
 };
+pub use side_by_side::serve_side_by_side;
 pub use tenant_hub::{Fault, Hub};

@@ -11,7 +11,7 @@ use Rattle.clap.specs.declared.error.Error.{Error}
 use Rattle.clap.specs.declared.error.kind.ErrorKind.TheVariants.{OutOfMemory}
 use Rattle.clap.proofs.OnLiterals.{clap_on_literals}
 use Rattle.command_line.specs.Commands.{program, check_command}
-use Rattle.command_line.specs.Calls.{Asked, asked_check, call_of}
+use Rattle.command_line.specs.Calls.{Asked, asked_check, call_of, faults_of}
 use Rattle.clap.specs.declared.error.kind.ErrorKind.{ErrorKind}
 use Rattle.command_line.specs.Forms.{Asks, help, version, Spells, no_words, two_files, with_uri, is_plain}
 
@@ -176,13 +176,33 @@ spelled_call _ _ (no_words p) = refl
 spelled_call _ _ (two_files p s i e f) = two_call p s i ∙ ap asked_at (two_walk s i e f)
 spelled_call _ _ (with_uri p u s i d e f) = uri_call p u s i ∙ ap asked_at (uri_walk u s i d e f)
 
-pub spelled_fault : (words : List Text) (call : Asked) → Spells words call → fault_of program words ≡ []
+spelled_fault : (words : List Text) (call : Asked) → Spells words call → fault_of program words ≡ []
 unfolding clap_on_literals
 spelled_fault _ _ (no_words p) = refl
 spelled_fault _ _ (two_files p s i e f) =
     two_fault p s i ∙ ap (λ k. or_else (end_fault k (walk_over (s ∷ i ∷ []))) []) (two_turns s i e f) ∙ ap (λ w. or_else (end_fault [] w) []) (two_walk s i e f)
 spelled_fault _ _ (with_uri p u s i d e f) =
     uri_fault p u s i ∙ ap (λ k. or_else (end_fault k (walk_over (uri_words u s i))) []) (uri_turns u s i d e f) ∙ ap (λ w. or_else (end_fault [] w) []) (uri_walk u s i d e f)
+
+-- .. nor words that exclude one another
+pub spelled_faults : (words : List Text) (call : Asked) → Spells words call → faults_of words ≡ []
+unfolding clap_on_literals
+spelled_faults _ _ (no_words p) = refl
+spelled_faults words call (two_files p s i e f) = ap (λ ks. or_else ks []) (spelled_fault words call (two_files p s i e f))
+spelled_faults words call (with_uri p u s i d e f) = ap (λ ks. or_else ks []) (spelled_fault words call (with_uri p u s i d e f))
+
+-- a first fault is one of all
+pub first_kind : (kinds next : Kinds) (e : Error) → HasKind kinds e → HasKind (or_else kinds next) e
+first_kind [] next e (inl m) = inl m
+first_kind [] next e (inr found) = absurd found
+first_kind (k ∷ ks) next e h = h
+
+-- .. and the next, where there is no first
+pub next_kind : (kinds next : Kinds) (e : Error) → kinds ≡ [] → HasKind next e → HasKind (or_else kinds next) e
+next_kind kinds next e none h = subst (λ ks. HasKind (or_else ks next) e) (sym none) h
+
+pub none_of : (kinds next : Kinds) → kinds ≡ [] → next ≡ [] → or_else kinds next ≡ []
+none_of kinds next none other = ap (λ ks. or_else ks next) none ∙ other
 
 -- where there is no fault, the only error is the want of memory
 pub no_fault : (kinds : Kinds) → kinds ≡ [] → (e : Error) → HasKind kinds e → kind_of e ≡ OutOfMemory
@@ -192,12 +212,12 @@ no_fault kinds none e h = go (subst (λ ks. HasKind ks e) none h)
     go (inl m) = m
     go (inr found) = absurd found
 
-pub memory_alone : (words : List Text) (call : Asked) → Spells words call → (e : Error) → HasKind (fault_of program words) e → kind_of e ≡ OutOfMemory
-memory_alone words call s e h = no_fault (fault_of program words) (spelled_fault words call s) e h
+pub memory_alone : (words : List Text) (call : Asked) → Spells words call → (e : Error) → HasKind (faults_of words) e → kind_of e ≡ OutOfMemory
+memory_alone words call s e h = no_fault (faults_of words) (spelled_faults words call s) e h
 
 -- ---- what asks for help or for the version has that fault
 
-pub asks_fault : (words : List Text) (kind : ErrorKind) → Asks words kind → fault_of program words ≡ kind ∷ []
+pub asks_faults : (words : List Text) (kind : ErrorKind) → Asks words kind → faults_of words ≡ kind ∷ []
 unfolding clap_on_literals
-asks_fault _ _ (help p) = refl
-asks_fault _ _ (version p) = refl
+asks_faults _ _ (help p) = refl
+asks_faults _ _ (version p) = refl

@@ -1,12 +1,16 @@
 -- What a command line asks for.
-use Rattle.std.specs.Prelude.{◌≡◌, ℕ, List, [], Option, Some, None, option_map, unwrap_or, if◌then◌else◌, codes}
+use Rattle.std.specs.Prelude.{◌≡◌, ◌&&◌, ◌||◌, ℕ, Bool, false, List, [], ◌∷◌, Option, Some, None, is_some, option_map, option_and_then, unwrap_or, if◌then◌else◌, codes}
 use Rattle.std.specs.Option.{option_map_or}
 use Rattle.std.specs.Str.{bytes_eq}
 use Rattle.std.specs.Str.Parse.{digits_value, without_leading_plus}
 use Rattle.clap.specs.Words.{Row, Text, fault_of, first_of, one_of, subcommand_of}
 use Rattle.clap.specs.ValueTests.{is_unsigned_in}
+use Rattle.clap.specs.Kinds.{Kinds, or_else}
+use Rattle.clap.specs.declared.error.kind.ErrorKind.TheVariants.{ArgumentConflict}
 use Rattle.command_line.specs.declared.call.Call.{Call}
 use Rattle.command_line.specs.declared.call.Call.TheVariants as call
+use Rattle.command_line.specs.declared.call.Limits as code
+use Rattle.command_line.specs.declared.call.Logging as told
 use Rattle.command_line.specs.declared.call.Setup.{Setup}
 use Rattle.command_line.specs.Commands.{program}
 
@@ -17,6 +21,19 @@ pub record Start : Type 0 where
   pub library : Option Text
   pub cache : ℕ
 
+-- The limits of connections that are served side by side: how many there are at most, after how many seconds without a
+-- byte one is ended, how many seconds one may be open, and how many bytes all keep together
+pub record Limits : Type 0 where
+  pub connections : ℕ
+  pub idle : ℕ
+  pub whole : Option ℕ
+  pub memory : ℕ
+
+-- where it is told how connections go, and whether each request is told
+pub record Logging : Type 0 where
+  pub file : Option Text
+  pub requests : Bool
+
 pub data Asked : Type 0 where
   -- standard input holds the check
   input : Asked
@@ -26,6 +43,8 @@ pub data Asked : Type 0 where
   run : Start → Asked
   -- the address, and how many connections are accepted there
   serve : Start → Text → ℕ → Asked
+  -- the address, at which connections are served side by side
+  serve_many : Start → Text → Limits → Logging → Asked
 
 abbrev pub setup_view : Setup → Start
 setup_view setup = record {
@@ -34,22 +53,38 @@ setup_view setup = record {
   cache = setup.cache;
 }
 
+abbrev pub limits_view : code.Limits → Limits
+limits_view limits = record { connections = limits.connections; idle = limits.idle; whole = limits.whole; memory = limits.memory }
+
+abbrev pub logging_view : told.Logging → Logging
+logging_view logging = record { file = option_map (λ s. s.now) logging.file; requests = logging.requests }
+
 abbrev pub call_view : Call → Asked
 call_view call.Input = input
 call_view (call.Check uri schema instance) = check uri.now schema.now instance.now
 call_view (call.Run setup) = run (setup_view setup)
 call_view (call.Serve setup listen accept) = serve (setup_view setup) listen.now accept
+call_view (call.ServeMany setup listen limits logging) = serve_many (setup_view setup) listen.now (limits_view limits) (logging_view logging)
 
 -- the first value that the words gave to an argument
 abbrev pub value_of : Text → List Row → Text
 value_of id rows = unwrap_or (first_of id rows) []
 
--- the number of 32 bits that a text spells in decimal digits, and 0 where it spells none
-abbrev pub number_in : Text → ℕ
-number_in text = if is_unsigned_in 0 4294967295 text then digits_value 10 (without_leading_plus text) else 0
+-- the number of 32 bits that a text spells in decimal digits, if it spells one
+abbrev pub number_in : Text → Option ℕ
+number_in text = if is_unsigned_in 0 4294967295 text then Some (digits_value 10 (without_leading_plus text)) else None
 
-abbrev pub number_of : Text → List Row → ℕ
-number_of id rows = option_map_or number_in (one_of id rows) 0
+-- the number that an argument has, if any
+abbrev pub given_number : Text → List Row → Option ℕ
+given_number id rows = option_and_then number_in (one_of id rows)
+
+-- .. or another
+abbrev pub number_or : ℕ → Text → List Row → ℕ
+number_or other id rows = unwrap_or (given_number id rows) other
+
+-- the words set the flag
+abbrev pub is_set : Text → List Row → Bool
+is_set id rows = option_map_or (λ text. bytes_eq text (codes "true")) (first_of id rows) false
 
 abbrev pub asked_check : List Row → Asked
 asked_check rows = check (value_of (codes "uri") rows) (value_of (codes "SCHEMA") rows) (value_of (codes "INSTANCE") rows)
@@ -58,11 +93,28 @@ abbrev pub asked_start : List Row → Start
 asked_start rows = record {
   tenants = value_of (codes "tenants") rows;
   library = first_of (codes "library") rows;
-  cache = number_of (codes "cache") rows;
+  cache = number_or 0 (codes "cache") rows;
 }
 
+abbrev pub asked_limits : List Row → Limits
+asked_limits rows = record {
+  connections = number_or 1000 (codes "connections") rows;
+  idle = number_or 30 (codes "idle") rows;
+  whole = given_number (codes "whole") rows;
+  memory = number_or 268435456 (codes "memory") rows;
+}
+
+abbrev pub asked_logging : List Row → Logging
+asked_logging rows = record { file = first_of (codes "log") rows; requests = is_set (codes "log-requests") rows }
+
+-- so many connections, one after the other; or connections side by side, where no number is given
+abbrev pub service_of : Start → Text → Limits → Logging → Option ℕ → Asked
+service_of start listen limits logging (Some accept) = serve start listen accept
+service_of start listen limits logging None = serve_many start listen limits logging
+
 abbrev pub asked_service : List Row → Asked
-asked_service rows = serve (asked_start rows) (value_of (codes "listen") rows) (number_of (codes "accept") rows)
+asked_service rows =
+    service_of (asked_start rows) (value_of (codes "listen") rows) (asked_limits rows) (asked_logging rows) (given_number (codes "accept") rows)
 
 -- what the words of the form with this name ask for
 abbrev pub asked_form : Text → List Row → Asked
@@ -80,6 +132,25 @@ asked_call (Some form) = asked_form form.0 form.1
 abbrev pub call_of : List Text → Asked
 call_of words = asked_call (subcommand_of program words)
 
+-- ---- what is wrong with the words
+-- an option is given that is for connections side by side alone
+abbrev pub are_for_many : List Row → Bool
+are_for_many rows =
+    is_some (first_of (codes "connections") rows) || is_some (first_of (codes "idle") rows) || is_some (first_of (codes "whole") rows)
+    || is_some (first_of (codes "memory") rows) || is_some (first_of (codes "log") rows) || is_set (codes "log-requests") rows
+
+-- .. and how many are served one after the other
+abbrev pub are_in_conflict : List Row → Bool
+are_in_conflict rows = is_some (given_number (codes "accept") rows) && are_for_many rows
+
+abbrev pub conflict_of : Option (Text × List Row) → Kinds
+conflict_of None = []
+conflict_of (Some form) = if bytes_eq form.0 (codes "serve") && are_in_conflict form.1 then ArgumentConflict ∷ [] else []
+
+-- the first thing that is wrong with the words, by its kinds
+abbrev pub faults_of : List Text → Kinds
+faults_of words = or_else (fault_of program words) (conflict_of (subcommand_of program words))
+
 -- nothing is wrong with the words, and this is what they ask for
 abbrev pub Means : List Text → Asked → Type 0
-Means words call = (fault_of program words ≡ []) × (call_of words ≡ call)
+Means words call = (faults_of words ≡ []) × (call_of words ≡ call)

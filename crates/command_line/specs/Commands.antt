@@ -1,7 +1,7 @@
 -- The words that the program takes, in the terms of `clap`'s own definitions.
-use Rattle.std.specs.Prelude.{◌∷◌, [], Some, true, codes, pos}
+use Rattle.std.specs.Prelude.{◌∷◌, [], Some, true, ℕ, codes, pos}
 use Rattle.clap.specs.Words.{App, Rule, Text, new_app, new_rule, with_rule, with_subcommand}
-use Rattle.clap.specs.declared.builder.ArgAction.TheVariants.{Set}
+use Rattle.clap.specs.declared.builder.ArgAction.TheVariants.{Set, SetTrue}
 use Rattle.clap.specs.declared.builder.value_parser.ValueParser.TheVariants.{Signed}
 
 -- a word that has to be there
@@ -26,9 +26,13 @@ cache_option = record (named_option (codes "cache")) {
   defaults = codes "256" ∷ [];
 }
 
--- `--accept N`, from 1 to 65536
-abbrev pub accept_option : Rule
-accept_option = record (required_option (codes "accept")) { parser = Some (Signed (pos 1) (pos 65536)) }
+-- `--id N`, from a number to another
+abbrev pub number_option : Text → ℕ → ℕ → Rule
+number_option id least most = record (named_option id) { parser = Some (Signed (pos least) (pos most)) }
+
+-- `--id`
+abbrev pub flag : Text → Rule
+flag id = record (new_rule id) { long = Some id; action = Some SetTrue }
 
 -- `check [--uri URI] SCHEMA INSTANCE`
 abbrev pub check_command : App
@@ -42,9 +46,23 @@ over_registries name = with_rule (with_rule (new_app name) (required_option (cod
 abbrev pub run_command : App
 run_command = with_rule (over_registries (codes "run")) cache_option
 
--- `serve --tenants FILE [--library FILE] --listen ADDR --accept N [--cache N]`
+-- `[--connections N] [--idle SECONDS] [--whole SECONDS] [--memory BYTES]` behind a command's words
+abbrev pub with_limits : App → App
+with_limits app =
+    with_rule (with_rule (with_rule (with_rule app (number_option (codes "connections") 1 65536)) (number_option (codes "idle") 1 86400))
+    (number_option (codes "whole") 1 604800)) (number_option (codes "memory") 1048576 4294967295)
+
+-- `[--log FILE] [--log-requests]` behind a command's words
+abbrev pub with_logging : App → App
+with_logging app = with_rule (with_rule app (named_option (codes "log"))) (flag (codes "log-requests"))
+
+-- `serve --tenants FILE [--library FILE] --listen ADDR [--accept N]`
+abbrev pub serve_at_address : App
+serve_at_address = with_rule (with_rule (over_registries (codes "serve")) (required_option (codes "listen"))) (number_option (codes "accept") 1 65536)
+
+-- .. with the limits, the log and `[--cache N]`
 abbrev pub serve_command : App
-serve_command = with_rule (with_rule (with_rule (over_registries (codes "serve")) (required_option (codes "listen"))) accept_option) cache_option
+serve_command = with_rule (with_logging (with_limits serve_at_address)) cache_option
 
 abbrev pub named_program : App
 named_program = new_app (codes "schemareg")

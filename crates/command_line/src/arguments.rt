@@ -2,7 +2,7 @@
 ghost use Rattle.std.specs.Prelude.{◌≡◌, IfOk, false, codes};
 ghost use Rattle.clap.specs.Words.{app_of, rule_of};
 ghost use Rattle.clap.specs.declared.builder.command.Command.TheViews.{out-Command as fields_of};
-ghost use Rattle.command_line.specs.Commands.{cache_option, named_option, over_registries, required_option, required_text};
+ghost use Rattle.command_line.specs.Commands.{cache_option, flag, named_option, over_registries, required_option, required_text};
 
 use clap::{Arg, ArgAction, Command, value_parser};
 use std::alloc::{AllocError, Global};
@@ -33,6 +33,17 @@ pub(crate) fn named<'a>(alloc: Global, id: &'a str, name: &'a str, help: &'a str
         .long(id)
         .value_name(name)
         .action(ArgAction::Set)
+        .help(help)
+}
+
+/// The option `--id`.
+pub(crate) fn flag<'a>(alloc: Global, id: &'a str, help: &'a str) -> Arg<'a>
+    ensures rule { rule_of result ≡ flag id.now }
+    ensures local { result.global ≡ false }
+{
+    Arg::new(alloc, id)
+        .long(id)
+        .action(ArgAction::SetTrue)
         .help(help)
 }
 

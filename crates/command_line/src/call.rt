@@ -11,6 +11,28 @@ pub struct Setup<'a> {
     pub cache: u32,
 }
 
+/// The limits of connections that are served side by side.
+#[derive(Clone, Copy, Debug, PartialEq, Eq)]
+pub struct Limits {
+    /// How many connections are open at most, from 1 to 65536.
+    pub connections: u32,
+    /// After how many seconds without a byte read or written a connection is ended, from 1 to 86400.
+    pub idle: u32,
+    /// How many seconds a connection may be open, from 1 to 604800; none where it may be for as long as it likes.
+    pub whole: Option<u32>,
+    /// How many bytes all connections keep together, at which no other is read, from 1048576 to 4294967295.
+    pub memory: u32,
+}
+
+/// Where it is told how connections and requests go.
+#[derive(Clone, Copy, Debug, PartialEq, Eq)]
+pub struct Logging<'a> {
+    /// The file that gets what is told; none where standard error gets it.
+    pub file: Option<&'a str>,
+    /// Whether each request is told.
+    pub requests: bool,
+}
+
 /// What a command line asks for, with the texts of its words.
 #[derive(Clone, Copy, Debug, PartialEq, Eq)]
 pub enum Call<'a> {
@@ -31,5 +53,12 @@ pub enum Call<'a> {
         setup: Setup<'a>,
         listen: &'a str,
         accept: u32,
+    },
+    /// Connections at the address `listen`, side by side, up to the end of standard input.
+    ServeMany {
+        setup: Setup<'a>,
+        listen: &'a str,
+        limits: Limits,
+        logging: Logging<'a>,
     },
 }

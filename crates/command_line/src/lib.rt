@@ -4,10 +4,12 @@
 mod arguments;
 mod call;
 mod check;
+mod conflicts;
 mod program;
 mod run;
 mod serve;
+mod serve_many;
 mod values;
 
-pub use call::{Call, Setup};
+pub use call::{Call, Limits, Logging, Setup};
 pub use program::read;

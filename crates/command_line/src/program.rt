@@ -1,12 +1,12 @@
 //! The program's own words, and the call that a command line spells.
 ghost use Rattle.std.specs.Prelude.{◌≡◌, [], ◌∷◌, IfOk, false, map};
 ghost use Rattle.clap.specs.Words.{FailsBy, app_of, fault_of, found_of, rows_of, subcommand_of, subcommand_rows_of};
-ghost use Rattle.command_line.specs.Calls.{Asked, Means, asked_call, asked_form, call_of, call_view};
+ghost use Rattle.command_line.specs.Calls.{Asked, Means, asked_call, asked_form, call_of, call_view, faults_of};
 ghost use Rattle.command_line.specs.Commands.{program, versioned_program};
 ghost use Rattle.clap.specs.declared.builder.command.Command.TheViews.{out-Command as fields_of};
 ghost use Rattle.command_line.specs.Forms.{Asks, IsCall, Spells};
 
-use crate::{Call, check, run, serve};
+use crate::{Call, check, conflicts, run, serve};
 use clap::error::ErrorKind;
 use clap::{ArgMatches, Command, Error};
 use std::alloc::{AllocError, Global};
@@ -26,7 +26,7 @@ fn named<'a>(alloc: Global) -> Command<'a>
              Examples:\n  \
                schemareg check schema.json instance.json\n  \
                echo '{\"schema\": {\"type\": \"string\"}, \"instance\": 5}' | schemareg\n  \
-               schemareg serve --tenants tenants.json --listen 127.0.0.1:8080 --accept 1000\n\n\
+               schemareg serve --tenants tenants.json --listen 127.0.0.1:8080\n\n\
              In the sources, docs/PROFILE.md tells which schemas are read and what is refused, docs/LIMITS.md\n\
              what the limits are, and docs/HTTP.md what requests are answered.",
         )
@@ -84,11 +84,12 @@ pub fn read<'a, S: AsStr>(alloc: Global, words: &'a [S]) -> Result<Call<'a>, Err
     ensures requests { (kind : ErrorKind) → Asks (map S.text words.now) kind
         → FailsBy (kind ∷ []) result }
 
-    // Of any words, by `clap`'s own definitions.
+    // Of any words, by `clap`'s own definitions; beside those, some words exclude one another.
     ensures calls { (call : Asked) → Means (map S.text words.now) call → IsCall call result }
     ensures ok { IfOk result (λ call. call_view call ≡ call_of (map S.text words.now)) }
-    ensures err { FailsBy (fault_of program (map S.text words.now)) result }
+    ensures err { FailsBy (faults_of (map S.text words.now)) result }
 {
     let found = matches(alloc, words)?;
+    conflicts::refuse(alloc, &found)?;
     Ok(call(&found))
 }

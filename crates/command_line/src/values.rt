@@ -1,7 +1,7 @@
 //! The values that the words gave to an argument.
 ghost use Rattle.std.specs.Prelude.{◌≡◌, option_map};
 ghost use Rattle.clap.specs.Words.{first_of, found_of, rows_of};
-ghost use Rattle.command_line.specs.Calls.{asked_start, number_of, setup_view, value_of};
+ghost use Rattle.command_line.specs.Calls.{asked_start, given_number, is_set, number_or, setup_view, value_of};
 
 use crate::Setup;
 use clap::ArgMatches;
@@ -15,18 +15,34 @@ pub(crate) fn value<'a>(matches: &ArgMatches<'a>, id: &str) -> &'a str
 }
 
 /// The first value of the argument `id`, if it has one.
-fn optional<'a>(matches: &ArgMatches<'a>, id: &str) -> Option<&'a str>
+pub(crate) fn optional<'a>(matches: &ArgMatches<'a>, id: &str) -> Option<&'a str>
     ensures { option_map (λ s. s.now) result ≡ first_of id.now (rows_of (found_of matches.now)) }
 {
     matches.get_str(id)
 }
 
-/// The number that the words gave to the argument `id`, which has one by the command's own rules.
-/// An argument without a number reads as 0.
-pub(crate) fn number(matches: &ArgMatches<'_>, id: &str) -> u32
-    ensures { result ≡ number_of id.now (rows_of (found_of matches.now)) }
+/// Whether the words set the flag `id`.
+pub(crate) fn is_set(matches: &ArgMatches<'_>, id: &str) -> bool
+    ensures { result ≡ is_set id.now (rows_of (found_of matches.now)) }
 {
-    matches.get_one::<u32>(id).unwrap_or(0)
+    match optional(matches, id) {
+        None => false,
+        Some(text) => text == "true",
+    }
+}
+
+/// The number that the argument `id` has, if any.
+pub(crate) fn given_number(matches: &ArgMatches<'_>, id: &str) -> Option<u32>
+    ensures { result ≡ given_number id.now (rows_of (found_of matches.now)) }
+{
+    matches.get_one::<u32>(id)
+}
+
+/// The number that the argument `id` has, or else `other`.
+pub(crate) fn number_or(matches: &ArgMatches<'_>, id: &str, other: u32) -> u32
+    ensures { result ≡ number_or other id.now (rows_of (found_of matches.now)) }
+{
+    given_number(matches, id).unwrap_or(other)
 }
 
 /// What the registries of `run` and of `serve` start from.
@@ -36,6 +52,6 @@ pub(crate) fn setup<'a>(matches: &ArgMatches<'a>) -> Setup<'a>
     Setup {
         tenants: value(matches, "tenants"),
         library: optional(matches, "library"),
-        cache: number(matches, "cache"),
+        cache: number_or(matches, "cache", 0),
     }
 }

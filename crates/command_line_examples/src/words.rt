@@ -1,6 +1,6 @@
 //! The call of each form, and the text, the stream and the status of what is no call.
 
-use command_line::{Call, Setup, read};
+use command_line::{Call, Limits, Logging, Setup, read};
 use std::process::Abort;
 
 #[test]
@@ -159,7 +159,7 @@ fn refuses_mistakes_in_the_forms_that_serve(rt: HostRuntime) {
     assert_prints(&rt, words.as_slice(), accept, true);
     let missing =
         "error: the following required arguments were not provided:\n  --tenants <FILE>\n  \
-        --listen <ADDR>\n  --accept <N>\n\n";
+        --listen <ADDR>\n\n";
     assert_prints(&rt, ["schemareg", "serve"].as_slice(), missing, true);
 }
 
@@ -176,12 +176,149 @@ fn shows_the_help_of_each_form(rt: HostRuntime) {
     let help = "Serves one HTTP connection on standard input and output\n\n\
         Usage: schemareg run [OPTIONS] --tenants <FILE>\n";
     assert_prints(&rt, ["schemareg", "run", "--help"].as_slice(), help, false);
-    let help = "Serves HTTP connections at an address, one after the other\n\n\
-        Usage: schemareg serve [OPTIONS] --tenants <FILE> --listen <ADDR> --accept <N>\n";
+    let help = "Serves HTTP connections at an address, side by side or one after the other\n\n\
+        Usage: schemareg serve [OPTIONS] --tenants <FILE> --listen <ADDR>\n";
     assert_prints(
         &rt,
         ["schemareg", "serve", "--help"].as_slice(),
         help,
         false,
     );
+}
+
+/// The call that `serve` and these words behind its tenants and its address spell.
+fn served_by<'a, R: AllocGlobal + Abort>(rt: &R, words: &'a [&'a str]) -> Call<'a> {
+    read(rt.alloc(), words).expect(rt, "serve without a count")
+}
+
+#[test]
+fn reads_limits_and_a_log(rt: HostRuntime) {
+    let setup = Setup {
+        tenants: "t",
+        library: None,
+        cache: 256,
+    };
+    let words = [
+        "schemareg",
+        "serve",
+        "--tenants",
+        "t",
+        "--listen",
+        "[::1]:0",
+    ];
+    let usual = Call::ServeMany {
+        setup,
+        listen: "[::1]:0",
+        limits: Limits {
+            connections: 1000,
+            idle: 30,
+            whole: None,
+            memory: 268_435_456,
+        },
+        logging: Logging {
+            file: None,
+            requests: false,
+        },
+    };
+    assert_eq!(rt; served_by(&rt, words.as_slice()), usual);
+
+    let words = [
+        "schemareg",
+        "serve",
+        "--tenants",
+        "t",
+        "--listen",
+        "[::1]:0",
+        "--connections",
+        "65536",
+        "--idle",
+        "86400",
+        "--whole",
+        "1",
+        "--memory",
+        "4294967295",
+        "--log",
+        "l",
+        "--log-requests",
+    ];
+    let all = Call::ServeMany {
+        setup,
+        listen: "[::1]:0",
+        limits: Limits {
+            connections: 65536,
+            idle: 86400,
+            whole: Some(1),
+            memory: 4_294_967_295,
+        },
+        logging: Logging {
+            file: Some("l"),
+            requests: true,
+        },
+    };
+    assert_eq!(rt; served_by(&rt, words.as_slice()), all);
+}
+
+/// `serve` with a count takes no option that is for connections side by side.
+fn assert_excluded<R: AllocGlobal + Abort>(rt: &R, option: &str, value: &str, text: &str) {
+    let words = [
+        "schemareg",
+        "serve",
+        "--tenants",
+        "t",
+        "--listen",
+        "127.0.0.1:0",
+        "--accept",
+        "1",
+        option,
+        value,
+    ];
+    assert_prints(rt, words.as_slice(), text, true);
+}
+
+#[test]
+fn refuses_options_beside_a_count(rt: HostRuntime) {
+    let rows = [
+        (
+            "--connections",
+            "1",
+            "error: the argument '--accept <N>' cannot be used with '--connections <N>'\n\n\
+             Usage: schemareg serve [OPTIONS] --tenants <FILE> --listen <ADDR>\n\n",
+        ),
+        (
+            "--idle",
+            "1",
+            "error: the argument '--accept <N>' cannot be used with '--idle <SECONDS>'\n\n",
+        ),
+        (
+            "--whole",
+            "1",
+            "error: the argument '--accept <N>' cannot be used with '--whole <SECONDS>'\n\n",
+        ),
+        (
+            "--memory",
+            "1048576",
+            "error: the argument '--accept <N>' cannot be used with '--memory <BYTES>'\n\n",
+        ),
+        (
+            "--log",
+            "l",
+            "error: the argument '--accept <N>' cannot be used with '--log <FILE>'\n\n",
+        ),
+    ];
+    for (option, value, text) in rows.iter() {
+        assert_excluded(&rt, option, value, text);
+    }
+    let words = [
+        "schemareg",
+        "serve",
+        "--tenants",
+        "t",
+        "--listen",
+        "127.0.0.1:0",
+        "--log-requests",
+        "--accept",
+        "1",
+    ];
+    let text = "error: the argument '--accept <N>' cannot be used with '--log-requests'\n\n";
+    assert_prints(&rt, words.as_slice(), text, true);
 }

@@ -1,11 +1,12 @@
 -- Registries are judged by what their files hold.
-use Rattle.std.proofs.Common.{◌≡◌, ◌≢◌, ℕ, List, Vec, Option, Some, None, Result, Ok, Err, true≢false, refl, sym, subst, inl, inr}
-use Rattle.std.specs.Prelude.{IfSome, IfErr, IsOk}
+use Rattle.std.proofs.Common.{◌≡◌, ◌≢◌, ℕ, List, Vec, Option, Some, None, Result, Ok, Err, sym, subst, inl, inr}
+use Rattle.std.specs.Prelude.{IfSome, IfErr}
 use Rattle.std.specs.Global.{Global}
 use Rattle.definitions.specs.Batches.{library_of}
 use Rattle.definitions.specs.Faults as meaning
 use Rattle.definitions.specs.Patterns.{regular_search}
 use Rattle.definitions.specs.Schemas.{Document}
+use Rattle.definitions.specs.Services.{KeyedRegistry}
 use Rattle.definitions.specs.Values.{Text}
 use Rattle.faults.specs.View.{fault_view}
 use Rattle.faults.specs.declared.Fault.{Fault}
@@ -13,13 +14,11 @@ use Rattle.faults.specs.declared.Fault.TheVariants.{NoRoom}
 use Rattle.command_line.specs.Calls.{Start}
 use Rattle.http_front.specs.Libraries.{OnLibraryOf}
 use Rattle.http_front.specs.Servers.{server_of}
-use Rattle.http_front.specs.Running.{IsRun}
 use Rattle.http_front.proofs.Libraries.{each_library}
 use Rattle.http_front.proofs.Refused.{is_no_room}
-use Rattle.serving.specs.Transfers.{Transfer}
 use Rattle.schemareg.specs.declared.service.Sources.{Sources}
 use Rattle.schemareg.specs.declared.stop.Stop.{Stop}
-use Rattle.schemareg.specs.declared.stop.Stop.TheVariants.{Words, NotText, CannotRead, Refused, CannotWrite, CannotListen, CannotAccept}
+use Rattle.schemareg.specs.declared.stop.Stop.TheVariants.{Words, NotText, CannotRead, Refused, CannotWrite, CannotListen, CannotAccept, CannotLog, TooManyConnections}
 use Rattle.schemareg.specs.Services.{HoldsLibrary, HoldsSources, IsJudged, OnLibrary, OnLibraryIn, OnServer, OnServerIn, Server}
 use Rattle.schemareg.specs.Stops.{IsUnreadAmong}
 
@@ -53,7 +52,7 @@ each_server sources capacity P Q f h = by sources.library h
     by None p = f _ p
     by (Some batch) p = each_library batch.items (λ l. P (server l)) (λ l. Q (server l)) (λ l q. f (server l) q) p
 
-all_known : (P Q : Text → Type 0) (known : Option Text) → ((text : Text) → P text → Q text) → IfSome known P → IfSome known Q
+pub all_known : (P Q : Text → Type 0) (known : Option Text) → ((text : Text) → P text → Q text) → IfSome known P → IfSome known Q
 all_known P Q None f p = tt
 all_known P Q (Some text) f p = f text p
 
@@ -90,15 +89,20 @@ unread_judged T names NotText h (Err g) = absurd h
 unread_judged T names CannotWrite h (Err g) = absurd h
 unread_judged T names (CannotListen a) h (Err g) = absurd h
 unread_judged T names CannotAccept h (Err g) = absurd h
+unread_judged T names (CannotLog path) h (Err g) = absurd h
+unread_judged T names (TooManyConnections most) h (Err g) = absurd h
+
+-- what holds of each server holds of the one that files give
+pub every_server : (files : Text → Option Text) (start : Start) (P : Server → Type 0) → ((server : Server) → P server) → OnServer files start P
+every_server files start P f =
+    known (λ tenants. OnLibrary files start.library (λ library. P (server_of tenants start.cache library))) (files start.tenants)
+    (λ tenants. libraries files start.library (λ library. P (server_of tenants start.cache library)) (λ library. f (server_of tenants start.cache library)))
 
 -- where a file could not be read
 pub unread_on_server : (T : Type 0) (files : Text → Option Text) (start : Start) (names : List Text) (stop : Stop) → IsUnreadAmong names stop
     → OnServer files start (λ server. IsJudged {T = T} server (Err stop))
 unread_on_server T files start names stop h =
-    let judged : (server : Server) → Type 0 = λ server. IsJudged {T = T} server (Err stop) in
-    known (λ tenants. OnLibrary files start.library (λ library. judged (server_of tenants start.cache library))) (files start.tenants)
-    (λ tenants. libraries files start.library (λ library. judged (server_of tenants start.cache library))
-    (λ library. unread_judged T names stop h (server_of tenants start.cache library)))
+    every_server files start (λ server. IsJudged {T = T} server (Err stop)) (unread_judged T names stop h)
 
 -- an error is judged alike, whatever there would have been without it
 pub judged_alike : (T U : Type 0) (stop : Stop) (server : Server) → IsJudged {T = T} server (Err stop) → IsJudged {T = U} server (Err stop)
@@ -110,15 +114,17 @@ judged_alike T U NotText (Err g) h = absurd h
 judged_alike T U CannotWrite (Err g) h = absurd h
 judged_alike T U (CannotListen a) (Err g) h = absurd h
 judged_alike T U CannotAccept (Err g) h = absurd h
+judged_alike T U (CannotLog path) (Err g) h = absurd h
+judged_alike T U (TooManyConnections most) (Err g) h = absurd h
 
 -- registries that stand are not refused
 pub judged_behind : (T U : Type 0) (made : T) (result : Result U Stop) (server : Server) → IsJudged server (Ok made) → IsJudged server result
 judged_behind T U made result (Ok registries) h = tt
 judged_behind T U made result (Err g) h = absurd h
 
-pub judged_made : (T : Type 0) (made : T) (server : Server) → IsOk server → IsJudged {T = T} server (Ok made)
-judged_made T made (Ok registries) h = tt
-judged_made T made (Err g) h = absurd (true≢false (sym h))
+pub judged_made : (T : Type 0) (made : T) (made_of : List KeyedRegistry) (server : Server) → server ≡ Ok made_of → IsJudged {T = T} server (Ok made)
+judged_made T made made_of (Ok registries) h = tt
+judged_made T made made_of (Err g) h = cc h
 
 refused_alike : (T : Type 0) (f : Fault) (server : Server) → server ≡ Err (fault_view f) → IsJudged {T = T} server (Err (Refused f))
 refused_alike T f (Ok registries) h = tt
@@ -141,29 +147,6 @@ judged_refused T f sources capacity why = elim (is_no_room f) [
   | inr other ↦ each_server sources capacity (λ server. server ≡ Err (fault_view f)) (λ server. IsJudged {T = T} server (Err (Refused f)))
       (refused_alike T f) (why other)
 ]
-
--- ---- a connection over the server
-pub ended_judged : (server : Server) (reads writes more others : List Transfer) → IsRun server reads writes (Ok tt) more others → IsJudged {T = ℕ} server (Ok 0)
-ended_judged (Ok registries) reads writes more others h = tt
-ended_judged (Err g) reads writes more others h = absurd h.0
-
-pub fault_judged : (server : Server) (f : Fault) (reads writes more others : List Transfer) → IsRun server reads writes (Err f) more others
-    → IsJudged {T = ℕ} server (Err (Refused f))
-fault_judged (Ok registries) f reads writes more others h = tt
-fault_judged (Err g) f reads writes more others h = h.0
-
-pub ran_ended : (sources : Sources) (capacity : ℕ) (reads writes more others : List Transfer)
-    → OnServerIn sources capacity (λ server. IsRun server reads writes (Ok tt) more others) → OnServerIn sources capacity (λ server. IsJudged {T = ℕ} server (Ok 0))
-ran_ended sources capacity reads writes more others h =
-    each_server sources capacity (λ server. IsRun server reads writes (Ok tt) more others) (λ server. IsJudged {T = ℕ} server (Ok 0))
-    (λ server q. ended_judged server reads writes more others q) h
-
-pub ran_refused : (sources : Sources) (capacity : ℕ) (f : Fault) (reads writes more others : List Transfer)
-    → OnServerIn sources capacity (λ server. IsRun server reads writes (Err f) more others)
-    → OnServerIn sources capacity (λ server. IsJudged {T = ℕ} server (Err (Refused f)))
-ran_refused sources capacity f reads writes more others h =
-    each_server sources capacity (λ server. IsRun server reads writes (Err f) more others) (λ server. IsJudged {T = ℕ} server (Err (Refused f)))
-    (λ server q. fault_judged server f reads writes more others q) h
 
 -- refused over the same texts
 pub refused_over : (T : Type 0) (t u a b : Text) (capacity : ℕ) (r : Result T Fault) → t ≡ u → a ≡ b

@@ -1,2 +1,4 @@
 pub mod Mistakes
 pub mod Judged
+pub mod Ended
+pub mod Alone

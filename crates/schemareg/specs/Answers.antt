@@ -1,6 +1,6 @@
 -- How a check ends.
-use Rattle.std.specs.Prelude.{◌≡◌, ◌≢◌, ◌⊎◌, ℕ, ◌++◌, ◌∷◌, [], Bool, true, false, Option, Result, Ok, Err, IfOk, IfSome, ⊤}
-use Rattle.std.specs.Io.KnownBytes.{Appends, Keeps}
+use Rattle.std.specs.Prelude.{◌≡◌, ◌≢◌, ◌⊎◌, ℕ, ◌++◌, ◌∷◌, [], List, Bool, true, false, Option, Result, Ok, Err, IfSome, IsOkAnd, ⊤}
+use Rattle.definitions.specs.Bytes.{line_feed}
 use Rattle.definitions.specs.Faults as meaning
 use Rattle.definitions.specs.Texts.{parsed_value}
 use Rattle.definitions.specs.Values.{Text}
@@ -9,6 +9,8 @@ use Rattle.faults.specs.View.{fault_view}
 use Rattle.faults.specs.declared.Fault.TheVariants.{NoRoom}
 use Rattle.command_line.specs.Calls.{Asked}
 use Rattle.command_line.specs.Calls as call
+use Rattle.serving.specs.Transfers.{Transfer}
+use Rattle.serving.specs.Writing.{Writes, WritesSome}
 use Rattle.schemareg.specs.declared.stop.Stop.{Stop}
 use Rattle.schemareg.specs.declared.stop.Stop.TheVariants.{CannotRead, Refused, CannotWrite}
 
@@ -47,21 +49,32 @@ OnCheck files bytes (call.check uri schema instance) P =
     IfSome (files schema) (λ s. IfSome (files instance) (λ i. P (check_of_texts uri s i)))
 OnCheck files bytes _ P = ⊤
 
--- The check ends as it was judged, with its output as a line; or it refuses a pattern of the schema. Else something that it
--- reads or writes failed, or memory ran out. Nothing is written but a report
-abbrev pub EndsBy : Check → Option Text → Option Text → Result ℕ Stop → Type 0
-EndsBy check old new (Ok status) = (status_after check.judgement ≡ Ok status) × IfOk check.judgement (λ report. Appends old new (report.1 ++ 10 ∷ []))
-EndsBy check old new (Err (Refused f)) = Keeps old new × (f ≢ NoRoom → is_for_pattern (fault_view f) check.has_patterns ≡ false → check.judgement ≡ Err (fault_view f))
-EndsBy check old new (Err (CannotRead name)) = Keeps old new
-EndsBy check old new (Err CannotWrite) = ⊤
-EndsBy check old new (Err _) = ⊥
+-- the output of a check as a line
+abbrev pub report_line : Bool × Text → Text
+report_line report = report.1 ++ line_feed ∷ []
 
--- the status is that of the judgement, or says that there is no report
-abbrev pub IsStatusOf : Check → ℕ → Type 0
-IsStatusOf check status = (status_after check.judgement ≡ Ok status) ⊎ (status ≡ 2)
+-- The check ends as it was judged, with its output written as a line; or it refuses a pattern of the schema. Else something
+-- that it reads or writes failed, or memory ran out. Nothing is written but a report, and only a broken write keeps a part of
+-- one back
+abbrev pub EndsBy : Check → List Transfer → Result ℕ Stop → List Transfer → Type 0
+EndsBy check before (Ok status) after =
+    (status_after check.judgement ≡ Ok status) × IsOkAnd check.judgement (λ report. Writes before (report_line report) after)
+EndsBy check before (Err (Refused f)) after =
+    (after ≡ before) × (f ≢ NoRoom → is_for_pattern (fault_view f) check.has_patterns ≡ false → check.judgement ≡ Err (fault_view f))
+EndsBy check before (Err (CannotRead name)) after = after ≡ before
+EndsBy check before (Err CannotWrite) after = IsOkAnd check.judgement (λ report. WritesSome before (report_line report) after)
+EndsBy check before (Err _) after = ⊥
 
--- the report was not printed
-abbrev pub IsUnprinted : Option Text → Option Text → Stop → Type 0
-IsUnprinted old new CannotWrite = ⊤
-IsUnprinted old new (Refused f) = (f ≡ NoRoom) × Keeps old new
-IsUnprinted old new _ = ⊥
+-- the status is that of the judgement, with its output written as a line; or it says that there is no report, of which at most
+-- a first part is written then, up to a broken write
+abbrev pub EndsWith : Check → List Transfer → ℕ → List Transfer → Type 0
+EndsWith check before status after =
+    ((status_after check.judgement ≡ Ok status) × IsOkAnd check.judgement (λ report. Writes before (report_line report) after))
+    ⊎ ((status ≡ 2) × ((after ≡ before) ⊎ IsOkAnd check.judgement (λ report. WritesSome before (report_line report) after)))
+
+-- a text is printed; or a first part of it, up to a broken write; or nothing, for want of memory
+abbrev pub Prints : {T : Type 0} → List Transfer → Text → Result T Stop → List Transfer → Type 0
+Prints before text (Ok x) after = Writes before text after
+Prints before text (Err CannotWrite) after = WritesSome before text after
+Prints before text (Err (Refused f)) after = (f ≡ NoRoom) × (after ≡ before)
+Prints before text (Err _) after = ⊥

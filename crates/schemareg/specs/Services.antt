@@ -1,5 +1,5 @@
 -- What the forms that serve connections read, and how their registries are judged.
-use Rattle.std.specs.Prelude.{◌≡◌, ◌≢◌, ℕ, List, [], Vec, Option, Some, None, Result, Ok, Err, IfSome, option_map, ⊤}
+use Rattle.std.specs.Prelude.{◌≡◌, ◌≢◌, ◌⊎◌, ◌<◌, ℕ, List, [], Vec, Option, Some, None, Result, Ok, Err, IfSome, length, option_map, ⊤}
 use Rattle.std.specs.Borrow.{Bor}
 use Rattle.std.specs.Global.{Global}
 use Rattle.definitions.specs.Faults as meaning
@@ -7,13 +7,21 @@ use Rattle.definitions.specs.Schemas.{Document}
 use Rattle.definitions.specs.Services.{KeyedRegistry}
 use Rattle.definitions.specs.Values.{Text}
 use Rattle.faults.specs.View.{fault_view}
+use Rattle.faults.specs.declared.Fault.{Fault}
 use Rattle.faults.specs.declared.Fault.TheVariants.{NoRoom}
-use Rattle.command_line.specs.Calls.{Start}
+use Rattle.command_line.specs.Calls.{Asked, Start}
+use Rattle.command_line.specs.Calls as call
+use Rattle.http_front.specs.Isolation.{AreServedAlone}
 use Rattle.http_front.specs.Libraries.{OnLibraryOf}
+use Rattle.http_front.specs.Running.{IsRun}
 use Rattle.http_front.specs.Servers.{server_of}
+use Rattle.http_front.specs.SideBySide.{AreServedSideBySide}
+use Rattle.network.specs.Traffic.{Moved}
+use Rattle.serving.specs.Talks.{Talk}
+use Rattle.serving.specs.Transfers.{Transfer}
 use Rattle.schemareg.specs.Stops.{IsNamed}
 use Rattle.schemareg.specs.declared.stop.Stop.{Stop}
-use Rattle.schemareg.specs.declared.stop.Stop.TheVariants.{CannotRead, Refused}
+use Rattle.schemareg.specs.declared.stop.Stop.TheVariants.{CannotRead, Refused, CannotListen, CannotAccept, CannotLog, TooManyConnections}
 use Rattle.schemareg.specs.declared.service.Sources.{Sources}
 
 abbrev pub library_path : Option (Bor Text) → Option Text
@@ -34,6 +42,13 @@ abbrev pub IsUnstarted : List Text → Stop → Type 0
 IsUnstarted names (CannotRead name) = IsNamed name.now names
 IsUnstarted names (Refused f) = ⊤
 IsUnstarted names _ = ⊥
+
+-- the log cannot be opened, or no connections can be had at the address, or not so many
+abbrev pub IsUnopened : Text → Stop → Type 0
+IsUnopened address (CannotLog path) = ⊤
+IsUnopened address (CannotListen a) = address ≡ a.now
+IsUnopened address (TooManyConnections most) = ⊤
+IsUnopened address _ = ⊥
 
 -- ---- new registries, or why they are refused
 abbrev pub Server : Type 0
@@ -62,3 +77,46 @@ IsJudged (Ok registries) result = ⊤
 IsJudged (Err g) (Err (CannotRead name)) = ⊤
 IsJudged (Err g) (Err (Refused f)) = f ≢ NoRoom → g ≡ fault_view f
 IsJudged (Err g) _ = ⊥
+
+-- ---- connections one after the other
+-- these registries serve them, each tenant as if it were alone, and this holds of how many they are
+abbrev pub ServeAlone : List KeyedRegistry → (ℕ → Type 0) → Type 0
+ServeAlone registries P = (talks : List Talk) × (after : List KeyedRegistry) × P (length talks) × AreServedAlone registries talks after
+
+-- so many are served, or fewer where one can't be accepted
+abbrev pub EndsServing : Server → ℕ → Result ℕ Stop → Type 0
+EndsServing (Ok registries) count (Ok status) = ServeAlone registries (λ n. n ≡ count)
+EndsServing (Ok registries) count (Err CannotAccept) = ServeAlone registries (λ n. n < count)
+EndsServing server count result = ⊤
+
+-- ---- connections side by side
+-- these registries serve them, each tenant as if it were alone
+abbrev pub ServeSideBySide : List KeyedRegistry → Type 0
+ServeSideBySide registries =
+    (reads : List Moved) × (writes : List Moved) × (more : List Moved) × (others : List Moved) × AreServedSideBySide registries reads writes more others
+
+-- they are served up to their end, or up to where no more can be accepted
+abbrev pub EndsServingMany : Server → Result ℕ Stop → Type 0
+EndsServingMany (Ok registries) (Ok status) = ServeSideBySide registries
+EndsServingMany (Ok registries) (Err CannotAccept) = ServeSideBySide registries
+EndsServingMany server result = ⊤
+
+-- ---- a connection on standard input and output
+-- It is answered to its end, or up to a fault, by the registries that the files give; or a file cannot be read. Nothing is read
+-- or written where the registries are refused or not come to
+abbrev pub EndsRun : Server → List Transfer → List Transfer → Result ℕ Stop → List Transfer → List Transfer → Type 0
+EndsRun server reads writes (Ok status) more others = (status ≡ 0) × IsRun server reads writes (Ok tt) more others
+EndsRun server reads writes (Err (Refused f)) more others = IsRun server reads writes (Err f) more others
+EndsRun server reads writes (Err (CannotRead name)) more others = (more ≡ reads) × (others ≡ writes)
+EndsRun server reads writes (Err _) more others = ⊥
+
+-- .. with this status
+abbrev pub RunsWith : Server → List Transfer → List Transfer → ℕ → List Transfer → List Transfer → Type 0
+RunsWith server reads writes status more others =
+    ((status ≡ 0) × IsRun server reads writes (Ok tt) more others)
+    ⊎ ((status ≡ 2) × (((more ≡ reads) × (others ≡ writes)) ⊎ ((f : Fault) × IsRun server reads writes (Err f) more others)))
+
+-- what holds of the server of a call that serves one connection, where it is known what its files hold
+abbrev pub OnRun : (Text → Option Text) → Asked → (Server → Type 0) → Type 0
+OnRun files (call.run start) P = OnServer files start P
+OnRun files _ P = ⊤

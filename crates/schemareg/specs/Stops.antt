@@ -1,5 +1,5 @@
 -- Why the program ends without a report: what is printed, where, and with which status.
-use Rattle.std.specs.Prelude.{◌≡◌, ◌≢◌, ◌⊎◌, ℕ, ◌++◌, ◌∷◌, [], List, Bool, true, false, not, Option, Some, None, Result, Ok, Err, IfSome, if◌then◌else◌, ⊤, codes}
+use Rattle.std.specs.Prelude.{◌≡◌, ◌≢◌, ◌⊎◌, ℕ, ◌++◌, ◌∷◌, [], List, Bool, true, false, not, Option, Some, None, Result, Ok, Err, IfSome, if◌then◌else◌, ⊤, codes, decimal}
 use Rattle.std.specs.Io.KnownBytes.{Appends, Keeps}
 use Rattle.std.specs.List.{list_any}
 use Rattle.definitions.specs.Bytes.{line_feed}
@@ -10,8 +10,13 @@ use Rattle.clap.specs.Words.{IsAmong, Kinds, kind_of}
 use Rattle.clap.specs.declared.error.Error.{Error}
 use Rattle.clap.specs.declared.error.kind.ErrorKind.{ErrorKind}
 use Rattle.clap.specs.declared.error.kind.ErrorKind.TheVariants.{DisplayHelp, DisplayVersion, OutOfMemory}
+use Rattle.serving.specs.Transfers.{Transfer}
+use Rattle.serving.specs.Writing.{Writes, WritesSome}
 use Rattle.schemareg.specs.declared.stop.Stop.{Stop}
-use Rattle.schemareg.specs.declared.stop.Stop.TheVariants.{Words, NotText, CannotRead, Refused, CannotWrite, CannotListen, CannotAccept}
+use Rattle.schemareg.specs.declared.stop.Stop.TheVariants.{Words, NotText, CannotRead, Refused, CannotWrite, CannotListen, CannotAccept, CannotLog, TooManyConnections}
+
+abbrev pub unwritten_text : Text
+unwritten_text = codes "cannot write -" ++ line_feed ∷ []
 
 -- what is printed, and none where the text is `clap`'s
 abbrev pub text_of : Stop → Option Text
@@ -19,9 +24,12 @@ text_of (Words e) = None
 text_of NotText = Some (codes "error: the command line is not UTF-8" ++ line_feed ∷ [])
 text_of (CannotRead name) = Some (codes "cannot read " ++ name.now ++ line_feed ∷ [])
 text_of (Refused f) = Some (codes "refused: " ++ printed_text (fault_view f) ++ line_feed ∷ [])
-text_of CannotWrite = Some (codes "cannot write -" ++ line_feed ∷ [])
+text_of CannotWrite = Some unwritten_text
 text_of (CannotListen address) = Some (codes "cannot listen on " ++ address.now ++ line_feed ∷ [])
 text_of CannotAccept = Some (codes "cannot accept" ++ line_feed ∷ [])
+text_of (CannotLog path) = Some (codes "cannot write " ++ path.now ++ line_feed ∷ [])
+text_of (TooManyConnections most) =
+    Some (codes "refused: --connections is above " ++ decimal most ++ codes ", which the limit of open files allows" ++ line_feed ∷ [])
 
 -- the words ask for help or for the version
 abbrev pub is_request : ErrorKind → Bool
@@ -66,6 +74,19 @@ IsUnreadAmong names _ = ⊥
 abbrev pub Tells : Bool → Option Text → Option Text → Option Text → Type 0
 Tells true text old new = IfSome text (Appends old new)
 Tells false text old new = Keeps old new
+
+-- all of the text is written, or a first part of it, up to a broken write
+abbrev pub Attempts : List Transfer → Text → List Transfer → Type 0
+Attempts before text after = Writes before text after ⊎ WritesSome before text after
+
+-- what is told on standard error, and the status, where a text could not be written to the stream that it goes to
+abbrev pub EndsUnwritten : Bool → List Transfer → ℕ → List Transfer → Type 0
+EndsUnwritten true before status after = (status ≡ 2) × (after ≡ before)
+EndsUnwritten false before status after = (status ≡ 2) × Attempts before unwritten_text after
+
+-- .. and after help or the version, whether it could be printed or not
+abbrev pub EndsRequest : List Transfer → ℕ → List Transfer → Type 0
+EndsRequest before status after = ((status ≡ 0) × (after ≡ before)) ⊎ EndsUnwritten false before status after
 
 -- ---- words that are no call
 -- the request was found, unless memory ran out

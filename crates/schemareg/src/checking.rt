@@ -1,26 +1,26 @@
 //! A check of one text or of two, from reading them to the status.
-ghost use Rattle.std.specs.Prelude.{◌≡◌, ◌++◌, ◌∷◌, [], List, None, IfOk, IfErr, IfSome, OnOk, codes};
-ghost use Rattle.std.specs.Io.KnownBytes.{Appends};
+ghost use Rattle.std.specs.Prelude.{◌≡◌, ◌∷◌, [], List, None, IfOk, IfSome, codes};
 ghost use Rattle.definitions.specs.Values.{Text};
 ghost use Rattle.evaluator.specs.Reports.{is_valid, report_text};
-ghost use Rattle.schemareg.specs.Endings.{EndsReading};
-ghost use Rattle.schemareg.specs.Answers.{EndsBy, IsUnprinted, check_of_input, check_of_texts, check_status};
+ghost use Rattle.schemareg.specs.Endings.{EndsReading, ReadsInOrder};
+ghost use Rattle.schemareg.specs.Answers.{EndsBy, Prints, check_of_input, check_of_texts, check_status, report_line};
 
 use crate::files::Texts;
 use crate::stop::Stop;
 use crate::{printing, reading};
 use checks::Report;
+use serving::ByteWriter;
 use std::alloc::Global;
-use std::io::{Read, Write};
+use std::io::Read;
 
 /// Answers the check that `input` holds.
-pub fn check_input<'a, I: Read, O: Write>(
+pub fn check_input<'a, I: Read, O: ByteWriter>(
     alloc: Global,
     input: &mut I,
     out: &mut O,
 ) -> Result<u8, Stop<'a>>
     ensures ends { IfSome (I.remaining input.old) (λ bytes.
-        EndsBy (check_of_input bytes) (O.contents out.old) (O.contents out.new) result) }
+        EndsBy (check_of_input bytes) (O.writes out.old) result (O.writes out.new)) }
     ensures reading { EndsReading (codes "-" ∷ []) None result }
 {
     match reading::whole(alloc, input, "-") {
@@ -30,9 +30,9 @@ pub fn check_input<'a, I: Read, O: Write>(
 }
 
 /// Answers the check that the text holds.
-fn check_text<'a, O: Write>(alloc: Global, text: &[u8], out: &mut O) -> Result<u8, Stop<'a>>
+fn check_text<'a, O: ByteWriter>(alloc: Global, text: &[u8], out: &mut O) -> Result<u8, Stop<'a>>
     ensures ends { EndsBy (check_of_input text.now)
-        (O.contents out.old) (O.contents out.new) result }
+        (O.writes out.old) result (O.writes out.new) }
     ensures reading { (names : List Text) → EndsReading names None result }
 {
     let report = checks::check_input(alloc, text)?;
@@ -41,7 +41,7 @@ fn check_text<'a, O: Write>(alloc: Global, text: &[u8], out: &mut O) -> Result<u
 
 /// Answers the check of the file at `instance` by the file at `schema`, which stands under `uri`. Both are read
 /// before either is judged, the schema first.
-pub fn check_files<'a, F: Texts, O: Write>(
+pub fn check_files<'a, F: Texts, O: ByteWriter>(
     alloc: Global,
     files: &F,
     uri: &str,
@@ -51,8 +51,10 @@ pub fn check_files<'a, F: Texts, O: Write>(
 ) -> Result<u8, Stop<'a>>
     ensures ends { IfSome (F.text_at files.now schema.now) (λ s.
         IfSome (F.text_at files.now instance.now) (λ i.
-        EndsBy (check_of_texts uri.now s i) (O.contents out.old) (O.contents out.new) result)) }
+        EndsBy (check_of_texts uri.now s i) (O.writes out.old) result (O.writes out.new))) }
     ensures reading { EndsReading (schema.now ∷ instance.now ∷ []) None result }
+    ensures order { ReadsInOrder (F.is_unreadable files.now)
+        (schema.now ∷ instance.now ∷ []) result }
 {
     match files.whole(alloc, schema) {
         Ok(schema) => check_file(alloc, files, uri, schema.as_slice(), instance, out),
@@ -61,7 +63,7 @@ pub fn check_files<'a, F: Texts, O: Write>(
 }
 
 /// Answers the check of the file at `instance` by the text `schema`, which stands under `uri`.
-fn check_file<'a, F: Texts, O: Write>(
+fn check_file<'a, F: Texts, O: ByteWriter>(
     alloc: Global,
     files: &F,
     uri: &str,
@@ -71,8 +73,9 @@ fn check_file<'a, F: Texts, O: Write>(
 ) -> Result<u8, Stop<'a>>
     ensures ends { IfSome (F.text_at files.now instance.now) (λ i.
         EndsBy (check_of_texts uri.now schema.now i)
-        (O.contents out.old) (O.contents out.new) result) }
+        (O.writes out.old) result (O.writes out.new)) }
     ensures reading { EndsReading (instance.now ∷ []) None result }
+    ensures order { ReadsInOrder (F.is_unreadable files.now) (instance.now ∷ []) result }
 {
     match files.whole(alloc, instance) {
         Ok(instance) => check_texts(alloc, uri, schema, instance.as_slice(), out),
@@ -81,7 +84,7 @@ fn check_file<'a, F: Texts, O: Write>(
 }
 
 /// Answers the check of the text `instance` by the text `schema`, which stands under `uri`.
-fn check_texts<'a, O: Write>(
+fn check_texts<'a, O: ByteWriter>(
     alloc: Global,
     uri: &str,
     schema: &[u8],
@@ -89,7 +92,7 @@ fn check_texts<'a, O: Write>(
     out: &mut O,
 ) -> Result<u8, Stop<'a>>
     ensures ends { EndsBy (check_of_texts uri.now schema.now instance.now)
-        (O.contents out.old) (O.contents out.new) result }
+        (O.writes out.old) result (O.writes out.new) }
     ensures reading { (names : List Text) → EndsReading names None result }
 {
     let report = checks::check_bytes(alloc, uri, schema, instance)?;
@@ -97,11 +100,10 @@ fn check_texts<'a, O: Write>(
 }
 
 /// Prints the report, and gives the status of its check.
-fn print<'a, O: Write>(report: Report, out: &mut O) -> Result<u8, Stop<'a>>
+fn print<'a, O: ByteWriter>(report: Report, out: &mut O) -> Result<u8, Stop<'a>>
     ensures status { IfOk result (λ status. status ≡ check_status (is_valid report)) }
-    ensures written { OnOk result (Appends (O.contents out.old) (O.contents out.new)
-        (report_text report ++ 10 ∷ [])) }
-    ensures err { IfErr result (IsUnprinted (O.contents out.old) (O.contents out.new)) }
+    ensures printed { Prints (O.writes out.old) (report_line (is_valid report, report_text report))
+        result (O.writes out.new) }
 {
     let is_valid = report.valid();
     printing::report(out, is_valid, report.into_text())

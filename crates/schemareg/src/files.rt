@@ -1,27 +1,42 @@
-//! The files that a check reads.
-ghost use Rattle.std.specs.Prelude.{◌≡◌, Option, None, IfOk, IfErr, IfSome};
+//! The files that are read, and the file of a log.
+ghost use Rattle.std.specs.Prelude.{◌≡◌, Bool, false, Option, None, IfOk, IfErr, IfSome, OnOk};
 ghost use Rattle.definitions.specs.Values.{Text};
 ghost use Rattle.schemareg.specs.Stops.{IsUnread};
 
 use crate::reading;
 use crate::stop::Stop;
 use std::alloc::Global;
+use std::fs::OpenOptions;
+use std::io::Write;
 use std::rt::Files;
 
 /// Files, by their paths.
 ///
-/// Contracts see what the file at a path holds by `text_at`, where it is known.
+/// Contracts see what the file at a path holds by `text_at`, where it is known, and by `is_unreadable` which files are known
+/// not to be read.
 pub trait Texts {
     ghost text_at: { Self → Text → Option Text } = { λ _ _. None };
+
+    ghost is_unreadable: { Self → Text → Bool } = { λ _ _. false };
 
     /// All bytes of the file at `path`.
     fn whole<'a>(&self, alloc: Global, path: &'a str) -> Result<Vec<u8>, Stop<'a>>
         ensures ok { IfOk result (λ bytes.
             IfSome (text_at self.now path.now) (λ text. bytes.items ≡ text)) }
+        ensures readable { OnOk result (is_unreadable self.now path.now ≡ false) }
         ensures err { IfErr result (IsUnread path.now) };
 }
 
-/// The files of the file system. It isn't known what these hold.
+/// Files to whose ends is written, by their paths.
+pub trait Logs {
+    type Log: Write + Drop;
+
+    /// The file at `path`, which is made where there is none.
+    fn append<'a>(&self, path: &'a str) -> Result<Self::Log, Stop<'a>>
+        ensures { IfErr result (λ stop. stop ≡ Stop.CannotLog path.entry) };
+}
+
+/// The files of the file system. It isn't known what these hold, or which of them can't be read.
 #[derive(Drop)]
 pub struct FileSystem<'r, R> {
     pub rt: &'r R,
@@ -30,5 +45,20 @@ pub struct FileSystem<'r, R> {
 impl<R: Files> Texts for FileSystem<'_, R> {
     fn whole<'a>(&self, alloc: Global, path: &'a str) -> Result<Vec<u8>, Stop<'a>> {
         reading::file(alloc, self.rt, path)
+    }
+}
+
+impl<R: Files> Logs for FileSystem<'_, R> {
+    type Log = R::File;
+
+    fn append<'a>(&self, path: &'a str) -> Result<R::File, Stop<'a>> {
+        match OpenOptions::new()
+            .append(true)
+            .create(true)
+            .open(self.rt, path)
+        {
+            Ok(file) => Ok(file),
+            Err(_) => Err(Stop::CannotLog(path)),
+        }
     }
 }

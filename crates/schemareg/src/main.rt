@@ -3,17 +3,21 @@
 
 mod checking;
 mod files;
+mod log;
 mod printing;
 mod program;
 mod reading;
 mod service;
+mod side_by_side;
 mod stop;
 
+use serving::Recorded;
 use std::io;
 use std::process::ExitCode;
 
 fn main(rt: HostRuntime) -> ExitCode {
     let (out, errors) = (rt.stdout(), rt.stderr());
-    let status = program::run(&rt, &mut io::writer(&out), &mut io::writer(&errors));
-    ExitCode::from(status)
+    let mut out = Recorded::new(io::writer(&out));
+    let mut errors = Recorded::new(io::writer(&errors));
+    program::run(&rt, &mut out, &mut errors)
 }

@@ -1,12 +1,13 @@
 //! The forms that serve connections: `run` and `serve`.
-ghost use Rattle.std.specs.Prelude.{◌≡◌, ◌≢◌, List, None, Some, Err, IsOk, IfOk, IfErr};
+ghost use Rattle.std.specs.Prelude.{◌≡◌, ◌≢◌, List, None, Some, Ok, Err, IfOk, IfErr};
 ghost use Rattle.definitions.specs.Values.{Text};
 ghost use Rattle.faults.specs.View.{fault_view};
 ghost use Rattle.http_front.specs.Running.{IsRun};
 ghost use Rattle.command_line.specs.Calls.{setup_view};
-ghost use Rattle.schemareg.specs.Endings.{EndsReading, files_of, library_name};
-ghost use Rattle.schemareg.specs.Services.{HoldsLibrary, HoldsSources, IsJudged, IsUnstarted, OnServer, OnServerIn, library_path};
+ghost use Rattle.schemareg.specs.Endings.{EndsReading, ReadsInOrder, files_of, library_name};
+ghost use Rattle.schemareg.specs.Services.{EndsRun, EndsServing, HoldsLibrary, HoldsSources, IsJudged, IsUnstarted, OnServer, OnServerIn, library_path};
 ghost use Rattle.schemareg.specs.Stops.{IsUnreadAmong};
+ghost use Rattle.tenant_hub.specs.Hubs.{hub_view};
 
 use crate::files::Texts;
 use crate::stop::Stop;
@@ -15,10 +16,10 @@ use faults::Fault;
 use http_front::{
     Hub, HubHandler, Sessions, hub_of, hub_over, run_connection, run_connection_with,
 };
-use serving::{ByteReader, ByteWriter, Recorded};
+use serving::{ByteReader, ByteWriter};
 use sockets::{Limits, bind, serve_connections};
 use std::alloc::Global;
-use std::io::{Read, Write};
+use std::io::Write;
 use std::net::{Net, TcpListener, TcpStream};
 use std::time::Clock;
 
@@ -38,6 +39,8 @@ fn read_library<'a, F: Texts>(
     ensures ok { IfOk result (λ bytes.
         HoldsLibrary (F.text_at files.now) (library_path path.entry) bytes) }
     ensures err { IfErr result (IsUnreadAmong (library_name (library_path path.entry))) }
+    ensures order { ReadsInOrder (F.is_unreadable files.now)
+        (library_name (library_path path.entry)) result }
 {
     match path {
         None => Ok(None),
@@ -56,6 +59,8 @@ fn read_sources<'a, F: Texts>(
 ) -> Result<Sources, Stop<'a>>
     ensures ok { IfOk result (HoldsSources (F.text_at files.now) (setup_view setup.entry)) }
     ensures err { IfErr result (IsUnreadAmong (files_of (setup_view setup.entry))) }
+    ensures order { ReadsInOrder (F.is_unreadable files.now) (files_of (setup_view setup.entry))
+        result }
 {
     match files.whole(alloc, setup.tenants) {
         Ok(tenants) => match read_library(alloc, files, setup.library) {
@@ -86,48 +91,51 @@ fn connect<R: ByteReader, W: ByteWriter>(
     }
 }
 
-/// Serves one connection on standard input and output over new registries, and gives the status 0.
-fn run_over<'a, I: Read, O: Write>(
+/// Serves one connection over new registries, and gives the status 0.
+fn run_over<'a, R: ByteReader, W: ByteWriter>(
     alloc: Global,
     sources: &Sources,
     capacity: usize,
-    input: &mut I,
-    out: &mut O,
+    reader: &mut R,
+    writer: &mut W,
 ) -> Result<u8, Stop<'a>>
     ensures reading { (names : List Text) → EndsReading names None result }
     ensures status { IfOk result (λ status. status ≡ 0) }
-    ensures judged { OnServerIn sources.now capacity (λ server. IsJudged server result) }
+    ensures ran { OnServerIn sources.now capacity (λ server. EndsRun server (R.reads reader.old)
+        (W.writes writer.old) result (R.reads reader.new) (W.writes writer.new)) }
 {
-    let mut reader = Recorded::new(input);
-    let mut writer = Recorded::new(out);
-    match connect(alloc, sources, capacity, &mut reader, &mut writer) {
+    match connect(alloc, sources, capacity, reader, writer) {
         Ok(()) => Ok(0),
         Err(fault) => Err(Stop::Refused(fault)),
     }
 }
 
-/// Serves one connection on standard input and output, and gives the status 0 where it ended without a fault.
-pub fn run<'a, F: Texts, I: Read, O: Write>(
+/// Serves one connection from `reader` to `writer`, and gives the status 0 where it ended without a fault.
+pub fn run<'a, F: Texts, R: ByteReader, W: ByteWriter>(
     alloc: Global,
     files: &F,
     setup: Setup<'a>,
-    input: &mut I,
-    out: &mut O,
+    reader: &mut R,
+    writer: &mut W,
 ) -> Result<u8, Stop<'a>>
     ensures reading { EndsReading (files_of (setup_view setup.entry)) None result }
+    ensures order { ReadsInOrder (F.is_unreadable files.now) (files_of (setup_view setup.entry))
+        result }
     ensures status { IfOk result (λ status. status ≡ 0) }
-    ensures judged { OnServer (F.text_at files.now) (setup_view setup.entry)
-        (λ server. IsJudged server result) }
+    ensures ran { OnServer (F.text_at files.now) (setup_view setup.entry)
+        (λ server. EndsRun server (R.reads reader.old) (W.writes writer.old) result
+        (R.reads reader.new) (W.writes writer.new)) }
 {
     match read_sources(alloc, files, setup) {
-        Ok(sources) => run_over(alloc, &sources, setup.cache as usize, input, out),
+        Ok(sources) => run_over(alloc, &sources, setup.cache as usize, reader, writer),
         Err(stop) => Err(stop),
     }
 }
 
 /// New registries.
 fn hub(alloc: Global, sources: &Sources, capacity: usize) -> Result<Hub, Fault>
-    ensures ok { IfOk result (λ _. OnServerIn sources.now capacity IsOk) }
+    ensures ok { IfOk result (λ h.
+        OnServerIn sources.now capacity (λ server. server ≡ Ok (hub_view h))) }
     ensures err { IfErr result (λ f. f ≢ Fault.NoRoom
         → OnServerIn sources.now capacity (λ server. server ≡ Err (fault_view f))) }
 {
@@ -140,6 +148,8 @@ fn hub(alloc: Global, sources: &Sources, capacity: usize) -> Result<Hub, Fault>
 
 /// The same as the start of a call.
 fn start_hub<'a>(alloc: Global, sources: &Sources, capacity: usize) -> Result<Hub, Stop<'a>>
+    ensures ok { IfOk result (λ h.
+        OnServerIn sources.now capacity (λ server. server ≡ Ok (hub_view h))) }
     ensures err { (names : List Text) → IfErr result (IsUnstarted names) }
     ensures judged { OnServerIn sources.now capacity (λ server. IsJudged server result) }
 {
@@ -150,8 +160,16 @@ fn start_hub<'a>(alloc: Global, sources: &Sources, capacity: usize) -> Result<Hu
 }
 
 /// New registries, of what the files of a service hold.
-fn new_hub<'a, F: Texts>(alloc: Global, files: &F, setup: Setup<'a>) -> Result<Hub, Stop<'a>>
+pub(crate) fn new_hub<'a, F: Texts>(
+    alloc: Global,
+    files: &F,
+    setup: Setup<'a>,
+) -> Result<Hub, Stop<'a>>
+    ensures ok { IfOk result (λ h. OnServer (F.text_at files.now) (setup_view setup.entry)
+        (λ server. server ≡ Ok (hub_view h))) }
     ensures err { IfErr result (IsUnstarted (files_of (setup_view setup.entry))) }
+    ensures order { ReadsInOrder (F.is_unreadable files.now) (files_of (setup_view setup.entry))
+        result }
     ensures judged { OnServer (F.text_at files.now) (setup_view setup.entry)
         (λ server. IsJudged server result) }
 {
@@ -186,6 +204,7 @@ fn serve_at<'a, N, E: Write>(
 where
     N: Net<Listener = TcpListener, Stream = TcpStream> + Clock,
     ensures reading { (names : List Text) → EndsReading names (Some address.now) result }
+    ensures alone { EndsServing (Ok (hub_view hub)) accept result }
     ensures status { IfOk result (λ status. status ≡ 0) }
 {
     let listener = match listen(net, address) {
@@ -214,9 +233,13 @@ pub fn serve<'a, N, F: Texts, E: Write>(
 where
     N: Net<Listener = TcpListener, Stream = TcpStream> + Clock,
     ensures reading { EndsReading (files_of (setup_view setup.entry)) (Some address.now) result }
+    ensures order { ReadsInOrder (F.is_unreadable files.now) (files_of (setup_view setup.entry))
+        result }
     ensures status { IfOk result (λ status. status ≡ 0) }
     ensures judged { OnServer (F.text_at files.now) (setup_view setup.entry)
         (λ server. IsJudged server result) }
+    ensures alone { OnServer (F.text_at files.now) (setup_view setup.entry)
+        (λ server. EndsServing server accept result) }
 {
     match new_hub(alloc, files, setup) {
         Ok(hub) => serve_at(alloc, net, hub, address, accept, errors),

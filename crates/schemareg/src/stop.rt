@@ -5,6 +5,9 @@ use clap::error::ErrorKind;
 use faults::Fault;
 use std::fmt;
 
+/// What is told where standard output cannot be written.
+pub const UNWRITTEN: &str = "cannot write -\n";
+
 /// Why the program ends without a report. Its `Display` is all that is printed, with the line feed.
 #[derive(Debug, Drop)]
 pub enum Stop<'a> {
@@ -22,6 +25,10 @@ pub enum Stop<'a> {
     CannotListen(&'a str),
     /// A connection cannot be accepted.
     CannotAccept,
+    /// Nothing can be appended to the file of the log.
+    CannotLog(&'a str),
+    /// More connections are to be open than the system's limit of descriptors allows, which are so many.
+    TooManyConnections(usize),
 }
 
 impl Stop<'_> {
@@ -56,9 +63,14 @@ impl fmt::Display for Stop<'_> {
             Stop::NotText => f.write_str("error: the command line is not UTF-8\n"),
             Stop::CannotRead(name) => write!(f, "cannot read {name}\n"),
             Stop::Refused(fault) => write!(f, "refused: {fault}\n"),
-            Stop::CannotWrite => f.write_str("cannot write -\n"),
+            Stop::CannotWrite => f.write_str(UNWRITTEN),
             Stop::CannotListen(address) => write!(f, "cannot listen on {address}\n"),
             Stop::CannotAccept => f.write_str("cannot accept\n"),
+            Stop::CannotLog(path) => write!(f, "cannot write {path}\n"),
+            Stop::TooManyConnections(most) => write!(
+                f,
+                "refused: --connections is above {most}, which the limit of open files allows\n"
+            ),
         }
     }
 }

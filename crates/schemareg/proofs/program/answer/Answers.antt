@@ -1,8 +1,54 @@
-use Rattle.std.proofs.Common.{map}
-use Rattle.clap.specs.Words.{fault_of}
-use Rattle.command_line.specs.Commands.{program}
+use Rattle.std.proofs.Common.{◌∙◌, Ok, Err, map}
+use Rattle.std.specs.Process.{exit_status}
+use Rattle.command_line.specs.Calls.{faults_of}
+use Rattle.schemareg.specs.Answers.{EndsBy, EndsWith}
+use Rattle.schemareg.specs.Services.{EndsRun, RunsWith}
+use Rattle.schemareg.proofs.Ended.{ended_with, on_checks, on_runs, run_ended, run_stopped, stopped_with, told_with}
 use Rattle.schemareg.proofs.Mistakes.{mistaken}
 use Rattle.schemareg.proofs.program.answer.Goals as goal
 
 pub returns-in-Err-clause-mistakes : goal.returns-in-Err-clause-mistakes
-returns-in-Err-clause-mistakes g c = λ m. c.explain.ensures.error (mistaken (fault_of program (map g.S.AsStr.text c.args.words.now)) c.in-Err.stop m c.in-Err.ensures.found)
+returns-in-Err-clause-mistakes g c = λ m.
+    c.from-in-Err.ensures ∙ (c.explain.ensures.error (mistaken (faults_of (map g.S.AsStr.text c.args.words.now)) c.in-Err.stop m c.in-Err.ensures.found)).0
+
+pub returns-in-Ok-clause-calls : goal.returns-in-Ok-clause-calls
+returns-in-Ok-clause-calls g c = λ call m.
+    let before = g.O.ByteWriter.writes c.args.out.now in
+    let after = g.O.ByteWriter.writes c.obey.new.out in
+    on_checks (g.F.Texts.text_at c.args.files.now) (g.I.Read.remaining c.args.input.now) call (λ check. EndsBy check before (Ok c.in-Ok.status) after)
+    (λ check. EndsWith check before (exit_status c.from.result) after)
+    (λ check. ended_with check before after c.in-Ok.status (exit_status c.from.result) c.from.ensures) (c.in-Ok.ensures.calls call m)
+
+pub returns-in-Ok-clause-ran : goal.returns-in-Ok-clause-ran
+returns-in-Ok-clause-ran g c = λ call m.
+    let reads = g.I.ByteReader.reads c.args.input.now in
+    let writes = g.O.ByteWriter.writes c.args.out.now in
+    let more = g.I.ByteReader.reads c.obey.new.input in
+    let others = g.O.ByteWriter.writes c.obey.new.out in
+    on_runs (g.F.Texts.text_at c.args.files.now) call (λ server. EndsRun server reads writes (Ok c.in-Ok.status) more others)
+    (λ server. RunsWith server reads writes (exit_status c.from.result) more others)
+    (λ server. run_ended server reads writes more others c.in-Ok.status (exit_status c.from.result) c.from.ensures) (c.in-Ok.ensures.ran call m)
+
+pub returns-in-Err-clause-calls : goal.returns-in-Err-clause-calls
+returns-in-Err-clause-calls g c = λ call m.
+    let before = g.O.ByteWriter.writes c.args.out.now in
+    let after = g.O.ByteWriter.writes c.obey.new.out in
+    let final = g.O.ByteWriter.writes c.explain.new.out in
+    on_checks (g.F.Texts.text_at c.args.files.now) (g.I.Read.remaining c.args.input.now) call (λ check. EndsBy check before (Err c.in-Err.stop) after)
+    (λ check. EndsWith check before (exit_status c.from-in-Err.result) final)
+    (λ check. stopped_with check before after final c.in-Err.stop (exit_status c.from-in-Err.result)
+    (told_with g.O.ByteWriter.writes c.in-Err.stop c.explain.result (exit_status c.from-in-Err.result) c.obey.new.out c.explain.new.out c.from-in-Err.ensures c.explain.ensures.error))
+    (c.in-Err.ensures.calls call m)
+
+pub returns-in-Err-clause-ran : goal.returns-in-Err-clause-ran
+returns-in-Err-clause-ran g c = λ call m.
+    let reads = g.I.ByteReader.reads c.args.input.now in
+    let writes = g.O.ByteWriter.writes c.args.out.now in
+    let more = g.I.ByteReader.reads c.obey.new.input in
+    let others = g.O.ByteWriter.writes c.obey.new.out in
+    let final = g.O.ByteWriter.writes c.explain.new.out in
+    on_runs (g.F.Texts.text_at c.args.files.now) call (λ server. EndsRun server reads writes (Err c.in-Err.stop) more others)
+    (λ server. RunsWith server reads writes (exit_status c.from-in-Err.result) more final)
+    (λ server. run_stopped server reads writes more others final c.in-Err.stop (exit_status c.from-in-Err.result)
+    (told_with g.O.ByteWriter.writes c.in-Err.stop c.explain.result (exit_status c.from-in-Err.result) c.obey.new.out c.explain.new.out c.from-in-Err.ensures c.explain.ensures.error))
+    (c.in-Err.ensures.ran call m)

@@ -1,18 +1,22 @@
-use Rattle.std.proofs.Common.{ℕ}
 use Rattle.command_line.specs.Calls.{setup_view}
+use Rattle.std.proofs.Common.{Err}
 use Rattle.schemareg.specs.Endings.{files_of}
-use Rattle.schemareg.specs.Services.{IsJudged}
-use Rattle.schemareg.proofs.Judged.{on_server, unread_on_server}
+use Rattle.schemareg.specs.Services.{EndsRun}
+use Rattle.schemareg.proofs.Ended.{unbegun_run}
+use Rattle.schemareg.proofs.Judged.{every_server, on_server}
 use Rattle.schemareg.proofs.service.run.Goals as goal
 
 pub returns-in-Ok-clause-reading : goal.returns-in-Ok-clause-reading
 returns-in-Ok-clause-reading g c = c.run_over.ensures.reading (files_of (setup_view c.args.setup))
 
-pub returns-in-Ok-clause-judged : goal.returns-in-Ok-clause-judged
-returns-in-Ok-clause-judged g c =
-    on_server (g.F.Texts.text_at c.args.files.now) (setup_view c.args.setup) c.in-Ok.sources (λ server. IsJudged server c.run_over.result)
-    c.in-Ok.ensures.ok c.run_over.ensures.judged
+pub returns-in-Ok-clause-ran : goal.returns-in-Ok-clause-ran
+returns-in-Ok-clause-ran g c =
+    on_server (g.F.Texts.text_at c.args.files.now) (setup_view c.args.setup) c.in-Ok.sources
+    (λ server. EndsRun server (g.R.ByteReader.reads c.args.reader.now) (g.W.ByteWriter.writes c.args.writer.now) c.run_over.result (g.R.ByteReader.reads c.run_over.new.reader) (g.W.ByteWriter.writes c.run_over.new.writer))
+    c.in-Ok.ensures.ok c.run_over.ensures.ran
 
-pub returns-in-Err-clause-judged : goal.returns-in-Err-clause-judged
-returns-in-Err-clause-judged g c =
-    unread_on_server ℕ (g.F.Texts.text_at c.args.files.now) (setup_view c.args.setup) (files_of (setup_view c.args.setup)) c.in-Err.stop c.in-Err.ensures.err
+pub returns-in-Err-clause-ran : goal.returns-in-Err-clause-ran
+returns-in-Err-clause-ran g c =
+    every_server (g.F.Texts.text_at c.args.files.now) (setup_view c.args.setup)
+    (λ server. EndsRun server (g.R.ByteReader.reads c.args.reader.now) (g.W.ByteWriter.writes c.args.writer.now) (Err c.in-Err.stop) (g.R.ByteReader.reads c.args.reader.now) (g.W.ByteWriter.writes c.args.writer.now))
+    (unbegun_run (files_of (setup_view c.args.setup)) c.in-Err.stop c.in-Err.ensures.err _ _)

@@ -1,9 +1,11 @@
-use Rattle.std.proofs.Common.{ℕ, Ok, Err}
+use Rattle.std.proofs.Common.{◌≡◌, ℕ, Ok, Err}
 use Rattle.command_line.specs.Calls.{setup_view}
+use Rattle.tenant_hub.specs.Hubs.{hub_view}
 use Rattle.tenant_hub.specs.declared.hub.Hub.{Hub}
 use Rattle.schemareg.specs.Endings.{files_of}
-use Rattle.schemareg.specs.Services.{IsJudged}
-use Rattle.schemareg.proofs.Judged.{judged_alike, judged_behind, on_servers}
+use Rattle.schemareg.specs.Services.{EndsServing, IsJudged}
+use Rattle.schemareg.proofs.Alone.{served_of, unstarted_alone}
+use Rattle.schemareg.proofs.Judged.{every_server, judged_alike, judged_behind, on_servers}
 use Rattle.schemareg.proofs.service.serve.Goals as goal
 
 pub returns-in-Ok-clause-reading : goal.returns-in-Ok-clause-reading
@@ -18,3 +20,13 @@ pub returns-in-Err-clause-judged : goal.returns-in-Err-clause-judged
 returns-in-Err-clause-judged g c =
     on_servers (g.F.Texts.text_at c.args.files.now) (setup_view c.args.setup) (λ server. IsJudged {T = Hub} server (Err c.in-Err.stop))
     (λ server. IsJudged {T = ℕ} server (Err c.in-Err.stop)) (judged_alike Hub ℕ c.in-Err.stop) c.in-Err.ensures.judged
+
+pub returns-in-Ok-clause-alone : goal.returns-in-Ok-clause-alone
+returns-in-Ok-clause-alone g c =
+    on_servers (g.F.Texts.text_at c.args.files.now) (setup_view c.args.setup) (λ server. server ≡ Ok (hub_view c.in-Ok.hub)) (λ server. EndsServing server c.args.accept c.serve_at.result)
+    (λ server e. served_of (hub_view c.in-Ok.hub) c.args.accept c.serve_at.result server e c.serve_at.ensures.alone) c.in-Ok.ensures.ok
+
+pub returns-in-Err-clause-alone : goal.returns-in-Err-clause-alone
+returns-in-Err-clause-alone g c =
+    every_server (g.F.Texts.text_at c.args.files.now) (setup_view c.args.setup) (λ server. EndsServing server c.args.accept (Err c.in-Err.stop))
+    (unstarted_alone (files_of (setup_view c.args.setup)) c.in-Err.stop c.args.accept c.in-Err.ensures.err)

@@ -1,0 +1,118 @@
+-- How a check or a connection ends, with which status, and what is written of it.
+use Rattle.std.proofs.Common.{◌≡◌, ◌∙◌, ℕ, List, true, Option, Result, Ok, Err, refl, sym, ap, subst, inl, inr}
+use Rattle.std.specs.Prelude.{IfSome, IsOkAnd, IsErrAnd}
+use Rattle.clap.specs.Words.{kind_of}
+use Rattle.clap.specs.declared.error.Error.{Error}
+use Rattle.clap.specs.declared.error.kind.ErrorKind.TheVariants.{OutOfMemory}
+use Rattle.definitions.specs.Values.{Text}
+use Rattle.faults.specs.declared.Fault.TheVariants.{NoRoom}
+use Rattle.command_line.specs.Calls.{Asked}
+use Rattle.command_line.specs.Calls as call
+use Rattle.http_front.specs.Running.{IsRun}
+use Rattle.http_front.proofs.Refused.{refused_run}
+use Rattle.serving.specs.Transfers.{Transfer}
+use Rattle.serving.specs.Writing.{WritesSome}
+use Rattle.schemareg.specs.declared.stop.Stop.{Stop}
+use Rattle.schemareg.specs.declared.stop.Stop.TheVariants.{Words, NotText, CannotRead, Refused, CannotWrite, CannotListen, CannotAccept, CannotLog, TooManyConnections}
+use Rattle.schemareg.specs.Answers.{Check, EndsBy, EndsWith, OnCheck, check_of_input, check_of_texts, report_line}
+use Rattle.schemareg.specs.Services.{EndsRun, OnRun, RunsWith, Server}
+use Rattle.schemareg.specs.Stops.{IsUnreadAmong, is_error, stop_by, stop_of}
+use Rattle.schemareg.proofs.Judged.{all_known, every_server, on_servers}
+
+-- a stop that is told on standard error leaves standard output as it was
+abbrev pub Told : Stop → ℕ → List Transfer → List Transfer → Type 0
+Told stop status after final = is_error stop ≡ true → (status ≡ 2) × (final ≡ after)
+
+pub told_with : {O : Type 0} (writes : O → List Transfer) (stop : Stop) (told status : ℕ) (after final : O) → status ≡ told
+    → (is_error stop ≡ true → (told ≡ 2) × (final ≡ after)) → Told stop status (writes after) (writes final)
+told_with writes stop told status after final e h = λ error. (e ∙ (h error).0, ap writes (h error).1)
+
+-- ---- checks
+pub ended_with : (check : Check) (before after : List Transfer) (result status : ℕ) → status ≡ result → EndsBy check before (Ok result) after
+    → EndsWith check before status after
+ended_with check before after result status e h = inl (h.0 ∙ ap Ok (sym e), h.1)
+
+pub stopped_with : (check : Check) (before after final : List Transfer) (stop : Stop) (status : ℕ) → Told stop status after final
+    → EndsBy check before (Err stop) after → EndsWith check before status final
+stopped_with check before after final (Refused f) status told h = inr ((told refl).0, inl ((told refl).1 ∙ h.0))
+stopped_with check before after final (CannotRead name) status told h = inr ((told refl).0, inl ((told refl).1 ∙ h))
+stopped_with check before after final CannotWrite status told h = inr (
+  (told refl).0,
+  inr (subst (λ (ts : List Transfer). IsOkAnd check.judgement (λ report. WritesSome before (report_line report) ts)) (sym (told refl).1) h),
+)
+stopped_with check before after final (Words e) status told h = absurd h
+stopped_with check before after final NotText status told h = absurd h
+stopped_with check before after final (CannotListen a) status told h = absurd h
+stopped_with check before after final CannotAccept status told h = absurd h
+stopped_with check before after final (CannotLog path) status told h = absurd h
+stopped_with check before after final (TooManyConnections most) status told h = absurd h
+
+-- what follows for each check follows for the one that is asked for
+pub on_checks : (files : Text → Option Text) (bytes : Option Text) (asked : Asked) (P Q : Check → Type 0) → ((c : Check) → P c → Q c)
+    → OnCheck files bytes asked P → OnCheck files bytes asked Q
+on_checks files bytes call.input P Q f h = all_known (λ b. P (check_of_input b)) (λ b. Q (check_of_input b)) bytes (λ b p. f (check_of_input b) p) h
+on_checks files bytes (call.check uri schema instance) P Q f h =
+    all_known (λ s. known_at P s) (λ s. known_at Q s) (files schema)
+    (λ s p. all_known (λ i. P (check_of_texts uri s i)) (λ i. Q (check_of_texts uri s i)) (files instance) (λ i q. f (check_of_texts uri s i) q) p) h
+  where
+    known_at : (Check → Type 0) → Text → Type 0
+    known_at R s = IfSome (files instance) (λ i. R (check_of_texts uri s i))
+on_checks files bytes (call.run start) P Q f h = tt
+on_checks files bytes (call.serve start listen accept) P Q f h = tt
+on_checks files bytes (call.serve_many start listen limits logging) P Q f h = tt
+
+-- ---- connections
+-- what ends a connection before it begins
+pub unbegun_run : (names : List Text) (stop : Stop) → IsUnreadAmong names stop → (reads writes : List Transfer) (server : Server)
+    → EndsRun server reads writes (Err stop) reads writes
+unbegun_run names (CannotRead name) h reads writes server = (refl, refl)
+unbegun_run names (Refused f) h reads writes server = refused_run server reads writes f (λ other. absurd (other h))
+unbegun_run names (Words e) h reads writes server = absurd h
+unbegun_run names NotText h reads writes server = absurd h
+unbegun_run names CannotWrite h reads writes server = absurd h
+unbegun_run names (CannotListen a) h reads writes server = absurd h
+unbegun_run names CannotAccept h reads writes server = absurd h
+unbegun_run names (CannotLog path) h reads writes server = absurd h
+unbegun_run names (TooManyConnections most) h reads writes server = absurd h
+
+-- memory ran out while the words were read
+pub unspelled_run : (e : Error) (result : Result ℕ Stop) → kind_of e ≡ OutOfMemory → IsErrAnd result (λ stop. stop ≡ stop_of e)
+    → (reads writes : List Transfer) (server : Server) → EndsRun server reads writes result reads writes
+unspelled_run e (Ok status) k h reads writes server = absurd h
+unspelled_run e (Err stop) k h reads writes server =
+    subst (λ s. EndsRun server reads writes (Err s) reads writes) (sym (h ∙ ap (λ kind. stop_by kind e) k))
+    (refused_run server reads writes NoRoom (λ other. absurd (other refl)))
+
+pub run_ended : (server : Server) (reads writes more others : List Transfer) (result status : ℕ) → status ≡ result
+    → EndsRun server reads writes (Ok result) more others → RunsWith server reads writes status more others
+run_ended server reads writes more others result status e h = inl (e ∙ h.0, h.1)
+
+pub run_stopped : (server : Server) (reads writes more others final : List Transfer) (stop : Stop) (status : ℕ) → Told stop status others final
+    → EndsRun server reads writes (Err stop) more others → RunsWith server reads writes status more final
+run_stopped server reads writes more others final (Refused f) status told h = inr (
+  (told refl).0,
+  inr (f, subst (λ (ts : List Transfer). IsRun server reads writes (Err f) more ts) (sym (told refl).1) h),
+)
+run_stopped server reads writes more others final (CannotRead name) status told h = inr ((told refl).0, inl (h.0, (told refl).1 ∙ h.1))
+run_stopped server reads writes more others final (Words e) status told h = absurd h
+run_stopped server reads writes more others final NotText status told h = absurd h
+run_stopped server reads writes more others final CannotWrite status told h = absurd h
+run_stopped server reads writes more others final (CannotListen a) status told h = absurd h
+run_stopped server reads writes more others final CannotAccept status told h = absurd h
+run_stopped server reads writes more others final (CannotLog path) status told h = absurd h
+run_stopped server reads writes more others final (TooManyConnections most) status told h = absurd h
+
+-- what follows for each server follows for the one that is asked for
+pub on_runs : (files : Text → Option Text) (asked : Asked) (P Q : Server → Type 0) → ((s : Server) → P s → Q s) → OnRun files asked P → OnRun files asked Q
+on_runs files call.input P Q f h = tt
+on_runs files (call.check uri schema instance) P Q f h = tt
+on_runs files (call.run start) P Q f h = on_servers files start P Q f h
+on_runs files (call.serve start listen accept) P Q f h = tt
+on_runs files (call.serve_many start listen limits logging) P Q f h = tt
+
+pub every_run : (files : Text → Option Text) (asked : Asked) (P : Server → Type 0) → ((s : Server) → P s) → OnRun files asked P
+every_run files call.input P f = tt
+every_run files (call.check uri schema instance) P f = tt
+every_run files (call.run start) P f = every_server files start P f
+every_run files (call.serve start listen accept) P f = tt
+every_run files (call.serve_many start listen limits logging) P f = tt

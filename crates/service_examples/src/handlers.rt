@@ -1,5 +1,6 @@
 //! What answers the requests of the tests.
-ghost use Rattle.std.specs.Prelude.{⊤};
+ghost use Rattle.std.specs.Prelude.{◌≡◌, ⊤, ℕ, None};
+ghost use Rattle.connections.specs.Connected.{connection_at};
 
 use connections::{Handler, Sessions};
 use requests::{Fault, Reply, Request};
@@ -37,6 +38,8 @@ impl Handler for Counting {
 }
 
 /// No connection, and a handler that wasn't asked yet.
-pub fn sessions(alloc: Global) -> Sessions<Counting> {
+pub fn sessions(alloc: Global) -> Sessions<Counting>
+    ensures { (id : ℕ) → connection_at result id ≡ None }
+{
     Sessions::new(alloc, Counting { asked: 0 })
 }

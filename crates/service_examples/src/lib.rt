@@ -19,6 +19,10 @@ mod kept_documents;
 #[cfg(test)]
 mod libraries;
 #[cfg(test)]
+mod many_connections;
+#[cfg(test)]
+mod many_documents;
+#[cfg(test)]
 mod new_servers;
 #[cfg(test)]
 mod own_registries;
@@ -30,6 +34,8 @@ mod replied_bundles;
 mod sent_streams;
 #[cfg(test)]
 mod served_hubs;
+#[cfg(test)]
+mod served_networks;
 #[cfg(test)]
 mod served_streams;
 #[cfg(test)]

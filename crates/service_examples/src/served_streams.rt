@@ -1,7 +1,8 @@
 //! Streams that a reader gives and a writer takes, whole or failing on the way.
 
-use crate::served_hubs::{EXAMPLE, EXAMPLE_REPLIES, POST, PUT, PUT_FRONT, hub_sessions};
-use crate::texts::filled;
+use crate::handlers::sessions;
+use crate::served_hubs::{EXAMPLE, EXAMPLE_REPLIES, POST, PUT, PUT_FRONT, STORED, hub_sessions};
+use crate::texts::{filled, push_copies};
 use http_front::Fault;
 use serving::{MemoryReader, MemoryWriter, Pace, Pause, Recorded, serve};
 use std::alloc::{AllocError, Global};
@@ -106,6 +107,23 @@ fn a_stream_without_an_end_is_given_up(rt: HostRuntime) -> Result<(), Fail> {
     assert!(rt; given_up == Err(Fault::ReadBound));
     assert_eq!(rt; writer.bytes(), EXAMPLE_REPLIES.as_bytes());
     sessions.open(1)?;
+    Ok(())
+}
+
+#[test]
+fn a_stream_of_twelve_bodies_of_100_kilobytes_is_answered(rt: HostRuntime) -> Result<(), Fail> {
+    let alloc = rt.alloc();
+    let put = filled(
+        alloc,
+        "PUT /schemas?uri=https://ex.org/s HTTP/1.1\r\nx-tenant-key: k1\r\ncontent-length: 100000\r\n\r\n{}«99998* »",
+    )?;
+    let (mut stream, mut replies) = (String::new(alloc), String::new(alloc));
+    push_copies(&mut stream, 12, put.as_str())?;
+    push_copies(&mut replies, 12, STORED)?;
+    let mut reader = reader(alloc, stream.as_str(), Pace::WHOLE)?;
+    let mut writer = MemoryWriter::new(alloc, Pace::WHOLE);
+    serve(alloc, &mut sessions(alloc), 1, &mut reader, &mut writer)?;
+    assert_eq!(rt; writer.bytes(), replies.as_bytes());
     Ok(())
 }
 

@@ -118,7 +118,15 @@ fn unlike_by_run(
     Ok(String::new(alloc))
 }
 
-// The same one by one with a new hub, and by one call with another.
+// Tells of a cache whose capacity is no longer this one.
+fn push_capacity(found: &mut String, hub: &Hub, capacity: usize) -> Result<(), AllocError> {
+    if hub.cache_capacity() != capacity {
+        found.push_str(" and the cache has another capacity")?;
+    }
+    Ok(())
+}
+
+// The same one by one with a new hub, and by one call with another. Each keeps the capacity of its cache.
 fn unlike_anyhow(
     alloc: Global,
     tenants: &str,
@@ -128,8 +136,10 @@ fn unlike_anyhow(
 ) -> Result<String, Fail> {
     let mut hub = new_hub(alloc, tenants, library, capacity)?;
     let mut found = unlike(alloc, &mut hub, lines)?;
+    push_capacity(&mut found, &hub, capacity)?;
     let mut hub = new_hub(alloc, tenants, library, capacity)?;
     found.push_str(unlike_by_run(alloc, &mut hub, lines)?.as_str())?;
+    push_capacity(&mut found, &hub, capacity)?;
     Ok(found)
 }
 

@@ -19,7 +19,8 @@ fn push_numbered(
     Ok(())
 }
 
-fn push_copies(text: &mut String, count: u32, piece: &str) -> Result<(), AllocError> {
+/// Appends so many copies of a piece.
+pub fn push_copies(text: &mut String, count: u32, piece: &str) -> Result<(), AllocError> {
     for _ in 0..count {
         text.push_str(piece)?;
     }

@@ -5,8 +5,10 @@
 
 PROGRAM is the path of the program; without it, it is crates/schemareg/out/schemareg, where `rt run` leaves it.
 An example passes where the program prints what the file NAME.answer holds, byte for byte, on the right stream, nothing on
-the other, and ends with the right status. The service is run by `serving.py`, with curl where it is installed. The crate `checks_examples` passes where its module `examples` has the tests that
-the examples give. The exit status is 0 where all pass, and else 1.
+the other, and ends with the right status. The service is run by `serving.py`, with curl where it is installed. What no contract
+can say of the words, the files and the streams is tried by `streams.py`, and of connections over TCP by `connections.py`, each
+under a name that says it. The crate `checks_examples` passes where its module `examples` has the tests that the examples give.
+The exit status is 0 where all pass, and else 1.
 """
 
 import subprocess
@@ -14,7 +16,10 @@ import sys
 from http.client import HTTPException
 from pathlib import Path
 
+import connections
 import serving
+import side_by_side
+import streams
 import write_tests
 
 FOLDER = Path(__file__).resolve().parent
@@ -80,9 +85,9 @@ def main():
                 if want != have:
                     print(f"        {part}: wanted {want!r}")
                     print(f"        {' ' * len(part)}     got {have!r}")
-    for name, trial in serving.trials(program.resolve()):
+    for name, trial in (trial for module in (serving, streams, connections, side_by_side) for trial in module.trials(program.resolve())):
         if trial is None:
-            print(f"skipped {name}: curl is not installed")
+            print(f"skipped {name}: what it needs is not here")
             continue
         try:
             wrong = trial()

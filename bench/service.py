@@ -13,6 +13,8 @@ where valgrind is installed. Each table is measured for at least S seconds a fig
     feed     the bytes of one connection in pieces: what a byte costs at one size and at twice the size
     run      one pipelined connection on standard input and output
     serve    one connection on the loopback address, pipelined, and with a reply awaited before the next request
+    bursts   20 and 200 requests that a client on the loopback address sends in one write: the status is 1 where 200 of them take
+             more than twenty times what 20 take
 
 Instructions of a request are those of 2 N turns less those of N, divided by N; so the start of the program, what was stored
 before, and what is made once don't count.
@@ -30,6 +32,7 @@ import threading
 import time
 from contextlib import contextmanager
 from pathlib import Path
+from statistics import median
 
 from run import TOP, Bench, amount, print_table, time_of
 from workloads import ADDRESS, ORDER_LINE, compact, order, small_object
@@ -435,7 +438,45 @@ def serve_table(service):
     print_table(["Request", "Pipelined, a second", "Time", "One at a time, a second", "Time"], rows)
 
 
-TABLES = {"hub": hub_table, "bundles": bundle_table, "feed": feed_table, "run": run_table, "serve": serve_table}
+BURSTS = (20, 200)
+MOST_TIMES = 20
+
+
+def burst_times(service, tenants, before, request, tries=9, rounds=8):
+    """The seconds that each of these numbers of requests takes, sent in one write, up to the last reply: the least of all tries
+    of the smaller one, and of the larger one the least median of a round of tries. A client acknowledges at once or late as it
+    likes, so that a single try may have no pause to show."""
+    with service.connected(tenants) as client:
+        for call in before + [request]:
+            client.sendall(http_call(call))
+            reply_length(client)
+        client.sendall(http_call(request))
+        length = reply_length(client)
+        few, many = ([[together(client, http_call(request), length, count) for _ in range(tries)] for _ in range(rounds)] for count in BURSTS)
+        return min(map(min, few)), min(map(median, many))
+
+
+def burst_table(service):
+    rows, is_over = [], False
+    with written(TENANTS) as tenants:
+        for name, (before, request) in program_requests().items():
+            few, many = burst_times(service, tenants, before, request)
+            over = many > MOST_TIMES * few
+            is_over = is_over or over
+            rows.append([name, time_of(few), time_of(many), f"{many / few:.1f}", "over" if over else "ok"])
+    print_table(["Requests in one write", *(f"{count} of them" for count in BURSTS), "Times", ""], rows)
+    if is_over:
+        sys.exit(1)
+
+
+TABLES = {
+    "hub": hub_table,
+    "bundles": bundle_table,
+    "feed": feed_table,
+    "run": run_table,
+    "serve": serve_table,
+    "bursts": burst_table,
+}
 
 
 def main():

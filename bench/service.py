@@ -13,130 +13,48 @@ where valgrind is installed. Each table is measured for at least S seconds a fig
     feed     the bytes of one connection in pieces: what a byte costs at one size and at twice the size
     run      one pipelined connection on standard input and output
     serve    one connection on the loopback address, pipelined, and with a reply awaited before the next request
-    bursts   20 and 200 requests that a client on the loopback address sends in one write: the status is 1 where 200 of them take
-             more than twenty times what 20 take
+    bursts   20 and 200 requests that a client on the loopback address sends in one write, to `serve` with and without --accept
+    many ..  many clients of `serve` without --accept, which is on one processor and they on the others:
+        many, beside nginx      validations by 1, 50 and 900 connections, and nginx's with one worker and a fixed reply
+        many, beside run        validations on one connection that awaits no reply, and those of `run`
+        many, idle              one connection that asks, alone and beside 900 idle ones
+        many, large documents   50 connections that ask, beside one that puts documents of 1 MB
+        many, memory            resident memory before any connection, and by 1,000 idle ones
+
+The last two words stand for tables with marks: the status is 1 where one doesn't hold. They need Linux; those of many clients
+need `wrk` and `nginx`, and more than one processor, and measure each figure five times, for S seconds.
 
 Instructions of a request are those of 2 N turns less those of N, divided by N; so the start of the program, what was stored
 before, and what is made once don't count.
 """
 
 import argparse
-import json
-import os
 import re
 import socket
 import subprocess
 import sys
 import tempfile
-import threading
 import time
 from contextlib import contextmanager
 from pathlib import Path
 from statistics import median
 
+from loopback import connect, free_port, in_turn, reply_length, together
+from many_clients import MANY_TABLES
+from many_servers import many_server
 from run import TOP, Bench, amount, print_table, time_of
-from workloads import ADDRESS, ORDER_LINE, compact, order, small_object
+from service_requests import (
+    SITE, TENANTS, VALIDATIONS, chained, compact, document_uri, http_call, http_request, program_requests, small_document, stored,
+    written,
+)
 
-KEY = "k1"
-SITE = "https://example.com"
-TENANTS = {"tenants": [{"key": KEY, "documents": 1_000_000, "bytes": 1_000_000_000}]}
 REGISTRIES = (1, 100, 10_000)
 BUNDLES = (250, 500, 1_000)
 LARGEST_BODY = 1_048_576
 LARGEST_HEAD = 16_384
 
 
-# ---- documents and requests
-
-
-def order_alone():
-    """The order of some 2 KB, by a schema without references."""
-    parts = {"#/$defs/address": ADDRESS, "#/$defs/line": ORDER_LINE}
-
-    def inlined(schema):
-        if isinstance(schema, dict):
-            return parts.get(schema.get("$ref")) or {name: inlined(value) for name, value in schema.items()}
-        return [inlined(value) for value in schema] if isinstance(schema, list) else schema
-
-    schema, instance = order()
-    return inlined({name: value for name, value in schema.items() if name not in ("$id", "$defs")}), instance
-
-
-def in_byte_order(make):
-    """The schema, and the instance with the names of each object in byte order: `benchmark read` reads it written so, and
-    names in another order take longer to read, which is not the service's."""
-    schema, instance = make()
-    return schema, json.loads(json.dumps(instance, sort_keys=True))
-
-
-def labels():
-    """As many bytes as the order's, in and out, by a tenth of the applications: what the service takes is a fifth of it."""
-    return {"items": {"title": "t" * 800}}, ["b" * 118 for _ in range(15)]
-
-
-VALIDATIONS = {
-    "validate, small object": lambda: in_byte_order(small_object),
-    "validate, order of 2 KB": lambda: in_byte_order(order_alone),
-    "validate, labels of 2 KB": labels,
-}
-
-
-def document_uri(number):
-    return f"{SITE}/d/{number:05}"
-
-
-def small_document(number):
-    return {"type": "object", "properties": {f"m{number}": {"type": "string"}}}
-
-
-def document(number, count):
-    """One of so many documents of some 1 KB that each refer to the next, with the name that it has in a bundle."""
-    schema = {"type": "object", "properties": {"next": {"$ref": document_uri((number + 1) % count)}}, "description": ""}
-    schema["description"] = "d" * (960 - len(compact(schema)))
-    return schema
-
-
-def http_request(method, target, body=None):
-    lines = [f"{method} {target} HTTP/1.1", f"x-tenant-key: {KEY}"]
-    sent = b"" if body is None else body
-    if body is not None:
-        lines.append(f"content-length: {len(sent)}")
-    return "\r\n".join(lines + ["", ""]).encode() + sent
-
-
-def http_call(call):
-    """A call as the program `benchmark` takes it, as a request over HTTP."""
-    kind, uri, *body = call
-    method, path = {
-        "put": ("PUT", "/schemas"),
-        "delete": ("DELETE", "/schemas"),
-        "validate": ("POST", "/validate"),
-        "bundle": ("GET", "/bundle"),
-    }[kind]
-    return http_request(method, f"{path}?uri={uri}", compact(body[0]).encode() if body else None)
-
-
-def stored(number_of_documents):
-    """The calls that store a registry's documents."""
-    return [["put", document_uri(number), small_document(number)] for number in range(number_of_documents)]
-
-
-def chained(count):
-    return [["put", document_uri(number), document(number, count)] for number in range(count)]
-
-
 # ---- measuring
-
-
-@contextmanager
-def written(content):
-    """The path of a file that holds the content."""
-    with tempfile.NamedTemporaryFile("wb", delete=False) as file:
-        file.write(content if isinstance(content, bytes) else compact(content).encode())
-    try:
-        yield file.name
-    finally:
-        os.unlink(file.name)
 
 
 def each_turn(count_of, turns):
@@ -233,48 +151,6 @@ def replies_that_hold(sent):
     return len(re.findall(rb"HTTP/1\.1 20[01] ", sent))
 
 
-def free_port():
-    with socket.socket() as it:
-        it.bind(("127.0.0.1", 0))
-        return it.getsockname()[1]
-
-
-def connect(port, server):
-    for _ in range(500):
-        try:
-            client = socket.create_connection(("127.0.0.1", port))
-            client.setsockopt(socket.IPPROTO_TCP, socket.TCP_NODELAY, 1)
-            return client
-        except ConnectionRefusedError:
-            if server.poll() is not None:
-                sys.exit(f"serve: {server.stderr.read().decode()}")
-            time.sleep(0.01)
-    sys.exit("serve: no connection")
-
-
-def receive(client, most):
-    part = client.recv(min(most, 65_536))
-    if not part:
-        sys.exit("serve: the connection was closed")
-    return part
-
-
-def skip(client, length):
-    """Takes so many bytes of what is sent."""
-    while length:
-        length -= len(receive(client, length))
-
-
-def reply_length(client):
-    """The length of the next reply, which is taken."""
-    head = b""
-    while not head.endswith(b"\r\n\r\n"):
-        head += receive(client, 1)
-    body = int(re.search(rb"content-length: (\d+)", head)[1])
-    skip(client, body)
-    return len(head) + body
-
-
 # ---- the tables
 
 
@@ -368,16 +244,6 @@ def feed_table(service):
     print_table(head, (feed_row(service, *stream) for stream in STREAMS))
 
 
-def program_requests():
-    """Requests of the program, each with those before it."""
-    requests = {"put, 1 KB": ([], ["put", document_uri(0), document(0, 1)])}
-    for name, make in VALIDATIONS.items():
-        schema, instance = make()
-        requests[name] = ([["put", f"{SITE}/schema", schema]], ["validate", f"{SITE}/schema", instance])
-    requests["bundle, 10 documents of 1 KB"] = (chained(10), ["bundle", document_uri(0)])
-    return requests
-
-
 def run_table(service):
     rows = []
     with written(TENANTS) as tenants:
@@ -390,23 +256,6 @@ def run_table(service):
             rows.append(row)
     head = ["Request", "Requests a second", "Time", "Instructions", "Reading, evaluating, writing alone", "What the service takes"]
     print_table(head, rows)
-
-
-def in_turn(client, request, length, times):
-    start = time.monotonic()
-    for _ in range(times):
-        client.sendall(request)
-        skip(client, length)
-    return time.monotonic() - start
-
-
-def together(client, request, length, times):
-    start = time.monotonic()
-    writer = threading.Thread(target=client.sendall, args=(request * times,))
-    writer.start()
-    skip(client, length * times)
-    writer.join()
-    return time.monotonic() - start
 
 
 # The server ends a connection after 65,536 reads, and all turns go over one.
@@ -442,31 +291,34 @@ BURSTS = (20, 200)
 MOST_TIMES = 20
 
 
-def burst_times(service, tenants, before, request, tries=9, rounds=8):
+def burst_times(client, before, request, tries=9, rounds=8):
     """The seconds that each of these numbers of requests takes, sent in one write, up to the last reply: the least of all tries
     of the smaller one, and of the larger one the least median of a round of tries. A client acknowledges at once or late as it
     likes, so that a single try may have no pause to show."""
-    with service.connected(tenants) as client:
-        for call in before + [request]:
-            client.sendall(http_call(call))
-            reply_length(client)
-        client.sendall(http_call(request))
-        length = reply_length(client)
-        few, many = ([[together(client, http_call(request), length, count) for _ in range(tries)] for _ in range(rounds)] for count in BURSTS)
-        return min(map(min, few)), min(map(median, many))
+    for call in before + [request]:
+        client.sendall(http_call(call))
+        reply_length(client)
+    client.sendall(http_call(request))
+    length = reply_length(client)
+    few, many = ([[together(client, http_call(request), length, count) for _ in range(tries)] for _ in range(rounds)] for count in BURSTS)
+    return min(map(min, few)), min(map(median, many))
+
+
+def burst_row(name, few, many):
+    return [name, time_of(few), time_of(many), f"{many / few:.1f}", "over" if many > MOST_TIMES * few else "ok"]
 
 
 def burst_table(service):
-    rows, is_over = [], False
+    """Whether no burst is over the mark."""
+    rows = []
     with written(TENANTS) as tenants:
-        for name, (before, request) in program_requests().items():
-            few, many = burst_times(service, tenants, before, request)
-            over = many > MOST_TIMES * few
-            is_over = is_over or over
-            rows.append([name, time_of(few), time_of(many), f"{many / few:.1f}", "over" if over else "ok"])
+        for name, asked in program_requests().items():
+            with service.connected(tenants) as client:
+                rows.append(burst_row(f"{name}, --accept 1", *burst_times(client, *asked)))
+            with many_server(service.served, tenants) as server, server.client() as client:
+                rows.append(burst_row(name, *burst_times(client, *asked)))
     print_table(["Requests in one write", *(f"{count} of them" for count in BURSTS), "Times", ""], rows)
-    if is_over:
-        sys.exit(1)
+    return all(row[-1] == "ok" for row in rows)
 
 
 TABLES = {
@@ -476,6 +328,7 @@ TABLES = {
     "run": run_table,
     "serve": serve_table,
     "bursts": burst_table,
+    **MANY_TABLES,
 }
 
 
@@ -487,10 +340,13 @@ def main():
     words.add_argument("--seconds", type=float, default=1, help="how long each figure is measured, at the least")
     words = words.parse_args()
     service = Service(str(Path(words.benchmark).resolve()), str(Path(words.program).resolve()), words.seconds)
+    held = True
     for name, table in TABLES.items():
         if not words.only or words.only in name:
             print(f"## {name}\n")
-            table(service)
+            held = table(service) is not False and held
+    if not held:
+        sys.exit(1)
 
 
 if __name__ == "__main__":

@@ -1,6 +1,7 @@
 """The tables of many clients at once: `serve` without --accept, by `wrk` and by the client of the other tables.
 
-Each table prints its figures with their marks, and gives whether all of them hold.
+Each table prints its figures with their marks, and gives whether all of them hold. Where a server waited for its processor for
+more than a few hundredths of the time (`Waited`), something else ran there, and the figures say nothing.
 """
 
 import re
@@ -80,10 +81,10 @@ def prepared(service, *options):
 
 
 def each_request(server, request, connections, seconds):
-    """What `wrk` told, and the server's processor time of a request."""
-    before = server.processor_time()
+    """What `wrk` told, the server's processor time of a request, and the part of the time in which it waited for a processor."""
+    before, waited = server.processor_time(), server.waited()
     asked = wrk(server, request, connections, seconds)
-    return asked, (server.processor_time() - before) / asked.requests
+    return asked, (server.processor_time() - before) / asked.requests, (server.waited() - waited) / seconds
 
 
 def nginx_table(service):
@@ -95,13 +96,14 @@ def nginx_table(service):
                 sys.exit("nginx: another reply")
         for connections in CONNECTIONS:
             runs = [[each_request(server, request, connections, whole(service.seconds)) for server in (ours, theirs)] for _ in range(TRIES)]
-            part = median(mine.rate / other.rate for (mine, _), (other, _) in runs)
+            part = median(mine.rate / other.rate for (mine, *_), (other, *_) in runs)
             rates = [f"{median(run[side][0].rate for run in runs):,.0f}" for side in (0, 1)]
             times = [time_of(median(run[side][1] for run in runs)) for side in (0, 1)]
+            waits = [f"{median(run[side][2] for run in runs):.0%}" for side in (0, 1)]
             held = held and part >= LEAST_OF_NGINX
-            rows.append([str(connections), *rates, *times, f"{part:.2f}", f"at least {LEAST_OF_NGINX}", word(part >= LEAST_OF_NGINX)])
-    head = ["Connections", "serve, a second", "nginx, a second", "Processor, serve", "Processor, nginx", "Ratio", "Mark", ""]
-    print_table(head, rows)
+            rows.append([str(connections), *rates, *times, *waits, f"{part:.2f}", f"at least {LEAST_OF_NGINX}", word(part >= LEAST_OF_NGINX)])
+    head = ["Connections", "serve, a second", "nginx, a second", "Processor, serve", "Processor, nginx"]
+    print_table([*head, "Waited, serve", "Waited, nginx", "Ratio", "Mark", ""], rows)
     return held
 
 
@@ -263,14 +265,14 @@ def large_table(service):
     with prepared(service) as (server, request):
         for name, make, pause, is_marked in LARGE:
             with putting(server, make(), pause) if make else nullcontext([]) as took:
-                asked = wrk(server, request, ASKING, whole(3 * service.seconds))
+                asked, _, waited = each_request(server, request, ASKING, whole(3 * service.seconds))
             holds = asked.p99 < MOST_LATENCY or not is_marked
             held = held and holds
             put = [str(len(took)), time_of(median(took))] if took else ["-", "-"]
             mark = [f"p99 below {time_of(MOST_LATENCY)}", word(holds)] if is_marked else ["-", "-"]
             latencies = [time_of(each) for each in (asked.median, asked.p99, asked.longest)]
-            rows.append([name, *put, f"{asked.rate:,.0f}", *latencies, *mark])
-    head = ["One connection puts", "Puts", "A put", f"{ASKING} others, a second", "p50", "p99", "Longest", "Mark", ""]
+            rows.append([name, *put, f"{asked.rate:,.0f}", f"{waited:.0%}", *latencies, *mark])
+    head = ["One connection puts", "Puts", "A put", f"{ASKING} others, a second", "Waited", "p50", "p99", "Longest", "Mark", ""]
     print_table(head, rows)
     return held
 

@@ -88,6 +88,10 @@ class Server:
         """The seconds that it took of a processor so far."""
         return int(Path(f"/proc/{self.pid}/schedstat").read_text().split()[0]) / 1e9
 
+    def waited(self):
+        """The seconds that it waited so far for a processor that something else had."""
+        return int(Path(f"/proc/{self.pid}/schedstat").read_text().split()[1]) / 1e9
+
     def resident(self):
         """Its resident memory, in MB."""
         return int(re.search(r"VmRSS:\s*(\d+) kB", Path(f"/proc/{self.pid}/status").read_text())[1]) / 1000

@@ -17,6 +17,8 @@ REPLY = re.compile(
 )
 NO_ROOM = (503, b'{"fault":30,"name":"NoRoom"}')
 BAD_REQUEST = (400, b'{"fault":37,"name":"BadRequest"}')
+UNKNOWN_TENANT = (403, b'{"fault":24,"name":"UnknownTenant"}')
+BAD_ROUTE = (404, b'{"fault":36,"name":"BadRoute"}')
 
 
 def compact(value):

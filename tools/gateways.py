@@ -61,18 +61,6 @@ def free_port():
         return free.getsockname()[1]
 
 
-def listens(port, process):
-    for _ in range(500):
-        if process.poll() is not None:
-            raise OSError(f"{process.args[0]} ended with status {process.returncode}")
-        try:
-            socket.create_connection((HOST, port), timeout=1).close()
-            return
-        except OSError:
-            time.sleep(0.02)
-    raise OSError(f"{process.args[0]} doesn't listen")
-
-
 class Gateway:
     """A server, and the gateway before it, as long as the `with` statement lasts."""
 
@@ -96,14 +84,32 @@ class Gateway:
         self.told = open(f"{folder}/told", "w+b")
         self.server = subprocess.Popen([program, *words], stdin=subprocess.PIPE, stderr=self.told)
         start = [word.format(folder=folder) for word in GATEWAYS[name][0]]
-        self.gateway = subprocess.Popen([*start, f"{folder}/configuration"], stdin=subprocess.DEVNULL)
+        self.said = open(f"{folder}/said", "w+b")
+        words = [*start, f"{folder}/configuration"]
+        self.gateway = subprocess.Popen(words, stdin=subprocess.DEVNULL, stdout=self.said, stderr=self.said)
         self.context = ssl.create_default_context()
         self.context.check_hostname = False
         self.context.verify_mode = ssl.CERT_NONE
 
     def __enter__(self):
-        listens(self.port, self.gateway)
-        return self
+        try:
+            self.wait()
+            return self
+        except OSError:
+            self.__exit__()
+            raise
+
+    def wait(self):
+        """Waits until the gateway listens."""
+        for _ in range(500):
+            if self.gateway.poll() is not None:
+                self.said.seek(0)
+                raise OSError(f"{self.name} ended with status {self.gateway.returncode}: {self.said.read().decode()}")
+            try:
+                return socket.create_connection((HOST, self.port), timeout=1).close()
+            except OSError:
+                time.sleep(0.02)
+        raise OSError(f"{self.name} doesn't listen")
 
     def __exit__(self, *_):
         for process in (self.gateway, self.server):
@@ -111,6 +117,7 @@ class Gateway:
                 process.send_signal(signal.SIGTERM)
             process.wait(timeout=SECONDS)
         self.told.close()
+        self.said.close()
 
     def client(self):
         return http.client.HTTPSConnection(HOST, self.port, timeout=SECONDS, context=self.context)
@@ -246,7 +253,10 @@ def main():
     for name in [asked_for.only] if asked_for.only else GATEWAYS:
         if shutil.which(GATEWAYS[name][0][0]) is None:
             sys.exit(f"{GATEWAYS[name][0][0]} is not there")
-        faults, line = trial(os.path.abspath(asked_for.program), name, min(asked_for.requests, 1_000_000))
+        try:
+            faults, line = trial(os.path.abspath(asked_for.program), name, min(asked_for.requests, 1_000_000))
+        except OSError as error:
+            faults, line = [str(error)], "it doesn't run"
         failed |= bool(faults)
         for fault in faults[:20]:
             print(f"WRONG   {name}: {fault}")

@@ -66,7 +66,7 @@ class Client:
         self.wanted = deque()  # (turn, [request, reply], None) or (None, None, reply)
         self.rest = b""
         self.events = 0
-        self.moved = now
+        self.moved = self.sent = now  # when a byte came or went last, and when one went
         self.is_waiting = self.is_deaf = False  # it sends nothing for now; it takes nothing for now
         self.is_last = False  # it takes no further turn
         self.half_closes = False  # once all is sent
@@ -164,7 +164,7 @@ class Soak:
                 client.out.clear()  # the server was first
                 break
             del client.out[:count]
-            client.moved = time.monotonic()
+            client.moved = client.sent = time.monotonic()
             if client.in_pieces and self.draw.random() < 0.2:
                 self.wait(client)
         if not client.out and client.half_closes:
@@ -206,8 +206,8 @@ class Soak:
         if client.wanted or client.rest or not client.ends_by_server:
             raise OSError(f"the server ended a connection that is {client.end}: {len(client.wanted)} replies to come, "
                           f"{client.rest[:80]!r}")
-        if client.end == "left idle" and time.monotonic() - client.moved < IDLE - 1:
-            self.note(f"a connection was ended as idle after {time.monotonic() - client.moved:.1f} seconds")
+        if client.end == "left idle" and time.monotonic() - client.sent < IDLE - 1:
+            self.note(f"a connection was ended as idle {time.monotonic() - client.sent:.1f} seconds after a byte was sent")
         self.leave(client)
 
     def replied(self, client, reply):

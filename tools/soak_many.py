@@ -12,6 +12,7 @@ and not before its time.
 """
 import heapq
 import random
+import re
 import selectors
 import socket
 import struct
@@ -85,7 +86,7 @@ class Soak:
         self.asking = deque(tenants)
         self.checks = {}
         self.pool = ThreadPoolExecutor(2)
-        self.connections = self.compared = self.wrong = self.rounds = self.unknown = self.replies = 0
+        self.connections = self.compared = self.wrong = self.rounds = self.unknown = self.replies = self.closings = 0
         self.ends = dict.fromkeys(ENDS, 0)
         self.statuses = {}
         self.memory = []  # (seconds, KB)
@@ -218,6 +219,7 @@ class Soak:
         turn, pair, fixed = client.wanted.popleft()
         if fixed:
             self.compared += 1
+            self.closings += fixed == BAD_REQUEST
             if reply != fixed:
                 self.note(f"{reply!r} in place of {fixed!r}, on a connection that is {client.end}")
             return
@@ -459,5 +461,8 @@ def judge_told(it, status, told):
     if len(faults) > early:
         it.note(f"the server told {len(faults)} faults, {early} connections ended early")
     print(f"the server told {len(faults):,} faults, and at its end: {lines[-1] if lines else ''}")
-    if not lines or not lines[-1].startswith(f"connections: {it.connections}, requests: "):
+    counts = re.fullmatch(r"connections: (\d+), requests: (\d+), refusals: \d+", lines[-1] if lines else "")
+    if counts is None or int(counts[1]) != it.connections:
         it.note(f"{it.connections} connections were opened")
+    elif not it.replies - it.closings <= int(counts[2]) <= it.replies - it.closings + it.unknown:
+        it.note(f"{it.replies - it.closings:,} requests were answered, and up to {it.unknown:,} more")

@@ -6,9 +6,9 @@
 It reads the configuration of nginx and of HAProxy from the page, changes its ports and the paths of the certificate and nothing
 else, and starts `serve` and the gateway on the loopback address. 20 tenants send N requests together (10,000 if it isn't said),
 each on a connection of its own over TLS: puts and validations, and some batches, bundles and deletes. Each reply has to have the
-status and the body that `run` gives for the tenant's requests alone. Then come a chunked body, one that is too long, and one of
-the longest: what docs/HTTP.md says of them has to hold. The server tells at its end how many connections the gateway opened to
-it: they have to be kept open, so there are fewer than 200.
+status and the body that `run` gives for the tenant's requests alone. Then come a chunked body, one of the longest, one that is
+too long, and another method: what docs/HTTP.md says of them has to hold. The server tells at its end how many connections the
+gateway opened to it: they have to be kept open, so there are fewer than 200.
 
 The status is 1 where a reply is another. It needs nginx and HAProxy, as Debian packs them, `openssl`, and the rights of root.
 """
@@ -194,8 +194,8 @@ def longest_put(size):
     return b'{"title":"' + b"t" * (size - 12) + b'"}'
 
 
-def bodies(gateway, chunked):
-    """What isn't as the page says of chunked and of long bodies."""
+def turned(gateway, chunked):
+    """What isn't as the page says of chunked and of long bodies, and of another method."""
     for name, statuses, body in (
         ("a chunked body", chunked, (b'{"title":', b'"t"}')),
         ("the longest body", (200, 201), longest_put(LONGEST)),
@@ -209,6 +209,11 @@ def bodies(gateway, chunked):
         client.close()
         if status not in statuses:
             yield f"{name}: {status}"
+    client = gateway.client()
+    client.request("PATCH", f"/schemas?uri={SITE}/large", b"{}", {"X-Tenant-Key": "large"})
+    if (status := client.getresponse().status) != 405:
+        yield f"another method: {status}"
+    client.close()
 
 
 def trial(program, name, count):
@@ -229,7 +234,7 @@ def trial(program, name, count):
             for thread in threads:
                 thread.join()
             took = time.monotonic() - begun
-            faults += bodies(gateway, GATEWAYS[name][1])
+            faults += turned(gateway, GATEWAYS[name][1])
             status, told = gateway.end()
         for key in keys:
             faults += compared(program, folder, key, asking[key], got[key])

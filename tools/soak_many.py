@@ -4,7 +4,8 @@ Each tenant asks in turns of one or more requests. A turn goes, in one piece or 
 asked on it, and the tenant's next one begins once all its replies have come: so the order of a tenant's requests is known,
 though they come on all connections. After some hundred requests the tenant deletes all that it has, and a `run` for it alone is
 given the same requests in that order. Where a connection was reset while a turn was on it, some first part of the turn's
-requests was done, each wholly: the replies that follow have to be those behind one such part.
+requests was done, each wholly: the tenant asks again once the server has told that this connection ended, as until then it may
+read what was sent before, and the replies that follow have to be those behind one such part.
 
 A connection takes some turns, and then ends in one of the ways of `ENDS`; another is opened at once in its place. What ends a
 connection is no tenant's request, and has its own reply, or none. One that is left idle has to be ended by the server in time,
@@ -29,6 +30,7 @@ from talks import BAD_REQUEST, BAD_ROUTE, UNKNOWN_TENANT
 MOST_IN_FLIGHT = 3  # turns on one connection
 IDLE = 8  # seconds after which the server ends a connection on which nothing moves
 LATE = 6  # seconds that it may be late with that
+AWAITED = 30  # seconds within which it has to tell that a connection was reset
 ENDS = {
     "closed": 8,  # by the client, after all replies have come
     "half-closed": 12,  # behind the last request
@@ -57,8 +59,9 @@ class Turn:
 class Client:
     """A connection: what is to be sent on it, and whose reply is to come next."""
 
-    def __init__(self, draw, now, stream):
+    def __init__(self, draw, now, stream, number):
         self.stream = stream
+        self.number = number  # the server's, which counts from 1
         self.turns_left = draw.randrange(1, 13)
         self.end = draw.choices(list(ENDS), list(ENDS.values()))[0]
         self.in_pieces = draw.random() < 0.5
@@ -85,6 +88,7 @@ class Soak:
         self.clients, self.takers = set(), []
         self.asking = deque(tenants)
         self.checks = {}
+        self.lost = {}  # of connections that were reset while asked the tenants, by the server's numbers
         self.pool = ThreadPoolExecutor(2)
         self.connections = self.compared = self.wrong = self.rounds = self.unknown = self.replies = self.closings = 0
         self.ends = dict.fromkeys(ENDS, 0)
@@ -106,8 +110,8 @@ class Soak:
         stream = self.server.connect()
         stream.setsockopt(socket.IPPROTO_TCP, socket.TCP_NODELAY, 1)
         stream.setblocking(False)
-        client = Client(self.draw, time.monotonic(), stream)
         self.connections += 1
+        client = Client(self.draw, time.monotonic(), stream, self.connections)
         self.clients.add(client)
         self.takers.append(client)
         self.listen(client)
@@ -144,7 +148,21 @@ class Soak:
         self.unknown += sum(1 for turn, _, _ in client.wanted if turn)
         for turn in turns:
             turn.tenant.is_unknown = True
-            self.later(0.1, lambda tenant=turn.tenant: self.asking.append(tenant))
+            self.await_end(client.number, turn.tenant)
+
+    def await_end(self, number, tenant):
+        """Lets the tenant ask again once the server has told that this connection ended: until then it may still read what was
+        sent before the reset."""
+        def judge():
+            if number in self.lost:
+                raise OSError(f"the server didn't tell the end of connection {number}, which was reset")
+        self.lost[number] = tenant
+        self.later(AWAITED, judge)
+
+    def judge_lost(self):
+        for number in self.server.lost() if self.lost else []:
+            if number in self.lost:
+                self.asking.append(self.lost.pop(number))
 
     def push(self, client, bytes_sent):
         client.out += bytes_sent
@@ -382,6 +400,7 @@ class Soak:
         for _ in range(len(self.asking)):
             self.ask(self.asking.popleft())
         self.judge_checks()
+        self.judge_lost()
         for key, events in self.selector.select(0.002):
             client = key.data
             if events & selectors.EVENT_READ and not client.is_gone:

@@ -27,6 +27,7 @@ class Server:
         self.library = write(f"{folder}/library.json", LIBRARY)
         files = ["--tenants", write(f"{folder}/tenants.json", {"tenants": list(tenants.values())}), "--library", self.library]
         self.told = open(f"{folder}/told", "w+b")
+        self.heard = open(f"{folder}/told", "rb")
         with socket.socket() as free:
             free.bind((HOST, 0))
             self.port = free.getsockname()[1]
@@ -60,6 +61,19 @@ class Server:
             raise OSError(f"run ended with status {done.returncode}: {done.stderr!r}")
         return talks.replies(done.stdout)
 
+    def lost(self):
+        """The numbers of the connections that it told as ended by a fault since the last call; they count from 1 in the order
+        in which they were made."""
+        found = []
+        while True:
+            at = self.heard.tell()
+            line = self.heard.readline()
+            if not line.endswith(b"\n"):
+                self.heard.seek(at)
+                return found
+            if told := re.match(rb"connection (\d+): ", line):
+                found.append(int(told[1]))
+
     def end(self, seconds=0):
         """Ends standard input, waits so long for the server's end, and then ends it. Gives its status, and what it told."""
         self.process.stdin.close()
@@ -68,6 +82,7 @@ class Server:
         except subprocess.TimeoutExpired:
             self.process.send_signal(signal.SIGTERM)
         status = self.process.wait()
+        self.heard.close()
         self.told.seek(0)
         with self.told:
             return status, self.told.read()

@@ -49,6 +49,8 @@ def judged(server, key, own):
                 lines.append(f"{part[:300]!r}: {reply[0]} {reply[1][:300]!r}, alone {reply_alone[0]} {reply_alone[1][:300]!r}")
         if not lines:
             break
+    if lines and unknown:
+        lines.append(f"in that round {len(unknown)} requests were on a connection that was reset")
     return len(own) - len(unknown), lines
 
 

@@ -8,3 +8,4 @@ pub mod AnsweredLists
 pub mod Changed
 pub mod Happened
 pub mod SameHistory
+pub mod Standings

@@ -1,3 +1,5 @@
+pub mod Found
+pub mod Room
 pub mod Phases
 pub mod HeldBytes
 pub mod Messages

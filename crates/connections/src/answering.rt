@@ -4,6 +4,7 @@ ghost use Rattle.http_definitions.specs.ReplyTexts.{reply_text};
 ghost use Rattle.requests.specs.Views.{reply_view};
 ghost use Rattle.connections.specs.Messages.{HasMessage};
 ghost use Rattle.connections.specs.Progress.{AnswersAt, MayAnswer, Replies};
+ghost use Rattle.connections.specs.Found.{FindsNoMore};
 
 use crate::handlers::{Exchange, Handler};
 use crate::messages::{key_at, request_at};
@@ -22,9 +23,11 @@ fn reply_to<H: Handler>(
 ) -> Result<Reply, Fault>
     requires { HasMessage bytes.now heading }
     ensures ok { IfOk result
-        (λ r. AnswersAt H.answers bytes.now heading handler.old (reply_view r) handler.new) }
+        (λ r. AnswersAt H.answers bytes.now heading (H.state handler.old) (reply_view r)
+        (H.state handler.new)) }
     ensures err { IfErr result (λ f. f ≡ Fault.NoRoom) }
     ensures unasked { OnErr result (handler.new ≡ handler.old) }
+    ensures found { FindsNoMore H.finds handler.old handler.new }
 {
     match request_at(alloc, bytes, heading) {
         Err(fault) => Err(fault),
@@ -80,10 +83,12 @@ pub fn answer<H: Handler>(
 ) -> Result<(), Fault>
     requires { HasMessage bytes.now heading }
     ensures ok { OnOk result
-        (Replies H.answers bytes.now heading handler.old (string_bytes out.old)
-        handler.new (string_bytes out.new)) }
+        (Replies H.answers bytes.now heading (H.state handler.old) (string_bytes out.old)
+        (H.state handler.new) (string_bytes out.new)) }
     ensures err { IfErr result (λ f. f ≡ Fault.NoRoom) }
-    ensures some { OnErr result (MayAnswer H.answers bytes.now heading handler.old handler.new) }
+    ensures some { OnErr result
+        (MayAnswer H.answers bytes.now heading (H.state handler.old) (H.state handler.new)) }
+    ensures found { FindsNoMore H.finds handler.old handler.new }
 {
     match reply_to(alloc, handler, bytes, heading) {
         Err(fault) => Err(fault),

@@ -1,6 +1,10 @@
 //! The front of a connection's bytes.
 ghost use Rattle.std.specs.Prelude.{◌≡◌, ◌≤◌, [], length, take, drop};
+ghost use Rattle.connections.specs.Room.{KeepsLittle};
 ghost use Rattle.http_definitions.specs.Streams.{without_line_ends, is_line_end};
+
+/// How much room stays with a connection that holds nothing, in bytes.
+const MOST_SPARE: usize = 4096;
 
 // Whether the byte is a part of a line end.
 fn is_line_end(byte: u8) -> bool
@@ -40,5 +44,17 @@ pub fn drop_front(bytes: &mut Vec<u8>, position: usize)
         let rest = bytes.len() - position;
         bytes.copy_within(position.., 0);
         bytes.truncate(rest);
+    }
+}
+
+/// Gives back the room that the bytes don't need. Where there are none, at most `MOST_SPARE` stays, for the next piece.
+pub fn give_back(bytes: &mut Vec<u8>)
+    ensures same { bytes.new.items ≡ bytes.old.items }
+    ensures little { KeepsLittle bytes.new }
+{
+    if bytes.is_empty() && bytes.capacity() > MOST_SPARE {
+        bytes.shrink_to_fit();
+    } else if bytes.len() < bytes.capacity() / 4 {
+        bytes.shrink_to(MOST_SPARE);
     }
 }

@@ -3,9 +3,11 @@ ghost use Rattle.std.specs.Prelude.{◌≡◌, ◌++◌, [], IfOk, IfErr, OnOk, 
 ghost use Rattle.http_definitions.specs.Streams.{without_line_ends};
 ghost use Rattle.connections.specs.HeldBytes.{IsHeld-prop};
 ghost use Rattle.connections.specs.Phases.{IsHeld, IsOn};
+ghost use Rattle.connections.specs.Room.{KeepsLittle};
 ghost use Rattle.connections.specs.Progress.{Tells, TakesSome};
+ghost use Rattle.connections.specs.Found.{FindsNoMore};
 
-use crate::buffers::drop_front;
+use crate::buffers::{drop_front, give_back};
 use crate::handlers::Handler;
 use crate::phases::Phase;
 use crate::taking::{Ended, take_all};
@@ -15,12 +17,14 @@ use request_heads::Search;
 use std::alloc::Global;
 use std::mem;
 
-/// What an open connection holds: bytes that aren't answered yet, and how far they were read.
+/// What an open connection holds: bytes that aren't answered yet, and how far they were read. Where there are none, it
+/// keeps little room for more.
 #[derive(Drop)]
 pub struct Held {
     buffer: Vec<u8>,
     phase: Phase,
     ghost held: { IsHeld buffer.items phase } by { IsHeld-prop buffer.items phase },
+    ghost little: { KeepsLittle buffer },
 }
 
 /// A connection.
@@ -67,12 +71,14 @@ impl Held {
         piece: &[u8],
     ) -> Result<Connection, Fault>
         ensures ok { IfOk result
-            (λ c. Tells H.answers (self.buffer.items ++ piece.now) handler.old
+            (λ c. Tells H.answers (self.buffer.items ++ piece.now) (H.state handler.old)
             (string_bytes out.old)
-            (connection_view c) handler.new (string_bytes out.new)) }
+            (connection_view c) (H.state handler.new) (string_bytes out.new)) }
         ensures err { IfErr result (λ f. f ≡ Fault.NoRoom) }
         ensures some { OnErr result
-            (TakesSome H.answers (self.buffer.items ++ piece.now) handler.old handler.new) }
+            (TakesSome H.answers (self.buffer.items ++ piece.now)
+            (H.state handler.old) (H.state handler.new)) }
+        ensures found { FindsNoMore H.finds handler.old handler.new }
     {
         match self.with_piece(piece) {
             Err(fault) => Err(fault),
@@ -81,6 +87,7 @@ impl Held {
                 Ok(Ended::Closes) => Ok(Connection::Closed),
                 Ok(Ended::Holds(taken, reached)) => {
                     drop_front(&mut buffer, taken);
+                    give_back(&mut buffer);
                     Ok(Connection::Holding(Held {
                         buffer,
                         phase: reached,
@@ -132,12 +139,14 @@ impl Connection {
         out: &mut String,
     ) -> Result<(), Fault>
         ensures ok { OnOk result
-            (Feeds H.answers (connection_view self.old) piece.now handler.old
-            (string_bytes out.new) (connection_view self.new) handler.new) }
+            (Feeds H.answers (connection_view self.old) piece.now (H.state handler.old)
+            (string_bytes out.new) (connection_view self.new) (H.state handler.new)) }
         ensures err { IfErr result (λ f. f ≡ Fault.NoRoom) }
         ensures closed { OnErr result (connection_view self.new ≡ closed) }
         ensures some { OnErr result
-            (FeedsSome H.answers (connection_view self.old) piece.now handler.old handler.new) }
+            (FeedsSome H.answers (connection_view self.old) piece.now
+            (H.state handler.old) (H.state handler.new)) }
+        ensures found { FindsNoMore H.finds handler.old handler.new }
     {
         out.clear();
         match mem::replace(self, Connection::Closed) {

@@ -1,7 +1,9 @@
 //! What answers requests.
+ghost use Rattle.std.specs.Prelude.{◌≡◌, ◌⊎◌, ⊤, OnOk, OnErr};
 ghost use Rattle.definitions.specs.Values.{Text};
 ghost use Rattle.definitions.specs.Registries.{Request, Reply};
 ghost use Rattle.requests.specs.Views.{request_view, reply_view};
+ghost use Rattle.connections.specs.Found.{FindsNoMore, FindsOnly};
 
 use request_heads::Method;
 use requests as asked;
@@ -19,15 +21,50 @@ pub struct Exchange<'a> {
     pub reply: &'a [u8],
 }
 
+/// Why what was answered couldn't be made durable.
+#[derive(Clone, Copy, Debug, Drop, PartialEq)]
+pub enum Unsettled {
+    /// Memory lacked.
+    NoRoom,
+    /// There is no room where it is kept.
+    Full,
+    /// A call of the system failed.
+    Failed,
+    /// An earlier change couldn't be written, so that what is kept is behind what was answered.
+    Behind,
+}
+
 /// Whatever answers requests.
 pub trait Handler {
-    /// From one state a request with this key may be answered so, and leave the other state.
-    ghost answers: { Self → Text → Request → Reply → Self → Type 0 };
+    /// What decides its answers, such as the registries.
+    ghost State: { Type 0 };
 
-    /// Answers a request with a key. Want of memory is a reply like any other.
+    /// What decides the answers of this one.
+    ghost state: { Self → State };
+
+    /// From one state a request with this key may be answered so, and leave the other state.
+    ghost answers: { State → Text → Request → Reply → State → Type 0 };
+
+    /// After a crash at this moment an opening may find this state.
+    ghost finds: { Self → State → Type 0 };
+
+    /// It keeps what it answered; one that keeps nothing (`⊥`) never fails to settle.
+    ghost keeps: { Type 0 } = { ⊤ };
+
+    /// Answers a request with a key. Want of memory is a reply like any other. What an opening may find stays.
     fn apply(&mut self, alloc: Global, key: &str, request: &asked::Request) -> asked::Reply
-        ensures { answers self.old key.now (request_view request.now)
-            (reply_view result) self.new };
+        ensures answered { answers (state self.old) key.now (request_view request.now)
+            (reply_view result) (state self.new) }
+        ensures found { FindsNoMore finds self.old self.new };
+
+    /// Makes durable what was answered: an opening finds this state alone then. Where that fails, nothing that was answered
+    /// since the last time may be told; an opening may find what it might have found before, or this state.
+    fn settle(&mut self) -> Result<(), Unsettled>
+        ensures state { state self.new ≡ state self.old }
+        ensures kept { OnOk result (FindsOnly finds self.new (state self.new)) }
+        ensures crash { (s : State) → finds self.new s
+            → finds self.old s ⊎ (s ≡ state self.old) }
+        ensures err { OnErr result keeps };
 
     /// What is noted from here on is of this connection: a piece of its stream is taken. This changes nothing that is
     /// answered.

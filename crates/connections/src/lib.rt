@@ -7,12 +7,14 @@ mod connection;
 mod events;
 mod handlers;
 mod messages;
+mod outage;
 mod phases;
 mod sessions;
 mod taking;
 mod turns;
 
 pub use events::{cuts_decide_nothing, events_are_answered};
-pub use handlers::{Exchange, Handler};
+pub use handlers::{Exchange, Handler, Unsettled};
+pub use outage::Outage;
 pub use request_heads::Method;
 pub use sessions::Sessions;

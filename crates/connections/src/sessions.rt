@@ -1,8 +1,9 @@
 //! Connections by their ids.
-ghost use Rattle.std.specs.Prelude.{◌≡◌, ℕ, None, string_bytes};
+ghost use Rattle.std.specs.Prelude.{◌≡◌, ◌⊎◌, ℕ, None, OnOk, OnErr, string_bytes};
+ghost use Rattle.connections.specs.Found.{FindsNoMore, FindsOnly};
 
 use crate::connection::Connection;
-use crate::handlers::Handler;
+use crate::handlers::{Handler, Unsettled};
 use faults::Fault;
 use std::alloc::Global;
 use std::collections::BTreeMap;
@@ -31,6 +32,14 @@ impl<H> Sessions<H> {
             handler,
             connections: BTreeMap::new(alloc),
         }
+    }
+
+    /// What answers, once no connection is served any more.
+    pub fn into_handler(self) -> H
+        ensures { result ≡ handler_of self }
+    {
+        let Sessions { handler, .. } = self;
+        handler
     }
 
     /// Opens a connection. The errors are [`Fault::IdInUse`] and want of memory, [`Fault::NoRoom`]; then nothing changes.
@@ -93,8 +102,10 @@ impl<H: Handler> Sessions<H> {
     /// [`cuts_decide_nothing`](crate::cuts_decide_nothing).
     pub fn feed(&mut self, alloc: Global, id: u64, piece: &[u8]) -> Result<Vec<u8>, Fault>
         ensures fed { IsAnswered H.answers (connection_at self.old id) piece.now
-            (handler_of self.old) result (connection_at self.new id) (handler_of self.new) }
+            (H.state (handler_of self.old)) result
+            (connection_at self.new id) (H.state (handler_of self.new)) }
         ensures others { OthersStay id self.old self.new }
+        ensures found { FindsNoMore H.finds (handler_of self.old) (handler_of self.new) }
     {
         let mut out = String::new(alloc);
         match self.feed_into(alloc, id, piece, &mut out) {
@@ -112,9 +123,11 @@ impl<H: Handler> Sessions<H> {
         piece: &[u8],
         out: &mut String,
     ) -> Result<(), Fault>
-        ensures fed { IsFed H.answers (connection_at self.old id) piece.now (handler_of self.old)
-            result (string_bytes out.new) (connection_at self.new id) (handler_of self.new) }
+        ensures fed { IsFed H.answers (connection_at self.old id) piece.now
+            (H.state (handler_of self.old)) result (string_bytes out.new)
+            (connection_at self.new id) (H.state (handler_of self.new)) }
         ensures others { OthersStay id self.old self.new }
+        ensures found { FindsNoMore H.finds (handler_of self.old) (handler_of self.new) }
     {
         match self.connections.get_mut(&id) {
             Some(connection) => {
@@ -123,5 +136,19 @@ impl<H: Handler> Sessions<H> {
             }
             None => Err(Fault::NoSession),
         }
+    }
+
+    /// Makes durable what was answered, as [`Handler::settle`] does. Nothing that was answered since the last time may be
+    /// told before, nor where it fails.
+    pub fn settle(&mut self) -> Result<(), Unsettled>
+        ensures connections { (k : ℕ) → connection_at self.new k ≡ connection_at self.old k }
+        ensures state { H.state (handler_of self.new) ≡ H.state (handler_of self.old) }
+        ensures kept { OnOk result
+            (FindsOnly H.finds (handler_of self.new) (H.state (handler_of self.new))) }
+        ensures crash { (s : H.State) → H.finds (handler_of self.new) s
+            → H.finds (handler_of self.old) s ⊎ (s ≡ H.state (handler_of self.old)) }
+        ensures err { OnErr result H.keeps }
+    {
+        self.handler.settle()
     }
 }

@@ -3,6 +3,7 @@ ghost use Rattle.std.specs.Prelude.{◌≡◌, IfOk, IfErr, OnErr, string_bytes}
 ghost use Rattle.http_definitions.specs.Streams.{without_line_ends};
 ghost use Rattle.connections.specs.Phases.{IsOn};
 ghost use Rattle.connections.specs.Progress.{IsEnd, TakesSome};
+ghost use Rattle.connections.specs.Found.{FindsNoMore};
 
 use crate::buffers::behind;
 use crate::handlers::Handler;
@@ -32,10 +33,12 @@ pub fn take_all<H: Handler>(
 ) -> Result<Ended, Fault>
     requires { IsOn (without_line_ends bytes.now) phase }
     ensures ok { IfOk result
-        (λ x. IsEnd H.answers bytes.now handler.old (string_bytes out.old)
-        x handler.new (string_bytes out.new)) }
+        (λ x. IsEnd H.answers bytes.now (H.state handler.old) (string_bytes out.old)
+        x (H.state handler.new) (string_bytes out.new)) }
     ensures err { IfErr result (λ f. f ≡ Fault.NoRoom) }
-    ensures some { OnErr result (TakesSome H.answers bytes.now handler.old handler.new) }
+    ensures some { OnErr result
+        (TakesSome H.answers bytes.now (H.state handler.old) (H.state handler.new)) }
+    ensures found { FindsNoMore H.finds handler.old handler.new }
 {
     let mut start = 0;
     let mut reached = phase;

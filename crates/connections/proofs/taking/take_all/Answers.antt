@@ -5,7 +5,7 @@ use Rattle.connections.proofs.taking.take_all.Goals as goal
 
 pub loop-start-init : goal.loop-start-init
 loop-start-init g c =
-    record { within = omega arith; on = c.requires; told = tells_nothing g.H.Handler.answers c.args.handler.now _ }
+    record { within = omega arith; on = c.requires; told = tells_nothing g.H.Handler.answers (g.H.Handler.state c.args.handler.now) _; found = λ s x. x }
 
 pub returns-in-Err-clause-some : goal.returns-in-Err-clause-some
 returns-in-Err-clause-some g c =
@@ -18,6 +18,7 @@ loop-start-preserved g c =
       within = omega (arith, done.1, length-drop c.loop-start.start c.args.bytes.now, c.loop-start.invariant.within);
       on = c.new.ensures.searched _;
       told = joined_took g.H.Handler.answers c.args.bytes.now c.loop-start.start c.in-Ok-Took.taken _ _ _ _ _ _ c.loop-start.invariant.told done.2;
+      found = λ s x. c.loop-start.invariant.found s (c.take_turn.ensures.found s x);
     }
 
 pub returns-in-Ok-Holds-clause-ok : goal.returns-in-Ok-Holds-clause-ok

@@ -6,9 +6,11 @@ use Rattle.http_definitions.specs.Connections.{Answers, Connection, holding, las
 use Rattle.connections.specs.Connected.{IsOpened, IsEnded}
 use Rattle.faults.specs.declared.Fault.{Fault}
 use Rattle.serving.specs.Transfers.{Transfer}
-use Rattle.serving.specs.Writing.{IsWriting, Writes, WritesSome}
+use Rattle.serving.specs.declared.failure.Failure.{Failure}
+use Rattle.serving.specs.declared.failure.Failure.TheVariants as failure
+use Rattle.serving.specs.Writing.{TellsBytes, Writes, WritesSome}
 use Rattle.serving.specs.Exchanges.{wire, Tells, HasEnded, IsLast}
-use Rattle.serving.specs.Serving.{IsCutOff, IsServed}
+use Rattle.serving.specs.Serving.{IsCutOff, as_failure, IsServed}
 use Rattle.serving.proofs.Exchanged.{reads_nothing, words_told, words_broken}
 
 -- ---- ids
@@ -36,10 +38,10 @@ freed id at first second third was is x y z k = by (k == id) refl
 
 -- ---- a connection that isn't opened
 pub not_opened : {S : Type 0} (answers : Answers S) (c d : Option Connection) (s t : S) (reads writes : List Transfer) (f : Fault)
-    → IsOpened c (Err f) d → t ≡ s → IsServed answers c (wire s reads writes) (Err f) (wire t reads writes)
-not_opened answers (Some c) d s t reads writes f x e = (x.0, ap (λ u. wire u reads writes) e)
+    → IsOpened c (Err f) d → t ≡ s → IsServed answers c (wire s reads writes) (Err (failure.Fault f)) (wire t reads writes)
+not_opened answers (Some c) d s t reads writes f x e = (ap as_failure x.0, ap (λ u. wire u reads writes) e)
 not_opened answers None d s t reads writes f x e =
-    subst (λ u. IsServed answers None (wire s reads writes) (Err f) (wire u reads writes)) (sym e)
+    subst (λ u. IsServed answers None (wire s reads writes) (Err (failure.Fault f)) (wire u reads writes)) (sym e)
     (inl (inr (inr (x.0, inl (holding [], [], inl refl, reads_nothing answers (wire s reads writes))))))
 
 -- ---- one that is cut off
@@ -49,7 +51,7 @@ last_of last now x = elim x [
   | inr e ↦ inl e.0
 ]
 
-pub served_cut : {S : Type 0} (answers : Answers S) (c d : Option Connection) (u : Unit {0}) (s s1 s2 t : S) (reads writes more others : List Transfer) (f : Fault)
+pub served_cut : {S : Type 0} (answers : Answers S) (c d : Option Connection) (u : Unit {0}) (s s1 s2 t : S) (reads writes more others : List Transfer) (f : Failure)
     → IsOpened c (Ok u) d → s1 ≡ s → t ≡ s2 → IsCutOff answers (wire s1 reads writes) f (wire s2 more others)
     → IsServed answers c (wire s reads writes) (Err f) (wire t more others)
 served_cut answers (Some c) d u s s1 s2 t reads writes more others f x e h y = absurd (cc x.0)
@@ -60,7 +62,7 @@ served_cut answers None d u s s1 s2 t reads writes more others f x e h y =
 -- its last words couldn't be made
 pub words_lack_room : {S : Type 0} (answers : Answers S) (d e : Option Connection) (now : Connection) (last : List Transfer) (s t : S) (reads writes more others : List Transfer) (f : Fault)
     → d ≡ Some now → HasEnded last now → Tells answers (wire s reads writes) last now (wire t more others) → IsEnded d (Err f) e
-    → IsCutOff answers (wire s reads writes) f (wire t more others)
+    → IsCutOff answers (wire s reads writes) (failure.Fault f) (wire t more others)
 words_lack_room answers d e now last s t reads writes more others f at ended x y =
     let lacks = subst (λ k. IsEnded k (Err f) e) at y in
     inl (inr (inr (lacks.0, inl (now, last, last_of last now ended, x))))
@@ -70,15 +72,15 @@ pub words_of : (c e : Option Connection) (now : Connection) (out : Vec ℕ Globa
 words_of c e now out at x = (subst (λ k. IsEnded k (Ok out) e) at x).0
 
 pub served_words : {S : Type 0} (answers : Answers S) (c d : Option Connection) (u : Unit {0}) (now : Connection) (last : List Transfer) (s s1 s2 t : S)
-    (reads writes more others ends : List Transfer) (words : Text) (r : Result (Unit {0}) Fault)
+    (reads writes more others ends : List Transfer) (words : Text) (r : Result (Unit {0}) Failure)
     → IsOpened c (Ok u) d → s1 ≡ s → t ≡ s2 → HasEnded last now → Tells answers (wire s1 reads writes) last now (wire s2 more others)
-    → words ≡ last_words now → IsWriting others words r ends → IsServed answers c (wire s reads writes) r (wire t more ends)
+    → words ≡ last_words now → TellsBytes others words r ends → IsServed answers c (wire s reads writes) r (wire t more ends)
 served_words answers (Some c) d u now last s s1 s2 t reads writes more others ends words r x e h ended y w z = absurd (cc x.0)
 served_words answers None d u now last s s1 s2 t reads writes more others ends words (Ok v) x e h ended y w z =
     subst (λ v. IsServed answers None (wire v reads writes) (Ok tt) (wire t more ends)) e
     (subst (λ v. IsServed answers None (wire s1 reads writes) (Ok tt) (wire v more ends)) (sym h)
     (now, last, ended, words_told answers (wire s1 reads writes) last now s2 more others ends y (subst (λ b. Writes others b ends) w z)))
 served_words answers None d u now last s s1 s2 t reads writes more others ends words (Err f) x e h ended y w z =
-    subst (λ v. IsServed answers None (wire v reads writes) (Err f) (wire t more ends)) e
-    (subst (λ v. IsServed answers None (wire s1 reads writes) (Err f) (wire v more ends)) (sym h)
-    (inl (inr (inl (z.0, now, last, last_of last now ended, words_broken answers (wire s1 reads writes) last now s2 more others ends y (subst (λ b. WritesSome others b ends) w z.1))))))
+    subst (λ v. IsCutOff answers (wire v reads writes) f (wire t more ends)) e
+    (subst (λ v. IsCutOff answers (wire s1 reads writes) f (wire v more ends)) (sym h)
+    (subst (λ e0. IsCutOff answers (wire s1 reads writes) e0 (wire s2 more ends)) (sym z.0) (inl (inr (inl (refl, now, last, last_of last now ended, words_broken answers (wire s1 reads writes) last now s2 more others ends y (subst (λ b. WritesSome others b ends) w z.1)))))))

@@ -4,60 +4,38 @@ use Rattle.std.specs.Prelude.{IsOk}
 use Rattle.std.specs.List.{concat}
 use Rattle.std.proofs.lemmas.List.{append_cancel_left}
 use Rattle.definitions.specs.Values.{Text}
-use Rattle.http_definitions.specs.Connections.{Answers, Connection, holding, closed, Takes, last_words}
+use Rattle.http_definitions.specs.Connections.{Answers, Connection, holding, Takes, last_words}
 use Rattle.faults.specs.declared.Fault.{Fault}
-use Rattle.connections.specs.Progress.{TakesSome}
+use Rattle.faults.specs.declared.Fault.TheVariants.{ReadFailed}
+use Rattle.connections.specs.declared.handlers.Unsettled.{Unsettled}
+use Rattle.connections.specs.Found.{FindsOnly}
 use Rattle.connections.specs.Events.{Change, opens, feeds, stops, ends, breaks, Event, Standing, unopened, served, short, ended, lost, IsChange, Happen, none_is_open, piece_in, bytes_in, stream_of, sent_to}
+use Rattle.connections.proofs.Standings.{put_at, put_here, put_elsewhere, streams_on, sent_on}
 use Rattle.serving.specs.Transfers.{Transfer, transferred_bytes}
-use Rattle.serving.specs.Writing.{Writes, WritesSome, IsBroken}
-use Rattle.serving.specs.Exchanges.{Wire, wire, Reads, Tells, TellsAll, TellsSome, LacksRoom, IsLast, HasEnded, BreaksOff}
-use Rattle.serving.specs.Serving.{IsServed, IsCutOff}
-use Rattle.serving.specs.Talks.{Talk, IsTalk, IsLetGo, AreServed, Carries, CarryAll}
-use Rattle.serving.proofs.Written.{transferred-append, took_nothing, took_some}
+use Rattle.serving.specs.declared.failure.Failure.{Failure}
+use Rattle.serving.specs.declared.failure.Failure.TheVariants as failure
+use Rattle.serving.specs.Writing.{Writes, IsBroken}
+use Rattle.serving.specs.Exchanges.{Wire, wire, Reads, Tells, TellsAll, TellsSome, LeavesUntold, IsLast, HasEnded, BreaksOff, FailsSo}
+use Rattle.serving.specs.Kept.{IsFound}
+use Rattle.serving.specs.Serving.{IsServed}
+use Rattle.serving.specs.Talks.{Talk, IsTalk, IsLetGo, AreServed, IsFoundBehindTalk, IsTalkKept, Carries, CarryAll}
+use Rattle.serving.proofs.Written.{took_nothing, took_some}
 
--- ---- standings
--- one connection stands so, and the others as they did
-with_standing : ℕ → Standing → (ℕ → Standing) → ℕ → Standing
-with_standing n c at k = cond (k == n) c (at k)
-
-with_own : (n : ℕ) (c : Standing) (at : ℕ → Standing) → with_standing n c at n ≡ c
-unfolding with_standing
-with_own n c at = ap (λ b. cond b c (at n)) (eq-eqb n n refl)
-
-with_other : (n k : ℕ) (c : Standing) (at : ℕ → Standing) → k ≢ n → with_standing n c at k ≡ at k
-unfolding with_standing
-with_other n k c at other = by (k == n) refl
-  where
-    by : (b : Bool) → (k == n) ≡ b → cond b c (at k) ≡ at k
-    by true e = absurd (other (eqb-true k n e))
-    by false e = refl
-
+-- ---- events
 abbrev on : ℕ → Change → Event
 on n change = record { connection = n; change = change }
 
 happens_on : {S : Type 0} (answers : Answers S) (n : ℕ) (change : Change) (c d : Standing) (at : ℕ → Standing) (s t u : S) (es : List Event) (now : ℕ → Standing)
-    → at n ≡ c → IsChange answers c s change d t → Happen answers (with_standing n d at) t es now u → Happen answers at s (on n change ∷ es) now u
+    → at n ≡ c → IsChange answers c s change d t → Happen answers (put_at n d at) t es now u → Happen answers at s (on n change ∷ es) now u
 happens_on answers n change c d at s t u es now is x rest = (
-  with_standing n d at,
+  put_at n d at,
   t,
-  subst (λ e. IsChange answers e s change (with_standing n d at n) t) (sym is) (subst (λ e. IsChange answers c s change e t) (sym (with_own n d at)) x),
-  λ k other. with_other n k d at other,
+  subst (λ e. IsChange answers e s change (put_at n d at n) t) (sym is) (subst (λ e. IsChange answers c s change e t) (sym (put_here n d at)) x),
+  λ k other. put_elsewhere n k d at other,
   rest,
 )
 
 -- ---- events of one connection
-cond_on : (b : Bool) (p xs ys zs : Text) → zs ≡ xs ++ ys → cond b (p ++ zs) zs ≡ cond b (p ++ xs) xs ++ ys
-cond_on true p xs ys zs e = ap (λ t. p ++ t) e ∙ sym (append_assoc p xs ys)
-cond_on false p xs ys zs e = e
-
-stream_append : (k : ℕ) (es fs : List Event) → stream_of k (es ++ fs) ≡ stream_of k es ++ stream_of k fs
-stream_append k [] fs = refl
-stream_append k (e ∷ es) fs = cond_on (k == e.connection) (piece_in e.change) (stream_of k es) (stream_of k fs) _ (stream_append k es fs)
-
-sent_append : (k : ℕ) (es fs : List Event) → sent_to k (es ++ fs) ≡ sent_to k es ++ sent_to k fs
-sent_append k [] fs = refl
-sent_append k (e ∷ es) fs = cond_on (k == e.connection) (bytes_in e.change) (sent_to k es) (sent_to k fs) _ (sent_append k es fs)
-
 -- all are on one connection
 abbrev AreOn : ℕ → List Change → List Event
 AreOn n = map (on n)
@@ -118,11 +96,11 @@ heard_of reads read last ps e = ap transferred_bytes (append_cancel_left reads r
 
 -- an event more, behind which nothing is known of the other connections
 then : {S : Type 0} (answers : Answers S) (n : ℕ) (at : ℕ → Standing) (s t u : S) (piece out : Text) (c : Connection) → at n ≡ unopened → Takes answers piece s out c t
-    → (fs : List Event) (later : ℕ → Standing) → Happen answers (with_standing n (served c) (with_standing n (served (holding [])) at)) t fs later u
+    → (fs : List Event) (later : ℕ → Standing) → Happen answers (put_at n (served c) (put_at n (served (holding [])) at)) t fs later u
     → Happen answers at s (on n opens ∷ (on n (feeds piece out) ∷ fs)) later u
 then answers n at s t u piece out c is takes fs later rest =
     happens_on answers n opens unopened (served (holding [])) at s s u (on n (feeds piece out) ∷ fs) later is (refl, refl)
-    (happens_on answers n (feeds piece out) (served (holding [])) (served c) (with_standing n (served (holding [])) at) s t u fs later (with_own n (served (holding [])) at) (c, refl, takes) rest)
+    (happens_on answers n (feeds piece out) (served (holding [])) (served c) (put_at n (served (holding [])) at) s t u fs later (put_here n (served (holding [])) at) (c, refl, takes) rest)
 
 -- one of which all that was read was taken
 taken_talk : {S : Type 0} (answers : Answers S) (n : ℕ) (at : ℕ → Standing) (s t : S) (x : Talk) (reads writes others : List Transfer) (c : Connection) (last : List Transfer)
@@ -133,10 +111,10 @@ taken_talk : {S : Type 0} (answers : Answers S) (n : ℕ) (at : ℕ → Standing
 unfolding pieces_in all_bytes_in
 taken_talk answers n at s t x reads writes others c last y change d is quiet changes silent told = record {
   changes = opens ∷ (feeds (concat y.pieces) y.out ∷ (change ∷ []));
-  now = with_standing n d (with_standing n (served c) (with_standing n (served (holding [])) at));
-  others = λ k other. with_other n k d _ other ∙ with_other n k (served c) _ other ∙ with_other n k (served (holding [])) at other;
+  now = put_at n d (put_at n (served c) (put_at n (served (holding [])) at));
+  others = λ k other. put_elsewhere n k d _ other ∙ put_elsewhere n k (served c) _ other ∙ put_elsewhere n k (served (holding [])) at other;
   happened = λ fs later u rest. then answers n at s t u (concat y.pieces) y.out c is y.takes (on n change ∷ fs) later
-      (happens_on answers n change (served c) d (with_standing n (served c) (with_standing n (served (holding [])) at)) t t u fs later (with_own n (served c) _) changes rest);
+      (happens_on answers n change (served c) d (put_at n (served c) (put_at n (served (holding [])) at)) t t u fs later (put_here n (served c) _) changes rest);
   carried = record {
     heard = ap (λ p. concat y.pieces ++ (p ++ [])) silent ∙ sym (heard_of reads x.read last y.pieces y.on ∙ ap (λ q. concat y.pieces ++ q) quiet);
     unwritten = told.0;
@@ -167,10 +145,10 @@ ended_quiet last c x = elim x [
   | inr e ↦ ap transferred_bytes e.0
 ]
 
-refused : (x : Talk) (f : Fault) (rest : Text) → x.result ≡ Err f → IsOk x.result → rest ≡ []
+refused : (x : Talk) (f : Failure) (rest : Text) → x.result ≡ Err f → IsOk x.result → rest ≡ []
 refused x f rest e ok = cc (subst (λ r. IsOk r) e ok)
 
-told_talk : {S : Type 0} (answers : Answers S) (n : ℕ) (at : ℕ → Standing) (s t : S) (x : Talk) (reads writes : List Transfer) (c : Connection) (last : List Transfer) (f : Fault)
+told_talk : {S : Type 0} (answers : Answers S) (n : ℕ) (at : ℕ → Standing) (s t : S) (x : Talk) (reads writes : List Transfer) (c : Connection) (last : List Transfer) (f : Failure)
     → at n ≡ unopened → transferred_bytes last ≡ [] → x.result ≡ Err f
     → Tells answers (wire s reads writes) last c (wire t (reads ++ x.read) (writes ++ x.wrote)) → IsCarried answers n at s x t
 told_talk answers n at s t x reads writes c last f is quiet e y =
@@ -183,7 +161,7 @@ whole_talk answers n at s t x reads writes c last is ended_so y =
     taken_talk answers n at s t x reads writes (writes ++ x.wrote) c last y.0 (ends (last_words c)) ended is (ended_quiet last c ended_so) (refl, refl, refl) refl
     ([], (wrote_of writes x.wrote (y.0.out ++ last_words c) y.1 ∙ sym (append-nil (transferred_bytes x.wrote)), λ ok. refl))
 
-broken_talk : {S : Type 0} (answers : Answers S) (n : ℕ) (at : ℕ → Standing) (s t : S) (x : Talk) (reads writes : List Transfer) (c : Connection) (last : List Transfer) (f : Fault)
+broken_talk : {S : Type 0} (answers : Answers S) (n : ℕ) (at : ℕ → Standing) (s t : S) (x : Talk) (reads writes : List Transfer) (c : Connection) (last : List Transfer) (f : Failure)
     → at n ≡ unopened → IsLast last → x.result ≡ Err f → TellsSome answers (wire s reads writes) last c (wire t (reads ++ x.read) (writes ++ x.wrote))
     → IsCarried answers n at s x t
 broken_talk answers n at s t x reads writes c last f is ended_so e y =
@@ -203,20 +181,20 @@ stopped_wrote : (writes wrote middle : List Transfer) (out : Text) → Writes wr
 stopped_wrote writes wrote middle out w e = wrote_of writes wrote out (subst (λ m. Writes writes out m) (sym e) w)
 
 short_talk : {S : Type 0} (answers : Answers S) (n : ℕ) (at : ℕ → Standing) (s t : S) (x : Talk) (reads writes : List Transfer)
-    → at n ≡ unopened → LacksRoom answers (wire s reads writes) (wire t (reads ++ x.read) (writes ++ x.wrote)) → IsCarried answers n at s x t
+    → at n ≡ unopened → LeavesUntold answers (wire s reads writes) (wire t (reads ++ x.read) (writes ++ x.wrote)) → IsCarried answers n at s x t
 unfolding pieces_in all_bytes_in
 short_talk answers n at s t x reads writes is y =
     let ps = y.told.0.pieces in
     let out = y.told.0.out in
     let held = served (holding y.held) in
-    let first = with_standing n held (with_standing n (served (holding [])) at) in
+    let first = put_at n held (put_at n (served (holding [])) at) in
     record {
       changes = opens ∷ (feeds (concat ps) out ∷ (stops y.piece ∷ (breaks ∷ [])));
-      now = with_standing n lost (with_standing n short first);
-      others = λ k other. with_other n k lost _ other ∙ with_other n k short first other ∙ with_other n k held _ other ∙ with_other n k (served (holding [])) at other;
+      now = put_at n lost (put_at n short first);
+      others = λ k other. put_elsewhere n k lost _ other ∙ put_elsewhere n k short first other ∙ put_elsewhere n k held _ other ∙ put_elsewhere n k (served (holding [])) at other;
       happened = λ fs later u rest. then answers n at s y.middle.handler u (concat ps) out (holding y.held) is y.told.0.takes (on n (stops y.piece) ∷ (on n breaks ∷ fs)) later
-          (happens_on answers n (stops y.piece) held short first y.middle.handler t u (on n breaks ∷ fs) later (with_own n held _) (refl, y.some)
-          (happens_on answers n breaks short lost (with_standing n short first) t t u fs later (with_own n short first) (refl, refl) rest));
+          (happens_on answers n (stops y.piece) held short first y.middle.handler t u (on n breaks ∷ fs) later (put_here n held _) (refl, y.some)
+          (happens_on answers n breaks short lost (put_at n short first) t t u fs later (put_here n short first) (refl, refl) rest));
       carried = record {
         heard = ap (λ p. concat ps ++ p) (append-nil y.piece) ∙ sym (stopped_heard reads x.read y.middle.reads y.piece ps y.told.0.on y.on);
         unwritten = [];
@@ -241,20 +219,25 @@ let_go_talk {S} answers n at s t x y = record {
   };
 }
 
-cut_talk : {S : Type 0} (answers : Answers S) (n : ℕ) (at : ℕ → Standing) (s t : S) (x : Talk) (reads writes : List Transfer) (f : Fault)
-    → at n ≡ unopened → x.result ≡ Err f → BreaksOff answers (wire s reads writes) f (wire t (reads ++ x.read) (writes ++ x.wrote)) → IsCarried answers n at s x t
-cut_talk answers n at s t x reads writes f is e y = elim y [
-  | inl w ↦ told_talk answers n at s t x reads writes w.1 (None ∷ []) f is refl e w.2
+fault_talk : {S : Type 0} (answers : Answers S) (n : ℕ) (at : ℕ → Standing) (s t : S) (x : Talk) (reads writes : List Transfer) (f : Fault)
+    → at n ≡ unopened → x.result ≡ Err (failure.Fault f) → BreaksOff answers (wire s reads writes) f (wire t (reads ++ x.read) (writes ++ x.wrote)) → IsCarried answers n at s x t
+fault_talk answers n at s t x reads writes f is e y = elim y [
+  | inl w ↦ told_talk answers n at s t x reads writes w.1 (None ∷ []) _ is refl e w.2
   | inr v ↦ elim v [
-    | inl w ↦ broken_talk answers n at s t x reads writes w.1 w.2 f is w.3 e w.4
+    | inl w ↦ broken_talk answers n at s t x reads writes w.1 w.2 _ is w.3 e w.4
     | inr w ↦ elim w.1 [
-      | inl z ↦ told_talk answers n at s t x reads writes z.0 z.1 f is (last_quiet z.1 z.2) e z.3
+      | inl z ↦ told_talk answers n at s t x reads writes z.0 z.1 _ is (last_quiet z.1 z.2) e z.3
       | inr z ↦ short_talk answers n at s t x reads writes is z
     ]
   ]
 ]
 
-served_talk : {S : Type 0} (answers : Answers S) (n : ℕ) (at : ℕ → Standing) (s t : S) (x : Talk) (reads writes : List Transfer) (r : Result (Unit {0}) Fault)
+cut_talk : {S : Type 0} (answers : Answers S) (n : ℕ) (at : ℕ → Standing) (s t : S) (x : Talk) (reads writes : List Transfer) (f : Failure)
+    → at n ≡ unopened → x.result ≡ Err f → FailsSo answers (wire s reads writes) f (wire t (reads ++ x.read) (writes ++ x.wrote)) → IsCarried answers n at s x t
+cut_talk answers n at s t x reads writes (failure.Fault f) is e y = fault_talk answers n at s t x reads writes f is e y
+cut_talk answers n at s t x reads writes (failure.Unsettled why) is e y = short_talk answers n at s t x reads writes is y
+
+served_talk : {S : Type 0} (answers : Answers S) (n : ℕ) (at : ℕ → Standing) (s t : S) (x : Talk) (reads writes : List Transfer) (r : Result (Unit {0}) Failure)
     → at n ≡ unopened → x.result ≡ r → IsServed answers None (wire s reads writes) r (wire t (reads ++ x.read) (writes ++ x.wrote)) → IsCarried answers n at s x t
 served_talk answers n at s t x reads writes (Ok u) is e y = whole_talk answers n at s t x reads writes y.0 y.1 is y.2 y.3
 served_talk answers n at s t x reads writes (Err f) is e y = elim y [
@@ -274,8 +257,8 @@ carry_on : (n m : ℕ) (cs : List Change) (fs : List Event) (xs : List Talk) →
 carry_on n m cs fs [] h c = tt
 carry_on n m cs fs (x ∷ xs) h c =
     let other : m ≢ n = λ e. omega (arith, e, h) in
-    let stream : stream_of m (AreOn n cs ++ fs) ≡ stream_of m fs = stream_append m (AreOn n cs) fs ∙ ap (λ t. t ++ stream_of m fs) (other_stream m n cs other) in
-    let sent : sent_to m (AreOn n cs ++ fs) ≡ sent_to m fs = sent_append m (AreOn n cs) fs ∙ ap (λ t. t ++ sent_to m fs) (other_sent m n cs other) in (
+    let stream : stream_of m (AreOn n cs ++ fs) ≡ stream_of m fs = streams_on m (AreOn n cs) fs ∙ ap (λ t. t ++ stream_of m fs) (other_stream m n cs other) in
+    let sent : sent_to m (AreOn n cs ++ fs) ≡ sent_to m fs = sent_on m (AreOn n cs) fs ∙ ap (λ t. t ++ sent_to m fs) (other_sent m n cs other) in (
       subst (λ t. Carries t (sent_to m (AreOn n cs ++ fs)) x) (sym stream) (subst (λ t. Carries (stream_of m fs) t x) (sym sent) c.0),
       carry_on n (m + 1) cs fs xs (omega (arith, h)) c.1,
     )
@@ -297,9 +280,9 @@ all_talks answers n at s t (x ∷ xs) free y =
     let rest = all_talks answers (n + 1) one.now y.0 t xs free_on y.2 in
     let own = rest.before n (omega arith) in
     let stream : stream_of n (AreOn n one.changes ++ rest.events) ≡ pieces_in one.changes =
-    stream_append n (AreOn n one.changes) rest.events ∙ ap₂ (λ a b. a ++ b) (own_stream n one.changes) own.0 ∙ append-nil (pieces_in one.changes) in
+    streams_on n (AreOn n one.changes) rest.events ∙ ap₂ (λ a b. a ++ b) (own_stream n one.changes) own.0 ∙ append-nil (pieces_in one.changes) in
     let sent : sent_to n (AreOn n one.changes ++ rest.events) ≡ all_bytes_in one.changes =
-    sent_append n (AreOn n one.changes) rest.events ∙ ap₂ (λ a b. a ++ b) (own_sent n one.changes) own.1 ∙ append-nil (all_bytes_in one.changes) in
+    sent_on n (AreOn n one.changes) rest.events ∙ ap₂ (λ a b. a ++ b) (own_sent n one.changes) own.1 ∙ append-nil (all_bytes_in one.changes) in
     record {
       events = AreOn n one.changes ++ rest.events;
       now = rest.now;
@@ -307,8 +290,8 @@ all_talks answers n at s t (x ∷ xs) free y =
       before = λ k h.
           let other : k ≢ n = λ e. omega (arith, e, h) in
           let later = rest.before k (omega (arith, h)) in (
-            stream_append k (AreOn n one.changes) rest.events ∙ ap₂ (λ a b. a ++ b) (other_stream k n one.changes other) later.0,
-            sent_append k (AreOn n one.changes) rest.events ∙ ap₂ (λ a b. a ++ b) (other_sent k n one.changes other) later.1,
+            streams_on k (AreOn n one.changes) rest.events ∙ ap₂ (λ a b. a ++ b) (other_stream k n one.changes other) later.0,
+            sent_on k (AreOn n one.changes) rest.events ∙ ap₂ (λ a b. a ++ b) (other_sent k n one.changes other) later.1,
           );
       carried = (
         subst (λ u. Carries u (sent_to n (AreOn n one.changes ++ rest.events)) x) (sym stream) (subst (λ u. Carries (pieces_in one.changes) u x) (sym sent) one.carried),
@@ -330,20 +313,55 @@ served_more {S} answers s t u [] x all one = (u, subst (λ (v : S). IsTalk answe
 served_more answers s t u (y ∷ xs) x all one = (all.0, all.1, served_more answers all.0 t u xs x all.2 one)
 
 -- what a new connection came to
-pub talk_of : {S : Type 0} (answers : Answers S) (c : Option Connection) (s t : S) (r : Result (Unit {0}) Fault) (reads writes more others : List Transfer)
-    → c ≡ None → reads ≡ [] → writes ≡ [] → IsServed answers c (wire s reads writes) r (wire t more others)
-    → (x : Talk) × (x.result ≡ r) × (IsTalk answers s x t ⊎ IsLetGo s x t)
-talk_of answers c s t r reads writes more others none e f x = (
+pub talk_of : {H S : Type 0} (state : H → S) (finds : H → S → Type 0) (answers : Answers S) (c : Option Connection) (s t : H) (r : Result (Unit {0}) Failure) (reads writes more others : List Transfer)
+    → c ≡ None → reads ≡ [] → writes ≡ [] → IsServed answers c (wire (state s) reads writes) r (wire (state t) more others)
+    → (FindsOnly finds s (state s) → (f : S) → finds t f → IsFound answers (wire (state s) reads writes) r (wire (state t) more others) f)
+    → (x : Talk) × (x.result ≡ r) × IsTalkKept state finds answers s x t
+talk_of state finds answers c s t r reads writes more others none no_reads no_writes y found = (
   record { read = more; wrote = others; result = r },
   refl,
-  inl (
-    [],
-    [],
-    subst (λ d. IsServed answers d (wire s [] []) r (wire t more others)) none
-        (subst (λ rs. IsServed answers c (wire s rs []) r (wire t more others)) e
-        (subst (λ ws. IsServed answers c (wire s reads ws) r (wire t more others)) f x)),
-  ),
+  record {
+    served = inl (
+      [],
+      [],
+      subst (λ d. IsServed answers d (wire (state s) [] []) r (wire (state t) more others)) none
+          (subst (λ rs. IsServed answers c (wire (state s) rs []) r (wire (state t) more others)) no_reads
+          (subst (λ ws. IsServed answers c (wire (state s) reads ws) r (wire (state t) more others)) no_writes y)),
+    );
+    found = λ clean f h. (
+      [],
+      [],
+      subst (λ rs. IsFound answers (wire (state s) rs []) r (wire (state t) more others) f) no_reads
+          (subst (λ ws. IsFound answers (wire (state s) reads ws) r (wire (state t) more others) f) no_writes (found clean f h)),
+    );
+  },
 )
+
+-- .. one that can't be read at all
+pub let_go_of : {H S : Type 0} (state : H → S) (finds : H → S → Type 0) (answers : Answers S) (s : H)
+    → (x : Talk) × (x.result ≡ Err (failure.Fault ReadFailed)) × IsTalkKept state finds answers s x s
+let_go_of state finds answers s = (
+  record { read = []; wrote = []; result = Err (failure.Fault ReadFailed) },
+  refl,
+  record { served = inr (refl, refl, refl, refl); found = λ clean f h. ([], [], clean f h) },
+)
+
+-- one that was settled
+is_settled : {S : Type 0} (answers : Answers S) (before after : Wire S) (r : Result (Unit {0}) Failure) (f : S) → ((why : Unsettled) → ¬ (r ≡ Err (failure.Unsettled why)))
+    → IsFound answers before r after f → f ≡ after.handler
+is_settled answers before after (Ok u) f settled x = x
+is_settled answers before after (Err (failure.Fault g)) f settled x = x
+is_settled answers before after (Err (failure.Unsettled why)) f settled x = absurd (settled why refl)
+
+pub found_settled : {S : Type 0} (answers : Answers S) (s t f : S) (x : Talk) → ((why : Unsettled) → ¬ (x.result ≡ Err (failure.Unsettled why)))
+    → IsFoundBehindTalk answers s x t f → f ≡ t
+found_settled answers s t f x settled y = is_settled answers (wire s y.0 y.1) (wire t (y.0 ++ x.read) (y.1 ++ x.wrote)) x.result f settled y.2
+
+-- one that wasn't is no one that was let go
+pub talk_unsettled : {S : Type 0} (answers : Answers S) (s t : S) (x : Talk) (why : Unsettled) → x.result ≡ Err (failure.Unsettled why)
+    → IsTalk answers s x t ⊎ IsLetGo s x t → IsTalk answers s x t
+talk_unsettled answers s t x why e (inl y) = y
+talk_unsettled answers s t x why e (inr y) = absurd (cc (sym e ∙ y.2))
 
 -- ---- what was moved
 abbrev pub GoesOn : List Transfer → List Transfer → Type 0
@@ -352,16 +370,16 @@ GoesOn before after = (ts : List Transfer) × (after ≡ before ++ ts)
 goes_on : (a b c : List Transfer) → GoesOn a b → GoesOn b c → GoesOn a c
 goes_on a b c x y = (x.0 ++ y.0, y.1 ∙ ap (λ ts. ts ++ y.0) x.1 ∙ append_assoc a x.0 y.0)
 
-lacking_transfers : {S : Type 0} (answers : Answers S) (before after : Wire S) → LacksRoom answers before after
+lacking_transfers : {S : Type 0} (answers : Answers S) (before after : Wire S) → LeavesUntold answers before after
     → GoesOn before.reads after.reads × GoesOn before.writes after.writes
 lacking_transfers answers before after x = (
   goes_on before.reads x.middle.reads after.reads (map (λ p. Some p) x.told.0.pieces ++ [], x.told.0.on) (Some x.piece ∷ [], x.on),
   (x.told.1.writes, x.untold ∙ x.told.1.on),
 )
 
-cut_transfers : {S : Type 0} (answers : Answers S) (before after : Wire S) (f : Fault) → BreaksOff answers before f after
+fault_transfers : {S : Type 0} (answers : Answers S) (before after : Wire S) (f : Fault) → BreaksOff answers before f after
     → GoesOn before.reads after.reads × GoesOn before.writes after.writes
-cut_transfers answers before after f x = elim x [
+fault_transfers answers before after f x = elim x [
   | inl w ↦ ((map (λ p. Some p) w.2.0.pieces ++ (None ∷ []), w.2.0.on), (w.2.1.writes, w.2.1.on))
   | inr v ↦ elim v [
     | inl w ↦ ((map (λ p. Some p) w.4.0.pieces ++ w.2, w.4.0.on), (w.4.1.writes ++ (w.4.1.last ∷ []), w.4.1.on))
@@ -372,7 +390,12 @@ cut_transfers answers before after f x = elim x [
   ]
 ]
 
-pub served_transfers : {S : Type 0} (answers : Answers S) (before after : Wire S) (r : Result (Unit {0}) Fault) → IsServed answers None before r after
+cut_transfers : {S : Type 0} (answers : Answers S) (before after : Wire S) (f : Failure) → FailsSo answers before f after
+    → GoesOn before.reads after.reads × GoesOn before.writes after.writes
+cut_transfers answers before after (failure.Fault f) x = fault_transfers answers before after f x
+cut_transfers answers before after (failure.Unsettled why) x = lacking_transfers answers before after x
+
+pub served_transfers : {S : Type 0} (answers : Answers S) (before after : Wire S) (r : Result (Unit {0}) Failure) → IsServed answers None before r after
     → GoesOn before.reads after.reads × GoesOn before.writes after.writes
 served_transfers answers before after (Ok u) x = ((map (λ p. Some p) x.3.0.pieces ++ x.1, x.3.0.on), (x.3.1.writes, x.3.1.on))
 served_transfers answers before after (Err f) x = elim x [

@@ -7,6 +7,8 @@ use Rattle.connections.specs.Progress.{TakesSome}
 use Rattle.faults.specs.declared.Fault.{Fault}
 use Rattle.faults.specs.declared.Fault.TheVariants.{NoRoom, ReadFailed, WriteFailed}
 use Rattle.serving.specs.Transfers.{Transfer}
+use Rattle.serving.specs.declared.failure.Failure.{Failure}
+use Rattle.serving.specs.declared.failure.Failure.TheVariants as failure
 use Rattle.serving.specs.Writing.{Writes, WritesSome}
 
 -- what answers, and what was read and written up to a time
@@ -47,7 +49,7 @@ TellsSome answers before last now after =
 
 -- All is told up to the last piece. Of what that one completes a first part is answered, and
 -- nothing of it is told.
-pub record LacksRoom {S : Type 0} (answers : Answers S) (before after : Wire S) : Type 0 where
+pub record LeavesUntold {S : Type 0} (answers : Answers S) (before after : Wire S) : Type 0 where
   pub middle : Wire S
   pub held : Text
   pub told : Tells answers before [] (holding held) middle
@@ -70,4 +72,9 @@ BreaksOff answers before f after =
     ((f ≡ ReadFailed) × (now : Connection) × Tells answers before (None ∷ []) now after)
     ⊎ (((f ≡ WriteFailed) × (now : Connection) × (last : List Transfer) × IsLast last × TellsSome answers before last now after)
     ⊎ ((f ≡ NoRoom)
-    × (((now : Connection) × (last : List Transfer) × IsLast last × Tells answers before last now after) ⊎ LacksRoom answers before after)))
+    × (((now : Connection) × (last : List Transfer) × IsLast last × Tells answers before last now after) ⊎ LeavesUntold answers before after)))
+
+-- .. and each failure
+abbrev pub FailsSo : {S : Type 0} → Answers S → Wire S → Failure → Wire S → Type 0
+FailsSo answers before (failure.Fault f) after = BreaksOff answers before f after
+FailsSo answers before (failure.Unsettled why) after = LeavesUntold answers before after

@@ -5,6 +5,7 @@ pub mod Streams
 pub mod Memory
 pub mod Writing
 pub mod Exchanges
+pub mod Kept
 pub mod Turns
 pub mod Serving
 pub mod Talks

@@ -1,14 +1,17 @@
 //! All pieces of a connection's stream.
 
-ghost use Rattle.std.specs.Prelude.{◌≡◌, [], Some};
+ghost use Rattle.std.specs.Prelude.{◌≡◌, [], Some, Err};
 ghost use Rattle.http_definitions.specs.Connections.{holding};
 ghost use Rattle.connections.specs.Connected.{handler_of, connection_at, OthersStay};
+ghost use Rattle.connections.specs.Found.{FindsOnly};
 ghost use Rattle.serving.specs.Exchanges.{wire};
+ghost use Rattle.serving.specs.Kept.{IsFound};
 ghost use Rattle.serving.specs.Serving.{IsBounded, IsExchanged};
 
+use crate::failure::Failure;
 use crate::pieces::{Progress, serve_piece};
 use crate::streams::{ByteReader, ByteWriter};
-use connections::{Handler, Sessions};
+use connections::{Handler, Sessions, Unsettled};
 use faults::Fault;
 use std::alloc::Global;
 
@@ -25,14 +28,20 @@ pub fn exchange<H: Handler, R: ByteReader, W: ByteWriter>(
     id: u64,
     reader: &mut R,
     writer: &mut W,
-) -> Result<(), Fault>
+) -> Result<(), Failure>
     requires { connection_at sessions.old id ≡ Some (holding []) }
     ensures exchanged { IsExchanged H.answers
-        (wire (handler_of sessions.old) (R.reads reader.old) (W.writes writer.old)) result
-        (connection_at sessions.new id)
-        (wire (handler_of sessions.new) (R.reads reader.new) (W.writes writer.new)) }
+        (wire (H.state (handler_of sessions.old)) (R.reads reader.old) (W.writes writer.old))
+        result (connection_at sessions.new id)
+        (wire (H.state (handler_of sessions.new)) (R.reads reader.new) (W.writes writer.new)) }
     ensures bounded { IsBounded (R.reads reader.old) (R.reads reader.new) }
     ensures others { OthersStay id sessions.old sessions.new }
+    ensures found { FindsOnly H.finds (handler_of sessions.old) (H.state (handler_of sessions.old))
+        → (s : H.State) → H.finds (handler_of sessions.new) s → IsFound H.answers
+        (wire (H.state (handler_of sessions.old)) (R.reads reader.old) (W.writes writer.old))
+        result
+        (wire (H.state (handler_of sessions.new)) (R.reads reader.new) (W.writes writer.new)) s }
+    ensures keeps { (why : Unsettled) → result ≡ Err (Failure.Unsettled why) → H.keeps }
 {
     let mut buffer = [0u8; MOST_PIECE];
     let mut out = String::new(alloc);
@@ -41,8 +50,8 @@ pub fn exchange<H: Handler, R: ByteReader, W: ByteWriter>(
         match serve_piece(alloc, sessions, id, &mut buffer, &mut out, reader, writer) {
             Ok(Progress::Goes) => reads += 1,
             Ok(Progress::Ends) => return Ok(()),
-            Err(fault) => return Err(fault),
+            Err(failure) => return Err(failure),
         }
     }
-    Err(Fault::ReadBound)
+    Err(Failure::Fault(Fault::ReadBound))
 }

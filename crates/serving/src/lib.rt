@@ -3,6 +3,7 @@
 
 mod broken;
 mod exchanges;
+mod failure;
 mod memory;
 mod pieces;
 mod recorded;
@@ -12,6 +13,8 @@ mod transcript;
 mod writing;
 
 pub use broken::Broken;
+pub use connections::Unsettled;
+pub use failure::Failure;
 pub use faults::Fault;
 pub use memory::{MemoryReader, MemoryWriter, Pace, Pause};
 pub use recorded::Recorded;

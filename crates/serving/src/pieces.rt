@@ -1,14 +1,20 @@
 //! Answering a piece of a connection's stream.
 
-ghost use Rattle.std.specs.Prelude.{◌≤◌, OnOk, length, string_capacity};
+ghost use Rattle.std.specs.Prelude.{◌≡◌, ◌≤◌, [], Some, Err, OnOk, length, string_bytes, string_capacity};
+ghost use Rattle.definitions.specs.Values.{Text};
+ghost use Rattle.http_definitions.specs.Connections.{holding};
 ghost use Rattle.connections.specs.Connected.{handler_of, connection_at, OthersStay};
-ghost use Rattle.serving.specs.Exchanges.{wire};
+ghost use Rattle.connections.specs.Found.{FindsOnly};
+ghost use Rattle.serving.specs.Exchanges.{Wire, wire, Tells};
+ghost use Rattle.serving.specs.Kept.{IsFoundBehind, IsFound};
 ghost use Rattle.serving.specs.Serving.{ReadsOnce};
+ghost use Rattle.serving.specs.Writing.{TellsBytes};
 ghost use Rattle.serving.specs.Turns.{IsPieceAnswered, IsTurn};
 
+use crate::failure::Failure;
 use crate::streams::{ByteReader, ByteWriter};
-use crate::writing::write_all;
-use connections::{Handler, Sessions};
+use crate::writing::tell_all;
+use connections::{Handler, Sessions, Unsettled};
 use faults::Fault;
 use std::alloc::Global;
 
@@ -34,7 +40,18 @@ fn give_back(out: &mut String)
     }
 }
 
-// Answers a piece.
+// Writes what a piece is answered.
+fn tell<W: ByteWriter>(out: &mut String, writer: &mut W) -> Result<(), Failure>
+    ensures told { TellsBytes (W.writes writer.old) (string_bytes out.old) result
+        (W.writes writer.new) }
+    ensures kept { string_capacity out.new ≤ MOST_KEPT }
+{
+    let written = tell_all(writer, out.as_bytes());
+    give_back(out);
+    written
+}
+
+// Answers a piece. Nothing of that is told before it is durable.
 fn answer_piece<H: Handler, W: ByteWriter>(
     alloc: Global,
     sessions: &mut Sessions<H>,
@@ -42,20 +59,26 @@ fn answer_piece<H: Handler, W: ByteWriter>(
     piece: &[u8],
     out: &mut String,
     writer: &mut W,
-) -> Result<(), Fault>
+) -> Result<(), Failure>
     ensures answered { IsPieceAnswered H.answers (connection_at sessions.old id) piece.now
-        (handler_of sessions.old) (W.writes writer.old) result
-        (connection_at sessions.new id) (handler_of sessions.new) (W.writes writer.new) }
+        (H.state (handler_of sessions.old)) (W.writes writer.old) result
+        (connection_at sessions.new id)
+        (H.state (handler_of sessions.new)) (W.writes writer.new) }
     ensures kept { OnOk result (string_capacity out.new ≤ MOST_KEPT) }
     ensures others { OthersStay id sessions.old sessions.new }
+    ensures found { FindsOnly H.finds (handler_of sessions.old) (H.state (handler_of sessions.old))
+        → (s : H.State) → H.finds (handler_of sessions.new) s
+        → IsFoundBehind (H.state (handler_of sessions.old)) result
+        (H.state (handler_of sessions.new)) s }
+    ensures keeps { (why : Unsettled) → result ≡ Err (Failure.Unsettled why) → H.keeps }
 {
-    match sessions.feed_into(alloc, id, piece, out) {
-        Ok(()) => {
-            let written = write_all(writer, out.as_bytes());
-            give_back(out);
-            written
-        }
-        Err(fault) => Err(fault),
+    let fed = sessions.feed_into(alloc, id, piece, out);
+    match sessions.settle() {
+        Err(unsettled) => Err(Failure::Unsettled(unsettled)),
+        Ok(()) => match fed {
+            Err(fault) => Err(Failure::Fault(fault)),
+            Ok(()) => tell(out, writer),
+        },
     }
 }
 
@@ -68,21 +91,30 @@ pub fn serve_piece<H: Handler, R: ByteReader, W: ByteWriter>(
     out: &mut String,
     reader: &mut R,
     writer: &mut W,
-) -> Result<Progress, Fault>
+) -> Result<Progress, Failure>
     ensures turned { IsTurn H.answers (connection_at sessions.old id)
-        (wire (handler_of sessions.old) (R.reads reader.old) (W.writes writer.old)) result
-        (connection_at sessions.new id)
-        (wire (handler_of sessions.new) (R.reads reader.new) (W.writes writer.new)) }
+        (wire (H.state (handler_of sessions.old)) (R.reads reader.old) (W.writes writer.old))
+        result (connection_at sessions.new id)
+        (wire (H.state (handler_of sessions.new)) (R.reads reader.new) (W.writes writer.new)) }
     ensures read { ReadsOnce (length buffer.old) (R.reads reader.old) (R.reads reader.new) }
     ensures kept { string_capacity out.old ≤ MOST_KEPT
         → OnOk result (string_capacity out.new ≤ MOST_KEPT) }
     ensures others { OthersStay id sessions.old sessions.new }
+    ensures found { (start : Wire H.State) (held : Text)
+        → connection_at sessions.old id ≡ Some (holding held)
+        → Tells H.answers start [] (holding held) (wire (H.state (handler_of sessions.old))
+        (R.reads reader.old) (W.writes writer.old))
+        → FindsOnly H.finds (handler_of sessions.old) (H.state (handler_of sessions.old))
+        → (s : H.State) → H.finds (handler_of sessions.new) s
+        → IsFound H.answers start result (wire (H.state (handler_of sessions.new))
+        (R.reads reader.new) (W.writes writer.new)) s }
+    ensures keeps { (why : Unsettled) → result ≡ Err (Failure.Unsettled why) → H.keeps }
 {
     match reader.read(buffer) {
-        Err(_) => Err(Fault::ReadFailed),
+        Err(_) => Err(Failure::Fault(Fault::ReadFailed)),
         Ok(0) => Ok(Progress::Ends),
         Ok(count) => match answer_piece(alloc, sessions, id, &buffer[..count], out, writer) {
-            Err(fault) => Err(fault),
+            Err(failure) => Err(failure),
             Ok(()) => {
                 if sessions.is_closed(id) {
                     Ok(Progress::Ends)

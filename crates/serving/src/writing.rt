@@ -1,7 +1,8 @@
 //! Writing all bytes.
 
-ghost use Rattle.serving.specs.Writing.{IsWriting};
+ghost use Rattle.serving.specs.Writing.{IsWriting, TellsBytes};
 
+use crate::failure::Failure;
 use crate::streams::ByteWriter;
 use faults::Fault;
 
@@ -19,4 +20,14 @@ pub fn write_all<W: ByteWriter>(writer: &mut W, bytes: &[u8]) -> Result<(), Faul
         }
     }
     Ok(())
+}
+
+/// The same of what a connection is sent.
+pub fn tell_all<W: ByteWriter>(writer: &mut W, bytes: &[u8]) -> Result<(), Failure>
+    ensures { TellsBytes (W.writes writer.old) bytes.now result (W.writes writer.new) }
+{
+    match write_all(writer, bytes) {
+        Ok(()) => Ok(()),
+        Err(fault) => Err(Failure::Fault(fault)),
+    }
 }

@@ -1,5 +1,5 @@
 -- What calls on one connection change.
-use Rattle.std.proofs.Common.{◌≡◌, ◌≢◌, ℕ, List, [], ◌∷◌, ◌++◌, ◌==◌, Bool, true, false, cond, Option, Some, None, Result, Ok, Err, Vec, refl, sym, ap, ◌∙◌, subst, true≢false, eq-eqb, eqb-true}
+use Rattle.std.proofs.Common.{◌≡◌, ℕ, List, [], ◌∷◌, ◌++◌, false, Option, Some, None, Result, Ok, Err, Vec, refl, sym, ap, ◌∙◌, subst, true≢false}
 use Rattle.std.specs.Global.{Global}
 use Rattle.definitions.specs.Values.{Text}
 use Rattle.http_definitions.specs.Connections.{Answers, Connection, holding, closed, last_words}
@@ -7,25 +7,10 @@ use Rattle.faults.specs.declared.Fault.{Fault}
 use Rattle.connections.specs.Views.{Feeds, FeedsSome, is_closed}
 use Rattle.connections.specs.Connected.{IsOpened, IsFed, IsEnded, is_closed_at}
 use Rattle.connections.specs.Events.{Event, Change, opens, feeds, stops, ends, breaks, Standing, unopened, served, short, ended, lost, IsChange, Happen}
+use Rattle.connections.proofs.Standings.{put_at, put_here, put_elsewhere}
 use Rattle.serving_many.specs.Going.{Stands}
 
 -- ---- one more event
--- how connections stand once one stands otherwise
-pub put_at : ℕ → Standing → (ℕ → Standing) → ℕ → Standing
-put_at id x at k = cond (k == id) x (at k)
-
-pub put_here : (id : ℕ) (x : Standing) (at : ℕ → Standing) → put_at id x at id ≡ x
-unfolding put_at
-put_here id x at = rw (eq-eqb id id refl) refl
-
-pub put_elsewhere : (id k : ℕ) (x : Standing) (at : ℕ → Standing) → k ≢ id → put_at id x at k ≡ at k
-unfolding put_at
-put_elsewhere id k x at ne = by (k == id) refl
-  where
-    by : (t : Bool) → (k == id) ≡ t → cond t x (at k) ≡ at k
-    by true i = absurd (ne (eqb-true k id i))
-    by false i = refl
-
 pub happens_on : {S : Type 0} (answers : Answers S) (es : List Event) (at mid : ℕ → Standing) (s u t : S) (id : ℕ) (c : Change) (x : Standing)
     → Happen answers at s es mid u → IsChange answers (mid id) u c x t → Happen answers at s (es ++ record { connection = id; change = c } ∷ []) (put_at id x mid) t
 happens_on {S} answers [] at mid s u t id c x h y = (

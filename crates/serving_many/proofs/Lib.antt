@@ -1,4 +1,5 @@
 mod Lists
+mod Kept
 mod Changes
 mod Turns
 mod Among

@@ -6,22 +6,25 @@ use Rattle.definitions.specs.Values.{Text}
 use Rattle.http_definitions.specs.Connections.{Answers, Connection}
 use Rattle.faults.specs.declared.Fault.{Fault}
 use Rattle.faults.specs.declared.Fault.TheVariants.{NoSession}
-use Rattle.connections.specs.Connected.{handler_of, IsOpened, IsFed, IsEnded, is_closed_at}
+use Rattle.connections.specs.Connected.{handler_of, connection_at, IsOpened, IsFed, IsEnded, is_closed_at}
+use Rattle.connections.specs.Found.{FindsNoMore, FindsOnly}
 use Rattle.connections.specs.Events.{Event, Change, opens, Standing, unopened, Happen, none_is_open, piece_in, bytes_in, stream_of, sent_to}
 use Rattle.network.specs.Traffic.{Moved, bytes_of}
 use Rattle.connections.specs.declared.sessions.Sessions.{Sessions}
 use Rattle.network.specs.Outboxes.{unsent_at}
 use Rattle.network.specs.declared.outbox.Outbox.{Outbox}
 use Rattle.serving_many.specs.Going.{Stands, State, state_of, Tells, Goes, Keeps}
+use Rattle.serving_many.specs.Kept.{IsKept}
 use Rattle.serving_many.specs.Serving.{IsServed}
 use Rattle.serving_many.proofs.Among.{no_some}
-use Rattle.serving_many.proofs.Lists.{bytes_on, streams_on, sent_on, is_own, is_other}
-use Rattle.serving_many.proofs.Changes.{put_at, put_here, put_elsewhere, happens_on, IsNext, change_of_end, ends_so, change_of_piece, feeds_so, opens_so, opens_not}
+use Rattle.connections.proofs.Standings.{put_at, put_here, put_elsewhere, streams_on, sent_on, is_own, is_other}
+use Rattle.serving_many.proofs.Lists.{bytes_on}
+use Rattle.serving_many.proofs.Kept.{less_told, kept_more, kept_on, all_kept}
+use Rattle.serving_many.proofs.Changes.{happens_on, IsNext, change_of_end, ends_so, change_of_piece, feeds_so, opens_so, opens_not}
 
--- ---- of a connection that has ended, less is known
-pub less_told : (a b : Text) (p : Option Text) → Tells a b p → Tells a b None
-less_told a b (Some rest) x = (rest, x)
-less_told a b None x = x
+silent_cond : (t : Bool) → cond {A = Text} t [] [] ≡ []
+silent_cond true = refl
+silent_cond false = refl
 
 abbrev events_of : ℕ → Option Change → List Event
 events_of id None = []
@@ -77,9 +80,9 @@ stands_still answers at t u id (Some c) now n e = absurd (none_some c e)
     none_some c e = cc (e)
 
 -- what is done on one connection, and on no other
-pub record Turns {S : Type 0} (answers : Answers S) (id : ℕ) (old new : State S) : Type 0 where
+pub record Turns {H S : Type 0} (state : H → S) (finds : H → S → Type 0) (answers : Answers S) (id : ℕ) (old new : State H) : Type 0 where
   pub change : Option Change
-  pub next : (at : Standing) → Stands at (old.connection id) → IsNext answers at old.handler change (new.connection id) new.handler
+  pub next : (at : Standing) → Stands at (old.connection id) → IsNext answers at (state old.handler) change (new.connection id) (state new.handler)
   pub same : (k : ℕ) → k ≢ id → new.connection k ≡ old.connection k
   pub others : (k : ℕ) → k ≢ id → new.unsent k ≡ old.unsent k
   pub count : new.count ≡ old.count
@@ -90,40 +93,43 @@ pub record Turns {S : Type 0} (answers : Answers S) (id : ℕ) (old new : State 
   pub silent : (k : ℕ) → k ≢ id → (bytes_of k read ≡ []) × (bytes_of k wrote ≡ [])
   pub hears : bytes_of id read ≡ piece_of change
   pub tells : (a b : Text) → Tells a b (old.unsent id) → Tells (a ++ out_of change) (b ++ bytes_of id wrote) (new.unsent id)
+  -- what an opening may find it might have found before, and nothing was written since; or it is the state now
+  pub kept : (t : S) → finds new.handler t → (finds old.handler t × ((k : ℕ) → bytes_of k wrote ≡ [])) ⊎ (t ≡ state new.handler)
   -- one that isn't open does nothing
   pub rests : old.connection id ≡ None → old.unsent id ≡ None → (change ≡ None) × (new.unsent id ≡ None) × (bytes_of id wrote ≡ [])
 
-module _ {S : Type 0} (answers : Answers S) (id : ℕ) (old new : State S) where
-  abbrev next_of : (t : Turns answers id old new) (s : S) (reads writes : List Moved) (x : Goes answers s reads writes old) → IsNext answers (x.standing id) old.handler t.change (new.connection id) new.handler
+module _ {H S : Type 0} (state : H → S) (finds : H → S → Type 0) (answers : Answers S) (id : ℕ) (old new : State H) where
+  abbrev next_of : (t : Turns state finds answers id old new) (s : H) (reads writes : List Moved) (x : Goes state finds answers s reads writes old) → IsNext answers (x.standing id) (state old.handler) t.change (new.connection id) (state new.handler)
   next_of t s reads writes x = t.next (x.standing id) (x.stands id)
 
-  abbrev standing_of : (t : Turns answers id old new) (s : S) (reads writes : List Moved) (x : Goes answers s reads writes old) → ℕ → Standing
-  standing_of t s reads writes x = stand_then answers x.standing old.handler id t.change (new.connection id) new.handler (next_of t s reads writes x)
+  abbrev standing_of : (t : Turns state finds answers id old new) (s : H) (reads writes : List Moved) (x : Goes state finds answers s reads writes old) → ℕ → Standing
+  standing_of t s reads writes x = stand_then answers x.standing (state old.handler) id t.change (new.connection id) (state new.handler) (next_of t s reads writes x)
 
-  pub turns_keep : Turns answers id old new → Keeps answers old new
+  pub turns_keep : Turns state finds answers id old new → Keeps state finds answers old new
   turns_keep t s reads writes x = record {
     events = x.events ++ events_of id t.change;
     standing = standing_of t s reads writes x;
-    happened = happen_then answers x.events x.standing s old.handler new.handler id t.change (new.connection id) x.happened (next_of t s reads writes x);
+    happened = happened_now;
     stands = λ k. stands k (cases_eq k id);
     read = x.read ++ t.read;
     read_on = t.read_on ∙ ap (λ r. r ++ t.read) x.read_on ∙ append_assoc reads x.read t.read;
     wrote = x.wrote ++ t.wrote;
     wrote_on = t.wrote_on ∙ ap (λ r. r ++ t.wrote) x.wrote_on ∙ append_assoc writes x.wrote t.wrote;
     heard = λ k. rw (bytes_on k x.read t.read, streams_on k x.events (events_of id t.change)) (ap₂ (λ a b. a ++ b) (x.heard k) (hears k (cases_eq k id)));
-    told = λ k. rw (sent_on k x.events (events_of id t.change), bytes_on k x.wrote t.wrote) (tells k (cases_eq k id));
+    told = told_now;
     fresh = λ k le. fresh k (below k le) (cases_eq k id);
     silent = λ k le. silent k (below k le) (cases_eq k id);
+    kept = λ clean u f. kept clean u f (t.kept u f);
   }
     where
       stays : (k : ℕ) → k ≢ id → standing_of t s reads writes x k ≡ x.standing k
-      stays k ne = stands_other answers x.standing old.handler new.handler id t.change (new.connection id) (next_of t s reads writes x) k ne
+      stays k ne = stands_other answers x.standing (state old.handler) (state new.handler) id t.change (new.connection id) (next_of t s reads writes x) k ne
 
       below : (k : ℕ) → new.count ≤ k → old.count ≤ k
       below k le = subst (λ c. c ≤ k) t.count le
 
       stands : (k : ℕ) → (k ≡ id) ⊎ (k ≡ id → ⊥) → Stands (standing_of t s reads writes x k) (new.connection k)
-      stands k (inl e) = subst (λ i. Stands (standing_of t s reads writes x i) (new.connection i)) (sym e) (stands_own answers x.standing old.handler new.handler id t.change (new.connection id) (next_of t s reads writes x))
+      stands k (inl e) = subst (λ i. Stands (standing_of t s reads writes x i) (new.connection i)) (sym e) (stands_own answers x.standing (state old.handler) (state new.handler) id t.change (new.connection id) (next_of t s reads writes x))
       stands k (inr ne) = rw (stays k ne, t.same k ne) (x.stands k)
 
       hears : (k : ℕ) → (k ≡ id) ⊎ (k ≡ id → ⊥) → bytes_of k t.read ≡ stream_of k (events_of id t.change)
@@ -137,6 +143,20 @@ module _ {S : Type 0} (answers : Answers S) (id : ℕ) (old new : State S) where
       tells k (inr ne) =
           rw (other_sent k id t.change ne, (t.silent k ne).1, append-nil (sent_to k x.events), append-nil (bytes_of k x.wrote), t.others k ne) (x.told k)
 
+      more : List Event
+      more = x.events ++ events_of id t.change
+
+      told_now : (k : ℕ) → Tells (sent_to k more) (bytes_of k (x.wrote ++ t.wrote)) (new.unsent k)
+      told_now k = rw (sent_on k x.events (events_of id t.change), bytes_on k x.wrote t.wrote) (tells k (cases_eq k id))
+
+      happened_now : Happen answers none_is_open (state s) more (standing_of t s reads writes x) (state new.handler)
+      happened_now = happen_then answers x.events x.standing (state s) (state old.handler) (state new.handler) id t.change (new.connection id) x.happened (next_of t s reads writes x)
+
+      kept : FindsOnly finds s (state s) → (u : S) → finds new.handler u → (finds old.handler u × ((k : ℕ) → bytes_of k t.wrote ≡ [])) ⊎ (u ≡ state new.handler)
+          → IsKept answers (state s) more (x.wrote ++ t.wrote) u
+      kept clean u f (inl w) = kept_on answers (state s) u x.events (events_of id t.change) x.wrote t.wrote w.1 (x.kept clean u w.0)
+      kept clean u f (inr e) = all_kept answers (state s) (state new.handler) u more (x.wrote ++ t.wrote) (standing_of t s reads writes x) new.unsent happened_now told_now e
+
       -- one whose number wasn't given does nothing
       closed_at : old.count ≤ id → old.connection id ≡ None
       closed_at le = subst (λ v. Stands v (old.connection id)) (x.fresh id le).0 (x.stands id)
@@ -148,7 +168,7 @@ module _ {S : Type 0} (answers : Answers S) (id : ℕ) (old new : State S) where
       fresh k le (inl e) =
           let at : old.count ≤ id = subst (λ i. old.count ≤ i) e le in
           subst (λ i. (standing_of t s reads writes x i ≡ unopened) × (new.unsent i ≡ None)) (sym e)
-          (stands_still answers x.standing old.handler new.handler id t.change (new.connection id) (next_of t s reads writes x) (still at).0 ∙ (x.fresh id at).0, (still at).1)
+          (stands_still answers x.standing (state old.handler) (state new.handler) id t.change (new.connection id) (next_of t s reads writes x) (still at).0 ∙ (x.fresh id at).0, (still at).1)
       fresh k le (inr ne) = (stays k ne ∙ (x.fresh k le).0, t.others k ne ∙ (x.fresh k le).1)
 
       silent : (k : ℕ) → old.count ≤ k → (k ≡ id) ⊎ (k ≡ id → ⊥) → (sent_to k (x.events ++ events_of id t.change) ≡ []) × (bytes_of k (x.wrote ++ t.wrote) ≡ [])
@@ -183,15 +203,15 @@ nothing_at_last (Some c) f = refl
 some_read : (k id : ℕ) (piece : Text) → k ≢ id → bytes_of k ((id, piece) ∷ []) ≡ []
 some_read k id piece ne = is_other k id (piece ++ []) ne
 
-module _ {S : Type 0} (answers : Answers S) (id : ℕ) (old new : State S) (count : new.count ≡ old.count)
+module _ {H S : Type 0} (state : H → S) (finds : H → S → Type 0) (answers : Answers S) (id : ℕ) (old new : State H) (count : new.count ≡ old.count)
     (same : (k : ℕ) → k ≢ id → new.connection k ≡ old.connection k) (others : (k : ℕ) → k ≢ id → new.unsent k ≡ old.unsent k) where
   -- ---- it is ended, with what was still to be sent
   pub ended : (r : Result (Vec ℕ Global) Fault) → IsEnded (old.connection id) r (new.connection id) → new.handler ≡ old.handler
-      → new.reads ≡ old.reads → new.writes ≡ old.writes → new.unsent id ≡ None → Keeps answers old new
-  ended r end handler reads writes none = turns_keep answers id old new (record {
+      → new.reads ≡ old.reads → new.writes ≡ old.writes → new.unsent id ≡ None → Keeps state finds answers old new
+  ended r end handler reads writes none = turns_keep state finds answers id old new (record {
     change = change_of_end (old.connection id) r;
-    next = λ at st. subst (λ t. IsNext answers at old.handler (change_of_end (old.connection id) r) (new.connection id) t) (sym handler)
-        (ends_so answers old.handler at (old.connection id) (new.connection id) r st end);
+    next = λ at st. subst (λ t. IsNext answers at (state old.handler) (change_of_end (old.connection id) r) (new.connection id) t) (sym (ap state handler))
+        (ends_so answers (state old.handler) at (old.connection id) (new.connection id) r st end);
     same = same;
     others = others;
     count = count;
@@ -202,6 +222,7 @@ module _ {S : Type 0} (answers : Answers S) (id : ℕ) (old new : State S) (coun
     silent = λ k ne. (refl, refl);
     hears = sym (no_piece (old.connection id) r);
     tells = λ a b x. rw (none, append-nil b) (less_lost a b (out_of (change_of_end (old.connection id) r)) (less_told a b (old.unsent id) x));
+    kept = λ t f. inl (subst (λ h. finds h t) handler f, λ k. refl);
     rests = λ e u. (ap (λ c. change_of_end c r) e, none, refl);
   })
     where
@@ -210,10 +231,10 @@ module _ {S : Type 0} (answers : Answers S) (id : ℕ) (old new : State S) (coun
 
   -- ---- some of what is to be sent is written
   pub wrote_some : (rest : Text) (n : ℕ) → new.connection id ≡ old.connection id → new.handler ≡ old.handler → new.reads ≡ old.reads → new.writes ≡ old.writes ++ (id, take n rest) ∷ []
-      → old.unsent id ≡ Some rest → new.unsent id ≡ Some (drop n rest) → Keeps answers old new
-  wrote_some rest n stay handler reads writes was now = turns_keep answers id old new (record {
+      → old.unsent id ≡ Some rest → new.unsent id ≡ Some (drop n rest) → FindsOnly finds old.handler (state old.handler) → Keeps state finds answers old new
+  wrote_some rest n stay handler reads writes was now only = turns_keep state finds answers id old new (record {
     change = None;
-    next = λ at st. (subst (Stands at) (sym stay) st, handler);
+    next = λ at st. (subst (Stands at) (sym stay) st, ap state handler);
     same = same;
     others = others;
     count = count;
@@ -225,16 +246,17 @@ module _ {S : Type 0} (answers : Answers S) (id : ℕ) (old new : State S) (coun
     hears = refl;
     tells = λ a b x. rw (append-nil a, is_own id (take n rest), now)
         ((rw was at x) ∙ ap (λ r. b ++ r) (sym (take-append-drop n rest)) ∙ sym (append_assoc b (take n rest) (drop n rest)));
+    kept = λ t f. inr (only t (subst (λ h. finds h t) handler f) ∙ sym (ap state handler));
     rests = λ e u. absurd (no_some rest (old.unsent id) was u);
   })
 
   -- ---- a piece is answered, and what is told is to be sent
-  pub fed_one : (piece out : Text) (r : Result (Unit {0}) Fault) → IsFed answers (old.connection id) piece old.handler r out (new.connection id) new.handler
+  pub fed_one : (piece out : Text) (r : Result (Unit {0}) Fault) → IsFed answers (old.connection id) piece (state old.handler) r out (new.connection id) (state new.handler)
       → is_closed_at (old.connection id) ≡ false → new.reads ≡ old.reads ++ (id, piece) ∷ [] → new.writes ≡ old.writes
-      → old.unsent id ≡ Some [] → new.unsent id ≡ Some (bytes_in (change_of_piece piece out r)) → Keeps answers old new
-  fed_one piece out r fed opened reads writes was now = turns_keep answers id old new (record {
+      → old.unsent id ≡ Some [] → new.unsent id ≡ Some (bytes_in (change_of_piece piece out r)) → FindsNoMore finds old.handler new.handler → Keeps state finds answers old new
+  fed_one piece out r fed opened reads writes was now found = turns_keep state finds answers id old new (record {
     change = Some (change_of_piece piece out r);
-    next = λ at st. feeds_so answers old.handler new.handler at (old.connection id) (new.connection id) piece out r st opened fed;
+    next = λ at st. feeds_so answers (state old.handler) (state new.handler) at (old.connection id) (new.connection id) piece out r st opened fed;
     same = same;
     others = others;
     count = count;
@@ -245,6 +267,7 @@ module _ {S : Type 0} (answers : Answers S) (id : ℕ) (old new : State S) (coun
     silent = λ k ne. (some_read k id piece ne, refl);
     hears = is_own id piece ∙ sym (is_piece r);
     tells = λ a b x. rw (append-nil b, now) (ap (λ l. l ++ bytes_in (change_of_piece piece out r)) ((rw was at x) ∙ append-nil b));
+    kept = λ t f. inl (found t f, λ k. refl);
     rests = λ e u. absurd (no_some [] (old.unsent id) was u);
   })
     where
@@ -254,11 +277,11 @@ module _ {S : Type 0} (answers : Answers S) (id : ℕ) (old new : State S) (coun
 
   -- ---- its stream ends, and what is told at last is to be sent
   pub told_at_last : (r : Result (Vec ℕ Global) Fault) → IsEnded (old.connection id) r (new.connection id) → new.handler ≡ old.handler
-      → new.reads ≡ old.reads → new.writes ≡ old.writes → old.unsent id ≡ Some [] → new.unsent id ≡ Some (out_of (change_of_end (old.connection id) r)) → Keeps answers old new
-  told_at_last r end handler reads writes was now = turns_keep answers id old new (record {
+      → new.reads ≡ old.reads → new.writes ≡ old.writes → old.unsent id ≡ Some [] → new.unsent id ≡ Some (out_of (change_of_end (old.connection id) r)) → Keeps state finds answers old new
+  told_at_last r end handler reads writes was now = turns_keep state finds answers id old new (record {
     change = change_of_end (old.connection id) r;
-    next = λ at st. subst (λ t. IsNext answers at old.handler (change_of_end (old.connection id) r) (new.connection id) t) (sym handler)
-        (ends_so answers old.handler at (old.connection id) (new.connection id) r st end);
+    next = λ at st. subst (λ t. IsNext answers at (state old.handler) (change_of_end (old.connection id) r) (new.connection id) t) (sym (ap state handler))
+        (ends_so answers (state old.handler) at (old.connection id) (new.connection id) r st end);
     same = same;
     others = others;
     count = count;
@@ -269,14 +292,15 @@ module _ {S : Type 0} (answers : Answers S) (id : ℕ) (old new : State S) (coun
     silent = λ k ne. (refl, refl);
     hears = sym (no_piece (old.connection id) r);
     tells = λ a b x. rw (now, append-nil b) (ap (λ l. l ++ out_of (change_of_end (old.connection id) r)) ((rw was at x) ∙ append-nil b));
+    kept = λ t f. inl (subst (λ h. finds h t) handler f, λ k. refl);
     rests = λ e u. absurd (no_some [] (old.unsent id) was u);
   })
 
   -- ---- a call that moves no bytes
-  pub wrote_nothing : new.connection id ≡ old.connection id → new.unsent id ≡ old.unsent id → new.handler ≡ old.handler → new.reads ≡ old.reads → new.writes ≡ old.writes ++ (id, []) ∷ [] → Keeps answers old new
-  wrote_nothing stay unsent handler reads writes = turns_keep answers id old new (record {
+  pub wrote_nothing : new.connection id ≡ old.connection id → new.unsent id ≡ old.unsent id → new.handler ≡ old.handler → new.reads ≡ old.reads → new.writes ≡ old.writes ++ (id, []) ∷ [] → Keeps state finds answers old new
+  wrote_nothing stay unsent handler reads writes = turns_keep state finds answers id old new (record {
     change = None;
-    next = λ at st. (subst (Stands at) (sym stay) st, handler);
+    next = λ at st. (subst (Stands at) (sym stay) st, ap state handler);
     same = same;
     others = others;
     count = count;
@@ -287,13 +311,14 @@ module _ {S : Type 0} (answers : Answers S) (id : ℕ) (old new : State S) (coun
     silent = λ k ne. (refl, some_read k id [] ne);
     hears = refl;
     tells = λ a b x. rw (append-nil a, is_own id [], append-nil b, unsent) x;
+    kept = λ t f. inl (subst (λ h. finds h t) handler f, λ k. silent_cond (k == id));
     rests = λ e u. (refl, unsent ∙ u, is_own id []);
   })
 
-  pub read_nothing : new.connection id ≡ old.connection id → new.unsent id ≡ old.unsent id → new.handler ≡ old.handler → new.reads ≡ old.reads ++ (id, []) ∷ [] → new.writes ≡ old.writes → Keeps answers old new
-  read_nothing stay unsent handler reads writes = turns_keep answers id old new (record {
+  pub read_nothing : new.connection id ≡ old.connection id → new.unsent id ≡ old.unsent id → new.handler ≡ old.handler → new.reads ≡ old.reads ++ (id, []) ∷ [] → new.writes ≡ old.writes → Keeps state finds answers old new
+  read_nothing stay unsent handler reads writes = turns_keep state finds answers id old new (record {
     change = None;
-    next = λ at st. (subst (Stands at) (sym stay) st, handler);
+    next = λ at st. (subst (Stands at) (sym stay) st, ap state handler);
     same = same;
     others = others;
     count = count;
@@ -304,22 +329,19 @@ module _ {S : Type 0} (answers : Answers S) (id : ℕ) (old new : State S) (coun
     silent = λ k ne. (some_read k id [] ne, refl);
     hears = is_own id [];
     tells = λ a b x. rw (append-nil a, append-nil b, unsent) x;
+    kept = λ t f. inl (subst (λ h. finds h t) handler f, λ k. refl);
     rests = λ e u. (refl, unsent ∙ u, refl);
   })
 
-silent_cond : (t : Bool) → cond {A = Text} t [] [] ≡ []
-silent_cond true = refl
-silent_cond false = refl
-
 -- ---- one is opened, under a number that wasn't given
-pub opened : {S : Type 0} (answers : Answers S) (id : ℕ) (old new : State S) (r : Result (Unit {0}) Fault) → old.count ≤ id → new.count ≡ id + 1
+pub opened : {H S : Type 0} (state : H → S) (finds : H → S → Type 0) (answers : Answers S) (id : ℕ) (old new : State H) (r : Result (Unit {0}) Fault) → old.count ≤ id → new.count ≡ id + 1
     → IsOpened (old.connection id) r (new.connection id) → ((k : ℕ) → k ≢ id → new.connection k ≡ old.connection k)
     → new.unsent id ≡ Some [] → ((k : ℕ) → k ≢ id → new.unsent k ≡ old.unsent k)
-    → new.handler ≡ old.handler → new.reads ≡ old.reads → new.writes ≡ old.writes → Keeps answers old new
-opened {S} answers id old new r at_count count opening same some others handler same_reads same_writes s reads writes x = record {
+    → new.handler ≡ old.handler → new.reads ≡ old.reads → new.writes ≡ old.writes → Keeps state finds answers old new
+opened state finds answers id old new r at_count count opening same some others handler same_reads same_writes s reads writes x = record {
   events = x.events ++ events_of id (change r);
-  standing = stand_then answers x.standing old.handler id (change r) (new.connection id) new.handler n;
-  happened = happen_then answers x.events x.standing s old.handler new.handler id (change r) (new.connection id) x.happened n;
+  standing = stand_then answers x.standing (state old.handler) id (change r) (new.connection id) (state new.handler) n;
+  happened = happen_then answers x.events x.standing (state s) (state old.handler) (state new.handler) id (change r) (new.connection id) x.happened n;
   stands = λ k. stands k (cases_eq k id);
   read = x.read;
   read_on = same_reads ∙ x.read_on;
@@ -332,6 +354,7 @@ opened {S} answers id old new r at_count count opening same some others handler 
     sent_on k x.events (events_of id (change r)) ∙ ap₂ (λ a b. a ++ b) (x.silent k (below k le)).0 (no_sent k r),
     (x.silent k (below k le)).1,
   );
+  kept = λ clean t f. kept_more answers (state s) t x.events (events_of id (change r)) x.wrote (x.kept clean t (subst (λ h. finds h t) handler f));
 }
   where
     change : Result (Unit {0}) Fault → Option Change
@@ -352,19 +375,19 @@ opened {S} answers id old new r at_count count opening same some others handler 
     none_at : old.connection id ≡ None
     none_at = subst (λ v. Stands v (old.connection id)) unopened_at (x.stands id)
 
-    next : (r : Result (Unit {0}) Fault) → IsOpened (old.connection id) r (new.connection id) → IsNext answers (x.standing id) old.handler (change r) (new.connection id) new.handler
-    next (Ok u) o = subst (λ v. IsNext answers v old.handler (Some opens) (new.connection id) new.handler) (sym unopened_at)
-        (subst (λ t. IsNext answers unopened old.handler (Some opens) (new.connection id) t) (sym handler) (opens_so answers old.handler (old.connection id) (new.connection id) u none_at o))
-    next (Err f) o = (subst (λ v. Stands v (new.connection id)) (sym unopened_at) (opens_not (old.connection id) (new.connection id) f none_at o), handler)
+    next : (r : Result (Unit {0}) Fault) → IsOpened (old.connection id) r (new.connection id) → IsNext answers (x.standing id) (state old.handler) (change r) (new.connection id) (state new.handler)
+    next (Ok u) o = subst (λ v. IsNext answers v (state old.handler) (Some opens) (new.connection id) (state new.handler)) (sym unopened_at)
+        (subst (λ t. IsNext answers unopened (state old.handler) (Some opens) (new.connection id) t) (sym (ap state handler)) (opens_so answers (state old.handler) (old.connection id) (new.connection id) u none_at o))
+    next (Err f) o = (subst (λ v. Stands v (new.connection id)) (sym unopened_at) (opens_not (old.connection id) (new.connection id) f none_at o), ap state handler)
 
-    n : IsNext answers (x.standing id) old.handler (change r) (new.connection id) new.handler
+    n : IsNext answers (x.standing id) (state old.handler) (change r) (new.connection id) (state new.handler)
     n = next r opening
 
-    stays : (k : ℕ) → k ≢ id → stand_then answers x.standing old.handler id (change r) (new.connection id) new.handler n k ≡ x.standing k
-    stays k ne = stands_other answers x.standing old.handler new.handler id (change r) (new.connection id) n k ne
+    stays : (k : ℕ) → k ≢ id → stand_then answers x.standing (state old.handler) id (change r) (new.connection id) (state new.handler) n k ≡ x.standing k
+    stays k ne = stands_other answers x.standing (state old.handler) (state new.handler) id (change r) (new.connection id) n k ne
 
-    stands : (k : ℕ) → (k ≡ id) ⊎ (k ≡ id → ⊥) → Stands (stand_then answers x.standing old.handler id (change r) (new.connection id) new.handler n k) (new.connection k)
-    stands k (inl e) = subst (λ i. Stands (stand_then answers x.standing old.handler id (change r) (new.connection id) new.handler n i) (new.connection i)) (sym e) (stands_own answers x.standing old.handler new.handler id (change r) (new.connection id) n)
+    stands : (k : ℕ) → (k ≡ id) ⊎ (k ≡ id → ⊥) → Stands (stand_then answers x.standing (state old.handler) id (change r) (new.connection id) (state new.handler) n k) (new.connection k)
+    stands k (inl e) = subst (λ i. Stands (stand_then answers x.standing (state old.handler) id (change r) (new.connection id) (state new.handler) n i) (new.connection i)) (sym e) (stands_own answers x.standing (state old.handler) (state new.handler) id (change r) (new.connection id) n)
     stands k (inr ne) = rw (stays k ne, same k ne) (x.stands k)
 
     tells : (k : ℕ) → (k ≡ id) ⊎ (k ≡ id → ⊥) → Tells (sent_to k x.events) (bytes_of k x.wrote) (new.unsent k)
@@ -377,27 +400,55 @@ opened {S} answers id old new r at_count count opening same some others handler 
     above : (k : ℕ) → new.count ≤ k → k ≢ id
     above k le e = omega (arith, count, le, e)
 
+-- ---- what was answered is made durable, or that fails
+pub settled : {H S : Type 0} (state : H → S) (finds : H → S → Type 0) (answers : Answers S) (before after : Sessions H) (o : Outbox) (reads writes : List Moved)
+    → ((k : ℕ) → connection_at after k ≡ connection_at before k) → state (handler_of after) ≡ state (handler_of before)
+    → ((t : S) → finds (handler_of after) t → finds (handler_of before) t ⊎ (t ≡ state (handler_of before)))
+    → Keeps state finds answers (state_of before o reads writes) (state_of after o reads writes)
+settled {H} {S} state finds answers before after o reads writes same stays crash s from_reads from_writes x = record {
+  events = x.events;
+  standing = x.standing;
+  happened = subst (λ (v : S). Happen answers none_is_open (state s) x.events x.standing v) (sym stays) x.happened;
+  stands = λ k. subst (Stands (x.standing k)) (sym (same k)) (x.stands k);
+  read = x.read;
+  read_on = x.read_on;
+  wrote = x.wrote;
+  wrote_on = x.wrote_on;
+  heard = x.heard;
+  told = x.told;
+  fresh = x.fresh;
+  silent = x.silent;
+  kept = λ clean t f. elim (crash t f) [
+    | inl w ↦ x.kept clean t w
+    | inr e ↦ all_kept answers (state s) (state (handler_of before)) t x.events x.wrote x.standing (unsent_at o) x.happened x.told e
+  ];
+}
+
 -- ---- the whole
-pub at_start : {S : Type 0} (answers : Answers S) (s : S) (reads writes : List Moved) (now : State S) → now.handler ≡ s → now.reads ≡ reads → now.writes ≡ writes
-    → ((k : ℕ) → now.connection k ≡ None) → ((k : ℕ) → now.unsent k ≡ None) → Goes answers s reads writes now
-at_start answers s reads writes now handler same_reads same_writes none silent = record {
+pub at_start : {H S : Type 0} (state : H → S) (finds : H → S → Type 0) (answers : Answers S) (start : H) (reads writes : List Moved) (now : State H) → now.handler ≡ start → now.reads ≡ reads → now.writes ≡ writes
+    → ((k : ℕ) → now.connection k ≡ None) → ((k : ℕ) → now.unsent k ≡ None) → Goes state finds answers start reads writes now
+at_start state finds answers start reads writes now handler same_reads same_writes none silent = record {
   events = [];
   standing = none_is_open;
-  happened = (λ k. refl, handler);
+  happened = (λ k. refl, ap state handler);
   stands = none;
   read = [];
   read_on = same_reads ∙ sym (append-nil reads);
   wrote = [];
   wrote_on = same_writes ∙ sym (append-nil writes);
   heard = λ k. refl;
-  told = λ k. rw (silent k) ([], refl);
+  told = told;
   fresh = λ k le. (refl, silent k);
   silent = λ k le. (refl, refl);
+  kept = λ clean t f. all_kept answers (state start) (state start) t [] [] none_is_open now.unsent (λ k. refl, refl) told (clean t (subst (λ h. finds h t) handler f));
 }
+  where
+    told : (k : ℕ) → Tells [] [] (now.unsent k)
+    told k = rw (silent k) ([], refl)
 
-pub is_served : {H : Type 0} (answers : Answers H) (before after : Sessions H) (o : Outbox) (reads writes more others : List Moved)
-    → Goes answers (handler_of before) reads writes (state_of after o more others) → IsServed answers before reads writes after more others
-is_served answers before after o reads writes more others x = record {
+pub is_served : {H S : Type 0} (state : H → S) (finds : H → S → Type 0) (answers : Answers S) (before after : Sessions H) (o : Outbox) (reads writes more others : List Moved)
+    → Goes state finds answers (handler_of before) reads writes (state_of after o more others) → IsServed state finds answers before reads writes after more others
+is_served state finds answers before after o reads writes more others x = record {
   events = x.events;
   standing = x.standing;
   happened = x.happened;
@@ -408,9 +459,10 @@ is_served answers before after o reads writes more others x = record {
   wrote_on = x.wrote_on;
   heard = x.heard;
   told = λ k. less_told _ _ (unsent_at o k) (x.told k);
+  kept = x.kept;
 }
 
 -- a call that moves nothing
-pub goes_on : {H : Type 0} (answers : Answers H) (s : H) (from_reads from_writes : List Moved) (sessions : Sessions H) (o : Outbox) (reads writes more others : List Moved)
-    → more ≡ reads → others ≡ writes → Goes answers s from_reads from_writes (state_of sessions o reads writes) → Goes answers s from_reads from_writes (state_of sessions o more others)
-goes_on answers s from_reads from_writes sessions o reads writes more others e f x = rw (e, f) x
+pub goes_on : {H S : Type 0} (state : H → S) (finds : H → S → Type 0) (answers : Answers S) (start : H) (from_reads from_writes : List Moved) (sessions : Sessions H) (o : Outbox) (reads writes more others : List Moved)
+    → more ≡ reads → others ≡ writes → Goes state finds answers start from_reads from_writes (state_of sessions o reads writes) → Goes state finds answers start from_reads from_writes (state_of sessions o more others)
+goes_on state finds answers start from_reads from_writes sessions o reads writes more others e f x = rw (e, f) x

@@ -1,3 +1,4 @@
+pub mod Kept
 pub mod Going
 pub mod Rounds
 pub mod Serving

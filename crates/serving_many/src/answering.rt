@@ -53,7 +53,7 @@ fn answer_piece<H: Handler, N: Network, O: Observer>(
     requires open { is_closed_at (connection_at sessions.old id) ≡ false }
     ensures kept { (before : List Moved)
         → N.reads network.old ≡ before ++ ((id, piece.now) ∷ [])
-        → Keeps H.answers
+        → Keeps H.state H.finds H.answers
         (state_of sessions.old outbox.old before (N.writes network.old))
         (state_of sessions.new outbox.new (N.reads network.new) (N.writes network.new)) }
     ensures own { result ≡ false → (bytes : Text) → unsent_at outbox.new id ≡ Some bytes
@@ -81,7 +81,7 @@ fn answer_end<H: Handler, N: Network, O: Observer>(
     id: u64,
 ) -> bool
     requires silent { unsent_at outbox.old id ≡ Some [] }
-    ensures kept { Keeps H.answers
+    ensures kept { Keeps H.state H.finds H.answers
         (state_of sessions.old outbox.old (N.reads network.old) (N.writes network.old))
         (state_of sessions.new outbox.new (N.reads network.new) (N.writes network.new)) }
     ensures own { result ≡ false → (bytes : Text) → unsent_at outbox.new id ≡ Some bytes
@@ -111,7 +111,7 @@ pub fn receive<H: Handler, N: Network, O: Observer>(
     requires silent { unsent_at outbox.old id ≡ Some [] }
     requires open { is_closed_at (connection_at sessions.old id) ≡ false }
     requires room { memory_of outbox.old ≤ size_at outbox.old id + most_of outbox.old }
-    ensures kept { Keeps H.answers
+    ensures kept { Keeps H.state H.finds H.answers
         (state_of sessions.old outbox.old (N.reads network.old) (N.writes network.old))
         (state_of sessions.new outbox.new (N.reads network.new) (N.writes network.new)) }
     ensures own { result ≡ false → (bytes : Text) → unsent_at outbox.new id ≡ Some bytes

@@ -1,7 +1,7 @@
 //! Ending a connection.
 
 ghost use Rattle.std.specs.Prelude.{◌≡◌, None};
-ghost use Rattle.connections.specs.Connected.{connection_at};
+ghost use Rattle.connections.specs.Connected.{handler_of, connection_at};
 ghost use Rattle.network.specs.Outboxes.{unsent_at, OthersStay};
 ghost use Rattle.network.specs.Readiness.{OthersDue};
 ghost use Rattle.serving_many.specs.Going.{Keeps, state_of};
@@ -21,9 +21,10 @@ pub fn cut_off<H: Handler, N: Network, O: Observer>(
     id: u64,
     fault: Option<Fault>,
 )
-    ensures kept { Keeps H.answers
+    ensures kept { Keeps H.state H.finds H.answers
         (state_of sessions.old outbox.old (N.reads network.old) (N.writes network.old))
         (state_of sessions.new outbox.new (N.reads network.new) (N.writes network.new)) }
+    ensures handler { handler_of sessions.new ≡ handler_of sessions.old }
     ensures gone { connection_at sessions.new id ≡ None }
     ensures none { unsent_at outbox.new id ≡ None }
     ensures stay { OthersStay id outbox.old outbox.new }

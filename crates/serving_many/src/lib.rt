@@ -8,7 +8,7 @@ mod observers;
 mod sending;
 mod serving;
 
-pub use connections::{Handler, Sessions};
+pub use connections::{Handler, Outage, Sessions, Unsettled};
 pub use network::{Broken, Fault, Network, Occasion, Outbox};
 pub use observers::Observer;
 pub use serving::serve_all;

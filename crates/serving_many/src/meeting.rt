@@ -47,7 +47,7 @@ fn open<H: Handler, N: Network, O: Observer>(
     observer: &mut O,
     id: u64,
 )
-    ensures kept { Keeps H.answers
+    ensures kept { Keeps H.state H.finds H.answers
         (state_of sessions.old outbox.old (N.reads network.old) (N.writes network.old))
         (state_of sessions.new outbox.new (N.reads network.new) (N.writes network.new)) }
     ensures own { ((d : Bool) → N.due network.old d id) → (bytes : Text)
@@ -87,7 +87,7 @@ fn go_on<H: Handler, N: Network, O: Observer>(
     buffer: &mut [u8],
 ) -> bool
     requires { unsent_at outbox.old id ≡ Some [] }
-    ensures kept { Keeps H.answers
+    ensures kept { Keeps H.state H.finds H.answers
         (state_of sessions.old outbox.old (N.reads network.old) (N.writes network.old))
         (state_of sessions.new outbox.new (N.reads network.new) (N.writes network.new)) }
     ensures own { result ≡ false → (bytes : Text) → unsent_at outbox.new id ≡ Some bytes
@@ -116,7 +116,7 @@ fn take_turn<H: Handler, N: Network, O: Observer>(
     id: u64,
     buffer: &mut [u8],
 ) -> bool
-    ensures kept { Keeps H.answers
+    ensures kept { Keeps H.state H.finds H.answers
         (state_of sessions.old outbox.old (N.reads network.old) (N.writes network.old))
         (state_of sessions.new outbox.new (N.reads network.new) (N.writes network.new)) }
     ensures own { result ≡ false → (bytes : Text) → unsent_at outbox.new id ≡ Some bytes
@@ -141,7 +141,7 @@ fn wait_for<H: Handler, N: Network, O: Observer>(
     waiting: &mut Vec<u64>,
     id: u64,
 )
-    ensures kept { Keeps H.answers
+    ensures kept { Keeps H.state H.finds H.answers
         (state_of sessions.old outbox.old (N.reads network.old) (N.writes network.old))
         (state_of sessions.new outbox.new (N.reads network.new) (N.writes network.new)) }
     ensures noted { IsAmong id waiting.new.items ⊎ (unsent_at outbox.new id ≡ None) }
@@ -176,7 +176,7 @@ pub fn meet<H: Handler, N: Network, O: Observer>(
     occasion: Occasion,
 )
     requires { (k : ℕ) (d : Bool) → occasion ≡ Occasion.Opens k → N.due network.old d k }
-    ensures kept { Keeps H.answers
+    ensures kept { Keeps H.state H.finds H.answers
         (state_of sessions.old outbox.old (N.reads network.old) (N.writes network.old))
         (state_of sessions.new outbox.new (N.reads network.new) (N.writes network.new)) }
     ensures due { IsDueBut occasion

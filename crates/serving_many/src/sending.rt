@@ -1,19 +1,21 @@
 //! Writing what is to be sent.
 
-ghost use Rattle.std.specs.Prelude.{◌≡◌, ◌≢◌, [], Some, Bool, ℕ};
+ghost use Rattle.std.specs.Prelude.{◌≡◌, ◌≢◌, [], Some, Err, Bool, ℕ, OnOk, OnErr};
 ghost use Rattle.definitions.specs.Values.{Text};
+ghost use Rattle.connections.specs.Connected.{handler_of};
+ghost use Rattle.connections.specs.Found.{FindsOnly};
 ghost use Rattle.network.specs.Outboxes.{unsent_at, OthersStay};
 ghost use Rattle.network.specs.Readiness.{has_bytes, AllDue, OthersDue};
 ghost use Rattle.serving_many.specs.Going.{Keeps, state_of};
 
 use crate::ending::cut_off;
 use crate::observers::Observer;
-use connections::{Handler, Sessions};
+use connections::{Handler, Outage, Sessions};
 use network::{Fault, Network, Outbox};
 use std::alloc::Global;
 
-/// Writes some of what is to be sent on a connection. One whose write fails is ended.
-pub fn send<H: Handler, N: Network, O: Observer>(
+// Writes some of what is to be sent on a connection, which is durable. One whose write fails is ended.
+fn send<H: Handler, N: Network, O: Observer>(
     alloc: Global,
     sessions: &mut Sessions<H>,
     outbox: &mut Outbox,
@@ -21,9 +23,11 @@ pub fn send<H: Handler, N: Network, O: Observer>(
     observer: &mut O,
     id: u64,
 )
-    ensures kept { Keeps H.answers
+    requires { FindsOnly H.finds (handler_of sessions.old) (H.state (handler_of sessions.old)) }
+    ensures kept { Keeps H.state H.finds H.answers
         (state_of sessions.old outbox.old (N.reads network.old) (N.writes network.old))
         (state_of sessions.new outbox.new (N.reads network.new) (N.writes network.new)) }
+    ensures handler { handler_of sessions.new ≡ handler_of sessions.old }
     ensures own { (bytes : Text) → unsent_at outbox.new id ≡ Some bytes
         → N.due network.new (has_bytes bytes) id }
     ensures stay { OthersStay id outbox.old outbox.new }
@@ -67,8 +71,8 @@ pub fn send<H: Handler, N: Network, O: Observer>(
     }
 }
 
-/// Writes some of what is to be sent on each of these connections.
-pub fn send_all<H: Handler, N: Network, O: Observer>(
+// Writes some of what is to be sent on each of these connections, which is durable.
+fn send_all<H: Handler, N: Network, O: Observer>(
     alloc: Global,
     sessions: &mut Sessions<H>,
     outbox: &mut Outbox,
@@ -76,13 +80,47 @@ pub fn send_all<H: Handler, N: Network, O: Observer>(
     observer: &mut O,
     ids: &[u64],
 )
-    ensures kept { Keeps H.answers
+    requires { FindsOnly H.finds (handler_of sessions.old) (H.state (handler_of sessions.old)) }
+    ensures kept { Keeps H.state H.finds H.answers
         (state_of sessions.old outbox.old (N.reads network.old) (N.writes network.old))
         (state_of sessions.new outbox.new (N.reads network.new) (N.writes network.new)) }
+    ensures handler { handler_of sessions.new ≡ handler_of sessions.old }
     ensures due { AllDue (unsent_at outbox.old) (N.due network.old) ids.now
         → AllDue (unsent_at outbox.new) (N.due network.new) [] }
 {
     for id in ids {
         send(alloc, sessions, outbox, network, observer, *id);
+    }
+}
+
+/// Ends a round: makes durable what was answered in it, and then writes some of what is to be sent on the connections that
+/// wait. Where it can't be made durable, nothing is written.
+pub fn end_round<H: Handler, N: Network, O: Observer>(
+    alloc: Global,
+    sessions: &mut Sessions<H>,
+    outbox: &mut Outbox,
+    network: &mut N,
+    observer: &mut O,
+    waiting: &mut Vec<u64>,
+) -> Result<(), Outage>
+    ensures kept { Keeps H.state H.finds H.answers
+        (state_of sessions.old outbox.old (N.reads network.old) (N.writes network.old))
+        (state_of sessions.new outbox.new (N.reads network.new) (N.writes network.new)) }
+    ensures due { OnOk result
+        (AllDue (unsent_at outbox.old) (N.due network.old) waiting.old.items
+        → AllDue (unsent_at outbox.new) (N.due network.new) []) }
+    ensures sent { OnOk result (waiting.new.items ≡ []) }
+    ensures untold { OnErr result (N.writes network.new ≡ N.writes network.old) }
+    ensures durable { OnOk result
+        (FindsOnly H.finds (handler_of sessions.new) (H.state (handler_of sessions.new))) }
+    ensures keeps { OnErr result H.keeps }
+{
+    match sessions.settle() {
+        Err(unsettled) => Err(Outage::Unsettled(unsettled)),
+        Ok(()) => {
+            send_all(alloc, sessions, outbox, network, observer, waiting);
+            waiting.clear();
+            Ok(())
+        }
     }
 }

@@ -4,11 +4,11 @@ use Rattle.serving_many.proofs.ending.cut_off.Goals as goal
 
 pub returns-then-was_open-clause-kept : goal.returns-then-was_open-clause-kept
 returns-then-was_open-clause-kept g c =
-    ended g.H.Handler.answers c.args.id _ _ c.end-was_open.ensures.count c.end.ensures.others c.end-was_open.ensures.others _ c.end.ensures.ended c.end.ensures.handler c.close.ensures.reads c.close.ensures.writes c.end-was_open.ensures.none
+    ended g.H.Handler.state g.H.Handler.finds g.H.Handler.answers c.args.id _ _ c.end-was_open.ensures.count c.end.ensures.others c.end-was_open.ensures.others _ c.end.ensures.ended c.end.ensures.handler c.close.ensures.reads c.close.ensures.writes c.end-was_open.ensures.none
 
 pub returns-clause-kept : goal.returns-clause-kept
 returns-clause-kept g c =
-    ended g.H.Handler.answers c.args.id _ _ c.end-was_open.ensures.count c.end.ensures.others c.end-was_open.ensures.others _ c.end.ensures.ended c.end.ensures.handler c.close.ensures.reads c.close.ensures.writes c.end-was_open.ensures.none
+    ended g.H.Handler.state g.H.Handler.finds g.H.Handler.answers c.args.id _ _ c.end-was_open.ensures.count c.end.ensures.others c.end-was_open.ensures.others _ c.end.ensures.ended c.end.ensures.handler c.close.ensures.reads c.close.ensures.writes c.end-was_open.ensures.none
 
 pub returns-then-was_open-clause-gone : goal.returns-then-was_open-clause-gone
 returns-then-was_open-clause-gone g c = gone_at_end _ _ _ c.end.ensures.ended

@@ -5,10 +5,10 @@ use Rattle.serving_many.proofs.sending.send.Goals as goal
 pub returns-in-Ok-Some-clause-kept : goal.returns-in-Ok-Some-clause-kept
 returns-in-Ok-Some-clause-kept g c =
     let was = sym c.in-Some.ensures in
-    wrote_some g.H.Handler.answers c.args.id _ _ c.advance.ensures.count (λ k ne. refl) c.advance.ensures.others _ c.in-Ok-Some.count refl refl
-    (c.again-in-Ok-Some.ensures.reads ∙ c.write.ensures.reads) (c.again-in-Ok-Some.ensures.writes ∙ (rw c.in-Ok-Some.field-0-is at c.in-Ok-Some.ensures.told)) was (c.advance.ensures.some _ was)
+    wrote_some g.H.Handler.state g.H.Handler.finds g.H.Handler.answers c.args.id _ _ c.advance.ensures.count (λ k ne. refl) c.advance.ensures.others _ c.in-Ok-Some.count refl refl
+    (c.again-in-Ok-Some.ensures.reads ∙ c.write.ensures.reads) (c.again-in-Ok-Some.ensures.writes ∙ (rw c.in-Ok-Some.field-0-is at c.in-Ok-Some.ensures.told)) was (c.advance.ensures.some _ was) c.requires
 
 pub returns-in-Ok-Some-eq0-clause-kept : goal.returns-in-Ok-Some-eq0-clause-kept
 returns-in-Ok-Some-eq0-clause-kept g c s reads writes x =
     c.cut_off.ensures.kept s reads writes
-    (wrote_nothing g.H.Handler.answers c.args.id _ _ refl (λ k ne. refl) (λ k ne. refl) refl refl refl c.write.ensures.reads (rw (c.in-Ok-Some-eq0.field-0-is, c.in-Ok-Some-eq0.field-0-0-test) at c.in-Ok-Some-eq0.ensures.told) s reads writes x)
+    (wrote_nothing g.H.Handler.state g.H.Handler.finds g.H.Handler.answers c.args.id _ _ refl (λ k ne. refl) (λ k ne. refl) refl refl refl c.write.ensures.reads (rw (c.in-Ok-Some-eq0.field-0-is, c.in-Ok-Some-eq0.field-0-0-test) at c.in-Ok-Some-eq0.ensures.told) s reads writes x)

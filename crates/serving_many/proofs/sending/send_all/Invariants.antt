@@ -1,4 +1,5 @@
-use Rattle.std.proofs.Common.{drop}
+use Rattle.std.proofs.Common.{◌≡◌, drop}
+use Rattle.connections.specs.Connected.{handler_of}
 use Rattle.network.specs.Outboxes.{unsent_at}
 use Rattle.network.specs.Readiness.{AllDue}
 use Rattle.serving_many.specs.Going.{Keeps, state_of}
@@ -6,7 +7,8 @@ use Rattle.serving_many.proofs.sending.send_all.Given as goal
 
 abbrev pub invariant-loop-id : goal.invariant-loop-id
 invariant-loop-id g l = record {
-  kept : Keeps g.H.Handler.answers (state_of l.fn.sessions l.fn.outbox (g.N.Network.reads l.fn.network) (g.N.Network.writes l.fn.network))
+  kept : Keeps g.H.Handler.state g.H.Handler.finds g.H.Handler.answers (state_of l.fn.sessions l.fn.outbox (g.N.Network.reads l.fn.network) (g.N.Network.writes l.fn.network))
       (state_of l.sessions l.outbox (g.N.Network.reads l.network) (g.N.Network.writes l.network));
+  handler : handler_of l.sessions ≡ handler_of l.fn.sessions;
   due : (AllDue (unsent_at l.fn.outbox) (g.N.Network.due l.fn.network) l.ids → AllDue (unsent_at l.outbox) (g.N.Network.due l.network) (drop l.id-index l.ids));
 }

@@ -2,31 +2,37 @@ use Rattle.std.proofs.Common.{refl, inl, inr, ⊎_elim}
 use Rattle.network.specs.Readiness.{has_bytes}
 use Rattle.network.specs.Outboxes.{unsent_at}
 use Rattle.network.specs.declared.networks.Occasion.TheVariants.{Ready}
+use Rattle.connections.specs.Connected.{handler_of}
+use Rattle.serving_many.specs.Going.{Goes, state_of}
 use Rattle.serving_many.proofs.Among.{same_occasion, no_some}
 use Rattle.serving_many.proofs.Turns.{at_start, is_served, goes_on}
 use Rattle.serving_many.proofs.serving.serve_all.Goals as goal
-use Rattle.serving_many.proofs.serving.serve_all.Goals.{in-Some, in-None+in-Ok}
+use Rattle.serving_many.proofs.serving.serve_all.Goals.{in-Some, in-None+in-Ok+in-Ok-wait, else-loop-test, then-loop-test+in-Some-Over}
 
 pub loop-init : goal.loop-init
 loop-init g c = record {
-  goes = at_start _ _ _ _ _ refl refl refl c.requires c.new-outbox.ensures.none;
+  goes = at_start _ _ _ _ _ _ _ refl refl refl c.requires c.new-outbox.ensures.none;
   due = λ k p e. absurd (no_some p (unsent_at c.new-outbox.result k) e (c.new-outbox.ensures.none k));
 }
 
-pub returns-in-Some-Over : goal.returns-in-Some-Over
-returns-in-Some-Over g c =
-    is_served _ _ _ c.send_all.new.outbox _ _ _ _ (c.send_all.ensures.kept _ _ _
-    (goes_on g.H.Handler.answers _ _ _ c.loop.sessions c.loop.outbox _ _ _ _ c.next.ensures.reads c.next.ensures.writes c.loop.invariant.goes))
+pub returns-in-Err-clause-served : goal.returns-in-Err-clause-served
+returns-in-Err-clause-served g c =
+    is_served g.H.Handler.state g.H.Handler.finds g.H.Handler.answers _ _ c.end_round.new.outbox _ _ _ _ (c.end_round.ensures.kept _ _ _
+    (goes_on g.H.Handler.state g.H.Handler.finds g.H.Handler.answers _ _ _ c.loop.sessions c.loop.outbox _ _ _ _ c.next.ensures.reads c.next.ensures.writes c.loop.invariant.goes))
 
-pub returns-in-Err : goal.returns-in-Err
-returns-in-Err g c =
-    is_served _ _ _ c.send_all-in-None.new.outbox _ _ _ _
-    (goes_on g.H.Handler.answers _ _ _ c.send_all-in-None.new.sessions c.send_all-in-None.new.outbox _ _ _ _ c.in-Err.ensures.reads c.in-Err.ensures.writes (c.send_all-in-None.ensures.kept _ _ _
-    (goes_on g.H.Handler.answers _ _ _ c.loop.sessions c.loop.outbox _ _ _ _ c.next.ensures.reads c.next.ensures.writes c.loop.invariant.goes)))
+pub wait-requires : goal.wait-requires
+wait-requires g c k p e =
+    c.in-Ok.ensures.due (λ j q e. ⊎_elim (λ d. inl (c.next.ensures.due j (has_bytes q) (λ is. no_some (Ready j) c.next.result is c.in-None.is) d)) (λ m. inr m) (c.loop.invariant.due j q e)) k p e
+
+pub returns-in-Err-wait-clause-served : goal.returns-in-Err-wait-clause-served
+returns-in-Err-wait-clause-served g c =
+    is_served g.H.Handler.state g.H.Handler.finds g.H.Handler.answers _ _ c.end_round.new.outbox _ _ _ _
+    (goes_on g.H.Handler.state g.H.Handler.finds g.H.Handler.answers _ _ _ c.end_round.new.sessions c.end_round.new.outbox _ _ _ _ c.in-Err-wait.ensures.reads c.in-Err-wait.ensures.writes (c.end_round.ensures.kept _ _ _
+    (goes_on g.H.Handler.state g.H.Handler.finds g.H.Handler.answers _ _ _ c.loop.sessions c.loop.outbox _ _ _ _ c.next.ensures.reads c.next.ensures.writes c.loop.invariant.goes)))
 
 pub loop-preserved : goal.loop-preserved
 loop-preserved g c =
-    let goes = goes_on g.H.Handler.answers _ _ _ c.loop.sessions c.loop.outbox _ _ _ _ c.next.ensures.reads c.next.ensures.writes c.loop.invariant.goes in
+    let goes = goes_on g.H.Handler.state g.H.Handler.finds g.H.Handler.answers _ _ _ c.loop.sessions c.loop.outbox _ _ _ _ c.next.ensures.reads c.next.ensures.writes c.loop.invariant.goes in
     elim c.match-next.branch [
       | in-Some w ↦
           rw (w.sessions-is, w.outbox-is, w.network-is, w.round-is) (record {
@@ -35,14 +41,22 @@ loop-preserved g c =
                 ⊎_elim (λ d. inl (c.next.ensures.due k (has_bytes p) (λ is. ne (same_occasion c.next.result w.in-Some.occasion (Ready k) w.in-Some.is is)) d)) (λ m. inr m)
                 (c.loop.invariant.due k p e));
           })
-      | in-None+in-Ok w ↦
-          let due = w.send_all-in-None.ensures.due (λ k p e.
-          ⊎_elim (λ d. inl (c.next.ensures.due k (has_bytes p) (λ is. no_some (Ready k) c.next.result is w.in-None.is) d)) (λ m. inr (rw w.deref-in-None.ensures.value m)) (c.loop.invariant.due k p e)) in
+      | in-None+in-Ok+in-Ok-wait w ↦
+          let due = w.in-Ok.ensures.due (λ k p e.
+          ⊎_elim (λ d. inl (c.next.ensures.due k (has_bytes p) (λ is. no_some (Ready k) c.next.result is w.in-None.is) d)) (λ m. inr m) (c.loop.invariant.due k p e)) in
           rw (w.sessions-is, w.outbox-is, w.network-is, w.round-is) (record {
-            goes = goes_on g.H.Handler.answers _ _ _ w.send_all-in-None.new.sessions w.send_all-in-None.new.outbox _ _ _ _ w.wait.ensures.reads w.wait.ensures.writes (w.send_all-in-None.ensures.kept _ _ _ goes);
+            goes = goes_on g.H.Handler.state g.H.Handler.finds g.H.Handler.answers _ _ _ w.end_round.new.sessions w.end_round.new.outbox _ _ _ _ w.wait.ensures.reads w.wait.ensures.writes (w.end_round.ensures.kept _ _ _ goes);
             due = λ k p e. ⊎_elim (λ d. inl (w.wait.ensures.due k (has_bytes p) d)) (λ m. absurd m) (due k p e);
           })
     ]
 
-pub returns : goal.returns
-returns g c = is_served _ _ _ c.loop.outbox _ _ _ _ c.loop.invariant.goes
+pub returns-clause-served : goal.returns-clause-served
+returns-clause-served g c =
+    let goes : Goes g.H.Handler.state g.H.Handler.finds g.H.Handler.answers (handler_of c.args.sessions.now) (g.N.Network.reads c.args.network.now) (g.N.Network.writes c.args.network.now)
+    (state_of c.loop.sessions c.loop.outbox (g.N.Network.reads c.loop-test.network) (g.N.Network.writes c.loop-test.network)) =
+    elim c.loop-test.branch [
+      | else-loop-test w ↦ rw w.network-is c.loop.invariant.goes
+      | then-loop-test+in-Some-Over w ↦
+          rw w.network-is (goes_on g.H.Handler.state g.H.Handler.finds g.H.Handler.answers _ _ _ c.loop.sessions c.loop.outbox _ _ _ _ w.next.ensures.reads w.next.ensures.writes c.loop.invariant.goes)
+    ] in
+    is_served g.H.Handler.state g.H.Handler.finds g.H.Handler.answers _ _ c.end_round-2.new.outbox _ _ _ _ (c.end_round-2.ensures.kept _ _ _ goes)

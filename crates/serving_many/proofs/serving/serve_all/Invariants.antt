@@ -6,7 +6,7 @@ use Rattle.serving_many.proofs.serving.serve_all.Given as goal
 
 abbrev pub invariant-loop : goal.invariant-loop
 invariant-loop g l = record {
-  goes : Goes g.H.Handler.answers (handler_of l.fn.sessions) (g.N.Network.reads l.fn.network) (g.N.Network.writes l.fn.network)
+  goes : Goes g.H.Handler.state g.H.Handler.finds g.H.Handler.answers (handler_of l.fn.sessions) (g.N.Network.reads l.fn.network) (g.N.Network.writes l.fn.network)
       (state_of l.sessions l.outbox (g.N.Network.reads l.network) (g.N.Network.writes l.network));
   due : AllDue (unsent_at l.outbox) (g.N.Network.due l.network) l.round.waiting.items;
 }

@@ -3,3 +3,4 @@ pub mod Numbers
 pub mod Socket
 pub mod Sockets
 pub mod Table
+pub mod Endings

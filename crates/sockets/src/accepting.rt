@@ -1,16 +1,18 @@
 //! Connections that are accepted and served, one after the other.
-ghost use Rattle.std.specs.Prelude.{◌≡◌, ◌⊎◌, [], ℕ, None, IfOk};
+ghost use Rattle.std.specs.Prelude.{◌≡◌, [], ℕ, None, Err, IfOk};
 ghost use Rattle.connections.specs.Connected.{connection_at, handler_of};
+ghost use Rattle.connections.specs.Found.{FindsOnly};
 ghost use Rattle.serving.specs.Streams.{transfers_of};
-ghost use Rattle.serving.specs.Talks.{Talk, IsTalk, IsLetGo, AreAllServed};
+ghost use Rattle.serving.specs.Talks.{Talk, IsTalkKept, AreAllServed, IsFoundBehindAll};
+ghost use Rattle.sockets.specs.Endings.{unsettled_in};
 
 use crate::interruption::{Interruption, tell};
 use crate::limited::Limited;
 use crate::limits::Limits;
 use crate::parting::part;
-use connections::{Handler, Sessions};
+use connections::{Handler, Outage, Sessions, Unsettled};
 use faults::Fault;
-use serving::{Recorded, serve};
+use serving::{Failure, Recorded, serve};
 use std::alloc::Global;
 use std::io::{self, ErrorKind, Write};
 use std::net::{Net, SocketAddr, TcpListener, TcpStream};
@@ -28,7 +30,11 @@ pub fn bind<N: Net<Listener = TcpListener, Stream = TcpStream>>(
 }
 
 /// Accepts `count` connections and serves each to its end before the next. A connection's fault is told on `errors` as
-/// `connection <k>: <name>`, counted from 1, and the next one is served. The error is that of an accept.
+/// `connection <k>: <name>`, counted from 1, and the next one is served.
+///
+/// - [`Outage::Broken`] where an accept failed.
+/// - [`Outage::Unsettled`] where what a connection was answered couldn't be made durable: no reply to its last piece is
+///   written, and no more is served.
 ///
 /// A connection that waits for too long, or takes too long as a whole, has a failed reader or writer.
 ///
@@ -41,19 +47,41 @@ pub fn serve_connections<C: Clock, H: Handler, E: Write>(
     count: u32,
     sessions: &mut Sessions<H>,
     errors: &mut E,
-) -> io::Result<()>
+) -> Result<(), Outage>
     ensures served { ((k : ℕ) → connection_at sessions.old k ≡ None)
-        → AreAllServed H.answers count (handler_of sessions.old) result (handler_of sessions.new) }
+        → AreAllServed H.answers count (H.state (handler_of sessions.old)) result
+        (H.state (handler_of sessions.new)) }
+    ensures found { ((k : ℕ) → connection_at sessions.old k ≡ None)
+        → FindsOnly H.finds (handler_of sessions.old) (H.state (handler_of sessions.old))
+        → (s : H.State) → H.finds (handler_of sessions.new) s
+        → IsFoundBehindAll H.answers (H.state (handler_of sessions.old)) result
+        (H.state (handler_of sessions.new)) s }
     ensures free { (k : ℕ) → connection_at sessions.new k ≡ connection_at sessions.old k }
+    ensures keeps { (why : Unsettled) → result ≡ Err (Outage.Unsettled why) → H.keeps }
 {
     for served in 0..count {
-        let (stream, _peer) = listener.accept()?;
-        serve_connection(alloc, clock, &stream, limits, served + 1, sessions, errors);
+        match listener.accept() {
+            Err(_) => return Err(Outage::Broken),
+            Ok((stream, _peer)) => {
+                match serve_connection(
+                    alloc,
+                    clock,
+                    &stream,
+                    limits,
+                    served + 1,
+                    sessions,
+                    errors,
+                ) {
+                    Ok(()) => {}
+                    Err(unsettled) => return Err(Outage::Unsettled(unsettled)),
+                }
+            }
+        }
     }
     Ok(())
 }
 
-/// Serves one connection to its end, and tells its fault.
+/// Serves one connection to its end, and tells its fault. The error is that what it was answered couldn't be made durable.
 fn serve_connection<C: Clock, H: Handler, E: Write>(
     alloc: Global,
     clock: &C,
@@ -62,18 +90,21 @@ fn serve_connection<C: Clock, H: Handler, E: Write>(
     number: u32,
     sessions: &mut Sessions<H>,
     errors: &mut E,
-)
-    ensures served { connection_at sessions.old number ≡ None → (x : Talk)
-        × (IsTalk H.answers (handler_of sessions.old) x (handler_of sessions.new)
-        ⊎ IsLetGo (handler_of sessions.old) x (handler_of sessions.new)) }
+) -> Result<(), Unsettled>
+    ensures served { connection_at sessions.old number ≡ None
+        → (x : Talk) × (result ≡ unsettled_in x.result)
+        × IsTalkKept H.state H.finds H.answers (handler_of sessions.old) x (handler_of sessions.new) }
     ensures free { (k : ℕ) → connection_at sessions.new k ≡ connection_at sessions.old k }
+    ensures keeps { (why : Unsettled) → result ≡ Err why → H.keeps }
 {
     let served = serve_stream(alloc, clock, stream, limits, number, sessions);
     part(clock, stream, limits.parting);
     match served {
-        Ok(()) => {}
-        Err(fault) => {
+        Ok(()) => Ok(()),
+        Err(Failure::Unsettled(unsettled)) => Err(unsettled),
+        Err(Failure::Fault(fault)) => {
             let _ = tell(errors, &Interruption { number, fault });
+            Ok(())
         }
     }
 }
@@ -100,14 +131,14 @@ fn serve_stream<C: Clock, H: Handler>(
     limits: Limits,
     number: u32,
     sessions: &mut Sessions<H>,
-) -> Result<(), Fault>
+) -> Result<(), Failure>
     ensures served { connection_at sessions.old number ≡ None → (x : Talk) × (x.result ≡ result)
-        × (IsTalk H.answers (handler_of sessions.old) x (handler_of sessions.new)
-        ⊎ IsLetGo (handler_of sessions.old) x (handler_of sessions.new)) }
+        × IsTalkKept H.state H.finds H.answers (handler_of sessions.old) x (handler_of sessions.new) }
     ensures free { (k : ℕ) → connection_at sessions.new k ≡ connection_at sessions.old k }
+    ensures keeps { (why : Unsettled) → result ≡ Err (Failure.Unsettled why) → H.keeps }
 {
     match streams_of(clock, stream, limits) {
-        Err(_) => Err(Fault::ReadFailed),
+        Err(_) => Err(Failure::Fault(Fault::ReadFailed)),
         Ok((mut reader, mut writer)) => {
             serve(alloc, sessions, u64::from(number), &mut reader, &mut writer)
         }

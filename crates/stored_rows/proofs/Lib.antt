@@ -1,0 +1,9 @@
+pub mod RowOrder
+pub mod RegistryRows
+pub mod KeyedRegistries
+pub mod ChangedRows
+pub mod AnsweredRows
+pub mod RestoredRows
+pub mod BaseForms
+pub mod PutBackDocuments
+pub mod RowsPutBack

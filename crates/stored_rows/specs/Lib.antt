@@ -1,0 +1,5 @@
+pub mod Rows
+pub mod Restoring
+pub mod Laws
+pub mod RowViews
+pub mod StoreFaults

@@ -1,0 +1,6 @@
+mod Commits
+mod Found
+mod Puts
+mod Rows
+mod Seeks
+mod Turns

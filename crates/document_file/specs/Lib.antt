@@ -1,0 +1,5 @@
+pub mod Entries
+pub mod Files
+pub mod Props
+pub mod Puts
+pub mod Tables

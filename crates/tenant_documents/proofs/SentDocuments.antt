@@ -1,5 +1,5 @@
 -- Puts and deletes that are answered.
-use Rattle.std.proofs.Common.{◌≡◌, ◌<◌, Bool, true, false, not, cond, List, [], ◌∷◌, ◌++◌, Option, Some, None, Ok, Err, length, is_some, is_none, IsTrue, Contains, true≢false, option_map, refl, sym, ap, ◌∙◌, inl, inr, subst}
+use Rattle.std.proofs.Common.{◌≡◌, ◌<◌, Bool, true, false, not, cond, List, [], ◌∷◌, ◌++◌, Option, Some, None, Ok, Err, length, is_some, is_none, IsTrue, Contains, true≢false, option_map, refl, sym, ap, ◌∙◌, inl, inr, subst, Result}
 use Rattle.std.proofs.lemmas.Bool.{and_from}
 use borrow.Author.Tests.{lt-ltb}
 use Rattle.definitions.specs.Documents.{document_of, documents_with, others_of, taken_uri}
@@ -18,30 +18,18 @@ use Rattle.definition_laws.proofs.AcceptedDocuments.{first_none}
 use Rattle.definition_laws.proofs.Replacing.{all_kept}
 use Rattle.definition_laws.proofs.Membership.{found_some}
 use Rattle.shared_cache.specs.Refusals.{Refuses}
-use Rattle.tenant_documents.specs.Puts.{IsSent, IsRefused, IsPut, IsDeleted}
+use Rattle.tenant_documents.specs.Puts.{IsSent, IsRefused, IsPut, IsDeleted, put_under, IsPutUnder, IsUnder, RefusesUnder}
 
--- ---- refused by every registry
-pub for_room : (uri body : Text) → IsRefused uri body no_room
-for_room uri body g = inr (inl refl, refl)
+-- ---- a value that is put under a base
+under : (g : Registry) (form : Result Text Fault) (base : Text) (v : Value) → form ≡ Ok base → put_under g form v ≡ put_into regular_search g (document_from base v)
+under g form base v e = ap (λ b. for_base g b (λ t. put_into regular_search g (document_from t v))) e
 
-pub bad_base : (uri body : Text) (f : Fault) → base_form uri ≡ Err f → IsRefused uri body f
-bad_base uri body f e g =
-    let is : step regular_search g (put uri body) ≡ (refused f, g) = ap (λ b. for_base g b (λ t. for_value g (body_value body) (λ v. put_into regular_search g (document_from t v)))) e in
-    inl (ap (λ p. p.0) (sym is), ap (λ p. p.1) (sym is))
+pub no_room_under : (form : Result Text Fault) (v : Value) → RefusesUnder form v no_room
+no_room_under form v g = inr (inl refl, refl)
 
--- the step of what is put under this base
-step_under : (g : Registry) (uri body base : Text) → base_form uri ≡ Ok base
-    → step regular_search g (put uri body) ≡ for_value g (body_value body) (λ v. put_into regular_search g (document_from base v))
-step_under g uri body base e = ap (λ b. for_base g b (λ t. for_value g (body_value body) (λ v. put_into regular_search g (document_from t v)))) e
-
-step_of : (g : Registry) (uri body base : Text) (v : Value) → base_form uri ≡ Ok base → body_value body ≡ Ok v
-    → step regular_search g (put uri body) ≡ put_into regular_search g (document_from base v)
-step_of g uri body base v e h = step_under g uri body base e ∙ ap (λ r. for_value g r (λ w. put_into regular_search g (document_from base w))) h
-
-pub bad_body : (uri body base : Text) (f : Fault) → base_form uri ≡ Ok base → body_value body ≡ Err f → IsRefused uri body f
-bad_body uri body base f e h g =
-    let is : step regular_search g (put uri body) ≡ (refused f, g) =
-    step_under g uri body base e ∙ ap (λ r. for_value g r (λ w. put_into regular_search g (document_from base w))) h in
+pub bad_base_under : (form : Result Text Fault) (v : Value) (f : Fault) → form ≡ Err f → RefusesUnder form v f
+bad_base_under form v f e g =
+    let is : put_under g form v ≡ (refused f, g) = ap (λ b. for_base g b (λ t. put_into regular_search g (document_from t v))) e in
     inl (ap (λ p. p.0) (sym is), ap (λ p. p.1) (sym is))
 
 -- ---- what a scan refuses, and a pattern that isn't built
@@ -65,43 +53,78 @@ granted_into : (g : Registry) (d : Document) → refusal_of g d ≡ None
 granted_into g d e =
     ap (λ o. decision o (stored d.canonical (is_some (document_of g.documents d.canonical))) (record g { documents = documents_with d g.documents }) g) e
 
-not_built : (uri body base : Text) (v : Value) (b : Bool) → base_form uri ≡ Ok base → body_value body ≡ Ok v → scan_fault base v ≡ None → has_patterns v ≡ true
-    → is_regular regular_search v ≡ b → IsRefused uri body bad_pattern
-not_built uri body base v true e h fine some regular g = inr (inr (inl (refl, builds_them)), refl)
+not_built : (form : Result Text Fault) (base : Text) (v : Value) (b : Bool) → form ≡ Ok base → scan_fault base v ≡ None → has_patterns v ≡ true
+    → is_regular regular_search v ≡ b → RefusesUnder form v bad_pattern
+not_built form base v true e fine some regular g = inr (inr (refl, builds_them), refl)
   where
-    builds_them : IsTrue (builds regular_search (base_form uri) (body_value body))
-    builds_them = rw (e, h) (and_from (is_none (scan_fault base v)) _ (ap is_none fine) (and_from (has_patterns v) (is_regular regular_search v) some regular))
-not_built uri body base v false e h fine some irregular g =
+    builds_them : IsTrue (builds regular_search form (Ok v))
+    builds_them = rw e (and_from (is_none (scan_fault base v)) _ (ap is_none fine) (and_from (has_patterns v) (is_regular regular_search v) some regular))
+not_built form base v false e fine some irregular g =
     let d = document_from base v in
-    let is : step regular_search g (put uri body) ≡ (refused bad_pattern, g) =
-    step_of g uri body base v e h
+    let is : put_under g form v ≡ (refused bad_pattern, g) =
+    under g form base v e
     ∙ refused_into g d bad_pattern (first_behind (scan_faults base v) _ (Some bad_pattern) fine
     (first_of_more (when (not (is_regular regular_search v)) bad_pattern) _ bad_pattern (ap (λ b. first (when (not b) bad_pattern)) irregular))) in
     inl (ap (λ p. p.0) (sym is), ap (λ p. p.1) (sym is))
 
-pub not_compiled : (uri body base : Text) (v : Value) (f : Fault) → base_form uri ≡ Ok base → body_value body ≡ Ok v → Refuses base v f → IsRefused uri body f
-not_compiled uri body base v f e h why = elim why [
+pub not_compiled_under : (form : Result Text Fault) (base : Text) (v : Value) (f : Fault) → form ≡ Ok base → Refuses base v f → RefusesUnder form v f
+not_compiled_under form base v f e why = elim why [
   | inl faulty ↦ λ g.
-      let is : step regular_search g (put uri body) ≡ (refused f, g) =
-      step_of g uri body base v e h ∙ refused_into g (document_from base v) f (first_of_more (scan_faults base v) _ f faulty) in
+      let is : put_under g form v ≡ (refused f, g) =
+      under g form base v e ∙ refused_into g (document_from base v) f (first_of_more (scan_faults base v) _ f faulty) in
       inl (ap (λ p. p.0) (sym is), ap (λ p. p.1) (sym is))
-  | inr pattern ↦ subst (IsRefused uri body) (sym pattern.0)
-      (not_built uri body base v (is_regular regular_search v) e h pattern.1 (some_patterns v pattern.2) refl)
+  | inr pattern ↦ subst (RefusesUnder form v) (sym pattern.0)
+      (not_built form base v (is_regular regular_search v) e pattern.1 (some_patterns v pattern.2) refl)
 ]
   where
     some_patterns : (w : Value) → 0 < length (patterns w) → has_patterns w ≡ true
     some_patterns w more = lt-ltb 0 (length (patterns w)) more
 
--- ---- a document that was sent
-pub put_answer : (g h : Registry) (uri body : Text) (d : Document) (r : Reply) → d ≡ document_from d.base d.value → IsSent uri body d → IsPut g d r h
-    → IsAnswer regular_search g (put uri body) r h
-put_answer g h uri body d r made sent is = elim is [
+pub put_under_answer : (g h : Registry) (form : Result Text Fault) (v : Value) (d : Document) (r : Reply) → d ≡ document_from d.base d.value → IsUnder form v d → IsPut g d r h
+    → IsPutUnder g form v r h
+put_under_answer g h form v d r made is_under is = elim is [
   | inl granted ↦
-      let same : step regular_search g (put uri body) ≡ put_into regular_search g d =
-      step_of g uri body d.base d.value sent.base sent.value ∙ ap (put_into regular_search g) (sym made) in
+      let same : put_under g form v ≡ put_into regular_search g d =
+      under g form d.base v is_under.base ∙ ap (λ w. put_into regular_search g (document_from d.base w)) is_under.value ∙ ap (put_into regular_search g) (sym made) in
       inl (granted.0 ∙ ap (λ p. p.0) (sym same), granted.1 ∙ ap (λ p. p.1) (sym same))
   | inr room ↦ inr (inl room.0, room.1)
 ]
+
+-- ---- a body with this value is put
+put_step : (g : Registry) (uri body : Text) (v : Value) → body_value body ≡ Ok v → step regular_search g (put uri body) ≡ put_under g (base_form uri) v
+put_step g uri body v h = ap (λ r. for_base g (base_form uri) (λ t. for_value g r (λ w. put_into regular_search g (document_from t w)))) h
+
+of_body : (g h : Registry) (uri body : Text) (v : Value) (r : Reply) → body_value body ≡ Ok v → IsPutUnder g (base_form uri) v r h → IsAnswer regular_search g (put uri body) r h
+of_body g h uri body v r e (inl s) =
+    let same = put_step g uri body v e in
+    inl (s.0 ∙ ap (λ p. p.0) (sym same), s.1 ∙ ap (λ p. p.1) (sym same))
+of_body g h uri body v r e (inr (inl room, same)) = inr (inl room, same)
+of_body g h uri body v r e (inr (inr pattern, same)) =
+    inr (inr (inl (pattern.0, subst (λ b. IsTrue (builds regular_search (base_form uri) b)) (sym e) pattern.1)), same)
+
+pub for_room : (uri body : Text) → IsRefused uri body no_room
+for_room uri body g = inr (inl refl, refl)
+
+pub bad_base : (uri body : Text) (f : Fault) → base_form uri ≡ Err f → IsRefused uri body f
+bad_base uri body f e g =
+    let is : step regular_search g (put uri body) ≡ (refused f, g) = ap (λ b. for_base g b (λ t. for_value g (body_value body) (λ v. put_into regular_search g (document_from t v)))) e in
+    inl (ap (λ p. p.0) (sym is), ap (λ p. p.1) (sym is))
+
+pub bad_body : (uri body base : Text) (f : Fault) → base_form uri ≡ Ok base → body_value body ≡ Err f → IsRefused uri body f
+bad_body uri body base f e h g =
+    let is : step regular_search g (put uri body) ≡ (refused f, g) =
+    ap (λ b. for_base g b (λ t. for_value g (body_value body) (λ v. put_into regular_search g (document_from t v)))) e
+    ∙ ap (λ r. for_value g r (λ w. put_into regular_search g (document_from base w))) h in
+    inl (ap (λ p. p.0) (sym is), ap (λ p. p.1) (sym is))
+
+pub not_compiled : (uri body base : Text) (v : Value) (f : Fault) → base_form uri ≡ Ok base → body_value body ≡ Ok v → Refuses base v f → IsRefused uri body f
+not_compiled uri body base v f e h why g = of_body g g uri body v (refused f) h (not_compiled_under (base_form uri) base v f e why g)
+
+-- ---- a document that was sent
+pub put_answer : (g h : Registry) (uri body : Text) (d : Document) (r : Reply) → d ≡ document_from d.base d.value → IsSent uri body d → IsPut g d r h
+    → IsAnswer regular_search g (put uri body) r h
+put_answer g h uri body d r made sent is =
+    of_body g h uri body d.value r sent.value (put_under_answer g h (base_form uri) d.value d r made (record { base = sent.base; value = refl }) is)
 
 pub refused_put : (g : Registry) (d : Document) (f : Fault) → refusal_of g d ≡ Some f → IsPut g d (refused f) g
 refused_put g d f e = let is = refused_into g d f e in inl (ap (λ p. p.0) (sym is), ap (λ p. p.1) (sym is))

@@ -4,3 +4,4 @@ pub mod Sources
 pub mod EntryRefusals
 pub mod Batches
 pub mod HeldBeside
+pub mod StoredTexts

@@ -1,13 +1,14 @@
 -- What a put of one document may answer.
-use Rattle.std.specs.Prelude.{◌≡◌, ◌⊎◌, ℕ, ◌^◌, ◌≤◌, Ok, List, Option, Some, None, Bool, false, not, length}
+use Rattle.std.specs.Prelude.{◌≡◌, ◌⊎◌, ℕ, ◌^◌, ◌≤◌, Result, Ok, List, Option, Some, None, Bool, false, not, length, IsTrue}
 use Rattle.definitions.specs.Documents.{bytes_of}
-use Rattle.definitions.specs.Faults.{Fault, no_room}
+use Rattle.definitions.specs.Faults.{Fault, bad_pattern, no_room}
 use Rattle.definitions.specs.Patterns.{regular_search}
-use Rattle.definitions.specs.Registries.{Registry, Reply, put, put_into, deleted_from, refused, body_value}
+use Rattle.definitions.specs.Registries.{Registry, Reply, put, put_into, deleted_from, refused, body_value, for_base}
 use Rattle.definitions.specs.Resolution.{base_form}
 use Rattle.definitions.specs.Runs.{IsAnswer}
-use Rattle.definitions.specs.Schemas.{Document}
-use Rattle.definitions.specs.Values.{Text, same_text}
+use Rattle.definitions.specs.Schemas.{Document, document_from}
+use Rattle.definitions.specs.Searches.{builds}
+use Rattle.definitions.specs.Values.{Text, Value, same_text}
 
 -- the text is the URI's that the document stands under, and the body's value the document's
 pub record IsSent (uri body : Text) (d : Document) : Type 0 where
@@ -22,6 +23,28 @@ IsRefused uri body f = (g : Registry) → IsAnswer regular_search g (put uri bod
 abbrev pub IsPut : Registry → Document → Reply → Registry → Type 0
 IsPut g d r h =
     ((r ≡ (put_into regular_search g d).0) × (h ≡ (put_into regular_search g d).1)) ⊎ ((r ≡ refused no_room) × (h ≡ g))
+
+-- what putting this value under a base gives, where it is one
+abbrev pub put_under : Registry → Result Text Fault → Value → Reply × Registry
+put_under g base v = for_base g base (λ b. put_into regular_search g (document_from b v))
+
+-- refused for room: want of memory, or a pattern that the grammar reads and that couldn't be built
+abbrev pub IsForRoom : Result Text Fault → Value → Reply → Type 0
+IsForRoom base v r = (r ≡ refused no_room) ⊎ ((r ≡ refused bad_pattern) × IsTrue (builds regular_search base (Ok v)))
+
+-- what that may answer: it, or a refusal for room, which changes nothing
+abbrev pub IsPutUnder : Registry → Result Text Fault → Value → Reply → Registry → Type 0
+IsPutUnder g base v r h =
+    ((r ≡ (put_under g base v).0) × (h ≡ (put_under g base v).1)) ⊎ (IsForRoom base v r × (h ≡ g))
+
+-- the document stands under the base, with this value
+pub record IsUnder (form : Result Text Fault) (v : Value) (d : Document) : Type 0 where
+  pub base : form ≡ Ok d.base
+  pub value : v ≡ d.value
+
+-- every registry may answer this so, and then is as it was
+abbrev pub RefusesUnder : Result Text Fault → Value → Fault → Type 0
+RefusesUnder base v f = (g : Registry) → IsPutUnder g base v (refused f) g
 
 -- of the document that holds a URI, where one does: whether it has this canonical URI
 abbrev pub is_named : Text → Option Document → Bool

@@ -1,10 +1,13 @@
 //! A document that was sent, before any registry judges it.
 
 ghost use Rattle.std.specs.Prelude.{IfErr, IfOk};
+ghost use Rattle.definitions.specs.Resolution.{base_form};
 ghost use Rattle.faults.specs.View.{fault_view};
+ghost use Rattle.json_doc.specs.Docs.{value};
 ghost use Rattle.stored_documents.specs.StoredDocuments.{stored_view};
-ghost use Rattle.tenant_documents.specs.Puts.{IsSent, IsRefused};
+ghost use Rattle.tenant_documents.specs.Puts.{IsSent, IsRefused, IsUnder, RefusesUnder};
 
+use json_doc::Doc;
 use requests::Fault;
 use shared_cache::Cache;
 use std::alloc::Global;
@@ -24,5 +27,20 @@ pub(crate) fn accept(
 {
     let base = base_form(alloc, uri)?;
     let document = read_body(alloc, body)?;
+    Stored::of(alloc, cache, &split(base.as_str()), document)
+}
+
+// The same of a document that was read.
+pub(crate) fn accept_document(
+    alloc: Global,
+    cache: &mut Cache,
+    uri: &str,
+    document: Doc,
+) -> Result<Stored, Fault>
+    ensures ok { IfOk result (λ s. IsUnder (base_form uri.now) (value document) (stored_view s)) }
+    ensures err { IfErr result (λ f. RefusesUnder (base_form uri.now) (value document)
+        (fault_view f)) }
+{
+    let base = base_form(alloc, uri)?;
     Stored::of(alloc, cache, &split(base.as_str()), document)
 }

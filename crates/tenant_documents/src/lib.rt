@@ -20,6 +20,7 @@ mod quotas;
 mod registry;
 mod repeated_texts;
 mod source;
+mod stored_texts;
 mod taken_uris;
 mod tenant_source;
 

@@ -1,17 +1,20 @@
-//! A document is put.
+//! A document is put, or put back.
 
 ghost use Rattle.std.specs.Prelude.{IfErr, IfOk};
 ghost use Rattle.definitions.specs.Patterns.{regular_search};
 ghost use Rattle.definitions.specs.Registries.{put, refused};
+ghost use Rattle.definitions.specs.Resolution.{base_form};
 ghost use Rattle.definitions.specs.Runs.{IsAnswer};
 ghost use Rattle.faults.specs.View.{fault_view};
+ghost use Rattle.json_doc.specs.Docs.{value};
 ghost use Rattle.requests.specs.Views.{reply_view};
 ghost use Rattle.stored_documents.specs.StoredDocuments.{stored_view};
-ghost use Rattle.tenant_documents.specs.Puts.{IsPut};
+ghost use Rattle.tenant_documents.specs.Puts.{IsPut, IsPutUnder};
 ghost use Rattle.tenant_documents.specs.Registries.{registry_view};
 
-use crate::accepting::accept;
+use crate::accepting::{accept, accept_document};
 use crate::registry::Registry;
+use json_doc::Doc;
 use requests::{Fault, Reply};
 use shared_cache::Cache;
 use std::alloc::Global;
@@ -50,6 +53,37 @@ impl Registry {
             (put uri.now body.now) (refused (fault_view f)) (registry_view self.new)) }
     {
         let document = accept(alloc, cache, uri, body)?;
+        self.insert(alloc, document)
+    }
+
+    /// Stores a document that was read already, as [`put`](Registry::put) stores the one that a body spells.
+    ///
+    /// The faults are those of a put but for the body's, in the same order: `BadUri`, and from the faults of the scan on.
+    /// Where one is answered, nothing changes. `NoRoom` may take the place of any answer, and `BadPattern` may be for a
+    /// pattern that can be read and is too big once it is built.
+    pub fn restore(&mut self, alloc: Global, cache: &mut Cache, uri: &str, document: Doc) -> Reply
+        ensures { IsPutUnder (registry_view self.old) (base_form uri.now) (value document)
+            (reply_view result) (registry_view self.new) }
+    {
+        match self.restored(alloc, cache, uri, document) {
+            Ok(reply) => reply,
+            Err(fault) => Reply::Refused(fault),
+        }
+    }
+
+    fn restored(
+        &mut self,
+        alloc: Global,
+        cache: &mut Cache,
+        uri: &str,
+        document: Doc,
+    ) -> Result<Reply, Fault>
+        ensures ok { IfOk result (λ r. IsPutUnder (registry_view self.old) (base_form uri.now)
+            (value document) (reply_view r) (registry_view self.new)) }
+        ensures err { IfErr result (λ f. IsPutUnder (registry_view self.old) (base_form uri.now)
+            (value document) (refused (fault_view f)) (registry_view self.new)) }
+    {
+        let document = accept_document(alloc, cache, uri, document)?;
         self.insert(alloc, document)
     }
 

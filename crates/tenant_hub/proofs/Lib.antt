@@ -11,3 +11,6 @@ mod LinkedReplies
 mod NamedDocuments
 mod ValidationReplies
 mod BundleReplies
+mod ArrayLengths
+pub mod PutBack
+pub mod KeptHubs

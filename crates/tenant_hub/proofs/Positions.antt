@@ -62,7 +62,7 @@ found_some key ks p e =
     let same : f.0 ≡ p = omega (arith, f.1) in
     subst (IsAt key ks) same f.2
 
-found_none : (key : Text) (ks : List KeyedRegistry) → None ≡ position_of key 0 ks → registry_of (map keyed_view ks) key ≡ None
+pub found_none : (key : Text) (ks : List KeyedRegistry) → None ≡ position_of key 0 ks → registry_of (map keyed_view ks) key ≡ None
 found_none key ks e = subst (Found key 0 ks) (sym e) (found key 0 ks)
 
 -- ---- the registry that is there already

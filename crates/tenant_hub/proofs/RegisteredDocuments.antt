@@ -4,33 +4,41 @@ use Rattle.std.proofs.lemmas.Bool.{and_parts, and_from}
 use Rattle.std.specs.List.{list_all, list_any, slice_split}
 use Rattle.std.specs.Str.{is_utf8}
 use Rattle.definitions.specs.Batches.{library_of}
-use Rattle.definitions.specs.Documents.{Ascend}
+use Rattle.definitions.specs.Documents.{Ascend, documents_with}
 use Rattle.definitions.specs.Faults.{Fault, bad_uri}
 use Rattle.definitions.specs.Keeping.{AreKept, IsKept}
 use Rattle.definitions.specs.Limits.{limits}
 use Rattle.definitions.specs.Patterns.{regular_search}
-use Rattle.definitions.specs.Registries.{Registry, documents_seen, Request, Reply}
-use Rattle.definitions.specs.Resolution.{resolve}
+use Rattle.definitions.specs.Registries.{Registry, documents_seen, put_refusal, Request, Reply}
+use Rattle.definitions.specs.Resolution.{base_form, resolve}
 use Rattle.definitions.specs.Runs.{IsAnswer}
-use Rattle.definitions.specs.Schemas.{Document}
+use Rattle.definitions.specs.Schemas.{Document, document_from}
 use Rattle.definitions.specs.Searches.{Search}
 use Rattle.definitions.specs.Steps.{step}
 use Rattle.definitions.specs.Tenants.{Tenant, empty_registry}
 use Rattle.definitions.specs.Uris.{Parts, split, recompose, is_identifier, is_dot_segment, begins}
-use Rattle.definitions.specs.Values.{Text, is_well_formed}
+use Rattle.definitions.specs.Values.{Text, Value, is_well_formed}
 use Rattle.definition_laws.specs.Keeping.{IsBodyValue, HaveBodyValues, IsBaseForm, HaveBaseForms}
 use Rattle.definition_laws.specs.Reading.{has_arrays_within}
 use Rattle.lemmas.proofs.Options.{none_from_is_none, some_from_is_some}
+use Rattle.definition_laws.proofs.AcceptedDocuments.{accepted}
 use Rattle.definition_laws.proofs.JoinedDocuments.{joined_alone}
 use Rattle.definition_laws.proofs.KeptRegistries.{values_kept, bases_kept, library_kept}
 use Rattle.definition_laws.proofs.Membership.{is_first, is_later}
 use Rattle.definition_laws.proofs.Occurrences.{all_pass_in, in_from_contains}
+use Rattle.definition_laws.proofs.PlacedDocuments.{from_placed}
+use Rattle.definition_laws.proofs.ReadValues.{well_formed}
+use Rattle.definition_laws.proofs.SeenDocuments.{puts}
+use Rattle.definition_laws.proofs.Steps.{for_base_keeps, for_value_keeps, decided_keeps}
 use Rattle.bundle_laws.specs.Registered.{AreRegistered, HaveBaseTexts, PutsText}
 use Rattle.bundle_laws.proofs.BaseTexts.{steps_keep_base_texts, libraries_have_base_texts}
+use Rattle.bundle_laws.proofs.CanonicalTexts.{base_form_text}
 use Rattle.bundle_laws.proofs.Identified.{base_identifier}
 use Rattle.uri_ref.proofs.Identifiers.{stays}
 use Rattle.uri_ref.proofs.Recomposed.{recomposes}
+use Rattle.tenant_hub.specs.PutBack.{restored_value, IsPutBack}
 use Rattle.tenant_hub.specs.RegisteredDocuments.{is_registered}
+use Rattle.tenant_hub.proofs.PutBack.{was_read}
 
 -- ---- base forms are the identifiers
 record IsWhole (p : Parts) : Type 0 where
@@ -114,6 +122,33 @@ still_registered g h q r kept text all (inl s) =
     (bases_kept regular_search g q kept (λ d c. (each d c).form))
     (steps_keep_base_texts regular_search g q kept text (λ d c. (each d c).text)))
 still_registered g h q r kept text all (inr s) = subst (λ i. list_all is_registered (documents_seen i) ≡ true) (sym s.1) all
+
+-- ---- a document that is put back
+abbrev Holds : Registry → Type 0
+Holds g = list_all is_registered (documents_seen g) ≡ true
+
+back_registered : (uri text base : Text) (v : Value) → is_utf8 uri ≡ true → base_form uri ≡ Ok base → restored_value text ≡ Ok v → is_registered (document_from base v) ≡ true
+back_registered uri text base v utf8 is_base restored =
+    let read = was_read text v restored in
+    registered (document_from base v) (record { well_formed = well_formed text v read.0; short_arrays = read.1 }) (record { uri = uri; is = is_base })
+    (base_form_text uri base utf8 is_base)
+
+all_are : (ds : List Document) → ((d : Document) → Contains ds d → is_registered d ≡ true) → list_all is_registered ds ≡ true
+all_are [] each = refl
+all_are (d ∷ ds) each = and_from (is_registered d) (list_all is_registered ds) (each d (is_first d ds)) (all_are ds (λ e c. each e (is_later d e ds c)))
+
+pub restored_registered : (g h : Registry) (uri text : Text) (r : Reply) → is_utf8 uri ≡ true → list_all is_registered (documents_seen g) ≡ true
+    → IsPutBack g uri text r h → list_all is_registered (documents_seen h) ≡ true
+restored_registered g h uri text r utf8 all (inl s) =
+    subst (λ i. list_all is_registered (documents_seen i) ≡ true) (sym s.1)
+    (for_value_keeps Holds g (restored_value text) _ (λ v was_read. for_base_keeps Holds g (base_form uri) _ (λ b is_base.
+    decided_keeps Holds (put_refusal regular_search g (document_from b v) (documents_with (document_from b v) g.documents)) _ _ g
+    (λ none. all_are (documents_seen (record g { documents = documents_with (document_from b v) g.documents }))
+    (λ d c. elim (from_placed (document_from b v) d (documents_seen g) (subst (λ ds. Contains ds d) (puts g (document_from b v) (accepted regular_search g (document_from b v) (documents_with (document_from b v) g.documents) none).unowned) c)) [
+      | inl itself ↦ subst (λ x. is_registered x ≡ true) itself (back_registered uri text b v utf8 is_base was_read)
+      | inr other ↦ all_pass_in is_registered (documents_seen g) d all (in_from_contains (documents_seen g) d other)
+    ])) all) all) all)
+restored_registered g h uri text r utf8 all (inr s) = subst (λ i. list_all is_registered (documents_seen i) ≡ true) (sym s.1) all
 
 pub library_registered : (bytes : Text) (library : List Document) → library_of regular_search bytes ≡ Ok library → list_all is_registered library ≡ true
 library_registered bytes library e =

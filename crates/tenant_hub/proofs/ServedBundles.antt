@@ -17,7 +17,7 @@ use Rattle.tenant_documents.proofs.KeptRegistries.{registry_kept}
 use Rattle.tenant_hub.proofs.KeptRegistries.{each_registry}
 use Rattle.tenant_hub.proofs.RegisteredDocuments.{are_registered}
 
-keyed_registered : (k : KeyedRegistry) → AreRegistered regular_search (documents_seen (registry_view k.registry))
+pub keyed_registered : (k : KeyedRegistry) → AreRegistered regular_search (documents_seen (registry_view k.registry))
 keyed_registered k = are_registered regular_search (documents_seen (registry_view k.registry)) (registry_kept k.registry).seen k.registered
 
 -- no bundle is a refusal for room

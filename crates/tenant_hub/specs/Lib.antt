@@ -6,3 +6,4 @@ pub mod RefusedServers
 pub mod Isolation
 pub mod SourceReplies
 pub mod ServedBundles
+pub mod PutBack

@@ -1,6 +1,6 @@
 //! What a tenant is answered by its own registry.
 
-ghost use Rattle.std.specs.Prelude.{◌≡◌, ◌↔◌, true, IsTrue, string_bytes};
+ghost use Rattle.std.specs.Prelude.{◌≡◌, ◌↔◌, true, IsTrue, option_map, string_bytes};
 ghost use Rattle.std.specs.List.{list_all};
 ghost use Rattle.definitions.specs.Patterns.{regular_search};
 ghost use Rattle.definitions.specs.Runs.{IsAnswer};
@@ -10,6 +10,7 @@ ghost use Rattle.requests.specs.Views.{request_view, reply_view};
 ghost use Rattle.tenants_file.specs.Tenants.{tenant_view};
 ghost use Rattle.tenant_hub.specs.RegisteredDocuments.{is_registered};
 ghost use Rattle.tenant_documents.specs.Registries.{registry_view};
+ghost use Rattle.tenant_documents.specs.StoredTexts.{stored_texts};
 ghost use Rattle.tenant_hub.specs.KeyedRegistries.{keyed_view, new_registry, position_of};
 
 use crate::bundling::bundle_reply;
@@ -50,6 +51,14 @@ impl KeyedRegistry {
         answer_of(&mut self.registry, alloc, workspace, request)
     }
 
+    // The base and the compact text of the document with this canonical URI.
+    pub(crate) fn texts_of(&self, uri: &str) -> Option<(&str, &str)>
+        ensures { option_map (λ t. (t.0.now, t.1.now)) result
+            ≡ stored_texts (registry_view self.now.registry) uri.now }
+    {
+        self.registry.texts_of(uri)
+    }
+
     fn has_key(&self, key: &str) -> bool
         ensures { result ≡ same_text key.now (string_bytes self.now.key) }
     {
@@ -77,7 +86,7 @@ fn answer_of(
 }
 
 // Whether memory ran out.
-fn lacks_room(reply: &Reply) -> bool
+pub(crate) fn lacks_room(reply: &Reply) -> bool
     ensures { IsTrue result ↔ reply.now ≡ Reply.Refused Fault.NoRoom }
 {
     matches!(reply, Reply::Refused(Fault::NoRoom))

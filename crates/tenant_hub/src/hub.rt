@@ -1,6 +1,6 @@
 //! The registries of all tenants.
 
-ghost use Rattle.std.specs.Prelude.{◌≡◌, ◌≢◌, [], false, true, Ok, Err, IfOk, IfErr, OnErr, map};
+ghost use Rattle.std.specs.Prelude.{◌≡◌, ◌≢◌, [], false, true, Ok, Err, IfOk, IfErr, OnErr, map, option_map};
 ghost use Rattle.std.specs.List.{list_all};
 ghost use Rattle.definitions.specs.Batches.{library_of};
 ghost use Rattle.definitions.specs.Caches.{is_capacity};
@@ -16,6 +16,7 @@ ghost use Rattle.tenants_file.specs.Tenants.{tenant_view};
 ghost use Rattle.tenant_hub.specs.Calls.{call_view};
 ghost use Rattle.tenant_hub.specs.Hubs.{cache_capacity, hub_view};
 ghost use Rattle.tenant_hub.specs.KeyedRegistries.{keyed_view, new_registry, position_of};
+ghost use Rattle.tenant_hub.specs.PutBack.{IsRestored, stored_texts_of};
 ghost use Rattle.tenant_hub.specs.Isolation.{HaveOwnCourses, HaveOwnReplies, RefuseUnknownKeys};
 ghost use Rattle.tenant_hub.specs.RefusedServers.{IsRefusedServer};
 ghost use Rattle.tenant_hub.specs.RegisteredDocuments.{is_registered};
@@ -30,7 +31,7 @@ use definition_laws::{
 };
 use linker::ListSource;
 use requests::{Fault, Reply, Request};
-use std::alloc::Global;
+use std::alloc::{AllocError, Global};
 use std::rc::Rc;
 use tenant_documents::library_of;
 use tenants_file::{Tenant, server_fault};
@@ -141,6 +142,48 @@ impl Hub {
         tenants_have_their_replies();
         unknown_keys_stay_unknown();
         self.replies_of(alloc, calls)
+    }
+
+    /// Puts a document back into the registry of the tenant with this key, which held it before: under its base, with its
+    /// compact text, which may be longer than the body of a request.
+    ///
+    /// It is judged as a put judges a document, and the reply is that of a put. The first of these faults is answered, and
+    /// then nothing changes: `UnknownTenant`; `BadJson`, `BadNumber`; `TooLarge` for an array of more than 1,048,576
+    /// elements; those of a put but for the body's. `NoRoom` may take the place of any answer but `UnknownTenant`, and
+    /// `BadPattern` may be for a pattern that can be read and is too big once it is built.
+    pub fn restore(&mut self, alloc: Global, key: &str, base: &str, text: &[u8]) -> Reply
+        ensures restored { IsRestored (hub_view self.old) key.now base.now text.now
+            (reply_view result) (hub_view self.new) }
+        ensures kept { AreAllKept regular_search (hub_view self.new) }
+    {
+        let Some(position) = position_of(&self.registries, key) else {
+            return Reply::Refused(Fault::UnknownTenant);
+        };
+        self.registries[position].restore(alloc, &mut self.workspace, base, text)
+    }
+
+    /// The base and the compact text of the document with this canonical URI that the tenant with this key has.
+    pub fn stored(&self, key: &str, uri: &str) -> Option<(&str, &str)>
+        ensures { option_map (λ t. (t.0.now, t.1.now)) result
+            ≡ stored_texts_of (hub_view self.now) key.now uri.now }
+    {
+        match position_of(&self.registries, key) {
+            Some(position) => self.registries[position].texts_of(uri),
+            None => None,
+        }
+    }
+
+    /// The tenants' keys, in the order of the tenants' file. The only error is want of memory.
+    #[tactic(auto, unfolding(crate::specs::Hubs::hub_view))]
+    pub fn keys(&self, alloc: Global) -> Result<Vec<&str>, AllocError>
+        ensures { IfOk result (λ ks. map (λ k. k.now) ks.items
+            ≡ map (λ k. k.key) (hub_view self.now)) }
+    {
+        let mut keys = Vec::with_capacity(alloc, self.registries.len())?;
+        for registry in &self.registries {
+            keys.push(registry.key.as_str())?;
+        }
+        Ok(keys)
     }
 
     /// The place of the tenant with this key in the tenants' file, counted from 0.

@@ -2,9 +2,11 @@
 #![tactic(auto)]
 
 mod answering;
+mod array_lengths;
 mod bundling;
 mod hub;
 mod keyed_registry;
+mod restoring;
 mod validating;
 mod workspace;
 

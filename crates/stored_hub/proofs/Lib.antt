@@ -1,0 +1,5 @@
+mod StoredRegistries
+mod WrittenRows
+mod OpenedRows
+mod RepeatedDigests
+mod EmptyServers

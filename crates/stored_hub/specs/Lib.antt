@@ -1,0 +1,5 @@
+pub mod NewServers
+pub mod RefusedOpenings
+pub mod Storing
+pub mod DigestedKeys
+pub mod Opening

@@ -7,7 +7,7 @@ use Rattle.http_definitions.specs.Heads.{key_of}
 use Rattle.http_definitions.specs.Routes.{request_of}
 use Rattle.http_definitions.specs.Connections.{AnswersAsked, AnswersAll}
 use Rattle.connections.specs.Events.{Answered}
-use Rattle.http_front.specs.HubAnswers.{call_answers}
+use Rattle.http_front.specs.Calls.{call_answers}
 use Rattle.http_front.specs.Isolation.{with_call, with_reply, calls_of, call_replies_of}
 
 pub course_of : (xs : List Answered) (ks ls : List KeyedRegistry)

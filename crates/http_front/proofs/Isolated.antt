@@ -1,18 +1,18 @@
 -- What happens on connections, and what it means for each tenant.
-use Rattle.std.proofs.Common.{ℕ, List, [], ◌∷◌, ◌++◌, None, Result, refl, inl, subst}
+use Rattle.std.proofs.Common.{◌≡◌, ℕ, List, [], ◌∷◌, ◌++◌, None, Result, refl, inl, subst}
 use Rattle.definitions.specs.Patterns.{regular_search}
 use Rattle.definitions.specs.Services.{KeyedRegistry}
 use Rattle.definition_laws.proofs.TenantCourses.{own_course, own_replies, all_unknown}
 use Rattle.connections.specs.Events.{Event, Standing, none_is_open, Happen, Answered}
 use Rattle.connections.proofs.Happened.{history_of}
-use Rattle.faults.specs.declared.Fault.{Fault}
+use Rattle.serving.specs.declared.failure.Failure.{Failure}
 use Rattle.serving.specs.Transfers.{Transfer}
 use Rattle.serving.specs.Exchanges.{wire}
 use Rattle.serving.specs.Serving.{IsServed, IsBounded}
 use Rattle.serving.specs.Talks.{Talk, AreServed}
 use Rattle.serving.proofs.Talked.{talks_happen, served_transfers}
 use Rattle.tenant_hub.specs.Isolation.{HaveOwnCourses, HaveOwnReplies, RefuseUnknownKeys}
-use Rattle.http_front.specs.HubAnswers.{call_answers}
+use Rattle.http_front.specs.Calls.{call_answers}
 use Rattle.http_front.specs.Isolation.{calls_of, call_replies_of, AreIsolated, AreServedAlone}
 use Rattle.http_front.specs.Running.{IsHubServed}
 use Rattle.http_front.proofs.Calls.{course_of}
@@ -39,7 +39,7 @@ served_alone talks before after x =
     record { events = happened.0; now = happened.1; carried = happened.3; answered = alone.0; isolated = alone.1 }
 
 -- one connection
-pub hub_served : (before after : List KeyedRegistry) (reads writes more others : List Transfer) (r : Result (Unit {0}) Fault)
+unfoldable pub hub_served : (before after : List KeyedRegistry) (reads writes more others : List Transfer) (r : Result (Unit {0}) Failure)
     → IsServed call_answers None (wire before reads writes) r (wire after more others) → IsBounded reads more → IsHubServed before reads writes r more others
 hub_served before after reads writes more others r x bounded =
     let moved = served_transfers call_answers (wire before reads writes) (wire after more others) r x in
@@ -57,3 +57,11 @@ hub_served before after reads writes more others r x bounded =
       ended = refl;
       alone = served_alone (talk ∷ []) before after (after, inl (reads, writes, again), refl);
     }
+
+-- .. by a handler of these registries
+pub served_as : (before start after : List KeyedRegistry) (reads writes more others : List Transfer) (r q : Result (Unit {0}) Failure) → start ≡ before → r ≡ q
+    → IsServed call_answers None (wire start reads writes) r (wire after more others) → IsBounded reads more → IsHubServed before reads writes q more others
+served_as before start after reads writes more others r q e same x bounded =
+    hub_served before after reads writes more others q
+    (subst (λ ks. IsServed call_answers None (wire ks reads writes) q (wire after more others)) e
+    (subst (λ (p : Result (Unit {0}) Failure). IsServed call_answers None (wire start reads writes) p (wire after more others)) same x)) bounded

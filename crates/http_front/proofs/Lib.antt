@@ -1,5 +1,5 @@
-pub mod Viewed
 pub mod Calls
 pub mod Refused
 pub mod Libraries
 pub mod Isolated
+pub mod Kept

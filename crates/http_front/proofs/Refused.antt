@@ -8,9 +8,10 @@ use Rattle.faults.specs.declared.Fault.TheVariants.{NoRoom}
 use Rattle.http_definitions.specs.Connections.{holding}
 use Rattle.serving.specs.Transfers.{Transfer}
 use Rattle.serving.specs.Exchanges.{wire}
+use Rattle.serving.specs.Serving.{as_failure}
 use Rattle.serving.proofs.Exchanged.{reads_nothing}
 use Rattle.serving.proofs.Bounded.{nothing_read, bounded_by}
-use Rattle.http_front.specs.HubAnswers.{call_answers}
+use Rattle.http_front.specs.Calls.{call_answers}
 use Rattle.http_front.specs.Running.{IsHubServed, IsRun}
 use Rattle.http_front.proofs.Isolated.{hub_served}
 
@@ -22,12 +23,12 @@ pub refused_run : (server : Result (List KeyedRegistry) meaning.Fault) (reads wr
     → (f ≢ NoRoom → server ≡ Err (fault_view f)) → IsRun server reads writes (Err f) reads writes
 refused_run (Err g) reads writes f why = ((λ other. cc (why other)), refl, refl)
 refused_run (Ok ks) reads writes f why = elim (is_no_room f) [
-  | inl e ↦ hub_served ks ks reads writes reads writes (Err f)
+  | inl e ↦ hub_served ks ks reads writes reads writes (as_failure (Err f))
       (inl (inr (inr (e, inl (holding [], [], inl refl, reads_nothing call_answers (wire ks reads writes)))))) (bounded_by reads reads 0 (nothing_read reads) (omega arith))
   | inr e ↦ absurd (cc (why e))
 ]
 
 pub run_of : (server : Result (List KeyedRegistry) meaning.Fault) (ks : List KeyedRegistry) (reads writes more others : List Transfer) (r : Result (Unit {0}) Fault)
-    → server ≡ Ok ks → IsHubServed ks reads writes r more others → IsRun server reads writes r more others
+    → server ≡ Ok ks → IsHubServed ks reads writes (as_failure r) more others → IsRun server reads writes r more others
 run_of (Err g) ks reads writes more others r e x = absurd (cc e)
 run_of (Ok ls) ks reads writes more others r e x = let same : ls ≡ ks = cc e in rw same x

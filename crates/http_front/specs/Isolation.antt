@@ -8,8 +8,7 @@ use Rattle.http_definitions.specs.Routes.{request_of}
 use Rattle.connections.specs.Events.{Event, Standing, none_is_open, Happen, Answered, IsHistory}
 use Rattle.serving.specs.Talks.{Talk, AreServed, CarryAll}
 use Rattle.tenant_hub.specs.Isolation.{HaveOwnCourses, HaveOwnReplies, RefuseUnknownKeys}
-use Rattle.http_front.specs.HubAnswers.{handler_view, call_answers, hub_answers}
-use Rattle.http_front.specs.declared.hub_handler.HubHandler.{HubHandler}
+use Rattle.http_front.specs.Calls.{call_answers}
 
 -- ---- the calls among whole requests, and their replies; a target that is no route's is no call
 abbrev pub with_call : Text → Option Request → List Call → List Call
@@ -42,9 +41,9 @@ pub record AreIsolated (before : List KeyedRegistry) (es : List Event) (now : �
 -- of connections of which none is open at first
 abbrev pub ConnectionsAreIsolated : Type 0
 ConnectionsAreIsolated =
-    (es : List Event) (before after : HubHandler) (now : ℕ → Standing)
-    → Happen hub_answers none_is_open before es now after
-    → (xs : List Answered) × AreIsolated (handler_view before) es now (handler_view after) xs
+    (es : List Event) (before after : List KeyedRegistry) (now : ℕ → Standing)
+    → Happen call_answers none_is_open before es now after
+    → (xs : List Answered) × AreIsolated before es now after xs
 
 -- what was read and written on connections that were served one after the other
 pub record AreServedAlone (before : List KeyedRegistry) (talks : List Talk) (after : List KeyedRegistry) : Type 0 where
@@ -56,5 +55,5 @@ pub record AreServedAlone (before : List KeyedRegistry) (talks : List Talk) (aft
 
 abbrev pub ServedConnectionsAreIsolated : Type 0
 ServedConnectionsAreIsolated =
-    (talks : List Talk) (before after : HubHandler)
-    → AreServed hub_answers before talks after → AreServedAlone (handler_view before) talks (handler_view after)
+    (talks : List Talk) (before after : List KeyedRegistry)
+    → AreServed call_answers before talks after → AreServedAlone before talks after

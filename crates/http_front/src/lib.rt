@@ -7,15 +7,18 @@ mod noted_hub;
 mod running;
 mod servers;
 mod side_by_side;
+mod stored;
 
-pub use connections::{Exchange, Sessions};
-pub use hub_handler::HubHandler;
+pub use connections::{Exchange, Handler, Outage, Sessions, Unsettled};
+pub use hub_handler::{HasHub, HubHandler};
 pub use isolation::{connections_are_isolated, served_connections_are_isolated};
 pub use noted_hub::{Journal, NotedHub};
-pub use running::{run_connection, run_connection_with};
+pub use running::{run_connection, run_connection_with, serve_connection};
 pub use servers::{hub_of, hub_over};
 pub use serving::{
-    Broken, ByteReader, ByteWriter, MemoryReader, MemoryWriter, Pace, Pause, Recorded, serve,
+    Broken, ByteReader, ByteWriter, Failure, MemoryReader, MemoryWriter, Pace, Pause, Recorded,
+    serve,
 };
-pub use side_by_side::serve_side_by_side;
+pub use side_by_side::{serve_noted, serve_side_by_side};
+pub use stored::{serve_stored_connection, serve_stored_side_by_side};
 pub use tenant_hub::{Fault, Hub};

@@ -1,11 +1,9 @@
 //! A hub that has each request noted.
 
 ghost use Rattle.std.specs.Prelude.{◌≡◌};
-ghost use Rattle.definitions.specs.Patterns.{regular_search};
-ghost use Rattle.definitions.specs.Services.{IsCallAnswer};
-ghost use Rattle.tenant_hub.specs.Hubs.{hub_view};
 
-use connections::{Exchange, Handler};
+use crate::hub_handler::HasHub;
+use connections::{Exchange, Handler, Unsettled};
 use requests::{Reply, Request};
 use std::alloc::Global;
 use tenant_hub::Hub;
@@ -19,30 +17,49 @@ pub trait Journal {
     fn note(&self, hub: &Hub, exchange: &Exchange<'_>);
 }
 
-/// A hub that answers the requests of connections, each by the registry of its key, and tells a journal of each.
+/// What answers by a hub, and tells a journal of each request.
 #[derive(Drop)]
-pub struct NotedHub<'a, J> {
-    hub: Hub,
+pub struct NotedHub<'a, H, J> {
+    handler: H,
     journal: &'a J,
 }
 
-impl<'a, J> NotedHub<'a, J> {
-    ghost use Rattle.http_front.specs.HubAnswers.{noted_view};
+impl<'a, H, J> NotedHub<'a, H, J> {
+    ghost use Rattle.http_front.specs.HubAnswers.{noted_handler};
 
-    /// Over this hub.
-    pub fn new(hub: Hub, journal: &'a J) -> NotedHub<'a, J>
-        ensures { noted_view result ≡ hub_view hub }
+    /// Over what answers.
+    pub fn new(handler: H, journal: &'a J) -> NotedHub<'a, H, J>
+        ensures { noted_handler result ≡ handler }
     {
-        NotedHub { hub, journal }
+        NotedHub { handler, journal }
+    }
+
+    /// What answers, once nothing more is to be noted.
+    pub fn into_handler(self) -> H
+        ensures { result ≡ noted_handler self.entry }
+    {
+        let NotedHub { handler, .. } = self;
+        handler
     }
 }
 
-impl<J: Journal> Handler for NotedHub<'_, J> {
-    ghost answers = { λ s key q r t.
-        IsCallAnswer regular_search (hub_view s.hub) (key, q) r (hub_view t.hub) };
+impl<H: Handler + HasHub, J: Journal> Handler for NotedHub<'_, H, J> {
+    ghost State = { H.State };
+
+    ghost state = { λ s. H.state s.handler };
+
+    ghost answers = { H.answers };
+
+    ghost finds = { λ s t. H.finds s.handler t };
+
+    ghost keeps = { H.keeps };
 
     fn apply(&mut self, alloc: Global, key: &str, request: &Request) -> Reply {
-        self.hub.apply(alloc, key, request)
+        self.handler.apply(alloc, key, request)
+    }
+
+    fn settle(&mut self) -> Result<(), Unsettled> {
+        self.handler.settle()
     }
 
     fn take_up(&self, connection: u64) {
@@ -50,6 +67,6 @@ impl<J: Journal> Handler for NotedHub<'_, J> {
     }
 
     fn note(&self, exchange: &Exchange<'_>) {
-        self.journal.note(&self.hub, exchange);
+        self.journal.note(self.handler.hub(), exchange);
     }
 }

@@ -1,26 +1,18 @@
-use Rattle.std.proofs.Common.{List, None, Option, subst, ◌∙◌, ap}
-use Rattle.definitions.specs.Services.{KeyedRegistry}
-use Rattle.http_definitions.specs.Connections.{Connection}
-use Rattle.connections.specs.Connected.{handler_of}
-use Rattle.serving.specs.Exchanges.{wire}
-use Rattle.serving.specs.Serving.{IsServed}
-use Rattle.http_front.specs.HubAnswers.{handler_view, call_answers, hub_answers}
-use Rattle.tenant_hub.specs.Hubs.{hub_view}
-use Rattle.http_front.proofs.Isolated.{hub_served}
-use Rattle.http_front.proofs.Viewed.{served_viewed}
+use Rattle.std.proofs.Common.{Err, ap, ◌∙◌}
+use Rattle.serving.specs.declared.failure.Failure.TheVariants.{Fault}
+use Rattle.http_front.specs.HubAnswers.{handler_view}
+use Rattle.http_front.proofs.Isolated.{served_as}
 use Rattle.http_front.proofs.running.serve_hub.Goals as goal
 
+pub returns-in-Ok : goal.returns-in-Ok
+returns-in-Ok g c =
+    served_as _ _ (handler_view c.serve_connection-handler.result.0) _ _ _ _ _ _ c.new.ensures c.in-Ok.is c.serve_connection-handler.ensures.served c.serve_connection-handler.ensures.bounded
+
+pub returns-in-Err-Fault : goal.returns-in-Err-Fault
+returns-in-Err-Fault g c =
+    served_as _ _ (handler_view c.serve_connection-handler.result.0) _ _ _ _ _ _ c.new.ensures (c.in-Err-Fault.is ∙ ap (λ e. Err e) (c.in-Err-Fault.field-0-is ∙ ap (λ f. Fault f) c.in-Err-Fault.fault-is))
+    c.serve_connection-handler.ensures.served c.serve_connection-handler.ensures.bounded
+
+-- a hub keeps nothing
 pub returns : goal.returns
-returns g c =
-    let sessions = c.new-sessions.result in
-    let reads = g.R.ByteReader.reads c.args.reader.now in
-    let writes = g.W.ByteWriter.writes c.args.writer.now in
-    let more = g.R.ByteReader.reads c.serve.new.reader in
-    let others = g.W.ByteWriter.writes c.serve.new.writer in
-    let served = subst (λ (k : Option Connection). IsServed hub_answers k (wire (handler_of sessions) reads writes) c.serve.result (wire (handler_of c.serve.new.sessions) more others))
-    (c.new-sessions.ensures.none 1) c.serve.ensures.served in
-    let seen = served_viewed handler_view call_answers _ _ c.serve.result served in
-    hub_served (hub_view c.args.hub) (handler_view (handler_of c.serve.new.sessions)) reads writes more others c.serve.result
-    (subst (λ (ks : List KeyedRegistry). IsServed call_answers None (wire ks reads writes) c.serve.result (wire (handler_view (handler_of c.serve.new.sessions)) more others))
-    (ap handler_view c.new-sessions.ensures.handler ∙ c.new.ensures) seen)
-    c.serve.ensures.bounded
+returns g c = absurd (c.serve_connection-handler.ensures.keeps _ (c.in-Err-Unsettled.is ∙ ap (λ e. Err e) c.in-Err-Unsettled.field-0-is))

@@ -1,0 +1,19 @@
+//! What a check says of an instance, for people: a line for each cause, GitHub's annotations, or one line of JSON.
+#![tactic(auto)]
+
+mod causes;
+mod github;
+mod instance;
+mod instance_texts;
+mod json_lines;
+mod lines;
+mod sentences;
+mod shortening;
+mod units;
+
+pub use causes::causes_of;
+pub use instance::{Instance, Style};
+pub use json_doc::Fault;
+pub use json_lines::json_line;
+pub use lines::error_lines;
+pub use units::{ErrorUnit, error_units};

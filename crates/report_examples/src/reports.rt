@@ -1,0 +1,73 @@
+//! What is told of an instance that was judged.
+
+use plain_reports::{Instance, Style, error_lines, json_line};
+use std::alloc::Global;
+use std::test::Fail;
+
+// The output of a check of `{"name":7,"lines":[{"price":"twelve"},{}]}` and the like.
+const OUTPUT: &str =
+    r##"{"errors":[{"absoluteKeywordLocation":"https://ex.org/order#/required","error":"required is not met","instanceLocation":"","keywordLocation":"/required"},{"absoluteKeywordLocation":"https://ex.org/order#/properties","error":"properties is not met","instanceLocation":"","keywordLocation":"/properties"},{"absoluteKeywordLocation":"https://ex.org/order#/properties/lines/items","error":"items is not met","instanceLocation":"/lines","keywordLocation":"/properties/lines/items"},{"absoluteKeywordLocation":"https://ex.org/order#/properties/lines/items/$ref","error":"$ref is not met","instanceLocation":"/lines/0","keywordLocation":"/properties/lines/items/$ref"},{"absoluteKeywordLocation":"https://ex.org/line#/properties","error":"properties is not met","instanceLocation":"/lines/0","keywordLocation":"/properties/lines/items/$ref/properties"},{"absoluteKeywordLocation":"https://ex.org/line#/properties/price/type","error":"type is not met","instanceLocation":"/lines/0/price","keywordLocation":"/properties/lines/items/$ref/properties/price/type"},{"absoluteKeywordLocation":"https://ex.org/order#/additionalProperties","error":"additionalProperties is not met","instanceLocation":"","keywordLocation":"/additionalProperties"},{"absoluteKeywordLocation":"https://ex.org/order#/additionalProperties","error":"no value is allowed","instanceLocation":"/note","keywordLocation":"/additionalProperties"}],"valid":false}"##;
+
+const TEXT: &str =
+    "{\n  \"lines\": [\n    { \"price\": \"twelve\" }\n  ],\n  \"note\": [\n    1,\n    2\n  ]\n}\n";
+
+fn told(alloc: Global, line: Option<usize>, style: Style) -> Result<String, Fail> {
+    let instance = Instance {
+        path: "orders/7,a.json",
+        line,
+        text: TEXT.as_bytes(),
+    };
+    Ok(error_lines(alloc, instance, OUTPUT, style)?)
+}
+
+#[test]
+fn causes_are_told(rt: HostRuntime) -> Result<(), Fail> {
+    let text = told(rt.alloc(), None, Style::Text { colours: false })?;
+    assert_eq!(rt;
+        text.as_str(),
+        "orders/7,a.json:1:1: (root): {\"lines\": [{ \"price\": \"twelve\" }],\"note\": [1,2]} lacks a member that is required
+    by /required
+    at https://ex.org/order#/required
+orders/7,a.json:3:16: /lines/0/price: \"twelve\" is of another type than the schema allows
+    by /properties/lines/items/$ref/properties/price/type
+    at https://ex.org/line#/properties/price/type
+orders/7,a.json:5:11: /note: [1,2] is not allowed here
+    by /additionalProperties
+    at https://ex.org/order#/additionalProperties
+"
+    );
+    Ok(())
+}
+
+#[test]
+fn causes_are_annotations(rt: HostRuntime) -> Result<(), Fail> {
+    let text = told(rt.alloc(), Some(40), Style::Github)?;
+    let mut lines = text.lines();
+    let first = lines.next().unwrap_or("");
+    assert_eq!(rt;
+        first,
+        "::error file=orders/7%2Ca.json,line=40,col=1,title=required is not met::(root): {\"lines\": [{ \"price\": \"twelve\" }],\"note\": [1,2]} lacks a member that is required%0A    by /required%0A    at https://ex.org/order#/required"
+    );
+    let second = lines.next().unwrap_or("");
+    assert!(rt;
+        second.starts_with("::error file=orders/7%2Ca.json,line=42,col=16,title=type is not met::")
+    );
+    assert!(rt; lines.count() == 1);
+    Ok(())
+}
+
+#[test]
+fn lines_of_json_begin_with_the_instance(rt: HostRuntime) -> Result<(), Fail> {
+    let output = "{\"annotations\":[],\"valid\":true}";
+    let instance = Instance {
+        path: "a \"b\".json",
+        line: Some(3),
+        text: b"1",
+    };
+    let line = json_line(rt.alloc(), instance, output)?;
+    assert_eq!(rt;
+        line.as_str(),
+        "{\"instance\":\"a \\\"b\\\".json\",\"line\":3,\"annotations\":[],\"valid\":true}"
+    );
+    Ok(())
+}

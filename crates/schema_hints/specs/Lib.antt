@@ -1,0 +1,3 @@
+pub mod HintViews
+pub mod NearNames
+pub mod SchemaPlaces

@@ -1,0 +1,4 @@
+pub mod Located
+pub mod PlacesViews
+pub mod Positions
+pub mod PositionsViews

@@ -1,0 +1,36 @@
+use Rattle.std.proofs.Common.{◌≡◌, Some, Option, IfOk, Result, Bool, is_some, find, ap, sym, ◌∙◌, subst, option_map}
+use Rattle.definitions.specs.Fragments.{fragment_kind}
+use Rattle.definitions.specs.Reach.{holds_resource}
+use Rattle.definitions.specs.Schemas.{Schema}
+use Rattle.definitions.specs.Targets.{target_in, fragment_of}
+use Rattle.definitions.specs.Uris.{without_fragment}
+use Rattle.schema_scan.specs.CompiledDocuments.{compiled_schemas, compiled_view}
+use Rattle.linker.proofs.Judged.{target_where_held, no_target}
+use Rattle.file_checks.specs.FileSources.{file_documents}
+use Rattle.file_checks.proofs.Held.{distinct_documents}
+use Rattle.file_checks.proofs.documents.FileDocuments.names_schema.Goals as goal
+
+carried : {E : Type 0} (r : Result Bool E) (o p : Option Schema) → o ≡ p → IfOk r (λ b. b ≡ is_some o) → IfOk r (λ b. b ≡ is_some p)
+carried r o p e h = subst (λ x. IfOk r (λ b. b ≡ is_some x)) e h
+
+pub returns-in-Some-clause-ok : goal.returns-in-Some-clause-ok
+returns-in-Some-clause-ok c =
+    let ds = file_documents c.args.self.now in
+    let reference = c.args.reference.now in
+    let document = c.in-Some.document.value in
+    let found : find (holds_resource (without_fragment reference)) ds ≡ Some (compiled_view document) =
+    ap (λ u. find (holds_resource u) ds) (sym c.without_fragment-uri.ensures)
+    ∙ sym (ap (option_map (λ it. compiled_view it.value)) (sym c.in-Some.is) ∙ c.in_ok-document.ensures.held) in
+    carried c.names_in.result _ _
+    (ap (λ f. target_in (compiled_schemas c.deref.result.now) c.without_fragment-uri.result.now (fragment_kind f)) (c.fragment.ensures ∙ ap (λ p. p.fragment) c.split.ensures.parts)
+    ∙ ap (λ d. target_in (compiled_schemas d) c.without_fragment-uri.result.now (fragment_of reference)) c.deref.ensures
+    ∙ ap (λ u. target_in (compiled_schemas document) u (fragment_of reference)) c.without_fragment-uri.ensures
+    ∙ sym (target_where_held ds reference (compiled_view document) (distinct_documents c.args.self.now) found))
+    c.names_in.ensures.ok
+
+pub returns-in-None-clause-ok : goal.returns-in-None-clause-ok
+returns-in-None-clause-ok c =
+    let ds = file_documents c.args.self.now in
+    sym (ap is_some (no_target ds c.args.reference.now
+    (ap (λ u. find (holds_resource u) ds) (sym c.without_fragment-uri.ensures)
+    ∙ sym (ap (option_map (λ it. compiled_view it.value)) (sym c.in-None.is) ∙ c.in_ok-document.ensures.held))))

@@ -1,0 +1,90 @@
+//! The answer for one instance.
+
+ghost use Rattle.std.specs.Prelude.{◌≡◌, ◌++◌, ◌∷◌, [], List, IfOk, string_bytes};
+ghost use Rattle.definition_laws.specs.Reaching.{HaveDistinctResources};
+ghost use Rattle.definitions.specs.Reach.{reach};
+ghost use Rattle.definitions.specs.Schemas.{Document};
+ghost use Rattle.linker.specs.LinkedDocuments.{linked_documents, linked_uri};
+ghost use Rattle.file_checks.specs.FileJudgements.{judgement_over};
+ghost use Rattle.file_checks.specs.FileSources.{checker_linked};
+ghost use Rattle.evaluator.specs.Reports.{is_valid, report_text};
+ghost use Rattle.definitions.specs.Bytes.{line_feed};
+ghost use Rattle.plain_reports.specs.JsonLines.{json_line_text};
+ghost use Rattle.file_forms.specs.Printed.{IsAnswer, IsPrinted, verdict_by};
+
+use command_line::Format;
+use evaluator::Report;
+use file_checks::{Checker, Fault, Verdict};
+use plain_reports::{Instance, Style, error_lines, json_line};
+use std::alloc::Global;
+
+/// What is printed of each instance.
+#[derive(Clone, Copy, Debug)]
+pub(crate) struct Printing {
+    pub(crate) format: Format,
+    pub(crate) colours: bool,
+    pub(crate) quiet: bool,
+}
+
+/// What came of the instance, and what is printed of it: the evaluation over the documents that the checker's resource was
+/// linked among, and none but these. The faults are those of [`Checker::check`].
+pub(crate) fn answer(
+    alloc: Global,
+    printing: Printing,
+    checker: &mut Checker<'_>,
+    instance: Instance<'_>,
+) -> Result<(Verdict, String), Fault>
+    ensures told { (G : List Document) → HaveDistinctResources G
+        → linked_documents (checker_linked checker.old)
+        ≡ reach G (linked_uri (checker_linked checker.old))
+        → IfOk result (λ answer. IsAnswer
+        (judgement_over G (linked_uri (checker_linked checker.old)) instance.entry.text.now)
+        printing.format printing.quiet instance.entry.path.now instance.entry.line
+        answer.0 (string_bytes answer.1)) }
+    ensures same { checker_linked checker.new ≡ checker_linked checker.old }
+{
+    let report = checker.check(instance.text)?;
+    let text = answer_text(alloc, printing, instance, &report)?;
+    Ok((verdict_of(&report), text))
+}
+
+/// What is printed of an instance of which this is the report.
+fn answer_text(
+    alloc: Global,
+    printing: Printing,
+    instance: Instance<'_>,
+    report: &Report,
+) -> Result<String, Fault>
+    ensures { IfOk result (λ s. IsPrinted printing.format printing.quiet instance.entry.path.now
+        instance.entry.line (is_valid report.now, report_text report.now) (string_bytes s)) }
+{
+    match printing.format {
+        Format::Json if report.valid() && printing.quiet => Ok(String::new(alloc)),
+        Format::Json => line_of_json(alloc, instance, report.text()),
+        _ if report.valid() => Ok(String::new(alloc)),
+        Format::Text => {
+            let colours = printing.colours;
+            error_lines(alloc, instance, report.text(), Style::Text { colours })
+        }
+        Format::Github => error_lines(alloc, instance, report.text(), Style::Github),
+    }
+}
+
+fn line_of_json(alloc: Global, instance: Instance<'_>, output: &str) -> Result<String, Fault>
+    ensures { IfOk result (λ s. string_bytes s
+        ≡ json_line_text instance.entry.path.now instance.entry.line output.now ++ line_feed ∷ []) }
+{
+    let mut line = json_line(alloc, instance, output)?;
+    line.push_str("\n")?;
+    Ok(line)
+}
+
+fn verdict_of(report: &Report) -> Verdict
+    ensures { result ≡ verdict_by (is_valid report.now) }
+{
+    if report.valid() {
+        Verdict::Valid
+    } else {
+        Verdict::Invalid
+    }
+}

@@ -1,0 +1,95 @@
+//! The files below a folder.
+
+use crate::reading::unread;
+use crate::trouble::Trouble;
+use std::alloc::Global;
+use std::fs::{self, DirEntry};
+use std::io;
+use std::rt::Files;
+
+/// The endings of the names of JSON texts.
+pub(crate) const JSON: &[&str] = &[".json"];
+
+/// The endings of the names of texts of which each line is one.
+pub(crate) const LINES: &[&str] = &[".ndjson", ".jsonl"];
+
+/// The files that paths name, and what of these cannot be read.
+#[derive(Drop)]
+pub(crate) struct Found {
+    pub(crate) files: Vec<String>,
+    pub(crate) troubles: Vec<Trouble>,
+}
+
+/// The file of the path; or, where that is a folder, the files below it whose names have one of these endings, in byte order
+/// of paths. Folders that are symbolic links aren't entered, files that are such links stand under their names. Want of
+/// memory ends it.
+pub(crate) fn files_of<R: Files + AllocGlobal + Clone + Drop>(
+    rt: &R,
+    path: &str,
+    endings: &[&str],
+) -> Result<Found, Trouble> {
+    let alloc = rt.alloc();
+    let mut found = Found {
+        files: Vec::new(alloc),
+        troubles: Vec::new(alloc),
+    };
+    if is_folder(rt, path) {
+        walk(rt, path, endings, &mut found)?;
+        found.files.sort_unstable();
+    } else {
+        found.files.push(String::from_str(alloc, path)?)?;
+    }
+    Ok(found)
+}
+
+fn is_folder<R: Files>(rt: &R, path: &str) -> bool {
+    match fs::metadata(rt, path) {
+        Ok(metadata) => metadata.is_dir(),
+        Err(_) => false,
+    }
+}
+
+// Folder by folder.
+fn walk<R: Files + AllocGlobal + Clone + Drop>(
+    rt: &R,
+    folder: &str,
+    endings: &[&str],
+    found: &mut Found,
+) -> Result<(), Trouble> {
+    let alloc = rt.alloc();
+    let mut folders = Vec::new(alloc);
+    folders.push(String::from_str(alloc, folder)?)?;
+    for _ in 0..u64::MAX {
+        let Some(folder) = folders.pop() else {
+            break;
+        };
+        if let Err(error) = read_folder(rt, folder.as_str(), endings, &mut folders, found) {
+            found.troubles.push(unread(alloc, &error, folder.as_str()))?;
+        }
+    }
+    Ok(())
+}
+
+// Adds the files of the folder, and the folders in it.
+fn read_folder<R: Files + AllocGlobal + Clone + Drop>(
+    rt: &R,
+    folder: &str,
+    endings: &[&str],
+    folders: &mut Vec<String>,
+    found: &mut Found,
+) -> io::Result<()> {
+    for entry in fs::read_dir(rt, folder)? {
+        let entry = entry?;
+        let path = entry.path().as_str();
+        if entry.file_type()?.is_dir() {
+            folders.push(String::from_str(rt.alloc(), path)?)?;
+        } else if has_ending(entry.file_name(), endings) && !is_folder(rt, path) {
+            found.files.push(String::from_str(rt.alloc(), path)?)?;
+        }
+    }
+    Ok(())
+}
+
+fn has_ending(name: &str, endings: &[&str]) -> bool {
+    endings.iter().any(|ending| name.ends_with(*ending))
+}

@@ -1,17 +1,17 @@
 -- What `clap` makes of a command line in one of the forms.
-use Rattle.std.proofs.Common.{◌≡◌, ◌==◌, ◌∙◌, ap, refl, sym, true, false, not, Bool, ℕ, [], ◌∷◌, List, None, codes, subst, inl, inr}
+use Rattle.std.proofs.Common.{◌≡◌, ◌==◌, ◌∙◌, ap, refl, sym, true, false, not, Bool, ℕ, [], ◌∷◌, List, None, Some, codes, subst, inl, inr}
 use Rattle.std.specs.Str.{bytes_eq}
 use Rattle.std.specs.List.{slice_index_or}
 use Rattle.clap.specs.Lexer.{long_of, short_of}
 use Rattle.clap.specs.Kinds.{Kinds, or_else}
 use Rattle.clap.specs.Walk.{Held, Rule, Text, Waiting, Walk, idle, option, positional, word_met, plain_word, after_step, walked, walk, walk_from, nothing_held, finished, settled}
 use Rattle.clap.specs.Faults.{turn_fault, step_fault, walk_fault, settle_fault, defaults_fault, check_fault}
-use Rattle.clap.specs.Words.{HasKind, Shape, built, fault_of, kind_of}
+use Rattle.clap.specs.Words.{HasKind, Row, Shape, built, fault_of, kind_of, subcommand_of}
 use Rattle.clap.specs.declared.error.Error.{Error}
 use Rattle.clap.specs.declared.error.kind.ErrorKind.TheVariants.{OutOfMemory}
 use Rattle.clap.proofs.OnLiterals.{clap_on_literals}
 use Rattle.command_line.specs.Commands.{program, check_command}
-use Rattle.command_line.specs.Calls.{Asked, asked_check, call_of, faults_of}
+use Rattle.command_line.specs.Calls.{Asked, check, asked_check, call_of, check_of, conflict_in, conflict_of, faults_of, one_file}
 use Rattle.clap.specs.declared.error.kind.ErrorKind.{ErrorKind}
 use Rattle.command_line.specs.Forms.{Asks, help, version, Spells, no_words, two_files, with_uri, is_plain}
 
@@ -168,13 +168,44 @@ uri_fault : (p u s i : Text) → fault_of program (p ∷ codes "check" ∷ uri_w
 unfolding clap_on_literals
 uri_fault p u s i = refl
 
+-- ---- a plain word is the file of the one instance, and no format is named
+
+plain-stdin : (w : Text) → is_plain w ≡ true → bytes_eq w (codes "-") ≡ false
+plain-stdin [] e = refl
+plain-stdin (c ∷ cs) e = rw (is_no_dash c e) refl
+
+plain-one_file : (w : Text) → is_plain w ≡ true → one_file (w ∷ []) ≡ Some w
+plain-one_file w e = rw (plain-stdin w e) refl
+
+abbrev rows_at : Walk → List Row
+rows_at end = finished rules end.held
+
+abbrev conflict_at : Walk → Kinds
+conflict_at end = conflict_in (codes "check") (rows_at end)
+
+two_asked : (s i : Text) → is_plain i ≡ true → asked_at (two_end s i) ≡ check (codes "urn:schemareg:root") s i
+unfolding clap_on_literals
+two_asked s i f = ap (λ o. check_of o (rows_at (two_end s i))) (plain-one_file i f)
+
+two_conflict : (p s i : Text) → conflict_of (subcommand_of program (p ∷ codes "check" ∷ s ∷ i ∷ [])) ≡ conflict_at (walk_over (s ∷ i ∷ []))
+unfolding clap_on_literals
+two_conflict p s i = refl
+
+uri_asked : (u s i : Text) → is_plain i ≡ true → asked_at (uri_end u s i) ≡ check u s i
+unfolding clap_on_literals
+uri_asked u s i f = ap (λ o. check_of o (rows_at (uri_end u s i))) (plain-one_file i f)
+
+uri_conflict : (p u s i : Text) → conflict_of (subcommand_of program (p ∷ codes "check" ∷ uri_words u s i)) ≡ conflict_at (walk_over (uri_words u s i))
+unfolding clap_on_literals
+uri_conflict p u s i = refl
+
 -- ---- each form spells its call, and has no fault
 
 pub spelled_call : (words : List Text) (call : Asked) → Spells words call → call_of words ≡ call
 unfolding clap_on_literals
 spelled_call _ _ (no_words p) = refl
-spelled_call _ _ (two_files p s i e f) = two_call p s i ∙ ap asked_at (two_walk s i e f)
-spelled_call _ _ (with_uri p u s i d e f) = uri_call p u s i ∙ ap asked_at (uri_walk u s i d e f)
+spelled_call _ _ (two_files p s i e f) = two_call p s i ∙ ap asked_at (two_walk s i e f) ∙ two_asked s i f
+spelled_call _ _ (with_uri p u s i d e f) = uri_call p u s i ∙ ap asked_at (uri_walk u s i d e f) ∙ uri_asked u s i f
 
 spelled_fault : (words : List Text) (call : Asked) → Spells words call → fault_of program words ≡ []
 unfolding clap_on_literals
@@ -188,8 +219,12 @@ spelled_fault _ _ (with_uri p u s i d e f) =
 pub spelled_faults : (words : List Text) (call : Asked) → Spells words call → faults_of words ≡ []
 unfolding clap_on_literals
 spelled_faults _ _ (no_words p) = refl
-spelled_faults words call (two_files p s i e f) = ap (λ ks. or_else ks []) (spelled_fault words call (two_files p s i e f))
-spelled_faults words call (with_uri p u s i d e f) = ap (λ ks. or_else ks []) (spelled_fault words call (with_uri p u s i d e f))
+spelled_faults words call (two_files p s i e f) =
+    ap (λ ks. or_else ks (conflict_of (subcommand_of program words))) (spelled_fault words call (two_files p s i e f))
+    ∙ two_conflict p s i ∙ ap conflict_at (two_walk s i e f)
+spelled_faults words call (with_uri p u s i d e f) =
+    ap (λ ks. or_else ks (conflict_of (subcommand_of program words))) (spelled_fault words call (with_uri p u s i d e f))
+    ∙ uri_conflict p u s i ∙ ap conflict_at (uri_walk u s i d e f)
 
 -- a first fault is one of all
 pub first_kind : (kinds next : Kinds) (e : Error) → HasKind kinds e → HasKind (or_else kinds next) e

@@ -1,7 +1,7 @@
 -- The words that the program takes, in the terms of `clap`'s own definitions.
 use Rattle.std.specs.Prelude.{◌∷◌, [], Some, true, ℕ, codes, pos}
 use Rattle.clap.specs.Words.{App, Rule, Text, new_app, new_rule, with_rule, with_subcommand}
-use Rattle.clap.specs.declared.builder.ArgAction.TheVariants.{Set, SetTrue}
+use Rattle.clap.specs.declared.builder.ArgAction.TheVariants.{Append, Set, SetTrue}
 use Rattle.clap.specs.declared.builder.value_parser.ValueParser.TheVariants.{Signed}
 
 -- a word that has to be there
@@ -15,9 +15,13 @@ named_option id = record (new_rule id) { long = Some id; action = Some Set; valu
 abbrev pub required_option : Text → Rule
 required_option id = record (named_option id) { required = true }
 
--- `--uri URI`, with its default
-abbrev pub uri_option : Rule
-uri_option = record (named_option (codes "uri")) { defaults = codes "urn:schemareg:root" ∷ [] }
+-- a word that stands there once or more
+abbrev pub required_texts : Text → Rule
+required_texts id = record (required_text id) { action = Some Append }
+
+-- `--id VALUE`, as often as one likes
+abbrev pub repeated_option : Text → Rule
+repeated_option id = record (named_option id) { action = Some Append }
 
 -- `--cache N`, from 1 to 4096, with its default
 abbrev pub cache_option : Rule
@@ -34,15 +38,36 @@ number_option id least most = record (named_option id) { parser = Some (Signed (
 abbrev pub flag : Text → Rule
 flag id = record (new_rule id) { long = Some id; action = Some SetTrue }
 
--- `check [--uri URI] SCHEMA INSTANCE`
+-- `[--library FILE] [--with PATH]..` behind a command's words
+abbrev pub with_documents : App → App
+with_documents app = with_rule (with_rule app (named_option (codes "library"))) (repeated_option (codes "with"))
+
+-- `[--uri URI] [--library FILE] [--with PATH]..`, of the command with this name
+abbrev pub over_documents : Text → App
+over_documents name = with_documents (with_rule (new_app name) (named_option (codes "uri")))
+
+-- `check [--uri URI] [--library FILE] [--with PATH].. [--lines] [--format FORMAT] [--quiet]`
+abbrev pub check_options : App
+check_options = with_rule (with_rule (with_rule (over_documents (codes "check")) (flag (codes "lines"))) (named_option (codes "format"))) (flag (codes "quiet"))
+
+-- .. `SCHEMA INSTANCE..`
 abbrev pub check_command : App
-check_command = with_rule (with_rule (with_rule (new_app (codes "check")) uri_option) (required_text (codes "SCHEMA"))) (required_text (codes "INSTANCE"))
+check_command = with_rule (with_rule check_options (required_text (codes "SCHEMA"))) (required_texts (codes "INSTANCE"))
 
--- `--tenants FILE [--library FILE]`, of the command with this name
+-- `bundle [--uri URI] [--library FILE] [--with PATH].. [--out FILE] SCHEMA`
+abbrev pub bundle_command : App
+bundle_command = with_rule (with_rule (over_documents (codes "bundle")) (named_option (codes "out"))) (required_text (codes "SCHEMA"))
+
+-- `scan [--library FILE] [--with PATH].. [--quiet] SCHEMA..`
+abbrev pub scan_command : App
+scan_command = with_rule (with_rule (with_documents (new_app (codes "scan"))) (flag (codes "quiet"))) (required_texts (codes "SCHEMA"))
+
+-- `--tenants FILE [--library FILE] [--store FILE]`, of the command with this name
 abbrev pub over_registries : Text → App
-over_registries name = with_rule (with_rule (new_app name) (required_option (codes "tenants"))) (named_option (codes "library"))
+over_registries name =
+    with_rule (with_rule (with_rule (new_app name) (required_option (codes "tenants"))) (named_option (codes "library"))) (named_option (codes "store"))
 
--- `run --tenants FILE [--library FILE] [--cache N]`
+-- `run --tenants FILE [--library FILE] [--store FILE] [--cache N]`
 abbrev pub run_command : App
 run_command = with_rule (over_registries (codes "run")) cache_option
 
@@ -56,7 +81,7 @@ with_limits app =
 abbrev pub with_logging : App → App
 with_logging app = with_rule (with_rule app (named_option (codes "log"))) (flag (codes "log-requests"))
 
--- `serve --tenants FILE [--library FILE] --listen ADDR [--accept N]`
+-- `serve --tenants FILE [--library FILE] [--store FILE] --listen ADDR [--accept N]`
 abbrev pub serve_at_address : App
 serve_at_address = with_rule (with_rule (over_registries (codes "serve")) (required_option (codes "listen"))) (number_option (codes "accept") 1 65536)
 
@@ -71,5 +96,8 @@ named_program = new_app (codes "schemareg")
 abbrev pub versioned_program : App
 versioned_program = record named_program { top = record named_program.top { has_version = true } }
 
+abbrev pub program_of_files : App
+program_of_files = with_subcommand (with_subcommand (with_subcommand versioned_program check_command.top) bundle_command.top) scan_command.top
+
 abbrev pub program : App
-program = with_subcommand (with_subcommand (with_subcommand versioned_program check_command.top) run_command.top) serve_command.top
+program = with_subcommand (with_subcommand program_of_files run_command.top) serve_command.top

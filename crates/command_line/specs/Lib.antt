@@ -1,3 +1,4 @@
 pub mod Commands
 pub mod Calls
 pub mod Forms
+pub mod Conflicts

@@ -2,7 +2,7 @@
 ghost use Rattle.std.specs.Prelude.{◌≡◌, IfOk, false, codes};
 ghost use Rattle.clap.specs.Words.{app_of, rule_of};
 ghost use Rattle.clap.specs.declared.builder.command.Command.TheViews.{out-Command as fields_of};
-ghost use Rattle.command_line.specs.Commands.{cache_option, flag, named_option, over_registries, required_option, required_text};
+ghost use Rattle.command_line.specs.Commands.{cache_option, flag, named_option, over_registries, required_option, required_text, required_texts};
 
 use clap::{Arg, ArgAction, Command, value_parser};
 use std::alloc::{AllocError, Global};
@@ -13,6 +13,8 @@ const TENANTS: &str =
 const LIBRARY: &str =
     "Documents for all tenants: {\"put\":[{\"uri\":\"https://example.com/s\",\"schema\":{}}]}";
 
+const STORE: &str = "The file in which the documents are kept; it is made where there is none";
+
 /// A word that has to be there.
 pub(crate) fn required<'a>(alloc: Global, id: &'a str, help: &'a str) -> Arg<'a>
     ensures rule { rule_of result ≡ required_text id.now }
@@ -22,6 +24,14 @@ pub(crate) fn required<'a>(alloc: Global, id: &'a str, help: &'a str) -> Arg<'a>
         .required(true)
         .action(ArgAction::Set)
         .help(help)
+}
+
+/// A word that stands there once or more.
+pub(crate) fn several<'a>(alloc: Global, id: &'a str, help: &'a str) -> Arg<'a>
+    ensures rule { rule_of result ≡ required_texts id.now }
+    ensures local { result.global ≡ false }
+{
+    required(alloc, id, help).action(ArgAction::Append)
 }
 
 /// The option `--id NAME`.
@@ -63,6 +73,14 @@ fn library<'a>(alloc: Global) -> Arg<'a>
     named(alloc, "library", "FILE", LIBRARY)
 }
 
+/// The option `--store FILE`.
+fn store<'a>(alloc: Global) -> Arg<'a>
+    ensures rule { rule_of result ≡ named_option (codes "store") }
+    ensures local { result.global ≡ false }
+{
+    named(alloc, "store", "FILE", STORE)
+}
+
 /// The option `--cache N`, of how many compiled documents are kept at most.
 pub(crate) fn cache<'a>(alloc: Global) -> Arg<'a>
     ensures rule { rule_of result ≡ cache_option }
@@ -78,7 +96,7 @@ pub(crate) fn cache<'a>(alloc: Global) -> Arg<'a>
     .default_value("256")
 }
 
-/// A command with this name whose registries come from files: `--tenants FILE [--library FILE]`.
+/// A command with this name whose registries come from files: `--tenants FILE [--library FILE] [--store FILE]`.
 pub(crate) fn over_registries<'a>(
     alloc: Global,
     name: &'a str,
@@ -92,5 +110,6 @@ pub(crate) fn over_registries<'a>(
         .about(about)
         .after_help(after_help)
         .arg(tenants(alloc))?
-        .arg(library(alloc))
+        .arg(library(alloc))?
+        .arg(store(alloc))
 }

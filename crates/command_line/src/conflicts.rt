@@ -2,10 +2,12 @@
 ghost use Rattle.std.specs.Prelude.{◌≡◌, ◌&&◌, ◌∷◌, [], IfOk, if◌then◌else◌, codes, is_some};
 ghost use Rattle.std.specs.Str.{bytes_eq};
 ghost use Rattle.clap.specs.Words.{FailsBy, found_of, kind_of, rows_of, subcommand_rows_of};
-ghost use Rattle.command_line.specs.Calls.{are_for_many, are_in_conflict, conflict_of};
+ghost use Rattle.command_line.specs.Calls.{are_for_many, are_in_conflict, conflict_in, conflict_of};
+ghost use Rattle.command_line.specs.Conflicts.{conflict_kind, kinds_of};
 
-use crate::serve;
+use crate::format::unknown_format;
 use crate::values::{given_number, is_set, optional};
+use crate::{check, serve};
 use clap::error::ErrorKind;
 use clap::{ArgMatches, Error};
 use std::alloc::{AllocError, Global};
@@ -45,21 +47,29 @@ fn beside_accept(matches: &ArgMatches<'_>) -> Option<&'static str>
     }
 }
 
-/// The same among the words of the form with this name.
-fn in_form(name: &str, matches: &ArgMatches<'_>) -> Option<&'static str>
-    ensures { is_some result ≡ (bytes_eq name.now (codes "serve")
-        && are_in_conflict (rows_of (found_of matches.now))) }
+/// What is wrong with the words of a form, beside what `clap` says of them.
+#[derive(Drop)]
+enum Conflict<'a> {
+    /// The option may not stand beside `--accept`.
+    BesideAccept(&'static str),
+    /// There is no format with this name.
+    NoFormat(&'a str),
+}
+
+/// What is wrong with the words of the form with this name.
+fn in_form<'a>(name: &str, matches: &ArgMatches<'a>) -> Option<Conflict<'a>>
+    ensures { conflict_in name.now (rows_of (found_of matches.now)) ≡ kinds_of result }
 {
     match name {
-        "serve" => beside_accept(matches),
+        "serve" => beside_accept(matches).map(|option| Conflict::BesideAccept(option)),
+        "check" => unknown_format(matches).map(|name| Conflict::NoFormat(name)),
         _ => None,
     }
 }
 
-/// The same among all words.
-fn found(matches: &ArgMatches<'_>) -> Option<&'static str>
-    ensures { conflict_of (subcommand_rows_of matches.now)
-        ≡ (if is_some result then ErrorKind.ArgumentConflict ∷ [] else []) }
+/// The same of all words.
+fn found<'a>(matches: &ArgMatches<'a>) -> Option<Conflict<'a>>
+    ensures { conflict_of (subcommand_rows_of matches.now) ≡ kinds_of result }
 {
     match matches.subcommand() {
         None => None,
@@ -68,7 +78,7 @@ fn found(matches: &ArgMatches<'_>) -> Option<&'static str>
 }
 
 /// That the option may not stand beside `--accept`.
-fn error(alloc: Global, option: &str) -> Result<Error, AllocError>
+fn beside_accept_error(alloc: Global, option: &str) -> Result<Error, AllocError>
     ensures { IfOk result (λ e. kind_of e ≡ ErrorKind.ArgumentConflict) }
 {
     let message = format!(in alloc; "the argument '--accept <N>' cannot be used with '{option}'")?;
@@ -76,12 +86,33 @@ fn error(alloc: Global, option: &str) -> Result<Error, AllocError>
     command.error(ErrorKind::ArgumentConflict, message.as_str())
 }
 
-/// An error where words exclude one another.
+/// That there is no format with this name.
+fn format_error(alloc: Global, name: &str) -> Result<Error, AllocError>
+    ensures { IfOk result (λ e. kind_of e ≡ ErrorKind.InvalidValue) }
+{
+    let message = format!(in alloc;
+        "invalid value '{name}' for '--format <FORMAT>'\n  [possible values: text, json, github]"
+    )?;
+    let mut command = check::command(alloc)?.bin_name("schemareg check")?;
+    command.error(ErrorKind::InvalidValue, message.as_str())
+}
+
+/// The error of what is wrong.
+fn error(alloc: Global, conflict: &Conflict<'_>) -> Result<Error, AllocError>
+    ensures { IfOk result (λ e. kind_of e ≡ conflict_kind conflict.now) }
+{
+    match conflict {
+        Conflict::BesideAccept(option) => beside_accept_error(alloc, option),
+        Conflict::NoFormat(name) => format_error(alloc, name),
+    }
+}
+
+/// An error where words exclude one another, or name what there isn't.
 pub(crate) fn refuse(alloc: Global, matches: &ArgMatches<'_>) -> Result<(), Error>
     ensures { FailsBy (conflict_of (subcommand_rows_of matches.now)) result }
 {
     match found(matches) {
         None => Ok(()),
-        Some(option) => Err(error(alloc, option)?),
+        Some(conflict) => Err(error(alloc, &conflict)?),
     }
 }

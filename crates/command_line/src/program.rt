@@ -2,11 +2,11 @@
 ghost use Rattle.std.specs.Prelude.{◌≡◌, [], ◌∷◌, IfOk, false, map};
 ghost use Rattle.clap.specs.Words.{FailsBy, app_of, fault_of, found_of, rows_of, subcommand_of, subcommand_rows_of};
 ghost use Rattle.command_line.specs.Calls.{Asked, Means, asked_call, asked_form, call_of, call_view, faults_of};
-ghost use Rattle.command_line.specs.Commands.{program, versioned_program};
+ghost use Rattle.command_line.specs.Commands.{program, program_of_files, versioned_program};
 ghost use Rattle.clap.specs.declared.builder.command.Command.TheViews.{out-Command as fields_of};
 ghost use Rattle.command_line.specs.Forms.{Asks, IsCall, Spells};
 
-use crate::{Call, check, conflicts, run, serve};
+use crate::{Call, bundle, check, conflicts, run, scan, serve};
 use clap::error::ErrorKind;
 use clap::{ArgMatches, Command, Error};
 use std::alloc::{AllocError, Global};
@@ -25,6 +25,9 @@ fn named<'a>(alloc: Global) -> Command<'a>
              where \"uri\" may be left out.\n\n\
              Examples:\n  \
                schemareg check schema.json instance.json\n  \
+               schemareg check --with schemas schemas/order.json orders\n  \
+               schemareg bundle --with schemas schemas/order.json\n  \
+               schemareg scan schemas\n  \
                echo '{\"schema\": {\"type\": \"string\"}, \"instance\": 5}' | schemareg\n  \
                schemareg serve --tenants tenants.json --listen 127.0.0.1:8080\n\n\
              In the sources, docs/PROFILE.md tells which schemas are read and what is refused, docs/LIMITS.md\n\
@@ -32,17 +35,27 @@ fn named<'a>(alloc: Global) -> Command<'a>
         )
 }
 
-/// The program with its forms.
+/// The program with the forms that judge files.
+fn for_files<'a>(alloc: Global) -> Result<Command<'a>, AllocError>
+    ensures shape { IfOk result (λ c. app_of c ≡ program_of_files) }
+    ensures local { IfOk result (λ c. (fields_of c).has_globals ≡ false) }
+{
+    let check = check::command(alloc)?;
+    let bundle = bundle::command(alloc)?;
+    let scan = scan::command(alloc)?;
+    named(alloc)
+        .subcommand(check)?
+        .subcommand(bundle)?
+        .subcommand(scan)
+}
+
+/// The program with all its forms.
 fn command<'a>(alloc: Global) -> Result<Command<'a>, AllocError>
     ensures { IfOk result (λ c. app_of c ≡ program) }
 {
-    let check = check::command(alloc)?;
     let run = run::command(alloc)?;
     let serve = serve::command(alloc)?;
-    named(alloc)
-        .subcommand(check)?
-        .subcommand(run)?
-        .subcommand(serve)
+    for_files(alloc)?.subcommand(run)?.subcommand(serve)
 }
 
 /// What `clap` finds in `words`.
@@ -55,23 +68,30 @@ fn matches<'a, S: AsStr>(alloc: Global, words: &'a [S]) -> Result<ArgMatches<'a>
 }
 
 /// The call that the words of the form with this name spell.
-fn call_of_form<'a>(name: &str, matches: &ArgMatches<'a>) -> Call<'a>
-    ensures { call_view result ≡ asked_form name.now (rows_of (found_of matches.now)) }
+fn call_of_form<'a>(
+    alloc: Global,
+    name: &str,
+    matches: &ArgMatches<'a>,
+) -> Result<Call<'a>, AllocError>
+    ensures { IfOk result
+        (λ call. call_view call ≡ asked_form name.now (rows_of (found_of matches.now))) }
 {
     match name {
-        "run" => run::call(matches),
-        "serve" => serve::call(matches),
-        _ => check::call(matches),
+        "run" => Ok(run::call(matches)),
+        "serve" => Ok(serve::call(matches)),
+        "bundle" => bundle::call(alloc, matches),
+        "scan" => scan::call(alloc, matches),
+        _ => check::call(alloc, matches),
     }
 }
 
 /// The call of the form that was found, if any.
-fn call<'a>(matches: &ArgMatches<'a>) -> Call<'a>
-    ensures { call_view result ≡ asked_call (subcommand_rows_of matches.now) }
+fn call<'a>(alloc: Global, matches: &ArgMatches<'a>) -> Result<Call<'a>, AllocError>
+    ensures { IfOk result (λ call. call_view call ≡ asked_call (subcommand_rows_of matches.now)) }
 {
     match matches.subcommand() {
-        None => Call::Input,
-        Some((name, inner)) => call_of_form(name, inner),
+        None => Ok(Call::Input),
+        Some((name, inner)) => call_of_form(alloc, name, inner),
     }
 }
 
@@ -91,5 +111,5 @@ pub fn read<'a, S: AsStr>(alloc: Global, words: &'a [S]) -> Result<Call<'a>, Err
 {
     let found = matches(alloc, words)?;
     conflicts::refuse(alloc, &found)?;
-    Ok(call(&found))
+    Ok(call(alloc, &found)?)
 }

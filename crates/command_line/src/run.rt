@@ -1,4 +1,4 @@
-//! The form `run --tenants FILE [--library FILE] [--cache N]`.
+//! The form `run --tenants FILE [--library FILE] [--store FILE] [--cache N]`.
 ghost use Rattle.std.specs.Prelude.{◌≡◌, IfOk, false};
 ghost use Rattle.clap.specs.Words.{app_of, found_of, rows_of};
 ghost use Rattle.clap.specs.declared.builder.command.Command.TheViews.{out-Command as fields_of};
@@ -21,11 +21,13 @@ pub(crate) fn command<'a>(alloc: Global) -> Result<Command<'a>, AllocError>
         "run",
         "Serves one HTTP connection on standard input and output",
         "Both files are read before either is judged. Standard input holds requests, and standard\n\
-         output gets their replies; the registries end with the connection.\n\n\
+         output gets their replies; the registries end with the connection, unless a store keeps\n\
+         their documents.\n\n\
          Status: 0 where the connection ended, also by a reply that closes it, 2 where it couldn't\n\
          be served; standard error then says why.\n\n\
-         Example:\n  \
-           schemareg run --tenants tenants.json < requests > replies",
+         Examples:\n  \
+           schemareg run --tenants tenants.json < requests > replies\n  \
+           schemareg run --tenants tenants.json --store documents.sqlite < requests > replies",
     )?
     .arg(cache(alloc))
 }

@@ -1,5 +1,5 @@
-//! The form `serve --tenants FILE [--library FILE] --listen ADDR [--accept N] [--cache N]`, with limits and a log where
-//! `--accept` is left out.
+//! The form `serve --tenants FILE [--library FILE] [--store FILE] --listen ADDR [--accept N] [--cache N]`, with limits and a
+//! log where `--accept` is left out.
 ghost use Rattle.std.specs.Prelude.{◌≡◌, IfOk, false, codes};
 ghost use Rattle.clap.specs.Words.{app_of, found_of, rows_of, rule_of};
 ghost use Rattle.clap.specs.declared.builder.command.Command.TheViews.{out-Command as fields_of};
@@ -14,9 +14,10 @@ use clap::{Arg, ArgMatches, Command, value_parser};
 use std::alloc::{AllocError, Global};
 
 const AFTER_HELP: &str =
-    "Both files are read before either is judged. The registries are in memory alone, and end with the\n\
-    program. Standard output gets nothing. What ends a connection early is told on standard error as\n\
-    'connection <k>: <name>', and the others are served.\n\n\
+    "Both files are read before either is judged. With --store a change is answered once it would survive\n\
+    a crash, and the documents are there at the next start; without it they are in memory alone, and\n\
+    end with the program. Standard output gets nothing. What ends a connection early is told on\n\
+    standard error as 'connection <k>: <name>', and the others are served.\n\n\
     Without --accept connections are served side by side. Standard error gets 'listening on <address>'\n\
     at first, also of a port that the system chose for 0, and at the end how many connections, requests\n\
     and refusals there were. The end comes with that of standard input, where it is a pipe: no further\n\
@@ -26,6 +27,7 @@ const AFTER_HELP: &str =
     Status: 0 at the end, 2 where nothing can be served at the address; standard error then says why.\n\n\
     Examples:\n  \
       schemareg serve --tenants tenants.json --listen 127.0.0.1:8080\n  \
+      schemareg serve --tenants tenants.json --store documents.sqlite --listen 127.0.0.1:8080\n  \
       schemareg serve --tenants tenants.json --listen '[::1]:0' --connections 5000 --idle 60 --log log --log-requests\n  \
       schemareg serve --tenants tenants.json --listen 127.0.0.1:8080 --accept 1000";
 

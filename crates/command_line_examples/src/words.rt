@@ -1,6 +1,6 @@
 //! The call of each form, and the text, the stream and the status of what is no call.
 
-use command_line::{Call, Limits, Logging, Setup, read};
+use command_line::{Call, Format, Limits, Logging, Setup, read};
 use std::process::Abort;
 
 #[test]
@@ -34,6 +34,58 @@ fn reads_each_form(rt: HostRuntime) {
     );
 }
 
+#[test]
+fn reads_the_forms_over_files(rt: HostRuntime) {
+    let alloc = rt.alloc();
+    let words = [
+        "schemareg",
+        "check",
+        "--with",
+        "a",
+        "--with",
+        "b",
+        "--lines",
+        "--format",
+        "json",
+        "--quiet",
+        "s",
+        "-",
+    ];
+    let call = read(alloc, words.as_slice()).expect(&rt, "lines by a schema over two folders");
+    let Call::CheckMany { checks } = call else {
+        panic!(rt; "no check of several")
+    };
+    assert_eq!(rt; checks.documents.paths.as_slice(), ["a", "b"].as_slice());
+    assert_eq!(rt; checks.instances.as_slice(), ["-"].as_slice());
+    assert_eq!(rt;
+        (checks.uri, checks.schema, checks.lines),
+        (None, "s", true)
+    );
+    assert_eq!(rt; (checks.format, checks.quiet), (Format::Json, true));
+
+    let words = ["schemareg", "bundle", "--library", "l", "--out", "o", "s"];
+    let call = read(alloc, words.as_slice()).expect(&rt, "a bundle");
+    let Call::Bundle { bundling } = call else {
+        panic!(rt; "no bundle")
+    };
+    assert_eq!(rt;
+        (bundling.documents.library, bundling.out),
+        (Some("l"), Some("o"))
+    );
+
+    let words = ["schemareg", "scan", "s", "t"];
+    let call = read(alloc, words.as_slice()).expect(&rt, "a scan");
+    let Call::Scan { scanning } = call else {
+        panic!(rt; "no scan")
+    };
+    assert_eq!(rt; scanning.schemas.as_slice(), ["s", "t"].as_slice());
+
+    let format =
+        "error: invalid value 'xml' for '--format <FORMAT>'\n  [possible values: text, json, github]\n";
+    let words = ["schemareg", "check", "--format", "xml", "s", "i"];
+    assert_prints(&rt, words.as_slice(), format, true);
+}
+
 /// `words` are no call, and print a text that begins with `text`.
 fn assert_prints<R: AllocGlobal + Abort>(rt: &R, words: &[&str], text: &str, is_mistake: bool) {
     let error = read(rt.alloc(), words).expect_err(rt, "no call");
@@ -49,8 +101,8 @@ fn assert_prints<R: AllocGlobal + Abort>(rt: &R, words: &[&str], text: &str, is_
 
 #[test]
 fn refuses_mistakes(rt: HostRuntime) {
-    let missing = "error: the following required arguments were not provided:\n  <INSTANCE>\n\n\
-        Usage: schemareg check <SCHEMA> <INSTANCE>\n\nFor more information, try '--help'.\n";
+    let missing = "error: the following required arguments were not provided:\n  <INSTANCE>...\n\n\
+        Usage: schemareg check <SCHEMA> <INSTANCE>...\n\nFor more information, try '--help'.\n";
     assert_prints(&rt, ["schemareg", "check", "a"].as_slice(), missing, true);
     let flag = "error: unexpected argument '--walk' found\n\n";
     assert_prints(&rt, ["schemareg", "--walk"].as_slice(), flag, true);
@@ -166,7 +218,7 @@ fn refuses_mistakes_in_the_forms_that_serve(rt: HostRuntime) {
 #[test]
 fn shows_the_help_of_each_form(rt: HostRuntime) {
     let help =
-        "Checks an instance by a schema\n\nUsage: schemareg check [OPTIONS] <SCHEMA> <INSTANCE>\n";
+        "Checks instances by a schema\n\nUsage: schemareg check [OPTIONS] <SCHEMA> <INSTANCE>...\n";
     assert_prints(
         &rt,
         ["schemareg", "check", "--help"].as_slice(),

@@ -9,7 +9,7 @@ use Rattle.command_line.proofs.program.read.Goals as goal
 -- ---- the words are a call
 pub returns-clause-forms : goal.returns-clause-forms
 returns-clause-forms g c = λ call s.
-    c.call.ensures ∙ ap asked_call c.in_ok-found.ensures.ok ∙ spelled_call (map g.S.AsStr.text c.args.words.now) call s
+    c.in_ok-call.ensures ∙ ap asked_call c.in_ok-found.ensures.ok ∙ spelled_call (map g.S.AsStr.text c.args.words.now) call s
 
 pub returns-clause-requests : goal.returns-clause-requests
 returns-clause-requests g c = λ kind a.
@@ -18,7 +18,7 @@ returns-clause-requests g c = λ kind a.
     (none_of _ _ c.in_ok-found.ensures.err (subst (λ o. conflict_of o ≡ []) c.in_ok-found.ensures.ok c.in_ok-refuse.ensures))
 
 pub returns-clause-calls : goal.returns-clause-calls
-returns-clause-calls g c = λ call m. c.call.ensures ∙ ap asked_call c.in_ok-found.ensures.ok ∙ m.1
+returns-clause-calls g c = λ call m. c.in_ok-call.ensures ∙ ap asked_call c.in_ok-found.ensures.ok ∙ m.1
 
 pub returns-clause-err : goal.returns-clause-err
 returns-clause-err g c =

@@ -1,5 +1,5 @@
 -- How a check or a connection ends, with which status, and what is written of it.
-use Rattle.std.proofs.Common.{◌≡◌, ◌∙◌, ℕ, List, true, Option, Result, Ok, Err, refl, sym, ap, subst, inl, inr}
+use Rattle.std.proofs.Common.{◌≡◌, ◌∙◌, ℕ, List, true, Option, Some, None, Result, Ok, Err, refl, sym, ap, subst, inl, inr}
 use Rattle.std.specs.Prelude.{IfSome, IsOkAnd, IsErrAnd}
 use Rattle.clap.specs.Words.{kind_of}
 use Rattle.clap.specs.declared.error.Error.{Error}
@@ -13,18 +13,18 @@ use Rattle.http_front.proofs.Refused.{refused_run}
 use Rattle.serving.specs.Transfers.{Transfer}
 use Rattle.serving.specs.Writing.{WritesSome}
 use Rattle.schemareg.specs.declared.stop.Stop.{Stop}
-use Rattle.schemareg.specs.declared.stop.Stop.TheVariants.{Words, NotText, CannotRead, Refused, CannotWrite, CannotListen, CannotAccept, CannotLog, TooManyConnections}
+use Rattle.schemareg.specs.declared.stop.Stop.TheVariants.{Words, NotText, CannotRead, Refused, CannotWrite, CannotListen, CannotAccept, CannotLog, Told, TooManyConnections, Store}
 use Rattle.schemareg.specs.Answers.{Check, EndsBy, EndsWith, OnCheck, check_of_input, check_of_texts, report_line}
-use Rattle.schemareg.specs.Services.{EndsRun, OnRun, RunsWith, Server}
+use Rattle.schemareg.specs.Services.{EndsRun, InMemory, OnRun, OnServer, RunsWith, Server}
 use Rattle.schemareg.specs.Stops.{IsUnreadAmong, is_error, stop_by, stop_of}
 use Rattle.schemareg.proofs.Judged.{all_known, every_server, on_servers}
 
 -- a stop that is told on standard error leaves standard output as it was
-abbrev pub Told : Stop → ℕ → List Transfer → List Transfer → Type 0
-Told stop status after final = is_error stop ≡ true → (status ≡ 2) × (final ≡ after)
+abbrev pub IsTold : Stop → ℕ → List Transfer → List Transfer → Type 0
+IsTold stop status after final = is_error stop ≡ true → (status ≡ 2) × (final ≡ after)
 
 pub told_with : {O : Type 0} (writes : O → List Transfer) (stop : Stop) (told status : ℕ) (after final : O) → status ≡ told
-    → (is_error stop ≡ true → (told ≡ 2) × (final ≡ after)) → Told stop status (writes after) (writes final)
+    → (is_error stop ≡ true → (told ≡ 2) × (final ≡ after)) → IsTold stop status (writes after) (writes final)
 told_with writes stop told status after final e h = λ error. (e ∙ (h error).0, ap writes (h error).1)
 
 -- ---- checks
@@ -32,7 +32,7 @@ pub ended_with : (check : Check) (before after : List Transfer) (result status :
     → EndsWith check before status after
 ended_with check before after result status e h = inl (h.0 ∙ ap Ok (sym e), h.1)
 
-pub stopped_with : (check : Check) (before after final : List Transfer) (stop : Stop) (status : ℕ) → Told stop status after final
+pub stopped_with : (check : Check) (before after final : List Transfer) (stop : Stop) (status : ℕ) → IsTold stop status after final
     → EndsBy check before (Err stop) after → EndsWith check before status final
 stopped_with check before after final (Refused f) status told h = inr ((told refl).0, inl ((told refl).1 ∙ h.0))
 stopped_with check before after final (CannotRead name) status told h = inr ((told refl).0, inl ((told refl).1 ∙ h))
@@ -46,6 +46,8 @@ stopped_with check before after final (CannotListen a) status told h = absurd h
 stopped_with check before after final CannotAccept status told h = absurd h
 stopped_with check before after final (CannotLog path) status told h = absurd h
 stopped_with check before after final (TooManyConnections most) status told h = absurd h
+stopped_with check before after final Told status told h = absurd h
+stopped_with check before after final (Store s) status told h = absurd h
 
 -- what follows for each check follows for the one that is asked for
 pub on_checks : (files : Text → Option Text) (bytes : Option Text) (asked : Asked) (P Q : Check → Type 0) → ((c : Check) → P c → Q c)
@@ -57,6 +59,9 @@ on_checks files bytes (call.check uri schema instance) P Q f h =
   where
     known_at : (Check → Type 0) → Text → Type 0
     known_at R s = IfSome (files instance) (λ i. R (check_of_texts uri s i))
+on_checks files bytes (call.check_many checks) P Q f h = tt
+on_checks files bytes (call.bundle bundling) P Q f h = tt
+on_checks files bytes (call.scan scanning) P Q f h = tt
 on_checks files bytes (call.run start) P Q f h = tt
 on_checks files bytes (call.serve start listen accept) P Q f h = tt
 on_checks files bytes (call.serve_many start listen limits logging) P Q f h = tt
@@ -74,6 +79,8 @@ unbegun_run names (CannotListen a) h reads writes server = absurd h
 unbegun_run names CannotAccept h reads writes server = absurd h
 unbegun_run names (CannotLog path) h reads writes server = absurd h
 unbegun_run names (TooManyConnections most) h reads writes server = absurd h
+unbegun_run names Told h reads writes server = absurd h
+unbegun_run names (Store s) h reads writes server = absurd h
 
 -- memory ran out while the words were read
 pub unspelled_run : (e : Error) (result : Result ℕ Stop) → kind_of e ≡ OutOfMemory → IsErrAnd result (λ stop. stop ≡ stop_of e)
@@ -87,7 +94,7 @@ pub run_ended : (server : Server) (reads writes more others : List Transfer) (re
     → EndsRun server reads writes (Ok result) more others → RunsWith server reads writes status more others
 run_ended server reads writes more others result status e h = inl (e ∙ h.0, h.1)
 
-pub run_stopped : (server : Server) (reads writes more others final : List Transfer) (stop : Stop) (status : ℕ) → Told stop status others final
+pub run_stopped : (server : Server) (reads writes more others final : List Transfer) (stop : Stop) (status : ℕ) → IsTold stop status others final
     → EndsRun server reads writes (Err stop) more others → RunsWith server reads writes status more final
 run_stopped server reads writes more others final (Refused f) status told h = inr (
   (told refl).0,
@@ -101,18 +108,34 @@ run_stopped server reads writes more others final (CannotListen a) status told h
 run_stopped server reads writes more others final CannotAccept status told h = absurd h
 run_stopped server reads writes more others final (CannotLog path) status told h = absurd h
 run_stopped server reads writes more others final (TooManyConnections most) status told h = absurd h
+run_stopped server reads writes more others final Told status told h = absurd h
+run_stopped server reads writes more others final (Store s) status told h = absurd h
 
 -- what follows for each server follows for the one that is asked for
 pub on_runs : (files : Text → Option Text) (asked : Asked) (P Q : Server → Type 0) → ((s : Server) → P s → Q s) → OnRun files asked P → OnRun files asked Q
 on_runs files call.input P Q f h = tt
 on_runs files (call.check uri schema instance) P Q f h = tt
-on_runs files (call.run start) P Q f h = on_servers files start P Q f h
+on_runs files (call.check_many checks) P Q f h = tt
+on_runs files (call.bundle bundling) P Q f h = tt
+on_runs files (call.scan scanning) P Q f h = tt
+on_runs files (call.run start) P Q f h = by start.store h
+  where
+    by : (store : Option Text) → InMemory store (OnServer files start P) → InMemory store (OnServer files start Q)
+    by None p = on_servers files start P Q f p
+    by (Some path) p = tt
 on_runs files (call.serve start listen accept) P Q f h = tt
 on_runs files (call.serve_many start listen limits logging) P Q f h = tt
 
 pub every_run : (files : Text → Option Text) (asked : Asked) (P : Server → Type 0) → ((s : Server) → P s) → OnRun files asked P
 every_run files call.input P f = tt
 every_run files (call.check uri schema instance) P f = tt
-every_run files (call.run start) P f = every_server files start P f
+every_run files (call.check_many checks) P f = tt
+every_run files (call.bundle bundling) P f = tt
+every_run files (call.scan scanning) P f = tt
+every_run files (call.run start) P f = by start.store
+  where
+    by : (store : Option Text) → InMemory store (OnServer files start P)
+    by None = every_server files start P f
+    by (Some path) = tt
 every_run files (call.serve start listen accept) P f = tt
 every_run files (call.serve_many start listen limits logging) P f = tt

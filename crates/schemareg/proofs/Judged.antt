@@ -18,7 +18,7 @@ use Rattle.http_front.proofs.Libraries.{each_library}
 use Rattle.http_front.proofs.Refused.{is_no_room}
 use Rattle.schemareg.specs.declared.service.Sources.{Sources}
 use Rattle.schemareg.specs.declared.stop.Stop.{Stop}
-use Rattle.schemareg.specs.declared.stop.Stop.TheVariants.{Words, NotText, CannotRead, Refused, CannotWrite, CannotListen, CannotAccept, CannotLog, TooManyConnections}
+use Rattle.schemareg.specs.declared.stop.Stop.TheVariants.{Words, NotText, CannotRead, Refused, CannotWrite, CannotListen, CannotAccept, CannotLog, Told, TooManyConnections, Store}
 use Rattle.schemareg.specs.Services.{HoldsLibrary, HoldsSources, IsJudged, OnLibrary, OnLibraryIn, OnServer, OnServerIn, Server}
 use Rattle.schemareg.specs.Stops.{IsUnreadAmong}
 
@@ -91,6 +91,8 @@ unread_judged T names (CannotListen a) h (Err g) = absurd h
 unread_judged T names CannotAccept h (Err g) = absurd h
 unread_judged T names (CannotLog path) h (Err g) = absurd h
 unread_judged T names (TooManyConnections most) h (Err g) = absurd h
+unread_judged T names Told h (Err g) = absurd h
+unread_judged T names (Store s) h (Err g) = absurd h
 
 -- what holds of each server holds of the one that files give
 pub every_server : (files : Text → Option Text) (start : Start) (P : Server → Type 0) → ((server : Server) → P server) → OnServer files start P
@@ -116,6 +118,8 @@ judged_alike T U (CannotListen a) (Err g) h = absurd h
 judged_alike T U CannotAccept (Err g) h = absurd h
 judged_alike T U (CannotLog path) (Err g) h = absurd h
 judged_alike T U (TooManyConnections most) (Err g) h = absurd h
+judged_alike T U Told (Err g) h = absurd h
+judged_alike T U (Store s) (Err g) h = absurd h
 
 -- registries that stand are not refused
 pub judged_behind : (T U : Type 0) (made : T) (result : Result U Stop) (server : Server) → IsJudged server (Ok made) → IsJudged server result

@@ -4,7 +4,7 @@ use Rattle.std.specs.List.{list_any}
 use Rattle.clap.specs.Words.{IsAmong, Kinds, kind_of}
 use Rattle.clap.specs.declared.error.kind.ErrorKind.{ErrorKind}
 use Rattle.schemareg.specs.declared.stop.Stop.{Stop}
-use Rattle.schemareg.specs.declared.stop.Stop.TheVariants.{Words, NotText, CannotRead, Refused, CannotWrite, CannotListen, CannotAccept, CannotLog, TooManyConnections}
+use Rattle.schemareg.specs.declared.stop.Stop.TheVariants.{Words, NotText, CannotRead, Refused, CannotWrite, CannotListen, CannotAccept, CannotLog, Told, TooManyConnections, Store}
 use Rattle.schemareg.specs.Stops.{AreMistakes, IsFoundIn, is_error, is_request}
 
 first_false : (a b : Bool) → (a || b) ≡ false → a ≡ false
@@ -33,3 +33,5 @@ mistaken kinds (CannotListen address) m found = refl
 mistaken kinds CannotAccept m found = refl
 mistaken kinds (CannotLog path) m found = refl
 mistaken kinds (TooManyConnections most) m found = refl
+mistaken kinds Told m found = refl
+mistaken kinds (Store s) m found = refl

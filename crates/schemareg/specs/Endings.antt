@@ -6,7 +6,7 @@ use Rattle.command_line.specs.Calls.{Asked, Start}
 use Rattle.command_line.specs.Calls as call
 use Rattle.schemareg.specs.Stops.{IsNamed, IsUnreadAmong}
 use Rattle.schemareg.specs.declared.stop.Stop.{Stop}
-use Rattle.schemareg.specs.declared.stop.Stop.TheVariants.{CannotRead, Refused, CannotWrite, CannotListen, CannotAccept, CannotLog, TooManyConnections}
+use Rattle.schemareg.specs.declared.stop.Stop.TheVariants.{CannotRead, Refused, CannotWrite, CannotListen, CannotAccept, CannotLog, Told, TooManyConnections, Store}
 
 abbrev pub library_name : Option Text → List Text
 library_name None = []
@@ -16,10 +16,13 @@ library_name (Some library) = library ∷ []
 abbrev pub files_of : Start → List Text
 files_of s = s.tenants ∷ library_name s.library
 
--- the files that a call reads, in this order
+-- the files that a call reads, in this order; the forms that judge folders tell themselves what they cannot read
 abbrev pub files_in : Asked → List Text
 files_in call.input = []
 files_in (call.check uri schema instance) = schema ∷ instance ∷ []
+files_in (call.check_many checks) = []
+files_in (call.bundle bundling) = []
+files_in (call.scan scanning) = []
 files_in (call.run start) = files_of start
 files_in (call.serve start listen accept) = files_of start
 files_in (call.serve_many start listen limits logging) = files_of start
@@ -28,6 +31,9 @@ files_in (call.serve_many start listen limits logging) = files_of start
 abbrev pub names_of : Asked → List Text
 names_of call.input = codes "-" ∷ []
 names_of (call.check uri schema instance) = schema ∷ instance ∷ []
+names_of (call.check_many checks) = []
+names_of (call.bundle bundling) = []
+names_of (call.scan scanning) = []
 names_of (call.run start) = files_of start
 names_of (call.serve start listen accept) = files_of start
 names_of (call.serve_many start listen limits logging) = files_of start
@@ -46,16 +52,18 @@ is_service (call.serve_many start listen limits logging) = true
 is_service _ = false
 
 -- The status of a call, or why there is none: what cannot be read has one of these names, and only a call that listens
--- may fail to, at its address
+-- may fail to, at its address; what a form told itself, it read by other names
 abbrev pub EndsReading : List Text → Option Text → Result ℕ Stop → Type 0
 EndsReading names address (Ok status) = status ≤ 1
 EndsReading names address (Err (CannotRead name)) = IsNamed name.now names
 EndsReading names address (Err (Refused f)) = ⊤
 EndsReading names address (Err CannotWrite) = ⊤
+EndsReading names address (Err Told) = names ≡ []
 EndsReading names address (Err (CannotListen a)) = address ≡ Some a.now
 EndsReading names address (Err CannotAccept) = is_some address ≡ true
 EndsReading names address (Err (CannotLog path)) = is_some address ≡ true
 EndsReading names address (Err (TooManyConnections most)) = is_some address ≡ true
+EndsReading names address (Err (Store s)) = ⊤
 EndsReading names address (Err _) = ⊥
 
 -- ---- the order in which files are read, where some are known to be unreadable

@@ -2,3 +2,4 @@ pub mod Stops
 pub mod Endings
 pub mod Answers
 pub mod Services
+pub mod Stored

@@ -62,6 +62,11 @@ OnLibraryIn (Some batch) P = OnLibraryOf batch.items P
 abbrev pub OnServerIn : Sources → ℕ → (Server → Type 0) → Type 0
 OnServerIn sources capacity P = OnLibraryIn sources.library (λ library. P (server_of sources.tenants.items capacity library))
 
+-- what holds of a form over no store
+abbrev pub InMemory : Option Text → Type 0 → Type 0
+InMemory None P = P
+InMemory (Some path) P = ⊤
+
 -- what holds of the library that the file gives, where it is known what files hold
 abbrev pub OnLibrary : (Text → Option Text) → Option Text → (Result (List Document) meaning.Fault → Type 0) → Type 0
 OnLibrary files None P = P (Ok [])
@@ -90,16 +95,23 @@ EndsServing (Ok registries) count (Err CannotAccept) = ServeAlone registries (λ
 EndsServing server count result = ⊤
 
 -- ---- connections side by side
--- these registries serve them, each tenant as if it were alone
-abbrev pub ServeSideBySide : List KeyedRegistry → Type 0
-ServeSideBySide registries =
-    (reads : List Moved) × (writes : List Moved) × (more : List Moved) × (others : List Moved) × AreServedSideBySide registries reads writes more others
+-- what is read and written of them
+abbrev pub Serving : Type 1
+Serving = List Moved → List Moved → List Moved → List Moved → Type 0
+
+abbrev pub AreServedSo : Serving → Type 0
+AreServedSo serves = (reads : List Moved) × (writes : List Moved) × (more : List Moved) × (others : List Moved) × serves reads writes more others
 
 -- they are served up to their end, or up to where no more can be accepted
+abbrev pub EndsSideBySide : Serving → Result ℕ Stop → Type 0
+EndsSideBySide serves (Ok status) = AreServedSo serves
+EndsSideBySide serves (Err CannotAccept) = AreServedSo serves
+EndsSideBySide serves (Err _) = ⊤
+
+-- .. by these registries, each tenant as if it were alone
 abbrev pub EndsServingMany : Server → Result ℕ Stop → Type 0
-EndsServingMany (Ok registries) (Ok status) = ServeSideBySide registries
-EndsServingMany (Ok registries) (Err CannotAccept) = ServeSideBySide registries
-EndsServingMany server result = ⊤
+EndsServingMany (Ok registries) result = EndsSideBySide (AreServedSideBySide registries) result
+EndsServingMany (Err g) result = ⊤
 
 -- ---- a connection on standard input and output
 -- It is answered to its end, or up to a fault, by the registries that the files give; or a file cannot be read. Nothing is read
@@ -116,7 +128,7 @@ RunsWith server reads writes status more others =
     ((status ≡ 0) × IsRun server reads writes (Ok tt) more others)
     ⊎ ((status ≡ 2) × (((more ≡ reads) × (others ≡ writes)) ⊎ ((f : Fault) × IsRun server reads writes (Err f) more others)))
 
--- what holds of the server of a call that serves one connection, where it is known what its files hold
+-- what holds of the server of a call that serves one connection in memory, where it is known what its files hold
 abbrev pub OnRun : (Text → Option Text) → Asked → (Server → Type 0) → Type 0
-OnRun files (call.run start) P = OnServer files start P
+OnRun files (call.run start) P = InMemory start.store (OnServer files start P)
 OnRun files _ P = ⊤

@@ -13,12 +13,12 @@ use Rattle.clap.specs.declared.error.kind.ErrorKind.TheVariants.{DisplayHelp, Di
 use Rattle.serving.specs.Transfers.{Transfer}
 use Rattle.serving.specs.Writing.{Writes, WritesSome}
 use Rattle.schemareg.specs.declared.stop.Stop.{Stop}
-use Rattle.schemareg.specs.declared.stop.Stop.TheVariants.{Words, NotText, CannotRead, Refused, CannotWrite, CannotListen, CannotAccept, CannotLog, TooManyConnections}
+use Rattle.schemareg.specs.declared.stop.Stop.TheVariants.{Words, NotText, CannotRead, Refused, CannotWrite, CannotListen, CannotAccept, CannotLog, Told, TooManyConnections, Store}
 
 abbrev pub unwritten_text : Text
 unwritten_text = codes "cannot write -" ++ line_feed ∷ []
 
--- what is printed, and none where the text is `clap`'s
+-- what is printed, and none where the text is `clap`'s, or tells of a store
 abbrev pub text_of : Stop → Option Text
 text_of (Words e) = None
 text_of NotText = Some (codes "error: the command line is not UTF-8" ++ line_feed ∷ [])
@@ -28,8 +28,10 @@ text_of CannotWrite = Some unwritten_text
 text_of (CannotListen address) = Some (codes "cannot listen on " ++ address.now ++ line_feed ∷ [])
 text_of CannotAccept = Some (codes "cannot accept" ++ line_feed ∷ [])
 text_of (CannotLog path) = Some (codes "cannot write " ++ path.now ++ line_feed ∷ [])
+text_of Told = Some []
 text_of (TooManyConnections most) =
     Some (codes "refused: --connections is above " ++ decimal most ++ codes ", which the limit of open files allows" ++ line_feed ∷ [])
+text_of (Store s) = None
 
 -- the words ask for help or for the version
 abbrev pub is_request : ErrorKind → Bool
@@ -52,6 +54,17 @@ stop_by _ e = Words e
 
 abbrev pub stop_of : Error → Stop
 stop_of e = stop_by (kind_of e) e
+
+-- documents aren't kept
+abbrev pub IsOfStore : Stop → Type 0
+IsOfStore (Store s) = ⊤
+IsOfStore _ = ⊥
+
+-- no more connections can be accepted, or documents aren't kept
+abbrev pub IsOutage : Stop → Type 0
+IsOutage CannotAccept = ⊤
+IsOutage (Store s) = ⊤
+IsOutage _ = ⊥
 
 -- what has this name cannot be read, or memory ran out
 abbrev pub IsUnread : Text → Stop → Type 0

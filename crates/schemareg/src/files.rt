@@ -40,6 +40,8 @@ pub trait Logs {
 #[derive(Drop)]
 pub struct FileSystem<'r, R> {
     pub rt: &'r R,
+    /// Whether standard error is a terminal.
+    pub terminal: bool,
 }
 
 impl<R: Files> Texts for FileSystem<'_, R> {

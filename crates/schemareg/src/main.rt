@@ -3,21 +3,27 @@
 
 mod checking;
 mod files;
+mod forms;
 mod log;
 mod printing;
 mod program;
 mod reading;
+mod registries;
 mod service;
 mod side_by_side;
 mod stop;
+mod store_stop;
+mod stored;
+mod stores;
 
 use serving::Recorded;
-use std::io;
+use std::io::{self, IsTerminal};
 use std::process::ExitCode;
 
 fn main(rt: HostRuntime) -> ExitCode {
     let (out, errors) = (rt.stdout(), rt.stderr());
+    let terminal = errors.is_terminal();
     let mut out = Recorded::new(io::writer(&out));
     let mut errors = Recorded::new(io::writer(&errors));
-    program::run(&rt, &mut out, &mut errors)
+    program::run(&rt, &mut out, &mut errors, terminal)
 }

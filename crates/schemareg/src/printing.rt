@@ -5,6 +5,7 @@ ghost use Rattle.schemareg.specs.Answers.{Prints, check_status};
 ghost use Rattle.schemareg.specs.Stops.{Attempts, EndsRequest, EndsUnwritten, Tells, is_error, status_of, text_of, unwritten_text};
 
 use crate::stop::{Stop, UNWRITTEN};
+use fault_sentences::Sentence;
 use faults::Fault;
 use serving::{ByteWriter, write_all};
 use std::io::{self, Write};
@@ -107,4 +108,11 @@ fn complain<E: ByteWriter>(errors: &mut E)
     ensures { Attempts (E.writes errors.old) unwritten_text (E.writes errors.new) }
 {
     let _ = write_all(errors, UNWRITTEN.as_bytes());
+}
+
+/// Tells a person at a terminal what would mend a refusal.
+pub fn sentence<E: Write>(errors: &mut E, stop: &Stop<'_>) {
+    if let Stop::Refused(fault) = stop {
+        let _ = writeln!(errors, "  {}", Sentence(fault));
+    }
 }

@@ -1,38 +1,39 @@
 //! The program, by the form of its command line.
-ghost use Rattle.std.specs.Prelude.{◌≡◌, ◌≤◌, ◌⊎◌, true, IfOk, map};
+ghost use Rattle.std.specs.Prelude.{◌≡◌, ◌≤◌, ◌⊎◌, None, Some, true, IfOk, map};
 ghost use Rattle.std.specs.List.{list_any};
 ghost use Rattle.std.specs.Process.{exit_status};
-ghost use Rattle.command_line.specs.Calls.{Asked, Means, call_view, faults_of};
+ghost use Rattle.command_line.specs.Calls.{Asked, Means, call_view, faults_of, setup_view};
 ghost use Rattle.command_line.specs.Forms.{Asks};
 ghost use Rattle.schemareg.specs.Answers.{EndsBy, EndsWith, OnCheck};
-ghost use Rattle.schemareg.specs.Endings.{EndsReading, ReadsInOrder, address_of, files_in, is_service, names_of};
-ghost use Rattle.schemareg.specs.Services.{EndsRun, OnRun, RunsWith};
-ghost use Rattle.schemareg.specs.Stops.{AreMistakes, IsFoundIn, StopsBy};
+ghost use Rattle.schemareg.specs.Endings.{EndsReading, ReadsInOrder, address_of, files_in, files_of, is_service, names_of};
+ghost use Rattle.schemareg.specs.Services.{EndsRun, InMemory, OnRun, OnServer, RunsWith};
+ghost use Rattle.schemareg.specs.Stops.{AreMistakes, IsFoundIn, StopsBy, is_error, status_of};
 
 use crate::files::{FileSystem, Logs, Texts};
+use crate::forms::Forms;
+use crate::service::InTurn;
 use crate::side_by_side::Service;
 use crate::stop::Stop;
-use crate::{checking, printing, reading, service, side_by_side};
+use crate::stores::Stores;
+use crate::{checking, printing, reading, service, side_by_side, stored};
 use clap::error::ErrorKind;
-use command_line::Call;
+use command_line::{Call, Setup};
 use serving::{ByteReader, ByteWriter, Recorded};
 use std::alloc::Global;
 use std::convert::AsStr;
 use std::io::{Read, Write};
 use std::net::{Net, TcpListener, TcpStream};
 use std::process::ExitCode;
-use std::rt::{Env, Files};
 use std::time::Clock;
 
-/// Runs the program on its words, and gives its status.
-pub fn run<R, O, E>(rt: &R, out: &mut O, errors: &mut E) -> ExitCode
+/// Runs the program on its words, and gives its status. `terminal` says whether standard error is a terminal.
+pub fn run<O, E>(rt: &HostRuntime, out: &mut O, errors: &mut E, terminal: bool) -> ExitCode
 where
-    R: Env + Files + Input + AllocGlobal + Net<Listener = TcpListener, Stream = TcpStream> + Clock,
     O: Write + ByteWriter,
     E: Write + ByteWriter,
     ensures { exit_status result ≤ 2 }
 {
-    let files = FileSystem { rt };
+    let files = FileSystem { rt, terminal };
     match reading::words(rt) {
         Ok(words) => answer(
             rt.alloc(),
@@ -48,7 +49,7 @@ where
 }
 
 /// Runs the program on these words, the program's own name first, and gives its status.
-fn answer<S: AsStr, F: Texts + Logs, N, I, O, E>(
+fn answer<S: AsStr, F: Texts + Logs + Forms + Stores, N, I, O, E>(
     alloc: Global,
     words: &[S],
     files: &F,
@@ -80,12 +81,29 @@ where
 {
     match obey(alloc, words, files, net, input, out, errors) {
         Ok(status) => ExitCode::from(status),
-        Err(stop) => ExitCode::from(printing::explain(out, errors, &stop)),
+        Err(stop) => ExitCode::from(explain(files, out, errors, &stop)),
     }
 }
 
+/// Prints why there is no report, and at a terminal what would mend it, and gives the status.
+fn explain<F: Forms, O: Write, E: Write + ByteWriter>(
+    files: &F,
+    out: &mut O,
+    errors: &mut E,
+    stop: &Stop<'_>,
+) -> u8
+    ensures error { is_error stop.now ≡ true → (result ≡ 2) × (out.new ≡ out.old) }
+    ensures status { (result ≡ status_of stop.now) ⊎ (result ≡ 2) }
+{
+    let status = printing::explain(out, errors, stop);
+    if files.is_terminal() {
+        printing::sentence(errors, stop);
+    }
+    status
+}
+
 /// Carries out the call that the words spell, and gives the status.
-fn obey<'a, S: AsStr, F: Texts + Logs, N, I, O: ByteWriter, E: Write>(
+fn obey<'a, S: AsStr, F: Texts + Logs + Forms + Stores, N, I, O: Write + ByteWriter, E: Write>(
     alloc: Global,
     words: &'a [S],
     files: &F,
@@ -119,7 +137,7 @@ where
 }
 
 /// Carries out the call, and gives the status.
-fn carry_out<'a, F: Texts + Logs, N, I, O: ByteWriter, E: Write>(
+fn carry_out<'a, F: Texts + Logs + Forms + Stores, N, I, O: Write + ByteWriter, E: Write>(
     alloc: Global,
     call: Call<'a>,
     files: &F,
@@ -148,12 +166,18 @@ where
             schema,
             instance,
         } => checking::check_files(alloc, files, uri, schema, instance, out),
-        Call::Run { setup } => service::run(alloc, files, setup, input, out),
+        Call::CheckMany { checks } => files.check_many(&checks, input, out, errors),
+        Call::Bundle { bundling } => files.bundle(&bundling, out, errors),
+        Call::Scan { scanning } => files.scan(&scanning, out, errors),
+        Call::Run { setup } => run_connection(alloc, files, setup, input, out),
         Call::Serve {
             setup,
             listen,
             accept,
-        } => service::serve(alloc, net, files, setup, listen, accept, errors),
+        } => {
+            let turns = InTurn { listen, accept };
+            serve_in_turn(alloc, net, files, setup, turns, errors)
+        }
         Call::ServeMany {
             setup,
             listen,
@@ -164,8 +188,77 @@ where
                 listen,
                 limits,
                 logging,
+                store: setup.store,
             };
-            side_by_side::serve(alloc, net, files, setup, service, errors)
+            serve_side_by_side(alloc, net, files, setup, service, errors)
         }
+    }
+}
+
+/// Serves one connection, in memory or over a store.
+fn run_connection<'a, F: Texts + Stores, I: ByteReader, O: ByteWriter>(
+    alloc: Global,
+    files: &F,
+    setup: Setup<'a>,
+    input: &mut I,
+    out: &mut O,
+) -> Result<u8, Stop<'a>>
+    ensures reading { EndsReading (files_of (setup_view setup.entry)) None result }
+    ensures order { ReadsInOrder (F.is_unreadable files.now) (files_of (setup_view setup.entry))
+        result }
+    ensures status { IfOk result (λ status. status ≡ 0) }
+    ensures ran { InMemory (setup_view setup.entry).store
+        (OnServer (F.text_at files.now) (setup_view setup.entry) (λ server. EndsRun server
+        (I.reads input.old) (O.writes out.old) result (I.reads input.new) (O.writes out.new))) }
+{
+    match setup.store {
+        None => service::run(alloc, files, setup, input, out),
+        Some(path) => stored::run(alloc, files, setup, path, input, out),
+    }
+}
+
+/// Serves connections one after the other, in memory or over a store.
+fn serve_in_turn<'a, N, F: Texts + Stores, E: Write>(
+    alloc: Global,
+    net: &N,
+    files: &F,
+    setup: Setup<'a>,
+    turns: InTurn<'a>,
+    errors: &mut E,
+) -> Result<u8, Stop<'a>>
+where
+    N: Net<Listener = TcpListener, Stream = TcpStream> + Clock,
+    ensures reading { EndsReading (files_of (setup_view setup.entry))
+        (Some turns.entry.listen.now) result }
+    ensures order { ReadsInOrder (F.is_unreadable files.now) (files_of (setup_view setup.entry))
+        result }
+    ensures status { IfOk result (λ status. status ≡ 0) }
+{
+    match setup.store {
+        None => service::serve(alloc, net, files, setup, turns, errors),
+        Some(path) => stored::serve(alloc, net, files, setup, path, turns, errors),
+    }
+}
+
+/// Serves connections side by side, in memory or over a store.
+fn serve_side_by_side<'a, N, F: Texts + Logs + Stores, E: Write>(
+    alloc: Global,
+    net: &N,
+    files: &F,
+    setup: Setup<'a>,
+    service: Service<'a>,
+    errors: &mut E,
+) -> Result<u8, Stop<'a>>
+where
+    N: Net<Listener = TcpListener, Stream = TcpStream> + Clock,
+    ensures reading { EndsReading (files_of (setup_view setup.entry))
+        (Some service.entry.listen.now) result }
+    ensures order { ReadsInOrder (F.is_unreadable files.now) (files_of (setup_view setup.entry))
+        result }
+    ensures status { IfOk result (λ status. status ≡ 0) }
+{
+    match setup.store {
+        None => side_by_side::serve(alloc, net, files, setup, service, errors),
+        Some(path) => stored::serve_many(alloc, net, files, setup, path, service, errors),
     }
 }

@@ -7,6 +7,7 @@ ghost use Rattle.command_line.specs.Calls.{setup_view};
 ghost use Rattle.schemareg.specs.Endings.{EndsReading, ReadsInOrder, files_of, library_name};
 ghost use Rattle.schemareg.specs.Services.{EndsRun, EndsServing, HoldsLibrary, HoldsSources, IsJudged, IsUnstarted, OnServer, OnServerIn, library_path};
 ghost use Rattle.schemareg.specs.Stops.{IsUnreadAmong};
+ghost use Rattle.stored_rows.specs.Restoring.{emptied};
 ghost use Rattle.tenant_hub.specs.Hubs.{hub_view};
 
 use crate::files::Texts;
@@ -22,6 +23,7 @@ use std::alloc::Global;
 use std::io::Write;
 use std::net::{Net, TcpListener, TcpStream};
 use std::time::Clock;
+use stored_hub::new_servers_have_no_documents;
 
 /// What the files of a service hold.
 #[derive(Drop)]
@@ -150,9 +152,11 @@ fn hub(alloc: Global, sources: &Sources, capacity: usize) -> Result<Hub, Fault>
 fn start_hub<'a>(alloc: Global, sources: &Sources, capacity: usize) -> Result<Hub, Stop<'a>>
     ensures ok { IfOk result (λ h.
         OnServerIn sources.now capacity (λ server. server ≡ Ok (hub_view h))) }
+    ensures empty { IfOk result (λ h. emptied (hub_view h) ≡ hub_view h) }
     ensures err { (names : List Text) → IfErr result (IsUnstarted names) }
     ensures judged { OnServerIn sources.now capacity (λ server. IsJudged server result) }
 {
+    new_servers_have_no_documents();
     match hub(alloc, sources, capacity) {
         Ok(hub) => Ok(hub),
         Err(fault) => Err(Stop::Refused(fault)),
@@ -167,6 +171,7 @@ pub(crate) fn new_hub<'a, F: Texts>(
 ) -> Result<Hub, Stop<'a>>
     ensures ok { IfOk result (λ h. OnServer (F.text_at files.now) (setup_view setup.entry)
         (λ server. server ≡ Ok (hub_view h))) }
+    ensures empty { IfOk result (λ h. emptied (hub_view h) ≡ hub_view h) }
     ensures err { IfErr result (IsUnstarted (files_of (setup_view setup.entry))) }
     ensures order { ReadsInOrder (F.is_unreadable files.now) (files_of (setup_view setup.entry))
         result }
@@ -179,8 +184,15 @@ pub(crate) fn new_hub<'a, F: Texts>(
     }
 }
 
+/// Where connections are served one after the other, and how many are.
+#[derive(Clone, Copy)]
+pub struct InTurn<'a> {
+    pub listen: &'a str,
+    pub accept: u32,
+}
+
 /// Listens at the address.
-fn listen<'a, N: Net<Listener = TcpListener, Stream = TcpStream>>(
+pub(crate) fn listen<'a, N: Net<Listener = TcpListener, Stream = TcpStream>>(
     net: &N,
     address: &'a str,
 ) -> Result<TcpListener, Stop<'a>>
@@ -192,57 +204,64 @@ fn listen<'a, N: Net<Listener = TcpListener, Stream = TcpStream>>(
     }
 }
 
-/// Serves `accept` connections at the address, one after the other over the same registries, and gives the status 0.
+/// Serves so many connections at the address, one after the other over the same registries, and gives the status 0.
 fn serve_at<'a, N, E: Write>(
     alloc: Global,
     net: &N,
     hub: Hub,
-    address: &'a str,
-    accept: u32,
+    turns: InTurn<'a>,
     errors: &mut E,
 ) -> Result<u8, Stop<'a>>
 where
     N: Net<Listener = TcpListener, Stream = TcpStream> + Clock,
-    ensures reading { (names : List Text) → EndsReading names (Some address.now) result }
-    ensures alone { EndsServing (Ok (hub_view hub)) accept result }
+    ensures reading { (names : List Text) → EndsReading names (Some turns.entry.listen.now) result }
+    ensures alone { EndsServing (Ok (hub_view hub)) turns.entry.accept result }
     ensures status { IfOk result (λ status. status ≡ 0) }
 {
-    let listener = match listen(net, address) {
+    let listener = match listen(net, turns.listen) {
         Ok(listener) => listener,
         Err(stop) => return Err(stop),
     };
     let mut sessions = Sessions::new(alloc, HubHandler::new(hub));
     let limits = Limits::standard();
-    match serve_connections(alloc, net, &listener, limits, accept, &mut sessions, errors) {
+    match serve_connections(
+        alloc,
+        net,
+        &listener,
+        limits,
+        turns.accept,
+        &mut sessions,
+        errors,
+    ) {
         Ok(()) => Ok(0),
         Err(_) => Err(Stop::CannotAccept),
     }
 }
 
-/// Serves `accept` connections at the address, one after the other over the same registries, and gives the status 0.
+/// Serves so many connections at the address, one after the other over the same registries, and gives the status 0.
 /// What ends one of them early is told on `errors`. The registries are judged before the address is.
 pub fn serve<'a, N, F: Texts, E: Write>(
     alloc: Global,
     net: &N,
     files: &F,
     setup: Setup<'a>,
-    address: &'a str,
-    accept: u32,
+    turns: InTurn<'a>,
     errors: &mut E,
 ) -> Result<u8, Stop<'a>>
 where
     N: Net<Listener = TcpListener, Stream = TcpStream> + Clock,
-    ensures reading { EndsReading (files_of (setup_view setup.entry)) (Some address.now) result }
+    ensures reading { EndsReading (files_of (setup_view setup.entry))
+        (Some turns.entry.listen.now) result }
     ensures order { ReadsInOrder (F.is_unreadable files.now) (files_of (setup_view setup.entry))
         result }
     ensures status { IfOk result (λ status. status ≡ 0) }
     ensures judged { OnServer (F.text_at files.now) (setup_view setup.entry)
         (λ server. IsJudged server result) }
     ensures alone { OnServer (F.text_at files.now) (setup_view setup.entry)
-        (λ server. EndsServing server accept result) }
+        (λ server. EndsServing server turns.entry.accept result) }
 {
     match new_hub(alloc, files, setup) {
-        Ok(hub) => serve_at(alloc, net, hub, address, accept, errors),
+        Ok(hub) => serve_at(alloc, net, hub, turns, errors),
         Err(stop) => Err(stop),
     }
 }

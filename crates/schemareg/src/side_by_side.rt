@@ -2,17 +2,18 @@
 ghost use Rattle.std.specs.Prelude.{◌≡◌, List, Some, Ok, IfOk, IfErr};
 ghost use Rattle.definitions.specs.Values.{Text};
 ghost use Rattle.command_line.specs.Calls.{setup_view};
-ghost use Rattle.http_front.specs.SideBySide.{AreServedSideBySide};
 ghost use Rattle.schemareg.specs.Endings.{EndsReading, ReadsInOrder, files_of};
-ghost use Rattle.schemareg.specs.Services.{EndsServingMany, IsJudged, IsUnopened, OnServer};
-ghost use Rattle.tenant_hub.specs.Hubs.{hub_view};
+ghost use Rattle.schemareg.specs.Stops.{IsOutage};
+ghost use Rattle.schemareg.specs.Services.{EndsServingMany, EndsSideBySide, IsJudged, IsUnopened, OnServer};
 
 use crate::files::{Logs, Texts};
 use crate::log::{Counts, Log, Watch, write_line};
+use crate::registries::Registries;
 use crate::service::new_hub;
 use crate::stop::Stop;
+use crate::store_stop::StoreStop;
 use command_line::{Logging, Setup};
-use http_front::{Hub, serve_side_by_side};
+use connections::Outage;
 use serving_many::Network;
 use sockets::{Sockets, most_connections};
 use std::alloc::Global;
@@ -26,6 +27,8 @@ pub struct Service<'a> {
     pub listen: &'a str,
     pub limits: command_line::Limits,
     pub logging: Logging<'a>,
+    /// The file that keeps the documents, if there is one.
+    pub store: Option<&'a str>,
 }
 
 /// A whole duration of so many seconds; without end where there is none.
@@ -87,78 +90,92 @@ fn open_sockets<'a, 'r, N: Net + Clock>(
     }
 }
 
-/// Serves the connections of a network side by side by this hub, until they are over, and gives the status 0. A log is told
-/// how they go.
-fn serve_network<'a, N: Network, C: Clock, W: Write>(
+/// Why connections are served no more.
+fn stop<'a>(store: Option<&'a str>, outage: Outage) -> Stop<'a>
+    ensures { IsOutage result }
+{
+    match outage {
+        Outage::Broken => Stop::CannotAccept,
+        Outage::Unsettled(unsettled) => match store {
+            Some(path) => Stop::Store(StoreStop::Unsettled(path, unsettled)),
+            None => Stop::CannotAccept,
+        },
+    }
+}
+
+/// Serves the connections of a network side by side by these registries, until they are over, and gives the status 0. A log
+/// is told how they go.
+fn serve_network<'a, H: Registries, N: Network, C: Clock, W: Write>(
     alloc: Global,
-    hub: Hub,
+    registries: H,
     network: &mut N,
     log: &Log<'_, C, W>,
-    most_memory: usize,
+    service: Service<'a>,
 ) -> Result<u8, Stop<'a>>
-    ensures alone { AreServedSideBySide (hub_view hub) (N.reads network.old) (N.writes network.old)
+    ensures served { H.serves registries (N.reads network.old) (N.writes network.old)
         (N.reads network.new) (N.writes network.new) }
     ensures reading { (names : List Text) (address : Text)
         → EndsReading names (Some address) result }
     ensures status { IfOk result (λ status. status ≡ 0) }
 {
     let mut watch = Watch { log };
-    match serve_side_by_side(alloc, hub, log, network, &mut watch, most_memory) {
+    let most_memory = service.limits.memory as usize;
+    match registries.serve(alloc, log, network, &mut watch, most_memory) {
         Ok(()) => Ok(0),
-        Err(_) => Err(Stop::CannotAccept),
+        Err(outage) => Err(stop(service.store, outage)),
     }
 }
 
 /// The same with a log on `out`, and how many there were.
-fn serve_logged<'a, N: Network, C: Clock, W: Write + Drop>(
+fn serve_logged<'a, H: Registries, N: Network, C: Clock, W: Write + Drop>(
     alloc: Global,
     clock: &C,
-    hub: Hub,
+    registries: H,
     network: &mut N,
     service: Service<'a>,
     out: W,
 ) -> (Result<u8, Stop<'a>>, Counts)
-    ensures alone { AreServedSideBySide (hub_view hub) (N.reads network.old) (N.writes network.old)
+    ensures served { H.serves registries (N.reads network.old) (N.writes network.old)
         (N.reads network.new) (N.writes network.new) }
     ensures reading { (names : List Text) (address : Text)
         → EndsReading names (Some address) result.0 }
     ensures status { IfOk result.0 (λ status. status ≡ 0) }
 {
     let log = Log::new(alloc, clock, out, service.logging.requests);
-    let ended = serve_network(alloc, hub, network, &log, service.limits.memory as usize);
+    let ended = serve_network(alloc, registries, network, &log, service);
     let counts = log.counts();
     (ended, counts)
 }
 
 /// The same, with a log in a file or else on `errors`.
-fn serve_told<'a, N: Network, C: Clock, L: Write + Drop, E: Write>(
+fn serve_told<'a, H: Registries, N: Network, C: Clock, L: Write + Drop, E: Write>(
     alloc: Global,
     clock: &C,
-    hub: Hub,
+    registries: H,
     network: &mut N,
     service: Service<'a>,
     file: Option<L>,
     errors: &mut E,
 ) -> (Result<u8, Stop<'a>>, Counts)
-    ensures alone { AreServedSideBySide (hub_view hub) (N.reads network.old) (N.writes network.old)
+    ensures served { H.serves registries (N.reads network.old) (N.writes network.old)
         (N.reads network.new) (N.writes network.new) }
     ensures reading { (names : List Text) (address : Text)
         → EndsReading names (Some address) result.0 }
     ensures status { IfOk result.0 (λ status. status ≡ 0) }
 {
     match file {
-        Some(file) => serve_logged(alloc, clock, hub, network, service, file),
-        None => serve_logged(alloc, clock, hub, network, service, errors),
+        Some(file) => serve_logged(alloc, clock, registries, network, service, file),
+        None => serve_logged(alloc, clock, registries, network, service, errors),
     }
 }
 
-/// Serves connections at the address side by side by this hub, and gives the status 0. Their address, and at the end how
-/// many there were, is told on `errors`.
-fn serve_at<'a, N, F: Logs, E: Write>(
+/// Serves connections at the address side by side by these registries, and gives the status 0. Their address, and at the end
+/// how many there were, is told on `errors`.
+pub(crate) fn serve_at<'a, H: Registries, N, F: Logs, E: Write>(
     alloc: Global,
     net: &N,
     files: &F,
-    hub: Hub,
+    registries: H,
     service: Service<'a>,
     errors: &mut E,
 ) -> Result<u8, Stop<'a>>
@@ -166,7 +183,7 @@ where
     N: Net + Clock,
     ensures reading { (names : List Text)
         → EndsReading names (Some service.entry.listen.now) result }
-    ensures alone { EndsServingMany (Ok (hub_view hub)) result }
+    ensures served { EndsSideBySide (H.serves registries) result }
     ensures status { IfOk result (λ status. status ≡ 0) }
 {
     let file = match open_log(files, service.logging) {
@@ -179,7 +196,7 @@ where
     };
     let address = sockets.local_addr();
     write_line(errors, format!(in alloc; "listening on {address}\n"));
-    let (ended, counts) = serve_told(alloc, net, hub, &mut sockets, service, file, errors);
+    let (ended, counts) = serve_told(alloc, net, registries, &mut sockets, service, file, errors);
     write_line(errors, format!(in alloc; "{counts}"));
     ended
 }

@@ -1,6 +1,7 @@
 //! Why the program ends without a report.
 ghost use Rattle.std.specs.Prelude.{◌≡◌};
 
+use crate::store_stop::StoreStop;
 use clap::error::ErrorKind;
 use faults::Fault;
 use std::fmt;
@@ -27,8 +28,12 @@ pub enum Stop<'a> {
     CannotAccept,
     /// Nothing can be appended to the file of the log.
     CannotLog(&'a str),
+    /// What went wrong was told already, file by file.
+    Told,
     /// More connections are to be open than the system's limit of descriptors allows, which are so many.
     TooManyConnections(usize),
+    /// Documents aren't kept.
+    Store(StoreStop<'a>),
 }
 
 impl Stop<'_> {
@@ -67,10 +72,12 @@ impl fmt::Display for Stop<'_> {
             Stop::CannotListen(address) => write!(f, "cannot listen on {address}\n"),
             Stop::CannotAccept => f.write_str("cannot accept\n"),
             Stop::CannotLog(path) => write!(f, "cannot write {path}\n"),
+            Stop::Told => f.write_str(""),
             Stop::TooManyConnections(most) => write!(
                 f,
                 "refused: --connections is above {most}, which the limit of open files allows\n"
             ),
+            Stop::Store(stop) => write!(f, "{stop}\n"),
         }
     }
 }

@@ -23,10 +23,10 @@ returns-in-Err-clause-judged g c =
 
 pub returns-in-Ok-clause-alone : goal.returns-in-Ok-clause-alone
 returns-in-Ok-clause-alone g c =
-    on_servers (g.F.Texts.text_at c.args.files.now) (setup_view c.args.setup) (λ server. server ≡ Ok (hub_view c.in-Ok.hub)) (λ server. EndsServing server c.args.accept c.serve_at.result)
-    (λ server e. served_of (hub_view c.in-Ok.hub) c.args.accept c.serve_at.result server e c.serve_at.ensures.alone) c.in-Ok.ensures.ok
+    on_servers (g.F.Texts.text_at c.args.files.now) (setup_view c.args.setup) (λ server. server ≡ Ok (hub_view c.in-Ok.hub)) (λ server. EndsServing server c.args.turns.accept c.serve_at.result)
+    (λ server e. served_of (hub_view c.in-Ok.hub) c.args.turns.accept c.serve_at.result server e c.serve_at.ensures.alone) c.in-Ok.ensures.ok
 
 pub returns-in-Err-clause-alone : goal.returns-in-Err-clause-alone
 returns-in-Err-clause-alone g c =
-    every_server (g.F.Texts.text_at c.args.files.now) (setup_view c.args.setup) (λ server. EndsServing server c.args.accept (Err c.in-Err.stop))
-    (unstarted_alone (files_of (setup_view c.args.setup)) c.in-Err.stop c.args.accept c.in-Err.ensures.err)
+    every_server (g.F.Texts.text_at c.args.files.now) (setup_view c.args.setup) (λ server. EndsServing server c.args.turns.accept (Err c.in-Err.stop))
+    (unstarted_alone (files_of (setup_view c.args.setup)) c.in-Err.stop c.args.turns.accept c.in-Err.ensures.err)

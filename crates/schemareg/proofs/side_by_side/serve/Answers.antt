@@ -24,7 +24,7 @@ returns-in-Err-clause-judged g c =
 pub returns-in-Ok-clause-alone : goal.returns-in-Ok-clause-alone
 returns-in-Ok-clause-alone g c =
     on_servers (g.F.Texts.text_at c.args.files.now) (setup_view c.args.setup) (λ server. server ≡ Ok (hub_view c.in-Ok.hub)) (λ server. EndsServingMany server c.serve_at.result)
-    (λ server e. served_many_of (hub_view c.in-Ok.hub) c.serve_at.result server e c.serve_at.ensures.alone) c.in-Ok.ensures.ok
+    (λ server e. served_many_of (hub_view c.in-Ok.hub) c.serve_at.result server e c.serve_at.ensures.served) c.in-Ok.ensures.ok
 
 pub returns-in-Err-clause-alone : goal.returns-in-Err-clause-alone
 returns-in-Err-clause-alone g c =

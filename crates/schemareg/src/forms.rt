@@ -1,0 +1,98 @@
+//! The forms that judge files and folders.
+ghost use Rattle.std.specs.Prelude.{◌≡◌, [], None, IfOk};
+ghost use Rattle.schemareg.specs.Endings.{EndsReading};
+
+use crate::files::FileSystem;
+use crate::stop::Stop;
+use command_line::{Bundling, Checks, Scanning};
+use file_forms::Console;
+use std::alloc::Global;
+use std::io::{Read, Write};
+use std::rt::{Env, Files};
+use std::time::Clock;
+
+/// What carries out the forms that judge files and folders. Each tells what goes wrong itself, and then stops.
+pub trait Forms {
+    /// Whether standard error is a terminal.
+    fn is_terminal(&self) -> bool;
+
+    /// Checks several instances.
+    fn check_many<'a, I: Read, O: Write, E: Write>(
+        &self,
+        checks: &Checks<'_>,
+        input: &mut I,
+        out: &mut O,
+        errors: &mut E,
+    ) -> Result<u8, Stop<'a>>
+        ensures reading { EndsReading [] None result };
+
+    /// Writes a bundle.
+    fn bundle<'a, O: Write, E: Write>(
+        &self,
+        bundling: &Bundling<'_>,
+        out: &mut O,
+        errors: &mut E,
+    ) -> Result<u8, Stop<'a>>
+        ensures reading { EndsReading [] None result };
+
+    /// Scans schemas.
+    fn scan<'a, O: Write, E: Write>(
+        &self,
+        scanning: &Scanning<'_>,
+        out: &mut O,
+        errors: &mut E,
+    ) -> Result<u8, Stop<'a>>
+        ensures reading { EndsReading [] None result };
+}
+
+impl<R: Files + Env + AllocGlobal + Clock + Clone + Drop> Forms for FileSystem<'_, R> {
+    fn is_terminal(&self) -> bool {
+        self.terminal
+    }
+
+    fn check_many<'a, I: Read, O: Write, E: Write>(
+        &self,
+        checks: &Checks<'_>,
+        input: &mut I,
+        out: &mut O,
+        errors: &mut E,
+    ) -> Result<u8, Stop<'a>> {
+        let alloc = self.rt.alloc();
+        let console = Console::new(alloc, self.rt, out, errors, self.terminal, checks.quiet);
+        status_or_told(file_forms::check_many(self.rt, input, console, checks, self.terminal))
+    }
+
+    fn bundle<'a, O: Write, E: Write>(
+        &self,
+        bundling: &Bundling<'_>,
+        out: &mut O,
+        errors: &mut E,
+    ) -> Result<u8, Stop<'a>> {
+        let alloc = self.rt.alloc();
+        let console = Console::new(alloc, self.rt, out, errors, self.terminal, true);
+        status_or_told(file_forms::bundle(self.rt, console, bundling))
+    }
+
+    fn scan<'a, O: Write, E: Write>(
+        &self,
+        scanning: &Scanning<'_>,
+        out: &mut O,
+        errors: &mut E,
+    ) -> Result<u8, Stop<'a>> {
+        let alloc = self.rt.alloc();
+        let console = Console::new(alloc, self.rt, out, errors, self.terminal, scanning.quiet);
+        status_or_told(file_forms::scan(self.rt, console, scanning))
+    }
+}
+
+// The status of a form, or that it told what went wrong.
+fn status_or_told<'a>(status: u8) -> Result<u8, Stop<'a>>
+    ensures reading { EndsReading [] None result }
+    ensures same { IfOk result (λ s. s ≡ status) }
+{
+    if status <= 1 {
+        Ok(status)
+    } else {
+        Err(Stop::Told)
+    }
+}

@@ -1,9 +1,11 @@
 //! Many connections that a script tells of, served side by side.
 
-use crate::handlers::sessions;
+use crate::handlers::{sessions, sessions_with_most};
+use crate::served_hubs::{POST, PUT, STORED};
 use crate::texts::is_like;
-use network::{Fault, Happening, MemoryNetwork};
-use serving_many::{Observer, serve_all};
+use network::Happening::{self, *};
+use network::{Fault, MemoryNetwork};
+use serving_many::{Observer, Outage, Unsettled, serve_all};
 use std::alloc::{AllocError, Global};
 use std::test::Fail;
 
@@ -74,4 +76,30 @@ pub fn unlike_outcomes(
         }
     }
     Ok(String::new(alloc))
+}
+
+#[test]
+fn nothing_of_a_round_that_is_unsettled_is_written(rt: HostRuntime) -> Result<(), Fail> {
+    let alloc = rt.alloc();
+    let script = [
+        Opens(0),
+        Opens(1),
+        Arrives(0, PUT),
+        Rests,
+        Rests,
+        Arrives(0, POST),
+        Arrives(1, POST),
+        Rests,
+    ];
+    let mut sessions = sessions_with_most(alloc, 1);
+    let mut network = MemoryNetwork::new(alloc, &script);
+    let mut observer = Noting {
+        alloc,
+        text: String::new(alloc),
+    };
+    let served = serve_all(alloc, &mut sessions, &mut network, &mut observer, 1_000_000);
+    assert!(rt; served == Err(Outage::Unsettled(Unsettled::Failed)));
+    assert_eq!(rt; network.written(0), STORED.as_bytes());
+    assert!(rt; network.written(1).is_empty());
+    Ok(())
 }

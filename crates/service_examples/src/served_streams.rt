@@ -1,10 +1,10 @@
 //! Streams that a reader gives and a writer takes, whole or failing on the way.
 
-use crate::handlers::sessions;
+use crate::handlers::{sessions, sessions_with_most};
 use crate::served_hubs::{EXAMPLE, EXAMPLE_REPLIES, POST, PUT, PUT_FRONT, STORED, hub_sessions};
 use crate::texts::{filled, push_copies};
 use http_front::Fault;
-use serving::{MemoryReader, MemoryWriter, Pace, Pause, Recorded, serve};
+use serving::{Failure, MemoryReader, MemoryWriter, Pace, Pause, Recorded, Unsettled, serve};
 use std::alloc::{AllocError, Global};
 use std::test::Fail;
 
@@ -23,13 +23,13 @@ fn served(
     alloc: Global,
     reading: Pace,
     writer: &mut MemoryWriter,
-) -> Result<(Option<Fault>, bool), Fault> {
+) -> Result<(Option<Failure>, bool), Fault> {
     let mut sessions = hub_sessions(alloc)?;
     let mut reader = reader(alloc, EXAMPLE, reading)?;
-    let fault = serve(alloc, &mut sessions, 1, &mut reader, writer).err();
+    let failure = serve(alloc, &mut sessions, 1, &mut reader, writer).err();
     sessions.open(1)?;
     let output = sessions.feed(alloc, 1, POST.as_bytes())?;
-    Ok((fault, output.starts_with(b"HTTP/1.1 200 OK\r\n")))
+    Ok((failure, output.starts_with(b"HTTP/1.1 200 OK\r\n")))
 }
 
 #[test]
@@ -53,7 +53,7 @@ fn an_open_id_is_not_served(rt: HostRuntime) -> Result<(), Fail> {
     let mut reader = reader(alloc, EXAMPLE, Pace::WHOLE)?;
     let mut writer = MemoryWriter::new(alloc, Pace::WHOLE);
     let refused = serve(alloc, &mut sessions, 1, &mut reader, &mut writer);
-    assert!(rt; refused == Err(Fault::IdInUse));
+    assert!(rt; refused == Err(Failure::Fault(Fault::IdInUse)));
     assert!(rt; writer.bytes().is_empty());
     assert!(rt;
         sessions
@@ -68,8 +68,8 @@ fn a_reader_that_fails_at_each_read(rt: HostRuntime) -> Result<(), Fail> {
     let alloc = rt.alloc();
     for calls in 0..=EXAMPLE.len() {
         let mut writer = MemoryWriter::new(alloc, Pace::WHOLE);
-        let (fault, stored) = served(alloc, pace(1, calls, Pause::Fails), &mut writer)?;
-        assert!(rt; fault == Some(Fault::ReadFailed));
+        let (failure, stored) = served(alloc, pace(1, calls, Pause::Fails), &mut writer)?;
+        assert!(rt; failure == Some(Failure::Fault(Fault::ReadFailed)));
         assert_eq!(rt; stored, PUT.len() <= calls);
         assert!(rt; EXAMPLE_REPLIES.as_bytes().starts_with(writer.bytes()));
         assert_eq!(rt; writer.bytes().is_empty(), calls < PUT.len());
@@ -83,11 +83,25 @@ fn a_writer_that_fails_or_stops_at_each_write(rt: HostRuntime) -> Result<(), Fai
     for calls in 0..EXAMPLE_REPLIES.len() {
         for pause in [Pause::Fails, Pause::Stops] {
             let mut writer = MemoryWriter::new(alloc, pace(1, calls, pause));
-            let (fault, stored) = served(alloc, Pace::WHOLE, &mut writer)?;
-            assert!(rt; fault == Some(Fault::WriteFailed));
+            let (failure, stored) = served(alloc, Pace::WHOLE, &mut writer)?;
+            assert!(rt; failure == Some(Failure::Fault(Fault::WriteFailed)));
             assert!(rt; stored);
             assert_eq!(rt; writer.bytes(), &EXAMPLE_REPLIES.as_bytes()[..calls]);
         }
+    }
+    Ok(())
+}
+
+#[test]
+fn nothing_of_a_piece_that_is_unsettled_is_written(rt: HostRuntime) -> Result<(), Fail> {
+    let alloc = rt.alloc();
+    for (most, wanted) in [(0_usize, ""), (1, STORED)] {
+        let mut sessions = sessions_with_most(alloc, most);
+        let mut reader = reader(alloc, EXAMPLE, pace(1, usize::MAX, Pause::Stops))?;
+        let mut writer = MemoryWriter::new(alloc, Pace::WHOLE);
+        let served = serve(alloc, &mut sessions, 1, &mut reader, &mut writer);
+        assert!(rt; served == Err(Failure::Unsettled(Unsettled::Failed)));
+        assert_eq!(rt; writer.bytes(), wanted.as_bytes());
     }
     Ok(())
 }
@@ -104,7 +118,7 @@ fn a_stream_without_an_end_is_given_up(rt: HostRuntime) -> Result<(), Fail> {
     let mut reader = reader(alloc, stream.as_str(), pace(1, usize::MAX, Pause::Stops))?;
     let mut writer = MemoryWriter::new(alloc, Pace::WHOLE);
     let given_up = serve(alloc, &mut sessions, 1, &mut reader, &mut writer);
-    assert!(rt; given_up == Err(Fault::ReadBound));
+    assert!(rt; given_up == Err(Failure::Fault(Fault::ReadBound)));
     assert_eq!(rt; writer.bytes(), EXAMPLE_REPLIES.as_bytes());
     sessions.open(1)?;
     Ok(())

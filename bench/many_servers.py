@@ -42,14 +42,18 @@ http {{
 }}
 """
 
-WRK = """
-wrk.method, wrk.path, wrk.body = "{method}", "{path}", '{body}'
-wrk.headers = {{{headers}}}
+DONE = """
 function done(summary, latency)
   local errors = summary.errors
   print("told", summary.requests, summary.duration, latency:percentile(50), latency:percentile(99), latency.max,
         errors.connect + errors.read + errors.write + errors.status + errors.timeout)
 end
+"""
+
+WRK = """
+wrk.method, wrk.path, wrk.body = "{method}", "{path}", '{body}'
+wrk.headers = {{{headers}}}
+{done}
 """
 
 
@@ -174,8 +178,13 @@ def wrk(server, request, connections, seconds):
     first, *lines = head.split("\r\n")
     method, path, _ = first.split(" ")
     headers = ", ".join('["{}"] = "{}"'.format(*line.split(": ")) for line in lines if not line.startswith("content-length"))
+    return wrk_told(server, connections, seconds, lambda done: WRK.format(method=method, path=path, body=body, headers=headers, done=done))
+
+
+def wrk_told(server, connections, seconds, script_of):
+    """The same by a script, which is given the function that tells the figures."""
     with tempfile.NamedTemporaryFile("w", suffix=".lua") as script:
-        script.write(WRK.format(method=method, path=path, body=body, headers=headers))
+        script.write(script_of(DONE))
         script.flush()
         words = ["wrk", "-t", str(min(2, connections)), "-c", str(connections), "-d", f"{seconds}s", "--timeout", "10s"]
         words += ["-s", script.name, f"http://127.0.0.1:{server.port}"]

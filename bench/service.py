@@ -20,6 +20,11 @@ where valgrind is installed. Each table is measured for at least S seconds a fig
         many, idle              one connection that asks, alone and beside 900 idle ones
         many, large documents   50 connections that ask, beside one that puts documents of 1 MB
         many, memory            resident memory before any connection, and by 1,000 idle ones
+    durable ..  `serve --store`, on a disk of TMPDIR:
+        durable, puts           puts of 1 KB by 1, 10, 50 and 200 connections, without a store, and by SQLite's shell
+        durable, reads          validations by 49 connections beside one that puts, with a store and without
+        durable, opening        10,000 documents of 2 KB: put by batches, and opened
+        durable, size           the file of 100,000 documents of 1 KB
 
 The last two words stand for tables with marks: the status is 1 where one doesn't hold. They need Linux; those of many clients
 need `wrk` and `nginx`, and more than one processor, and measure each figure five times, for S seconds.
@@ -40,6 +45,7 @@ from pathlib import Path
 from statistics import median
 
 from loopback import connect, free_port, in_turn, reply_length, together
+from durable import DURABLE_TABLES
 from many_clients import MANY_TABLES
 from many_servers import many_server
 from run import TOP, Bench, amount, print_table, time_of
@@ -329,6 +335,7 @@ TABLES = {
     "serve": serve_table,
     "bursts": burst_table,
     **MANY_TABLES,
+    **DURABLE_TABLES,
 }
 
 

@@ -17,6 +17,7 @@ from http.client import HTTPException
 from pathlib import Path
 
 import connections
+import files
 import serving
 import side_by_side
 import streams
@@ -32,7 +33,7 @@ def cases():
     the answer."""
     for instance in sorted(FOLDER.rglob("*.json")):
         folder = instance.parent
-        if instance.name == "schema.json" or folder == serving.SERVICE:
+        if instance.name == "schema.json" or folder == serving.SERVICE or files.SHOP in folder.parents:
             continue
         schema = folder / "schema.json"
         answer = instance.with_suffix(".answer")
@@ -85,7 +86,7 @@ def main():
                 if want != have:
                     print(f"        {part}: wanted {want!r}")
                     print(f"        {' ' * len(part)}     got {have!r}")
-    for name, trial in (trial for module in (serving, streams, connections, side_by_side) for trial in module.trials(program.resolve())):
+    for name, trial in (trial for module in (serving, streams, files, connections, side_by_side) for trial in module.trials(program.resolve())):
         if trial is None:
             print(f"skipped {name}: what it needs is not here")
             continue

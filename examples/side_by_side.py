@@ -196,6 +196,43 @@ def whole_too_long(program):
         return None if 0.9 < took < 3 else f"it ended after {took:.1f} s"
 
 
+def memory_is_taken(program):
+    """While all others together keep more than `--memory`, a client isn't read; it is answered once they are gone."""
+    with Server(program, "--memory", "1048576") as server, server.client() as last:
+        part = put("urn:large", b" " * 1_000_000)[:-1]
+        held = [server.client() for _ in range(2)]
+        for client in held:
+            client.sendall(part)
+        time.sleep(0.5)
+        last.sendall(asked())
+        last.settimeout(1)
+        try:
+            last.recv(1)
+            return "a client is answered while the others keep 2,000,000 bytes"
+        except TimeoutError:
+            pass
+        last.settimeout(SECONDS)
+        for client in held:
+            client.close()
+        return difference(MISSED, read_some(last, len(MISSED)))
+
+
+def room_is_given_back(program):
+    """Idle clients that have each sent a large request take no more memory than those that have not."""
+    with Server(program) as server:
+        clients = [server.client() for _ in range(200)]
+        large = put("urn:large", b" " * 100_000 + STRING)
+        for client in clients:
+            client.sendall(large)
+        for client in clients:
+            answer = read_some(client, len(stored("urn:large")))
+            if not answer.startswith(b"HTTP/1.1 20"):
+                return f"a put is answered by {answer[:80]!r}"
+        status = Path(f"/proc/{server.process.pid}/status").read_text()
+        resident = int(re.search(r"VmRSS:\s+(\d+) kB", status).group(1))
+        return None if resident < 15_000 else f"200 idle clients take {resident} kB"
+
+
 def logs_requests(program):
     """A log has a line for each request: time, connection, tenant, method, path, status, bytes, microseconds; never a key."""
     stream = put("urn:a", STRING) + request("GET", "/bundle?uri=urn:none") + request("GET", "/nowhere")
@@ -264,6 +301,8 @@ TRIALS = {
     "more connections than descriptors are refused": too_many,
     "an idle connection ends": idle_too_long,
     "a connection ends after its time": whole_too_long,
+    "a client isn't read while the others keep too much": memory_is_taken,
+    "an idle client keeps no room": room_is_given_back,
     "a log has a line for each request, and no key": logs_requests,
     "a full disk stops no reply": log_that_is_full,
     "a closed pipe stops no reply": closed_errors,

@@ -132,6 +132,7 @@ fn reads_the_forms_that_serve(rt: HostRuntime) {
     let setup = Setup {
         tenants: "t",
         library: None,
+        store: None,
         cache: 256,
     };
     assert_eq!(rt; call, Call::Run { setup });
@@ -150,6 +151,7 @@ fn reads_the_forms_that_serve(rt: HostRuntime) {
     let setup = Setup {
         tenants: "t",
         library: Some("l"),
+        store: None,
         cache: 4096,
     };
     assert_eq!(rt; call, Call::Run { setup });
@@ -172,6 +174,7 @@ fn reads_the_forms_that_serve(rt: HostRuntime) {
     let setup = Setup {
         tenants: "t",
         library: Some("l"),
+        store: None,
         cache: 1,
     };
     let listen = "127.0.0.1:8080";
@@ -248,6 +251,7 @@ fn reads_limits_and_a_log(rt: HostRuntime) {
     let setup = Setup {
         tenants: "t",
         library: None,
+        store: None,
         cache: 256,
     };
     let words = [

@@ -148,7 +148,7 @@ def last_words(program):
             return "serve with a last word that is a number"
         if not ended(program, [*serve, "0"])[1].startswith(b"error: "):
             return "serve with a last word that is out of bounds"
-        more = ended(program, ["check", files.schema, files.instance, *["more"] * 5_000])
+        more = ended(program, ["run", "--tenants", files.tenants, *["more"] * 5_000])
         if more[2] != 2 or not more[1].startswith(b"error: unexpected argument 'more' found\n"):
             return f"5,000 words too many: {shown(more[1])}, status {more[2]}"
     return None

@@ -118,7 +118,7 @@ def listing(folders):
 
 def sources():
     """The text of each file that is written, by its path below the crate's sources."""
-    folders = [it for it in sorted(FOLDER.iterdir()) if it.is_dir() and it.name != "service" and leaves(it)]
+    folders = [it for it in sorted(FOLDER.iterdir()) if it.is_dir() and it.name not in ("service", "shop") and leaves(it)]
     texts = {f"examples/{rust_name(it.name)}.rt": module(it) for it in folders}
     texts["examples.rt"] = listing(folders)
     return texts

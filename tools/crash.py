@@ -232,7 +232,8 @@ def cuts(program, folder, length, seed):
     asked = [(KEYS[0], f"{SITE}{number}") for number in range(CUT)]
     firsts = [list(range(count)) + [None] * (CUT - count) for count in range(CUT + 1)]
     seen = set()
-    for at in range(max(len(whole) - length, 0), len(whole) + 1):
+    end = len(whole.rstrip(b"\0"))
+    for at in range(max(end - length, 0), end + 1):
         rest = len(whole) - at
         for behind in (b"", bytes(rest), draw.randbytes(rest)):
             shutil.copy(store, f"{folder}/cut")

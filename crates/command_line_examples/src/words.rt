@@ -241,19 +241,8 @@ fn shows_the_help_of_each_form(rt: HostRuntime) {
     );
 }
 
-/// The call that `serve` and these words behind its tenants and its address spell.
-fn served_by<'a, R: AllocGlobal + Abort>(rt: &R, words: &'a [&'a str]) -> Call<'a> {
-    read(rt.alloc(), words).expect(rt, "serve without a count")
-}
-
 #[test]
-fn reads_limits_and_a_log(rt: HostRuntime) {
-    let setup = Setup {
-        tenants: "t",
-        library: None,
-        store: None,
-        cache: 256,
-    };
+fn reads_usual_limits(rt: HostRuntime) {
     let words = [
         "schemareg",
         "serve",
@@ -262,22 +251,34 @@ fn reads_limits_and_a_log(rt: HostRuntime) {
         "--listen",
         "[::1]:0",
     ];
-    let usual = Call::ServeMany {
-        setup,
-        listen: "[::1]:0",
-        limits: Limits {
-            connections: 1000,
-            idle: 30,
-            whole: None,
-            memory: 268_435_456,
-        },
-        logging: Logging {
-            file: None,
-            requests: false,
-        },
+    let call = read(rt.alloc(), words.as_slice()).expect(&rt, "serve without a count");
+    let setup = Setup {
+        tenants: "t",
+        library: None,
+        store: None,
+        cache: 256,
     };
-    assert_eq!(rt; served_by(&rt, words.as_slice()), usual);
+    assert_eq!(rt;
+        call,
+        Call::ServeMany {
+            setup,
+            listen: "[::1]:0",
+            limits: Limits {
+                connections: 1000,
+                idle: 30,
+                whole: None,
+                memory: 268_435_456,
+            },
+            logging: Logging {
+                file: None,
+                requests: false,
+            },
+        }
+    );
+}
 
+#[test]
+fn reads_limits_and_a_log(rt: HostRuntime) {
     let words = [
         "schemareg",
         "serve",
@@ -297,21 +298,30 @@ fn reads_limits_and_a_log(rt: HostRuntime) {
         "l",
         "--log-requests",
     ];
-    let all = Call::ServeMany {
-        setup,
-        listen: "[::1]:0",
-        limits: Limits {
-            connections: 65536,
-            idle: 86400,
-            whole: Some(1),
-            memory: 4_294_967_295,
-        },
-        logging: Logging {
-            file: Some("l"),
-            requests: true,
-        },
+    let call = read(rt.alloc(), words.as_slice()).expect(&rt, "serve without a count");
+    let setup = Setup {
+        tenants: "t",
+        library: None,
+        store: None,
+        cache: 256,
     };
-    assert_eq!(rt; served_by(&rt, words.as_slice()), all);
+    assert_eq!(rt;
+        call,
+        Call::ServeMany {
+            setup,
+            listen: "[::1]:0",
+            limits: Limits {
+                connections: 65536,
+                idle: 86400,
+                whole: Some(1),
+                memory: 4_294_967_295,
+            },
+            logging: Logging {
+                file: Some("l"),
+                requests: true,
+            },
+        }
+    );
 }
 
 /// `serve` with a count takes no option that is for connections side by side.

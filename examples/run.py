@@ -20,6 +20,7 @@ import connections
 import files
 import serving
 import side_by_side
+import stored
 import streams
 import write_tests
 
@@ -86,7 +87,7 @@ def main():
                 if want != have:
                     print(f"        {part}: wanted {want!r}")
                     print(f"        {' ' * len(part)}     got {have!r}")
-    for name, trial in (trial for module in (serving, streams, files, connections, side_by_side) for trial in module.trials(program.resolve())):
+    for name, trial in (trial for module in (serving, streams, files, connections, side_by_side, stored) for trial in module.trials(program.resolve())):
         if trial is None:
             print(f"skipped {name}: what it needs is not here")
             continue

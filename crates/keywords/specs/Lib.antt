@@ -1,3 +1,4 @@
 pub mod Shapes
 pub mod Rows
 pub mod Groups
+pub mod Annotating

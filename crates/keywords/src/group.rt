@@ -4,7 +4,7 @@ ghost use Rattle.std.specs.Prelude.{◌≡◌, flat_map, filter};
 ghost use Rattle.definitions.specs.Keywords.{keywords};
 ghost use Rattle.keywords.specs.Groups.{in_order, is_evaluated, rows_of};
 
-use crate::keyword::Keyword;
+use crate::keyword::{GROUPS, Keyword};
 
 /// Keywords that stand one after the other in the order of evaluation, and know of each other.
 #[derive(Clone, Copy, Debug, Drop, PartialEq, Eq)]
@@ -15,47 +15,11 @@ pub enum Group {
     Conditional,
     /// `contains`, and then `minContains` and `maxContains` by what it found.
     Counted,
+    /// No keyword: no group begins where a keyword stands that is evaluated with another, or not at all.
+    Empty,
 }
 
-const GROUPS: [Group; 35] = [
-    Group::One(Keyword::Ref),
-    Group::One(Keyword::DynamicRef),
-    Group::One(Keyword::Type),
-    Group::One(Keyword::Enum),
-    Group::One(Keyword::Const),
-    Group::One(Keyword::MultipleOf),
-    Group::One(Keyword::Maximum),
-    Group::One(Keyword::ExclusiveMaximum),
-    Group::One(Keyword::Minimum),
-    Group::One(Keyword::ExclusiveMinimum),
-    Group::One(Keyword::MaxLength),
-    Group::One(Keyword::MinLength),
-    Group::One(Keyword::Pattern),
-    Group::One(Keyword::MaxProperties),
-    Group::One(Keyword::MinProperties),
-    Group::One(Keyword::Required),
-    Group::One(Keyword::DependentRequired),
-    Group::One(Keyword::MaxItems),
-    Group::One(Keyword::MinItems),
-    Group::One(Keyword::UniqueItems),
-    Group::One(Keyword::AllOf),
-    Group::One(Keyword::AnyOf),
-    Group::One(Keyword::OneOf),
-    Group::One(Keyword::Not),
-    Group::Conditional,
-    Group::One(Keyword::DependentSchemas),
-    Group::One(Keyword::PrefixItems),
-    Group::One(Keyword::Items),
-    Group::Counted,
-    Group::One(Keyword::Properties),
-    Group::One(Keyword::PatternProperties),
-    Group::One(Keyword::AdditionalProperties),
-    Group::One(Keyword::PropertyNames),
-    Group::One(Keyword::UnevaluatedItems),
-    Group::One(Keyword::UnevaluatedProperties),
-];
-
-/// All groups, in the order of evaluation.
+/// The group that begins with each keyword, in the order of evaluation.
 #[tactic(auto, unfolding(crate::specs::Groups::in_order))]
 pub fn groups() -> &'static [Group]
     ensures groups { result.now ≡ in_order }

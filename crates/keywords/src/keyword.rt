@@ -1,7 +1,10 @@
 //! The table of keywords, in the order of evaluation.
 
-ghost use Rattle.std.specs.Prelude.{◌≡◌};
-ghost use Rattle.keywords.specs.Groups.{group_named, group_number, is_evaluated, row_view};
+ghost use Rattle.std.specs.Prelude.{◌≡◌, false, None, List};
+ghost use Rattle.definitions.specs.Applied.{Application, Outcome, Part};
+ghost use Rattle.definitions.specs.Evaluated.{annotation_of};
+ghost use Rattle.keywords.specs.Annotating.{annotates};
+ghost use Rattle.keywords.specs.Groups.{group_number, is_evaluated};
 ghost use Rattle.keywords.specs.Rows.{row_of};
 ghost use Rattle.keywords.specs.Shapes.{shape_view};
 
@@ -106,109 +109,172 @@ pub enum Keyword {
     Schema,
 }
 
+/// How many keywords there are.
+pub const KEYWORDS: usize = Keyword::Schema as usize + 1;
+
+// The table: a row for each keyword, in the order of evaluation, of its name and its shape; what stands behind these says
+// that it begins a group of several, or follows the keyword that begins its group, or only declares, and that it annotates.
+// The macro makes an array of one column.
+macro_rules! rows {
+    ($column:ident) => {
+        [
+            $column!(Ref, "$ref", Reference),
+            $column!(DynamicRef, "$dynamicRef", Reference),
+            $column!(Type, "type", TypeNames),
+            $column!(Enum, "enum", ValueList),
+            $column!(Const, "const", AnyValue),
+            $column!(MultipleOf, "multipleOf", Divisor),
+            $column!(Maximum, "maximum", WholeNumber),
+            $column!(ExclusiveMaximum, "exclusiveMaximum", WholeNumber),
+            $column!(Minimum, "minimum", WholeNumber),
+            $column!(ExclusiveMinimum, "exclusiveMinimum", WholeNumber),
+            $column!(MaxLength, "maxLength", Size),
+            $column!(MinLength, "minLength", Size),
+            $column!(Pattern, "pattern", AnyText),
+            $column!(MaxProperties, "maxProperties", Size),
+            $column!(MinProperties, "minProperties", Size),
+            $column!(Required, "required", TextList),
+            $column!(DependentRequired, "dependentRequired", TextLists),
+            $column!(MaxItems, "maxItems", Size),
+            $column!(MinItems, "minItems", Size),
+            $column!(UniqueItems, "uniqueItems", Truth),
+            $column!(AllOf, "allOf", SchemaList),
+            $column!(AnyOf, "anyOf", SchemaList),
+            $column!(OneOf, "oneOf", SchemaList),
+            $column!(Not, "not", OneSchema),
+            $column!(If, "if", OneSchema, begins Conditional),
+            $column!(Then, "then", OneSchema, follows If),
+            $column!(Else, "else", OneSchema, follows If),
+            $column!(DependentSchemas, "dependentSchemas", SchemaMap),
+            $column!(PrefixItems, "prefixItems", SchemaList, annotates),
+            $column!(Items, "items", OneSchema, annotates),
+            $column!(Contains, "contains", OneSchema, begins Counted, annotates),
+            $column!(MinContains, "minContains", Size, follows Contains),
+            $column!(MaxContains, "maxContains", Size, follows Contains),
+            $column!(Properties, "properties", SchemaMap, annotates),
+            $column!(PatternProperties, "patternProperties", SchemaMap, annotates),
+            $column!(AdditionalProperties, "additionalProperties", OneSchema, annotates),
+            $column!(PropertyNames, "propertyNames", OneSchema),
+            $column!(UnevaluatedItems, "unevaluatedItems", OneSchema, annotates),
+            $column!(UnevaluatedProperties, "unevaluatedProperties", OneSchema, annotates),
+            $column!(Defs, "$defs", SchemaMap, declares),
+            $column!(Definitions, "definitions", SchemaMap, declares),
+            $column!(ContentSchema, "contentSchema", OneSchema, declares),
+            $column!(Id, "$id", Identifier, declares),
+            $column!(Anchor, "$anchor", AnchorName, declares),
+            $column!(DynamicAnchor, "$dynamicAnchor", AnchorName, declares),
+            $column!(Schema, "$schema", Dialect, declares),
+        ]
+    };
+}
+
+macro_rules! name {
+    ($keyword:ident, $name:literal, $($rest:tt)*) => { $name };
+}
+
+macro_rules! shape {
+    ($keyword:ident, $name:literal, $shape:ident $($rest:tt)*) => { Shape::$shape };
+}
+
+macro_rules! group {
+    ($keyword:ident, $name:literal, $shape:ident, begins $group:ident $($rest:tt)*) => { Group::$group };
+    ($keyword:ident, $name:literal, $shape:ident, follows $first:ident) => { Group::Empty };
+    ($keyword:ident, $name:literal, $shape:ident, declares) => { Group::Empty };
+    ($keyword:ident, $($rest:tt)*) => { Group::One(Keyword::$keyword) };
+}
+
+macro_rules! number {
+    ($keyword:ident, $name:literal, $shape:ident, follows $first:ident) => { Keyword::$first as u8 };
+    ($keyword:ident, $name:literal, $shape:ident, declares) => { KEYWORDS as u8 };
+    ($keyword:ident, $($rest:tt)*) => { Keyword::$keyword as u8 };
+}
+
+macro_rules! annotates {
+    ($keyword:ident, $name:literal, $shape:ident, annotates) => { true };
+    ($keyword:ident, $name:literal, $shape:ident, begins $group:ident, annotates) => { true };
+    ($keyword:ident, $($rest:tt)*) => { false };
+}
+
+static NAMES: [&'static str; KEYWORDS] = rows!(name);
+
+static SHAPES: [Shape; KEYWORDS] = rows!(shape);
+
+/// The group that begins with each keyword.
+pub(crate) static GROUPS: [Group; KEYWORDS] = rows!(group);
+
+// Where its group begins in the table; how many keywords there are, where it is not evaluated.
+static NUMBERS: [u8; KEYWORDS] = rows!(number);
+
+// Whether it may have an annotation of its own.
+static ANNOTATES: [bool; KEYWORDS] = rows!(annotates);
+
+// The keywords of these names; any where there is none.
+macro_rules! keywords {
+    (@ _) => { Keyword::If };
+    (@ $keyword:ident) => { Keyword::$keyword };
+    ($($keyword:tt)*) => { [$(keywords!(@ $keyword)),*] };
+}
+
+/// The one keyword that a name may be, at the place that its length and two of its bytes give: no two keywords have the same
+/// place. Where no keyword has a place, any stands there.
+pub(crate) static LIKELY: [Keyword; 128] = keywords![
+    Ref _ _ UniqueItems _ _ PatternProperties Schema
+    _ _ Properties AllOf _ _ _ _
+    UnevaluatedProperties _ _ MinItems _ _ _ Required
+    _ Enum _ ContentSchema MinContains _ Anchor _
+    _ _ AdditionalProperties _ Pattern _ _ _
+    Maximum MaxLength _ PrefixItems Then _ MinProperties _
+    _ DependentRequired _ _ _ _ Type _
+    _ If Contains _ _ _ ExclusiveMinimum _
+    _ _ Not MaxItems PropertyNames Else MultipleOf _
+    ExclusiveMaximum _ _ Const MaxContains _ _ _
+    _ _ _ _ _ _ _ _
+    _ _ DependentSchemas _ _ _ MaxProperties AnyOf
+    _ _ DynamicAnchor Items _ _ _ _
+    _ _ _ _ _ OneOf Minimum _
+    _ _ _ _ Definitions UnevaluatedItems _ _
+    _ MinLength _ _ Id _ Defs DynamicRef
+];
+
 impl Keyword {
     /// The name under which it stands in a schema.
     pub fn name(self) -> &'static str
         ensures { result.now ≡ (row_of self).name }
     {
-        self.row().0
+        NAMES[self as usize]
     }
 
     /// The shape that its value has to have.
     pub fn shape(self) -> Shape
         ensures { shape_view result ≡ (row_of self).shape }
     {
-        self.row().1
-    }
-
-    /// The keywords that it is evaluated with; none for those that only name, or keep schemas.
-    pub fn group(self) -> Option<Group>
-        ensures { result ≡ group_named (row_of self).name }
-    {
-        self.row().2
+        SHAPES[self as usize]
     }
 
     /// Whether it says anything of an instance: all do that don't only name, or keep schemas.
-    #[tactic(auto, using(crate::proofs::Grouped::grouped))]
     pub fn is_evaluated(self) -> bool
         ensures { result ≡ is_evaluated (row_of self) }
     {
-        self.group().is_some()
+        (NUMBERS[self as usize] as usize) < KEYWORDS
     }
 
-    /// The number of its group in the order of evaluation, from 0; how many groups there are, where it is not evaluated.
+    /// Where its group begins in the table, from 0; how many keywords there are, where it is not evaluated.
+    #[inline(always)]
+    #[tactic(auto, using(crate::proofs::Grouped::numbered))]
     pub fn group_number(self) -> usize
         ensures { result ≡ group_number (row_of self).name }
     {
-        let position = self as usize;
-        if position <= Keyword::If as usize {
-            position
-        } else if position <= Keyword::Else as usize {
-            Keyword::If as usize
-        } else if position <= Keyword::Contains as usize {
-            position - 2
-        } else if position <= Keyword::MaxContains as usize {
-            Keyword::Contains as usize - 2
-        } else if position <= Keyword::UnevaluatedProperties as usize {
-            position - 4
-        } else {
-            Keyword::UnevaluatedProperties as usize - 3
-        }
+        NUMBERS[self as usize] as usize
     }
 
-    // The name, the shape and the group.
-    #[tactic(auto, unfolding(crate::specs::Groups::in_order, crate::specs::Groups::group_named))]
-    fn row(self) -> (&'static str, Shape, Option<Group>)
-        ensures { (result.0.now, shape_view result.1, result.2) ≡ row_view self }
+    /// Whether it may annotate where it passes (Core, 10.3 and 11): those that do annotate an empty object or array.
+    #[inline(always)]
+    pub fn annotates(self) -> bool
+        ensures some { (a : Application) (p : Part × Outcome)
+            → result ≡ annotates a p (row_of self).meaning }
+        ensures none { (a : Application) (os : List (Part × Outcome)) → result ≡ false
+            → annotation_of a (row_of self).meaning os ≡ None }
     {
-        let alone = Some(Group::One(self));
-        match self {
-            Keyword::Ref => ("$ref", Shape::Reference, alone),
-            Keyword::DynamicRef => ("$dynamicRef", Shape::Reference, alone),
-            Keyword::Type => ("type", Shape::TypeNames, alone),
-            Keyword::Enum => ("enum", Shape::ValueList, alone),
-            Keyword::Const => ("const", Shape::AnyValue, alone),
-            Keyword::MultipleOf => ("multipleOf", Shape::Divisor, alone),
-            Keyword::Maximum => ("maximum", Shape::WholeNumber, alone),
-            Keyword::ExclusiveMaximum => ("exclusiveMaximum", Shape::WholeNumber, alone),
-            Keyword::Minimum => ("minimum", Shape::WholeNumber, alone),
-            Keyword::ExclusiveMinimum => ("exclusiveMinimum", Shape::WholeNumber, alone),
-            Keyword::MaxLength => ("maxLength", Shape::Size, alone),
-            Keyword::MinLength => ("minLength", Shape::Size, alone),
-            Keyword::Pattern => ("pattern", Shape::AnyText, alone),
-            Keyword::MaxProperties => ("maxProperties", Shape::Size, alone),
-            Keyword::MinProperties => ("minProperties", Shape::Size, alone),
-            Keyword::Required => ("required", Shape::TextList, alone),
-            Keyword::DependentRequired => ("dependentRequired", Shape::TextLists, alone),
-            Keyword::MaxItems => ("maxItems", Shape::Size, alone),
-            Keyword::MinItems => ("minItems", Shape::Size, alone),
-            Keyword::UniqueItems => ("uniqueItems", Shape::Truth, alone),
-            Keyword::AllOf => ("allOf", Shape::SchemaList, alone),
-            Keyword::AnyOf => ("anyOf", Shape::SchemaList, alone),
-            Keyword::OneOf => ("oneOf", Shape::SchemaList, alone),
-            Keyword::Not => ("not", Shape::OneSchema, alone),
-            Keyword::If => ("if", Shape::OneSchema, Some(Group::Conditional)),
-            Keyword::Then => ("then", Shape::OneSchema, Some(Group::Conditional)),
-            Keyword::Else => ("else", Shape::OneSchema, Some(Group::Conditional)),
-            Keyword::DependentSchemas => ("dependentSchemas", Shape::SchemaMap, alone),
-            Keyword::PrefixItems => ("prefixItems", Shape::SchemaList, alone),
-            Keyword::Items => ("items", Shape::OneSchema, alone),
-            Keyword::Contains => ("contains", Shape::OneSchema, Some(Group::Counted)),
-            Keyword::MinContains => ("minContains", Shape::Size, Some(Group::Counted)),
-            Keyword::MaxContains => ("maxContains", Shape::Size, Some(Group::Counted)),
-            Keyword::Properties => ("properties", Shape::SchemaMap, alone),
-            Keyword::PatternProperties => ("patternProperties", Shape::SchemaMap, alone),
-            Keyword::AdditionalProperties => ("additionalProperties", Shape::OneSchema, alone),
-            Keyword::PropertyNames => ("propertyNames", Shape::OneSchema, alone),
-            Keyword::UnevaluatedItems => ("unevaluatedItems", Shape::OneSchema, alone),
-            Keyword::UnevaluatedProperties => ("unevaluatedProperties", Shape::OneSchema, alone),
-            Keyword::Defs => ("$defs", Shape::SchemaMap, None),
-            Keyword::Definitions => ("definitions", Shape::SchemaMap, None),
-            Keyword::ContentSchema => ("contentSchema", Shape::OneSchema, None),
-            Keyword::Id => ("$id", Shape::Identifier, None),
-            Keyword::Anchor => ("$anchor", Shape::AnchorName, None),
-            Keyword::DynamicAnchor => ("$dynamicAnchor", Shape::AnchorName, None),
-            Keyword::Schema => ("$schema", Shape::Dialect, None),
-        }
+        ANNOTATES[self as usize]
     }
 }

@@ -8,6 +8,6 @@ mod named;
 mod shape;
 
 pub use group::{Group, groups};
-pub use keyword::Keyword;
+pub use keyword::{KEYWORDS, Keyword};
 pub use named::shape_named;
 pub use shape::Shape;

@@ -15,7 +15,6 @@ use Rattle.bundle_laws.specs.Registered.{AreIdentified}
 use Rattle.bundle_laws.proofs.CanonicalTexts.{canonical_uris_are_texts}
 use Rattle.bundle_laws.proofs.Passing.{bundles_stand_alone}
 use Rattle.json_doc.proofs.Entries.{string_is_utf8}
-use Rattle.schema_index.specs.IndexedDocuments.{indexed_base, indexed_value}
 use Rattle.schema_scan.specs.CompiledDocuments.{compiled_base, compiled_value, compiled_view}
 use Rattle.schema_scan.specs.declared.compiled.Compiled.{Compiled}
 use Rattle.linker.specs.LinkedDocuments.{linked_uri, linked_documents}
@@ -26,15 +25,16 @@ use Rattle.linker.proofs.Distinct.{compiled_definite, shared_each}
 
 -- ---- a compiled document
 compiled_scanned : (c : Compiled) → scan_fault (compiled_base c) (compiled_value c) ≡ None
-unfolding indexed_base indexed_value
-compiled_scanned c = c.indexed.faultless
+unfolding compiled_base compiled_value
+compiled_scanned c = c.faultless
 
 compiled_regular : (c : Compiled) → is_regular regular_search (compiled_value c) ≡ true
+unfolding compiled_value
 compiled_regular c = c.regular
 
 base_text : (c : Compiled) → is_utf8 (compiled_base c) ≡ true
-unfolding indexed_base
-base_text c = string_is_utf8 c.indexed.base
+unfolding compiled_base
+base_text c = string_is_utf8 c.base
 
 canonical_text : (c : Compiled) → is_utf8 (compiled_view c).canonical ≡ true
 canonical_text c = canonical_uris_are_texts (compiled_base c) (compiled_value c) (base_text c) (compiled_definite c)

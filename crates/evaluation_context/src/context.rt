@@ -10,7 +10,7 @@ ghost use Rattle.json_doc.specs.Docs.{value};
 ghost use Rattle.keywords.specs.Rows.{row_of};
 ghost use Rattle.locations.specs.Steps.{token, tokens};
 ghost use Rattle.keyword_plans.specs.ScopeViews.{scope_documents};
-ghost use Rattle.schema_index.specs.Locateds.{located_view};
+ghost use Rattle.schema_scan.specs.Locateds.{located_view};
 ghost use Rattle.evaluation_context.specs.RunningViews.{path_pointer};
 ghost use Rattle.evaluation_context.specs.Standings.{application_at, at_keyword, unit_there, within_object};
 
@@ -21,7 +21,7 @@ use keyword_plans::DynamicScope;
 use keywords::Keyword;
 use linker::Linked;
 use locations::Step;
-use schema_index::Located;
+use schema_scan::Located;
 use std::alloc::{AllocError, Global};
 use std::rc::Rc;
 

@@ -10,7 +10,7 @@ use Rattle.linker.specs.DynamicTargets.{target_by_anchor}
 use Rattle.linker.specs.LinkedDocuments.{linked_schemas}
 use Rattle.linker.specs.ReferenceNumbers.{reference_pair}
 use Rattle.linker.specs.declared.linked.Linked.{Linked}
-use Rattle.schema_index.specs.ReferenceTexts.{HasReference}
+use Rattle.schema_scan.specs.ReferenceTexts.{HasReference}
 use Rattle.json_doc.specs.Docs.{value}
 use Rattle.basic_output.specs.PointerViews.{origin_view}
 use Rattle.basic_output.specs.declared.origin.Origin.{Origin}

@@ -4,12 +4,12 @@ ghost use Rattle.std.specs.Prelude.{◌≡◌, IfOk, option_map};
 ghost use Rattle.definitions.specs.Targets.{schema_with_dynamic_anchor};
 ghost use Rattle.linker.specs.LinkedDocuments.{linked_schemas};
 ghost use Rattle.keyword_plans.specs.Followed.{target_view};
-ghost use Rattle.schema_index.specs.Locateds.{located_view};
+ghost use Rattle.schema_scan.specs.Locateds.{located_view};
 
 use basic_output::Origin;
 use json_doc::Doc;
 use linker::Linked;
-use schema_index::Located;
+use schema_scan::Located;
 use std::alloc::{AllocError, Global};
 use std::rc::Rc;
 

@@ -10,7 +10,6 @@ use Rattle.definitions.specs.Targets.{target_by}
 use Rattle.definition_laws.specs.Identities.{IsDefinite, IsDistinct}
 use Rattle.definition_laws.proofs.Membership.{nothing_in, first_or_later}
 use Rattle.definition_laws.proofs.Roots.{schemas_pointed_to}
-use Rattle.schema_index.specs.IndexedDocuments.{indexed_value}
 use Rattle.schema_scan.specs.CompiledDocuments.{compiled_value, compiled_view}
 use Rattle.schema_scan.specs.declared.compiled.Compiled.{Compiled}
 use Rattle.linker.specs.LinkedDocuments.{linked_documents, linked_schemas}
@@ -19,8 +18,8 @@ use Rattle.linker.specs.declared.linked.Linked.{Linked}
 use Rattle.linker.proofs.ShortArrays.{held_short}
 
 pub compiled_definite : (c : Compiled) → IsDefinite (compiled_value c)
-unfolding indexed_value
-compiled_definite c = record { well_formed = c.indexed.well_formed; short_arrays = held_short c.indexed.document }
+unfolding compiled_value
+compiled_definite c = record { well_formed = c.well_formed; short_arrays = held_short c.document }
 
 -- what holds of each compiled document holds of those that are shared
 pub shared_each : (P : Document → Type 0) → ((c : Compiled) → P (compiled_view c)) → (ds : List (Rc Compiled Global)) (d : Document) → Contains (shared_documents ds) d → P d

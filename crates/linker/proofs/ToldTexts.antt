@@ -17,11 +17,11 @@ use Rattle.lemmas.proofs.Lists.{flat_map-push}
 use Rattle.definition_laws.proofs.Occurrences.{IsIn, in_from_contains, contains_from_in, in_map}
 use Rattle.definition_laws.proofs.Repeats.{from_flat_map, in_flat_map}
 use Rattle.definition_laws.proofs.Resources.{root_opens}
-use Rattle.schema_index.proofs.Known.{identified-at}
+use Rattle.schema_scan.proofs.Known.{identified-at}
 use Rattle.schema_scan.specs.CompiledDocuments.{compiled_identifiers, compiled_schemas, compiled_view}
 use Rattle.schema_scan.specs.declared.compiled.Compiled.{Compiled}
 use Rattle.text_numbers.specs.TextNumbers.{AreNumbers, text_number}
-use Rattle.schema_index.specs.DynamicResources.{has_uri}
+use Rattle.schema_scan.specs.DynamicResources.{has_uri}
 use Rattle.linker.specs.DocumentTexts.{identifying_texts}
 use Rattle.linker.specs.DynamicTargets.{has_anchor}
 use Rattle.linker.specs.LinkedDocuments.{linked_documents, linked_schemas}
@@ -69,7 +69,7 @@ id_among : (l : Linked) (s : Schema) (id : Text) → Contains (linked_schemas l)
 id_among l s id inside root has =
     let own = standing l s inside in
     let d = own.0.value in
-    let at = identified-at d.indexed s id own.1.1 root has in
+    let at = identified-at d s id own.1.1 root has in
     let one : Contains (compiled_identifiers d) id = (at.0, slice_get_within (compiled_identifiers d) at.0 id at.1, get_or_from_slice_get (compiled_identifiers d) at.0 id id at.1) in
     in_flat_map identifying_texts own.0 id l.documents.items own.1.0 (Contains-append_right (resource_uris (compiled_schemas d)) (compiled_identifiers d) id one)
 

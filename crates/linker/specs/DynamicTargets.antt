@@ -4,7 +4,7 @@ use Rattle.std.specs.List.{list_any}
 use Rattle.definitions.specs.Values.{Text}
 use Rattle.definitions.specs.Schemas.{Schema}
 use Rattle.definitions.specs.Targets.{is_dynamic_anchor, outermost, schema_with_dynamic_anchor}
-use Rattle.schema_index.specs.Locateds.{located_view}
+use Rattle.schema_scan.specs.Locateds.{located_view}
 use Rattle.linker.specs.declared.named.Named.{Named}
 
 -- whether the resource with this URI has this dynamic anchor

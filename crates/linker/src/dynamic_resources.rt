@@ -5,7 +5,7 @@ ghost use Rattle.definitions.specs.Schemas.{table_of};
 ghost use Rattle.definitions.specs.Targets.{schema_with_dynamic_anchor};
 ghost use Rattle.definitions.specs.Values.{Text};
 ghost use Rattle.linker.specs.SharedDocuments.{shared_documents};
-ghost use Rattle.schema_index.specs.DynamicResources.{has_resource};
+ghost use Rattle.schema_scan.specs.DynamicResources.{has_resource};
 
 use faults::Fault;
 use schema_scan::Compiled;

@@ -11,7 +11,7 @@ ghost use Rattle.linker.specs.CompoundDocuments.{compound_documents};
 ghost use Rattle.linker.specs.SharedDocuments.{shared_documents};
 ghost use Rattle.linker.specs.ValueSets.{value_set};
 ghost use Rattle.linker.specs.Visits.{EmbedAlike};
-ghost use Rattle.schema_index.specs.DynamicResources.{has_resource};
+ghost use Rattle.schema_scan.specs.DynamicResources.{has_resource};
 ghost use Rattle.std.proofs.Props.{props};
 ghost use Rattle.std.specs.List.Sorted.{IsStrictlySortedBy-prop};
 ghost use Rattle.definitions.specs.Documents.{Ascend};

@@ -13,7 +13,7 @@ ghost use Rattle.linker.specs.AbsoluteReferences.{dynamic_target_of, target_of};
 ghost use Rattle.linker.specs.DynamicTargets.{HasItsAnchor, first_target, is_anchored, target_by_anchor, target_in_scope};
 ghost use Rattle.linker.specs.SharedDocuments.{shared_documents};
 ghost use Rattle.linker.specs.LinkedDocuments.{linked_uri, linked_documents, linked_schemas};
-ghost use Rattle.schema_index.specs.Locateds.{located_view};
+ghost use Rattle.schema_scan.specs.Locateds.{located_view};
 ghost use Rattle.schema_scan.specs.CompiledDocuments.{compiled_view};
 ghost use Rattle.uri_ref.specs.AbsoluteReferences.{IsReadAs};
 ghost use Rattle.uri_ref.specs.FragmentViews.{fragment_view};
@@ -94,7 +94,7 @@ impl Linked {
             return Ok(None);
         }
         match self.holder(uri) {
-            Some(document) => document.dynamically_anchored(alloc, uri, name),
+            Some(document) => Ok(document.dynamically_anchored(alloc, uri, name)?),
             None => Ok(None),
         }
     }
@@ -202,7 +202,7 @@ impl Linked {
         ensures err { IfErr result (λ f. f ≡ Fault.NoRoom) }
     {
         match self.holder(uri) {
-            Some(document) => document.target(alloc, uri, fragment),
+            Some(document) => Ok(document.target(alloc, uri, fragment)?),
             None => Ok(None),
         }
     }

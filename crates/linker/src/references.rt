@@ -7,7 +7,7 @@ ghost use Rattle.definitions.specs.Schemas.{Schema};
 ghost use Rattle.definitions.specs.Values.{text_at};
 ghost use Rattle.linker.specs.LinkedDocuments.{linked_documents, linked_schemas};
 ghost use Rattle.linker.specs.ReferenceNumbers.{StandsIn, document_at, pair_in, reference_pair};
-ghost use Rattle.schema_index.specs.ReferenceTexts.{HasReference};
+ghost use Rattle.schema_scan.specs.ReferenceTexts.{HasReference};
 ghost use Rattle.schema_scan.specs.CompiledDocuments.{compiled_schemas};
 
 use crate::holders::holder_number;

@@ -8,5 +8,5 @@ unfoldable pub holds_pattern : PatternTable → Text → Bool
 holds_pattern t text = is_among t.patterns.items text
 
 -- the texts of its patterns, by number
-unfoldable pub table_texts : PatternTable → List Text
-table_texts t = t.patterns.items
+unfoldable pub table_patterns : PatternTable → List Text
+table_patterns t = t.patterns.items

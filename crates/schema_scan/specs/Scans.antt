@@ -1,12 +1,11 @@
 -- What a scanned document means: the text of the base that it stands under, and its value.
+use Rattle.std.specs.Prelude.{string_bytes}
 use Rattle.definitions.specs.Values.{Text, Value}
 use Rattle.json_doc.specs.Docs.{value}
-use Rattle.schema_scan.specs.Tables.{uris_of}
-use Rattle.schema_scan.specs.Uris.{uri_at}
 use Rattle.schema_scan.specs.declared.scanned.Scanned.{Scanned}
 
-abbrev pub scanned_base : Scanned → Text
-scanned_base s = uri_at (uris_of s.table) 0
+unfoldable pub scanned_base : Scanned → Text
+scanned_base s = string_bytes s.base
 
-abbrev pub scanned_value : Scanned → Value
+unfoldable pub scanned_value : Scanned → Value
 scanned_value s = value s.document.now

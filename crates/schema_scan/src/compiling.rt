@@ -3,7 +3,6 @@
 ghost use Rattle.std.specs.Prelude.{◌≡◌, ◌≢◌, ◌<◌, true, IfOk, OnOk, IfErr, length};
 ghost use Rattle.definitions.specs.Patterns.{regular_search};
 ghost use Rattle.definitions.specs.Searches.{is_regular, patterns};
-ghost use Rattle.definitions.specs.Schemas.{document_from};
 ghost use Rattle.schema_scan.specs.Scans.{scanned_base, scanned_value};
 ghost use Rattle.schema_scan.specs.CompiledDocuments.{compiled_base, compiled_value, compiled_view};
 
@@ -11,7 +10,6 @@ use crate::compiled::Compiled;
 use crate::pattern_table::PatternTable;
 use crate::scanned::Scanned;
 use faults::Fault;
-use schema_index::Indexed;
 use std::alloc::Global;
 
 /// Builds the patterns of a scanned document and keeps a copy of it.
@@ -27,18 +25,15 @@ pub fn compile(alloc: Global, scanned: Scanned<'_>) -> Result<Compiled, Fault>
         (λ f. f ≢ Fault.NoRoom → (f ≡ Fault.BadPattern)
         × (0 < length (patterns (scanned_value scanned.entry)))) }
 {
-    let pattern_table = PatternTable::build(alloc, &scanned.patterns(alloc)?)?;
-    let base = String::from_str(alloc, scanned.base())?;
-    let indexed = Indexed::of(alloc, base, scanned.document())?;
-    Ok(Compiled {
-        indexed,
-        pattern_table,
-    })
+    let document = scanned.document();
+    let pattern_table = PatternTable::build(alloc, scanned.patterns())?;
+    let (base, table) = scanned.into_table();
+    Ok(Compiled::of(alloc, base, document, table, pattern_table)?)
 }
 
 /// The document's canonical URI: that of its root's resource (JSON Schema 2020-12 Core, section 8.2.1).
 pub fn canonical(compiled: &Compiled) -> &str
     ensures { result.now ≡ (compiled_view compiled.now).canonical }
 {
-    compiled.indexed.canonical()
+    compiled.canonical()
 }

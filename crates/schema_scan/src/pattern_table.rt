@@ -28,7 +28,7 @@ pub(crate) struct PatternTable {
 }
 
 impl PatternTable {
-    ghost use Rattle.schema_scan.specs.PatternTables.{holds_pattern, table_texts};
+    ghost use Rattle.schema_scan.specs.PatternTables.{holds_pattern, table_patterns};
 
     /// Builds the pattern of each text, once where a text stands more than once. The first pattern that can't be built
     /// is [`Fault::BadPattern`], and so is the first that takes more than what those before it have left of 32 MiB.
@@ -64,18 +64,18 @@ impl PatternTable {
 
     /// The number of the pattern with this text, where the table holds it. It is told by the bytes in which the patterns'
     /// texts differ: of another text it is some number.
-    #[tactic(auto, unfolding(crate::specs::PatternTables::table_texts))]
+    #[tactic(auto, unfolding(crate::specs::PatternTables::table_patterns))]
     pub(crate) fn number(&self, text: &str) -> usize
         ensures { holds_pattern self.now text.now ≡ true
-            → slice_get (table_texts self.now) result ≡ Some text.now }
+            → slice_get (table_patterns self.now) result ≡ Some text.now }
     {
         self.numbers.number(text)
     }
 
     /// The pattern of this number.
-    #[tactic(auto, unfolding(crate::specs::PatternTables::table_texts))]
+    #[tactic(auto, unfolding(crate::specs::PatternTables::table_patterns))]
     pub(crate) fn numbered(&self, number: usize) -> Option<&Pattern>
-        ensures { option_map (λ p. p.now) result ≡ slice_get (table_texts self.now) number }
+        ensures { option_map (λ p. p.now) result ≡ slice_get (table_patterns self.now) number }
     {
         self.patterns.get(number)
     }

@@ -1,27 +1,18 @@
 //! The scan of a whole document.
 
-ghost use Rattle.std.specs.Prelude.{◌≡◌, ◌≢◌, Some, None, OnOk, IfOk, IfErr, true, string_bytes};
-ghost use Rattle.definitions.specs.Values.{is_object};
+ghost use Rattle.std.specs.Prelude.{◌≡◌, ◌≢◌, Some, None, OnOk, IfOk, IfErr, string_bytes};
 ghost use Rattle.definitions.specs.Uris.{recompose};
 ghost use Rattle.definitions.specs.Scanning.{scan_fault};
 ghost use Rattle.faults.specs.View.{fault_view};
 ghost use Rattle.json_doc.specs.Docs.{value};
 ghost use Rattle.schema_scan.specs.Scans.{scanned_base, scanned_value};
-ghost use Rattle.schema_scan.specs.SchemaPositions.{schema_positions};
-ghost use Rattle.schema_scan.specs.Tables.{uris_of, positions_view};
-ghost use Rattle.schema_scan.specs.Uris.{uri_at};
 
-use crate::names::{has_repeated_anchor, has_repeated_uri};
 use crate::scanned::Scanned;
-use crate::table::Table;
-use crate::visit::visit_schema;
 use faults::Fault;
-use json_doc::{Doc, nesting};
+use json_doc::Doc;
+use schema_table::read_schemas;
 use std::alloc::{AllocError, Global};
 use uri_ref::{Parts, recompose};
-
-// How deep a document may nest.
-const MOST_NESTED: usize = 120;
 
 /// Scans the document that is to stand under this base (JSON Schema 2020-12 Core, sections 8 to 10).
 ///
@@ -47,47 +38,11 @@ pub fn scan<'a>(alloc: Global, base: &Parts, document: &'a Doc) -> Result<Scanne
         (λ f. f ≢ Fault.NoRoom → scan_fault (recompose base.now) (value document.now)
         ≡ Some (fault_view f)) }
 {
-    let table = match read_schemas(alloc, base, document) {
-        Ok(table) => table,
-        Err(fault) => return Err(fault),
-    };
-    Ok(Scanned::new(table, document))
-}
-
-// The schemas of the document, where the scan by all keywords finds no fault.
-fn read_schemas<'a>(alloc: Global, base: &Parts, document: &'a Doc) -> Result<Table<'a>, Fault>
-    ensures base { IfOk result (λ t. uri_at (uris_of t) 0 ≡ recompose base.now) }
-    ensures schema_positions { IfOk result
-        (λ t. positions_view t ≡ schema_positions (recompose base.now) true (value document.now)) }
-    ensures sound { OnOk result (scan_fault (recompose base.now) (value document.now) ≡ None) }
-    ensures err { IfErr result
-        (λ f. f ≢ Fault.NoRoom → scan_fault (recompose base.now) (value document.now)
-        ≡ Some (fault_view f)) }
-{
-    if !is_object(document) {
-        return Err(Fault::NotObject);
+    let text = text_of(alloc, base)?;
+    match read_schemas(alloc, text.as_str(), document) {
+        Ok(gathered) => Ok(Scanned::new(text, document, gathered)),
+        Err(fault) => Err(fault),
     }
-    if nesting(document) > MOST_NESTED {
-        return Err(Fault::TooNested);
-    }
-    let mut table = Table::new(alloc, text_of(alloc, base)?)?;
-    match visit_schema(alloc, &mut table, 0, true, document) {
-        Ok(()) => {}
-        Err(refusal) => return Err(refusal.fault(alloc)),
-    }
-    if has_repeated_uri(alloc, &table)? {
-        return Err(Fault::DuplicateUri);
-    }
-    if has_repeated_anchor(alloc, &table)? {
-        return Err(Fault::DuplicateAnchor);
-    }
-    Ok(table)
-}
-
-fn is_object(doc: &Doc) -> bool
-    ensures { result ≡ is_object (value doc.now) }
-{
-    matches!(doc, Doc::Dict(_))
 }
 
 fn text_of(alloc: Global, base: &Parts) -> Result<String, AllocError>

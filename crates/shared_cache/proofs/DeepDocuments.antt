@@ -4,7 +4,7 @@ use Rattle.std.proofs.lemmas.Bool.Decides.{nat_tests}
 use Rattle.std.proofs.lemmas.Option.{none-some}
 use Rattle.definitions.specs.Scanning.{scan_fault}
 use Rattle.definitions.specs.Values.{Text, Value, is_object, nesting}
-use Rattle.schema_scan.proofs.ScanFaults.{fault_of_value, fault_of_nesting}
+use Rattle.schema_table.proofs.ScanFaults.{fault_of_value, fault_of_nesting}
 
 refused_at : (b : Bool) (base : Text) (v : Value) → is_object v ≡ b → nat_lt 120 (nesting v) ≡ true → scan_fault base v ≡ None → ⊥
 refused_at true base v object deep e = none-some _ (sym e ∙ fault_of_nesting base v object deep)

@@ -23,7 +23,7 @@ use Rattle.definition_laws.proofs.PlacedDocuments.{from_placed}
 use Rattle.definition_laws.proofs.Repeats.{any_none, none_of}
 use Rattle.definition_laws.proofs.Resources.{opened_is_root, root_opens}
 use Rattle.definition_laws.proofs.StoredDocuments.{free_is_unheld, kept_sound, taken_is_held}
-use Rattle.schema_scan.specs.CompiledDocuments.{compiled_view}
+use Rattle.schema_scan.specs.CompiledDocuments.{compiled_value, compiled_view}
 use Rattle.schema_scan.specs.declared.compiled.Compiled.{Compiled}
 use Rattle.linker.specs.ListedDocuments.{listed_documents}
 use Rattle.linker.specs.SharedDocuments.{shared_documents}
@@ -98,7 +98,7 @@ free_of_own ds ls d both free = not_taken (taken_uri ds d) refl
 
 -- ---- a library's documents
 shared_regular : (ds : List (Rc Compiled Global)) (d : Document) → Contains (shared_documents ds) d → is_regular regular_search d.value ≡ true
-unfolding shared_documents
+unfolding shared_documents compiled_value
 shared_regular [] d c = absurd (nothing_in d c)
 shared_regular (x ∷ xs) d c = elim (first_or_later (compiled_view x.value) d (map (λ (y : Rc Compiled Global). compiled_view y.value) xs) c) [
   | inl same ↦ subst (λ (e : Document). is_regular regular_search e.value ≡ true) same x.value.regular

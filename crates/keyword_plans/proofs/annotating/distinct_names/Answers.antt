@@ -6,7 +6,7 @@ use Rattle.std.specs.BTreeSet.{contains_by}
 use Rattle.std.specs.Cmp.Lexicographic.{slice_cmp}
 use Rattle.definitions.specs.Values.{Text, same_text}
 use Rattle.json_doc.specs.NamedMembers.{name_text}
-use Rattle.schema_scan.proofs.Gathered.{next_item}
+use Rattle.schema_table.proofs.Lists.{next_item}
 use Rattle.keyword_plans.proofs.Growing.{grown}
 use Rattle.keyword_plans.proofs.Once.{unseen, unseen-new, unseen-old, unseen-first}
 use Rattle.keyword_plans.proofs.Unevaluated.{skipped}

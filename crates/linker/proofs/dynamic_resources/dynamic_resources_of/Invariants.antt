@@ -3,7 +3,7 @@ use Rattle.definitions.specs.Schemas.{table_of}
 use Rattle.definitions.specs.Targets.{schema_with_dynamic_anchor}
 use Rattle.definitions.specs.Values.{Text}
 use Rattle.linker.specs.SharedDocuments.{shared_documents}
-use Rattle.schema_index.specs.DynamicResources.{has_resource}
+use Rattle.schema_scan.specs.DynamicResources.{has_resource}
 use Rattle.linker.proofs.dynamic_resources.dynamic_resources_of.Given as goal
 
 abbrev pub invariant-loop-document : goal.invariant-loop-document

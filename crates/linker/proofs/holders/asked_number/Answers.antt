@@ -3,7 +3,7 @@ use Rattle.std.specs.List.{slice_get}
 use Rattle.definitions.specs.Lists.{has_repeat}
 use Rattle.definitions.specs.Values.{same_text}
 use Rattle.definition_laws.proofs.Resources.{table_uris}
-use Rattle.schema_index.proofs.Paired.{found-by_number}
+use Rattle.schema_table.proofs.Paired.{found-by_number}
 use Rattle.linker.specs.SharedDocuments.{shared_documents}
 use Rattle.linker.specs.Sources.{embeds}
 use Rattle.linker.proofs.CanonicalHolders.{standing_number, embedding_holder}

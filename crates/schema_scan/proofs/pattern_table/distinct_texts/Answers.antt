@@ -4,7 +4,7 @@ use Rattle.std.proofs.lemmas.Map.Text.{btree_set_updates_text}
 use Rattle.std.specs.BTreeSet.{contains_text}
 use Rattle.definitions.specs.Values.{Text}
 use Rattle.schema_scan.specs.TextsAmong.{is_among}
-use Rattle.schema_scan.proofs.Gathered.{map-push}
+use Rattle.schema_table.proofs.Lists.{map-push}
 use Rattle.schema_scan.proofs.HeldPatterns.{same_kept, same_pushed, known_pushed}
 use Rattle.schema_scan.proofs.pattern_table.distinct_texts.Goals as goal
 use Rattle.schema_scan.proofs.pattern_table.distinct_texts.Goals.{then-not-contains+in_ok-from_str+in_ok-insert+in_ok-from_str-2+in_ok-push, else-not-contains}

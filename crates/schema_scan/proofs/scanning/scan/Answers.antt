@@ -1,13 +1,13 @@
-use Rattle.std.proofs.Common.{sym, ap, ◌∙◌}
-use Rattle.definitions.specs.Uris.{recompose}
+use Rattle.std.proofs.Common.{[], subst, sym, ap, ◌∙◌}
 use Rattle.definitions.specs.Scanning.{scan_fault}
 use Rattle.json_doc.specs.Docs.{value}
-use Rattle.schema_scan.specs.PatternTexts.{patterns_in}
-use Rattle.schema_scan.proofs.Patterned.{patterns-schema_positions}
+use Rattle.schema_table.specs.Gathering.{IsGathered}
+use Rattle.schema_table.specs.Spots.{spots}
 use Rattle.schema_scan.proofs.scanning.scan.Goals as goal
 
 pub new-requires-clause-faultless : goal.new-requires-clause-faultless
-new-requires-clause-faultless c = ap (λ base. scan_fault base (value c.args.document.now)) c.in-Ok.ensures.base ∙ c.in-Ok.ensures.sound
+new-requires-clause-faultless c = ap (λ base. scan_fault base (value c.args.document.now)) (sym c.as_str.ensures.value) ∙ c.in-Ok.ensures.sound
 
-pub new-requires-clause-patterns : goal.new-requires-clause-patterns
-new-requires-clause-patterns c = ap patterns_in c.in-Ok.ensures.schema_positions ∙ sym (patterns-schema_positions (recompose c.args.base.now) (value c.args.document.now))
+pub new-requires-clause-of_document : goal.new-requires-clause-of_document
+new-requires-clause-of_document c =
+    subst (λ base. IsGathered c.in-Ok.gathered (spots [] 0 base (value c.args.document.now))) c.as_str.ensures.value c.in-Ok.ensures.ok

@@ -1,7 +1,7 @@
 use Rattle.std.proofs.Common.{◌≡◌, None, Some, codes, option_map, sym, ap, ◌∙◌}
 use Rattle.definitions.specs.Schemas.{Schema, identity}
 use Rattle.definitions.specs.Values.{get}
-use Rattle.schema_index.specs.Locateds.{located_view}
+use Rattle.schema_scan.specs.Locateds.{located_view}
 use Rattle.keyword_plans.proofs.enumerations.Enumerations.values.Goals as goal
 
 pub returns-in-Some-clause-ok : goal.returns-in-Some-clause-ok

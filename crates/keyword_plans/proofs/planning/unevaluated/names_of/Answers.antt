@@ -3,7 +3,7 @@ use Rattle.std.specs.BTreeSet.{contains}
 use Rattle.definitions.specs.Values.{same_text}
 use Rattle.json_doc.specs.NamedMembers.{name_text}
 use Rattle.lemmas.proofs.Texts.{text_order}
-use Rattle.schema_scan.proofs.Gathered.{next_item, no_more}
+use Rattle.schema_table.proofs.Lists.{next_item, no_more}
 use Rattle.keyword_plans.proofs.Seen.{added, seen-more, seen-all}
 use Rattle.keyword_plans.proofs.planning.unevaluated.names_of.Goals as goal
 

@@ -2,7 +2,7 @@ use Rattle.std.proofs.Common.{◌≡◌, ◌+◌, ◌∙◌, ◌==◌, ◌∷◌
 use Rattle.std.specs.List.{list_any}
 use Rattle.std.proofs.lemmas.List.{map-append}
 use Rattle.json_doc.specs.Docs.{value}
-use Rattle.schema_scan.proofs.Gathered.{next_item}
+use Rattle.schema_table.proofs.Lists.{next_item}
 use Rattle.keyword_plans.specs.Applications.{planned_unevaluated_items}
 use Rattle.keyword_plans.specs.Plans.{planned_view}
 use Rattle.keyword_plans.proofs.Growing.{grown}

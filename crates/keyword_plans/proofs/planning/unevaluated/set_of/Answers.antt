@@ -1,7 +1,7 @@
 use Rattle.std.proofs.Common.{refl}
 use Rattle.std.specs.BTreeSet.{contains}
 use Rattle.std.specs.Ordering.{eq_by_cmp}
-use Rattle.schema_scan.proofs.Gathered.{next_item, no_more}
+use Rattle.schema_table.proofs.Lists.{next_item, no_more}
 use Rattle.keyword_plans.proofs.Seen.{seen-more, seen-all}
 use Rattle.keyword_plans.proofs.planning.unevaluated.set_of.Goals as goal
 

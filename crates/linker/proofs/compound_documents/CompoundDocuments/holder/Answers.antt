@@ -1,6 +1,6 @@
 use Rattle.std.proofs.Common.{option_and_then, ap₂, ◌∙◌}
 use Rattle.std.specs.List.{slice_get}
-use Rattle.schema_index.proofs.Paired.{found-by_number}
+use Rattle.schema_table.proofs.Paired.{found-by_number}
 use Rattle.linker.specs.CompoundDocuments.{compound_documents}
 use Rattle.linker.specs.SharedDocuments.{shared_documents}
 use Rattle.linker.specs.Sources.{embeds}

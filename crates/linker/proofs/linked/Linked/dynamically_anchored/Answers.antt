@@ -1,6 +1,4 @@
-use Rattle.std.proofs.Common.{◌≡◌, Some, None, Option, IfOk, option_map, subst}
-use Rattle.definitions.specs.Schemas.{Schema}
-use Rattle.schema_index.specs.Locateds.{located_view}
+use Rattle.std.proofs.Common.{Some, None, ◌∙◌}
 use Rattle.schema_scan.specs.CompiledDocuments.{compiled_view}
 use Rattle.linker.proofs.FirstHolders.{anchored_of_first}
 use Rattle.linker.proofs.linked.Linked.dynamically_anchored.Goals as goal
@@ -8,8 +6,6 @@ use Rattle.linker.proofs.linked.Linked.dynamically_anchored.Goals as goal
 pub returns-in-None-clause-ok : goal.returns-in-None-clause-ok
 returns-in-None-clause-ok c = anchored_of_first c.args.self.now c.args.uri.now c.args.name.now None c.in-None.ensures
 
-pub returns-in-Some-clause-ok : goal.returns-in-Some-clause-ok
-returns-in-Some-clause-ok c =
-    subst (λ (o : Option Schema). IfOk c.dynamically_anchored.result (λ t. option_map located_view t ≡ o))
-    (anchored_of_first c.args.self.now c.args.uri.now c.args.name.now (Some (compiled_view c.in-Some.document.now)) c.in-Some.ensures)
-    c.dynamically_anchored.ensures.ok
+pub returns-in_ok-dynamically_anchored-in-Some-clause-ok : goal.returns-in_ok-dynamically_anchored-in-Some-clause-ok
+returns-in_ok-dynamically_anchored-in-Some-clause-ok c =
+    c.in_ok-dynamically_anchored-in-Some.ensures ∙ anchored_of_first c.args.self.now c.args.uri.now c.args.name.now (Some (compiled_view c.in-Some.document.now)) c.in-Some.ensures

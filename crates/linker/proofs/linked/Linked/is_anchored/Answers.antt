@@ -1,5 +1,5 @@
 use Rattle.std.proofs.Common.{false, option_map, unwrap_or, ap, ◌∙◌}
-use Rattle.schema_index.specs.DynamicResources.{has_uri}
+use Rattle.schema_scan.specs.DynamicResources.{has_uri}
 use Rattle.linker.specs.LinkedDocuments.{linked_documents}
 use Rattle.linker.proofs.linked.Linked.is_anchored.Goals as goal
 

@@ -5,7 +5,7 @@ use Rattle.definitions.specs.Targets.{is_dynamic_anchor, target_by}
 use Rattle.definitions.specs.Values.{Text}
 use Rattle.linker.specs.DynamicTargets.{has_anchor}
 use Rattle.linker.specs.LinkedDocuments.{linked_schemas}
-use Rattle.schema_index.specs.Locateds.{located_view}
+use Rattle.schema_scan.specs.Locateds.{located_view}
 use Rattle.linker.proofs.NamedSchemas.{anchor_there}
 use Rattle.linker.proofs.linked.Linked.named_by.Goals as goal
 

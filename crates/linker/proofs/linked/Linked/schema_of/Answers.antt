@@ -1,6 +1,6 @@
 use Rattle.std.proofs.Common.{◌≡◌, IfOk, Option, option_map, subst}
 use Rattle.definitions.specs.Schemas.{Schema}
-use Rattle.schema_index.specs.Locateds.{located_view}
+use Rattle.schema_scan.specs.Locateds.{located_view}
 use Rattle.linker.proofs.Distinct.{one_named}
 use Rattle.linker.proofs.linked.Linked.schema_of.Goals as goal
 

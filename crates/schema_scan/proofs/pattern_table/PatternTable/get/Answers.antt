@@ -2,12 +2,12 @@ use Rattle.std.proofs.Common.{◌≡◌, Some, None, true≢false, sym, ap, ◌�
 use Rattle.std.proofs.lemmas.Bool.{false_from_ne_true}
 use Rattle.std.proofs.lemmas.Option.{same_Some}
 use Rattle.std.proofs.lemmas.Slice.Eq.{bytes_eq-Decides}
-use Rattle.schema_scan.specs.PatternTables.{holds_pattern, table_texts}
+use Rattle.schema_scan.specs.PatternTables.{holds_pattern, table_patterns}
 use Rattle.schema_scan.proofs.HeldPatterns.{among_at}
 use Rattle.schema_scan.proofs.pattern_table.PatternTable.get.Goals as goal
 
 pub returns-then-eq-clause-held : goal.returns-then-eq-clause-held
-unfolding holds_pattern table_texts
+unfolding holds_pattern table_patterns
 returns-then-eq-clause-held c =
     sym (among_at c.args.self.now.patterns.items c.args.text.now c.number.result
     (sym c.in-Some.ensures ∙ ap Some (sym c.text.ensures.text ∙ (bytes_eq-Decides c.text.result.now c.args.text.now).0 (sym c.eq.ensures ∙ c.if-eq.true))))

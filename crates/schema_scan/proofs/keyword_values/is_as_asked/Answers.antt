@@ -1,9 +1,0 @@
-use Rattle.std.proofs.Common.{◌∙◌}
-use Rattle.json_doc.specs.Docs.{value}
-use Rattle.schema_scan.proofs.Asked.{asked-shape}
-use Rattle.schema_scan.proofs.keyword_values.is_as_asked.Goals as goal
-
-pub returns-in_default : goal.returns-in_default
-returns-in_default c =
-    c.fits.ensures
-    ∙ asked-shape c.args.shape c.args.base.now c.args.at_root (value c.args.member.now) c.in_default.not-Reference c.in_default.not-Identifier c.in_default.not-Dialect

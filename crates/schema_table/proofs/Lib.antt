@@ -1,0 +1,16 @@
+pub mod Opened
+pub mod Standing
+pub mod Walked
+pub mod Asked
+pub mod Visiting
+pub mod Gatherings
+pub mod SeenKeys
+pub mod SameNames
+pub mod Lists
+pub mod Following
+pub mod Tables
+pub mod Indexing
+pub mod ScanFaults
+pub mod Patterned
+pub mod Paired
+pub mod Readings

@@ -3,11 +3,8 @@ pub mod EscapeLaws
 pub mod KeywordNames
 pub mod PieceLaws
 pub mod OutputTexts
-pub mod PointerLaws
 pub mod OrderLaws
-pub mod OriginLaws
 pub mod FrontLaws
 pub mod SpanLaws
 pub mod UnitLaws
 pub mod BufferLaws
-pub mod Written

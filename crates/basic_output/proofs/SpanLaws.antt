@@ -1,19 +1,24 @@
 -- Spans as their text grows, as it is cut, and as one is put among them.
-use Rattle.std.proofs.Common.{◌≡◌, ◌≤◌, ◌<◌, ◌+◌, ◌-◌, ◌++◌, ◌∷◌, [], ℕ, zero, suc, List, true, length, map, nat_le, slice_range, take, drop, get_or, Some, refl, sym, ap, ap₂, append_assoc, ◌∙◌, arith}
+use Rattle.std.proofs.Common.{◌≡◌, ◌≤◌, ◌<◌, ◌+◌, ◌-◌, ◌++◌, ◌∷◌, [], ℕ, zero, suc, List, true, length, map, nat_le, slice_range, take, drop, get_or, Some, refl, subst, sym, ap, ap₂, append_assoc, ◌∙◌, arith}
 use Rattle.std.proofs.Math.Seq.{drop-append_seam, take-append_seam, take-length}
 use Rattle.std.proofs.lemmas.Bool.{and_parts, le-leb, leb-true}
 use Rattle.std.proofs.lemmas.List.Folds.{drop_split}
 use Rattle.std.proofs.lemmas.List.{length-append, length-take-le, map-append, take-take}
 use Rattle.std.proofs.lemmas.List.Elements.{All-append, All-cons, All-head, All-nil, All-tail}
 use Rattle.std.proofs.lemmas.Option.{slice_get_within}
-use Rattle.std.proofs.lemmas.Str.{IsUtf8-append, IsUtf8-from_ascii, IsUtf8-nil, is_utf8-from_IsUtf8}
+use Rattle.std.proofs.lemmas.Str.{IsUtf8-append, IsUtf8-nil, is_utf8-from_IsUtf8}
+use Rattle.json.proofs.Printed.Utf8.{IsUtf8-are_ascii}
 use Rattle.std.specs.List.{All, slice_get}
 use Rattle.std.specs.Str.{IsUtf8, is_utf8}
 use Rattle.lemmas.proofs.Lists.{flat_map-push, map-take_more, range_is, range_same}
 use Rattle.definitions.specs.Values.{Text}
+use Rattle.basic_output.specs.Buffers.{buffer_text}
 use Rattle.basic_output.specs.Pieces.{later_texts}
 use Rattle.basic_output.specs.Spans.{IsSpan, ascends, last_end, span_text}
+use Rattle.basic_output.specs.declared.unit_text.buffer.TextBuffer.{TextBuffer}
 use Rattle.basic_output.specs.declared.units.Span.{Span}
+use Rattle.basic_output.specs.declared.units.Units.{Units}
+use Rattle.basic_output.proofs.BufferLaws.{whole_buffer}
 
 front_same : (t u : Text) (h i : ℕ) → take h t ≡ take h u → i ≤ h → take i t ≡ take i u
 front_same t u h i same le = sym (take-take i h t le) ∙ ap (take i) same ∙ take-take i h u le
@@ -92,19 +97,12 @@ cut t ss up are =
     moved t (take h t) h 0 ss (sym (take-take h h t (omega arith))) (omega (arith, within)) (omega arith) up are
 
 -- ---- one more
-comma_ascii : (i : ℕ) → get_or (44 ∷ []) i 0 < 128
-comma_ascii zero = omega arith
-comma_ascii (suc i) = omega arith
-
-pub comma_whole : IsUtf8 (44 ∷ [])
-comma_whole = IsUtf8-from_ascii (44 ∷ []) comma_ascii
-
 new_span : (t more u : Text) (s : Span) → u ≡ t ++ 44 ∷ more → IsUtf8 t → IsUtf8 u → s.start ≡ length t + 1 → s.end ≡ length u
     → IsSpan u s × (span_text u s ≡ more)
 new_span t more u s text old_whole both at end =
     let comma = t ++ 44 ∷ [] in
     let is : u ≡ comma ++ more = text ∙ sym (append_assoc t (44 ∷ []) more) in
-    let whole : IsUtf8 comma = IsUtf8-append t (44 ∷ []) old_whole comma_whole in
+    let whole : IsUtf8 comma = IsUtf8-append t (44 ∷ []) old_whole (IsUtf8-are_ascii (44 ∷ []) refl) in
     let start : s.start ≡ length comma = omega (arith, at, length-append t (44 ∷ [])) in
     let ordered : s.start ≤ s.end = omega (arith, start, end, ap length is, length-append comma more) in (
       record {
@@ -123,23 +121,26 @@ ascends_on low (x ∷ ss) s last up =
     let q = and_parts (nat_le low x.end) (ascends x.end ss) up in
     rw (q.0, ascends_on x.end ss s last q.1) refl
 
--- the text and the spans, of which one is new
-pub record Kept (t more : Text) (ss : List Span) (u : Text) (xs : List Span) : Type 0 where
+-- the text and the spans of units, of which one is new
+pub record Noted (old : Units) (more u : Text) (xs : List Span) : Type 0 where
   pub are_spans : All (IsSpan u) xs
   pub ascend : ascends 0 xs ≡ true
-  pub texts : map (span_text u) xs ≡ map (span_text t) ss ++ more ∷ []
+  pub texts : map (span_text u) xs ≡ map (span_text (buffer_text old.text)) old.spans.items ++ more ∷ []
 
-pub kept : (t more : Text) (ss : List Span) (u : Text) (s : Span) → u ≡ t ++ 44 ∷ more → IsUtf8 t → IsUtf8 u → s.start ≡ length t + 1 → s.end ≡ length u → ascends 0 ss ≡ true → All (IsSpan t) ss
-    → Kept t more ss u (ss ++ s ∷ [])
-kept t more ss u s text whole both start end up are =
-    let new = new_span t more u s text whole both start end in
-    let old = grown t (44 ∷ more) u ss text up are in
-    let last = last_within t 0 ss (omega arith) are in
-    record {
-      are_spans = All-append (IsSpan u) ss (s ∷ []) old.are_spans (All-cons (IsSpan u) s [] new.0 (All-nil (IsSpan u)));
-      ascend = ascends_on 0 ss s (omega (arith, end, last, ap length text, length-append t (44 ∷ more))) up;
-      texts = map-append (span_text u) ss (s ∷ []) ∙ ap₂ (λ ys x. ys ++ x ∷ []) old.same new.1;
-    }
+pub noted : (old : Units) (new : TextBuffer) (more : Text) (s : Span) (xs : List Span) → buffer_text new ≡ buffer_text old.text ++ 44 ∷ more
+    → s.start ≡ length (buffer_text old.text) + 1 → s.end ≡ length (buffer_text new) → xs ≡ old.spans.items ++ s ∷ [] → Noted old more (buffer_text new) xs
+noted old new more s xs text start end pushed =
+    let t = buffer_text old.text in
+    let u = buffer_text new in
+    let ss = old.spans.items in
+    let one = new_span t more u s text (whole_buffer old.text) (whole_buffer new) start end in
+    let others = grown t (44 ∷ more) u ss text old.ascend old.are_spans in
+    let last = last_within t 0 ss (omega arith) old.are_spans in
+    subst (Noted old more u) (sym pushed) (record {
+      are_spans = All-append (IsSpan u) ss (s ∷ []) others.are_spans (All-cons (IsSpan u) s [] one.0 (All-nil (IsSpan u)));
+      ascend = ascends_on 0 ss s (omega (arith, end, last, ap length text, length-append t (44 ∷ more))) old.ascend;
+      texts = map-append (span_text u) ss (s ∷ []) ∙ ap₂ (λ ys x. ys ++ x ∷ []) others.same one.1;
+    })
 
 -- ---- the last one
 last_at : (low n : ℕ) (ss : List Span) (s : Span) → length ss ≡ suc n → slice_get ss n ≡ Some s → s.end ≡ last_end low ss

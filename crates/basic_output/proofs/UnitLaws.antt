@@ -10,10 +10,12 @@ use Rattle.definitions.specs.Values.{Text, string}
 use Rattle.basic_output.specs.declared.location.Location.{Location}
 use Rattle.basic_output.specs.declared.says.Says.{Says}
 use Rattle.basic_output.specs.declared.unit_text.LocationParts.{LocationParts}
+use Rattle.basic_output.specs.declared.unit_text.saying.Form.{Form}
+use Rattle.basic_output.specs.declared.unit_text.saying.Form.TheVariants.{NotMet, Plain, Written}
 use Rattle.basic_output.specs.declared.unit_text.saying.Said.{Said}
 use Rattle.basic_output.specs.declared.unit_text.step_texts.Notation.TheVariants as notation
 use Rattle.basic_output.specs.Notations.{kept_text}
-use Rattle.basic_output.specs.Parts.{AreParts, IsSaid, parts_text, path_key, said_ending, said_opening, unit_end}
+use Rattle.basic_output.specs.Parts.{AreParts, formed_text, parts_text, path_key, said_ending, said_opening, said_text, unit_end}
 use Rattle.basic_output.specs.Pieces.{IsHead, is_unescaped, kind_key, unit_text}
 use Rattle.basic_output.specs.PointerViews.{onward_pointer, origin_view, pointer_view}
 use Rattle.basic_output.specs.Sayings.{says_value, unit_at}
@@ -40,9 +42,6 @@ opened uri pointer onward head written rest is_head behind =
 closed : (written t rest : Text) → written ≡ escape t → 34 ∷ (written ++ 34 ∷ rest) ≡ quoted t ++ rest
 closed written t rest same = ap (λ s. 34 ∷ (s ++ 34 ∷ rest)) same ∙ ap (λ s. 34 ∷ s) (sym (append_assoc (escape t) (34 ∷ []) rest))
 
-regrouped : (a b c d e : Text) → a ++ (b ++ c) ≡ d → a ++ (b ++ (c ++ e)) ≡ d ++ e
-regrouped a b c d e same = ap (λ t. a ++ t) (sym (append_assoc b c e)) ∙ sym (append_assoc a (b ++ c) e) ∙ ap (λ t. t ++ e) same
-
 abbrev places_text : Location → Text
 places_text location =
     codes ",\"instanceLocation\":" ++ (quoted (pointer_text (pointer_view location.instance_location.now))
@@ -56,31 +55,23 @@ places location p are =
     ap (λ t. codes ",\"instanceLocation\":" ++ t) (closed p.instance_location.now instance_location (codes ",\"keywordLocation\":\"" ++ (p.path.now ++ unit_end)) are.instance_location)
     ∙ ap (λ t. codes ",\"instanceLocation\":" ++ (quoted instance_location ++ (codes ",\"keywordLocation\":" ++ t))) (closed p.path.now (pointer_text (pointer_view location.path.now)) (codes "}") are.path)
 
-pub unit_parts : (annotates : Bool) (location : Location) (says : Says) (p : LocationParts) (s : Said) → AreParts location p → IsSaid s (text (says_value says))
+-- the three texts around what it says
+around : (f : Form) (t rest : Text) → said_opening f ++ (t ++ (said_ending f ++ rest)) ≡ formed_text f t ++ (codes ",\"instanceLocation\":\"" ++ rest)
+around NotMet t rest = ap (λ u. 34 ∷ u) (sym (append_assoc t (codes " is not met\"") (codes ",\"instanceLocation\":\"" ++ rest)))
+around Plain t rest = ap (λ u. 34 ∷ u) (sym (append_assoc t (34 ∷ []) (codes ",\"instanceLocation\":\"" ++ rest)))
+around Written t rest = refl
+
+pub unit_parts : (annotates : Bool) (location : Location) (says : Says) (p : LocationParts) (s : Said) → AreParts location p → said_text s ≡ text (says_value says)
     → parts_text (record { annotates = annotates; location = p; said = s }) ≡ unit_text annotates (unit_at location says)
 unfolding unit_text
 unit_parts annotates location says p s are said =
-    let key = codes ",\"instanceLocation\":\"" in
     let rest = p.instance_location.now ++ (path_key ++ (p.path.now ++ unit_end)) in
-    let says = text (says_value says) in
     let kind = kind_key annotates in
-    let behind = kind ++ (says ++ places_text location) in
     let origin = origin_view location.origin.now in
-    let from_opening : (34 ∷ kind) ++ (said_opening s.form ++ (s.text.now ++ (said_ending s.form ++ rest))) ≡ 34 ∷ behind =
-    ap (λ t. 34 ∷ (kind ++ t)) (regrouped (said_opening s.form) s.text.now (said_ending s.form) (says ++ key) rest said ∙ append_assoc says key rest ∙ ap (λ t. says ++ t) (places location p are)) in
+    let from_opening : (34 ∷ kind) ++ (said_opening s.form ++ (s.text.now ++ (said_ending s.form ++ rest))) ≡ 34 ∷ (kind ++ (text (says_value says) ++ places_text location)) =
+    ap (λ t. 34 ∷ (kind ++ t)) (around s.form s.text.now rest ∙ ap₂ (λ a b. a ++ b) said (places location p are)) in
     ap (λ t. p.head.now ++ (p.onward.now ++ t)) from_opening
-    ∙ opened origin.0 origin.1 (onward_pointer location.path.now location.onward) p.head.now p.onward.now behind are.head are.onward
+    ∙ opened origin.0 origin.1 (onward_pointer location.path.now location.onward) p.head.now p.onward.now (kind ++ (text (says_value says) ++ places_text location)) are.head are.onward
 
--- what it says, where that is a string which stands as it is
-quoted_end : (written said end : Text) → written ≡ said → 34 ∷ (written ++ (end ++ codes ",\"instanceLocation\":\"")) ≡ (34 ∷ (said ++ end)) ++ codes ",\"instanceLocation\":\""
-quoted_end written said end same =
-    let key = codes ",\"instanceLocation\":\"" in
-    ap (λ t. 34 ∷ (t ++ (end ++ key))) same ∙ ap (λ t. 34 ∷ t) (sym (append_assoc said end key))
-
-pub said_not_met : (written keyword : Text) → written ≡ keyword → list_all is_unescaped keyword ≡ true
-    → 34 ∷ (written ++ codes " is not met\",\"instanceLocation\":\"") ≡ text (string (keyword ++ codes " is not met")) ++ codes ",\"instanceLocation\":\""
-said_not_met written keyword same unescaped =
-    quoted_end written keyword (codes " is not met\"") same ∙ ap (λ q. q ++ codes ",\"instanceLocation\":\"") (sym (message keyword unescaped))
-
-pub said_string : (t : Text) → list_all is_unescaped t ≡ true → 34 ∷ (t ++ codes "\",\"instanceLocation\":\"") ≡ text (string t) ++ codes ",\"instanceLocation\":\""
-said_string t unescaped = quoted_end t t (34 ∷ []) refl ∙ ap (λ q. q ++ codes ",\"instanceLocation\":\"") (sym (as_it_is t unescaped))
+pub said_not_met : (name : Text) → list_all is_unescaped name ≡ true → formed_text NotMet name ≡ text (string (name ++ codes " is not met"))
+said_not_met name unescaped = sym (message name unescaped)

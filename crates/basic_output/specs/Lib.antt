@@ -1,5 +1,4 @@
 pub mod Buffers
-pub mod Escapes
 pub mod Pieces
 pub mod Notations
 pub mod StepTexts

@@ -19,7 +19,7 @@ path_key = codes "\",\"keywordLocation\":\""
 abbrev pub unit_end : Text
 unit_end = codes "\"}"
 
--- what stands before what the unit says, and behind it, up to the instance location
+-- what stands before the text of what the unit says, and behind it, up to the instance location
 abbrev pub said_opening : Form → Text
 said_opening NotMet = 34 ∷ []
 said_opening Plain = 34 ∷ []
@@ -30,17 +30,25 @@ said_ending NotMet = codes " is not met\",\"instanceLocation\":\""
 said_ending Plain = codes "\",\"instanceLocation\":\""
 said_ending Written = codes ",\"instanceLocation\":\""
 
+-- what it says
+abbrev pub formed_text : Form → Text → Text
+formed_text NotMet name = 34 ∷ (name ++ codes " is not met\"")
+formed_text Plain string = 34 ∷ (string ++ 34 ∷ [])
+formed_text Written value = value
+
+abbrev pub said_text : Said → Text
+said_text s = formed_text s.form s.text.now
+
 -- the unit
 abbrev pub parts_text : UnitParts → Text
 parts_text u =
     u.location.head.now ++ (u.location.onward.now ++ ((34 ∷ kind_key u.annotates) ++ (said_opening u.said.form ++ (u.said.text.now ++ (said_ending u.said.form
     ++ (u.location.instance_location.now ++ (path_key ++ (u.location.path.now ++ unit_end))))))))
 
--- how long it is
-abbrev pub parts_length : UnitParts → ℕ
-parts_length u =
-    length u.location.head.now + (length u.location.onward.now + (length (34 ∷ kind_key u.annotates) + (length (said_opening u.said.form) + (length u.said.text.now
-    + (length (said_ending u.said.form) + (length u.location.instance_location.now + (length path_key + (length u.location.path.now + length unit_end))))))))
+-- how long the texts are that differ from unit to unit
+abbrev pub texts_length : UnitParts → ℕ
+texts_length u =
+    length u.location.head.now + (length u.location.onward.now + (length u.said.text.now + (length u.location.instance_location.now + length u.location.path.now)))
 
 -- the texts of a location, as they stand in the output
 pub record AreParts (location : Location) (p : LocationParts) : Type 0 where
@@ -48,7 +56,3 @@ pub record AreParts (location : Location) (p : LocationParts) : Type 0 where
   pub onward : p.onward.now ≡ kept_text notation.Fragment (onward_pointer location.path.now location.onward)
   pub instance_location : p.instance_location.now ≡ kept_text notation.Pointer (pointer_view location.instance_location.now)
   pub path : p.path.now ≡ kept_text notation.Pointer (pointer_view location.path.now)
-
--- the text of what the unit says, before its instance location
-abbrev pub IsSaid : Said → Text → Type 0
-IsSaid s said = said_opening s.form ++ (s.text.now ++ said_ending s.form) ≡ said ++ codes ",\"instanceLocation\":\""

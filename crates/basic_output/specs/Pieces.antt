@@ -1,5 +1,5 @@
 -- The output's text, piece by piece.
-use Rattle.std.specs.Prelude.{◌≡◌, ℕ, List, [], ◌∷◌, ◌++◌, Bool, true, false, not, ◌&&◌, ◌||◌, ◌==◌, nat_le, codes, flat_map, map}
+use Rattle.std.specs.Prelude.{◌≡◌, ℕ, List, [], ◌∷◌, ◌++◌, Bool, true, false, not, ◌&&◌, ◌||◌, ◌==◌, nat_le, codes, flat_map, map, pos}
 use Rattle.std.specs.List.{list_all}
 use Rattle.json.specs.Print.{escape, quoted}
 use Rattle.definitions.specs.Answers.{absolute_location}
@@ -8,7 +8,11 @@ use Rattle.definitions.specs.Bytes.{is_capital, is_digit, is_small, number_sign,
 use Rattle.definitions.specs.Pointers.{fragment_text, pointer_text}
 use Rattle.definitions.specs.Schemas.{Identity}
 use Rattle.definitions.specs.Texts.{text}
-use Rattle.definitions.specs.Values.{Text, array, string, to_elements}
+use Rattle.definitions.specs.Values.{Text, array, integer, string, to_elements}
+use Rattle.json.specs.Token.{Token}
+use Rattle.json_doc.specs.NamedMembers.{name_text}
+use Rattle.json_doc.specs.Tokens.{elements_tokens}
+use Rattle.json_doc.specs.declared.named_members.Name.{Name}
 
 -- a byte that stands in a string of JSON as it is
 abbrev pub is_unescaped : ℕ → Bool
@@ -37,9 +41,12 @@ array_text (t ∷ ts) = 91 ∷ (t ++ (later_texts ts ++ 93 ∷ []))
 abbrev pub names_text : List Text → Text
 names_text names = text (array (to_elements (map string names)))
 
--- the names behind the first one, each behind the end of the one before it
-abbrev pub later_names : List Text → Text
-later_names = flat_map (λ name. codes "\",\"" ++ escape name)
+-- the tokens behind the bracket that opens a list of names, or of indexes
+abbrev pub name_tokens : List Name → List Token
+name_tokens names = elements_tokens (to_elements (map string (map name_text names)))
+
+abbrev pub index_tokens : List ℕ → List Token
+index_tokens indexes = elements_tokens (to_elements (map (λ index. integer (pos index)) indexes))
 
 -- ---- what the units are called
 abbrev pub kind : Bool → Text

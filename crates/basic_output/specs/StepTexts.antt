@@ -1,5 +1,5 @@
 -- The texts of steps, one behind the other.
-use Rattle.std.specs.Prelude.{◌≡◌, ◌≤◌, ℕ, zero, suc, Bool, true, List, [], ◌∷◌, ◌++◌, drop, length, take}
+use Rattle.std.specs.Prelude.{◌≡◌, ◌≤◌, ◌<◌, ℕ, true, List, get_or, length, take}
 use Rattle.std.specs.List.{list_all}
 use Rattle.definitions.specs.Values.{Text}
 use Rattle.locations.specs.Steps.{token, tokens}
@@ -14,21 +14,13 @@ use Rattle.basic_output.specs.declared.unit_text.step_texts.StepTexts.{StepTexts
 abbrev pub front_text : Notation → ℕ → List Step → Text
 front_text n k steps = kept_text n (tokens (take k steps))
 
--- how long the text is before each of the first k steps
-abbrev pub text_starts : Notation → ℕ → List Step → List ℕ
-text_starts n zero steps = []
-text_starts n (suc k) steps = text_starts n k steps ++ length (front_text n k steps) ∷ []
-
--- each is written in the same way in a pointer and in its fragment, and nothing of it is escaped in a string
-abbrev pub are_plain_steps : List Step → Bool
-are_plain_steps = list_all (λ s. list_all is_plain (token s))
-
--- of the first steps of a list, where all from there on are plain
+-- of the first steps of a list, where all from there on are written in the same way in a pointer and in its fragment, and nothing of
+-- them is escaped in a string
 pub record AreTexts (n : Notation) (text : Text) (starts : List ℕ) (plain_from : ℕ) (steps : List Step) : Type 0 where
   pub within : length starts ≤ length steps
-  pub at : starts ≡ text_starts n (length starts) steps
+  pub at : (k d : ℕ) → k < length starts → get_or starts k d ≡ length (front_text n k steps)
   pub front : text ≡ front_text n (length starts) steps
-  pub plain : are_plain_steps (drop plain_from (take (length starts) steps)) ≡ true
+  pub plain : (k : ℕ) (d : Step) → plain_from ≤ k → k < length starts → list_all is_plain (token (get_or steps k d)) ≡ true
 
 abbrev pub AreStepTexts : Notation → StepTexts → List Step → Type 0
 AreStepTexts n t steps = AreTexts n (buffer_text t.text) t.starts.items t.plain_from steps

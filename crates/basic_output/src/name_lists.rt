@@ -9,7 +9,6 @@ ghost use Rattle.basic_output.specs.Pieces.{names_text};
 
 use json_doc::{Name, ShortText};
 use std::alloc::{AllocError, Global};
-use std::mem::replace;
 
 /// How many texts are kept at most.
 const PLACES: usize = 64;
@@ -43,26 +42,16 @@ impl NameList {
         !names.is_empty() && are_surely(names, &self.names)
     }
 
-    // From now on the text of the list of these names, where all of them are short, and else of no list. The only error is want
-    // of memory, and then it is of no list.
-    fn set(&mut self, names: &[Name<'_>], text: &str) -> Result<(), AllocError>
+    // The text of the list of these names, where all of them are short, and else of no list. The only error is want of memory.
+    fn of(alloc: Global, names: &[Name<'_>], text: &str) -> Result<NameList, AllocError>
         requires { text.now ≡ names_text (map name_text names.now) }
     {
-        let alloc = *self.names.allocator();
-        let NameList {
-            text: mut kept,
-            names: mut short,
-        } = replace(self, NameList::new(alloc));
-        short.clear();
-        if push_short(&mut short, names)? {
-            kept.clear();
-            kept.push_str(text)?;
-            *self = NameList {
-                text: kept,
-                names: short,
-            };
+        let mut short = Vec::new(alloc);
+        if !push_short(&mut short, names)? {
+            return Ok(NameList::new(alloc));
         }
-        Ok(())
+        let text = String::from_str(alloc, text)?;
+        Ok(NameList { text, names: short })
     }
 }
 
@@ -143,7 +132,7 @@ impl NameListCache {
         let place = place_of(names);
         if text.len() <= LONGEST {
             self.make_place(place)?;
-            self.texts[place].set(names, text)?;
+            self.texts[place] = NameList::of(*self.texts.allocator(), names, text)?;
         }
         Ok(())
     }

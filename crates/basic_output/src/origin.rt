@@ -1,4 +1,5 @@
 //! Where pointers of keywords begin.
+#![tactic(auto, unfolding(crate::specs::PointerViews::origin_view))]
 
 ghost use Rattle.std.specs.Prelude.{◌≡◌, ◌∷◌, ◌++◌, [], string_bytes, IfOk, IfSome, OnOk};
 ghost use Rattle.std.proofs.Props.{props};

@@ -1,14 +1,12 @@
 //! The text of a unit, put together of its parts (JSON Schema 2020-12 Core, 12.4.2).
 
-ghost use Rattle.std.specs.Prelude.{◌≡◌, ◌+◌, ◌≤◌, ◌∷◌, ◌++◌, if◌then◌else◌, is_ok, length, take, true, IfOk, IfSome, OnErr};
-ghost use Rattle.std.specs.Str.{is_utf8};
-ghost use Rattle.definitions.specs.Texts.{text};
+ghost use Rattle.std.specs.Prelude.{◌≡◌, ◌+◌, ◌≤◌, ◌∷◌, ◌++◌, if◌then◌else◌, is_ok, length, IfOk, IfSome};
 ghost use Rattle.locations.specs.Steps.{tokens};
 ghost use Rattle.basic_output.specs.Buffers.{buffer_text};
 ghost use Rattle.basic_output.specs.Notations.{kept_text};
-ghost use Rattle.basic_output.specs.Parts.{AreParts, parts_length, parts_text, said_ending, said_opening};
+ghost use Rattle.basic_output.specs.Parts.{AreParts, parts_text, said_ending, said_opening, texts_length};
 ghost use Rattle.basic_output.specs.Pieces.{kind_key, unit_text};
-ghost use Rattle.basic_output.specs.Sayings.{says_value, unit_at};
+ghost use Rattle.basic_output.specs.Sayings.{unit_at};
 ghost use Rattle.basic_output.specs.WrittenOver.{IsWrittenOver};
 ghost use Rattle.basic_output.specs.declared.location.Location.{Location};
 ghost use Rattle.basic_output.specs.declared.says.Says.{Says};
@@ -22,7 +20,7 @@ mod step_texts;
 use crate::location::Location;
 use crate::says::Says;
 pub(crate) use buffer::TextBuffer;
-use buffer::{make_room, write};
+use buffer::write;
 pub(crate) use escaping::{are_unescaped, push_escaped};
 use locations::Step;
 pub(crate) use saying::Saying;
@@ -126,6 +124,7 @@ fn location_parts<'s>(location: Location<'s, '_>) -> Option<LocationParts<'s>>
 
 // Appends a comma and the text of the unit at the location with these parts.
 #[inline(always)]
+#[tactic(auto, using(crate::proofs::UnitLaws::unit_parts))]
 fn append_at(
     out: &mut TextBuffer,
     saying: &mut Saying,
@@ -146,6 +145,7 @@ fn append_at(
     })
 }
 
+#[tactic(auto, unfolding(crate::specs::Buffers::buffer_text))]
 impl TextBuffer {
     // Appends a comma and the parts. The only error is want of memory, and then the text stays as it was.
     #[inline(always)]
@@ -154,45 +154,32 @@ impl TextBuffer {
             then buffer_text self.old ++ 44 ∷ parts_text unit.entry
             else buffer_text self.old) }
     {
-        self.len = write_parts(&mut self.bytes, self.len, unit)?;
-        Ok(())
-    }
-}
-
-// Writes a comma and the text of the unit over the bytes from there on: the position behind it. Room is made once for all of
-// it, where there is too little. The only error is want of memory, and then the bytes stay as they were.
-#[inline(always)]
-fn write_parts(bytes: &mut Vec<u8>, start: usize, unit: UnitParts<'_>) -> Result<usize, AllocError>
-    requires { start ≤ length bytes.old.items }
-    ensures written { IfOk result (λ end.
-        IsWrittenOver start end (44 ∷ parts_text unit.entry) bytes.old.items bytes.new.items) }
-    ensures unchanged { OnErr result (bytes.new.items ≡ bytes.old.items) }
-{
-    match end_of(start, unit) {
-        Some(end) => {
-            make_room(bytes, end)?;
-            Ok(write_unit(bytes.as_mut_slice(), start, unit))
+        match room_for(unit) {
+            Some(room) => {
+                self.make_room(room)?;
+                self.len = write_unit(self.bytes.as_mut_slice(), self.len, unit);
+                Ok(())
+            }
+            None => Err(AllocError),
         }
-        None => Err(AllocError),
     }
 }
 
-// Where the unit ends behind the comma, if an address holds the number.
+// How many bytes a comma and the unit take at most, if an address holds the number.
 #[inline(always)]
-fn end_of(start: usize, unit: UnitParts<'_>) -> Option<usize>
-    ensures { IfSome result (λ end. end ≡ start + 1 + parts_length unit.entry) }
+fn room_for(unit: UnitParts<'_>) -> Option<usize>
+    ensures { IfSome result (λ room. room ≡ 128 + texts_length unit.entry) }
 {
-    start
-        .checked_add(1 + KEY.len() + END.len())?
-        .checked_add(kind_opening(unit.annotates).len())?
-        .checked_add(said_opening(unit.said.form).len())?
-        .checked_add(said_ending(unit.said.form).len())?
+    FRAME
         .checked_add(unit.location.head.len())?
         .checked_add(unit.location.onward.len())?
         .checked_add(unit.said.text.len())?
         .checked_add(unit.location.instance_location.len())?
         .checked_add(unit.location.path.len())
 }
+
+/// How many bytes all else of a unit takes at most.
+const FRAME: usize = 128;
 
 const ANNOTATION: &str = "\",\"annotation\":";
 
@@ -208,42 +195,10 @@ const KEY: &str = "\",\"keywordLocation\":\"";
 
 const END: &str = "\"}";
 
-// What stands before what the unit says.
-#[inline(always)]
-fn kind_opening(annotates: bool) -> &'static str
-    ensures { result.now ≡ 34 ∷ kind_key annotates }
-{
-    if annotates { ANNOTATION } else { ERROR }
-}
-
-// The quotation mark, where what the unit says lacks it.
-#[inline(always)]
-fn said_opening(form: Form) -> &'static str
-    ensures { result.now ≡ said_opening form }
-{
-    match form {
-        Form::NotMet => "\"",
-        Form::Plain => "\"",
-        Form::Written => "",
-    }
-}
-
-// What stands behind what the unit says.
-#[inline(always)]
-fn said_ending(form: Form) -> &'static str
-    ensures { result.now ≡ said_ending form }
-{
-    match form {
-        Form::NotMet => NOT_MET,
-        Form::Plain => PLAIN,
-        Form::Written => WRITTEN,
-    }
-}
-
 // Writes a comma and the unit over the bytes from there on: the position behind it.
 #[inline(always)]
 fn write_unit(bytes: &mut [u8], start: usize, unit: UnitParts<'_>) -> usize
-    requires { start + 1 + parts_length unit ≤ length bytes.old }
+    requires { start + 128 + texts_length unit ≤ length bytes.old }
     ensures written { IsWrittenOver start result (44 ∷ parts_text unit.entry) bytes.old bytes.new }
     ensures len { length bytes.new ≡ length bytes.old }
 {
@@ -263,11 +218,10 @@ fn write_unit(bytes: &mut [u8], start: usize, unit: UnitParts<'_>) -> usize
 // The same of what stands before what the unit says. Each text is written in a branch of its own, since one of a length
 // that is known takes few instructions.
 fn write_kind(bytes: &mut [u8], start: usize, annotates: bool) -> usize
-    requires { start + length (34 ∷ kind_key annotates) ≤ length bytes.old }
-    ensures end { result ≡ start + length (34 ∷ kind_key annotates) }
-    ensures written { take result bytes.new ≡ take start bytes.old ++ 34 ∷ kind_key annotates }
+    requires { start + 16 ≤ length bytes.old }
+    ensures end { result ≤ start + 16 }
+    ensures written { IsWrittenOver start result (34 ∷ kind_key annotates) bytes.old bytes.new }
     ensures len { length bytes.new ≡ length bytes.old }
-    ensures utf8 { is_utf8 (34 ∷ kind_key annotates) ≡ true }
 {
     if annotates {
         write(bytes, start, ANNOTATION)
@@ -276,12 +230,12 @@ fn write_kind(bytes: &mut [u8], start: usize, annotates: bool) -> usize
     }
 }
 
+// The quotation mark, where what the unit says lacks it.
 fn write_opening(bytes: &mut [u8], start: usize, form: Form) -> usize
-    requires { start + length (said_opening form) ≤ length bytes.old }
-    ensures end { result ≡ start + length (said_opening form) }
-    ensures written { take result bytes.new ≡ take start bytes.old ++ said_opening form }
+    requires { start + 1 ≤ length bytes.old }
+    ensures end { result ≤ start + 1 }
+    ensures written { IsWrittenOver start result (said_opening form) bytes.old bytes.new }
     ensures len { length bytes.new ≡ length bytes.old }
-    ensures utf8 { is_utf8 (said_opening form) ≡ true }
 {
     match form {
         Form::NotMet => write(bytes, start, "\""),
@@ -290,12 +244,12 @@ fn write_opening(bytes: &mut [u8], start: usize, form: Form) -> usize
     }
 }
 
+// What stands behind what the unit says.
 fn write_ending(bytes: &mut [u8], start: usize, form: Form) -> usize
-    requires { start + length (said_ending form) ≤ length bytes.old }
-    ensures end { result ≡ start + length (said_ending form) }
-    ensures written { take result bytes.new ≡ take start bytes.old ++ said_ending form }
+    requires { start + 40 ≤ length bytes.old }
+    ensures end { result ≤ start + 40 }
+    ensures written { IsWrittenOver start result (said_ending form) bytes.old bytes.new }
     ensures len { length bytes.new ≡ length bytes.old }
-    ensures utf8 { is_utf8 (said_ending form) ≡ true }
 {
     match form {
         Form::NotMet => write(bytes, start, NOT_MET),

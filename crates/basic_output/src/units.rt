@@ -1,4 +1,5 @@
 //! The units of the basic output, as they are collected (JSON Schema 2020-12 Core, 12.4.2).
+#![tactic(auto, unfolding(crate::specs::Units::unit_texts, crate::specs::Spans::span_text))]
 
 ghost use Rattle.std.specs.Prelude.{◌≡◌, ◌≤◌, ◌<◌, ◌∷◌, ◌++◌, ◌-◌, drop, false, length, nat_eq, nat_le, take, true, IfOk, OnOk, OnErr};
 ghost use Rattle.std.specs.List.{All, insert, list_all};
@@ -234,19 +235,10 @@ fn put(order: &mut Vec<usize>, position: usize, place: usize) -> Result<(), Allo
     ensures unchanged { OnErr result (order.new.items ≡ order.old.items) }
 {
     if position < order.len() {
-        return put_among(order, position, place);
+        order.insert(position, place)?;
+    } else {
+        order.push(place)?;
     }
-    order.push(place)?;
-    Ok(())
-}
-
-#[inline(always)]
-fn put_among(order: &mut Vec<usize>, position: usize, place: usize) -> Result<(), AllocError>
-    requires { position ≤ length order.old.items }
-    ensures ok { OnOk result (order.new.items ≡ insert order.old.items position place) }
-    ensures unchanged { OnErr result (order.new.items ≡ order.old.items) }
-{
-    order.insert(position, place)?;
     Ok(())
 }
 
@@ -265,6 +257,7 @@ fn are_behind(spans: &[Span], units: usize) -> bool
 }
 
 // Where the last text ends.
+#[tactic(auto, using(crate::proofs::SpanLaws::last_is))]
 fn end_of(spans: &[Span]) -> usize
     ensures { result ≡ last_end 0 spans.now }
 {

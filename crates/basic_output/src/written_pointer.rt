@@ -1,4 +1,5 @@
 //! A pointer that steps come to and go from, and its texts.
+#![tactic(auto, unfolding(crate::specs::PointerViews::pointer_view))]
 
 ghost use Rattle.std.specs.Prelude.{◌≡◌, ◌-◌, ◌∷◌, ◌++◌, [], true, drop, length, take, IfSome};
 ghost use Rattle.locations.specs.Steps.{token, tokens};
@@ -92,11 +93,7 @@ impl<'a> WrittenPointer<'a> {
         ensures { (older : Pointer) (t : Text) → pointer_view self.old ≡ older ++ t ∷ []
             → pointer_view self.new ≡ older }
     {
-        let count = self.steps.len();
-        if count > 0 {
-            self.unwrite(count - 1);
-            self.steps.pop();
-        }
+        self.truncate(self.len().saturating_sub(1));
     }
 
     /// Only so many steps stay.
@@ -189,22 +186,10 @@ impl<'a> WrittenPointer<'a> {
             (λ t. t.now ≡ kept_text notation.Fragment (onward_pointer self.now onward)) }
     {
         let inward = self.inward(onward);
-        if self.is_written() && self.pointer.are_plain_from(inward) {
-            Some(self.pointer.text_behind(inward))
+        if self.pointer.are_plain_from(inward) {
+            self.pointer.behind(inward, self.steps.len())
         } else {
-            self.fragment_behind(inward)
-        }
-    }
-
-    // The text behind so many steps, as a fragment, where it is written.
-    fn fragment_behind(&self, len: usize) -> Option<&str>
-        ensures { IfSome result
-            (λ t. t.now ≡ kept_text notation.Fragment (drop len (pointer_view self.now))) }
-    {
-        if self.fragment.len() == self.steps.len() {
-            Some(self.fragment.text_behind(len))
-        } else {
-            None
+            self.fragment.behind(inward, self.steps.len())
         }
     }
 

@@ -1,6 +1,7 @@
 //! Texts that grow and are cut back again and again, over bytes that stay.
+#![tactic(auto, unfolding(crate::specs::Buffers::buffer_text))]
 
-ghost use Rattle.std.specs.Prelude.{◌≡◌, ◌+◌, ◌≤◌, ◌<◌, ◌∷◌, ◌++◌, ℕ, [], if◌then◌else◌, is_ok, length, take, true, IfOk, IfSome, OnErr, OnOk};
+ghost use Rattle.std.specs.Prelude.{◌≡◌, ◌+◌, ◌≤◌, ◌<◌, ◌++◌, ℕ, [], if◌then◌else◌, is_ok, length, take, true, OnErr, OnOk};
 ghost use Rattle.std.specs.Str.{IsCharBoundary, is_utf8};
 ghost use Rattle.basic_output.specs.WrittenOver.{IsWrittenOver};
 
@@ -80,15 +81,6 @@ impl TextBuffer {
         self.len = 0;
     }
 
-    /// Appends a text. The only error is want of memory, and then the text stays as it was.
-    pub(crate) fn push_str(&mut self, text: &str) -> Result<(), AllocError>
-        ensures { buffer_text self.new ≡ (if is_ok result
-            then buffer_text self.old ++ text.now
-            else buffer_text self.old) }
-    {
-        self.push_led("", text)
-    }
-
     /// Appends a text behind what leads it. The only error is want of memory, and then the text stays as it was.
     #[inline(always)]
     pub(crate) fn push_led(&mut self, lead: &str, text: &str) -> Result<(), AllocError>
@@ -96,40 +88,42 @@ impl TextBuffer {
             then buffer_text self.old ++ (lead.now ++ text.now)
             else buffer_text self.old) }
     {
-        self.len = write_led(&mut self.bytes, self.len, lead, text)?;
+        self.make_room(lead.len() + text.len())?;
+        self.len = write_led(self.bytes.as_mut_slice(), self.len, lead, text);
         Ok(())
     }
-}
 
-// Writes a text behind what leads it over the bytes from there on: the position behind it. Room is made where there is too little.
-// The only error is want of memory, and then the bytes stay as they were.
-#[inline(always)]
-fn write_led(bytes: &mut Vec<u8>, start: usize, lead: &str, text: &str) -> Result<usize, AllocError>
-    requires { start ≤ length bytes.old.items }
-    ensures written { IfOk result (λ end.
-        IsWrittenOver start end (lead.now ++ text.now) bytes.old.items bytes.new.items) }
-    ensures unchanged { OnErr result (bytes.new.items ≡ bytes.old.items) }
-{
-    match end_behind(start, lead, text) {
-        Some(end) => {
-            make_room(bytes, end)?;
-            Ok(write_behind(bytes.as_mut_slice(), start, lead, text))
+    /// Room for so many bytes more behind the text, which stays. The only error is want of memory.
+    #[inline(always)]
+    pub(crate) fn make_room(&mut self, more: usize) -> Result<(), AllocError>
+        ensures room { OnOk result (self.new.len + more ≤ length self.new.bytes.items) }
+        ensures len { self.new.len ≡ self.old.len }
+        ensures text { buffer_text self.new ≡ buffer_text self.old }
+    {
+        match self.len.checked_add(more) {
+            Some(end) if end <= self.bytes.len() => Ok(()),
+            Some(end) => make_more_room(&mut self.bytes, end),
+            None => Err(AllocError),
         }
-        None => Err(AllocError),
     }
 }
 
-// Where the text ends behind what leads it, if an address holds the number.
-#[inline(always)]
-fn end_behind(start: usize, lead: &str, text: &str) -> Option<usize>
-    ensures { IfSome result (λ end. end ≡ start + length lead.now + length text.now) }
+// As many bytes as that at least, where there are fewer: what stands there stays. The only error is want of memory. It is called
+// apart, since few units find so few.
+#[inline(never)]
+fn make_more_room(bytes: &mut Vec<u8>, end: usize) -> Result<(), AllocError>
+    requires { length bytes.old.items < end }
+    ensures room { OnOk result (end ≤ length bytes.new.items) }
+    ensures longer { length bytes.old.items ≤ length bytes.new.items }
+    ensures front { (start : ℕ) → start ≤ length bytes.old.items
+        → take start bytes.new.items ≡ take start bytes.old.items }
 {
-    start.checked_add(lead.len())?.checked_add(text.len())
+    bytes.resize(end.saturating_add(ROOM), b',')
 }
 
-// Writes the text behind what leads it over the bytes from there on: the position behind it.
+// Writes a text behind what leads it over the bytes from there on: the position behind it.
 #[inline(always)]
-fn write_behind(bytes: &mut [u8], start: usize, lead: &str, text: &str) -> usize
+fn write_led(bytes: &mut [u8], start: usize, lead: &str, text: &str) -> usize
     requires { start + length lead.now + length text.now ≤ length bytes.old }
     ensures written { IsWrittenOver start result (lead.now ++ text.now) bytes.old bytes.new }
     ensures len { length bytes.new ≡ length bytes.old }
@@ -138,41 +132,13 @@ fn write_behind(bytes: &mut [u8], start: usize, lead: &str, text: &str) -> usize
     write(bytes, behind, text)
 }
 
-/// As many bytes as that at least: what stands there stays. The only error is want of memory, and then the bytes stay as they
-/// were.
-#[inline(always)]
-pub(crate) fn make_room(bytes: &mut Vec<u8>, end: usize) -> Result<(), AllocError>
-    ensures room { OnOk result (end ≤ length bytes.new.items) }
-    ensures front { (start : ℕ) → start ≤ length bytes.old.items
-        → take start bytes.new.items ≡ take start bytes.old.items }
-    ensures unchanged { OnErr result (bytes.new.items ≡ bytes.old.items) }
-{
-    if end <= bytes.len() {
-        return Ok(());
-    }
-    make_more_room(bytes, end)
-}
-
-// The same, where there are fewer. It is called apart, since few units find so few.
-#[inline(never)]
-fn make_more_room(bytes: &mut Vec<u8>, end: usize) -> Result<(), AllocError>
-    requires { length bytes.old.items < end }
-    ensures room { OnOk result (end ≤ length bytes.new.items) }
-    ensures front { (start : ℕ) → start ≤ length bytes.old.items
-        → take start bytes.new.items ≡ take start bytes.old.items }
-    ensures unchanged { OnErr result (bytes.new.items ≡ bytes.old.items) }
-{
-    bytes.resize(end.saturating_add(ROOM), b',')
-}
-
 /// Writes a text over as many of the bytes from there on: the position behind it.
 #[inline(always)]
 pub(crate) fn write(bytes: &mut [u8], start: usize, text: &str) -> usize
     requires { start + length text.now ≤ length bytes.old }
     ensures end { result ≡ start + length text.now }
-    ensures written { take result bytes.new ≡ take start bytes.old ++ text.now }
+    ensures written { IsWrittenOver start result text.now bytes.old bytes.new }
     ensures len { length bytes.new ≡ length bytes.old }
-    ensures utf8 { is_utf8 text.now ≡ true }
 {
     place(bytes, start, text.as_bytes())
 }

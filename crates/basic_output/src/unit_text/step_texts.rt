@@ -1,8 +1,7 @@
 //! The texts of steps, one behind the other, as they stand in the output.
 
-ghost use Rattle.std.specs.Prelude.{◌≡◌, ◌+◌, ◌≤◌, ◌<◌, ◌∷◌, ◌++◌, [], List, true, decimal, drop, get_or, length, IfOk, OnOk};
+ghost use Rattle.std.specs.Prelude.{◌≡◌, ◌+◌, ◌≤◌, ◌<◌, ◌∷◌, ◌++◌, [], List, true, decimal, drop, get_or, length, IfOk, IfSome, OnOk};
 ghost use Rattle.std.specs.List.{list_all};
-ghost use Rattle.keywords.specs.Rows.{row_of};
 ghost use Rattle.locations.specs.Steps.{token, tokens};
 ghost use Rattle.locations.specs.declared.step.Step.{Step};
 ghost use Rattle.basic_output.specs.Buffers.{buffer_text};
@@ -12,7 +11,6 @@ ghost use Rattle.basic_output.specs.declared.unit_text.step_texts.Notation.TheVa
 
 use super::buffer::TextBuffer;
 use super::escaping::push_escaped;
-use keywords::Keyword;
 use locations::{Step, push_fragment, push_pointer};
 use std::alloc::{AllocError, Global};
 
@@ -152,17 +150,20 @@ impl StepTexts {
         }
     }
 
-    /// The text behind so many steps.
-    pub(crate) fn text_behind(&self, len: usize) -> &str
+    /// The text behind so many steps, where as many as there are in all are written.
+    #[inline(always)]
+    pub(crate) fn behind(&self, len: usize, count: usize) -> Option<&str>
         requires { AreSomeTexts self.now }
-        ensures { (n : Notation) (ss : List Step) → AreStepTexts n self.now ss
-            → length self.now.starts.items ≡ length ss
-            → result.now ≡ kept_text n (drop len (tokens ss)) }
+        ensures { IfSome result (λ t. (length self.now.starts.items ≡ count)
+            × ((n : Notation) (ss : List Step) → AreStepTexts n self.now ss → count ≡ length ss
+            → t.now ≡ kept_text n (drop len (tokens ss)))) }
     {
-        if len < self.starts.len() {
-            &self.text.as_str()[self.starts[len]..]
+        if self.starts.len() != count {
+            None
+        } else if len < count {
+            Some(&self.text.as_str()[self.starts[len]..])
         } else {
-            ""
+            Some("")
         }
     }
 }
@@ -186,8 +187,9 @@ fn push_next(
     Ok(plain)
 }
 
-// Appends the text of a step: whether it is plain.
+// Appends the text of a step: whether it is plain, as indexes and the names of keywords are.
 #[inline(always)]
+#[tactic(auto, using(crate::proofs::PlainLaws::plain_pushed, crate::proofs::KeywordNames::name_is_plain))]
 fn push_step(text: &mut TextBuffer, notation: Notation, step: Step<'_>) -> Result<bool, AllocError>
     ensures { IfOk result (λ plain. IsPushed notation (token step.entry) plain
         (buffer_text text.old) (buffer_text text.new)) }
@@ -195,27 +197,15 @@ fn push_step(text: &mut TextBuffer, notation: Notation, step: Step<'_>) -> Resul
     match step {
         Step::Name(name) => push_name(text, notation, name),
         Step::Index(index) => push_index(text, notation, index),
-        Step::Keyword(keyword) => push_keyword(text, notation, keyword),
+        Step::Keyword(keyword) => {
+            text.push_led("/", keyword.name())?;
+            Ok(true)
+        }
     }
 }
 
-// The same of a keyword's name, which is plain.
 #[inline(always)]
-fn push_keyword(
-    text: &mut TextBuffer,
-    notation: Notation,
-    keyword: Keyword,
-) -> Result<bool, AllocError>
-    ensures { IfOk result (λ plain. IsPushed notation (row_of keyword).name plain
-        (buffer_text text.old) (buffer_text text.new)) }
-{
-    let _notation = notation;
-    text.push_led("/", keyword.name())?;
-    Ok(true)
-}
-
-// The same of an index, which is plain.
-#[inline(always)]
+#[tactic(auto, using(crate::proofs::PlainLaws::plain_pushed, crate::proofs::PlainLaws::index_is_plain))]
 fn push_index(text: &mut TextBuffer, notation: Notation, index: usize) -> Result<bool, AllocError>
     ensures { IfOk result (λ plain. IsPushed notation (decimal index) plain
         (buffer_text text.old) (buffer_text text.new)) }

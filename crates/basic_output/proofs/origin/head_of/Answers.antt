@@ -4,7 +4,6 @@ use Rattle.std.specs.List.{list_all}
 use Rattle.definitions.specs.Pointers.{fragment_text}
 use Rattle.locations.specs.Steps.{tokens}
 use Rattle.basic_output.specs.Pieces.{is_unescaped}
-use Rattle.basic_output.proofs.EscapeLaws.{unescaped_from_plain}
 use Rattle.basic_output.proofs.PlainLaws.{escape_same}
 use Rattle.basic_output.proofs.origin.head_of.Goals as goal
 
@@ -22,5 +21,5 @@ returns-then-are_unescaped c =
     ∙ ap (λ t. key ++ t) (append_assoc uri (35 ∷ []) fragment) in
     let seen = take (length b - 28) (drop 28 b) in
     let there : seen ≡ location = take_rest b 28 ∙ ap (drop 28) (c.as_bytes.ensures.value ∙ written) in
-    let plain : list_all is_unescaped location ≡ true = ap (list_all is_unescaped) (sym there) ∙ unescaped_from_plain seen c.if-are_unescaped.ensures in
+    let plain : list_all is_unescaped location ≡ true = ap (list_all is_unescaped) (sym there) ∙ sym c.are_unescaped.ensures ∙ c.if-are_unescaped.true in
     written ∙ ap (λ t. key ++ t) (sym (escape_same location plain))

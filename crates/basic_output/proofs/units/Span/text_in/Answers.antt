@@ -14,7 +14,3 @@ range-requires-clause-end_boundary c =
     let s = c.args.self.now in
     let t = c.args.text.now in
     IsCharBoundary-from_take t s.end c.utf8.text (omega (arith, c.requires.within)) (IsUtf8-from_is_utf8 (take s.end t) c.requires.end_whole)
-
-pub returns : goal.returns
-unfolding span_text
-returns c = c.range.ensures.value

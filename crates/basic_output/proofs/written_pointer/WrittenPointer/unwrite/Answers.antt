@@ -1,11 +1,6 @@
 use Rattle.basic_output.specs.declared.unit_text.step_texts.Notation.TheVariants as notation
 use Rattle.basic_output.proofs.written_pointer.WrittenPointer.unwrite.Goals as goal
 
-pub truncate-requires : goal.truncate-requires
-truncate-requires c =
-    let old = c.args.self.now in
-    (notation.Pointer, (old.steps.items, old.is_pointer))
-
 pub invariant_of-self : goal.invariant_of-self
 invariant_of-self c =
     let old = c.args.self.now in

@@ -6,7 +6,3 @@ use Rattle.basic_output.proofs.written_pointer.WrittenPointer.within.Goals as go
 
 pub invariant_of-result : goal.invariant_of-result
 invariant_of-result c = record { is_pointer = c.clear.ensures notation.Pointer _; is_fragment = c.new-2.ensures notation.Fragment _ }
-
-pub returns : goal.returns
-unfolding pointer_view
-returns c = ap tokens c.new.ensures.items

@@ -7,7 +7,3 @@ use Rattle.basic_output.proofs.unit_text.buffer.TextBuffer.as_str.Goals as goal
 pub from_utf8_unchecked-requires : goal.from_utf8_unchecked-requires
 unfolding buffer_text
 from_utf8_unchecked-requires c = subst (λ b. IsUtf8 (take c.args.self.now.len b)) (sym c.deref.ensures.value) (whole_buffer c.args.self.now)
-
-pub returns : goal.returns
-unfolding buffer_text
-returns c = c.from_utf8_unchecked.ensures ∙ ap (take c.args.self.now.len) c.deref.ensures.value

@@ -14,15 +14,3 @@ invariant_of-self c =
       within = omega (arith, c.if-len-self.true, b.within);
       utf8 = cut_buffer b n (omega (arith, c.if-len-self.true)) (c.requires (omega (arith, len, c.if-len-self.true)));
     }
-
-pub returns-then-len-self : goal.returns-then-len-self
-unfolding buffer_text
-returns-then-len-self c =
-    let b = c.args.self.now in
-    sym (take-take c.args.len b.len b.bytes.items (omega (arith, c.if-len-self.true)))
-
-pub returns-else-len-self : goal.returns-else-len-self
-unfolding buffer_text
-returns-else-len-self c =
-    let b = c.args.self.now in
-    sym (take_all c.args.len (buffer_text b) (omega (arith, c.if-len-self.false, length-take-le b.len b.bytes.items b.within)))

@@ -1,8 +1,0 @@
-use Rattle.std.proofs.Common.{ap}
-use Rattle.locations.specs.Steps.{tokens}
-use Rattle.basic_output.specs.PointerViews.{origin_view}
-use Rattle.basic_output.proofs.origin.Origin.root.Goals as goal
-
-pub returns : goal.returns
-unfolding origin_view
-returns c = ap (λ ss. (c.args.resource.now, tokens ss)) c.new.ensures.items

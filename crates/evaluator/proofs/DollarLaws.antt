@@ -1,5 +1,5 @@
 -- Laws of the names that begin with `$`: where they stand in byte order, which marks they have, and that they don't annotate.
-use Rattle.std.proofs.Common.{◌≡◌, ◌<◌, ◌*◌, ◌^◌, ◌%◌, ◌&&◌, ◌||◌, not, ℕ, List, [], ◌∷◌, ◌++◌, Bool, true, false, Option, Some, None, is_some, cond, inl, inr, map, filter, max, codes, refl, sym, ap, ◌∙◌, arith}
+use Rattle.std.proofs.Common.{◌≡◌, ◌<◌, ◌*◌, ◌^◌, ◌%◌, ◌&&◌, ◌||◌, not, ℕ, List, [], ◌∷◌, ◌++◌, Bool, true, false, Option, Some, None, is_some, cond, inl, inr, map, filter, length, max, codes, refl, sym, ap, ◌∙◌, arith}
 use Rattle.std.specs.Prelude.{◌==◌}
 use Rattle.std.specs.Cmp.Lexicographic.{slice_cmp}
 use Rattle.std.specs.Int.{bit_at}
@@ -93,7 +93,7 @@ abbrev bit_of : ℕ → ℕ
 bit_of mark = 1 * 2 ^ mark % 2 ^ 64
 
 abbrev their_marks : ℕ
-their_marks = bit_or (bit_or (bit_or (bit_of 0) (bit_of 1)) (bit_of 35)) (bit_of 63)
+their_marks = bit_or (bit_or (bit_or (bit_of 0) (bit_of 1)) (bit_of (length in_order))) (bit_of 63)
 
 abbrev is_marked : Keyword → Bool
 is_marked k = not (begins k.name (codes "$")) || (bit_at their_marks (mark_of k.name) == 1)
@@ -117,7 +117,7 @@ second true b e f = e
 second false b e f = absurd (cc)
 
 their_mark : (name : Text) (o : Option Keyword) → keyword_named name keywords ≡ o → begins name (codes "$") ≡ true → bit_at their_marks (mark_of name) ≡ 1
-unfolding row_named
+unfolding row_named in_order
 their_mark name None e begin = ap (bit_at their_marks) (sym (mark_of_others name None refl (sym e)))
 their_mark name (Some k) e begin =
     let same : name ≡ k.name = same_text_is name k.name (found_passes (λ (r : Keyword). same_text name r.name) keywords k e) in

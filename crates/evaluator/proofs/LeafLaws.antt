@@ -13,7 +13,7 @@ use Rattle.linker.specs.declared.linked.Linked.{Linked}
 use Rattle.keywords.specs.Groups.{group_number, groups_before, in_order, is_evaluated}
 use Rattle.keywords.specs.Rows.{row_of}
 use Rattle.keywords.specs.declared.group.Group.{Group}
-use Rattle.keywords.specs.declared.group.Group.TheVariants.{One, Conditional, Counted}
+use Rattle.keywords.specs.declared.group.Group.TheVariants.{One, Conditional, Counted, Empty}
 use Rattle.keywords.specs.declared.keyword.Keyword.{Keyword}
 use Rattle.keywords.specs.declared.keyword.Keyword.TheVariants.{AllOf, ContentSchema, Pattern, Ref, «Type», UnevaluatedItems, UnevaluatedProperties}
 use Rattle.evaluator.specs.Groups.{asserts_alone, first_groups}
@@ -158,6 +158,7 @@ alike_group : (l : Linked) (left : ℕ) (a : Application) (g : Group) → assert
 alike_group l left a (One k) asserts = alike_keyword l left a k (get (row_of k).name a.schema.value) (assertion_in (row_of k).meaning) refl refl asserts
 alike_group l left a Conditional asserts = absurd (cc)
 alike_group l left a Counted asserts = absurd (cc)
+alike_group l left a Empty asserts = absurd (cc)
 
 -- ---- a group that doesn't is not there
 pub leaf_group : (l : Linked) (left : ℕ) (a : Application) (s : Value) (i : ℕ) → a.schema.value ≡ s → IsLeaf s → i < length first_groups

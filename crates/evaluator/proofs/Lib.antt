@@ -19,4 +19,3 @@ pub mod AssertedLaws
 pub mod SilenceLaws
 pub mod CountLaws
 pub mod MetLaws
-pub mod OwnAnnotations

@@ -12,7 +12,7 @@ use Rattle.assertions.specs.AssertionView.{assertion_in}
 use Rattle.keywords.proofs.Names.{row_there}
 use Rattle.keywords.specs.Rows.{row_named, row_of}
 use Rattle.keywords.specs.declared.group.Group.{Group}
-use Rattle.keywords.specs.declared.group.Group.TheVariants.{One, Conditional, Counted}
+use Rattle.keywords.specs.declared.group.Group.TheVariants.{One, Conditional, Counted, Empty}
 use Rattle.keywords.specs.declared.keyword.Keyword.{Keyword}
 use Rattle.keywords.specs.declared.keyword.Keyword.TheVariants.{Ref}
 use Rattle.lemmas.proofs.Texts.{same_text_is}
@@ -81,6 +81,7 @@ module _ (l : Linked) (left : ℕ) (a : Application) where
   met_group (One k) all asserts = met_keyword k (get (row_of k).name a.schema.value) (assertion_in (row_of k).meaning) refl refl all asserts
   met_group Conditional all asserts = absurd (cc)
   met_group Counted all asserts = absurd (cc)
+  met_group Empty all asserts = absurd (cc)
 
   met_at : (s : Value) (i : ℕ) (b : Bool) → a.schema.value ≡ s → IsLeaf s → list_all (is_member_met a.instance) (members a.schema.value) ≡ true → i < length first_groups
       → asserts_alone (get_or first_groups i (One Ref)) ≡ b → AreSilent a (group_uses l left a (get_or first_groups i (One Ref)))

@@ -19,11 +19,10 @@ use Rattle.lemmas.proofs.Texts.{same_text_differs, same_text_is}
 use Rattle.linker.specs.declared.linked.Linked.{Linked}
 use Rattle.keywords.specs.Rows.{row_named, row_of}
 use Rattle.keywords.specs.Groups.{group_number, groups_before, in_order}
-use Rattle.keywords.proofs.Grouped.{number_within, position}
+use Rattle.keywords.proofs.Grouped.{number_within}
 use Rattle.keywords.specs.declared.keyword.Keyword as listed
 use Rattle.keyword_plans.specs.Sites.{linked_rules}
-use Rattle.keywords.specs.declared.keyword.Keyword.TheVariants.{Ref, UnevaluatedItems, UnevaluatedProperties}
-use Rattle.evaluator.specs.declared.present.TheConstants.{MARKS}
+use Rattle.keywords.specs.declared.keyword.Keyword.TheVariants.{ContentSchema, Ref, UnevaluatedItems, UnevaluatedProperties}
 use Rattle.evaluator.specs.Groups.{first_groups, rows_of}
 use Rattle.evaluator.specs.Presents.{has_mark, mark_of, may_annotate_itself}
 use Rattle.evaluator.specs.Rounds.{group_uses, groups_uses, linked_outcome, object_uses, unevaluated_uses}
@@ -47,11 +46,16 @@ pub mark_within : (name : Text) → mark_of name < 64
 unfolding mark_of
 mark_within name = below_last (may_annotate_itself name) (group_number name) (number_below name)
 
--- the table of marks, by computing
-pub mark_there : (k : listed.Keyword) → slice_index_or MARKS (position k) 0 ≡ mark_of (row_of k).name
+-- a keyword that doesn't annotate with its own value has the mark of its group
+pub mark_of_group : (k : listed.Keyword) → (k ≡ ContentSchema → ⊥) → group_number (row_of k).name ≡ mark_of (row_of k).name
 unfolding mark_of group_number groups_before in_order
-mark_there Ref = refl
-mark_there _ = refl
+mark_of_group ContentSchema other = absurd (other refl)
+mark_of_group _ other = refl
+
+-- the one that does has the last
+pub mark_of_content : (k : listed.Keyword) → k ≡ ContentSchema → 63 ≡ mark_of (row_of k).name
+unfolding mark_of
+mark_of_content k e = rw e refl
 
 -- the name of a keyword has the mark of the keyword
 pub mark_of_named : (name : Text) (k : listed.Keyword) (o : Option listed.Keyword) (n : ℕ) → o ≡ Some k → option_map row_of o ≡ row_named name

@@ -11,12 +11,13 @@ use crate::halt::Halt;
 use crate::here::Here;
 use crate::log::Log;
 use crate::memory::EvaluationMemory;
-use crate::present::{KEYWORDS, Present};
+use crate::present::Present;
 use crate::settling_object::settle_object;
 use basic_output::Says;
 use evaluation_context::Context;
 use json_doc::Doc;
 use keyword_plans::{Enumerations, PlanMemory, Searches, Subject};
+use keywords::KEYWORDS;
 use linker::Linked;
 use std::alloc::{AllocError, Global};
 

@@ -108,6 +108,7 @@ impl<'a> Evaluation<'a> {
             },
             Group::Conditional => Ok(true),
             Group::Counted => Ok(true),
+            Group::Empty => Ok(true),
         }
     }
 }

@@ -133,6 +133,7 @@ impl<'a> Evaluation<'a> {
             Group::One(keyword) => self.use_one(keyword, here, named, nesting),
             Group::Conditional => self.use_conditional(here, nesting),
             Group::Counted => self.use_counted(here, nesting),
+            Group::Empty => Ok(true),
         }
     }
 

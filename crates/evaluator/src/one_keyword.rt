@@ -9,11 +9,11 @@ use crate::beside::Beside;
 use crate::halt::Halt;
 use crate::here::Here;
 use crate::log::LogMark;
-use crate::present::{KEYWORDS, Present};
+use crate::present::Present;
 use crate::settling::{evaluated_for, settle};
 use json_doc::Doc;
 use keyword_plans::{Earlier, Planned, Site, passes, plan, surely_applies_nothing};
-use keywords::Keyword;
+use keywords::{KEYWORDS, Keyword};
 use std::alloc::AllocError;
 
 impl<'a> Evaluation<'a> {

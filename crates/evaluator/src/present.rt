@@ -18,19 +18,10 @@ ghost use Rattle.evaluator.specs.Presents.{AreMarked, has_mark, mark_of};
 
 use crate::dollar_names::{are_many, cut_at_dollar_names};
 use json_doc::{Doc, Members, MembersIter};
-use keywords::Keyword;
+use keywords::{KEYWORDS, Keyword};
 
 /// The mark of names that may annotate with their own value.
 const ANNOTATES: usize = 63;
-
-/// The marks of the keywords, in their order: of those that are evaluated the numbers of their groups.
-static MARKS: [u8; KEYWORDS] = [
-    0, 1, 2, 3, 4, 5, 6, 7, 8, 9, 10, 11, 12, 13, 14, 15, 16, 17, 18, 19, 20, 21, 22, 23, 24, 24,
-    24, 25, 26, 27, 28, 28, 28, 29, 30, 31, 32, 33, 34, 35, 35, 63, 35, 35, 35, 35,
-];
-
-/// How many keywords there are.
-pub(crate) const KEYWORDS: usize = 46;
 
 /// A schema, and which names stand in it: a bit for each group of keywords, in the order of evaluation, one for keywords
 /// that are not evaluated, and the last for names that may annotate with their own value.
@@ -225,7 +216,10 @@ fn mark_of_keyword(keyword: Keyword) -> usize
     ensures mark { result ≡ mark_of (row_of keyword).name }
     ensures within { result < 64 }
 {
-    MARKS[keyword as usize] as usize
+    match keyword {
+        Keyword::ContentSchema => ANNOTATES,
+        _ => keyword.group_number(),
+    }
 }
 
 // The lowest bit that is 1 from this one on, or 64.

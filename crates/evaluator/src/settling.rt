@@ -4,7 +4,7 @@
 ghost use Rattle.std.specs.Prelude.{◌≡◌, ◌++◌, [], ◌∷◌, ℕ, List, None, false, true, drop, if◌then◌else◌, length, map, IfErr, OnOk};
 ghost use Rattle.definitions.specs.Values.{Text, Value};
 ghost use Rattle.definitions.specs.Applied.{Application, Outcome, Part, Rules};
-ghost use Rattle.definitions.specs.Evaluated.{annotation_of, evaluated_indexes, evaluated_names};
+ghost use Rattle.definitions.specs.Evaluated.{evaluated_indexes, evaluated_names};
 ghost use Rattle.definitions.specs.Keywords.{looks_at_evaluated};
 ghost use Rattle.definitions.specs.Outcomes.{Use, own_annotation};
 ghost use Rattle.basic_output.specs.Units.{unit_texts};
@@ -53,7 +53,7 @@ pub(crate) fn settle<'a>(
     hide(log, keyword, mark);
     if passes {
         log.cut_errors(mark);
-        if has_own_annotation(keyword) {
+        if keyword.annotates() {
             note_own(context, log, keyword, subject, mark, applied)
         } else {
             Ok(())
@@ -79,24 +79,6 @@ fn hide(log: &mut Log<'_>, keyword: Keyword, mark: &LogMark)
         }
         Keyword::PropertyNames => log.cut_annotations(mark),
         _ => {}
-    }
-}
-
-// Whether the keyword may have an annotation of its own where it passes (Core, 10.3 and 11).
-fn has_own_annotation(keyword: Keyword) -> bool
-    ensures { (a : Application) (os : List (Part × Outcome)) → result ≡ false
-        → annotation_of a (row_of keyword).meaning os ≡ None }
-{
-    match keyword {
-        Keyword::Properties => true,
-        Keyword::PatternProperties => true,
-        Keyword::AdditionalProperties => true,
-        Keyword::UnevaluatedProperties => true,
-        Keyword::PrefixItems => true,
-        Keyword::Items => true,
-        Keyword::UnevaluatedItems => true,
-        Keyword::Contains => true,
-        _ => false,
     }
 }
 

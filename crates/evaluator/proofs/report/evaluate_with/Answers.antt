@@ -3,7 +3,7 @@ use Rattle.definitions.specs.Answers.{first_application}
 use Rattle.definitions.specs.Targets.{resource_root}
 use Rattle.json_doc.specs.Docs.{value}
 use Rattle.linker.specs.LinkedDocuments.{linked_schemas, linked_uri}
-use Rattle.schema_index.specs.Locateds.{located_view}
+use Rattle.schema_scan.specs.Locateds.{located_view}
 use Rattle.evaluation_context.specs.Frames.{context_view, frame_standing}
 use Rattle.evaluation_context.specs.Standings.{application_at}
 use Rattle.evaluator.specs.Logs.{log_view}

@@ -12,8 +12,8 @@ use Rattle.evaluator.proofs.SettlingLaws.{failing_settled, indexes_settled, name
 use Rattle.evaluator.proofs.settling.settle.Goals as goal
 
 -- where it passes
-pub returns-then-has_own_annotation-clause-noted : goal.returns-then-has_own_annotation-clause-noted
-returns-then-has_own_annotation-clause-noted c l left a names indexes v older inst count passes under m e =
+pub returns-then-annotates-clause-noted : goal.returns-then-annotates-clause-noted
+returns-then-annotates-clause-noted c l left a names indexes v older inst count passes under m e =
     let k = c.args.keyword in
     let u = use_there l left a k names indexes v in
     let meaning = (row_of k).meaning in
@@ -23,13 +23,13 @@ returns-then-has_own_annotation-clause-noted c l left a names indexes v older in
     (c.cut_errors.ensures older seen m (c.hide.ensures older (parts_notes meaning u.outcomes) m e)) (names_settled l left a k names indexes v) (indexes_settled l left a k names indexes v))
 
 -- where it has no annotation of its own
-pub returns-else-has_own_annotation-clause-noted : goal.returns-else-has_own_annotation-clause-noted
-returns-else-has_own_annotation-clause-noted c l left a names indexes v older inst count passes under m e =
+pub returns-else-annotates-clause-noted : goal.returns-else-annotates-clause-noted
+returns-else-annotates-clause-noted c l left a names indexes v older inst count passes under m e =
     let k = c.args.keyword in
     let u = use_there l left a k names indexes v in
     let meaning = (row_of k).meaning in
     let seen = visible_notes meaning (parts_notes meaning u.outcomes) in
-    let none : None ≡ u.annotation = sym (c.has_own_annotation.ensures a u.outcomes c.if-has_own_annotation.false) in
+    let none : None ≡ u.annotation = sym (c.annotates.ensures.none a u.outcomes c.if-annotates.false) in
     c.cut_errors.ensures older seen m (c.hide.ensures older (parts_notes meaning u.outcomes) m e)
     ∙ ap (notes_of_both older) (ap (λ ts. record seen { errors = []; annotations = ts }) (own_none a u seen.annotations none)
     ∙ passing_settled l left a k names indexes v (sym c.if-passes.true ∙ passes))

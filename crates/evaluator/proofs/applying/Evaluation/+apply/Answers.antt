@@ -111,6 +111,12 @@ use_group-returns-in-Counted-clause-noted = object_keywords.use_group-returns-in
 pub use_group-returns-in-Counted-clause-err : goal.use_group-returns-in-Counted-clause-err
 use_group-returns-in-Counted-clause-err = object_keywords.use_group-returns-in-Counted-clause-err
 
+pub use_group-returns-in-Empty-clause-valid : goal.use_group-returns-in-Empty-clause-valid
+use_group-returns-in-Empty-clause-valid = object_keywords.use_group-returns-in-Empty-clause-valid
+
+pub use_group-returns-in-Empty-clause-noted : goal.use_group-returns-in-Empty-clause-noted
+use_group-returns-in-Empty-clause-noted = object_keywords.use_group-returns-in-Empty-clause-noted
+
 pub use_conditional-returns-in-Ok-use_two-clause-valid : goal.use_conditional-returns-in-Ok-use_two-clause-valid
 use_conditional-returns-in-Ok-use_two-clause-valid = object_keywords.use_conditional-returns-in-Ok-use_two-clause-valid
 

@@ -28,3 +28,8 @@ pub returns-in-Counted-clause-noted : goal.returns-in-Counted-clause-noted
 returns-in-Counted-clause-noted c a left at none =
     let n = log_view c.args.self.now.log in
     sym (added_nothing n) ∙ ap (λ us. notes_of_both n (uses_notes a us)) (sym (none (ap asserts_alone c.in-Counted.is)))
+
+pub returns-in-Empty-clause-noted : goal.returns-in-Empty-clause-noted
+returns-in-Empty-clause-noted c a left at none =
+    let n = log_view c.args.self.now.log in
+    sym (added_nothing n) ∙ ap (λ us. notes_of_both n (uses_notes a us)) (sym (none (ap asserts_alone c.in-Empty.is)))

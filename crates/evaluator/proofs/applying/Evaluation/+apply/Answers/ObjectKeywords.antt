@@ -198,6 +198,12 @@ use_group-returns-in-Counted-clause-noted t c a at most = rw c.in-Counted.is (c.
 pub use_group-returns-in-Counted-clause-err : goal.use_group-returns-in-Counted-clause-err
 use_group-returns-in-Counted-clause-err t c a at most = rw c.in-Counted.is (c.use_counted.ensures.err a at)
 
+pub use_group-returns-in-Empty-clause-valid : goal.use_group-returns-in-Empty-clause-valid
+use_group-returns-in-Empty-clause-valid t c a at most = rw c.in-Empty.is refl
+
+pub use_group-returns-in-Empty-clause-noted : goal.use_group-returns-in-Empty-clause-noted
+use_group-returns-in-Empty-clause-noted t c a at most = rw c.in-Empty.is (sym (added_nothing (log_view c.args.self.now.log)))
+
 pub use_conditional-returns-in-Ok-use_two-clause-valid : goal.use_conditional-returns-in-Ok-use_two-clause-valid
 use_conditional-returns-in-Ok-use_two-clause-valid t c a at =
     let l = c.args.self.now.linked in

@@ -1,2 +1,3 @@
 mod Walks
 mod Sized
+pub mod Transcripts

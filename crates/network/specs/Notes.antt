@@ -1,9 +1,9 @@
--- What a note stands for.
-use Rattle.std.specs.Prelude.{List, [], ◌∷◌}
+-- The call that a note stands for.
+use Rattle.std.specs.Prelude.{Option, Some, None}
 use Rattle.network.specs.Traffic.{Moved}
 use Rattle.network.specs.declared.transcript.Note.{Note}
 use Rattle.network.specs.declared.transcript.Note.TheVariants as note
 
-abbrev pub moves_in : Note → List Moved
-moves_in (note.Moved id bytes) = (id, bytes.now) ∷ []
-moves_in note.Nothing = []
+abbrev pub call_in : Note → Option Moved
+call_in (note.Moved id bytes) = Some (id, bytes.now)
+call_in note.Failed = None

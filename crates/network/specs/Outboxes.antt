@@ -1,5 +1,5 @@
 -- What is still to be sent on each connection.
-use Rattle.std.specs.Prelude.{◌≡◌, ◌≢◌, ℕ, drop, Option, option_map, unwrap_or}
+use Rattle.std.specs.Prelude.{◌≡◌, ◌≢◌, ℕ, Bool, drop, is_some, Option, option_map, unwrap_or}
 use Rattle.std.specs.BTreeMap.{get}
 use Rattle.std.specs.Ordering.{nat_cmp}
 use Rattle.definitions.specs.Values.{Text}
@@ -31,3 +31,7 @@ memory_of o = total_size o.connections
 
 abbrev pub most_of : Outbox → ℕ
 most_of o = o.most_memory
+
+-- whether these were never more than can be counted
+abbrev pub is_counted : Outbox → Bool
+is_counted o = is_some o.memory

@@ -14,4 +14,4 @@ pub use memory::MemoryNetwork;
 pub use networks::{Broken, Network, Occasion};
 pub use outbox::Outbox;
 pub use scenes::Happening;
-pub use transcript::{Note, Transcript};
+pub use transcript::Transcript;

@@ -1,11 +1,12 @@
 //! Connections over memory.
 
 ghost use Rattle.std.specs.Prelude.{◌≡◌, [], ⊤};
+ghost use Rattle.network.specs.Transcripts.{moves_of};
 
 use crate::networks::{Broken, Network, Occasion};
 use crate::outbox::Outbox;
 use crate::scenes::{Happening, Scene};
-use crate::transcript::{Note, Transcript};
+use crate::transcript::Transcript;
 use std::alloc::Global;
 
 /// Many connections over memory, on which happens what a script says. Where memory lacks, the script is at its end.
@@ -50,9 +51,9 @@ impl<'a> MemoryNetwork<'a> {
 }
 
 impl Network for MemoryNetwork<'_> {
-    ghost reads = { λ s. s.reads.moves };
+    ghost reads = { λ s. moves_of s.reads };
 
-    ghost writes = { λ s. s.writes.moves };
+    ghost writes = { λ s. moves_of s.writes };
 
     ghost due = { λ s d k. ⊤ };
 
@@ -69,7 +70,7 @@ impl Network for MemoryNetwork<'_> {
         match self.scene.read(id, buffer) {
             Ok(None) => Ok(None),
             Ok(Some(count)) => {
-                self.reads = self.reads.then(&Note::Moved(id, &buffer[..count]));
+                self.reads = self.reads.moved(id, &buffer[..count]);
                 Ok(Some(count))
             }
             Err(broken) => Err(broken),
@@ -80,7 +81,7 @@ impl Network for MemoryNetwork<'_> {
         match self.scene.write(id, bytes) {
             Ok(None) => Ok(None),
             Ok(Some(count)) => {
-                self.writes = self.writes.then(&Note::Moved(id, &bytes[..count]));
+                self.writes = self.writes.moved(id, &bytes[..count]);
                 Ok(Some(count))
             }
             Err(broken) => Err(broken),

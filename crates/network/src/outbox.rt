@@ -1,6 +1,6 @@
 //! What is still to be sent on each connection.
 
-ghost use Rattle.std.specs.Prelude.{◌≡◌, ◌≤◌, true, ℕ, [], ◌+◌, Some, None, OnOk, OnErr, is_some, length, drop, option_copied, List};
+ghost use Rattle.std.specs.Prelude.{◌≡◌, ◌≢◌, ◌≤◌, ◌<◌, true, false, ℕ, [], ◌+◌, ◌^◌, Some, None, OnOk, OnErr, IfErr, is_some, length, drop, option_copied, List};
 ghost use Rattle.network.specs.Sizes.{IsCounted, IsCounted-prop, total_size};
 
 use crate::kept::Kept;
@@ -36,7 +36,7 @@ fn recounted(memory: Option<u128>, before: u128, after: u128) -> Option<u128>
 }
 
 impl Outbox {
-    ghost use Rattle.network.specs.Outboxes.{unsent_at, count_of, size_at, memory_of, most_of, OthersStay};
+    ghost use Rattle.network.specs.Outboxes.{unsent_at, count_of, size_at, memory_of, most_of, is_counted, OthersStay};
 
     /// No connection, and so many bytes that all of them may take. This takes no memory.
     pub fn new(alloc: Global, most_memory: usize) -> Outbox
@@ -53,6 +53,11 @@ impl Outbox {
         }
     }
 
+    /// The allocator that it was given.
+    pub fn alloc(&self) -> Global {
+        self.alloc
+    }
+
     /// Opens a connection. The errors are [`Fault::IdInUse`], where its number isn't greater than all before or is the
     /// greatest, and want of memory, [`Fault::NoRoom`]; then nothing changes.
     pub fn open(&mut self, id: u64) -> Result<(), Fault>
@@ -62,6 +67,8 @@ impl Outbox {
         ensures others { OnOk result (OthersStay id self.old self.new) }
         ensures err { OnErr result ((k : ℕ) → unsent_at self.new k ≡ unsent_at self.old k) }
         ensures err_count { OnErr result (count_of self.new ≡ count_of self.old) }
+        ensures why { IfErr result (λ f. f ≢ Fault.NoRoom
+            → count_of self.old ≤ id → id + 1 ≡ 2 ^ 64) }
     {
         if id < self.count || id == u64::MAX {
             return Err(Fault::IdInUse);
@@ -114,9 +121,13 @@ impl Outbox {
         }
     }
 
-    /// Whether a connection may take more memory: whether all others together keep no more than all may.
+    /// Whether a connection may take more memory: whether all others together keep no more than all may. It may not once they
+    /// were more than can be counted.
     pub fn may_grow(&self, id: u64) -> bool
-        ensures { result ≡ true → memory_of self.now ≤ size_at self.now id + most_of self.now }
+        ensures may { result ≡ true
+            → memory_of self.now ≤ size_at self.now id + most_of self.now }
+        ensures may_not { result ≡ false → is_counted self.now ≡ true
+            → size_at self.now id + most_of self.now < memory_of self.now }
     {
         match self.memory {
             None => false,

@@ -1,45 +1,63 @@
 //! What was moved, which stands in proofs alone.
 
-ghost use Rattle.std.specs.Prelude.{◌≡◌, List, [], ◌++◌};
+ghost use Rattle.std.specs.Prelude.{◌≡◌, List, [], ◌∷◌, ◌++◌, Option, Some, None};
 ghost use base.Fml.{ftrue};
 ghost use Rattle.network.specs.Traffic.{Moved};
-ghost use Rattle.network.specs.Codes.{moves_code};
+ghost use Rattle.network.specs.Codes.{calls_code};
 
 use std::marker::Model;
 
-/// What was moved on many connections up to now. It is empty when the program runs.
+/// The calls that moved bytes, or failed, up to now. It is empty when the program runs.
 #[derive(Drop)]
 pub struct Transcript {
-    ghost moves: { List Moved } by { moves_code },
+    // None of a call that failed.
+    ghost calls: { List (Option Moved) } by { calls_code },
 }
 
 impl Model for Transcript {
     ghost also_owns = { λ _. ftrue };
 }
 
-/// One transfer.
+/// One call.
 #[derive(Clone, Copy, Drop)]
 pub enum Note<'a> {
     /// These bytes were moved on the connection.
     Moved(u64, &'a [u8]),
-    /// The call moved nothing.
-    Nothing,
+    /// The call failed.
+    Failed,
 }
 
 impl Transcript {
-    ghost use Rattle.network.specs.Notes.{moves_in};
+    ghost use Rattle.network.specs.Notes.{call_in};
+    ghost use Rattle.network.specs.Transcripts.{moves_of, transfers_of};
 
-    /// Nothing was moved.
+    /// No call.
     pub fn new() -> Transcript
-        ensures { result.moves ≡ [] }
+        ensures { result.calls ≡ [] }
     {
         Transcript {}
     }
 
-    /// One more.
-    pub fn then(&self, _note: &Note<'_>) -> Transcript
-        ensures { result.moves ≡ self.now.moves ++ moves_in _note.now }
+    // One more.
+    fn then(&self, _note: &Note<'_>) -> Transcript
+        ensures { result.calls ≡ self.now.calls ++ (call_in _note.now ∷ []) }
     {
         Transcript {}
+    }
+
+    /// One more, which moved these bytes on the connection.
+    pub fn moved(&self, id: u64, bytes: &[u8]) -> Transcript
+        ensures moves { moves_of result ≡ moves_of self.now ++ ((id, bytes.now) ∷ []) }
+        ensures transfers { transfers_of result ≡ transfers_of self.now ++ (Some bytes.now ∷ []) }
+    {
+        self.then(&Note::Moved(id, bytes))
+    }
+
+    /// One more, which failed.
+    pub fn failed(&self) -> Transcript
+        ensures moves { moves_of result ≡ moves_of self.now }
+        ensures transfers { transfers_of result ≡ transfers_of self.now ++ (None ∷ []) }
+    {
+        self.then(&Note::Failed)
     }
 }

@@ -1,4 +1,3 @@
-mod Walks
 pub mod Written
 pub mod Exchanged
 pub mod Turned

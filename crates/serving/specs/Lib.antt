@@ -1,6 +1,4 @@
 pub mod Transfers
-pub mod Codes
-pub mod Notes
 pub mod Streams
 pub mod Memory
 pub mod Writing

@@ -1,7 +1,6 @@
 //! Connections served by readers and writers.
 #![tactic(auto)]
 
-mod broken;
 mod exchanges;
 mod failure;
 mod memory;
@@ -9,14 +8,13 @@ mod pieces;
 mod recorded;
 mod served;
 mod streams;
-mod transcript;
 mod writing;
 
-pub use broken::Broken;
 pub use connections::Unsettled;
 pub use failure::Failure;
 pub use faults::Fault;
 pub use memory::{MemoryReader, MemoryWriter, Pace, Pause};
+pub use network::Broken;
 pub use recorded::Recorded;
 pub use served::serve;
 pub use streams::{ByteReader, ByteWriter};

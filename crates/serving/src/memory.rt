@@ -1,11 +1,11 @@
 //! Readers and writers over memory.
 
 ghost use Rattle.std.specs.Prelude.{◌≡◌, ◌≤◌, ◌++◌, [], IfOk, OnErr, length, take};
+ghost use Rattle.network.specs.Transcripts.{transfers_of};
 ghost use Rattle.serving.specs.Transfers.{transferred_bytes};
 
-use crate::broken::Broken;
 use crate::streams::{ByteReader, ByteWriter};
-use crate::transcript::{Note, Transcript};
+use network::{Broken, Transcript};
 use std::alloc::Global;
 
 /// What a stream over memory does after its last call that moves bytes.
@@ -78,7 +78,7 @@ impl MemoryReader {
 }
 
 impl ByteReader for MemoryReader {
-    ghost reads = { λ s. s.transcript.transfers };
+    ghost reads = { λ s. transfers_of s.transcript };
 
     fn read(&mut self, buffer: &mut [u8]) -> Result<usize, Broken> {
         let left = self.bytes.len() - self.start;
@@ -91,11 +91,11 @@ impl ByteReader for MemoryReader {
             Ok(count) => {
                 buffer[..count].copy_from_slice(&self.bytes[self.start..self.start + count]);
                 self.start += count;
-                self.transcript = self.transcript.then(&Note::Moved(&buffer[..count]));
+                self.transcript = self.transcript.moved(0, &buffer[..count]);
                 Ok(count)
             }
             Err(broken) => {
-                self.transcript = self.transcript.then(&Note::Failed);
+                self.transcript = self.transcript.failed();
                 Err(broken)
             }
         }
@@ -108,7 +108,7 @@ pub struct MemoryWriter {
     bytes: Vec<u8>,
     pace: Pace,
     transcript: Transcript,
-    ghost told: { bytes.items ≡ transferred_bytes transcript.transfers },
+    ghost told: { bytes.items ≡ transferred_bytes (transfers_of transcript) },
 }
 
 impl MemoryWriter {
@@ -134,16 +134,16 @@ impl MemoryWriter {
 }
 
 impl ByteWriter for MemoryWriter {
-    ghost writes = { λ s. s.transcript.transfers };
+    ghost writes = { λ s. transfers_of s.transcript };
 
     fn write(&mut self, bytes: &[u8]) -> Result<usize, Broken> {
         match keep(&mut self.bytes, &mut self.pace, bytes) {
             Ok(count) => {
-                self.transcript = self.transcript.then(&Note::Moved(&bytes[..count]));
+                self.transcript = self.transcript.moved(0, &bytes[..count]);
                 Ok(count)
             }
             Err(broken) => {
-                self.transcript = self.transcript.then(&Note::Failed);
+                self.transcript = self.transcript.failed();
                 Err(broken)
             }
         }

@@ -6,9 +6,8 @@ ghost use Rattle.std.specs.Io.KnownBytes.{ReadConsumes, WriteAppends};
 ghost use Rattle.serving.specs.Streams.{stream_of, transfers_of};
 ghost use Rattle.serving.specs.Transfers.{transfer_of};
 
-use crate::broken::Broken;
 use crate::streams::{ByteReader, ByteWriter};
-use crate::transcript::{Note, Transcript};
+use network::{Broken, Transcript};
 use std::io::{self, Read, Write};
 
 /// A reader or a writer of std, as a terminal, a file or a socket, whose transfers proofs know. Each call is one call of
@@ -44,11 +43,11 @@ impl<R: Read> Read for Recorded<R> {
     {
         match self.stream.read(buffer) {
             Ok(count) => {
-                self.transcript = self.transcript.then(&Note::Moved(&buffer[..count]));
+                self.transcript = self.transcript.moved(0, &buffer[..count]);
                 Ok(count)
             }
             Err(error) => {
-                self.transcript = self.transcript.then(&Note::Failed);
+                self.transcript = self.transcript.failed();
                 Err(error)
             }
         }
@@ -67,11 +66,11 @@ impl<W: Write> Write for Recorded<W> {
     {
         match self.stream.write(bytes) {
             Ok(count) => {
-                self.transcript = self.transcript.then(&Note::Moved(&bytes[..count]));
+                self.transcript = self.transcript.moved(0, &bytes[..count]);
                 Ok(count)
             }
             Err(error) => {
-                self.transcript = self.transcript.then(&Note::Failed);
+                self.transcript = self.transcript.failed();
                 Err(error)
             }
         }

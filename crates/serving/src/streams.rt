@@ -3,7 +3,7 @@
 ghost use Rattle.std.specs.Prelude.{◌≡◌, ◌≤◌, List, [], ◌∷◌, ◌++◌, IfOk, length};
 ghost use Rattle.serving.specs.Transfers.{Transfer, transfer_of};
 
-use crate::broken::Broken;
+use network::Broken;
 
 /// Whatever gives bytes. Contracts know what each of its reads gave.
 pub trait ByteReader {

@@ -12,7 +12,6 @@ use crate::ending::cut_off;
 use crate::observers::Observer;
 use connections::{Handler, Sessions};
 use network::{Fault, Network, Outbox};
-use std::alloc::Global;
 
 // Puts bytes to be sent. Whether there are some; where there are none, the connection will be told ready again.
 fn hand_out<N: Network>(
@@ -41,7 +40,6 @@ fn hand_out<N: Network>(
 
 // Answers a piece that was read last. Whether something is to be sent.
 fn answer_piece<H: Handler, N: Network, O: Observer>(
-    alloc: Global,
     sessions: &mut Sessions<H>,
     outbox: &mut Outbox,
     network: &mut N,
@@ -62,10 +60,10 @@ fn answer_piece<H: Handler, N: Network, O: Observer>(
     ensures due { OthersDue id (N.due network.old) (N.due network.new) }
 {
     let mut out = outbox.lend(id);
-    match sessions.feed_into(alloc, id, piece, &mut out) {
+    match sessions.feed_into(outbox.alloc(), id, piece, &mut out) {
         Ok(()) => hand_out(outbox, network, id, out.into_bytes(), sessions.held_len(id)),
         Err(fault) => {
-            cut_off(alloc, sessions, outbox, network, observer, id, Some(fault));
+            cut_off(sessions, outbox, network, observer, id, Some(fault));
             false
         }
     }
@@ -73,7 +71,6 @@ fn answer_piece<H: Handler, N: Network, O: Observer>(
 
 // Ends the stream of a connection. Whether something is to be sent at last.
 fn answer_end<H: Handler, N: Network, O: Observer>(
-    alloc: Global,
     sessions: &mut Sessions<H>,
     outbox: &mut Outbox,
     network: &mut N,
@@ -89,10 +86,10 @@ fn answer_end<H: Handler, N: Network, O: Observer>(
     ensures stay { OthersStay id outbox.old outbox.new }
     ensures due { OthersDue id (N.due network.old) (N.due network.new) }
 {
-    match sessions.end(alloc, id) {
+    match sessions.end(outbox.alloc(), id) {
         Ok(words) => hand_out(outbox, network, id, words, 0),
         Err(fault) => {
-            cut_off(alloc, sessions, outbox, network, observer, id, Some(fault));
+            cut_off(sessions, outbox, network, observer, id, Some(fault));
             false
         }
     }
@@ -100,7 +97,6 @@ fn answer_end<H: Handler, N: Network, O: Observer>(
 
 /// Reads a piece of a connection that has nothing to be sent, and answers it. Whether something is to be sent.
 pub fn receive<H: Handler, N: Network, O: Observer>(
-    alloc: Global,
     sessions: &mut Sessions<H>,
     outbox: &mut Outbox,
     network: &mut N,
@@ -121,26 +117,11 @@ pub fn receive<H: Handler, N: Network, O: Observer>(
 {
     match network.read(id, buffer) {
         Ok(None) => false,
-        Ok(Some(0)) => answer_end(alloc, sessions, outbox, network, observer, id),
-        Ok(Some(count)) => answer_piece(
-            alloc,
-            sessions,
-            outbox,
-            network,
-            observer,
-            id,
-            &buffer[..count],
-        ),
+        Ok(Some(0)) => answer_end(sessions, outbox, network, observer, id),
+        Ok(Some(count)) => answer_piece(sessions, outbox, network, observer, id, &buffer[..count]),
         Err(_) => {
-            cut_off(
-                alloc,
-                sessions,
-                outbox,
-                network,
-                observer,
-                id,
-                Some(Fault::ReadFailed),
-            );
+            let fault = Some(Fault::ReadFailed);
+            cut_off(sessions, outbox, network, observer, id, fault);
             false
         }
     }

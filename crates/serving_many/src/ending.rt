@@ -9,11 +9,9 @@ ghost use Rattle.serving_many.specs.Going.{Keeps, state_of};
 use crate::observers::Observer;
 use connections::{Handler, Sessions};
 use network::{Fault, Network, Outbox};
-use std::alloc::Global;
 
 /// Ends a connection at once: what it holds and what was still to be sent is dropped. One that isn't open is let be.
 pub fn cut_off<H: Handler, N: Network, O: Observer>(
-    alloc: Global,
     sessions: &mut Sessions<H>,
     outbox: &mut Outbox,
     network: &mut N,
@@ -31,7 +29,7 @@ pub fn cut_off<H: Handler, N: Network, O: Observer>(
     ensures due { OthersDue id (N.due network.old) (N.due network.new) }
 {
     let was_open = outbox.end(id);
-    let _ = sessions.end(alloc, id);
+    let _ = sessions.end(outbox.alloc(), id);
     network.close(id);
     if was_open {
         observer.ended(id, fault.as_ref());

@@ -40,7 +40,6 @@ impl Round {
 
 // Opens a connection. Where that fails, its client is let go.
 fn open<H: Handler, N: Network, O: Observer>(
-    alloc: Global,
     sessions: &mut Sessions<H>,
     outbox: &mut Outbox,
     network: &mut N,
@@ -56,11 +55,11 @@ fn open<H: Handler, N: Network, O: Observer>(
     ensures due { OthersDue id (N.due network.old) (N.due network.new) }
 {
     match outbox.open(id) {
-        Err(fault) => cut_off(alloc, sessions, outbox, network, observer, id, Some(fault)),
+        Err(fault) => cut_off(sessions, outbox, network, observer, id, Some(fault)),
         Ok(()) => {
             observer.opened(id);
             match sessions.open(id) {
-                Err(fault) => cut_off(alloc, sessions, outbox, network, observer, id, Some(fault)),
+                Err(fault) => cut_off(sessions, outbox, network, observer, id, Some(fault)),
                 Ok(()) => {}
             }
         }
@@ -78,7 +77,6 @@ fn lateness(outbox: &Outbox, id: u64) -> Fault {
 // Goes on with a connection that has nothing to be sent: it is read, or parted with where it is closed, or read later
 // where memory is short. Whether something is to be sent then.
 fn go_on<H: Handler, N: Network, O: Observer>(
-    alloc: Global,
     sessions: &mut Sessions<H>,
     outbox: &mut Outbox,
     network: &mut N,
@@ -96,19 +94,18 @@ fn go_on<H: Handler, N: Network, O: Observer>(
     ensures due { OthersDue id (N.due network.old) (N.due network.new) }
 {
     if sessions.is_closed(id) {
-        cut_off(alloc, sessions, outbox, network, observer, id, None);
+        cut_off(sessions, outbox, network, observer, id, None);
         return false;
     }
     if !outbox.may_grow(id) {
         network.later(id);
         return false;
     }
-    receive(alloc, sessions, outbox, network, observer, id, buffer)
+    receive(sessions, outbox, network, observer, id, buffer)
 }
 
 // Takes a turn of a connection that is told ready. Whether something is to be sent then.
 fn take_turn<H: Handler, N: Network, O: Observer>(
-    alloc: Global,
     sessions: &mut Sessions<H>,
     outbox: &mut Outbox,
     network: &mut N,
@@ -126,14 +123,13 @@ fn take_turn<H: Handler, N: Network, O: Observer>(
 {
     match outbox.unsent(id) {
         None => false,
-        Some([]) => go_on(alloc, sessions, outbox, network, observer, id, buffer),
+        Some([]) => go_on(sessions, outbox, network, observer, id, buffer),
         Some(_) => true,
     }
 }
 
 // Notes that a connection has something to be sent. Where memory lacks for that, it is ended.
 fn wait_for<H: Handler, N: Network, O: Observer>(
-    alloc: Global,
     sessions: &mut Sessions<H>,
     outbox: &mut Outbox,
     network: &mut N,
@@ -152,22 +148,14 @@ fn wait_for<H: Handler, N: Network, O: Observer>(
     match waiting.push(id) {
         Ok(()) => {}
         Err(_) => {
-            cut_off(
-                alloc,
-                sessions,
-                outbox,
-                network,
-                observer,
-                id,
-                Some(Fault::NoRoom),
-            );
+            let fault = Some(Fault::NoRoom);
+            cut_off(sessions, outbox, network, observer, id, fault);
         }
     }
 }
 
 /// Meets what happens. What is to be sent then is sent at the end of the round.
 pub fn meet<H: Handler, N: Network, O: Observer>(
-    alloc: Global,
     sessions: &mut Sessions<H>,
     outbox: &mut Outbox,
     network: &mut N,
@@ -185,30 +173,14 @@ pub fn meet<H: Handler, N: Network, O: Observer>(
 {
     match occasion {
         Occasion::Over => {}
-        Occasion::Opens(id) => open(alloc, sessions, outbox, network, observer, id),
+        Occasion::Opens(id) => open(sessions, outbox, network, observer, id),
         Occasion::Late(id) => {
             let fault = lateness(outbox, id);
-            cut_off(alloc, sessions, outbox, network, observer, id, Some(fault));
+            cut_off(sessions, outbox, network, observer, id, Some(fault));
         }
         Occasion::Ready(id) => {
-            if take_turn(
-                alloc,
-                sessions,
-                outbox,
-                network,
-                observer,
-                id,
-                &mut round.buffer,
-            ) {
-                wait_for(
-                    alloc,
-                    sessions,
-                    outbox,
-                    network,
-                    observer,
-                    &mut round.waiting,
-                    id,
-                );
+            if take_turn(sessions, outbox, network, observer, id, &mut round.buffer) {
+                wait_for(sessions, outbox, network, observer, &mut round.waiting, id);
             }
         }
     }

@@ -12,11 +12,9 @@ use crate::ending::cut_off;
 use crate::observers::Observer;
 use connections::{Handler, Outage, Sessions};
 use network::{Fault, Network, Outbox};
-use std::alloc::Global;
 
 // Writes some of what is to be sent on a connection, which is durable. One whose write fails is ended.
 fn send<H: Handler, N: Network, O: Observer>(
-    alloc: Global,
     sessions: &mut Sessions<H>,
     outbox: &mut Outbox,
     network: &mut N,
@@ -40,29 +38,14 @@ fn send<H: Handler, N: Network, O: Observer>(
         network.again(id);
         return;
     }
+    let failed = Some(Fault::WriteFailed);
     match network.write(id, bytes) {
         Ok(None) => {}
         Ok(Some(0)) => {
-            cut_off(
-                alloc,
-                sessions,
-                outbox,
-                network,
-                observer,
-                id,
-                Some(Fault::WriteFailed),
-            );
+            cut_off(sessions, outbox, network, observer, id, failed);
         }
         Err(_) => {
-            cut_off(
-                alloc,
-                sessions,
-                outbox,
-                network,
-                observer,
-                id,
-                Some(Fault::WriteFailed),
-            );
+            cut_off(sessions, outbox, network, observer, id, failed);
         }
         Ok(Some(count)) => {
             outbox.advance(id, count);
@@ -73,7 +56,6 @@ fn send<H: Handler, N: Network, O: Observer>(
 
 // Writes some of what is to be sent on each of these connections, which is durable.
 fn send_all<H: Handler, N: Network, O: Observer>(
-    alloc: Global,
     sessions: &mut Sessions<H>,
     outbox: &mut Outbox,
     network: &mut N,
@@ -89,14 +71,13 @@ fn send_all<H: Handler, N: Network, O: Observer>(
         → AllDue (unsent_at outbox.new) (N.due network.new) [] }
 {
     for id in ids {
-        send(alloc, sessions, outbox, network, observer, *id);
+        send(sessions, outbox, network, observer, *id);
     }
 }
 
 /// Ends a round: makes durable what was answered in it, and then writes some of what is to be sent on the connections that
 /// wait. Where it can't be made durable, nothing is written.
 pub fn end_round<H: Handler, N: Network, O: Observer>(
-    alloc: Global,
     sessions: &mut Sessions<H>,
     outbox: &mut Outbox,
     network: &mut N,
@@ -118,7 +99,7 @@ pub fn end_round<H: Handler, N: Network, O: Observer>(
     match sessions.settle() {
         Err(unsettled) => Err(Outage::Unsettled(unsettled)),
         Ok(()) => {
-            send_all(alloc, sessions, outbox, network, observer, waiting);
+            send_all(sessions, outbox, network, observer, waiting);
             waiting.clear();
             Ok(())
         }

@@ -47,7 +47,6 @@ pub fn serve_all<H: Handler, N: Network, O: Observer>(
             Some(Occasion::Over) => break,
             Some(occasion) => {
                 meet(
-                    alloc,
                     sessions,
                     &mut outbox,
                     network,
@@ -57,14 +56,7 @@ pub fn serve_all<H: Handler, N: Network, O: Observer>(
                 );
             }
             None => {
-                match end_round(
-                    alloc,
-                    sessions,
-                    &mut outbox,
-                    network,
-                    observer,
-                    &mut round.waiting,
-                ) {
+                match end_round(sessions, &mut outbox, network, observer, &mut round.waiting) {
                     Ok(()) => {}
                     Err(outage) => return Err(outage),
                 }
@@ -75,12 +67,5 @@ pub fn serve_all<H: Handler, N: Network, O: Observer>(
             }
         }
     }
-    end_round(
-        alloc,
-        sessions,
-        &mut outbox,
-        network,
-        observer,
-        &mut round.waiting,
-    )
+    end_round(sessions, &mut outbox, network, observer, &mut round.waiting)
 }

@@ -2,10 +2,11 @@
 
 ghost use Rattle.std.specs.Prelude.{◌≡◌, ◌++◌, ◌∷◌, [], false, None, IfSome};
 ghost use Rattle.std.specs.Io.{ReadsAtMost, WritesAtMost};
+ghost use Rattle.network.specs.Transcripts.{moves_of};
 ghost use Rattle.sockets.specs.Table.{IsDue, StaysDue, StaysOpen};
 
 use crate::sockets::Sockets;
-use network::{Broken, Network, Note, Occasion, Outbox};
+use network::{Broken, Network, Occasion, Outbox};
 use std::io::{self, ErrorKind, Read, Write};
 use std::time::Clock;
 
@@ -27,7 +28,7 @@ impl<C: Clock> Sockets<'_, C> {
     fn wait_to_read(&mut self, id: u64) -> Option<usize>
         ensures none { result ≡ None → self.new.reads ≡ self.old.reads }
         ensures some { IfSome result (λ n. (n ≡ 0)
-            × (self.new.reads.moves ≡ self.old.reads.moves ++ (id, []) ∷ [])) }
+            × (moves_of self.new.reads ≡ moves_of self.old.reads ++ (id, []) ∷ [])) }
         ensures writes { self.new.writes ≡ self.old.writes }
         ensures waits { result ≡ None → IsDue self.new.table false id }
         ensures due { StaysDue self.old.table self.new.table }
@@ -35,7 +36,7 @@ impl<C: Clock> Sockets<'_, C> {
         ensures count { self.new.table.count ≡ self.old.table.count }
     {
         if self.ends() {
-            self.reads = self.reads.then(&Note::Moved(id, &[]));
+            self.reads = self.reads.moved(id, &[]);
             return Some(0);
         }
         self.table.wait_to_read(id);
@@ -57,9 +58,9 @@ impl<C: Clock> Sockets<'_, C> {
 }
 
 impl<C: Clock> Network for Sockets<'_, C> {
-    ghost reads = { λ s. s.reads.moves };
+    ghost reads = { λ s. moves_of s.reads };
 
-    ghost writes = { λ s. s.writes.moves };
+    ghost writes = { λ s. moves_of s.writes };
 
     ghost due = { λ s d k. IsDue s.table d k };
 
@@ -79,7 +80,7 @@ impl<C: Clock> Network for Sockets<'_, C> {
             Ok(count) => {
                 let until = self.idle_until();
                 self.table.rest(id, until);
-                self.reads = self.reads.then(&Note::Moved(id, &buffer[..count]));
+                self.reads = self.reads.moved(id, &buffer[..count]);
                 Ok(Some(count))
             }
             Err(error) if error.kind() == ErrorKind::WouldBlock => Ok(self.wait_to_read(id)),
@@ -93,7 +94,7 @@ impl<C: Clock> Network for Sockets<'_, C> {
             Ok(count) => {
                 let until = self.idle_until();
                 self.table.rest(id, until);
-                self.writes = self.writes.then(&Note::Moved(id, &bytes[..count]));
+                self.writes = self.writes.moved(id, &bytes[..count]);
                 Ok(Some(count))
             }
             Err(error) if error.kind() == ErrorKind::WouldBlock => {

@@ -6,10 +6,12 @@ use Rattle.definitions.specs.Values.{Text, string, text_at}
 use Rattle.definitions.specs.Faults.{Fault, bad_uri}
 use Rattle.definitions.specs.Uris.{Parts, split, recompose, is_identifier, is_dot_segment, begins, led_by, ended_by, without_fragment}
 use Rattle.definitions.specs.Lists.{cut_at}
-use Rattle.definitions.specs.Resolution.{resolve, target_uri}
+use Rattle.definitions.specs.Resolution.{base_form, resolve, target_uri}
 use Rattle.definitions.specs.Schemas.{opened_schema}
 use Rattle.definitions.specs.Scanning.{is_empty_fragment, is_id}
+use Rattle.lemmas.proofs.Options.{none_from_is_none}
 use Rattle.uri_ref.specs.Soundness.{AreSound}
+use Rattle.uri_ref.proofs.Based.{based}
 use Rattle.uri_ref.proofs.Identifiers.{stays}
 use Rattle.uri_ref.proofs.Missing.{Misses, cut_misses, cut_apart}
 use Rattle.uri_ref.proofs.Recomposed.{cut_joined, recomposes}
@@ -19,17 +21,24 @@ use Rattle.definition_laws.specs.Keeping.{IsBaseForm}
 use Rattle.bundle_laws.specs.Identifying.{IdentifiersAreAbsolute, CanonicalUrisAreIdentifiers}
 use Rattle.bundle_laws.proofs.Scans.{id_faultless}
 
--- ---- an identifier has no fragment
-none_is : (o : Option Text) → is_none o ≡ true → o ≡ None
-none_is None h = refl
-none_is (Some t) h = cc
+-- ---- an identifier has a scheme and no fragment, and is a base as it stands
+record IsWhole (p : Parts) : Type 0 where
+  scheme : is_some p.scheme ≡ true
+  no_fragment : p.fragment ≡ None
 
-no_fragment_of : (p : Parts) → is_identifier p ≡ true → p.fragment ≡ None
-no_fragment_of p h =
+whole_of : (p : Parts) → is_identifier p ≡ true → IsWhole p
+whole_of p h =
     let dots = list_any is_dot_segment (slice_split (λ c. c == 47) p.path) in
     let whole = and_parts (is_some p.scheme && is_none p.fragment && not dots) (is_some p.authority || not (begins p.path (codes "//"))) h in
     let front = and_parts (is_some p.scheme && is_none p.fragment) (not dots) whole.0 in
-    none_is p.fragment (and_parts (is_some p.scheme) (is_none p.fragment) front.0).1
+    let both = and_parts (is_some p.scheme) (is_none p.fragment) front.0 in
+    record { scheme = both.0; no_fragment = none_from_is_none p.fragment both.1 }
+
+pub form_of_identifier : (base : Text) → is_identifier (split base) ≡ true → base_form base ≡ Ok base
+form_of_identifier base h =
+    let p = split base in
+    let whole = whole_of p h in
+    based base p p refl (ap is_some whole.no_fragment) whole.scheme (sym (stays p h p)) h ∙ ap Ok (recomposes base)
 
 abbrev bare : Parts → Parts
 bare p = record p { fragment = None }
@@ -47,13 +56,13 @@ resolves_to_itself : (base uri : Text) → is_identifier (split uri) ≡ true �
 resolves_to_itself base uri h = ap recompose (stays (split uri) h (split base)) ∙ recomposes uri
 
 pub identifiers_are_absolute : IdentifiersAreAbsolute
-identifiers_are_absolute uri h base = ap without_fragment (resolves_to_itself base uri h) ∙ uncut uri (no_fragment_of (split uri) h)
+identifiers_are_absolute uri h base = ap without_fragment (resolves_to_itself base uri h) ∙ uncut uri (whole_of (split uri) h).no_fragment
 
 -- so it may stand as an `$id` anywhere
 pub identifier_id : (base uri : Text) → is_identifier (split uri) ≡ true → is_id base (string uri) ≡ true
 identifier_id base uri h =
     let p = split uri in
-    let none = no_fragment_of p h in
+    let none = (whole_of p h).no_fragment in
     let whole : is_identifier (bare (resolve (split base) p)) ≡ true = ap (λ q. is_identifier (bare q)) (stays p h (split base)) ∙ ap is_identifier (bare_itself p none) ∙ h in
     ap₂ (λ f b. is_empty_fragment f && b) none whole
 

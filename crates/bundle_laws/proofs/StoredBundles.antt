@@ -33,7 +33,7 @@ none_held : (us : List Text) → filter (λ u. list_any (holds_resource u) []) u
 none_held [] = refl
 none_held (u ∷ us) = none_held us
 
-no_refusal : (faults : List Fault) (regular owned : Bool) (uri : Option Text) (many large : Bool) → faults ≡ [] → regular ≡ true → owned ≡ false → uri ≡ None → many ≡ false → large ≡ false
+pub no_refusal : (faults : List Fault) (regular owned : Bool) (uri : Option Text) (many large : Bool) → faults ≡ [] → regular ≡ true → owned ≡ false → uri ≡ None → many ≡ false → large ≡ false
     → first (faults ++ (when (not regular) bad_pattern ++ (when owned library_owned ++ (option_list (option_map taken uri) ++ (when many quota_documents ++ when large quota_bytes))))) ≡ None
 no_refusal faults regular owned uri many large a b c d e f = rw (a, b, c, d, e, f) refl
 

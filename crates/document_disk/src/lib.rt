@@ -11,7 +11,12 @@ use sqlite_std_file::{File, OpenError, Unknown};
 use sqlite_store::FileStore;
 use std::hash::{BuildHasher, RandomState};
 
-fn fault_of(error: OpenError) -> OpenFault {
+// What the system's refusal is told as.
+fn fault_of(error: OpenError) -> OpenFault
+    ensures busy { error ≡ OpenError.Busy → result ≡ OpenFault.Busy }
+    ensures interrupted { error ≡ OpenError.HotJournal → result ≡ OpenFault.Interrupted }
+    ensures memory { error ≡ OpenError.OutOfMemory → result ≡ OpenFault.NoRoom }
+{
     match error {
         OpenError::Io(_) => OpenFault::Unreachable,
         OpenError::OutOfMemory => OpenFault::NoRoom,

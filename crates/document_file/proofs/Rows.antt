@@ -3,6 +3,7 @@ use Rattle.std.proofs.Common.{if◌then◌else◌, sym, ap, ap₂, cond, false, 
 use Rattle.std.specs.List.{AllByRecursion}
 use Rattle.std.specs.List.Sorted.{IsStrictlySortedBy}
 use Rattle.std.specs.Cmp.{IsTotalOrder}
+use Rattle.std.specs.Cmp.Derive.{then_next}
 use Rattle.std.specs.Cmp.Lexicographic.{slice_cmp}
 use Rattle.std.specs.Ordering.{match_ordering, nat_cmp, ordering_reverse, ordering_then}
 use Rattle.std.specs.Str.{bytes_eq}
@@ -32,14 +33,9 @@ turned r s = row_total.antisymm s r
 key_is : (tenant uri : Text) (s : Row) → prefix_cmp plain (entry_of s) (key_of tenant uri) ≡ ordering_then (slice_cmp nat_cmp s.tenant tenant) (slice_cmp nat_cmp s.uri uri)
 key_is tenant uri s = rw (first_key-plain, value_cmp-Text, value_cmp-Text, then-Equal) refl
 
-then_all : (a b c : Ordering) → ordering_then a (ordering_then b c) ≡ ordering_then (ordering_then a b) c
-then_all Less b c = refl
-then_all Equal b c = refl
-then_all Greater b c = refl
-
 entry_is : (r s : Row) → entry_cmp plain (entry_of s) (entry_of r)
     ≡ ordering_then (row_cmp s r) (ordering_then (value_cmp (base_value s.uri s.base) (base_value r.uri r.base)) (ordering_then (value_cmp (value.Text s.text) (value.Text r.text)) Equal))
-entry_is r s = rw (first_key-plain, value_cmp-Text s.tenant r.tenant, value_cmp-Text s.uri r.uri) (then_all (slice_cmp nat_cmp s.tenant r.tenant) (slice_cmp nat_cmp s.uri r.uri) _)
+entry_is r s = rw (first_key-plain, value_cmp-Text s.tenant r.tenant, value_cmp-Text s.uri r.uri) (then_next (slice_cmp nat_cmp s.tenant r.tenant) (slice_cmp nat_cmp s.uri r.uri) _ refl refl)
 
 -- ---- a put
 abbrev Above : Row → List Row → Type 0

@@ -3,3 +3,4 @@ pub mod Files
 pub mod Props
 pub mod Puts
 pub mod Tables
+pub mod OpenFaults

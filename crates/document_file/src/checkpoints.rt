@@ -12,7 +12,8 @@ pub trait Checkpoint: Store {
     /// Copies the log into the file, so that the file alone holds what is committed. What a crash leaves stays as it was,
     /// also where this fails.
     fn checkpoint(&mut self) -> Result<(), StoreError>
-        ensures quiet { IsQuiet Self.Store.view Self.Store.faults Self.Store.recovers Self.Store.is_shielded self.old self.new };
+        ensures quiet { IsQuiet Self.Store.view Self.Store.faults Self.Store.recovers
+            Self.Store.is_shielded self.old self.new };
 }
 
 impl<D: Disk> Checkpoint for FileStore<D> {

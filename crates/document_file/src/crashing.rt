@@ -16,7 +16,8 @@ fn put_all<D: DocumentStore>(store: &mut D, rows: &[RowRef<'_>]) -> Result<(), S
     ensures kept { OnOk result ((before found : List Row) → Ascend before → D.holds store.old before
         → D.recovers store.new found → found ≡ all_put rows.now before) }
     ensures crash { (before found : List Row) → Ascend before → D.holds store.old before
-        → D.recovers store.new found → D.recovers store.old found ⊎ (found ≡ all_put rows.now before) }
+        → D.recovers store.new found
+        → D.recovers store.old found ⊎ (found ≡ all_put rows.now before) }
 {
     for row in rows {
         store.put(*row)?;

@@ -127,8 +127,8 @@ impl<S: Checkpoint> DocumentStore for DocumentFile<S> {
 impl<S: Reopen + Drop> DocumentFile<S> {
     /// What an opening finds after a crash at this moment.
     pub fn reopened(self) -> Result<DocumentFile<S>, StoreFault>
-        ensures found { IfOk result (λ new. (rows : List StoredRow) → IsClean (S.Store.view new.store)
-            → HoldsRows (S.Store.view new.store) rows
+        ensures found { IfOk result (λ new. (rows : List StoredRow)
+            → IsClean (S.Store.view new.store) → HoldsRows (S.Store.view new.store) rows
             → MayFind (S.Store.view self.store) (S.Store.recovers self.store) rows) }
     {
         let DocumentFile {

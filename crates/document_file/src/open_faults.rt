@@ -1,7 +1,11 @@
 //! Why no file of documents is opened.
 
+ghost use Rattle.std.specs.Prelude.{Some};
+ghost use Rattle.document_file.specs.OpenFaults.{printed_text};
+
 use std::error::Error;
 use std::fmt;
+use stored_rows::StoreFault;
 
 /// Why no file of documents is opened. What stood in the file stands there still.
 #[derive(Clone, Copy, Debug, Drop, PartialEq)]
@@ -28,18 +32,22 @@ pub enum OpenFault {
 }
 
 impl fmt::Display for OpenFault {
+    ghost output = { λ fault. Some (printed_text fault) };
+
     fn fmt<W: fmt::Write>(&self, f: &mut fmt::Formatter<W>) -> fmt::Result {
-        f.write_str(match self {
-            OpenFault::NoRoom => "no room",
-            OpenFault::Full => "the disk is full",
-            OpenFault::Failed => "the disk failed",
-            OpenFault::Unreachable => "the file can't be opened or made",
-            OpenFault::Busy => "another process has the file open",
-            OpenFault::Interrupted => "the file has a rollback journal: open it with sqlite3 first",
-            OpenFault::Damaged => "the file is damaged",
-            OpenFault::Foreign => "the file is no store of documents",
-            OpenFault::Later => "the file is of a later version",
-        })
+        match self {
+            OpenFault::NoRoom => write!(f, "{}", StoreFault::NoRoom),
+            OpenFault::Full => write!(f, "{}", StoreFault::Full),
+            OpenFault::Failed => write!(f, "{}", StoreFault::Failed),
+            OpenFault::Unreachable => f.write_str("the file can't be opened or made"),
+            OpenFault::Busy => f.write_str("another process has the file open"),
+            OpenFault::Interrupted => {
+                f.write_str("the file has a rollback journal: open it with sqlite3 first")
+            }
+            OpenFault::Damaged => write!(f, "{}", StoreFault::Damaged),
+            OpenFault::Foreign => f.write_str("the file is no store of documents"),
+            OpenFault::Later => f.write_str("the file is of a later version"),
+        }
     }
 }
 

@@ -97,7 +97,8 @@ fn opening_fault(error: OpenError, before: Tally, after: Tally) -> OpenFault {
 /// The files of a call that refused them.
 fn files_again<D: Disk + Drop>(left: Unopened<D>) -> Result<Files<D>, OpenFault>
     ensures same { IfOk result (λ files. (files.log, files.db) ≡ files_of left) }
-    ensures usable { IfOk result (λ files. IsTrue (D.is_usable files.log) × IsTrue (D.is_usable files.db)) }
+    ensures usable { IfOk result (λ files. IsTrue (D.is_usable files.log)
+        × IsTrue (D.is_usable files.db)) }
 {
     let files = left.close();
     if files.may_be_used() {
@@ -165,7 +166,8 @@ fn made<D: Disk + Drop>(
     requires db { IsTrue (D.is_usable files.db) }
     ensures ready { IfOk result IsReady }
     ensures empty { IfOk result (λ store. IsClean (view store) → (view store).trees 0 ≡ []) }
-    ensures honest { IfOk result (λ store. IsClean (view store) → AreClean D.Disk files.log files.db) }
+    ensures honest { IfOk result (λ store. IsClean (view store)
+        → AreClean D.Disk files.log files.db) }
 {
     let before = files.tally();
     match unopened(alloc, files, size, seed)?.create() {
@@ -191,7 +193,8 @@ fn found_or_made<D: Disk + Drop>(
     ensures found { IfOk result (λ store. IsClean (view store)
         → AreFoundAt (bytes_of size) (seen_image D.Disk files.log files.db)
         ((view store).trees 0)) }
-    ensures honest { IfOk result (λ store. IsClean (view store) → AreClean D.Disk files.log files.db) }
+    ensures honest { IfOk result (λ store. IsClean (view store)
+        → AreClean D.Disk files.log files.db) }
 {
     let before = files.tally();
     match unopened(alloc, files, size, seed)?.open() {
@@ -211,7 +214,8 @@ fn set_version<S: Alter + Drop>(store: &mut S) -> Result<(), StoreError>
         → (S.Store.view store.new).is_open ≡ (S.Store.view store.old).is_open) }
     ensures settled { OnOk result (IsClean (S.Store.view store.new)
         → (S.Store.view store.new).trees ≡ (S.Store.view store.new).committed) }
-    ensures clean { doubt (S.Store.view store.old).is_clean ≤ doubt (S.Store.view store.new).is_clean }
+    ensures clean { doubt (S.Store.view store.old).is_clean
+        ≤ doubt (S.Store.view store.new).is_clean }
 {
     store.set_version(VERSION)?;
     store.commit()

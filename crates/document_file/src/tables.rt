@@ -81,7 +81,8 @@ pub(crate) fn delete_row<S: Store>(
     uri: &str,
 ) -> Result<(), StoreError>
     ensures ok { OnOk result (IsClean (S.view store.new)
-        → (S.view store.new).trees 0 ≡ without_key (key_of tenant.now uri.now) ((S.view store.old).trees 0)) }
+        → (S.view store.new).trees 0
+        ≡ without_key (key_of tenant.now uri.now) ((S.view store.old).trees 0)) }
     ensures quiet { IsQuiet S.view S.faults S.recovers S.is_shielded store.old store.new }
 {
     if !has_table(store) {

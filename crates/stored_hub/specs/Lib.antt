@@ -3,3 +3,4 @@ pub mod RefusedOpenings
 pub mod Storing
 pub mod DigestedKeys
 pub mod Opening
+pub mod RefusalTexts

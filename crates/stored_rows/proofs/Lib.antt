@@ -4,6 +4,5 @@ pub mod KeyedRegistries
 pub mod ChangedRows
 pub mod AnsweredRows
 pub mod RestoredRows
-pub mod BaseForms
 pub mod PutBackDocuments
 pub mod RowsPutBack

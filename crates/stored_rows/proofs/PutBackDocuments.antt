@@ -1,17 +1,15 @@
 -- A document that is put back into its registry, of which some documents are left out.
-use Rattle.std.proofs.Common.{◌≡◌, ◌⊎◌, ◌++◌, ◌||◌, ◌≤◌, ℕ, Bool, true, false, not, List, [], ◌∷◌, Contains, filter, Option, None, is_some, length, nat_lt, option_map, sum_by, Less, Equal, sym, refl, ap, ◌∙◌, subst, inl, inr, true≢false, arith}
+use Rattle.std.proofs.Common.{◌≡◌, ◌⊎◌, ◌||◌, ◌≤◌, Bool, true, false, not, List, [], ◌∷◌, Contains, filter, None, is_some, length, nat_lt, Less, Equal, sym, refl, ap, ◌∙◌, subst, inl, inr, true≢false, arith}
 use Rattle.std.proofs.lemmas.Bool.{and_from, and_parts, false_from_ne_true, le-ltb, ltb-false, not-true}
 use Rattle.std.proofs.lemmas.Cmp.{nat_list_cmp_total}
 use Rattle.std.proofs.lemmas.List.Filters.{sum_by-filter_both}
 use Rattle.std.specs.Cmp.Lexicographic.{bytes_decides, slice_cmp}
 use Rattle.std.specs.List.{list_any}
 use Rattle.std.specs.Ordering.{nat_cmp}
-use Rattle.definitions.specs.Documents.{bytes_of, document_of, documents_of_both, documents_with, others_of, resources_of, taken_uri, taken_uris}
+use Rattle.definitions.specs.Documents.{bytes_of, document_of, documents_of_both, documents_with, others_of, resources_of, taken_uri}
 use Rattle.definitions.specs.Documents as documents
-use Rattle.definitions.specs.Faults.{Fault, bad_pattern, library_owned, quota_bytes, quota_documents, taken}
 use Rattle.definitions.specs.Keeping.{IsKept}
 use Rattle.definitions.specs.Limits.{limits}
-use Rattle.definitions.specs.Lists.{first, option_list, when}
 use Rattle.definitions.specs.Reach.{holds_resource, least}
 use Rattle.definitions.specs.Registries.{Registry, decision, documents_seen, is_in_library, put_into, put_refusal, stored}
 use Rattle.definitions.specs.Scanning.{scan_faults}
@@ -28,11 +26,12 @@ use Rattle.definition_laws.proofs.PlacedDocuments.{from_placed, in_placed, key_o
 use Rattle.definition_laws.proofs.Placing.{same_ascending}
 use Rattle.definition_laws.proofs.Repeats.{any_none}
 use Rattle.definition_laws.proofs.Resources as resources
-use Rattle.definition_laws.proofs.Resources.{opened_is_root, same_text-unlike}
+use Rattle.definition_laws.proofs.Resources.{opened_is_root}
+use Rattle.bundle_laws.proofs.Identified.{base_identifier, form_of_identifier}
 use Rattle.bundle_laws.proofs.ReadBack.{text_read_back}
+use Rattle.bundle_laws.proofs.StoredBundles.{no_refusal}
 use Rattle.stored_rows.specs.Restoring.{PutsBack}
 use Rattle.stored_rows.specs.Rows.{Ascend, Row, digest, is_row_at, row_cmp, row_of}
-use Rattle.stored_rows.proofs.BaseForms.{form_stays}
 use Rattle.stored_rows.proofs.ChangedRows.{one_document}
 use Rattle.stored_rows.proofs.RowOrder.{below, rows_tie}
 
@@ -40,9 +39,6 @@ use Rattle.stored_rows.proofs.RowOrder.{below, rows_tie}
 pub none_left : {X : Type 0} (p : X → Bool) (xs : List X) → ((x : X) → Contains xs x → p x ≡ false) → filter p xs ≡ []
 none_left p [] h = refl
 none_left p (x ∷ xs) h = rw (h x (is_first x xs)) (none_left p xs (λ y c. h y (is_later x y xs c)))
-
-fewer : {X : Type 0} (f : X → ℕ) (p : X → Bool) (xs : List X) → sum_by f (filter p xs) ≤ sum_by f xs
-fewer f p xs = omega (arith, sum_by-filter_both p (λ x. not (p x)) (λ x. refl) f xs)
 
 not_either : (a b : Bool) → not (a || b) ≡ true → (a ≡ false) × (b ≡ false)
 not_either true b e = absurd (true≢false (sym e))
@@ -83,10 +79,6 @@ left_documents rs key = filter (keeps rs key)
 
 pub row_there : (key : Text) (d : Document) → is_row_at (digest key) d.canonical (row_of key d) ≡ true
 row_there key d = and_from (same_text (digest key) (digest key)) (same_text d.canonical d.canonical) (same_text_itself (digest key)) (same_text_itself d.canonical)
-
-no_fault : (faults : List Fault) (regular owned : Bool) (uri : Option Text) (many large : Bool) → faults ≡ [] → regular ≡ true → owned ≡ false → uri ≡ None → many ≡ false → large ≡ false
-    → first (faults ++ (when (not regular) bad_pattern ++ (when owned library_owned ++ (option_list (option_map taken uri) ++ (when many quota_documents ++ when large quota_bytes))))) ≡ None
-no_fault faults regular owned uri many large a b c d e f = rw (a, b, c, d, e, f) refl
 
 module _ (search : Search) (G : Registry) (key : Text) (d : Document) (rs : List Row) (kept : IsKept search G) (inside : Contains G.documents d) (up : Ascend (row_of key d ∷ rs)) where
   abbrev before : Registry
@@ -163,12 +155,12 @@ module _ (search : Search) (G : Registry) (key : Text) (d : Document) (rs : List
 
   granted : put_refusal search before d (documents_with d before.documents) ≡ None
   granted =
-      no_fault (scan_faults d.base d.value) (is_regular search d.value) (is_in_library before d.canonical) (taken_uri (documents_seen before) d)
+      no_refusal (scan_faults d.base d.value) (is_regular search d.value) (is_in_library before d.canonical) (taken_uri (documents_seen before) d)
       (nat_lt G.most_documents (length (documents_with d before.documents))) (nat_lt G.most_bytes (bytes_of (documents_with d before.documents)))
       faultless (kept.seen.regular_patterns d seen) (kept.apart d inside) free
       (ap (λ ds. nat_lt G.most_documents (length ds)) placed ∙ le-ltb G.most_documents (length after.documents) (omega (arith, kept.few, filter_short (keeps rs key) G.documents)))
       (ap (λ ds. nat_lt G.most_bytes (bytes_of ds)) placed
-      ∙ le-ltb G.most_bytes (bytes_of after.documents) (omega (arith, kept.small, fewer (λ (e : Document). length (text e.value)) (keeps rs key) G.documents)))
+      ∙ le-ltb G.most_bytes (bytes_of after.documents) (omega (arith, kept.small, sum_by-filter_both (keeps rs key) (λ x. not (keeps rs key x)) (λ x. refl) (λ (e : Document). length (text e.value)) G.documents)))
 
   absent : is_some (document_of before.documents d.canonical) ≡ false
   absent = ap is_some (found_none (λ (x : Document). same_text d.canonical x.canonical) before.documents (λ e c.
@@ -191,7 +183,7 @@ module _ (search : Search) (G : Registry) (key : Text) (d : Document) (rs : List
       record {
         base = d.base;
         value = d.value;
-        has_base = form_stays d.base form;
+        has_base = form_of_identifier d.base (base_identifier d.base form);
         has_value = text_read_back d.value value.well_formed shallow;
         puts = subst (λ x. put_into search before x ≡ (stored d.canonical false, after)) named put_is;
         has_row = ap (row_of key) (sym named);

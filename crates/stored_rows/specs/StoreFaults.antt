@@ -6,6 +6,6 @@ use Rattle.stored_rows.specs.declared.store_faults.StoreFault.TheVariants.{NoRoo
 
 abbrev pub printed_text : StoreFault → Text
 printed_text NoRoom = codes "no room"
-printed_text Full = codes "the store is full"
+printed_text Full = codes "the disk is full"
 printed_text Failed = codes "the disk failed"
-printed_text Damaged = codes "the store is damaged"
+printed_text Damaged = codes "the file is damaged"

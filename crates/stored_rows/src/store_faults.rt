@@ -25,9 +25,9 @@ impl fmt::Display for StoreFault {
     fn fmt<W: fmt::Write>(&self, f: &mut fmt::Formatter<W>) -> fmt::Result {
         f.write_str(match self {
             StoreFault::NoRoom => "no room",
-            StoreFault::Full => "the store is full",
+            StoreFault::Full => "the disk is full",
             StoreFault::Failed => "the disk failed",
-            StoreFault::Damaged => "the store is damaged",
+            StoreFault::Damaged => "the file is damaged",
         })
     }
 }

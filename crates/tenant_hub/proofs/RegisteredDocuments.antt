@@ -1,26 +1,24 @@
 -- The documents of a registry are such as a registry gets them, from request to request.
-use Rattle.std.proofs.Common.{◌≡◌, ◌==◌, ◌&&◌, ◌||◌, codes, List, [], ◌∷◌, Bool, true, false, not, cond, Result, Ok, Err, is_some, is_none, Contains, refl, sym, ap, subst, ◌∙◌, inl, inr}
+use Rattle.std.proofs.Common.{◌≡◌, ◌&&◌, List, [], ◌∷◌, Bool, true, Ok, Contains, refl, sym, ap, subst, ◌∙◌, inl, inr}
 use Rattle.std.proofs.lemmas.Bool.{and_parts, and_from}
-use Rattle.std.specs.List.{list_all, list_any, slice_split}
+use Rattle.std.specs.List.{list_all}
 use Rattle.std.specs.Str.{is_utf8}
 use Rattle.definitions.specs.Batches.{library_of}
 use Rattle.definitions.specs.Documents.{Ascend, documents_with}
-use Rattle.definitions.specs.Faults.{Fault, bad_uri}
 use Rattle.definitions.specs.Keeping.{AreKept, IsKept}
 use Rattle.definitions.specs.Limits.{limits}
 use Rattle.definitions.specs.Patterns.{regular_search}
 use Rattle.definitions.specs.Registries.{Registry, documents_seen, put_refusal, Request, Reply}
-use Rattle.definitions.specs.Resolution.{base_form, resolve}
+use Rattle.definitions.specs.Resolution.{base_form}
 use Rattle.definitions.specs.Runs.{IsAnswer}
 use Rattle.definitions.specs.Schemas.{Document, document_from}
 use Rattle.definitions.specs.Searches.{Search}
 use Rattle.definitions.specs.Steps.{step}
 use Rattle.definitions.specs.Tenants.{Tenant, empty_registry}
-use Rattle.definitions.specs.Uris.{Parts, split, recompose, is_identifier, is_dot_segment, begins}
+use Rattle.definitions.specs.Uris.{split, is_identifier}
 use Rattle.definitions.specs.Values.{Text, Value, is_well_formed}
 use Rattle.definition_laws.specs.Keeping.{IsBodyValue, HaveBodyValues, IsBaseForm, HaveBaseForms}
 use Rattle.definition_laws.specs.Reading.{has_arrays_within}
-use Rattle.lemmas.proofs.Options.{none_from_is_none, some_from_is_some}
 use Rattle.definition_laws.proofs.AcceptedDocuments.{accepted}
 use Rattle.definition_laws.proofs.JoinedDocuments.{joined_alone}
 use Rattle.definition_laws.proofs.KeptRegistries.{values_kept, bases_kept, library_kept}
@@ -33,43 +31,10 @@ use Rattle.definition_laws.proofs.Steps.{for_base_keeps, for_value_keeps, decide
 use Rattle.bundle_laws.specs.Registered.{AreRegistered, HaveBaseTexts, PutsText}
 use Rattle.bundle_laws.proofs.BaseTexts.{steps_keep_base_texts, libraries_have_base_texts}
 use Rattle.bundle_laws.proofs.CanonicalTexts.{base_form_text}
-use Rattle.bundle_laws.proofs.Identified.{base_identifier}
-use Rattle.uri_ref.proofs.Identifiers.{stays}
-use Rattle.uri_ref.proofs.Recomposed.{recomposes}
+use Rattle.bundle_laws.proofs.Identified.{base_identifier, form_of_identifier}
 use Rattle.tenant_hub.specs.PutBack.{restored_value, IsPutBack}
 use Rattle.tenant_hub.specs.RegisteredDocuments.{is_registered}
 use Rattle.tenant_hub.proofs.PutBack.{was_read}
-
--- ---- base forms are the identifiers
-record IsWhole (p : Parts) : Type 0 where
-  no_fragment : is_some p.fragment ≡ false
-  scheme : is_none p.scheme ≡ false
-
-whole_of : (p : Parts) → is_identifier p ≡ true → IsWhole p
-whole_of p h =
-    let dots = list_any is_dot_segment (slice_split (λ c. c == 47) p.path) in
-    let whole = and_parts (is_some p.scheme && is_none p.fragment && not dots) (is_some p.authority || not (begins p.path (codes "//"))) h in
-    let front = and_parts (is_some p.scheme && is_none p.fragment) (not dots) whole.0 in
-    let both = and_parts (is_some p.scheme) (is_none p.fragment) front.0 in
-    record { no_fragment = ap is_some (none_from_is_none p.fragment both.1); scheme = ap is_none (some_from_is_some p.scheme both.0).1 }
-
-form_from : (a b c : Bool) (t : Text) → a ≡ false → b ≡ false → c ≡ true
-    → cond {A = Result Text Fault} (a || b) (Err bad_uri) (cond {A = Result Text Fault} c (Ok t) (Err bad_uri)) ≡ Ok t
-form_from false false true t e h k = refl
-form_from true b c t e h k = cc
-form_from false true c t e h k = cc
-form_from false false false t e h k = cc
-
-form_of_identifier : (base : Text) → is_identifier (split base) ≡ true → IsBaseForm base
-form_of_identifier base h =
-    let p = split base in
-    let whole = whole_of p h in
-    let same : resolve p p ≡ p = stays p h p in
-    record {
-      uri = base;
-      is = form_from (is_some p.fragment) (is_none p.scheme) (is_identifier (resolve p p)) (recompose (resolve p p)) whole.no_fragment whole.scheme (ap is_identifier same ∙ h)
-          ∙ ap (λ q. Ok (recompose q)) same ∙ ap Ok (recomposes base);
-    }
 
 -- ---- the test of a document
 registered : (d : Document) → IsBodyValue d.value → IsBaseForm d.base → is_utf8 d.base ≡ true → is_registered d ≡ true
@@ -90,7 +55,7 @@ from_test d e =
     let parts = and_parts (is_well_formed d.value && has_arrays_within limits.body_bytes d.value) (is_identifier (split d.base) && is_utf8 d.base) e in
     let values = and_parts (is_well_formed d.value) (has_arrays_within limits.body_bytes d.value) parts.0 in
     let bases = and_parts (is_identifier (split d.base)) (is_utf8 d.base) parts.1 in
-    record { value = record { well_formed = values.0; short_arrays = values.1 }; form = form_of_identifier d.base bases.0; text = bases.1 }
+    record { value = record { well_formed = values.0; short_arrays = values.1 }; form = record { uri = d.base; is = form_of_identifier d.base bases.0 }; text = bases.1 }
 
 -- ---- of several
 all_registered : (ds : List Document) → HaveBodyValues ds → HaveBaseForms ds → HaveBaseTexts ds → list_all is_registered ds ≡ true

@@ -1,5 +1,5 @@
 -- One connection to a new server.
-use Rattle.std.specs.Prelude.{◌≡◌, ◌≢◌, ℕ, List, [], ◌∷◌, ◌++◌, None, Result, Ok, Err}
+use Rattle.std.specs.Prelude.{◌≡◌, ◌≢◌, ℕ, List, [], ◌∷◌, ◌++◌, None, Result, Ok, Err, ⊤}
 use Rattle.definitions.specs.Faults as meaning
 use Rattle.definitions.specs.Services.{KeyedRegistry}
 use Rattle.definitions.specs.Values.{Text}
@@ -11,6 +11,7 @@ use Rattle.serving.specs.Transfers.{Transfer, transferred_bytes}
 use Rattle.serving.specs.Exchanges.{wire}
 use Rattle.serving.specs.Serving.{as_failure, IsServed, IsBounded}
 use Rattle.serving.specs.declared.failure.Failure.{Failure}
+use Rattle.serving.specs.declared.failure.Failure.TheVariants as failure
 use Rattle.serving.specs.Talks.{Talk}
 use Rattle.http_front.specs.Calls.{call_answers}
 use Rattle.http_front.specs.Isolation.{AreIsolated, AreServedAlone}
@@ -48,7 +49,14 @@ pub record IsTalkKeptAlone (before : List KeyedRegistry) (talk : Talk) (found : 
   pub unwritten : Text
   pub told : sent_to 0 events ≡ transferred_bytes talk.wrote ++ unwritten
 
--- .. by registries of which an opening finds these at the end
+-- what holds unless settling failed
+abbrev pub OnSettled : Result (Unit {0}) Failure → Type 0 → Type 0
+OnSettled (Ok u) P = P
+OnSettled (Err (failure.Fault f)) P = P
+OnSettled (Err (failure.Unsettled why)) P = ⊤
+
+-- .. by registries of which an opening finds these at the end: those at the end alone, unless settling failed
 pub record IsHubKept (before : List KeyedRegistry) (finds : List KeyedRegistry → Type 0) (reads writes : List Transfer) (result : Result (Unit {0}) Failure) (more others : List Transfer) : Type 0 where
   pub served : IsHubServed before reads writes result more others
   pub kept : (found : List KeyedRegistry) → finds found → IsTalkKeptAlone before served.talk found
+  pub durable : OnSettled result ((found : List KeyedRegistry) → finds found → found ≡ served.after)

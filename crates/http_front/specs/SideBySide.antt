@@ -1,10 +1,11 @@
 -- Connections that a hub serves side by side.
-use Rattle.std.specs.Prelude.{◌≡◌, ℕ, List, ◌++◌}
+use Rattle.std.specs.Prelude.{◌≡◌, ℕ, List, ◌++◌, Result, OnOk}
 use Rattle.definitions.specs.Services.{KeyedRegistry}
 use Rattle.definitions.specs.Values.{Text}
 use Rattle.http_definitions.specs.Connections.{Answers}
 use Rattle.connections.specs.Events.{Event, Standing, Answered, Happen, none_is_open, stream_of, sent_to}
 use Rattle.connections.specs.Found.{FindsOnly}
+use Rattle.connections.specs.declared.outage.Outage.{Outage}
 use Rattle.network.specs.Traffic.{Moved, bytes_of}
 use Rattle.serving_many.specs.Kept.{IsKept}
 use Rattle.http_front.specs.Isolation.{AreIsolated}
@@ -53,7 +54,8 @@ pub record IsKeptAlone (before : List KeyedRegistry) (events : List Event) (wrot
   pub isolated : AreIsolated before kept now found answered
   pub told : (k : ℕ) → (unsent : Text) × (sent_to k kept ≡ bytes_of k wrote ++ unsent)
 
--- .. by registries of which an opening finds these at the end
-pub record AreKeptSideBySide (before : List KeyedRegistry) (finds : List KeyedRegistry → Type 0) (reads writes more others : List Moved) : Type 0 where
+-- .. by registries of which an opening finds these at the end: those at the end alone, where it has no error
+pub record AreKeptSideBySide (before : List KeyedRegistry) (finds : List KeyedRegistry → Type 0) (reads writes : List Moved) (result : Result (Unit {0}) Outage) (more others : List Moved) : Type 0 where
   pub served : AreServedSideBySide before reads writes more others
   pub kept : (found : List KeyedRegistry) → finds found → IsKeptAlone before served.events served.wrote found
+  pub durable : OnOk result ((found : List KeyedRegistry) → finds found → found ≡ served.after)

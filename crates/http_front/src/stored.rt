@@ -28,7 +28,8 @@ impl<D: DocumentStore> HasHub for StoredHub<D> {
 /// is, and gives them back. Each tenant is served as if it were alone.
 ///
 /// Where an opening would have found these registries before, it finds after a crash at any moment those behind a first part
-/// of what happened, and all that was written on a connection is a first part of what that part sends.
+/// of what happened, and all that was written on a connection is a first part of what that part sends. At an end without an
+/// error it finds those that were served last.
 pub fn serve_stored_side_by_side<D: DocumentStore, N: Network, O: Observer, J: Journal>(
     alloc: Global,
     hub: StoredHub<D>,
@@ -40,7 +41,8 @@ pub fn serve_stored_side_by_side<D: DocumentStore, N: Network, O: Observer, J: J
     ensures kept { FindsThese D.recovers hub.store (hub_view hub.hub)
         → AreKeptSideBySide (hub_view hub.hub)
         (Finds D.recovers result.0.store (hub_view result.0.hub))
-        (N.reads network.old) (N.writes network.old) (N.reads network.new) (N.writes network.new) }
+        (N.reads network.old) (N.writes network.old) result.1
+        (N.reads network.new) (N.writes network.new) }
     ensures durable { OnOk result.1
         (FindsThese D.recovers result.0.store (hub_view result.0.hub)) }
 {
@@ -51,7 +53,8 @@ pub fn serve_stored_side_by_side<D: DocumentStore, N: Network, O: Observer, J: J
 /// gives them back.
 ///
 /// Where an opening would have found these registries before, it finds after a crash at any moment those behind a first part
-/// of the connection's stream, and all that was written is a first part of what that part is sent.
+/// of the connection's stream, and all that was written is a first part of what that part is sent. At the end it finds those
+/// that answered last, unless settling failed.
 pub fn serve_stored_connection<D: DocumentStore, R: ByteReader, W: ByteWriter>(
     alloc: Global,
     hub: StoredHub<D>,

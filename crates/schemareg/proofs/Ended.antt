@@ -6,7 +6,7 @@ use Rattle.clap.specs.declared.error.Error.{Error}
 use Rattle.clap.specs.declared.error.kind.ErrorKind.TheVariants.{OutOfMemory}
 use Rattle.definitions.specs.Values.{Text}
 use Rattle.faults.specs.declared.Fault.TheVariants.{NoRoom}
-use Rattle.command_line.specs.Calls.{Asked}
+use Rattle.command_line.specs.Calls.{Asked, Start}
 use Rattle.command_line.specs.Calls as call
 use Rattle.http_front.specs.Running.{IsRun}
 use Rattle.http_front.proofs.Refused.{refused_run}
@@ -15,7 +15,7 @@ use Rattle.serving.specs.Writing.{WritesSome}
 use Rattle.schemareg.specs.declared.stop.Stop.{Stop}
 use Rattle.schemareg.specs.declared.stop.Stop.TheVariants.{Words, NotText, CannotRead, Refused, CannotWrite, CannotListen, CannotAccept, CannotLog, Told, TooManyConnections, Store}
 use Rattle.schemareg.specs.Answers.{Check, EndsBy, EndsWith, OnCheck, check_of_input, check_of_texts, report_line}
-use Rattle.schemareg.specs.Services.{EndsRun, InMemory, OnRun, OnServer, RunsWith, Server}
+use Rattle.schemareg.specs.Services.{EndsRun, OnRun, OnServer, OnStart, OnStore, RunsWith, Server}
 use Rattle.schemareg.specs.Stops.{IsUnreadAmong, is_error, stop_by, stop_of}
 use Rattle.schemareg.proofs.Judged.{all_known, every_server, on_servers}
 
@@ -83,6 +83,10 @@ unbegun_run names Told h reads writes server = absurd h
 unbegun_run names (Store s) h reads writes server = absurd h
 
 -- memory ran out while the words were read
+pub unspelled : (e : Error) (result : Result ℕ Stop) → kind_of e ≡ OutOfMemory → IsErrAnd result (λ stop. stop ≡ stop_of e) → result ≡ Err (Refused NoRoom)
+unspelled e (Ok status) k h = absurd h
+unspelled e (Err stop) k h = ap Err (h ∙ ap (λ kind. stop_by kind e) k)
+
 pub unspelled_run : (e : Error) (result : Result ℕ Stop) → kind_of e ≡ OutOfMemory → IsErrAnd result (λ stop. stop ≡ stop_of e)
     → (reads writes : List Transfer) (server : Server) → EndsRun server reads writes result reads writes
 unspelled_run e (Ok status) k h reads writes server = absurd h
@@ -111,31 +115,43 @@ run_stopped server reads writes more others final (TooManyConnections most) stat
 run_stopped server reads writes more others final Told status told h = absurd h
 run_stopped server reads writes more others final (Store s) status told h = absurd h
 
--- what follows for each server follows for the one that is asked for
-pub on_runs : (files : Text → Option Text) (asked : Asked) (P Q : Server → Type 0) → ((s : Server) → P s → Q s) → OnRun files asked P → OnRun files asked Q
-on_runs files call.input P Q f h = tt
-on_runs files (call.check uri schema instance) P Q f h = tt
-on_runs files (call.check_many checks) P Q f h = tt
-on_runs files (call.bundle bundling) P Q f h = tt
-on_runs files (call.scan scanning) P Q f h = tt
-on_runs files (call.run start) P Q f h = by start.store h
+-- what follows for each server follows for the one of a call, in memory and over a store
+on_starts : (files : Text → Option Text) (start : Start) (P Q : Server → Type 0) (R S : Text → Server → Type 0) → ((s : Server) → P s → Q s)
+    → ((path : Text) (s : Server) → R path s → S path s) → OnStart files start P R → OnStart files start Q S
+on_starts files start P Q R S f g h = by start.store h
   where
-    by : (store : Option Text) → InMemory store (OnServer files start P) → InMemory store (OnServer files start Q)
+    by : (store : Option Text) → OnStore store (OnServer files start P) (λ path. OnServer files start (λ server. R path server))
+        → OnStore store (OnServer files start Q) (λ path. OnServer files start (λ server. S path server))
     by None p = on_servers files start P Q f p
-    by (Some path) p = tt
-on_runs files (call.serve start listen accept) P Q f h = tt
-on_runs files (call.serve_many start listen limits logging) P Q f h = tt
+    by (Some path) p = on_servers files start (λ server. R path server) (λ server. S path server) (g path) p
 
-pub every_run : (files : Text → Option Text) (asked : Asked) (P : Server → Type 0) → ((s : Server) → P s) → OnRun files asked P
-every_run files call.input P f = tt
-every_run files (call.check uri schema instance) P f = tt
-every_run files (call.check_many checks) P f = tt
-every_run files (call.bundle bundling) P f = tt
-every_run files (call.scan scanning) P f = tt
-every_run files (call.run start) P f = by start.store
+pub on_runs : (files : Text → Option Text) (asked : Asked) (P Q : Server → Type 0) (R S : Text → Server → Type 0) → ((s : Server) → P s → Q s)
+    → ((path : Text) (s : Server) → R path s → S path s) → OnRun files asked P R → OnRun files asked Q S
+on_runs files call.input P Q R S f g h = tt
+on_runs files (call.check uri schema instance) P Q R S f g h = tt
+on_runs files (call.check_many checks) P Q R S f g h = tt
+on_runs files (call.bundle bundling) P Q R S f g h = tt
+on_runs files (call.scan scanning) P Q R S f g h = tt
+on_runs files (call.run start) P Q R S f g h = on_starts files start P Q R S f g h
+on_runs files (call.serve start listen accept) P Q R S f g h = tt
+on_runs files (call.serve_many start listen limits logging) P Q R S f g h = tt
+
+-- what holds of each holds of that one
+pub every_start : (files : Text → Option Text) (start : Start) (P : Server → Type 0) (R : Text → Server → Type 0) → ((s : Server) → P s)
+    → ((path : Text) (s : Server) → R path s) → OnStart files start P R
+every_start files start P R f g = by start.store
   where
-    by : (store : Option Text) → InMemory store (OnServer files start P)
+    by : (store : Option Text) → OnStore store (OnServer files start P) (λ path. OnServer files start (λ server. R path server))
     by None = every_server files start P f
-    by (Some path) = tt
-every_run files (call.serve start listen accept) P f = tt
-every_run files (call.serve_many start listen limits logging) P f = tt
+    by (Some path) = every_server files start (λ server. R path server) (g path)
+
+pub every_run : (files : Text → Option Text) (asked : Asked) (P : Server → Type 0) (R : Text → Server → Type 0) → ((s : Server) → P s)
+    → ((path : Text) (s : Server) → R path s) → OnRun files asked P R
+every_run files call.input P R f g = tt
+every_run files (call.check uri schema instance) P R f g = tt
+every_run files (call.check_many checks) P R f g = tt
+every_run files (call.bundle bundling) P R f g = tt
+every_run files (call.scan scanning) P R f g = tt
+every_run files (call.run start) P R f g = every_start files start P R f g
+every_run files (call.serve start listen accept) P R f g = tt
+every_run files (call.serve_many start listen limits logging) P R f g = tt

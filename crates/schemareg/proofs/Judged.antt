@@ -19,7 +19,7 @@ use Rattle.http_front.proofs.Refused.{is_no_room}
 use Rattle.schemareg.specs.declared.service.Sources.{Sources}
 use Rattle.schemareg.specs.declared.stop.Stop.{Stop}
 use Rattle.schemareg.specs.declared.stop.Stop.TheVariants.{Words, NotText, CannotRead, Refused, CannotWrite, CannotListen, CannotAccept, CannotLog, Told, TooManyConnections, Store}
-use Rattle.schemareg.specs.Services.{HoldsLibrary, HoldsSources, IsJudged, OnLibrary, OnLibraryIn, OnServer, OnServerIn, Server}
+use Rattle.schemareg.specs.Services.{HoldsLibrary, HoldsSources, IsRefusedStart, OnLibrary, OnLibraryIn, OnServer, OnServerIn, Server}
 use Rattle.schemareg.specs.Stops.{IsUnreadAmong}
 
 at_text : (P : Text → Type 0) (read : Text) (known : Option Text) → IfSome known (λ text. read ≡ text) → P read → IfSome known P
@@ -80,76 +80,48 @@ libraries : (files : Text → Option Text) (path : Option Text) (P : Result (Lis
 libraries files None P f = f _
 libraries files (Some path) P f = known (λ batch. OnLibraryOf batch P) (files path) (λ batch. inl (f (library_of regular_search batch)))
 
-unread_judged : (T : Type 0) (names : List Text) (stop : Stop) → IsUnreadAmong names stop → (server : Server) → IsJudged {T = T} server (Err stop)
-unread_judged T names stop h (Ok registries) = tt
-unread_judged T names (CannotRead name) h (Err g) = tt
-unread_judged T names (Refused f) h (Err g) = λ other. absurd (other h)
-unread_judged T names (Words e) h (Err g) = absurd h
-unread_judged T names NotText h (Err g) = absurd h
-unread_judged T names CannotWrite h (Err g) = absurd h
-unread_judged T names (CannotListen a) h (Err g) = absurd h
-unread_judged T names CannotAccept h (Err g) = absurd h
-unread_judged T names (CannotLog path) h (Err g) = absurd h
-unread_judged T names (TooManyConnections most) h (Err g) = absurd h
-unread_judged T names Told h (Err g) = absurd h
-unread_judged T names (Store s) h (Err g) = absurd h
-
 -- what holds of each server holds of the one that files give
 pub every_server : (files : Text → Option Text) (start : Start) (P : Server → Type 0) → ((server : Server) → P server) → OnServer files start P
 every_server files start P f =
     known (λ tenants. OnLibrary files start.library (λ library. P (server_of tenants start.cache library))) (files start.tenants)
     (λ tenants. libraries files start.library (λ library. P (server_of tenants start.cache library)) (λ library. f (server_of tenants start.cache library)))
 
+-- ---- a start that is refused
 -- where a file could not be read
-pub unread_on_server : (T : Type 0) (files : Text → Option Text) (start : Start) (names : List Text) (stop : Stop) → IsUnreadAmong names stop
-    → OnServer files start (λ server. IsJudged {T = T} server (Err stop))
-unread_on_server T files start names stop h =
-    every_server files start (λ server. IsJudged {T = T} server (Err stop)) (unread_judged T names stop h)
+pub unread_start : (names : List Text) (server : Server) (stop : Stop) → IsUnreadAmong names stop → IsRefusedStart server stop
+unread_start names server (Words e) h = absurd h
+unread_start names server NotText h = absurd h
+unread_start names server (CannotRead name) h = tt
+unread_start names (Ok ks) (Refused f) h = h
+unread_start names (Err g) (Refused f) h = λ other. absurd (other h)
+unread_start names server CannotWrite h = absurd h
+unread_start names server (CannotListen a) h = absurd h
+unread_start names server CannotAccept h = absurd h
+unread_start names server (CannotLog path) h = absurd h
+unread_start names server Told h = absurd h
+unread_start names server (TooManyConnections most) h = absurd h
+unread_start names server (Store s) h = absurd h
 
--- an error is judged alike, whatever there would have been without it
-pub judged_alike : (T U : Type 0) (stop : Stop) (server : Server) → IsJudged {T = T} server (Err stop) → IsJudged {T = U} server (Err stop)
-judged_alike T U stop (Ok registries) h = tt
-judged_alike T U (CannotRead name) (Err g) h = tt
-judged_alike T U (Refused f) (Err g) h = h
-judged_alike T U (Words e) (Err g) h = absurd h
-judged_alike T U NotText (Err g) h = absurd h
-judged_alike T U CannotWrite (Err g) h = absurd h
-judged_alike T U (CannotListen a) (Err g) h = absurd h
-judged_alike T U CannotAccept (Err g) h = absurd h
-judged_alike T U (CannotLog path) (Err g) h = absurd h
-judged_alike T U (TooManyConnections most) (Err g) h = absurd h
-judged_alike T U Told (Err g) h = absurd h
-judged_alike T U (Store s) (Err g) h = absurd h
+-- where the registries are refused
+refused_alike : (f : Fault) (server : Server) → server ≡ Err (fault_view f) → IsRefusedStart server (Refused f)
+refused_alike f (Ok ks) e = absurd (cc e)
+refused_alike f (Err g) e = λ other. cc e
 
--- registries that stand are not refused
-pub judged_behind : (T U : Type 0) (made : T) (result : Result U Stop) (server : Server) → IsJudged server (Ok made) → IsJudged server result
-judged_behind T U made result (Ok registries) h = tt
-judged_behind T U made result (Err g) h = absurd h
-
-pub judged_made : (T : Type 0) (made : T) (made_of : List KeyedRegistry) (server : Server) → server ≡ Ok made_of → IsJudged {T = T} server (Ok made)
-judged_made T made made_of (Ok registries) h = tt
-judged_made T made made_of (Err g) h = cc h
-
-refused_alike : (T : Type 0) (f : Fault) (server : Server) → server ≡ Err (fault_view f) → IsJudged {T = T} server (Err (Refused f))
-refused_alike T f (Ok registries) h = tt
-refused_alike T f (Err g) h = λ other. cc h
+lacking : (f : Fault) (server : Server) → f ≡ NoRoom → IsRefusedStart server (Refused f)
+lacking f (Ok ks) e = e
+lacking f (Err g) e = λ other. absurd (other e)
 
 any_library : (library : Option (Vec ℕ Global)) (P : Result (List Document) meaning.Fault → Type 0)
     → ((l : Result (List Document) meaning.Fault) → P l) → OnLibraryIn library P
 any_library None P f = f _
 any_library (Some batch) P f = inl (f (library_of regular_search batch.items))
 
-lacking_judged : (T : Type 0) (f : Fault) (server : Server) → f ≡ NoRoom → IsJudged {T = T} server (Err (Refused f))
-lacking_judged T f (Ok registries) e = tt
-lacking_judged T f (Err g) e = λ other. absurd (other e)
-
-pub judged_refused : (T : Type 0) (f : Fault) (sources : Sources) (capacity : ℕ) → (f ≢ NoRoom → OnServerIn sources capacity (λ server. server ≡ Err (fault_view f)))
-    → OnServerIn sources capacity (λ server. IsJudged {T = T} server (Err (Refused f)))
-judged_refused T f sources capacity why = elim (is_no_room f) [
-  | inl e ↦ any_library sources.library (λ l. IsJudged {T = T} (server_of sources.tenants.items capacity l) (Err (Refused f)))
-      (λ l. lacking_judged T f (server_of sources.tenants.items capacity l) e)
-  | inr other ↦ each_server sources capacity (λ server. server ≡ Err (fault_view f)) (λ server. IsJudged {T = T} server (Err (Refused f)))
-      (refused_alike T f) (why other)
+pub refused_start : (f : Fault) (sources : Sources) (capacity : ℕ) → (f ≢ NoRoom → OnServerIn sources capacity (λ server. server ≡ Err (fault_view f)))
+    → OnServerIn sources capacity (λ server. IsRefusedStart server (Refused f))
+refused_start f sources capacity why = elim (is_no_room f) [
+  | inl e ↦ any_library sources.library (λ l. IsRefusedStart (server_of sources.tenants.items capacity l) (Refused f))
+      (λ l. lacking f (server_of sources.tenants.items capacity l) e)
+  | inr other ↦ each_server sources capacity (λ server. server ≡ Err (fault_view f)) (λ server. IsRefusedStart server (Refused f)) (refused_alike f) (why other)
 ]
 
 -- refused over the same texts

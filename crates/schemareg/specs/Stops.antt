@@ -10,15 +10,19 @@ use Rattle.clap.specs.Words.{IsAmong, Kinds, kind_of}
 use Rattle.clap.specs.declared.error.Error.{Error}
 use Rattle.clap.specs.declared.error.kind.ErrorKind.{ErrorKind}
 use Rattle.clap.specs.declared.error.kind.ErrorKind.TheVariants.{DisplayHelp, DisplayVersion, OutOfMemory}
+use Rattle.connections.specs.declared.outage.Outage.{Outage}
+use Rattle.connections.specs.declared.outage.Outage.TheVariants as outage
 use Rattle.serving.specs.Transfers.{Transfer}
 use Rattle.serving.specs.Writing.{Writes, WritesSome}
+use Rattle.schemareg.specs.StoreStops.{store_text}
+use Rattle.schemareg.specs.declared.store_stop.StoreStop.TheVariants.{Unsettled}
 use Rattle.schemareg.specs.declared.stop.Stop.{Stop}
 use Rattle.schemareg.specs.declared.stop.Stop.TheVariants.{Words, NotText, CannotRead, Refused, CannotWrite, CannotListen, CannotAccept, CannotLog, Told, TooManyConnections, Store}
 
 abbrev pub unwritten_text : Text
 unwritten_text = codes "cannot write -" ++ line_feed ∷ []
 
--- what is printed, and none where the text is `clap`'s, or tells of a store
+-- what is printed, and none where the text is `clap`'s
 abbrev pub text_of : Stop → Option Text
 text_of (Words e) = None
 text_of NotText = Some (codes "error: the command line is not UTF-8" ++ line_feed ∷ [])
@@ -31,7 +35,7 @@ text_of (CannotLog path) = Some (codes "cannot write " ++ path.now ++ line_feed 
 text_of Told = Some []
 text_of (TooManyConnections most) =
     Some (codes "refused: --connections is above " ++ decimal most ++ codes ", which the limit of open files allows" ++ line_feed ∷ [])
-text_of (Store s) = None
+text_of (Store s) = Some (store_text s ++ line_feed ∷ [])
 
 -- the words ask for help or for the version
 abbrev pub is_request : ErrorKind → Bool
@@ -55,16 +59,18 @@ stop_by _ e = Words e
 abbrev pub stop_of : Error → Stop
 stop_of e = stop_by (kind_of e) e
 
--- documents aren't kept
-abbrev pub IsOfStore : Stop → Type 0
-IsOfStore (Store s) = ⊤
-IsOfStore _ = ⊥
+-- the log cannot be opened, or no connections can be had at the address, or not so many
+abbrev pub IsUnopened : Text → Stop → Type 0
+IsUnopened address (CannotLog path) = ⊤
+IsUnopened address (CannotListen a) = address ≡ a.now
+IsUnopened address (TooManyConnections most) = ⊤
+IsUnopened address _ = ⊥
 
--- no more connections can be accepted, or documents aren't kept
-abbrev pub IsOutage : Stop → Type 0
-IsOutage CannotAccept = ⊤
-IsOutage (Store s) = ⊤
-IsOutage _ = ⊥
+-- why connections are served no more, over the store in the file at this path, if there is one
+abbrev pub IsStopOf : Option Text → Outage → Stop → Type 0
+IsStopOf path why CannotAccept = (why ≡ outage.Broken) ⊎ (path ≡ None)
+IsStopOf path why (Store (Unsettled p w)) = (why ≡ outage.Unsettled w) × (path ≡ Some p.now)
+IsStopOf path why _ = ⊥
 
 -- what has this name cannot be read, or memory ran out
 abbrev pub IsUnread : Text → Stop → Type 0

@@ -1,4 +1,5 @@
 //! How connections and requests are told and counted.
+ghost use Rattle.std.specs.Prelude.{Some};
 
 use connections::{Exchange, Method};
 use faults::Fault;
@@ -20,6 +21,10 @@ pub struct Counts {
 }
 
 impl fmt::Display for Counts {
+    ghost use Rattle.schemareg.specs.Logs.{counts_text};
+
+    ghost output = { λ counts. Some (counts_text counts) };
+
     fn fmt<W: fmt::Write>(&self, f: &mut fmt::Formatter<W>) -> fmt::Result {
         write!(
             f,
@@ -122,21 +127,38 @@ struct Line<'a> {
 }
 
 impl fmt::Display for Line<'_> {
+    ghost use Rattle.schemareg.specs.Logs.{line_text};
+
+    ghost output = { λ line. Some (line_text line) };
+
     fn fmt<W: fmt::Write>(&self, f: &mut fmt::Formatter<W>) -> fmt::Result {
-        write!(f, "{} ", self.connection)?;
-        match self.place {
-            Some(place) => write!(f, "{}", place.saturating_add(1))?,
-            None => f.write_str("-")?,
-        }
+        let tenant = Tenant(self.place);
+        let method = self.method.name();
         write!(
             f,
-            " {} {} {} {} {}\n",
-            self.method.name(),
-            self.path,
-            self.status,
-            self.bytes,
-            self.microseconds
+            "{} {tenant} {method} {} {} {} {}\n",
+            self.connection, self.path, self.status, self.bytes, self.microseconds
         )
+    }
+}
+
+// The tenant at a place of the tenants' file, if one has the key. Tenants are counted from 1 where they are told.
+#[derive(Clone, Copy)]
+struct Tenant(Option<usize>);
+
+impl fmt::Display for Tenant {
+    ghost use Rattle.schemareg.specs.Logs.{tenant_text};
+
+    ghost output = { λ tenant. Some (tenant_text tenant.0) };
+
+    fn fmt<W: fmt::Write>(&self, f: &mut fmt::Formatter<W>) -> fmt::Result {
+        match self.0 {
+            Some(place) => {
+                let number = place as u128 + 1;
+                write!(f, "{number}")
+            }
+            None => f.write_str("-"),
+        }
     }
 }
 

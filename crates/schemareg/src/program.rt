@@ -1,13 +1,14 @@
 //! The program, by the form of its command line.
-ghost use Rattle.std.specs.Prelude.{◌≡◌, ◌≤◌, ◌⊎◌, None, Some, true, IfOk, map};
+ghost use Rattle.std.specs.Prelude.{◌≡◌, ◌≤◌, ◌⊎◌, None, Ok, Some, true, IfOk, map};
 ghost use Rattle.std.specs.List.{list_any};
 ghost use Rattle.std.specs.Process.{exit_status};
 ghost use Rattle.command_line.specs.Calls.{Asked, Means, call_view, faults_of, setup_view};
 ghost use Rattle.command_line.specs.Forms.{Asks};
 ghost use Rattle.schemareg.specs.Answers.{EndsBy, EndsWith, OnCheck};
-ghost use Rattle.schemareg.specs.Endings.{EndsReading, ReadsInOrder, address_of, files_in, files_of, is_service, names_of};
-ghost use Rattle.schemareg.specs.Services.{EndsRun, InMemory, OnRun, OnServer, RunsWith};
+ghost use Rattle.schemareg.specs.Endings.{EndsReading, EndsService, ReadsInOrder, address_of, files_in, is_service, names_of};
+ghost use Rattle.schemareg.specs.Services.{EndsRun, EndsServing, EndsServingMany, OnRun, OnStart, RunsWith};
 ghost use Rattle.schemareg.specs.Stops.{AreMistakes, IsFoundIn, StopsBy, is_error, status_of};
+ghost use Rattle.schemareg.specs.Stored.{EndsAsked, EndsStoredMany, EndsStoredRun, EndsStoredServing, RunsStoredWith};
 
 use crate::files::{FileSystem, Logs, Texts};
 use crate::forms::Forms;
@@ -67,8 +68,13 @@ where
         → OnCheck (F.text_at files.now) (I.remaining input.old) call
         (λ check. EndsWith check (O.writes out.old) (exit_status result) (O.writes out.new)) }
     ensures ran { (call : Asked) → Means (map S.text words.now) call
-        → OnRun (F.text_at files.now) call (λ server. RunsWith server (I.reads input.old)
+        → OnRun (F.text_at files.now) call
+        (λ server. RunsWith server (I.reads input.old) (O.writes out.old) (exit_status result)
+        (I.reads input.new) (O.writes out.new))
+        (λ path server. RunsStoredWith path F.Store.recovers server (I.reads input.old)
         (O.writes out.old) (exit_status result) (I.reads input.new) (O.writes out.new)) }
+    ensures alone { (call : Asked) → Means (map S.text words.now) call → exit_status result ≡ 0
+        → EndsAsked F.Store.recovers (F.text_at files.now) call (Ok 0) }
     ensures unread { (call : Asked) → Means (map S.text words.now) call
         → list_any (F.is_unreadable files.now) (files_in call) ≡ true → exit_status result ≡ 2 }
     ensures served { (call : Asked) → Means (map S.text words.now) call
@@ -119,8 +125,13 @@ where
         → OnCheck (F.text_at files.now) (I.remaining input.old) call
         (λ check. EndsBy check (O.writes out.old) result (O.writes out.new)) }
     ensures ran { (call : Asked) → Means (map S.text words.now) call
-        → OnRun (F.text_at files.now) call (λ server. EndsRun server (I.reads input.old)
+        → OnRun (F.text_at files.now) call
+        (λ server. EndsRun server (I.reads input.old) (O.writes out.old) result
+        (I.reads input.new) (O.writes out.new))
+        (λ path server. EndsStoredRun path F.Store.recovers server (I.reads input.old)
         (O.writes out.old) result (I.reads input.new) (O.writes out.new)) }
+    ensures alone { (call : Asked) → Means (map S.text words.now) call
+        → EndsAsked F.Store.recovers (F.text_at files.now) call result }
     ensures served { (call : Asked) → Means (map S.text words.now) call
         → is_service call ≡ true → IfOk result (λ status. status ≡ 0) }
     ensures requests { (kind : ErrorKind) → Asks (map S.text words.now) kind
@@ -151,8 +162,12 @@ where
     I: Read + ByteReader,
     ensures ends { OnCheck (F.text_at files.now) (I.remaining input.old) (call_view call.entry)
         (λ check. EndsBy check (O.writes out.old) result (O.writes out.new)) }
-    ensures ran { OnRun (F.text_at files.now) (call_view call.entry) (λ server. EndsRun server
-        (I.reads input.old) (O.writes out.old) result (I.reads input.new) (O.writes out.new)) }
+    ensures ran { OnRun (F.text_at files.now) (call_view call.entry)
+        (λ server. EndsRun server (I.reads input.old) (O.writes out.old) result
+        (I.reads input.new) (O.writes out.new))
+        (λ path server. EndsStoredRun path F.Store.recovers server (I.reads input.old)
+        (O.writes out.old) result (I.reads input.new) (O.writes out.new)) }
+    ensures alone { EndsAsked F.Store.recovers (F.text_at files.now) (call_view call.entry) result }
     ensures order { ReadsInOrder (F.is_unreadable files.now) (files_in (call_view call.entry))
         result }
     ensures reading { EndsReading (names_of (call_view call.entry))
@@ -188,7 +203,6 @@ where
                 listen,
                 limits,
                 logging,
-                store: setup.store,
             };
             serve_side_by_side(alloc, net, files, setup, service, errors)
         }
@@ -203,13 +217,12 @@ fn run_connection<'a, F: Texts + Stores, I: ByteReader, O: ByteWriter>(
     input: &mut I,
     out: &mut O,
 ) -> Result<u8, Stop<'a>>
-    ensures reading { EndsReading (files_of (setup_view setup.entry)) None result }
-    ensures order { ReadsInOrder (F.is_unreadable files.now) (files_of (setup_view setup.entry))
-        result }
-    ensures status { IfOk result (λ status. status ≡ 0) }
-    ensures ran { InMemory (setup_view setup.entry).store
-        (OnServer (F.text_at files.now) (setup_view setup.entry) (λ server. EndsRun server
-        (I.reads input.old) (O.writes out.old) result (I.reads input.new) (O.writes out.new))) }
+    ensures ends { EndsService (F.is_unreadable files.now) (setup_view setup.entry) None result }
+    ensures ran { OnStart (F.text_at files.now) (setup_view setup.entry)
+        (λ server. EndsRun server (I.reads input.old) (O.writes out.old) result
+        (I.reads input.new) (O.writes out.new))
+        (λ path server. EndsStoredRun path F.Store.recovers server (I.reads input.old)
+        (O.writes out.old) result (I.reads input.new) (O.writes out.new)) }
 {
     match setup.store {
         None => service::run(alloc, files, setup, input, out),
@@ -228,11 +241,12 @@ fn serve_in_turn<'a, N, F: Texts + Stores, E: Write>(
 ) -> Result<u8, Stop<'a>>
 where
     N: Net<Listener = TcpListener, Stream = TcpStream> + Clock,
-    ensures reading { EndsReading (files_of (setup_view setup.entry))
+    ensures ends { EndsService (F.is_unreadable files.now) (setup_view setup.entry)
         (Some turns.entry.listen.now) result }
-    ensures order { ReadsInOrder (F.is_unreadable files.now) (files_of (setup_view setup.entry))
-        result }
-    ensures status { IfOk result (λ status. status ≡ 0) }
+    ensures alone { OnStart (F.text_at files.now) (setup_view setup.entry)
+        (λ server. EndsServing turns.entry.listen.now turns.entry.accept server result)
+        (λ path server. EndsStoredServing path F.Store.recovers turns.entry.listen.now
+        turns.entry.accept server result) }
 {
     match setup.store {
         None => service::serve(alloc, net, files, setup, turns, errors),
@@ -251,11 +265,12 @@ fn serve_side_by_side<'a, N, F: Texts + Logs + Stores, E: Write>(
 ) -> Result<u8, Stop<'a>>
 where
     N: Net<Listener = TcpListener, Stream = TcpStream> + Clock,
-    ensures reading { EndsReading (files_of (setup_view setup.entry))
+    ensures ends { EndsService (F.is_unreadable files.now) (setup_view setup.entry)
         (Some service.entry.listen.now) result }
-    ensures order { ReadsInOrder (F.is_unreadable files.now) (files_of (setup_view setup.entry))
-        result }
-    ensures status { IfOk result (λ status. status ≡ 0) }
+    ensures alone { OnStart (F.text_at files.now) (setup_view setup.entry)
+        (λ server. EndsServingMany service.entry.listen.now server result)
+        (λ path server. EndsStoredMany path F.Store.recovers service.entry.listen.now
+        server result) }
 {
     match setup.store {
         None => side_by_side::serve(alloc, net, files, setup, service, errors),

@@ -1,8 +1,9 @@
 //! Registries that serve connections side by side.
-ghost use Rattle.std.specs.Prelude.{List};
-ghost use Rattle.http_front.specs.SideBySide.{AreServedSideBySide};
+ghost use Rattle.std.specs.Prelude.{List, Result};
+ghost use Rattle.connections.specs.declared.outage.Outage.{Outage};
 ghost use Rattle.network.specs.Traffic.{Moved};
-ghost use Rattle.schemareg.specs.Stored.{ServesKept};
+ghost use Rattle.schemareg.specs.Services.{ServesAlone};
+ghost use Rattle.schemareg.specs.Stored.{ServesFound};
 ghost use Rattle.tenant_hub.specs.Hubs.{hub_view};
 
 use connections::Outage;
@@ -13,8 +14,9 @@ use stored_hub::{DocumentStore, StoredHub};
 
 /// Registries that serve connections side by side.
 pub trait Registries: Drop {
-    // From what was read and written before, they serve up to what was read and written then.
-    ghost serves: { Self → List Moved → List Moved → List Moved → List Moved → Type 0 };
+    // From what was read and written before, they serve up to such an end, and up to what was read and written then.
+    ghost serves: { Self → List Moved → List Moved → Result (Unit {0}) Outage
+        → List Moved → List Moved → Type 0 };
 
     /// Serves the connections of a network until they are over. A journal is told of each request.
     fn serve<N: Network, O: Observer, J: Journal>(
@@ -25,13 +27,13 @@ pub trait Registries: Drop {
         observer: &mut O,
         most_memory: usize,
     ) -> Result<(), Outage>
-        ensures { serves self (N.reads network.old) (N.writes network.old)
+        ensures { serves self (N.reads network.old) (N.writes network.old) result
             (N.reads network.new) (N.writes network.new) };
 }
 
+/// Each tenant is served as if it were alone.
 impl Registries for Hub {
-    ghost serves = { λ h reads writes more others.
-        AreServedSideBySide (hub_view h) reads writes more others };
+    ghost serves = { λ h. ServesAlone (hub_view h) };
 
     fn serve<N: Network, O: Observer, J: Journal>(
         self,
@@ -48,9 +50,10 @@ impl Registries for Hub {
     }
 }
 
+/// Each tenant is served as if it were alone. What an opening finds after a crash at any moment is behind a first part of
+/// what happened, which sends all that was written; behind an end without an error it is behind all of it.
 impl<D: DocumentStore + Drop> Registries for StoredHub<D> {
-    ghost serves = { λ h reads writes more others.
-        ServesKept D.recovers h.store (hub_view h.hub) reads writes more others };
+    ghost serves = { λ h. ServesFound D.recovers h.store (hub_view h.hub) };
 
     fn serve<N: Network, O: Observer, J: Journal>(
         self,

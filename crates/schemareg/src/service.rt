@@ -1,12 +1,12 @@
 //! The forms that serve connections: `run` and `serve`.
-ghost use Rattle.std.specs.Prelude.{◌≡◌, ◌≢◌, List, None, Some, Ok, Err, IfOk, IfErr};
+ghost use Rattle.std.specs.Prelude.{◌≡◌, ◌≢◌, List, Option, None, Some, Ok, Err, IfOk, IfErr};
 ghost use Rattle.definitions.specs.Values.{Text};
 ghost use Rattle.faults.specs.View.{fault_view};
 ghost use Rattle.http_front.specs.Running.{IsRun};
 ghost use Rattle.command_line.specs.Calls.{setup_view};
-ghost use Rattle.schemareg.specs.Endings.{EndsReading, ReadsInOrder, files_of, library_name};
-ghost use Rattle.schemareg.specs.Services.{EndsRun, EndsServing, HoldsLibrary, HoldsSources, IsJudged, IsUnstarted, OnServer, OnServerIn, library_path};
-ghost use Rattle.schemareg.specs.Stops.{IsUnreadAmong};
+ghost use Rattle.schemareg.specs.Endings.{EndsListening, EndsReading, EndsService, ReadsInOrder, StopsReading, files_of, library_name};
+ghost use Rattle.schemareg.specs.Services.{EndsRun, EndsServing, HoldsLibrary, HoldsSources, IsRefusedStart, OnServer, OnServerIn, ServeInTurn, path_view};
+ghost use Rattle.schemareg.specs.Stops.{IsUnopened, IsUnreadAmong};
 ghost use Rattle.stored_rows.specs.Restoring.{emptied};
 ghost use Rattle.tenant_hub.specs.Hubs.{hub_view};
 
@@ -39,10 +39,10 @@ fn read_library<'a, F: Texts>(
     path: Option<&'a str>,
 ) -> Result<Option<Vec<u8>>, Stop<'a>>
     ensures ok { IfOk result (λ bytes.
-        HoldsLibrary (F.text_at files.now) (library_path path.entry) bytes) }
-    ensures err { IfErr result (IsUnreadAmong (library_name (library_path path.entry))) }
+        HoldsLibrary (F.text_at files.now) (path_view path.entry) bytes) }
+    ensures err { IfErr result (IsUnreadAmong (library_name (path_view path.entry))) }
     ensures order { ReadsInOrder (F.is_unreadable files.now)
-        (library_name (library_path path.entry)) result }
+        (library_name (path_view path.entry)) result }
 {
     match path {
         None => Ok(None),
@@ -120,10 +120,7 @@ pub fn run<'a, F: Texts, R: ByteReader, W: ByteWriter>(
     reader: &mut R,
     writer: &mut W,
 ) -> Result<u8, Stop<'a>>
-    ensures reading { EndsReading (files_of (setup_view setup.entry)) None result }
-    ensures order { ReadsInOrder (F.is_unreadable files.now) (files_of (setup_view setup.entry))
-        result }
-    ensures status { IfOk result (λ status. status ≡ 0) }
+    ensures ends { EndsService (F.is_unreadable files.now) (setup_view setup.entry) None result }
     ensures ran { OnServer (F.text_at files.now) (setup_view setup.entry)
         (λ server. EndsRun server (R.reads reader.old) (W.writes writer.old) result
         (R.reads reader.new) (W.writes writer.new)) }
@@ -153,8 +150,10 @@ fn start_hub<'a>(alloc: Global, sources: &Sources, capacity: usize) -> Result<Hu
     ensures ok { IfOk result (λ h.
         OnServerIn sources.now capacity (λ server. server ≡ Ok (hub_view h))) }
     ensures empty { IfOk result (λ h. emptied (hub_view h) ≡ hub_view h) }
-    ensures err { (names : List Text) → IfErr result (IsUnstarted names) }
-    ensures judged { OnServerIn sources.now capacity (λ server. IsJudged server result) }
+    ensures err { IfErr result (λ stop.
+        OnServerIn sources.now capacity (λ server. IsRefusedStart server stop)) }
+    ensures reading { (names : List Text) (address : Option Text)
+        → IfErr result (StopsReading names address) }
 {
     new_servers_have_no_documents();
     match hub(alloc, sources, capacity) {
@@ -172,11 +171,12 @@ pub(crate) fn new_hub<'a, F: Texts>(
     ensures ok { IfOk result (λ h. OnServer (F.text_at files.now) (setup_view setup.entry)
         (λ server. server ≡ Ok (hub_view h))) }
     ensures empty { IfOk result (λ h. emptied (hub_view h) ≡ hub_view h) }
-    ensures err { IfErr result (IsUnstarted (files_of (setup_view setup.entry))) }
+    ensures err { IfErr result (λ stop. OnServer (F.text_at files.now) (setup_view setup.entry)
+        (λ server. IsRefusedStart server stop)) }
+    ensures reading { (address : Option Text)
+        → IfErr result (StopsReading (files_of (setup_view setup.entry)) address) }
     ensures order { ReadsInOrder (F.is_unreadable files.now) (files_of (setup_view setup.entry))
         result }
-    ensures judged { OnServer (F.text_at files.now) (setup_view setup.entry)
-        (λ server. IsJudged server result) }
 {
     match read_sources(alloc, files, setup) {
         Ok(sources) => start_hub(alloc, &sources, setup.cache as usize),
@@ -196,7 +196,7 @@ pub(crate) fn listen<'a, N: Net<Listener = TcpListener, Stream = TcpStream>>(
     net: &N,
     address: &'a str,
 ) -> Result<TcpListener, Stop<'a>>
-    ensures err { IfErr result (λ stop. stop ≡ Stop.CannotListen address.entry) }
+    ensures { IfErr result (IsUnopened address.now) }
 {
     match bind(net, address) {
         Ok(listener) => Ok(listener),
@@ -214,9 +214,8 @@ fn serve_at<'a, N, E: Write>(
 ) -> Result<u8, Stop<'a>>
 where
     N: Net<Listener = TcpListener, Stream = TcpStream> + Clock,
-    ensures reading { (names : List Text) → EndsReading names (Some turns.entry.listen.now) result }
-    ensures alone { EndsServing (Ok (hub_view hub)) turns.entry.accept result }
-    ensures status { IfOk result (λ status. status ≡ 0) }
+    ensures { EndsListening turns.entry.listen.now None
+        (ServeInTurn (hub_view hub) turns.entry.accept) result }
 {
     let listener = match listen(net, turns.listen) {
         Ok(listener) => listener,
@@ -234,7 +233,7 @@ where
         errors,
     ) {
         Ok(()) => Ok(0),
-        Err(_) => Err(Stop::CannotAccept),
+        Err(outage) => Err(Stop::of_outage(None, outage)),
     }
 }
 
@@ -250,15 +249,10 @@ pub fn serve<'a, N, F: Texts, E: Write>(
 ) -> Result<u8, Stop<'a>>
 where
     N: Net<Listener = TcpListener, Stream = TcpStream> + Clock,
-    ensures reading { EndsReading (files_of (setup_view setup.entry))
+    ensures ends { EndsService (F.is_unreadable files.now) (setup_view setup.entry)
         (Some turns.entry.listen.now) result }
-    ensures order { ReadsInOrder (F.is_unreadable files.now) (files_of (setup_view setup.entry))
-        result }
-    ensures status { IfOk result (λ status. status ≡ 0) }
-    ensures judged { OnServer (F.text_at files.now) (setup_view setup.entry)
-        (λ server. IsJudged server result) }
     ensures alone { OnServer (F.text_at files.now) (setup_view setup.entry)
-        (λ server. EndsServing server turns.entry.accept result) }
+        (λ server. EndsServing turns.entry.listen.now turns.entry.accept server result) }
 {
     match new_hub(alloc, files, setup) {
         Ok(hub) => serve_at(alloc, net, hub, turns, errors),

@@ -1,17 +1,16 @@
 //! The form that serves connections side by side.
-ghost use Rattle.std.specs.Prelude.{◌≡◌, List, Some, Ok, IfOk, IfErr};
+ghost use Rattle.std.specs.Prelude.{◌≡◌, Some, IfErr, IfOk, is_some};
 ghost use Rattle.definitions.specs.Values.{Text};
 ghost use Rattle.command_line.specs.Calls.{setup_view};
-ghost use Rattle.schemareg.specs.Endings.{EndsReading, ReadsInOrder, files_of};
-ghost use Rattle.schemareg.specs.Stops.{IsOutage};
-ghost use Rattle.schemareg.specs.Services.{EndsServingMany, EndsSideBySide, IsJudged, IsUnopened, OnServer};
+ghost use Rattle.schemareg.specs.Endings.{EndsListening, EndsService};
+ghost use Rattle.schemareg.specs.Services.{AreServedSo, EndsServingMany, OnServer, path_view};
+ghost use Rattle.schemareg.specs.Stops.{IsUnopened};
 
 use crate::files::{Logs, Texts};
 use crate::log::{Counts, Log, Watch, write_line};
 use crate::registries::Registries;
 use crate::service::new_hub;
 use crate::stop::Stop;
-use crate::store_stop::StoreStop;
 use command_line::{Logging, Setup};
 use connections::Outage;
 use serving_many::Network;
@@ -27,8 +26,6 @@ pub struct Service<'a> {
     pub listen: &'a str,
     pub limits: command_line::Limits,
     pub logging: Logging<'a>,
-    /// The file that keeps the documents, if there is one.
-    pub store: Option<&'a str>,
 }
 
 /// A whole duration of so many seconds; without end where there is none.
@@ -50,7 +47,8 @@ fn times(limits: command_line::Limits) -> sockets::Limits {
 
 /// So many connections, unless the system's limit of descriptors allows fewer.
 fn count_of<'a>(connections: u32) -> Result<usize, Stop<'a>>
-    ensures { (address : Text) → IfErr result (IsUnopened address) }
+    ensures ok { IfOk result (λ count. count ≡ connections) }
+    ensures err { (address : Text) → IfErr result (IsUnopened address) }
 {
     let count = connections as usize;
     match most_connections() {
@@ -61,7 +59,8 @@ fn count_of<'a>(connections: u32) -> Result<usize, Stop<'a>>
 
 /// The file of the log, if there is one.
 fn open_log<'a, F: Logs>(files: &F, logging: Logging<'a>) -> Result<Option<F::Log>, Stop<'a>>
-    ensures { (address : Text) → IfErr result (IsUnopened address) }
+    ensures ok { IfOk result (λ log. is_some log ≡ is_some logging.entry.file) }
+    ensures err { (address : Text) → IfErr result (IsUnopened address) }
 {
     match logging.file {
         None => Ok(None),
@@ -90,78 +89,52 @@ fn open_sockets<'a, 'r, N: Net + Clock>(
     }
 }
 
-/// Why connections are served no more.
-fn stop<'a>(store: Option<&'a str>, outage: Outage) -> Stop<'a>
-    ensures { IsOutage result }
-{
-    match outage {
-        Outage::Broken => Stop::CannotAccept,
-        Outage::Unsettled(unsettled) => match store {
-            Some(path) => Stop::Store(StoreStop::Unsettled(path, unsettled)),
-            None => Stop::CannotAccept,
-        },
-    }
-}
-
-/// Serves the connections of a network side by side by these registries, until they are over, and gives the status 0. A log
-/// is told how they go.
-fn serve_network<'a, H: Registries, N: Network, C: Clock, W: Write>(
+/// Serves the connections of a network side by side by these registries, until they are over. A log is told how they go.
+fn serve_network<H: Registries, N: Network, C: Clock, W: Write>(
     alloc: Global,
     registries: H,
     network: &mut N,
     log: &Log<'_, C, W>,
-    service: Service<'a>,
-) -> Result<u8, Stop<'a>>
-    ensures served { H.serves registries (N.reads network.old) (N.writes network.old)
+    most_memory: usize,
+) -> Result<(), Outage>
+    ensures { H.serves registries (N.reads network.old) (N.writes network.old) result
         (N.reads network.new) (N.writes network.new) }
-    ensures reading { (names : List Text) (address : Text)
-        → EndsReading names (Some address) result }
-    ensures status { IfOk result (λ status. status ≡ 0) }
 {
     let mut watch = Watch { log };
-    let most_memory = service.limits.memory as usize;
-    match registries.serve(alloc, log, network, &mut watch, most_memory) {
-        Ok(()) => Ok(0),
-        Err(outage) => Err(stop(service.store, outage)),
-    }
+    registries.serve(alloc, log, network, &mut watch, most_memory)
 }
 
 /// The same with a log on `out`, and how many there were.
-fn serve_logged<'a, H: Registries, N: Network, C: Clock, W: Write + Drop>(
+fn serve_logged<H: Registries, N: Network, C: Clock, W: Write + Drop>(
     alloc: Global,
     clock: &C,
     registries: H,
     network: &mut N,
-    service: Service<'a>,
+    service: Service<'_>,
     out: W,
-) -> (Result<u8, Stop<'a>>, Counts)
-    ensures served { H.serves registries (N.reads network.old) (N.writes network.old)
+) -> (Result<(), Outage>, Counts)
+    ensures { H.serves registries (N.reads network.old) (N.writes network.old) result.0
         (N.reads network.new) (N.writes network.new) }
-    ensures reading { (names : List Text) (address : Text)
-        → EndsReading names (Some address) result.0 }
-    ensures status { IfOk result.0 (λ status. status ≡ 0) }
 {
     let log = Log::new(alloc, clock, out, service.logging.requests);
-    let ended = serve_network(alloc, registries, network, &log, service);
+    let most_memory = service.limits.memory as usize;
+    let ended = serve_network(alloc, registries, network, &log, most_memory);
     let counts = log.counts();
     (ended, counts)
 }
 
 /// The same, with a log in a file or else on `errors`.
-fn serve_told<'a, H: Registries, N: Network, C: Clock, L: Write + Drop, E: Write>(
+fn serve_told<H: Registries, N: Network, C: Clock, L: Write + Drop, E: Write>(
     alloc: Global,
     clock: &C,
     registries: H,
     network: &mut N,
-    service: Service<'a>,
+    service: Service<'_>,
     file: Option<L>,
     errors: &mut E,
-) -> (Result<u8, Stop<'a>>, Counts)
-    ensures served { H.serves registries (N.reads network.old) (N.writes network.old)
+) -> (Result<(), Outage>, Counts)
+    ensures { H.serves registries (N.reads network.old) (N.writes network.old) result.0
         (N.reads network.new) (N.writes network.new) }
-    ensures reading { (names : List Text) (address : Text)
-        → EndsReading names (Some address) result.0 }
-    ensures status { IfOk result.0 (λ status. status ≡ 0) }
 {
     match file {
         Some(file) => serve_logged(alloc, clock, registries, network, service, file),
@@ -169,22 +142,21 @@ fn serve_told<'a, H: Registries, N: Network, C: Clock, L: Write + Drop, E: Write
     }
 }
 
-/// Serves connections at the address side by side by these registries, and gives the status 0. Their address, and at the end
-/// how many there were, is told on `errors`.
+/// Serves connections at the address side by side by these registries, whose documents the store at the path keeps, if there
+/// is one, and gives the status 0. Their address, and at the end how many there were, is told on `errors`.
 pub(crate) fn serve_at<'a, H: Registries, N, F: Logs, E: Write>(
     alloc: Global,
     net: &N,
     files: &F,
     registries: H,
+    store: Option<&'a str>,
     service: Service<'a>,
     errors: &mut E,
 ) -> Result<u8, Stop<'a>>
 where
     N: Net + Clock,
-    ensures reading { (names : List Text)
-        → EndsReading names (Some service.entry.listen.now) result }
-    ensures served { EndsSideBySide (H.serves registries) result }
-    ensures status { IfOk result (λ status. status ≡ 0) }
+    ensures { EndsListening service.entry.listen.now (path_view store.entry)
+        (AreServedSo (H.serves registries)) result }
 {
     let file = match open_log(files, service.logging) {
         Ok(file) => file,
@@ -198,7 +170,10 @@ where
     write_line(errors, format!(in alloc; "listening on {address}\n"));
     let (ended, counts) = serve_told(alloc, net, registries, &mut sockets, service, file, errors);
     write_line(errors, format!(in alloc; "{counts}"));
-    ended
+    match ended {
+        Ok(()) => Ok(0),
+        Err(outage) => Err(Stop::of_outage(store, outage)),
+    }
 }
 
 /// Serves connections at the address side by side by new registries, until standard input ends, where that is a pipe, and
@@ -213,18 +188,13 @@ pub fn serve<'a, N, F: Texts + Logs, E: Write>(
 ) -> Result<u8, Stop<'a>>
 where
     N: Net + Clock,
-    ensures reading { EndsReading (files_of (setup_view setup.entry))
+    ensures ends { EndsService (F.is_unreadable files.now) (setup_view setup.entry)
         (Some service.entry.listen.now) result }
-    ensures order { ReadsInOrder (F.is_unreadable files.now) (files_of (setup_view setup.entry))
-        result }
-    ensures status { IfOk result (λ status. status ≡ 0) }
-    ensures judged { OnServer (F.text_at files.now) (setup_view setup.entry)
-        (λ server. IsJudged server result) }
     ensures alone { OnServer (F.text_at files.now) (setup_view setup.entry)
-        (λ server. EndsServingMany server result) }
+        (λ server. EndsServingMany service.entry.listen.now server result) }
 {
     match new_hub(alloc, files, setup) {
-        Ok(hub) => serve_at(alloc, net, files, hub, service, errors),
+        Ok(hub) => serve_at(alloc, net, files, hub, None, service, errors),
         Err(stop) => Err(stop),
     }
 }

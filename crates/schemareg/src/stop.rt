@@ -3,6 +3,7 @@ ghost use Rattle.std.specs.Prelude.{◌≡◌};
 
 use crate::store_stop::StoreStop;
 use clap::error::ErrorKind;
+use connections::Outage;
 use faults::Fault;
 use std::fmt;
 
@@ -34,6 +35,24 @@ pub enum Stop<'a> {
     TooManyConnections(usize),
     /// Documents aren't kept.
     Store(StoreStop<'a>),
+}
+
+impl<'a> Stop<'a> {
+    ghost use Rattle.schemareg.specs.Services.{path_view};
+    ghost use Rattle.schemareg.specs.Stops.{IsStopOf};
+
+    /// Why connections are served no more, over the store at the path, if there is one.
+    pub fn of_outage(store: Option<&'a str>, outage: Outage) -> Stop<'a>
+        ensures { IsStopOf (path_view store.entry) outage result }
+    {
+        match outage {
+            Outage::Broken => Stop::CannotAccept,
+            Outage::Unsettled(unsettled) => match store {
+                Some(path) => Stop::Store(StoreStop::Unsettled(path, unsettled)),
+                None => Stop::CannotAccept,
+            },
+        }
+    }
 }
 
 impl Stop<'_> {

@@ -1,31 +1,30 @@
 //! The files in which documents are kept.
-ghost use Rattle.std.specs.Prelude.{IfErr};
-ghost use Rattle.schemareg.specs.Stops.{IsOfStore};
+ghost use Rattle.std.specs.Prelude.{◌≡◌, Bool, false, OnOk};
+ghost use Rattle.definitions.specs.Values.{Text};
 
 use crate::files::FileSystem;
-use crate::stop::Stop;
-use crate::store_stop::StoreStop;
-use document_file::DocumentFile;
+use document_file::{DocumentFile, OpenFault};
 use sqlite_std_file::File;
 use sqlite_store::FileStore;
 use stored_hub::DocumentStore;
 
 /// Files in which documents are kept, by their paths.
+///
+/// Contracts see by `is_shut` which files are known not to be opened.
 pub trait Stores {
     type Store: DocumentStore + Drop;
 
+    ghost is_shut: { Self → Text → Bool } = { λ _ _. false };
+
     /// The store in the file at `path`, which is made where there is none.
-    fn open_store<'a>(&self, path: &'a str) -> Result<Self::Store, Stop<'a>>
-        ensures { IfErr result IsOfStore };
+    fn open_store(&self, path: &str) -> Result<Self::Store, OpenFault>
+        ensures { OnOk result (is_shut self.now path.now ≡ false) };
 }
 
 impl Stores for FileSystem<'_, HostRuntime> {
     type Store = DocumentFile<FileStore<File>>;
 
-    fn open_store<'a>(&self, path: &'a str) -> Result<DocumentFile<FileStore<File>>, Stop<'a>> {
-        match document_disk::open(self.rt, path) {
-            Ok(documents) => Ok(documents),
-            Err(fault) => Err(Stop::Store(StoreStop::Unopened(path, fault))),
-        }
+    fn open_store(&self, path: &str) -> Result<DocumentFile<FileStore<File>>, OpenFault> {
+        document_disk::open(self.rt, path)
     }
 }

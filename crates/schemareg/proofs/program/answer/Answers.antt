@@ -1,9 +1,12 @@
-use Rattle.std.proofs.Common.{◌∙◌, Ok, Err, map}
+use Rattle.std.proofs.Common.{◌∙◌, Ok, Err, map, subst, sym}
 use Rattle.std.specs.Process.{exit_status}
 use Rattle.command_line.specs.Calls.{faults_of}
 use Rattle.schemareg.specs.Answers.{EndsBy, EndsWith}
+use Rattle.schemareg.specs.Endings.{address_of, names_of}
 use Rattle.schemareg.specs.Services.{EndsRun, RunsWith}
+use Rattle.schemareg.specs.Stored.{EndsAsked, EndsStoredRun, RunsStoredWith}
 use Rattle.schemareg.proofs.Ended.{ended_with, on_checks, on_runs, run_ended, run_stopped, stopped_with, told_with}
+use Rattle.schemareg.proofs.EndedStored.{not_stopped, stored_ended, stored_stopped}
 use Rattle.schemareg.proofs.Mistakes.{mistaken}
 use Rattle.schemareg.proofs.program.answer.Goals as goal
 
@@ -27,7 +30,20 @@ returns-in-Ok-clause-ran g c = λ call m.
     let others = g.O.ByteWriter.writes c.obey.new.out in
     on_runs (g.F.Texts.text_at c.args.files.now) call (λ server. EndsRun server reads writes (Ok c.in-Ok.status) more others)
     (λ server. RunsWith server reads writes (exit_status c.from.result) more others)
-    (λ server. run_ended server reads writes more others c.in-Ok.status (exit_status c.from.result) c.from.ensures) (c.in-Ok.ensures.ran call m)
+    (λ path server. EndsStoredRun path g.F.Store.DocumentStore.recovers server reads writes (Ok c.in-Ok.status) more others)
+    (λ path server. RunsStoredWith path g.F.Store.DocumentStore.recovers server reads writes (exit_status c.from.result) more others)
+    (λ server. run_ended server reads writes more others c.in-Ok.status (exit_status c.from.result) c.from.ensures)
+    (λ path server. stored_ended path g.F.Store.DocumentStore.recovers server reads writes more others c.in-Ok.status (exit_status c.from.result) c.from.ensures)
+    (c.in-Ok.ensures.ran call m)
+
+pub returns-in-Ok-clause-alone : goal.returns-in-Ok-clause-alone
+returns-in-Ok-clause-alone g c = λ call m zero.
+    subst (λ n. EndsAsked g.F.Store.DocumentStore.recovers (g.F.Texts.text_at c.args.files.now) call (Ok n)) (sym c.from.ensures ∙ zero) (c.in-Ok.ensures.alone call m)
+
+pub returns-in-Err-clause-alone : goal.returns-in-Err-clause-alone
+returns-in-Err-clause-alone g c = λ call m zero.
+    not_stopped (names_of call) (address_of call) c.in-Err.stop (exit_status c.from-in-Err.result) _ (c.in-Err.ensures.reading call m)
+    (λ error. c.from-in-Err.ensures ∙ (c.explain.ensures.error error).0) zero
 
 pub returns-in-Err-clause-calls : goal.returns-in-Err-clause-calls
 returns-in-Err-clause-calls g c = λ call m.
@@ -47,8 +63,11 @@ returns-in-Err-clause-ran g c = λ call m.
     let more = g.I.ByteReader.reads c.obey.new.input in
     let others = g.O.ByteWriter.writes c.obey.new.out in
     let final = g.O.ByteWriter.writes c.explain.new.out in
+    let told = told_with g.O.ByteWriter.writes c.in-Err.stop c.explain.result (exit_status c.from-in-Err.result) c.obey.new.out c.explain.new.out c.from-in-Err.ensures c.explain.ensures.error in
     on_runs (g.F.Texts.text_at c.args.files.now) call (λ server. EndsRun server reads writes (Err c.in-Err.stop) more others)
     (λ server. RunsWith server reads writes (exit_status c.from-in-Err.result) more final)
-    (λ server. run_stopped server reads writes more others final c.in-Err.stop (exit_status c.from-in-Err.result)
-    (told_with g.O.ByteWriter.writes c.in-Err.stop c.explain.result (exit_status c.from-in-Err.result) c.obey.new.out c.explain.new.out c.from-in-Err.ensures c.explain.ensures.error))
+    (λ path server. EndsStoredRun path g.F.Store.DocumentStore.recovers server reads writes (Err c.in-Err.stop) more others)
+    (λ path server. RunsStoredWith path g.F.Store.DocumentStore.recovers server reads writes (exit_status c.from-in-Err.result) more final)
+    (λ server. run_stopped server reads writes more others final c.in-Err.stop (exit_status c.from-in-Err.result) told)
+    (λ path server. stored_stopped path g.F.Store.DocumentStore.recovers server reads writes more others final c.in-Err.stop (exit_status c.from-in-Err.result) told)
     (c.in-Err.ensures.ran call m)

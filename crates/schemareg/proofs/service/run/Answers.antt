@@ -1,13 +1,21 @@
 use Rattle.command_line.specs.Calls.{setup_view}
-use Rattle.std.proofs.Common.{Err}
+use Rattle.std.proofs.Common.{Err, None}
 use Rattle.schemareg.specs.Endings.{files_of}
 use Rattle.schemareg.specs.Services.{EndsRun}
 use Rattle.schemareg.proofs.Ended.{unbegun_run}
 use Rattle.schemareg.proofs.Judged.{every_server, on_server}
+use Rattle.schemareg.proofs.Listened.{ended_service, stopped_service, unread_reading}
 use Rattle.schemareg.proofs.service.run.Goals as goal
 
-pub returns-in-Ok-clause-reading : goal.returns-in-Ok-clause-reading
-returns-in-Ok-clause-reading g c = c.run_over.ensures.reading (files_of (setup_view c.args.setup))
+pub returns-in-Ok-clause-ends : goal.returns-in-Ok-clause-ends
+returns-in-Ok-clause-ends g c =
+    ended_service (g.F.Texts.is_unreadable c.args.files.now) (setup_view c.args.setup) None c.run_over.result c.in-Ok.ensures.order
+    (c.run_over.ensures.reading (files_of (setup_view c.args.setup))) c.run_over.ensures.status
+
+pub returns-in-Err-clause-ends : goal.returns-in-Err-clause-ends
+returns-in-Err-clause-ends g c =
+    stopped_service (g.F.Texts.is_unreadable c.args.files.now) (setup_view c.args.setup) None c.in-Err.stop
+    (unread_reading (files_of (setup_view c.args.setup)) None c.in-Err.stop c.in-Err.ensures.err) c.in-Err.ensures.order
 
 pub returns-in-Ok-clause-ran : goal.returns-in-Ok-clause-ran
 returns-in-Ok-clause-ran g c =

@@ -1,32 +1,27 @@
-use Rattle.std.proofs.Common.{◌≡◌, ℕ, Ok, Err}
+use Rattle.std.proofs.Common.{◌≡◌, None, Some, Ok, Err, inl, inr}
 use Rattle.command_line.specs.Calls.{setup_view}
 use Rattle.tenant_hub.specs.Hubs.{hub_view}
-use Rattle.tenant_hub.specs.declared.hub.Hub.{Hub}
-use Rattle.schemareg.specs.Endings.{files_of}
-use Rattle.schemareg.specs.Services.{EndsServing, IsJudged}
-use Rattle.schemareg.proofs.Alone.{served_of, unstarted_alone}
-use Rattle.schemareg.proofs.Judged.{every_server, judged_alike, judged_behind, on_servers}
+use Rattle.schemareg.specs.Services.{EndsServing, IsRefusedStart, ServeInTurn}
+use Rattle.schemareg.proofs.Judged.{on_servers}
+use Rattle.schemareg.proofs.Listened.{listened_service, stopped_service}
 use Rattle.schemareg.proofs.service.serve.Goals as goal
 
-pub returns-in-Ok-clause-reading : goal.returns-in-Ok-clause-reading
-returns-in-Ok-clause-reading g c = c.serve_at.ensures.reading (files_of (setup_view c.args.setup))
+pub returns-in-Ok-clause-ends : goal.returns-in-Ok-clause-ends
+returns-in-Ok-clause-ends g c =
+    listened_service (g.F.Texts.is_unreadable c.args.files.now) (setup_view c.args.setup) c.args.turns.listen.now None (ServeInTurn (hub_view c.in-Ok.hub) c.args.turns.accept) c.serve_at.result c.in-Ok.ensures.order c.serve_at.ensures
 
-pub returns-in-Ok-clause-judged : goal.returns-in-Ok-clause-judged
-returns-in-Ok-clause-judged g c =
-    on_servers (g.F.Texts.text_at c.args.files.now) (setup_view c.args.setup) (λ server. IsJudged server (Ok c.in-Ok.hub)) (λ server. IsJudged server c.serve_at.result)
-    (judged_behind Hub ℕ c.in-Ok.hub c.serve_at.result) c.in-Ok.ensures.judged
-
-pub returns-in-Err-clause-judged : goal.returns-in-Err-clause-judged
-returns-in-Err-clause-judged g c =
-    on_servers (g.F.Texts.text_at c.args.files.now) (setup_view c.args.setup) (λ server. IsJudged {T = Hub} server (Err c.in-Err.stop))
-    (λ server. IsJudged {T = ℕ} server (Err c.in-Err.stop)) (judged_alike Hub ℕ c.in-Err.stop) c.in-Err.ensures.judged
+pub returns-in-Err-clause-ends : goal.returns-in-Err-clause-ends
+returns-in-Err-clause-ends g c =
+    stopped_service (g.F.Texts.is_unreadable c.args.files.now) (setup_view c.args.setup) (Some c.args.turns.listen.now) c.in-Err.stop
+    (c.in-Err.ensures.reading (Some c.args.turns.listen.now)) c.in-Err.ensures.order
 
 pub returns-in-Ok-clause-alone : goal.returns-in-Ok-clause-alone
 returns-in-Ok-clause-alone g c =
-    on_servers (g.F.Texts.text_at c.args.files.now) (setup_view c.args.setup) (λ server. server ≡ Ok (hub_view c.in-Ok.hub)) (λ server. EndsServing server c.args.turns.accept c.serve_at.result)
-    (λ server e. served_of (hub_view c.in-Ok.hub) c.args.turns.accept c.serve_at.result server e c.serve_at.ensures.alone) c.in-Ok.ensures.ok
+    on_servers (g.F.Texts.text_at c.args.files.now) (setup_view c.args.setup) (λ server. server ≡ Ok (hub_view c.in-Ok.hub))
+    (λ server. EndsServing c.args.turns.listen.now c.args.turns.accept server c.serve_at.result)
+    (λ server e. inr (record { registries = hub_view c.in-Ok.hub; stands = e; holds = c.serve_at.ensures })) c.in-Ok.ensures.ok
 
 pub returns-in-Err-clause-alone : goal.returns-in-Err-clause-alone
 returns-in-Err-clause-alone g c =
-    every_server (g.F.Texts.text_at c.args.files.now) (setup_view c.args.setup) (λ server. EndsServing server c.args.turns.accept (Err c.in-Err.stop))
-    (unstarted_alone (files_of (setup_view c.args.setup)) c.in-Err.stop c.args.turns.accept c.in-Err.ensures.err)
+    on_servers (g.F.Texts.text_at c.args.files.now) (setup_view c.args.setup) (λ server. IsRefusedStart server c.in-Err.stop)
+    (λ server. EndsServing c.args.turns.listen.now c.args.turns.accept server (Err c.in-Err.stop)) (λ server refused. inl refused) c.in-Err.ensures.err

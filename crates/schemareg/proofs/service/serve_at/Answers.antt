@@ -1,18 +1,26 @@
-use Rattle.std.proofs.Common.{◌≡◌, refl, ap, ◌∙◌}
+use Rattle.std.proofs.Common.{◌≡◌, Ok, Err, refl, ap, ◌∙◌, inl, inr}
 use Rattle.connections.specs.Connected.{handler_of}
 use Rattle.http_front.specs.HubAnswers.{handler_view}
 use Rattle.tenant_hub.specs.Hubs.{hub_view}
-use Rattle.schemareg.proofs.Alone.{all_alone, fewer_alone}
+use Rattle.schemareg.proofs.Alone.{served_in_turn}
 use Rattle.schemareg.proofs.service.serve_at.Goals as goal
 
-pub returns-in-Ok-serve_connections-clause-alone : goal.returns-in-Ok-serve_connections-clause-alone
-returns-in-Ok-serve_connections-clause-alone g c =
-    let served = c.in-Ok-serve_connections.ensures.served c.new-sessions.ensures.none in
-    all_alone (hub_view c.args.hub) (handler_view (handler_of c.new-sessions.result)) (handler_view (handler_of c.serve_connections.new.sessions)) (λ n. n ≡ c.args.turns.accept) served.0
-    (ap handler_view c.new-sessions.ensures.handler ∙ c.new.ensures) served.1 served.2
+pub returns-in-Err : goal.returns-in-Err
+returns-in-Err g c = inl c.in-Err.ensures
 
 -- a hub keeps nothing, so that it is never unsettled
-pub returns-clause-alone : goal.returns-clause-alone
-returns-clause-alone g c =
-    fewer_alone (hub_view c.args.hub) (handler_view (handler_of c.new-sessions.result)) (handler_view (handler_of c.serve_connections.new.sessions)) c.args.turns.accept _ _
-    (ap handler_view c.new-sessions.ensures.handler ∙ c.new.ensures) refl c.in-Err-serve_connections.ensures.keeps (c.in-Err-serve_connections.ensures.served c.new-sessions.ensures.none)
+pub returns-in-Ok-serve_connections : goal.returns-in-Ok-serve_connections
+returns-in-Ok-serve_connections g c = (
+  refl,
+  served_in_turn (hub_view c.args.hub) (handler_view (handler_of c.new-sessions.result)) (handler_view (handler_of c.serve_connections.new.sessions)) c.args.turns.accept (Ok tt)
+      (ap handler_view c.new-sessions.ensures.handler ∙ c.new.ensures) c.in-Ok-serve_connections.ensures.keeps (c.in-Ok-serve_connections.ensures.served c.new-sessions.ensures.none),
+)
+
+pub returns : goal.returns
+returns g c = inr (
+  c.in-Err-serve_connections.outage,
+  c.of_outage.ensures,
+  served_in_turn (hub_view c.args.hub) (handler_view (handler_of c.new-sessions.result)) (handler_view (handler_of c.serve_connections.new.sessions)) c.args.turns.accept
+      (Err c.in-Err-serve_connections.outage) (ap handler_view c.new-sessions.ensures.handler ∙ c.new.ensures) c.in-Err-serve_connections.ensures.keeps
+      (c.in-Err-serve_connections.ensures.served c.new-sessions.ensures.none),
+)

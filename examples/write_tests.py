@@ -86,27 +86,26 @@ def uses(folder):
     return constants, files, inputs
 
 
-def test(name, columns, call):
+def test(name, call):
     """A test that goes over a table."""
-    head = f"fn {name.lower()}_have_their_answers(rt: HostRuntime) -> Result<(), Fail> {{"
-    loop = [f"    for ({', '.join(columns)}, answer) in {name} {{", f"        let found = {call}(rt.alloc(), {', '.join(columns)})?;"]
-    return ["#[test]", head, *loop, "        assert_eq!(rt; found.as_str(), *answer);", "    }", "    Ok(())", "}", ""]
+    head = f"fn {name.lower()}_have_their_answers(rt: HostRuntime) {{"
+    return ["#[test]", head, f"    for row in {name} {{", f"        {call}(&rt, rt.alloc(), row);", "    }", "}", ""]
 
 
 def module(folder):
     """The source of the tests of one use."""
     constants, files, inputs = uses(folder)
-    helpers = ["check_files"] * bool(files) + ["check_standard_input"] * bool(inputs)
+    helpers = ["expect_files"] * bool(files) + ["expect_standard_input"] * bool(inputs)
     imported = helpers[0] if len(helpers) == 1 else "{" + ", ".join(helpers) + "}"
     lines = [f"//! The examples in `examples/{folder.name}`, {WRITTEN}.", "", f"use crate::answers::{imported};"]
     lines += ["use checks::DEFAULT_URI;"] * any(row[0] == "DEFAULT_URI" for row in files)
-    lines += ["use std::test::Fail;", "", *constants]
+    lines += ["", *constants]
     if files:
         lines += ["// URI, schema, instance and answer.", *table("FILES", 4, files)]
-        lines += test("FILES", ["uri", "schema", "instance"], "check_files")
+        lines += test("FILES", "expect_files")
     if inputs:
         lines += ["// Input and answer.", *table("INPUTS", 2, inputs)]
-        lines += test("INPUTS", ["input"], "check_standard_input")
+        lines += test("INPUTS", "expect_standard_input")
     return "\n".join(lines)
 
 

@@ -1,8 +1,10 @@
 //! Each keyword that looks at its own value and the instance, on both sides of its bound.
 
+use crate::texts::expect_holds;
 use assertions::{Assertion, holds, is_at_least, is_at_most, is_multiple};
-use json_doc::read;
-use std::test::Fail;
+use json_doc::{Fault, read};
+use std::alloc::Global;
+use std::process::Abort;
 
 // A keyword, its value, an instance, and whether the keyword holds of it.
 const BOUNDS: &[(Assertion, &str, &str, bool)] = &[
@@ -140,27 +142,42 @@ const BOUNDS: &[(Assertion, &str, &str, bool)] = &[
     ),
 ];
 
-#[test]
-fn keywords_hold_up_to_their_bounds(rt: HostRuntime) -> Result<(), Fail> {
-    for (keyword, keyword_value, instance, outcome) in BOUNDS {
-        let value = read(rt.alloc(), keyword_value.as_bytes())?;
-        let subject = read(rt.alloc(), instance.as_bytes())?;
-        let found = holds(rt.alloc(), *keyword, &value, &subject)?;
-        assert_eq!(rt;
-            found,
-            *outcome,
-            "{keyword:?} {keyword_value} of {instance}"
-        );
-    }
-    Ok(())
+fn holds_as(
+    alloc: Global,
+    keyword: Assertion,
+    value: &str,
+    instance: &str,
+    wanted: bool,
+) -> Result<bool, Fault> {
+    let value = read(alloc, value.as_bytes())?;
+    let subject = read(alloc, instance.as_bytes())?;
+    Ok(holds(alloc, keyword, &value, &subject)? == wanted)
+}
+
+fn expect_bound(rt: &impl Abort, alloc: Global, row: &(Assertion, &str, &str, bool)) {
+    let (keyword, value, instance, wanted) = *row;
+    let found = holds_as(alloc, keyword, value, instance, wanted);
+    expect_holds(rt, found, instance);
 }
 
 #[test]
-fn two_values_alone(rt: HostRuntime) -> Result<(), Fail> {
-    let six = read(rt.alloc(), b"-6")?;
-    let three = read(rt.alloc(), b"3")?;
-    assert!(rt; is_multiple(&six, &three) && !is_multiple(&three, &six));
-    assert!(rt; is_at_most(3, &three) && !is_at_most(4, &three) && is_at_most(4, &six));
-    assert!(rt; is_at_least(3, &three) && !is_at_least(2, &three) && is_at_least(0, &six));
-    Ok(())
+fn keywords_hold_up_to_their_bounds(rt: HostRuntime) {
+    for row in BOUNDS {
+        expect_bound(&rt, rt.alloc(), row);
+    }
+}
+
+// Of -6 and 3.
+fn are_told_apart(alloc: Global) -> Result<bool, Fault> {
+    let six = read(alloc, b"-6")?;
+    let three = read(alloc, b"3")?;
+    let are_multiples = is_multiple(&six, &three) && !is_multiple(&three, &six);
+    let are_at_most = is_at_most(3, &three) && !is_at_most(4, &three) && is_at_most(4, &six);
+    let are_at_least = is_at_least(3, &three) && !is_at_least(2, &three) && is_at_least(0, &six);
+    Ok(are_multiples && are_at_most && are_at_least)
+}
+
+#[test]
+fn two_values_alone(rt: HostRuntime) {
+    expect_holds(&rt, are_told_apart(rt.alloc()), "-6 and 3");
 }

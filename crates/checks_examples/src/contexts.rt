@@ -2,39 +2,47 @@
 //! place.
 
 use crate::documents::listed;
-use crate::texts::URI;
+use crate::texts::{URI, expect_holds};
 use basic_output::Step;
 use evaluation_context::{Context, ContextMemory};
 use keywords::Keyword;
-use linker::{Linked, link};
+use linker::{Fault, Linked, link};
 use std::alloc::Global;
-use std::test::Fail;
 
-fn linked(alloc: Global) -> Result<Linked, Fail> {
+fn linked(alloc: Global) -> Result<Linked, Fault> {
     let mut source = listed(alloc, &[(URI, "{}")])?;
-    Ok(link(alloc, &mut source, URI)?)
+    link(alloc, &mut source, URI)
+}
+
+// Whether the context stands one keyword below the root.
+fn is_at_keyword(alloc: Global, context: &mut Context<'_>) -> Result<bool, Fault> {
+    context.write_locations()?;
+    let location = context.location();
+    let is_own = location.origin.resource() == context.resource() && location.path.len() == 1;
+    let is_below = location.onward == 1 && location.instance_location.len() == 0;
+    let pointer = context.pointer(alloc)?;
+    let is_not = matches!(pointer.first(), Some(Step::Keyword(Keyword::Not)));
+    Ok(is_own && is_below && pointer.len() == 1 && is_not)
+}
+
+// Whether an object is being applied from when it is entered until it is left, but for while its keyword is.
+fn knows_what_is_running(alloc: Global) -> Result<bool, Fault> {
+    let linked = linked(alloc)?;
+    let memory = ContextMemory::new(alloc);
+    let mut context = Context::new(alloc, &linked, linked.root(alloc), memory)?;
+    let before = context.is_running();
+    context.enter_object()?;
+    let within = context.is_running() && context.scope().len() == 1;
+    context.enter_keyword(Keyword::Not)?;
+    let in_keyword = context.is_running();
+    let is_placed = is_at_keyword(alloc, &mut context)?;
+    context.leave_keyword();
+    let behind_keyword = context.is_running();
+    context.leave_object();
+    Ok(!before && within && !in_keyword && is_placed && behind_keyword && !context.is_running())
 }
 
 #[test]
-fn knows_what_is_being_applied_and_where(rt: HostRuntime) -> Result<(), Fail> {
-    let linked = linked(rt.alloc())?;
-    let root = linked.root(rt.alloc());
-    let memory = ContextMemory::new(rt.alloc());
-    let mut context = Context::new(rt.alloc(), &linked, root, memory)?;
-    assert!(rt; !context.is_running());
-    context.enter_object()?;
-    assert!(rt; context.is_running() && context.scope().len() == 1);
-    context.enter_keyword(Keyword::Not)?;
-    assert!(rt; !context.is_running());
-    context.write_locations()?;
-    let location = context.location();
-    assert!(rt; location.origin.resource() == context.resource() && location.path.len() == 1);
-    assert!(rt; location.onward == 1 && location.instance_location.len() == 0);
-    let pointer = context.pointer(rt.alloc())?;
-    assert!(rt; pointer.len() == 1 && matches!(pointer.first(), Some(Step::Keyword(Keyword::Not))));
-    context.leave_keyword();
-    assert!(rt; context.is_running());
-    context.leave_object();
-    assert!(rt; !context.is_running());
-    Ok(())
+fn knows_what_is_being_applied_and_where(rt: HostRuntime) {
+    expect_holds(&rt, knows_what_is_running(rt.alloc()), "one keyword");
 }

@@ -1,13 +1,13 @@
 //! Documents on texts, and what they say of instances.
 
-use crate::texts::told;
-use evaluator::{Fault, Report, evaluate};
+use crate::texts::expect_told;
+use evaluator::{Fault, evaluate};
 use json_doc::read;
 use linker::{ListSource, link};
 use schema_scan::{Compiled, compile, scan};
 use std::alloc::Global;
+use std::process::Abort;
 use std::rc::Rc;
-use std::test::Fail;
 use uri_ref::split;
 
 /// Seven documents that each embed a resource, in which a reference names a schema of its own, and one that refers to these.
@@ -47,39 +47,50 @@ pub const SEVEN: &[(&str, &str)] = &[
 ];
 
 /// The document under this base, compiled.
-pub fn compiled(alloc: Global, base: &str, document: &str) -> Result<Rc<Compiled>, Fail> {
+pub fn compiled(alloc: Global, base: &str, document: &str) -> Result<Rc<Compiled>, Fault> {
     let document = read(alloc, document.as_bytes())?;
     let document = compile(alloc, scan(alloc, &split(base), &document)?)?;
     Ok(Rc::new(alloc, document)?)
 }
 
 /// A list of documents, each with the URI that it stands under.
-pub fn listed(alloc: Global, documents: &[(&str, &str)]) -> Result<ListSource, Fail> {
+pub fn listed(alloc: Global, documents: &[(&str, &str)]) -> Result<ListSource, Fault> {
     let mut source = ListSource::new(alloc);
-    for (base, text) in documents {
-        source.add(compiled(alloc, base, text)?)?;
+    for row in documents {
+        source.add(compiled(alloc, row.0, row.1)?)?;
     }
     Ok(source)
 }
 
-fn evaluated(
-    alloc: Global,
-    source: &mut ListSource,
-    uri: &str,
-    instance: &str,
-) -> Result<Report, Fault> {
-    let linked = link(alloc, source, uri)?;
-    let instance = read(alloc, instance.as_bytes())?;
-    evaluate(alloc, &linked, &instance)
-}
-
-/// What the resource with this URI says of the instance, or the fault.
+/// What the resource with this URI says of the instance.
 pub fn answer(
     alloc: Global,
     documents: &[(&str, &str)],
     uri: &str,
     instance: &str,
-) -> Result<String, Fail> {
+) -> Result<String, Fault> {
     let mut source = listed(alloc, documents)?;
-    told(alloc, evaluated(alloc, &mut source, uri, instance))
+    let linked = link(alloc, &mut source, uri)?;
+    let instance = read(alloc, instance.as_bytes())?;
+    Ok(evaluate(alloc, &linked, &instance)?.into_text())
+}
+
+/// Documents, the URI that is asked for, an instance, and the answer.
+pub type Answer = (
+    &'static [(&'static str, &'static str)],
+    &'static str,
+    &'static str,
+    &'static str,
+);
+
+/// Expects this answer.
+pub fn expect_answer(rt: &impl Abort, alloc: Global, row: &Answer) {
+    let (documents, uri, instance, wanted) = *row;
+    expect_told(
+        rt,
+        alloc,
+        answer(alloc, documents, uri, instance),
+        wanted,
+        instance,
+    );
 }

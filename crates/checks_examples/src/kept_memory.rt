@@ -1,12 +1,12 @@
 //! Evaluations one after the other in memory that is kept.
 
 use crate::documents::listed;
-use crate::texts::told;
-use evaluator::{EvaluationMemory, Evaluator, evaluate, evaluate_with};
+use crate::texts::{expect_holds, expect_told};
+use evaluator::{EvaluationMemory, Evaluator, Fault, Report, evaluate, evaluate_with};
 use json_doc::{Doc, read};
-use linker::link;
+use linker::{Linked, link};
 use std::alloc::Global;
-use std::test::Fail;
+use std::process::Abort;
 
 const ITEM: &[(&str, &str)] = &[
     (
@@ -37,35 +37,73 @@ const ANSWERS: &[(&str, &str)] = &[
     (r#"{"name":"lamp","size":{"width":0}}"#, UNMET),
 ];
 
-#[test]
-fn no_answer_depends_on_what_is_kept(rt: HostRuntime) -> Result<(), Fail> {
-    let alloc = rt.alloc();
-    let source = listed(alloc, ITEM)?;
-    let linked = link(alloc, &mut &source, "https://ex.org/item")?;
+fn linked(alloc: Global, documents: &[(&str, &str)], uri: &str) -> Result<Linked, Fault> {
+    let mut source = listed(alloc, documents)?;
+    link(alloc, &mut source, uri)
+}
+
+fn kept_answer(
+    alloc: Global,
+    linked: &Linked,
+    memory: &mut EvaluationMemory,
+    text: &str,
+) -> Result<String, Fault> {
+    let instance = read(alloc, text.as_bytes())?;
+    Ok(evaluate_with(alloc, linked, &instance, memory)?.into_text())
+}
+
+fn expect_kept_answers(rt: &impl Abort, alloc: Global, linked: &Linked) {
     let mut memory = EvaluationMemory::new(alloc);
-    for (text, answer) in ANSWERS {
-        let instance = read(alloc, text.as_bytes())?;
-        let report = evaluate_with(alloc, &linked, &instance, &mut memory)?;
-        assert!(rt; report.text() == *answer, "{text}");
+    for row in ANSWERS {
+        expect_told(
+            rt,
+            alloc,
+            kept_answer(alloc, linked, &mut memory, row.0),
+            row.1,
+            row.0,
+        );
     }
-    Ok(())
 }
 
 #[test]
-fn one_evaluator_answers_each_instance(rt: HostRuntime) -> Result<(), Fail> {
-    let alloc = rt.alloc();
-    let source = listed(alloc, ITEM)?;
-    let linked = link(alloc, &mut &source, "https://ex.org/item")?;
+fn no_answer_depends_on_what_is_kept(rt: HostRuntime) {
+    match linked(rt.alloc(), ITEM, "https://ex.org/item") {
+        Ok(linked) => expect_kept_answers(&rt, rt.alloc(), &linked),
+        Err(fault) => panic!(rt; "{fault}"),
+    }
+}
+
+fn instances(alloc: Global) -> Result<Vec<Doc>, Fault> {
     let mut instances = Vec::new(alloc);
-    for (text, _) in ANSWERS {
-        instances.push(read(alloc, text.as_bytes())?)?;
+    for row in ANSWERS {
+        instances.push(read(alloc, row.0.as_bytes())?)?;
     }
-    let mut evaluator = Evaluator::new(alloc, &linked)?;
-    for (instance, (text, answer)) in instances.iter().zip(ANSWERS.iter()) {
-        let report = evaluator.evaluate(instance)?;
-        assert!(rt; report.text() == *answer, "{text}");
+    Ok(instances)
+}
+
+fn text_of(outcome: Result<Report, Fault>) -> Result<String, Fault> {
+    Ok(outcome?.into_text())
+}
+
+fn are_answered_by_one(alloc: Global, linked: &Linked) -> Result<bool, Fault> {
+    let instances = instances(alloc)?;
+    let mut evaluator = Evaluator::new(alloc, linked)?;
+    for (instance, row) in instances.iter().zip(ANSWERS.iter()) {
+        if text_of(evaluator.evaluate(instance))?.as_str() != row.1 {
+            return Ok(false);
+        }
     }
-    Ok(())
+    Ok(true)
+}
+
+fn one_evaluator_answers(alloc: Global) -> Result<bool, Fault> {
+    let linked = linked(alloc, ITEM, "https://ex.org/item")?;
+    are_answered_by_one(alloc, &linked)
+}
+
+#[test]
+fn one_evaluator_answers_each_instance(rt: HostRuntime) {
+    expect_holds(&rt, one_evaluator_answers(rt.alloc()), "five instances");
 }
 
 // What is under `again` is applied where it is being applied; each element is one application.
@@ -94,29 +132,54 @@ const TURNS: &[(usize, &str, &str)] = &[
     (99_999, "", ALL_MET),
 ];
 
-#[test]
-fn an_evaluator_answers_after_a_fault_as_before(rt: HostRuntime) -> Result<(), Fail> {
-    let alloc = rt.alloc();
-    let source = listed(alloc, HALTING)?;
-    let linked = link(alloc, &mut &source, "https://ex.org/halting")?;
+fn turns(alloc: Global) -> Result<Vec<Doc>, Fault> {
     let mut instances = Vec::new(alloc);
-    for (length, text, _) in TURNS {
-        instances.push(turn(alloc, *length, text)?)?;
+    for row in TURNS {
+        instances.push(turn(alloc, row.0, row.1)?)?;
     }
-    let mut evaluator = Evaluator::new(alloc, &linked)?;
-    for (instance, (_, text, answer)) in instances.iter().zip(TURNS.iter()) {
-        let told = told(alloc, evaluator.evaluate(instance))?;
-        assert_eq!(rt; told.as_str(), *answer, "{text}");
+    Ok(instances)
+}
+
+fn expect_each_turn<'a>(
+    rt: &impl Abort,
+    alloc: Global,
+    evaluator: &mut Evaluator<'a>,
+    instances: &'a [Doc],
+) {
+    for (instance, row) in instances.iter().zip(TURNS.iter()) {
+        let found = text_of(evaluator.evaluate(instance));
+        expect_told(rt, alloc, found, row.2, row.1);
     }
-    Ok(())
+}
+
+fn expect_turns<'a>(rt: &impl Abort, alloc: Global, linked: &'a Linked, instances: &'a [Doc]) {
+    match Evaluator::new(alloc, linked) {
+        Ok(mut evaluator) => expect_each_turn(rt, alloc, &mut evaluator, instances),
+        Err(_) => panic!(rt; "no room"),
+    }
+}
+
+fn expect_turns_of(rt: &impl Abort, alloc: Global, linked: &Linked) {
+    match turns(alloc) {
+        Ok(instances) => expect_turns(rt, alloc, linked, &instances),
+        Err(fault) => panic!(rt; "{fault}"),
+    }
+}
+
+#[test]
+fn an_evaluator_answers_after_a_fault_as_before(rt: HostRuntime) {
+    match linked(rt.alloc(), HALTING, "https://ex.org/halting") {
+        Ok(linked) => expect_turns_of(&rt, rt.alloc(), &linked),
+        Err(fault) => panic!(rt; "{fault}"),
+    }
 }
 
 // So many twos or, of none, what the text spells.
-fn turn(alloc: Global, length: usize, text: &str) -> Result<Doc, Fail> {
+fn turn(alloc: Global, length: usize, text: &str) -> Result<Doc, Fault> {
     if length == 0 {
-        return Ok(read(alloc, text.as_bytes())?);
+        return read(alloc, text.as_bytes());
     }
-    Ok(read(alloc, twos(alloc, length)?.as_bytes())?)
+    read(alloc, twos(alloc, length)?.as_bytes())
 }
 
 // Its first element is evaluated; the others are not, and have to be 1 at most.
@@ -128,24 +191,40 @@ const PAIR: &[(&str, &str)] = &[(
 // How many elements the instances have: the output of the longest takes more than is kept.
 const LENGTHS: &[usize] = &[3, 300, 1, 10_000, 2, 0, 3];
 
-#[test]
-fn short_and_long_answers_are_those_of_new_memory(rt: HostRuntime) -> Result<(), Fail> {
-    let alloc = rt.alloc();
-    let source = listed(alloc, PAIR)?;
-    let linked = link(alloc, &mut &source, "https://ex.org/pair")?;
+// Whether the answer in kept memory is the one in new memory, and as it should be.
+fn is_as_new(
+    alloc: Global,
+    linked: &Linked,
+    memory: &mut EvaluationMemory,
+    length: usize,
+) -> Result<bool, Fault> {
+    let instance = read(alloc, twos(alloc, length)?.as_bytes())?;
+    let kept = evaluate_with(alloc, linked, &instance, memory)?;
+    let new = evaluate(alloc, linked, &instance)?;
+    Ok(kept.text() == new.text() && kept.valid() == (length < 2))
+}
+
+fn expect_as_new(rt: &impl Abort, alloc: Global, linked: &Linked) {
     let mut memory = EvaluationMemory::new(alloc);
     for length in LENGTHS {
-        let instance = read(alloc, twos(alloc, *length)?.as_bytes())?;
-        let kept = evaluate_with(alloc, &linked, &instance, &mut memory)?;
-        let new = evaluate(alloc, &linked, &instance)?;
-        assert!(rt; kept.text() == new.text(), "{length}");
-        assert!(rt; kept.valid() == (*length < 2), "{length}");
+        expect_holds(
+            rt,
+            is_as_new(alloc, linked, &mut memory, *length),
+            "a length",
+        );
     }
-    Ok(())
+}
+
+#[test]
+fn short_and_long_answers_are_those_of_new_memory(rt: HostRuntime) {
+    match linked(rt.alloc(), PAIR, "https://ex.org/pair") {
+        Ok(linked) => expect_as_new(&rt, rt.alloc(), &linked),
+        Err(fault) => panic!(rt; "{fault}"),
+    }
 }
 
 // An array of so many twos.
-fn twos(alloc: Global, length: usize) -> Result<String, Fail> {
+fn twos(alloc: Global, length: usize) -> Result<String, Fault> {
     let mut text = String::new(alloc);
     text.push_str("[")?;
     for index in 0..length {

@@ -1,10 +1,11 @@
 //! Reports of over a million bytes.
 
-use crate::documents::answer;
-use std::test::Fail;
+use crate::texts::{URI, answer, expect_holds};
+use checks::Fault;
+use std::alloc::Global;
 
 // The number of elements, none of which is null.
-const COUNT: usize = 10_000;
+const COUNT: u32 = 10_000;
 
 const HEAD: &str =
     r#"{"errors":[{"absoluteKeywordLocation":"https://ex.org/s#/items","error":"items is not met","instanceLocation":"","keywordLocation":"/items"}"#;
@@ -22,20 +23,30 @@ const LAST: &str =
 // indexes below 10 have one digit, 90 have two, 900 three and 9,000 four.
 const LENGTH: usize = 140 + 10_000 * 140 + (10 + 90 * 2 + 900 * 3 + 9_000 * 4) + 16;
 
-#[test]
-fn each_element_is_reported(rt: HostRuntime) -> Result<(), Fail> {
-    let alloc = rt.alloc();
+/// An array of so many zeros, of one at least.
+pub fn zeros(alloc: Global, count: u32) -> Result<String, Fault> {
     let mut zeros = String::from_str(alloc, "[0")?;
-    for _ in 1..COUNT {
+    for _ in 1..count {
         zeros.push_str(",0")?;
     }
     zeros.push(']')?;
-    let uri = "https://ex.org/s";
-    let documents = &[(uri, r#"{"items":{"type":"null"}}"#)];
-    let text = answer(alloc, documents, uri, zeros.as_str())?;
-    assert_eq!(rt; text.len(), LENGTH);
+    Ok(zeros)
+}
+
+fn is_each_reported(alloc: Global) -> Result<bool, Fault> {
+    let instance = zeros(alloc, COUNT)?;
+    let text = answer(
+        alloc,
+        URI,
+        r#"{"items":{"type":"null"}}"#,
+        instance.as_str(),
+    )?;
     let head = format!(in alloc; "{HEAD}{FIRST}{SECOND}")?;
-    assert!(rt; text.as_str().starts_with(head.as_str()));
-    assert!(rt; text.as_str().ends_with(LAST));
-    Ok(())
+    let begins_so = text.as_str().starts_with(head.as_str());
+    Ok(text.len() == LENGTH && begins_so && text.as_str().ends_with(LAST))
+}
+
+#[test]
+fn each_element_is_reported(rt: HostRuntime) {
+    expect_holds(&rt, is_each_reported(rt.alloc()), "10,000 elements");
 }

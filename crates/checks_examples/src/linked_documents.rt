@@ -1,7 +1,6 @@
 //! Evaluations over several linked documents.
 
-use crate::documents::answer;
-use std::test::Fail;
+use crate::documents::{Answer, expect_answer};
 
 const EMPTY_REPORT: &str = r#"{"annotations":[],"valid":true}"#;
 
@@ -64,8 +63,7 @@ const EMBEDDED: &[(&str, &str)] = &[(
     r#"{"type":"null","$defs":{"e":{"$id":"e","type":"integer"}}}"#,
 )];
 
-// Documents, the URI that is asked for, an instance, and the answer.
-const ANSWERS: &[(&[(&str, &str)], &str, &str, &str)] = &[
+const ANSWERS: &[Answer] = &[
     (
         TREES,
         "https://example.com/tree",
@@ -115,10 +113,8 @@ const ANSWERS: &[(&[(&str, &str)], &str, &str, &str)] = &[
 ];
 
 #[test]
-fn linked_documents_answer(rt: HostRuntime) -> Result<(), Fail> {
-    for (documents, uri, instance, text) in ANSWERS {
-        let found = answer(rt.alloc(), documents, uri, instance)?;
-        assert_eq!(rt; found.as_str(), *text, "{instance} by {uri}");
+fn linked_documents_answer(rt: HostRuntime) {
+    for row in ANSWERS {
+        expect_answer(&rt, rt.alloc(), row);
     }
-    Ok(())
 }

@@ -1,9 +1,10 @@
 //! What links reach, and what they refuse.
 
 use crate::documents::{SEVEN, compiled, listed};
+use crate::texts::{expect_holds, expect_told};
 use linker::{Both, Fault, ListSource, Source, asked, link, reached, value_of};
 use std::alloc::Global;
-use std::test::Fail;
+use std::process::Abort;
 
 // `a` refers to `b`, and `b` to `a`; `c` refers to `a`, and nothing refers to `c`.
 const THREE: &[(&str, &str)] = &[
@@ -51,7 +52,13 @@ const ALL_THREE: &[(&str, &str)] = &[
 ];
 
 // Documents, the URI that is linked, and the URI with the canonical URIs that are reached, or the fault.
-const LINKS: &[(&[(&str, &str)], &str, &str)] = &[
+type Row = (
+    &'static [(&'static str, &'static str)],
+    &'static str,
+    &'static str,
+);
+
+const LINKS: &[Row] = &[
     (&[], "https://ex.org/a", "14 NotFound"),
     (
         THREE,
@@ -107,32 +114,36 @@ fn linked<S: Source>(alloc: Global, source: &mut S, uri: &str) -> Result<String,
     Ok(text)
 }
 
-fn answer(alloc: Global, documents: &[(&str, &str)], uri: &str) -> Result<String, Fail> {
+fn links(alloc: Global, documents: &[(&str, &str)], uri: &str) -> Result<String, Fault> {
     let mut source = listed(alloc, documents)?;
-    match linked(alloc, &mut source, uri) {
-        Ok(text) => Ok(text),
-        Err(fault) => Ok(format!(in alloc; "{fault}")?),
-    }
+    linked(alloc, &mut source, uri)
+}
+
+fn expect_links(rt: &impl Abort, alloc: Global, row: &Row) {
+    let (documents, uri, wanted) = *row;
+    expect_told(rt, alloc, links(alloc, documents, uri), wanted, uri);
 }
 
 #[test]
-fn links_what_is_reached(rt: HostRuntime) -> Result<(), Fail> {
-    for (documents, uri, text) in LINKS {
-        let found = answer(rt.alloc(), documents, uri)?;
-        assert_eq!(rt; found.as_str(), *text, "{uri}");
+fn links_what_is_reached(rt: HostRuntime) {
+    for row in LINKS {
+        expect_links(&rt, rt.alloc(), row);
     }
-    Ok(())
 }
 
-#[test]
-fn values_have_canonical_uris(rt: HostRuntime) -> Result<(), Fail> {
-    let alloc = rt.alloc();
+// Whether what `a` reaches has the value of `b`, and neither that of `c` nor that of an embedded resource.
+fn has_value_of_its_canonical_uri(alloc: Global) -> Result<bool, Fault> {
     let mut source = listed(alloc, THREE)?;
     let linked = link(alloc, &mut source, "https://ex.org/a")?;
-    assert!(rt; value_of(&linked, "https://ex.org/b").is_some());
-    assert!(rt; value_of(&linked, "https://ex.org/c").is_none());
-    assert!(rt; value_of(&linked, "https://ex.org/inner").is_none());
-    Ok(())
+    let is_there = value_of(&linked, "https://ex.org/b").is_some();
+    let is_unreached = value_of(&linked, "https://ex.org/c").is_none();
+    let is_embedded = value_of(&linked, "https://ex.org/inner").is_none();
+    Ok(is_there && is_unreached && is_embedded)
+}
+
+#[test]
+fn values_have_canonical_uris(rt: HostRuntime) {
+    expect_holds(&rt, has_value_of_its_canonical_uri(rt.alloc()), "a, b, c");
 }
 
 // A document that is added to the three, and whether it is: none of its resources may be held already.
@@ -147,17 +158,39 @@ const ADDED: &[(&str, &str, bool)] = &[
     ("https://ex.org/d", "{}", false),
 ];
 
-#[test]
-fn a_list_holds_each_resource_once(rt: HostRuntime) -> Result<(), Fail> {
-    let alloc = rt.alloc();
-    let mut source = listed(alloc, THREE)?;
-    for (base, text, is_added) in ADDED {
-        let added = source.add(compiled(alloc, base, text)?)?;
-        assert_eq!(rt; added, *is_added, "{text}");
+fn is_added_as(
+    alloc: Global,
+    source: &mut ListSource,
+    row: &(&str, &str, bool),
+) -> Result<bool, Fault> {
+    let (base, text, wanted) = *row;
+    Ok(source.add(compiled(alloc, base, text)?)? == wanted)
+}
+
+fn are_added_as(
+    alloc: Global,
+    source: &mut ListSource,
+    rows: &[(&str, &str, bool)],
+) -> Result<bool, Fault> {
+    for row in rows {
+        if !is_added_as(alloc, source, row)? {
+            return Ok(false);
+        }
     }
-    assert!(rt; source.holding(alloc, "https://ex.org/d")?.is_some());
-    assert!(rt; source.holding(alloc, "https://ex.org/t")?.is_none());
-    Ok(())
+    Ok(true)
+}
+
+fn three_hold_each_once(alloc: Global) -> Result<bool, Fault> {
+    let mut source = listed(alloc, THREE)?;
+    let are_added = are_added_as(alloc, &mut source, ADDED)?;
+    let is_held = source.holding(alloc, "https://ex.org/d")?.is_some();
+    let is_refused = source.holding(alloc, "https://ex.org/t")?.is_none();
+    Ok(are_added && is_held && is_refused)
+}
+
+#[test]
+fn a_list_holds_each_resource_once(rt: HostRuntime) {
+    expect_holds(&rt, three_hold_each_once(rt.alloc()), "three documents");
 }
 
 // The same of the seven.
@@ -169,26 +202,32 @@ const ADDED_TO_SEVEN: &[(&str, &str, bool)] = &[
     ("https://ex.org/e7", "{}", false),
 ];
 
-#[test]
-fn a_long_list_holds_each_resource_once(rt: HostRuntime) -> Result<(), Fail> {
-    let alloc = rt.alloc();
+fn seven_hold_each_once(alloc: Global) -> Result<bool, Fault> {
     let mut source = listed(alloc, SEVEN)?;
-    for (base, text, is_added) in ADDED_TO_SEVEN {
-        let added = source.add(compiled(alloc, base, text)?)?;
-        assert_eq!(rt; added, *is_added, "{text} under {base}");
-    }
-    Ok(())
+    are_added_as(alloc, &mut source, ADDED_TO_SEVEN)
 }
 
 #[test]
-fn two_sources_are_linked_as_one(rt: HostRuntime) -> Result<(), Fail> {
-    let alloc = rt.alloc();
+fn a_long_list_holds_each_resource_once(rt: HostRuntime) {
+    expect_holds(&rt, seven_hold_each_once(rt.alloc()), "seven documents");
+}
+
+fn both_links(alloc: Global) -> Result<String, Fault> {
     let first = listed(alloc, THREE)?;
     let mut both = Both::new(&first, ListSource::new(alloc));
-    assert_eq!(rt;
-        linked(alloc, &mut both, "https://ex.org/b")?.as_str(),
-        "https://ex.org/b https://ex.org/a https://ex.org/b"
-    );
-    assert!(rt; both.holding(alloc, "https://ex.org/d")?.is_none());
-    Ok(())
+    linked(alloc, &mut both, "https://ex.org/b")
+}
+
+fn is_in_neither(alloc: Global) -> Result<bool, Fault> {
+    let first = listed(alloc, THREE)?;
+    let mut both = Both::new(&first, ListSource::new(alloc));
+    linked(alloc, &mut both, "https://ex.org/b")?;
+    Ok(both.holding(alloc, "https://ex.org/d")?.is_none())
+}
+
+#[test]
+fn two_sources_are_linked_as_one(rt: HostRuntime) {
+    let wanted = "https://ex.org/b https://ex.org/a https://ex.org/b";
+    expect_told(&rt, rt.alloc(), both_links(rt.alloc()), wanted, "both");
+    expect_holds(&rt, is_in_neither(rt.alloc()), "neither");
 }

@@ -1,8 +1,10 @@
 //! Resources with long URIs, of several documents, whose texts an evaluation numbers once it has compared them often.
 
 use crate::documents::answer;
+use crate::texts::{expect_holds, expect_same};
+use checks::Fault;
 use std::alloc::Global;
-use std::test::Fail;
+use std::process::Abort;
 
 // A piece of a long `$id`.
 const PIECE: &str =
@@ -13,7 +15,7 @@ const MAIN: &str =
     r##"{"items":{"prefixItems":[{"$ref":"a/one"},{"$ref":"b/two"},{"$ref":"b/c/"}]}}"##;
 
 // An `$id` of 400,000 bytes.
-fn long_identifier(alloc: Global) -> Result<String, Fail> {
+fn long_identifier(alloc: Global) -> Result<String, Fault> {
     let mut id = String::new(alloc);
     for _ in 0..4_000 {
         id.push_str(PIECE)?;
@@ -22,7 +24,7 @@ fn long_identifier(alloc: Global) -> Result<String, Fail> {
 }
 
 // 200 rows of the three letters, and one more row.
-fn rows(alloc: Global, last: &str) -> Result<String, Fail> {
+fn rows(alloc: Global, last: &str) -> Result<String, Fault> {
     let mut rows = String::new(alloc);
     for _ in 0..200 {
         rows.push_str(r#"["a","b","c"],"#)?;
@@ -31,7 +33,7 @@ fn rows(alloc: Global, last: &str) -> Result<String, Fail> {
 }
 
 // The answer to these rows.
-fn answer_to(alloc: Global, id: &str, last: &str) -> Result<String, Fail> {
+fn answer_to(alloc: Global, id: &str, last: &str) -> Result<String, Fault> {
     let opens = format!(in alloc;
         "\"allOf\":[{{\"$id\":\"{id}\",\"$ref\":\"#/$defs/p\",\"$defs\":{{\"p\":{{\"pattern\":"
     )?;
@@ -50,7 +52,7 @@ fn answer_to(alloc: Global, id: &str, last: &str) -> Result<String, Fail> {
 
 // The answer where the last row's letter of this place isn't the one that its resource asks for: the URI of the resource around,
 // and that of the long one.
-fn failing(alloc: Global, place: usize, around: &str, opened: &str) -> Result<String, Fail> {
+fn failing(alloc: Global, place: usize, around: &str, opened: &str) -> Result<String, Fault> {
     let row = "https://ex.org/m#/items";
     let path = format!(in alloc; "/items/prefixItems/{place}/$ref")?;
     let above = format!(in alloc;
@@ -64,33 +66,51 @@ fn failing(alloc: Global, place: usize, around: &str, opened: &str) -> Result<St
     )?)
 }
 
-#[test]
-fn an_identifier_opens_the_resource_of_its_base(rt: HostRuntime) -> Result<(), Fail> {
-    let alloc = rt.alloc();
-    let id = long_identifier(alloc)?;
-    let id = id.as_str();
-    let found = answer_to(alloc, id, r#"["a"]"#)?;
-    assert!(rt; found.as_str().ends_with("\"valid\":true}"));
-    let first = failing(
-        alloc,
-        0,
-        "https://ex.org/a/one",
-        format!(in alloc; "https://ex.org/a/{id}")?.as_str(),
-    )?;
-    assert!(rt; answer_to(alloc, id, r#"["b"]"#)?.as_str() == first.as_str());
-    let second = failing(
-        alloc,
+fn answer_to_long(alloc: Global, last: &str) -> Result<String, Fault> {
+    answer_to(alloc, long_identifier(alloc)?.as_str(), last)
+}
+
+fn failing_long(alloc: Global, place: usize, around: &str, base: &str) -> Result<String, Fault> {
+    let mut opened = String::from_str(alloc, base)?;
+    opened.push_str(long_identifier(alloc)?.as_str())?;
+    failing(alloc, place, around, opened.as_str())
+}
+
+// The last row, the place of the letter that fails, the URI of the resource around, and the base of the long one.
+const FAILING: &[(&str, usize, &str, &str)] = &[
+    (r#"["b"]"#, 0, "https://ex.org/a/one", "https://ex.org/a/"),
+    (
+        r#"["a","c"]"#,
         1,
         "https://ex.org/b/two",
-        format!(in alloc; "https://ex.org/b/{id}")?.as_str(),
-    )?;
-    assert!(rt; answer_to(alloc, id, r#"["a","c"]"#)?.as_str() == second.as_str());
-    let third = failing(
-        alloc,
+        "https://ex.org/b/",
+    ),
+    (
+        r#"["a","b","a"]"#,
         2,
         "https://ex.org/b/c/",
-        format!(in alloc; "https://ex.org/b/c/{id}")?.as_str(),
-    )?;
-    assert!(rt; answer_to(alloc, id, r#"["a","b","a"]"#)?.as_str() == third.as_str());
-    Ok(())
+        "https://ex.org/b/c/",
+    ),
+];
+
+fn expect_failing(rt: &impl Abort, alloc: Global, row: &(&str, usize, &str, &str)) {
+    let (last, place, around, base) = *row;
+    let wanted = failing_long(alloc, place, around, base);
+    expect_same(rt, answer_to_long(alloc, last), wanted, last);
+}
+
+fn is_valid(alloc: Global, last: &str) -> Result<bool, Fault> {
+    Ok(
+        answer_to_long(alloc, last)?
+            .as_str()
+            .ends_with("\"valid\":true}"),
+    )
+}
+
+#[test]
+fn an_identifier_opens_the_resource_of_its_base(rt: HostRuntime) {
+    expect_holds(&rt, is_valid(rt.alloc(), r#"["a"]"#), "a");
+    for row in FAILING {
+        expect_failing(&rt, rt.alloc(), row);
+    }
 }

@@ -1,8 +1,9 @@
 //! The text of the output: its units, their order and their locations.
 
-use crate::texts::{URI, answer, input_answer};
+use crate::texts::{URI, answer, expect_told, input_answer};
 use crate::{refusals, verdicts};
-use std::test::Fail;
+use std::alloc::Global;
+use std::process::Abort;
 
 // A schema, an instance, and the answer.
 const OUTPUTS: &[(&str, &str, &str)] = &[
@@ -88,24 +89,22 @@ const OUTPUTS: &[(&str, &str, &str)] = &[
     ),
 ];
 
-#[test]
-fn texts_have_their_answers(rt: HostRuntime) -> Result<(), Fail> {
-    for table in &[
-        OUTPUTS,
-        verdicts::UNEVALUATED,
-        verdicts::REFERENCES,
-        verdicts::CONTAINS,
-        verdicts::PATTERNS,
-        verdicts::ANNOTATIONS,
-        verdicts::IN_PLACE,
-        refusals::SCHEMAS,
-    ] {
-        for (schema, instance, text) in *table {
-            let found = answer(rt.alloc(), URI, schema, instance)?;
-            assert_eq!(rt; found.as_str(), *text, "{instance} by {schema}");
-        }
+fn expect_answers(rt: &impl Abort, alloc: Global, rows: &[(&str, &str, &str)]) {
+    for row in rows {
+        expect_told(rt, alloc, answer(alloc, URI, row.0, row.1), row.2, row.0);
     }
-    Ok(())
+}
+
+#[test]
+fn texts_have_their_answers(rt: HostRuntime) {
+    expect_answers(&rt, rt.alloc(), OUTPUTS);
+    expect_answers(&rt, rt.alloc(), verdicts::UNEVALUATED);
+    expect_answers(&rt, rt.alloc(), verdicts::REFERENCES);
+    expect_answers(&rt, rt.alloc(), verdicts::CONTAINS);
+    expect_answers(&rt, rt.alloc(), verdicts::PATTERNS);
+    expect_answers(&rt, rt.alloc(), verdicts::ANNOTATIONS);
+    expect_answers(&rt, rt.alloc(), verdicts::IN_PLACE);
+    expect_answers(&rt, rt.alloc(), refusals::SCHEMAS);
 }
 
 // A URI, a schema, an instance, and the answer: schemas stand under the base form of the URI and under their own `$id`.
@@ -124,15 +123,16 @@ const UNDER_URIS: &[(&str, &str, &str, &str)] = &[
     ),
 ];
 
-#[test]
-fn schemas_stand_under_uris(rt: HostRuntime) -> Result<(), Fail> {
-    for table in &[UNDER_URIS, refusals::ORDER] {
-        for (uri, schema, instance, text) in *table {
-            let found = answer(rt.alloc(), uri, schema, instance)?;
-            assert_eq!(rt; found.as_str(), *text, "{uri}");
-        }
+fn expect_under_uris(rt: &impl Abort, alloc: Global, rows: &[(&str, &str, &str, &str)]) {
+    for row in rows {
+        expect_told(rt, alloc, answer(alloc, row.0, row.1, row.2), row.3, row.0);
     }
-    Ok(())
+}
+
+#[test]
+fn schemas_stand_under_uris(rt: HostRuntime) {
+    expect_under_uris(&rt, rt.alloc(), UNDER_URIS);
+    expect_under_uris(&rt, rt.alloc(), refusals::ORDER);
 }
 
 // One text that holds both, and the answer.
@@ -147,13 +147,14 @@ const INPUTS: &[(&str, &str)] = &[
     ),
 ];
 
-#[test]
-fn inputs_have_their_answers(rt: HostRuntime) -> Result<(), Fail> {
-    for table in &[INPUTS, refusals::INPUTS] {
-        for (input, text) in *table {
-            let found = input_answer(rt.alloc(), input)?;
-            assert_eq!(rt; found.as_str(), *text, "{input}");
-        }
+fn expect_inputs(rt: &impl Abort, alloc: Global, rows: &[(&str, &str)]) {
+    for row in rows {
+        expect_told(rt, alloc, input_answer(alloc, row.0), row.1, row.0);
     }
-    Ok(())
+}
+
+#[test]
+fn inputs_have_their_answers(rt: HostRuntime) {
+    expect_inputs(&rt, rt.alloc(), INPUTS);
+    expect_inputs(&rt, rt.alloc(), refusals::INPUTS);
 }

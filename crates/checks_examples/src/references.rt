@@ -1,11 +1,11 @@
 //! References that are followed again, and what they name then.
 
 use crate::documents::listed;
-use crate::texts::{URI, answer};
+use crate::texts::{URI, answer, expect_holds, expect_same, expect_told};
 use keyword_plans::FollowedReferences;
-use linker::{Linked, link};
+use linker::{Fault, Linked, link};
 use std::alloc::{AllocError, Global};
-use std::test::Fail;
+use std::process::Abort;
 
 // Eighteen references, each of which names the schema of one number: all of them in turn, and then all of them again.
 const ROUNDS: &str =
@@ -53,13 +53,22 @@ const ANSWERS: &[(&str, &str, &str)] = &[
     ),
 ];
 
+fn expect_answer(rt: &impl Abort, alloc: Global, row: &(&str, &str, &str)) {
+    let (schema, instance, wanted) = *row;
+    expect_told(
+        rt,
+        alloc,
+        answer(alloc, URI, schema, instance),
+        wanted,
+        instance,
+    );
+}
+
 #[test]
-fn references_name_the_same_again(rt: HostRuntime) -> Result<(), Fail> {
-    for (schema, instance, text) in ANSWERS {
-        let found = answer(rt.alloc(), URI, schema, instance)?;
-        assert_eq!(rt; found.as_str(), *text, "{instance} by {schema}");
+fn references_name_the_same_again(rt: HostRuntime) {
+    for row in ANSWERS {
+        expect_answer(&rt, rt.alloc(), row);
     }
-    Ok(())
 }
 
 // A schema of so many references, each of which names the schema of one number, whose name begins so: all of them in turn, and
@@ -71,10 +80,7 @@ fn turns(
     first: usize,
 ) -> Result<(String, String), AllocError> {
     let mut schema = String::from_str(alloc, r#"{"$defs":{"x":true"#)?;
-    for number in 0..count {
-        let member = format!(in alloc; ",\"{name}{number}\":{{\"const\":{number}}}")?;
-        schema.push_str(member.as_str())?;
-    }
+    push_definitions(alloc, &mut schema, name, count)?;
     schema.push_str(r##"},"prefixItems":[{"$ref":"#/$defs/x"}"##)?;
     let mut instance = String::from_str(alloc, "[0")?;
     push_turn(alloc, &mut schema, &mut instance, name, count, 0)?;
@@ -82,6 +88,19 @@ fn turns(
     schema.push_str("]}")?;
     instance.push_str("]")?;
     Ok((schema, instance))
+}
+
+fn push_definitions(
+    alloc: Global,
+    schema: &mut String,
+    name: &str,
+    count: usize,
+) -> Result<(), AllocError> {
+    for number in 0..count {
+        let member = format!(in alloc; ",\"{name}{number}\":{{\"const\":{number}}}")?;
+        schema.push_str(member.as_str())?;
+    }
+    Ok(())
 }
 
 fn push_turn(
@@ -107,18 +126,30 @@ const NAMES: &[&str] = &[
     "a_name_of_more_than_a_hundred_and_twenty_eight_bytes_which_begins_as_all_the_others_do_and_ends_with_a_number_of_its_own_that_comes_here_",
 ];
 
+fn turns_answer(alloc: Global, name: &str, first: usize) -> Result<String, Fault> {
+    let (schema, instance) = turns(alloc, name, 130, first)?;
+    answer(alloc, URI, schema.as_str(), instance.as_str())
+}
+
+fn first_fails(alloc: Global, name: &str) -> Result<String, Fault> {
+    Ok(format!(in alloc; "{FIRST_FAILS}{name}{FAILING_NUMBER}")?)
+}
+
+fn expect_turns(rt: &impl Abort, alloc: Global, name: &str) {
+    expect_told(rt, alloc, turns_answer(alloc, name, 0), ALL_HOLD, name);
+    expect_same(
+        rt,
+        turns_answer(alloc, name, 64),
+        first_fails(alloc, name),
+        name,
+    );
+}
+
 #[test]
-fn many_references_name_their_own(rt: HostRuntime) -> Result<(), Fail> {
+fn many_references_name_their_own(rt: HostRuntime) {
     for name in NAMES {
-        let (schema, instance) = turns(rt.alloc(), name, 130, 0)?;
-        let found = answer(rt.alloc(), URI, schema.as_str(), instance.as_str())?;
-        assert_eq!(rt; found.as_str(), ALL_HOLD);
-        let (schema, instance) = turns(rt.alloc(), name, 130, 64)?;
-        let found = answer(rt.alloc(), URI, schema.as_str(), instance.as_str())?;
-        let fails = format!(in rt.alloc(); "{FIRST_FAILS}{name}{FAILING_NUMBER}")?;
-        assert_eq!(rt; found.as_str(), fails.as_str());
+        expect_turns(&rt, rt.alloc(), name);
     }
-    Ok(())
 }
 
 const ALL_HOLD: &str =
@@ -132,7 +163,9 @@ const FAILING_NUMBER: &str =
     r##"0/const","error":"const is not met","instanceLocation":"/131","keywordLocation":"/prefixItems/131/$ref/const"}],"valid":false}"##;
 
 // The URI of a resource, the text of a reference in it, and the resource and the number of steps of what it names.
-const NAMED: &[(&str, &str, Option<(&str, usize)>)] = &[
+type Named = (&'static str, &'static str, Option<(&'static str, usize)>);
+
+const NAMED: &[Named] = &[
     (URI, "#/$defs/x", Some((URI, 2))),
     (
         "https://ex.org/e",
@@ -150,7 +183,7 @@ fn names<'a>(
     resource: &'a str,
     reference: &'a str,
     named: Option<(&str, usize)>,
-) -> Result<bool, Fail> {
+) -> Result<bool, Fault> {
     match references.target(alloc, resource, reference)? {
         Some(target) => match named {
             Some((uri, steps)) => {
@@ -163,26 +196,28 @@ fn names<'a>(
     }
 }
 
-// The same, of each of these, twice.
-fn name_all<'a>(
+fn name_all(
     alloc: Global,
-    linked: &'a Linked,
-    rows: &'a [(&'a str, &'a str, Option<(&'a str, usize)>)],
-) -> Result<bool, Fail> {
-    let mut references = FollowedReferences::new(alloc, linked);
-    let mut all = true;
-    for _ in 0..2 {
-        for (resource, reference, named) in rows {
-            all = names(alloc, &mut references, *resource, *reference, *named)? && all;
+    references: &mut FollowedReferences<'_>,
+    rows: &'static [Named],
+) -> Result<bool, Fault> {
+    for row in rows {
+        if !names(alloc, references, row.0, row.1, row.2)? {
+            return Ok(false);
         }
     }
-    Ok(all)
+    Ok(true)
+}
+
+// Whether each does, and does so once more.
+fn are_followed(alloc: Global) -> Result<bool, Fault> {
+    let mut source = listed(alloc, &[(URI, SAME_TEXT)])?;
+    let linked = link(alloc, &mut source, URI)?;
+    let mut references = FollowedReferences::new(alloc, &linked);
+    Ok(name_all(alloc, &mut references, NAMED)? && name_all(alloc, &mut references, NAMED)?)
 }
 
 #[test]
-fn references_are_followed_in_their_resources(rt: HostRuntime) -> Result<(), Fail> {
-    let mut source = listed(rt.alloc(), &[(URI, SAME_TEXT)])?;
-    let linked = link(rt.alloc(), &mut source, URI)?;
-    assert!(rt; name_all(rt.alloc(), &linked, NAMED)?);
-    Ok(())
+fn references_are_followed_in_their_resources(rt: HostRuntime) {
+    expect_holds(&rt, are_followed(rt.alloc()), "four references");
 }

@@ -1,7 +1,6 @@
 //! References, `$id`s and patterns that several linked documents have.
 
-use crate::documents::{SEVEN, answer};
-use std::test::Fail;
+use crate::documents::{Answer, SEVEN, expect_answer};
 
 // The same relative `$id` in two documents, and one in the third alone; a pattern of two documents, and one of the third.
 const IDENTIFIED: &[(&str, &str)] = &[
@@ -47,8 +46,7 @@ const LONG: &[(&str, &str)] = &[
     ),
 ];
 
-// Documents, the URI that is asked for, an instance, and the answer.
-const ANSWERS: &[(&[(&str, &str)], &str, &str, &str)] = &[
+const ANSWERS: &[Answer] = &[
     (
         SEVEN,
         "https://ex.org/m",
@@ -94,10 +92,8 @@ const ANSWERS: &[(&[(&str, &str)], &str, &str, &str)] = &[
 ];
 
 #[test]
-fn several_documents_answer(rt: HostRuntime) -> Result<(), Fail> {
-    for (documents, uri, instance, text) in ANSWERS {
-        let found = answer(rt.alloc(), documents, uri, instance)?;
-        assert_eq!(rt; found.as_str(), *text, "{instance} by {uri}");
+fn several_documents_answer(rt: HostRuntime) {
+    for row in ANSWERS {
+        expect_answer(&rt, rt.alloc(), row);
     }
-    Ok(())
 }

@@ -1,37 +1,47 @@
 //! What keywords look at, their names, and how they annotate.
 
+use crate::texts::expect_holds;
 use basic_output::Says;
-use json_doc::{Doc, Name, read};
+use json_doc::{Doc, Fault, Name, read};
 use keyword_plans::{Evaluated, Subject, annotate, distinct_names};
 use keywords::Keyword;
 use std::alloc::{AllocError, Global};
-use std::test::Fail;
 
-#[test]
-fn subjects_are_strings_arrays_or_objects(rt: HostRuntime) -> Result<(), Fail> {
-    let doc = read(rt.alloc(), b"[null,true]")?;
+fn is_array(alloc: Global) -> Result<bool, Fault> {
+    let doc = read(alloc, b"[null,true]")?;
     let array = Subject::Value(&doc);
-    assert!(rt; array.elements().len() == 2 && array.is_array() && array.as_str().is_none());
-    let doc = read(rt.alloc(), br#"{"a":null}"#)?;
+    Ok(array.elements().len() == 2 && array.is_array() && array.as_str().is_none())
+}
+
+fn is_object(alloc: Global) -> Result<bool, Fault> {
+    let doc = read(alloc, br#"{"a":null}"#)?;
     let object = Subject::Value(&doc);
-    assert!(rt; object.is_object() && object.members().is_some());
-    assert!(rt; object.get("a").is_some() && object.get("b").is_none());
-    Ok(())
+    let has_members = object.is_object() && object.members().is_some();
+    Ok(has_members && object.get("a").is_some() && object.get("b").is_none())
+}
+
+fn is_string(name: Subject<'_>) -> bool {
+    name.as_str() == Some("a")
+        && name.members().is_none()
+        && name.get("a").is_none()
+        && name.elements().is_empty()
+        && !name.is_array()
+        && !name.is_object()
+}
+
+fn is_name_a_string(alloc: Global) -> Result<bool, Fault> {
+    let doc = read(alloc, br#"{"a":null}"#)?;
+    Ok(match first_name(&doc) {
+        Some(name) => is_string(Subject::Name(name)),
+        None => false,
+    })
 }
 
 #[test]
-fn a_name_of_an_object_is_a_string(rt: HostRuntime) -> Result<(), Fail> {
-    let doc = read(rt.alloc(), br#"{"a":null}"#)?;
-    match first_name(&doc) {
-        Some(name) => {
-            let name = Subject::Name(name);
-            assert!(rt; name.as_str() == Some("a") && name.members().is_none());
-            assert!(rt; name.get("a").is_none() && name.elements().is_empty());
-            assert!(rt; !name.is_array() && !name.is_object());
-        }
-        None => assert!(rt; false),
-    }
-    Ok(())
+fn subjects_are_strings_arrays_or_objects(rt: HostRuntime) {
+    expect_holds(&rt, is_array(rt.alloc()), "an array");
+    expect_holds(&rt, is_object(rt.alloc()), "an object");
+    expect_holds(&rt, is_name_a_string(rt.alloc()), "a name of an object");
 }
 
 fn first_name(doc: &Doc) -> Option<Name<'_>> {
@@ -48,24 +58,27 @@ fn keywords_have_their_names(rt: HostRuntime) {
     assert!(rt; Keyword::UnevaluatedProperties.name() == "unevaluatedProperties");
 }
 
-#[test]
-fn pattern_properties_names_each_member_once(rt: HostRuntime) -> Result<(), Fail> {
-    let objects = read(rt.alloc(), br#"[{"b":0},{"a":0},{"b":0}]"#)?;
-    let names = names_of(rt.alloc(), &objects)?;
-    let doc = read(rt.alloc(), b"{}")?;
-    let distinct = distinct_names(rt.alloc(), &names)?;
+fn names_b_and_a(alloc: Global) -> Result<bool, Fault> {
+    let objects = read(alloc, br#"[{"b":0},{"a":0},{"b":0}]"#)?;
+    let names = names_of(alloc, &objects)?;
+    let doc = read(alloc, b"{}")?;
+    let distinct = distinct_names(alloc, &names)?;
     let evaluated = Evaluated {
         names: &distinct,
         indexes: &[],
     };
     let keyword = Keyword::PatternProperties;
-    match annotate(keyword, Subject::Value(&doc), 3, evaluated) {
-        Some(Says::Names([first, second])) => {
-            assert!(rt; first.as_str() == "b" && second.as_str() == "a")
-        }
-        _ => assert!(rt; false),
-    }
-    Ok(())
+    Ok(
+        match annotate(keyword, Subject::Value(&doc), 3, evaluated) {
+            Some(Says::Names([first, second])) => first.as_str() == "b" && second.as_str() == "a",
+            _ => false,
+        },
+    )
+}
+
+#[test]
+fn pattern_properties_names_each_member_once(rt: HostRuntime) {
+    expect_holds(&rt, names_b_and_a(rt.alloc()), "b, a, b");
 }
 
 // The first name of each of the objects.
@@ -81,17 +94,22 @@ fn names_of<'a>(alloc: Global, objects: &'a Doc) -> Result<Vec<Name<'a>>, AllocE
     Ok(names)
 }
 
-#[test]
-fn prefix_items_annotates_with_the_largest_index(rt: HostRuntime) -> Result<(), Fail> {
-    let doc = read(rt.alloc(), b"[null,null,null]")?;
+fn says_largest_index(alloc: Global) -> Result<bool, Fault> {
+    let doc = read(alloc, b"[null,null,null]")?;
     let evaluated = Evaluated {
         names: &[],
         indexes: &[0, 1],
     };
     let keyword = Keyword::PrefixItems;
-    match annotate(keyword, Subject::Value(&doc), 2, evaluated) {
-        Some(Says::Index(index)) => assert!(rt; index == 1),
-        _ => assert!(rt; false),
-    }
-    Ok(())
+    Ok(
+        match annotate(keyword, Subject::Value(&doc), 2, evaluated) {
+            Some(Says::Index(index)) => index == 1,
+            _ => false,
+        },
+    )
+}
+
+#[test]
+fn prefix_items_annotates_with_the_largest_index(rt: HostRuntime) {
+    expect_holds(&rt, says_largest_index(rt.alloc()), "three elements");
 }

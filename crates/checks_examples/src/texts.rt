@@ -1,27 +1,74 @@
-//! Checks of texts.
+//! Checks of texts, and what tests expect of an outcome: where it is otherwise, the test ends and names the row.
 
-use checks::{Fault, Report, check_bytes, check_input};
-use std::alloc::Global;
-use std::test::Fail;
+use checks::{Fault, check_bytes, check_input};
+use std::alloc::{AllocError, Global};
+use std::process::Abort;
 
 /// The URI that most schemas stand under.
 pub const URI: &str = "https://ex.org/s";
 
-/// The text of the report, or the fault.
-pub fn told(alloc: Global, outcome: Result<Report, Fault>) -> Result<String, Fail> {
+/// The text of the report on two texts, where the schema stands under this URI.
+pub fn answer(alloc: Global, uri: &str, schema: &str, instance: &str) -> Result<String, Fault> {
+    Ok(check_bytes(alloc, uri, schema.as_bytes(), instance.as_bytes())?.into_text())
+}
+
+/// The text of the report on one text that holds both.
+pub fn input_answer(alloc: Global, input: &str) -> Result<String, Fault> {
+    Ok(check_input(alloc, input.as_bytes())?.into_text())
+}
+
+fn told(alloc: Global, outcome: Result<String, Fault>) -> Result<String, AllocError> {
     match outcome {
-        Ok(report) => Ok(report.into_text()),
-        Err(fault) => Ok(format!(in alloc; "{fault}")?),
+        Ok(text) => Ok(text),
+        Err(fault) => format!(in alloc; "{fault}"),
     }
 }
 
-/// The text of the report on two texts, where the schema stands under this URI, or the fault.
-pub fn answer(alloc: Global, uri: &str, schema: &str, instance: &str) -> Result<String, Fail> {
-    let outcome = check_bytes(alloc, uri, schema.as_bytes(), instance.as_bytes());
-    told(alloc, outcome)
+/// Expects this text, or a fault that is told so.
+pub fn expect_told(
+    rt: &impl Abort,
+    alloc: Global,
+    outcome: Result<String, Fault>,
+    wanted: &str,
+    row: &str,
+) {
+    match told(alloc, outcome) {
+        Ok(text) => assert_eq!(rt; text.as_str(), wanted, "{row}"),
+        Err(_) => panic!(rt; "{row}: no room"),
+    }
 }
 
-/// The text of the report on one text that holds both, or the fault.
-pub fn input_answer(alloc: Global, input: &str) -> Result<String, Fail> {
-    told(alloc, check_input(alloc, input.as_bytes()))
+/// Expects a text that begins so, or a fault that is told so.
+pub fn expect_beginning(
+    rt: &impl Abort,
+    alloc: Global,
+    outcome: Result<String, Fault>,
+    wanted: &str,
+    row: &str,
+) {
+    match told(alloc, outcome) {
+        Ok(text) => assert!(rt; text.as_str().starts_with(wanted), "{row}"),
+        Err(_) => panic!(rt; "{row}: no room"),
+    }
+}
+
+/// Expects a text, and the same one as the other.
+pub fn expect_same(
+    rt: &impl Abort,
+    outcome: Result<String, Fault>,
+    wanted: Result<String, Fault>,
+    row: &str,
+) {
+    match (outcome, wanted) {
+        (Ok(text), Ok(wanted)) => assert!(rt; text.as_str() == wanted.as_str(), "{row}"),
+        _ => panic!(rt; "{row}: refused"),
+    }
+}
+
+/// Expects that something holds.
+pub fn expect_holds(rt: &impl Abort, outcome: Result<bool, Fault>, row: &str) {
+    match outcome {
+        Ok(holds) => assert!(rt; holds, "{row}"),
+        Err(fault) => panic!(rt; "{row}: {fault}"),
+    }
 }

@@ -5,7 +5,7 @@ use document_file::{Checkpoint, DocumentFile, open, put_and_crash};
 use sqlite_disk::{Files, Fuse, Memory};
 use sqlite_trees::store::Reopen;
 use std::alloc::Global;
-use std::test::Fail;
+use std::process::Abort;
 use stored_rows::{DocumentStore, RowRef, StoreFault};
 
 const FIRST: RowRef<'static> = RowRef {
@@ -74,18 +74,27 @@ fn crashed(alloc: Global, log: u64, db: u64) -> Found {
     }
 }
 
+/// What is found is whole at least; the log and the file have failed from such calls on.
+fn expect_whole(rt: &impl Abort, found: Found, log: u64, db: u64) -> (bool, bool) {
+    assert!(rt; found != Found::Other, "{log} {db}");
+    (found == Found::Kept, found == Found::Whole)
+}
+
+fn expect_crashed(rt: &impl Abort, alloc: Global, calls: u64) -> (bool, bool) {
+    let log = crashed(alloc, calls, u64::MAX);
+    let (kept, whole) = expect_whole(rt, log, calls, u64::MAX);
+    let db = crashed(alloc, u64::MAX, calls);
+    let (db_kept, db_whole) = expect_whole(rt, db, u64::MAX, calls);
+    (kept || db_kept, whole || db_whole)
+}
+
 #[test]
-fn rows_outlast_each_failing_call(rt: HostRuntime) -> Result<(), Fail> {
-    let alloc = rt.alloc();
+fn rows_outlast_each_failing_call(rt: HostRuntime) {
     let (mut kept, mut whole) = (false, false);
     for calls in 0..40u64 {
-        for (log, db) in [(calls, u64::MAX), (u64::MAX, calls)] {
-            let found = crashed(alloc, log, db);
-            assert!(rt; found != Found::Other, "{log} {db}");
-            kept = kept || found == Found::Kept;
-            whole = whole || found == Found::Whole;
-        }
+        let found = expect_crashed(&rt, rt.alloc(), calls);
+        kept = kept || found.0;
+        whole = whole || found.1;
     }
     assert!(rt; kept && whole);
-    Ok(())
 }

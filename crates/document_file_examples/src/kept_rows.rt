@@ -9,7 +9,7 @@ use sqlite_disk::{Disk, Files, Memory};
 use sqlite_trees::store::Reopen;
 use std::alloc::Global;
 use std::io;
-use std::test::Fail;
+use std::process::Abort;
 use stored_rows::{DocumentStore, RowRef, StoreFault};
 
 // What is put, or deleted where there is no text: tenant, URI, base and text. Then the rows.
@@ -34,18 +34,26 @@ b https://ex.org/a https://ex.org/x true\n\
 b https://ex.org/s https://ex.org/x {\"type\":\"string\"}\n\
 b https://ex.org/s/t  {}\n";
 
+fn change<D: DocumentStore>(
+    store: &mut D,
+    row: &(&str, &str, &str, &str),
+) -> Result<(), StoreFault> {
+    let (tenant, uri, base, text) = *row;
+    if text.is_empty() {
+        store.delete(tenant, uri)
+    } else {
+        store.put(RowRef {
+            tenant,
+            uri,
+            base,
+            text,
+        })
+    }
+}
+
 fn changed<D: DocumentStore>(store: &mut D) -> Result<(), StoreFault> {
-    for (tenant, uri, base, text) in CHANGES {
-        if text.is_empty() {
-            store.delete(tenant, uri)?;
-        } else {
-            store.put(RowRef {
-                tenant,
-                uri,
-                base,
-                text,
-            })?;
-        }
+    for row in CHANGES {
+        change(store, row)?;
     }
     store.commit()
 }
@@ -63,7 +71,7 @@ fn rows_of<S: Reopen + Checkpoint + Drop>(
 }
 
 /// Files with these bytes.
-fn files(alloc: Global, bytes: &[u8]) -> io::Result<Files<Memory>>
+pub fn files(alloc: Global, bytes: &[u8]) -> io::Result<Files<Memory>>
     ensures log { IfOk result (λ files. IsTrue (memory_is_usable files.log)) }
     ensures db { IfOk result (λ files. IsTrue (memory_is_usable files.db)) }
 {
@@ -72,14 +80,29 @@ fn files(alloc: Global, bytes: &[u8]) -> io::Result<Files<Memory>>
     Ok(Files { log, db })
 }
 
+fn read_back(alloc: Global) -> Option<(String, String)> {
+    let documents = open(alloc, files(alloc, b"").ok()?, 7).ok()?;
+    rows_of(alloc, documents).ok()
+}
+
+// A text whose first bytes are those of no database.
+fn is_foreign(alloc: Global) -> Option<bool> {
+    let text = files(alloc, b"The names of all who were there.").ok()?;
+    Some(open(alloc, text, 7).is_err_and(|fault| fault == OpenFault::Foreign))
+}
+
+fn expect_rows(rt: &impl Abort, rows: Option<(String, String)>) {
+    match rows {
+        Some((rows, others)) => {
+            assert_eq!(rt; rows.as_str(), ROWS);
+            assert_eq!(rt; others.as_str(), ROWS);
+        }
+        None => panic!(rt; "refused"),
+    }
+}
+
 #[test]
-fn reads_back_in_order(rt: HostRuntime) -> Result<(), Fail> {
-    let alloc = rt.alloc();
-    let documents = open(alloc, files(alloc, b"")?, 7)?;
-    let (rows, others) = rows_of(alloc, documents)?;
-    assert_eq!(rt; rows.as_str(), ROWS);
-    assert_eq!(rt; others.as_str(), ROWS);
-    let text = files(alloc, b"The names of all who were there.")?;
-    assert!(rt; open(alloc, text, 7).is_err_and(|fault| fault == OpenFault::Foreign));
-    Ok(())
+fn reads_back_in_order(rt: HostRuntime) {
+    expect_rows(&rt, read_back(rt.alloc()));
+    assert!(rt; is_foreign(rt.alloc()) == Some(true));
 }

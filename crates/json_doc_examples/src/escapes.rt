@@ -1,9 +1,10 @@
 //! Names with escapes at each part of a unit, by the rules of RFC 6901, RFC 3986 and RFC 8259.
 
+use crate::expectations::{expect_same, expect_told};
 use basic_output::{Fault, Location, Origin, Says, Step, Units, WrittenPointer, output_text};
 use keywords::Keyword;
 use std::alloc::Global;
-use std::test::Fail;
+use std::process::Abort;
 
 /// A name, its token as a fragment, and its token in a string of JSON.
 const NAMES: &[(&str, &str, &str)] = &[
@@ -76,13 +77,11 @@ fn push_token(text: &mut String, is_named: bool, token: &str, other: &str) -> Re
     Ok(())
 }
 
-/// The text of these steps, of which some have this token.
-fn text_of(alloc: Global, place: &[bool; 3], token: &str) -> Result<String, Fault> {
+/// Appends the text of these steps, of which some have this token.
+fn push_steps(text: &mut String, place: &[bool; 3], token: &str) -> Result<(), Fault> {
     let [first, _, _] = *place;
-    let mut text = String::new(alloc);
-    push_token(&mut text, first, token, "properties")?;
-    push_onward(&mut text, place, token)?;
-    Ok(text)
+    push_token(text, first, token, "properties")?;
+    push_onward(text, place, token)
 }
 
 /// Appends the text of the last two steps.
@@ -142,91 +141,145 @@ fn output_at(
     output_text(alloc, false, &units)
 }
 
-/// The text of the last two steps.
-fn onward_of(alloc: Global, place: &[bool; 3], token: &str) -> Result<String, Fault> {
-    let mut text = String::new(alloc);
-    push_onward(&mut text, place, token)?;
+/// The text of that output, where the name has this token in a fragment and this one in a string.
+fn wanted_at(
+    alloc: Global,
+    place: &[bool; 3],
+    fragment: &str,
+    pointer: &str,
+) -> Result<String, Fault> {
+    let mut text = String::from_str(alloc, r#"{"errors":[{"absoluteKeywordLocation":"urn:x#"#)?;
+    push_steps(&mut text, place, fragment)?;
+    push_onward(&mut text, place, fragment)?;
+    text.push_str(r#"","error":"no value is allowed","instanceLocation":""#)?;
+    push_steps(&mut text, place, pointer)?;
+    text.push_str(r#"","keywordLocation":""#)?;
+    push_steps(&mut text, place, pointer)?;
+    text.push_str(r#""}],"valid":false}"#)?;
     Ok(text)
 }
 
-#[test]
-fn names_are_escaped_at_each_part(rt: HostRuntime) -> Result<(), Fail> {
-    let alloc = rt.alloc();
-    for (name, fragment, pointer) in NAMES {
-        for place in PLACES {
-            let origin = text_of(alloc, place, fragment)?;
-            let onward = onward_of(alloc, place, fragment)?;
-            let location = text_of(alloc, place, pointer)?;
-            let wanted = format!(in alloc;
-                r#"{{"errors":[{{"absoluteKeywordLocation":"urn:x#{origin}{onward}","error":"no value is allowed","instanceLocation":"{location}","keywordLocation":"{location}"}}],"valid":false}}"#
-            )?;
-            for written in [Written::Nothing, Written::Pointers, Written::All] {
-                let found = output_at(alloc, place, name, written)?;
-                assert_eq!(rt; found.as_str(), wanted.as_str());
-            }
-        }
-    }
-    Ok(())
+fn expect_escaped_at(
+    rt: &impl Abort,
+    alloc: Global,
+    row: &(&str, &str, &str),
+    place: &[bool; 3],
+    written: Written,
+) {
+    let (name, fragment, pointer) = *row;
+    let found = output_at(alloc, place, name, written);
+    expect_same(rt, found, wanted_at(alloc, place, fragment, pointer), name);
 }
 
-/// A URI of a resource with this text, as a program may give it.
+fn expect_escaped(rt: &impl Abort, alloc: Global, row: &(&str, &str, &str)) {
+    for place in PLACES {
+        expect_escaped_at(rt, alloc, row, place, Written::Nothing);
+        expect_escaped_at(rt, alloc, row, place, Written::Pointers);
+        expect_escaped_at(rt, alloc, row, place, Written::All);
+    }
+}
+
+#[test]
+fn names_are_escaped_at_each_part(rt: HostRuntime) {
+    for row in NAMES {
+        expect_escaped(&rt, rt.alloc(), row);
+    }
+}
+
+/// A URI of a resource, as a program may give it, and the text of an output with an annotation at its root.
 const URIS: &[(&str, &str)] = &[
-    ("urn:x", "urn:x"),
-    ("urn:\"x\\", r#"urn:\"x\\"#),
-    ("https://ex.org/a\tb/é", r#"https://ex.org/a\tb/é"#),
+    (
+        "urn:x",
+        r#"{"annotations":[{"absoluteKeywordLocation":"urn:x#","annotation":true,"instanceLocation":"","keywordLocation":""}],"valid":true}"#,
+    ),
+    (
+        "urn:\"x\\",
+        r#"{"annotations":[{"absoluteKeywordLocation":"urn:\"x\\#","annotation":true,"instanceLocation":"","keywordLocation":""}],"valid":true}"#,
+    ),
+    (
+        "https://ex.org/a\tb/é",
+        r#"{"annotations":[{"absoluteKeywordLocation":"https://ex.org/a\tb/é#","annotation":true,"instanceLocation":"","keywordLocation":""}],"valid":true}"#,
+    ),
 ];
 
-#[test]
-fn uris_are_escaped(rt: HostRuntime) -> Result<(), Fail> {
-    let alloc = rt.alloc();
-    for (uri, escaped) in URIS {
-        let wanted = format!(in alloc;
-            r#"{{"annotations":[{{"absoluteKeywordLocation":"{escaped}#","annotation":true,"instanceLocation":"","keywordLocation":""}}],"valid":true}}"#
-        )?;
-        let here = WrittenPointer::new(alloc);
-        for origin in [
-            Origin::new(alloc, uri, Vec::new(alloc))?,
-            Origin::root(alloc, uri),
-        ] {
-            let mut units = Units::new(alloc);
-            let location = Location {
-                path: &here,
-                origin: &origin,
-                onward: 0,
-                instance_location: &here,
-            };
-            units.push(true, location, Says::True)?;
-            let found = output_text(alloc, true, &units)?;
-            assert_eq!(rt; found.as_str(), wanted.as_str());
-        }
-    }
-    Ok(())
+/// The text of the output with an annotation at the root of what has this origin.
+fn output_under(alloc: Global, origin: &Origin<'_>) -> Result<String, Fault> {
+    let here = WrittenPointer::new(alloc);
+    let mut units = Units::new(alloc);
+    let location = Location {
+        path: &here,
+        origin,
+        onward: 0,
+        instance_location: &here,
+    };
+    units.push(true, location, Says::True)?;
+    output_text(alloc, true, &units)
+}
+
+fn output_under_uri(alloc: Global, uri: &str) -> Result<String, Fault> {
+    output_under(alloc, &Origin::new(alloc, uri, Vec::new(alloc))?)
+}
+
+fn expect_uri(rt: &impl Abort, alloc: Global, row: &(&str, &str)) {
+    let (uri, wanted) = *row;
+    expect_told(rt, alloc, output_under_uri(alloc, uri), wanted, uri);
+    let root = Origin::root(alloc, uri);
+    expect_told(rt, alloc, output_under(alloc, &root), wanted, uri);
 }
 
 #[test]
-fn steps_with_escapes_come_and_go(rt: HostRuntime) -> Result<(), Fail> {
-    let alloc = rt.alloc();
+fn uris_are_escaped(rt: HostRuntime) {
+    for row in URIS {
+        expect_uri(&rt, rt.alloc(), row);
+    }
+}
+
+/// Puts an error last, at this name behind the path, which is then as it was.
+fn push_named<'a>(
+    units: &mut Units,
+    path: &mut WrittenPointer<'a>,
+    origin: &Origin<'a>,
+    here: &WrittenPointer<'a>,
+    name: &'a str,
+) -> Result<(), Fault> {
+    path.push(Step::Name(name))?;
+    path.write_onward(2)?;
+    let location = Location {
+        path,
+        origin,
+        onward: 2,
+        instance_location: here,
+    };
+    units.push(false, location, Says::NotAllowed)?;
+    path.pop();
+    Ok(())
+}
+
+/// The output with errors at four names, one after the other, behind another one.
+fn come_and_gone(alloc: Global) -> Result<String, Fault> {
     let origin = Origin::new(alloc, "urn:x", Vec::new(alloc))?;
     let here = WrittenPointer::new(alloc);
     let mut path = WrittenPointer::new(alloc);
     let mut units = Units::new(alloc);
     path.push(Step::Name("a\"b"))?;
-    for name in ["\\", "x", "~", "é"] {
-        path.push(Step::Name(name))?;
-        path.write_onward(2)?;
-        let location = Location {
-            path: &path,
-            origin: &origin,
-            onward: 2,
-            instance_location: &here,
-        };
-        units.push(false, location, Says::NotAllowed)?;
-        path.pop();
-    }
-    let text = output_text(alloc, false, &units)?;
-    assert_eq!(rt;
-        text.as_str(),
-        r#"{"errors":[{"absoluteKeywordLocation":"urn:x#/a%22b/%5C","error":"no value is allowed","instanceLocation":"","keywordLocation":"/a\"b/\\"},{"absoluteKeywordLocation":"urn:x#/a%22b/x","error":"no value is allowed","instanceLocation":"","keywordLocation":"/a\"b/x"},{"absoluteKeywordLocation":"urn:x#/a%22b/~0","error":"no value is allowed","instanceLocation":"","keywordLocation":"/a\"b/~0"},{"absoluteKeywordLocation":"urn:x#/a%22b/%C3%A9","error":"no value is allowed","instanceLocation":"","keywordLocation":"/a\"b/é"}],"valid":false}"#
+    push_named(&mut units, &mut path, &origin, &here, "\\")?;
+    push_named(&mut units, &mut path, &origin, &here, "x")?;
+    push_named(&mut units, &mut path, &origin, &here, "~")?;
+    push_named(&mut units, &mut path, &origin, &here, "é")?;
+    output_text(alloc, false, &units)
+}
+
+const COME_AND_GONE: &str =
+    r#"{"errors":[{"absoluteKeywordLocation":"urn:x#/a%22b/%5C","error":"no value is allowed","instanceLocation":"","keywordLocation":"/a\"b/\\"},{"absoluteKeywordLocation":"urn:x#/a%22b/x","error":"no value is allowed","instanceLocation":"","keywordLocation":"/a\"b/x"},{"absoluteKeywordLocation":"urn:x#/a%22b/~0","error":"no value is allowed","instanceLocation":"","keywordLocation":"/a\"b/~0"},{"absoluteKeywordLocation":"urn:x#/a%22b/%C3%A9","error":"no value is allowed","instanceLocation":"","keywordLocation":"/a\"b/é"}],"valid":false}"#;
+
+#[test]
+fn steps_with_escapes_come_and_go(rt: HostRuntime) {
+    let alloc = rt.alloc();
+    expect_told(
+        &rt,
+        alloc,
+        come_and_gone(alloc),
+        COME_AND_GONE,
+        "four names",
     );
-    Ok(())
 }

@@ -1,16 +1,17 @@
 //! What faults print.
 
+use crate::expectations::expect_told;
 use json_doc::Fault;
-use std::test::Fail;
+use std::alloc::Global;
+
+fn printed(alloc: Global) -> Result<String, Fault> {
+    let clash = Fault::BundleClash(String::from_str(alloc, "https://ex.org/b")?);
+    Ok(format!(in alloc; "{clash} {:?}, {}", clash.status(), Fault::NoRoom)?)
+}
 
 #[test]
-fn prints_number_name_and_text(rt: HostRuntime) -> Result<(), Fail> {
-    let clash = Fault::BundleClash(String::from_str(rt.alloc(), "https://ex.org/b")?);
-    assert!(rt; clash.status() == Some(409) && Fault::ReadFailed.status().is_none());
-    let text = format!(in rt.alloc(); "{clash}, {}", Fault::NoRoom)?;
-    assert!(rt;
-        text.as_str() == "19 BundleClash https://ex.org/b, 30 NoRoom",
-        "{text}"
-    );
-    Ok(())
+fn prints_number_name_and_text(rt: HostRuntime) {
+    let wanted = "19 BundleClash https://ex.org/b Some(409), 30 NoRoom";
+    expect_told(&rt, rt.alloc(), printed(rt.alloc()), wanted, "two faults");
+    assert!(rt; Fault::ReadFailed.status().is_none());
 }

@@ -1,8 +1,9 @@
 //! Names of members that are keywords' names, in what is read and in copies of it.
 
-use json_doc::{Doc, copy, read, same, write};
+use crate::expectations::{expect_holds, expect_told};
+use json_doc::{Doc, Fault, copy, read, same, write};
 use keywords::Keyword;
-use std::test::Fail;
+use std::alloc::Global;
 
 const NAMES: &str = r#"{"$id":"a","Type":2,"title":3,"type":"string","typed":5}"#;
 
@@ -33,18 +34,25 @@ fn says_keywords(doc: &Doc) -> bool {
     expected.next().is_none()
 }
 
-#[test]
-fn names_say_their_keywords(rt: HostRuntime) -> Result<(), Fail> {
-    let alloc = rt.alloc();
+// Whether the value, a copy of it and a copy of that say their keywords, and are the same.
+fn copies_say_keywords(alloc: Global) -> Result<bool, Fault> {
     let doc = read(alloc, NAMES.as_bytes())?;
     let copied = copy(alloc, &doc)?;
     let again = copy(alloc, &copied)?;
-    assert!(rt; says_keywords(&doc));
-    assert!(rt; says_keywords(&copied));
-    assert!(rt; says_keywords(&again));
-    assert!(rt; same(&copied, &doc) && same(&doc, &copied) && same(&again, &copied));
-    assert_eq!(rt; write(alloc, &copied)?.as_str(), NAMES);
-    Ok(())
+    let say = says_keywords(&doc) && says_keywords(&copied) && says_keywords(&again);
+    Ok(say && same(&copied, &doc) && same(&doc, &copied) && same(&again, &copied))
+}
+
+fn rewritten_copy(alloc: Global, text: &str) -> Result<String, Fault> {
+    let doc = read(alloc, text.as_bytes())?;
+    write(alloc, &copy(alloc, &doc)?)
+}
+
+#[test]
+fn names_say_their_keywords(rt: HostRuntime) {
+    let alloc = rt.alloc();
+    expect_holds(&rt, copies_say_keywords(alloc), "copies");
+    expect_told(&rt, alloc, rewritten_copy(alloc, NAMES), NAMES, "a copy");
 }
 
 // Whether the value has a type and minItems, but no maxItems.
@@ -63,17 +71,6 @@ const OBJECTS: &[&str] = &[
     r#"{"a":0,"b":0,"c":0,"d":0,"e":0,"f":0,"g":0,"h":0,"i":0,"j":0,"k":0,"l":0,"m":0,"minItems":1,"n":0,"o":0,"p":0,"type":"array"}"#,
 ];
 
-#[test]
-fn keywords_values_are_found(rt: HostRuntime) -> Result<(), Fail> {
-    for text in OBJECTS {
-        let doc = read(rt.alloc(), text.as_bytes())?;
-        assert!(rt; has_its_values(&doc), "{text}");
-        assert!(rt; has_its_values(&copy(rt.alloc(), &doc)?), "{text}");
-    }
-    assert!(rt; Doc::Null.keyword_value(Keyword::Type).is_none());
-    Ok(())
-}
-
 // Whether each position gives the value that the search gives.
 fn is_found_from_everywhere(doc: &Doc, keyword: Keyword) -> bool {
     let found = doc.keyword_value(keyword);
@@ -83,16 +80,24 @@ fn is_found_from_everywhere(doc: &Doc, keyword: Keyword) -> bool {
     })
 }
 
+fn are_found(doc: &Doc) -> bool {
+    has_its_values(doc)
+        && is_found_from_everywhere(doc, Keyword::Type)
+        && is_found_from_everywhere(doc, Keyword::MinItems)
+        && is_found_from_everywhere(doc, Keyword::MaxItems)
+}
+
+fn are_found_in_copies(alloc: Global, text: &str) -> Result<bool, Fault> {
+    let doc = read(alloc, text.as_bytes())?;
+    let copied = copy(alloc, &doc)?;
+    Ok(are_found(&doc) && are_found(&copied))
+}
+
 #[test]
-fn keywords_values_are_found_from_everywhere(rt: HostRuntime) -> Result<(), Fail> {
+fn keywords_values_are_found_from_everywhere(rt: HostRuntime) {
     for text in OBJECTS {
-        let doc = read(rt.alloc(), text.as_bytes())?;
-        let copied = copy(rt.alloc(), &doc)?;
-        for keyword in [Keyword::Type, Keyword::MinItems, Keyword::MaxItems] {
-            assert!(rt; is_found_from_everywhere(&doc, keyword), "{text}");
-            assert!(rt; is_found_from_everywhere(&copied, keyword), "{text}");
-        }
+        expect_holds(&rt, are_found_in_copies(rt.alloc(), text), text);
     }
+    assert!(rt; Doc::Null.keyword_value(Keyword::Type).is_none());
     assert!(rt; Doc::Null.keyword_value_near(Keyword::Type, 0).is_none());
-    Ok(())
 }

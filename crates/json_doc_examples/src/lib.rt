@@ -5,6 +5,8 @@
 #[cfg(test)]
 mod escapes;
 #[cfg(test)]
+mod expectations;
+#[cfg(test)]
 mod fault_texts;
 #[cfg(test)]
 mod keyword_names;
@@ -17,11 +19,15 @@ mod names;
 #[cfg(test)]
 mod outputs;
 #[cfg(test)]
+mod places;
+#[cfg(test)]
 mod pointers;
 #[cfg(test)]
 mod reading;
 #[cfg(test)]
 mod steps;
+#[cfg(test)]
+mod successive_locations;
 #[cfg(test)]
 mod unique_values;
 #[cfg(test)]

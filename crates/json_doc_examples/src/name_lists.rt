@@ -1,9 +1,10 @@
 //! Lists of names that units say one after the other, by RFC 8259, section 7.
 
+use crate::expectations::{expect_same, expect_told};
 use basic_output::{Location, Origin, Says, Units, WrittenPointer, output_text};
 use json_doc::{Doc, Fault, Members, Name};
 use std::alloc::{AllocError, Global};
-use std::test::Fail;
+use std::process::Abort;
 
 const ALPHABET: &str = "abcdefghijklmnopqrstuvwxyz";
 
@@ -116,37 +117,57 @@ fn push_names(alloc: Global, units: &mut Units, names: &[&str]) -> Result<(), Fa
     Ok(())
 }
 
-// Each is written behind those before it, and all a second time, by units whose memory is kept.
-#[test]
-fn writes_lists_behind_others(rt: HostRuntime) -> Result<(), Fail> {
-    let mut units = Units::new(rt.alloc());
-    for _ in 0..2 {
-        for (names, text) in LISTS {
-            units.clear();
-            push_names(rt.alloc(), &mut units, names)?;
-            let found = output_text(rt.alloc(), true, &units)?;
-            let wanted = format!(in rt.alloc();
-                r#"{{"annotations":[{{"absoluteKeywordLocation":"urn:x#","annotation":{text},"instanceLocation":"","keywordLocation":""}}],"valid":true}}"#
-            )?;
-            assert_eq!(rt; found.as_str(), wanted.as_str());
-        }
-    }
-    Ok(())
+/// The text of an output of these names alone, by units whose memory is kept.
+fn list_text(alloc: Global, units: &mut Units, names: &[&str]) -> Result<String, Fault> {
+    units.clear();
+    push_names(alloc, units, names)?;
+    output_text(alloc, true, units)
 }
+
+fn wanted_text(alloc: Global, list: &str) -> Result<String, Fault> {
+    let mut text = String::new(alloc);
+    text.push_str(r#"{"annotations":[{"absoluteKeywordLocation":"urn:x#","annotation":"#)?;
+    text.push_str(list)?;
+    text.push_str(r#","instanceLocation":"","keywordLocation":""}],"valid":true}"#)?;
+    Ok(text)
+}
+
+fn expect_list(rt: &impl Abort, alloc: Global, units: &mut Units, row: &(&[&str], &str)) {
+    let (names, list) = *row;
+    let found = list_text(alloc, units, names);
+    expect_same(rt, found, wanted_text(alloc, list), list);
+}
+
+fn expect_lists(rt: &impl Abort, alloc: Global, units: &mut Units) {
+    for row in LISTS {
+        expect_list(rt, alloc, units, row);
+    }
+}
+
+// Each is written behind those before it, and all a second time.
+#[test]
+fn writes_lists_behind_others(rt: HostRuntime) {
+    let mut units = Units::new(rt.alloc());
+    expect_lists(&rt, rt.alloc(), &mut units);
+    expect_lists(&rt, rt.alloc(), &mut units);
+}
+
+fn lists_text(alloc: Global) -> Result<String, Fault> {
+    let mut units = Units::new(alloc);
+    push_names(alloc, &mut units, &["a", "b", "c"])?;
+    push_names(alloc, &mut units, &["a", "x", "c"])?;
+    push_names(alloc, &mut units, &["a", "b", "c"])?;
+    push_names(alloc, &mut units, &["a\",\"b", "c"])?;
+    push_names(alloc, &mut units, &["a", "b", "c"])?;
+    output_text(alloc, true, &units)
+}
+
+const BESIDE_OTHERS: &str =
+    r#"{"annotations":[{"absoluteKeywordLocation":"urn:x#","annotation":["a","b","c"],"instanceLocation":"","keywordLocation":""},{"absoluteKeywordLocation":"urn:x#","annotation":["a","x","c"],"instanceLocation":"","keywordLocation":""},{"absoluteKeywordLocation":"urn:x#","annotation":["a","b","c"],"instanceLocation":"","keywordLocation":""},{"absoluteKeywordLocation":"urn:x#","annotation":["a\",\"b","c"],"instanceLocation":"","keywordLocation":""},{"absoluteKeywordLocation":"urn:x#","annotation":["a","b","c"],"instanceLocation":"","keywordLocation":""}],"valid":true}"#;
 
 // Lists that stand side by side in one output.
 #[test]
-fn writes_lists_beside_others(rt: HostRuntime) -> Result<(), Fail> {
-    let mut units = Units::new(rt.alloc());
-    push_names(rt.alloc(), &mut units, &["a", "b", "c"])?;
-    push_names(rt.alloc(), &mut units, &["a", "x", "c"])?;
-    push_names(rt.alloc(), &mut units, &["a", "b", "c"])?;
-    push_names(rt.alloc(), &mut units, &["a\",\"b", "c"])?;
-    push_names(rt.alloc(), &mut units, &["a", "b", "c"])?;
-    let found = output_text(rt.alloc(), true, &units)?;
-    assert_eq!(rt;
-        found.as_str(),
-        r#"{"annotations":[{"absoluteKeywordLocation":"urn:x#","annotation":["a","b","c"],"instanceLocation":"","keywordLocation":""},{"absoluteKeywordLocation":"urn:x#","annotation":["a","x","c"],"instanceLocation":"","keywordLocation":""},{"absoluteKeywordLocation":"urn:x#","annotation":["a","b","c"],"instanceLocation":"","keywordLocation":""},{"absoluteKeywordLocation":"urn:x#","annotation":["a\",\"b","c"],"instanceLocation":"","keywordLocation":""},{"absoluteKeywordLocation":"urn:x#","annotation":["a","b","c"],"instanceLocation":"","keywordLocation":""}],"valid":true}"#
-    );
-    Ok(())
+fn writes_lists_beside_others(rt: HostRuntime) {
+    let alloc = rt.alloc();
+    expect_told(&rt, alloc, lists_text(alloc), BESIDE_OTHERS, "five lists");
 }

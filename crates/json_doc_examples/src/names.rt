@@ -1,8 +1,9 @@
 //! Members that are found by short texts, and members that are taken by name from those that are left.
 
-use json_doc::{Doc, Members, NamedMembers, ShortText, Whole};
+use crate::expectations::expect_holds;
+use json_doc::{Doc, Fault, Members, Name, NamedMembers, ShortText, Whole};
 use std::alloc::Global;
-use std::test::Fail;
+use std::process::Abort;
 
 // Names, of which those of 24 bytes are the longest that stand in the value itself.
 const NAMES: &[&str] = &[
@@ -18,7 +19,7 @@ const NAMES: &[&str] = &[
 ];
 
 // An object of these members, and of so many others.
-fn object(alloc: Global, others: u64) -> Result<Doc, Fail> {
+fn object(alloc: Global, others: u64) -> Result<Doc, Fault> {
     let mut members = Members::new(alloc);
     for other in 0..others {
         let name = format!(in alloc; "other {other}")?;
@@ -33,23 +34,38 @@ fn object(alloc: Global, others: u64) -> Result<Doc, Fail> {
 // Few members, and more than are gone through one by one.
 const OTHERS: &[u64] = &[0, 20];
 
-#[test]
-fn members_are_found_by_short_texts(rt: HostRuntime) -> Result<(), Fail> {
-    for others in OTHERS {
-        let doc = object(rt.alloc(), *others)?;
-        for name in NAMES {
-            let Some(short) = ShortText::of(name) else {
-                assert!(rt; name.len() > 24, "{name}");
-                continue;
-            };
-            let found = doc.get_short(&short);
-            assert!(rt; found.is_some_and(|member| member.is_text(name)), "{name}");
-        }
-        let absent = ShortText::of("absent");
-        assert!(rt; absent.is_some_and(|name| doc.get_short(&name).is_none()));
-        assert!(rt; absent.is_some_and(|name| Doc::Int(Whole::of(1)).get_short(&name).is_none()));
+fn is_found(doc: &Doc, name: &str) -> bool {
+    match ShortText::of(name) {
+        Some(short) => doc
+            .get_short(&short)
+            .is_some_and(|member| member.is_text(name)),
+        None => name.len() > 24,
     }
-    Ok(())
+}
+
+fn are_all_found(doc: &Doc) -> bool {
+    for name in NAMES {
+        if !is_found(doc, name) {
+            return false;
+        }
+    }
+    true
+}
+
+fn is_absent(doc: &Doc) -> bool {
+    ShortText::of("absent").is_some_and(|name| doc.get_short(&name).is_none())
+}
+
+fn are_found_among(alloc: Global, others: u64) -> Result<bool, Fault> {
+    let doc = object(alloc, others)?;
+    Ok(are_all_found(&doc) && is_absent(&doc) && is_absent(&Doc::Int(Whole::of(1))))
+}
+
+#[test]
+fn members_are_found_by_short_texts(rt: HostRuntime) {
+    for others in OTHERS {
+        expect_holds(&rt, are_found_among(rt.alloc(), *others), "all names");
+    }
 }
 
 // Whether this is the name of the first member that is left, or none is left.
@@ -60,26 +76,35 @@ fn is_first_left(left: &mut NamedMembers<'_>, first: Option<&str>) -> bool {
     }
 }
 
-#[test]
-fn members_are_taken_in_order(rt: HostRuntime) -> Result<(), Fail> {
-    let doc = object(rt.alloc(), 0)?;
-    let again = object(rt.alloc(), 0)?;
-    let (Some(members), Some(others)) = (doc.as_dict(), again.as_dict()) else {
-        assert!(rt; false);
-        return Ok(());
-    };
+// Whether the member of this name is taken, and this is the name of the first that is left then.
+fn is_taken(members: &Members, name: Name<'_>, first: Option<&str>) -> bool {
+    let mut left = members.iter().named();
+    let taken = left.take_named(name);
+    taken.is_some_and(|member| member.is_text(name.as_str())) && is_first_left(&mut left, first)
+}
+
+fn are_taken(members: &Members, others: &Members) -> bool {
     let mut above = NAMES.iter().skip(1);
     for (name, _) in others.iter().named() {
-        let mut left = members.iter().named();
-        let taken = left.take_named(name);
-        assert!(rt; taken.is_some_and(|member| member.is_text(name.as_str())));
-        assert!(rt;
-            is_first_left(&mut left, above.next().copied()),
-            "{}",
-            name.as_str()
-        );
+        if !is_taken(members, name, above.next().copied()) {
+            return false;
+        }
     }
-    Ok(())
+    true
+}
+
+fn are_taken_in_order(alloc: Global) -> Result<bool, Fault> {
+    let doc = object(alloc, 0)?;
+    let again = object(alloc, 0)?;
+    Ok(match (doc.as_dict(), again.as_dict()) {
+        (Some(members), Some(others)) => are_taken(members, others),
+        _ => false,
+    })
+}
+
+#[test]
+fn members_are_taken_in_order(rt: HostRuntime) {
+    expect_holds(&rt, are_taken_in_order(rt.alloc()), "each name");
 }
 
 // A name that isn't there, and the first of those above it.
@@ -93,25 +118,42 @@ const ABSENT: &[(&str, Option<&str>)] = &[
     ("ö", None),
 ];
 
-#[test]
-fn what_is_not_there_is_not_taken(rt: HostRuntime) -> Result<(), Fail> {
-    let doc = object(rt.alloc(), 0)?;
-    let mut absent = Members::new(rt.alloc());
-    for (name, _) in ABSENT {
-        absent.insert(rt.alloc(), name, Doc::Null)?;
-    }
-    let Some(members) = doc.as_dict() else {
-        assert!(rt; false);
-        return Ok(());
-    };
+fn is_not_taken(members: &Members, name: Name<'_>, first: Option<&str>) -> bool {
+    let mut left = members.iter().named();
+    left.take_named(name).is_none() && is_first_left(&mut left, first)
+}
+
+fn are_not_taken(members: &Members, others: &Members) -> bool {
     let mut first_above = ABSENT.iter();
-    for (name, _) in absent.iter().named() {
-        let mut left = members.iter().named();
-        assert!(rt; left.take_named(name).is_none(), "{}", name.as_str());
+    for (name, _) in others.iter().named() {
         let first = first_above.next().and_then(|(_, first)| *first);
-        assert!(rt; is_first_left(&mut left, first), "{}", name.as_str());
+        if !is_not_taken(members, name, first) {
+            return false;
+        }
     }
-    Ok(())
+    true
+}
+
+fn absent_names(alloc: Global) -> Result<Members, Fault> {
+    let mut absent = Members::new(alloc);
+    for row in ABSENT {
+        absent.insert(alloc, row.0, Doc::Null)?;
+    }
+    Ok(absent)
+}
+
+fn are_left_alone(alloc: Global) -> Result<bool, Fault> {
+    let doc = object(alloc, 0)?;
+    let absent = absent_names(alloc)?;
+    Ok(
+        doc.as_dict()
+            .is_some_and(|members| are_not_taken(members, &absent)),
+    )
+}
+
+#[test]
+fn what_is_not_there_is_not_taken(rt: HostRuntime) {
+    expect_holds(&rt, are_left_alone(rt.alloc()), "each name");
 }
 
 // A text, of how many of the bytes it is, and the bytes.
@@ -148,14 +190,15 @@ const PADDED: &[(&str, u32, &[u8; 24], bool)] = &[
     ),
 ];
 
+fn expect_padded(rt: &impl Abort, row: &(&str, u32, &[u8; 24], bool)) {
+    let (text, len, bytes, is_padded) = *row;
+    let found = ShortText::of(text).is_some_and(|short| short.is_padded(len, bytes));
+    assert_eq!(rt; found, is_padded, "{text}");
+}
+
 #[test]
-fn short_texts_are_those_of_padded_bytes(rt: HostRuntime) -> Result<(), Fail> {
-    for (text, len, bytes, is_padded) in PADDED {
-        let short = ShortText::of(text);
-        assert!(rt;
-            short.is_some_and(|short| short.is_padded(*len, bytes) == *is_padded),
-            "{text}"
-        );
+fn short_texts_are_those_of_padded_bytes(rt: HostRuntime) {
+    for row in PADDED {
+        expect_padded(&rt, row);
     }
-    Ok(())
 }

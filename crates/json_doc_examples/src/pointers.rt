@@ -1,22 +1,31 @@
 //! Pointers, their texts, and what they find.
 
-use crate::reading::told;
+use crate::expectations::{expect_holds, expect_told};
 use json_doc::{Doc, Fault, Pointer, read, same};
 use std::alloc::Global;
-use std::test::Fail;
+use std::process::Abort;
 
-#[test]
-fn pushed_tokens_are_escaped(rt: HostRuntime) -> Result<(), Fail> {
-    let alloc = rt.alloc();
+fn pushed(alloc: Global) -> Result<String, Fault> {
     let mut pointer = Pointer::new(alloc);
-    assert_eq!(rt; pointer.text(alloc)?.as_str(), "");
-    let doc = Doc::List(vec![in alloc; Doc::Null]?);
-    assert!(rt; pointer.find(&doc).is_some_and(|found| same(found, &doc)));
     for token in &["a/b", "m~n", "ä b"] {
         pointer.push(token)?;
     }
-    assert_eq!(rt; pointer.text(alloc)?.as_str(), "/a~1b/m~0n/ä b");
-    Ok(())
+    pointer.text(alloc)
+}
+
+// Whether the pointer with no tokens has no text and finds the value itself.
+fn leads_nowhere(alloc: Global) -> Result<bool, Fault> {
+    let pointer = Pointer::new(alloc);
+    let doc = Doc::List(vec![in alloc; Doc::Null]?);
+    let finds_it = pointer.find(&doc).is_some_and(|found| same(found, &doc));
+    Ok(finds_it && pointer.text(alloc)?.is_empty())
+}
+
+#[test]
+fn pushed_tokens_are_escaped(rt: HostRuntime) {
+    let alloc = rt.alloc();
+    expect_holds(&rt, leads_nowhere(alloc), "no tokens");
+    expect_told(&rt, alloc, pushed(alloc), "/a~1b/m~0n/ä b", "three tokens");
 }
 
 // A pointer, and what it is written as, alone and as a fragment, or the fault.
@@ -34,13 +43,16 @@ fn rewritten(alloc: Global, text: &str) -> Result<String, Fault> {
     Ok(text)
 }
 
+fn expect_rewritten(rt: &impl Abort, alloc: Global, row: &(&str, &str)) {
+    let (pointer, wanted) = *row;
+    expect_told(rt, alloc, rewritten(alloc, pointer), wanted, pointer);
+}
+
 #[test]
-fn pointers_are_read_and_written(rt: HostRuntime) -> Result<(), Fail> {
-    for (pointer, text) in POINTERS {
-        let found = told(rt.alloc(), rewritten(rt.alloc(), pointer))?;
-        assert_eq!(rt; found.as_str(), *text);
+fn pointers_are_read_and_written(rt: HostRuntime) {
+    for row in POINTERS {
+        expect_rewritten(&rt, rt.alloc(), row);
     }
-    Ok(())
 }
 
 // A pointer, and the number that it finds in `[7,[8]]`.
@@ -52,13 +64,21 @@ const FOUND: &[(&str, Option<u64>)] = &[
     ("/2", None),
 ];
 
+fn finds(alloc: Global, text: &str, wanted: Option<u64>) -> Result<bool, Fault> {
+    let doc = read(alloc, b"[7,[8]]")?;
+    let pointer = Pointer::parse(alloc, text)?;
+    let number = pointer.find(&doc).and_then(|found| found.as_int());
+    Ok(number.and_then(|it| it.as_u64()) == wanted)
+}
+
+fn expect_found(rt: &impl Abort, alloc: Global, row: &(&str, Option<u64>)) {
+    let (text, wanted) = *row;
+    expect_holds(rt, finds(alloc, text, wanted), text);
+}
+
 #[test]
-fn pointers_find_elements(rt: HostRuntime) -> Result<(), Fail> {
-    let doc = read(rt.alloc(), b"[7,[8]]")?;
-    for (text, wanted) in FOUND {
-        let pointer = Pointer::parse(rt.alloc(), text)?;
-        let number = pointer.find(&doc).and_then(|found| found.as_int());
-        assert_eq!(rt; number.and_then(|it| it.as_u64()), *wanted, "{text}");
+fn pointers_find_elements(rt: HostRuntime) {
+    for row in FOUND {
+        expect_found(&rt, rt.alloc(), row);
     }
-    Ok(())
 }

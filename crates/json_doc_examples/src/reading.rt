@@ -1,16 +1,9 @@
 //! Texts that are read and written, and texts that are refused.
 
+use crate::expectations::{expect_holds, expect_told};
 use json_doc::{Doc, Fault, Scratch, Whole, read, read_with, write};
 use std::alloc::Global;
-use std::test::Fail;
-
-/// The text, or that of the fault.
-pub fn told(alloc: Global, outcome: Result<String, Fault>) -> Result<String, Fail> {
-    match outcome {
-        Ok(text) => Ok(text),
-        Err(fault) => Ok(format!(in alloc; "{fault}")?),
-    }
-}
+use std::process::Abort;
 
 // What the text is written as once it is read.
 fn rewritten(alloc: Global, text: &[u8]) -> Result<String, Fault> {
@@ -46,41 +39,58 @@ const TEXTS: &[(&str, &str)] = &[
     ("", "1 BadJson"),
 ];
 
-#[test]
-fn texts_are_read_or_refused(rt: HostRuntime) -> Result<(), Fail> {
-    for (text, wanted) in TEXTS {
-        let found = told(rt.alloc(), rewritten(rt.alloc(), text.as_bytes()))?;
-        assert_eq!(rt; found.as_str(), *wanted, "{text}");
-    }
-    // No UTF-8.
-    let refused = read(rt.alloc(), b"\"\xff\"").err();
-    assert!(rt; refused == Some(Fault::BadJson));
-    Ok(())
+fn expect_rewritten(rt: &impl Abort, alloc: Global, row: &(&str, &str)) {
+    let (text, wanted) = *row;
+    expect_told(rt, alloc, rewritten(alloc, text.as_bytes()), wanted, text);
 }
 
 #[test]
-fn a_nesting_of_127_is_read(rt: HostRuntime) -> Result<(), Fail> {
-    for depth in 127..129 {
-        let mut text = String::new(rt.alloc());
-        for _ in 0..depth {
-            text.push('[')?;
-        }
-        for _ in 0..depth {
-            text.push(']')?;
-        }
-        let found = told(rt.alloc(), rewritten(rt.alloc(), text.as_bytes()))?;
-        let wanted = if depth == 127 {
-            text.as_str()
-        } else {
-            "1 BadJson"
-        };
-        assert_eq!(rt; found.as_str(), wanted);
+fn texts_are_read_or_refused(rt: HostRuntime) {
+    let alloc = rt.alloc();
+    for row in TEXTS {
+        expect_rewritten(&rt, alloc, row);
     }
-    Ok(())
+    let no_utf8 = b"\"\xff\"";
+    expect_told(
+        &rt,
+        alloc,
+        rewritten(alloc, no_utf8),
+        "1 BadJson",
+        "no UTF-8",
+    );
+}
+
+// Lists in one another, so many.
+fn nested(alloc: Global, depth: u32) -> Result<String, Fault> {
+    let mut text = String::new(alloc);
+    for _ in 0..depth {
+        text.push('[')?;
+    }
+    for _ in 0..depth {
+        text.push(']')?;
+    }
+    Ok(text)
+}
+
+fn is_read_as_it_stands(alloc: Global, depth: u32) -> Result<bool, Fault> {
+    let text = nested(alloc, depth)?;
+    let again = rewritten(alloc, text.as_bytes())?;
+    Ok(again.as_str() == text.as_str())
+}
+
+fn is_refused(alloc: Global, depth: u32) -> Result<bool, Fault> {
+    let text = nested(alloc, depth)?;
+    Ok(read(alloc, text.as_bytes()).err() == Some(Fault::BadJson))
+}
+
+#[test]
+fn a_nesting_of_127_is_read(rt: HostRuntime) {
+    expect_holds(&rt, is_read_as_it_stands(rt.alloc(), 127), "127");
+    expect_holds(&rt, is_refused(rt.alloc(), 128), "128");
 }
 
 // An object whose names fall in twos, and then once more with other values.
-fn falling(alloc: Global, count: u32) -> Result<String, Fail> {
+fn falling(alloc: Global, count: u32) -> Result<String, Fault> {
     let mut text = String::from_str(alloc, "{")?;
     for turn in 0..2 {
         for below in 0..count {
@@ -105,15 +115,16 @@ fn has_last_values(doc: &Doc, count: usize) -> bool {
     members.len() == count
 }
 
+fn are_read(alloc: Global, scratch: &mut Scratch, count: u32) -> Result<bool, Fault> {
+    let text = falling(alloc, count)?;
+    let doc = read_with(alloc, scratch, text.as_bytes())?;
+    let are_there = doc.get("1001").is_some() && doc.get("1000").is_some();
+    Ok(are_there && doc.get("2000").is_none() && has_last_values(&doc, count as usize / 2 + 2))
+}
+
 #[test]
-fn many_names_in_any_order_are_read(rt: HostRuntime) -> Result<(), Fail> {
+fn many_names_in_any_order_are_read(rt: HostRuntime) {
     let mut scratch = Scratch::new(rt.alloc());
-    for count in [20, 300] {
-        let text = falling(rt.alloc(), count)?;
-        let doc = read_with(rt.alloc(), &mut scratch, text.as_bytes())?;
-        assert!(rt; has_last_values(&doc, count as usize / 2 + 2));
-        assert!(rt; doc.get("1001").is_some() && doc.get("1000").is_some());
-        assert!(rt; doc.get("2000").is_none());
-    }
-    Ok(())
+    expect_holds(&rt, are_read(rt.alloc(), &mut scratch, 20), "20");
+    expect_holds(&rt, are_read(rt.alloc(), &mut scratch, 300), "300");
 }

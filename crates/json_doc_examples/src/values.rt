@@ -1,29 +1,49 @@
 //! Values, their members, their nesting, and equality.
 
-use json_doc::{Doc, Members, Whole, copy, nesting, read, same, write};
-use std::test::Fail;
+use crate::expectations::expect_holds;
+use json_doc::{Doc, Fault, Members, Whole, copy, nesting, read, same, write};
+use std::alloc::Global;
+use std::process::Abort;
 use value_order::compare;
 
-#[test]
-fn the_last_of_repeated_names_wins(rt: HostRuntime) -> Result<(), Fail> {
-    let alloc = rt.alloc();
+fn repeated(alloc: Global) -> Result<Members, Fault> {
     let mut members = Members::new(alloc);
     members.insert(alloc, "b", Doc::Int(Whole::of(1)))?;
     members.insert(alloc, "a", Doc::List(Vec::new(alloc)))?;
     members.insert(alloc, "b", Doc::Bool(true))?;
-    assert!(rt; members.len() == 2 && !members.is_empty());
-    assert!(rt; members.iter().next().is_some_and(|(name, _)| name == "a"));
+    Ok(members)
+}
+
+fn has_its_members(members: &Members) -> bool {
+    let first = members.iter().next();
     let found = members.get_key_value("b");
-    assert!(rt; found.is_some_and(|(name, member)| name == "b" && member.as_bool() == Some(true)));
-    assert!(rt; members.get_key_value("c").is_none());
-    let doc = Doc::Dict(members);
-    assert!(rt; doc.get("b").and_then(|member| member.as_bool()) == Some(true));
-    assert!(rt; doc.get("c").is_none() && doc.as_dict().is_some() && doc.as_list().is_none());
-    Ok(())
+    members.len() == 2
+        && !members.is_empty()
+        && first.is_some_and(|(name, _)| name == "a")
+        && found.is_some_and(|(name, member)| name == "b" && member.as_bool() == Some(true))
+        && members.get_key_value("c").is_none()
+}
+
+fn is_its_value(doc: &Doc) -> bool {
+    doc.get("b").and_then(|member| member.as_bool()) == Some(true)
+        && doc.get("c").is_none()
+        && doc.as_dict().is_some()
+        && doc.as_list().is_none()
+}
+
+fn last_wins(alloc: Global) -> Result<bool, Fault> {
+    let members = repeated(alloc)?;
+    let has_its_members = has_its_members(&members);
+    Ok(has_its_members && is_its_value(&Doc::Dict(members)))
 }
 
 #[test]
-fn a_value_tells_what_it_holds(rt: HostRuntime) -> Result<(), Fail> {
+fn the_last_of_repeated_names_wins(rt: HostRuntime) {
+    expect_holds(&rt, last_wins(rt.alloc()), "b, a, b");
+}
+
+#[test]
+fn whole_numbers_have_64_bits(rt: HostRuntime) {
     let largest = Whole::of(u64::MAX);
     let smallest = Whole::of_signed(i64::MIN);
     assert!(rt; largest.number() == 18446744073709551615 && largest.as_u64() == Some(u64::MAX));
@@ -31,12 +51,19 @@ fn a_value_tells_what_it_holds(rt: HostRuntime) -> Result<(), Fail> {
     assert!(rt; largest.as_i64().is_none() && smallest.as_u64().is_none());
     assert!(rt; Doc::Int(Whole::of(7)).as_int() == Some(Whole::of(7)));
     assert!(rt; Doc::Null.as_bool().is_none());
-    let text = Doc::string(rt.alloc(), "a")?;
-    assert!(rt; text.as_str() == Some("a") && text.get("a").is_none());
-    let named = read(rt.alloc(), br#"{"$id":"s","title":1}"#)?;
-    assert!(rt; named.text_at("$id") == Some("s"));
-    assert!(rt; named.text_at("title").is_none() && named.text_at("a").is_none());
-    Ok(())
+}
+
+fn tells_its_texts(alloc: Global) -> Result<bool, Fault> {
+    let text = Doc::string(alloc, "a")?;
+    let named = read(alloc, br#"{"$id":"s","title":1}"#)?;
+    let is_text = text.as_str() == Some("a") && text.get("a").is_none();
+    let has_id = named.text_at("$id") == Some("s");
+    Ok(is_text && has_id && named.text_at("title").is_none() && named.text_at("a").is_none())
+}
+
+#[test]
+fn a_value_tells_its_texts(rt: HostRuntime) {
+    expect_holds(&rt, tells_its_texts(rt.alloc()), "a text and an object");
 }
 
 // Texts in byte order: those of 24 bytes are the longest that stand in the value itself.
@@ -50,55 +77,76 @@ const TEXTS: &[&str] = &[
     "äääääääääääää",
 ];
 
-#[test]
-fn texts_and_names_are_short_or_long(rt: HostRuntime) -> Result<(), Fail> {
-    let alloc = rt.alloc();
-    for text in TEXTS {
-        let string = Doc::string(alloc, text)?;
-        assert!(rt; string.as_str() == Some(*text), "{text}");
-        assert!(rt;
-            string.is_text(text) && !string.is_text("none of them"),
-            "{text}"
-        );
-        let mut members = Members::new(alloc);
-        members.insert(alloc, text, string)?;
-        let doc = Doc::Dict(members);
-        assert!(rt; doc.text_at(text) == Some(*text), "{text}");
-        let again = read(alloc, write(alloc, &doc)?.as_bytes())?;
-        assert!(rt;
-            same(&again, &doc) && same(&copy(alloc, &doc)?, &doc),
-            "{text}"
-        );
-    }
-    Ok(())
+fn is_short_or_long(alloc: Global, text: &str) -> Result<bool, Fault> {
+    let string = Doc::string(alloc, text)?;
+    let is_text = string.as_str() == Some(text) && string.is_text(text);
+    let is_no_other = !string.is_text("none of them");
+    let mut members = Members::new(alloc);
+    members.insert(alloc, text, string)?;
+    let doc = Doc::Dict(members);
+    Ok(is_text && is_no_other && doc.text_at(text) == Some(text) && is_kept(alloc, &doc)?)
+}
+
+// Whether the value is the same once it is written and read back, or copied.
+fn is_kept(alloc: Global, doc: &Doc) -> Result<bool, Fault> {
+    let again = read(alloc, write(alloc, doc)?.as_bytes())?;
+    let copied = copy(alloc, doc)?;
+    Ok(same(&again, doc) && same(&copied, doc))
 }
 
 #[test]
-fn short_texts_stand_among_long_ones(rt: HostRuntime) -> Result<(), Fail> {
-    let alloc = rt.alloc();
-    for (index, text) in TEXTS.iter().enumerate() {
-        let string = Doc::of_string(String::from_str(alloc, text)?);
-        for (other_index, other) in TEXTS.iter().enumerate() {
-            let other = Doc::string(alloc, other)?;
-            assert_eq!(rt; same(&string, &other), index == other_index, "{text}");
-            assert!(rt;
-                compare(&string, &other) == index.cmp(&other_index),
-                "{text}"
-            );
-        }
+fn texts_and_names_are_short_or_long(rt: HostRuntime) {
+    for text in TEXTS {
+        expect_holds(&rt, is_short_or_long(rt.alloc(), text), text);
     }
-    Ok(())
+}
+
+fn stands_so(
+    alloc: Global,
+    places: (usize, usize),
+    text: &str,
+    other: &str,
+) -> Result<bool, Fault> {
+    let string = Doc::of_string(String::from_str(alloc, text)?);
+    let other = Doc::string(alloc, other)?;
+    let is_same = same(&string, &other) == (places.0 == places.1);
+    Ok(is_same && compare(&string, &other) == places.0.cmp(&places.1))
+}
+
+fn expect_among(rt: &impl Abort, alloc: Global, place: usize, text: &str) {
+    for (other_place, other) in TEXTS.iter().enumerate() {
+        expect_holds(
+            rt,
+            stands_so(alloc, (place, other_place), text, other),
+            text,
+        );
+    }
+}
+
+#[test]
+fn short_texts_stand_among_long_ones(rt: HostRuntime) {
+    for (place, text) in TEXTS.iter().enumerate() {
+        expect_among(&rt, rt.alloc(), place, text);
+    }
 }
 
 const NESTINGS: &[(&str, usize)] = &[("true", 0), ("[]", 1), (r#"{"a":[[null]]}"#, 3)];
 
+fn nests(alloc: Global, text: &str, depth: usize) -> Result<bool, Fault> {
+    let doc = read(alloc, text.as_bytes())?;
+    Ok(nesting(&doc) == depth)
+}
+
+fn expect_nesting(rt: &impl Abort, alloc: Global, row: &(&str, usize)) {
+    let (text, depth) = *row;
+    expect_holds(rt, nests(alloc, text, depth), text);
+}
+
 #[test]
-fn lists_and_objects_nest(rt: HostRuntime) -> Result<(), Fail> {
-    for (text, depth) in NESTINGS {
-        let doc = read(rt.alloc(), text.as_bytes())?;
-        assert_eq!(rt; nesting(&doc), *depth, "{text}");
+fn lists_and_objects_nest(rt: HostRuntime) {
+    for row in NESTINGS {
+        expect_nesting(&rt, rt.alloc(), row);
     }
-    Ok(())
 }
 
 const PAIRS: &[(&str, &str, bool)] = &[
@@ -111,13 +159,21 @@ const PAIRS: &[(&str, &str, bool)] = &[
     (r#"{"a":["b"]}"#, r#"{"a":["b"]}"#, true),
 ];
 
+fn are_same_as(alloc: Global, text: &str, other: &str, wanted: bool) -> Result<bool, Fault> {
+    let doc = read(alloc, text.as_bytes())?;
+    let other = read(alloc, other.as_bytes())?;
+    let copied = copy(alloc, &doc)?;
+    Ok(same(&doc, &other) == wanted && same(&copied, &doc))
+}
+
+fn expect_pair(rt: &impl Abort, alloc: Global, row: &(&str, &str, bool)) {
+    let (text, other, wanted) = *row;
+    expect_holds(rt, are_same_as(alloc, text, other, wanted), text);
+}
+
 #[test]
-fn values_are_told_apart(rt: HostRuntime) -> Result<(), Fail> {
-    for (text, other, is_same) in PAIRS {
-        let doc = read(rt.alloc(), text.as_bytes())?;
-        let other = read(rt.alloc(), other.as_bytes())?;
-        assert_eq!(rt; same(&doc, &other), *is_same, "{text}");
-        assert!(rt; same(&copy(rt.alloc(), &doc)?, &doc), "{text}");
+fn values_are_told_apart(rt: HostRuntime) {
+    for row in PAIRS {
+        expect_pair(&rt, rt.alloc(), row);
     }
-    Ok(())
 }

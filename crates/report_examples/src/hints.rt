@@ -1,11 +1,12 @@
 //! What is found in a schema document that no rule forbids.
 
-use json_doc::read;
-use schema_hints::{Findings, look_over};
+use crate::expectations::expect_told;
+use json_doc::{Fault, read};
+use schema_hints::{Anchor, Findings, Hint, look_over};
 use std::alloc::Global;
-use std::test::Fail;
+use std::process::Abort;
 
-fn found(alloc: Global, schema: &str) -> Result<Findings, Fail> {
+fn found(alloc: Global, schema: &str) -> Result<Findings, Fault> {
     Ok(look_over(alloc, &read(alloc, schema.as_bytes())?)?)
 }
 
@@ -59,35 +60,62 @@ const WARNINGS: &[(&str, &str)] = &[
     ),
 ];
 
-#[test]
-fn schemas_have_their_warnings(rt: HostRuntime) -> Result<(), Fail> {
-    for (schema, wanted) in WARNINGS {
-        let findings = found(rt.alloc(), schema)?;
-        let mut told = String::new(rt.alloc());
-        for hint in &findings.hints {
-            if !told.is_empty() {
-                told.push_str("; ")?;
-            }
-            told.push_str(&format!(in rt.alloc(); "{hint}")?)?;
-        }
-        assert_eq!(rt; told.as_str(), *wanted, "{schema}");
+fn push_hint(alloc: Global, text: &mut String, hint: &Hint) -> Result<(), Fault> {
+    if !text.is_empty() {
+        text.push_str("; ")?;
     }
+    text.push_str(&format!(in alloc; "{hint}")?)?;
     Ok(())
 }
 
-#[test]
-fn anchors_are_found(rt: HostRuntime) -> Result<(), Fail> {
-    let findings = found(
-        rt.alloc(),
-        r#"{"$anchor":"top","$defs":{"a":{"$dynamicAnchor":"node"}},"const":{"$anchor":"b"}}"#,
-    )?;
-    let mut told = String::new(rt.alloc());
-    for anchor in &findings.anchors {
-        told.push_str(&format!(in rt.alloc();
-            "{} {} {};",
-            anchor.location, anchor.name, anchor.is_dynamic
-        )?)?;
+fn warnings(alloc: Global, schema: &str) -> Result<String, Fault> {
+    let findings = found(alloc, schema)?;
+    let mut text = String::new(alloc);
+    for hint in &findings.hints {
+        push_hint(alloc, &mut text, hint)?;
     }
-    assert_eq!(rt; told.as_str(), " top false;/$defs/a node true;");
+    Ok(text)
+}
+
+fn expect_warnings(rt: &impl Abort, alloc: Global, row: &(&str, &str)) {
+    let (schema, wanted) = *row;
+    expect_told(rt, alloc, warnings(alloc, schema), wanted, schema);
+}
+
+#[test]
+fn schemas_have_their_warnings(rt: HostRuntime) {
+    for row in WARNINGS {
+        expect_warnings(&rt, rt.alloc(), row);
+    }
+}
+
+fn push_anchor(alloc: Global, text: &mut String, anchor: &Anchor) -> Result<(), Fault> {
+    let (location, name) = (&anchor.location, &anchor.name);
+    let told = format!(in alloc; "{location} {name} {};", anchor.is_dynamic)?;
+    text.push_str(&told)?;
     Ok(())
+}
+
+fn anchors(alloc: Global, schema: &str) -> Result<String, Fault> {
+    let findings = found(alloc, schema)?;
+    let mut text = String::new(alloc);
+    for anchor in &findings.anchors {
+        push_anchor(alloc, &mut text, anchor)?;
+    }
+    Ok(text)
+}
+
+const ANCHORED: &str =
+    r#"{"$anchor":"top","$defs":{"a":{"$dynamicAnchor":"node"}},"const":{"$anchor":"b"}}"#;
+
+#[test]
+fn anchors_are_found(rt: HostRuntime) {
+    let wanted = " top false;/$defs/a node true;";
+    expect_told(
+        &rt,
+        rt.alloc(),
+        anchors(rt.alloc(), ANCHORED),
+        wanted,
+        ANCHORED,
+    );
 }

@@ -2,6 +2,8 @@
 #![tactic(auto)]
 
 #[cfg(test)]
+mod expectations;
+#[cfg(test)]
 mod hints;
 #[cfg(test)]
 mod places;

@@ -1,15 +1,15 @@
 //! Lines and columns of locations, and of what can't be read.
 
+use crate::expectations::expect_told;
 use std::alloc::Global;
-use std::test::Fail;
+use std::process::Abort;
 use text_places::{Fault, Position, first_fault, position_of_location};
 
 // `LINE:COLUMN`, `none`, or the fault.
-fn told(alloc: Global, found: Result<Option<Position>, Fault>) -> Result<String, Fail> {
-    match found {
-        Ok(Some(position)) => Ok(format!(in alloc; "{}:{}", position.line, position.column)?),
-        Ok(None) => Ok(String::from_str(alloc, "none")?),
-        Err(fault) => Ok(format!(in alloc; "{fault}")?),
+fn told(alloc: Global, found: Result<Option<Position>, Fault>) -> Result<String, Fault> {
+    match found? {
+        Some(position) => Ok(format!(in alloc; "{}:{}", position.line, position.column)?),
+        None => Ok(String::from_str(alloc, "none")?),
     }
 }
 
@@ -59,17 +59,17 @@ const LOCATIONS: &[(&str, &str, &str)] = &[
     ("[1]", "0", "none"),
 ];
 
+fn expect_position(rt: &impl Abort, alloc: Global, row: &(&str, &str, &str)) {
+    let (text, location, wanted) = *row;
+    let found = position_of_location(alloc, text.as_bytes(), location);
+    expect_told(rt, alloc, told(alloc, found), wanted, location);
+}
+
 #[test]
-fn locations_have_their_positions(rt: HostRuntime) -> Result<(), Fail> {
-    let alloc = rt.alloc();
-    for (text, location, wanted) in LOCATIONS {
-        let found = told(
-            alloc,
-            position_of_location(alloc, text.as_bytes(), location),
-        )?;
-        assert_eq!(rt; found.as_str(), *wanted, "{text} {location}");
+fn locations_have_their_positions(rt: HostRuntime) {
+    for row in LOCATIONS {
+        expect_position(&rt, rt.alloc(), row);
     }
-    Ok(())
 }
 
 // A text, and the position where it can't be read.
@@ -97,14 +97,15 @@ const FAULTS: &[(&str, &str)] = &[
     ("[1.5", "1:5"),
 ];
 
+fn expect_fault(rt: &impl Abort, alloc: Global, text: &[u8], wanted: &str) {
+    let found = told(alloc, first_fault(alloc, text));
+    expect_told(rt, alloc, found, wanted, "the position of a fault");
+}
+
 #[test]
-fn faults_have_their_positions(rt: HostRuntime) -> Result<(), Fail> {
-    let alloc = rt.alloc();
-    for (text, wanted) in FAULTS {
-        let found = told(alloc, first_fault(alloc, text.as_bytes()))?;
-        assert_eq!(rt; found.as_str(), *wanted, "{text}");
+fn faults_have_their_positions(rt: HostRuntime) {
+    for row in FAULTS {
+        expect_fault(&rt, rt.alloc(), row.0.as_bytes(), row.1);
     }
-    let found = told(alloc, first_fault(alloc, b"[\"a\",\n\"\xff\"]"))?;
-    assert_eq!(rt; found.as_str(), "2:2");
-    Ok(())
+    expect_fault(&rt, rt.alloc(), b"[\"a\",\n\"\xff\"]", "2:2");
 }

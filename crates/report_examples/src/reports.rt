@@ -1,8 +1,9 @@
 //! What is told of an instance that was judged.
 
-use plain_reports::{Instance, Style, error_lines, json_line};
+use crate::expectations::expect_told;
+use plain_reports::{Fault, Instance, Style, error_lines, json_line};
 use std::alloc::Global;
-use std::test::Fail;
+use std::process::Abort;
 
 // The output of a check of `{"name":7,"lines":[{"price":"twelve"},{}]}` and the like.
 const OUTPUT: &str =
@@ -11,7 +12,7 @@ const OUTPUT: &str =
 const TEXT: &str =
     "{\n  \"lines\": [\n    { \"price\": \"twelve\" }\n  ],\n  \"note\": [\n    1,\n    2\n  ]\n}\n";
 
-fn told(alloc: Global, line: Option<usize>, style: Style) -> Result<String, Fail> {
+fn told(alloc: Global, line: Option<usize>, style: Style) -> Result<String, Fault> {
     let instance = Instance {
         path: "orders/7,a.json",
         line,
@@ -20,12 +21,8 @@ fn told(alloc: Global, line: Option<usize>, style: Style) -> Result<String, Fail
     Ok(error_lines(alloc, instance, OUTPUT, style)?)
 }
 
-#[test]
-fn causes_are_told(rt: HostRuntime) -> Result<(), Fail> {
-    let text = told(rt.alloc(), None, Style::Text { colours: false })?;
-    assert_eq!(rt;
-        text.as_str(),
-        "orders/7,a.json:1:1: (root): {\"lines\": [{ \"price\": \"twelve\" }],\"note\": [1,2]} lacks a member that is required
+const CAUSES: &str =
+    "orders/7,a.json:1:1: (root): {\"lines\": [{ \"price\": \"twelve\" }],\"note\": [1,2]} lacks a member that is required
     by /required
     at https://ex.org/order#/required
 orders/7,a.json:3:16: /lines/0/price: \"twelve\" is of another type than the schema allows
@@ -34,40 +31,57 @@ orders/7,a.json:3:16: /lines/0/price: \"twelve\" is of another type than the sch
 orders/7,a.json:5:11: /note: [1,2] is not allowed here
     by /additionalProperties
     at https://ex.org/order#/additionalProperties
-"
-    );
-    Ok(())
-}
+";
 
 #[test]
-fn causes_are_annotations(rt: HostRuntime) -> Result<(), Fail> {
-    let text = told(rt.alloc(), Some(40), Style::Github)?;
+fn causes_are_told(rt: HostRuntime) {
+    let found = told(rt.alloc(), None, Style::Text { colours: false });
+    expect_told(&rt, rt.alloc(), found, CAUSES, "the causes");
+}
+
+const FIRST_ANNOTATION: &str =
+    "::error file=orders/7%2Ca.json,line=40,col=1,title=required is not met::(root): {\"lines\": [{ \"price\": \"twelve\" }],\"note\": [1,2]} lacks a member that is required%0A    by /required%0A    at https://ex.org/order#/required";
+
+const SECOND_ANNOTATION: &str =
+    "::error file=orders/7%2Ca.json,line=42,col=16,title=type is not met::";
+
+fn expect_annotations(rt: &impl Abort, text: &str) {
     let mut lines = text.lines();
-    let first = lines.next().unwrap_or("");
-    assert_eq!(rt;
-        first,
-        "::error file=orders/7%2Ca.json,line=40,col=1,title=required is not met::(root): {\"lines\": [{ \"price\": \"twelve\" }],\"note\": [1,2]} lacks a member that is required%0A    by /required%0A    at https://ex.org/order#/required"
-    );
+    assert!(rt; lines.next() == Some(FIRST_ANNOTATION), "{text}");
     let second = lines.next().unwrap_or("");
     assert!(rt;
-        second.starts_with("::error file=orders/7%2Ca.json,line=42,col=16,title=type is not met::")
+        second.starts_with(SECOND_ANNOTATION) && lines.count() == 1,
+        "{text}"
     );
-    assert!(rt; lines.count() == 1);
-    Ok(())
 }
 
 #[test]
-fn lines_of_json_begin_with_the_instance(rt: HostRuntime) -> Result<(), Fail> {
-    let output = "{\"annotations\":[],\"valid\":true}";
+fn causes_are_annotations(rt: HostRuntime) {
+    match told(rt.alloc(), Some(40), Style::Github) {
+        Ok(text) => expect_annotations(&rt, text.as_str()),
+        Err(fault) => panic!(rt; "{fault}"),
+    }
+}
+
+const VALID: &str = "{\"annotations\":[],\"valid\":true}";
+
+fn line_of_json(alloc: Global) -> Result<String, Fault> {
     let instance = Instance {
         path: "a \"b\".json",
         line: Some(3),
         text: b"1",
     };
-    let line = json_line(rt.alloc(), instance, output)?;
-    assert_eq!(rt;
-        line.as_str(),
-        "{\"instance\":\"a \\\"b\\\".json\",\"line\":3,\"annotations\":[],\"valid\":true}"
+    Ok(json_line(alloc, instance, VALID)?)
+}
+
+#[test]
+fn lines_of_json_begin_with_the_instance(rt: HostRuntime) {
+    let wanted = "{\"instance\":\"a \\\"b\\\".json\",\"line\":3,\"annotations\":[],\"valid\":true}";
+    expect_told(
+        &rt,
+        rt.alloc(),
+        line_of_json(rt.alloc()),
+        wanted,
+        "a line of JSON",
     );
-    Ok(())
 }

@@ -1,23 +1,16 @@
 //! Compiled documents: their canonical URIs, and the schemas that fragments name.
 
+use crate::expectations::{expect_holds, expect_told};
 use json_doc::read;
 use schema_scan::{Compiled, Fault, canonical, compile, scan};
 use std::alloc::Global;
-use std::test::Fail;
+use std::process::Abort;
 use uri_ref::{fragment_kind, split};
 
 /// The document under this base, compiled.
 pub fn compiled(alloc: Global, base: &str, document: &str) -> Result<Compiled, Fault> {
     let document = read(alloc, document.as_bytes())?;
     compile(alloc, scan(alloc, &split(base), &document)?)
-}
-
-/// The text, or that of the fault.
-pub fn told(alloc: Global, outcome: Result<String, Fault>) -> Result<String, Fail> {
-    match outcome {
-        Ok(text) => Ok(text),
-        Err(fault) => Ok(format!(in alloc; "{fault}")?),
-    }
 }
 
 fn canonical_uri(alloc: Global, base: &str, document: &str) -> Result<String, Fault> {
@@ -56,13 +49,22 @@ const DOCUMENTS: &[(&str, &str, &str)] = &[
     ),
 ];
 
+fn expect_document(rt: &impl Abort, alloc: Global, row: &(&str, &str, &str)) {
+    let (base, document, wanted) = *row;
+    expect_told(
+        rt,
+        alloc,
+        canonical_uri(alloc, base, document),
+        wanted,
+        document,
+    );
+}
+
 #[test]
-fn documents_have_canonical_uris(rt: HostRuntime) -> Result<(), Fail> {
-    for (base, document, text) in DOCUMENTS {
-        let found = told(rt.alloc(), canonical_uri(rt.alloc(), base, document))?;
-        assert_eq!(rt; found.as_str(), *text, "{document}");
+fn documents_have_canonical_uris(rt: HostRuntime) {
+    for row in DOCUMENTS {
+        expect_document(&rt, rt.alloc(), row);
     }
-    Ok(())
 }
 
 /// `https://ex.org/s`, with an embedded resource `https://ex.org/in/e`, anchors, and values that only look like schemas.
@@ -102,12 +104,12 @@ const TARGETS: &[(&str, &str, &str, usize)] = &[
 // Whether the fragment names a schema of this resource, so many steps from its root; no schema for no resource.
 fn names(
     alloc: Global,
-    document: &Compiled,
     uri: &str,
     fragment: &str,
     resource: &str,
     steps: usize,
 ) -> Result<bool, Fault> {
+    let document = compiled(alloc, OUTER, DOCUMENT)?;
     let kind = fragment_kind(alloc, Some(fragment))?;
     match document.target(alloc, uri, &kind)? {
         Some(located) => Ok(located.resource == resource && located.steps.len() == steps),
@@ -115,12 +117,14 @@ fn names(
     }
 }
 
+fn expect_named(rt: &impl Abort, alloc: Global, row: &(&str, &str, &str, usize)) {
+    let (uri, fragment, resource, steps) = *row;
+    expect_holds(rt, names(alloc, uri, fragment, resource, steps), fragment);
+}
+
 #[test]
-fn fragments_name_schemas(rt: HostRuntime) -> Result<(), Fail> {
-    let document = compiled(rt.alloc(), OUTER, DOCUMENT)?;
-    for (uri, fragment, resource, steps) in TARGETS {
-        let is_named = names(rt.alloc(), &document, uri, fragment, resource, *steps)?;
-        assert!(rt; is_named, "{fragment} in {uri}");
+fn fragments_name_schemas(rt: HostRuntime) {
+    for row in TARGETS {
+        expect_named(&rt, rt.alloc(), row);
     }
-    Ok(())
 }

@@ -1,8 +1,8 @@
 //! What a fragment is: nothing, a pointer or a name.
 
-use crate::documents::told;
+use crate::expectations::expect_told;
 use std::alloc::Global;
-use std::test::Fail;
+use std::process::Abort;
 use uri_ref::{Fault, FragmentKind, fragment_kind};
 
 // Each with what it is: nothing, a pointer after `at`, a name after `as`, or the fault.
@@ -36,11 +36,20 @@ fn kind(alloc: Global, fragment: Option<&str>) -> Result<String, Fault> {
     Ok(text)
 }
 
+fn expect_kind(rt: &impl Abort, alloc: Global, row: &(Option<&str>, &str)) {
+    let (fragment, wanted) = *row;
+    expect_told(
+        rt,
+        alloc,
+        kind(alloc, fragment),
+        wanted,
+        fragment.unwrap_or("none"),
+    );
+}
+
 #[test]
-fn fragments_are_pointers_or_names(rt: HostRuntime) -> Result<(), Fail> {
-    for (fragment, text) in FRAGMENTS {
-        let found = told(rt.alloc(), kind(rt.alloc(), *fragment))?;
-        assert_eq!(rt; found.as_str(), *text, "{fragment:?}");
+fn fragments_are_pointers_or_names(rt: HostRuntime) {
+    for row in FRAGMENTS {
+        expect_kind(&rt, rt.alloc(), row);
     }
-    Ok(())
 }

@@ -5,6 +5,8 @@
 #[cfg(test)]
 mod documents;
 #[cfg(test)]
+mod expectations;
+#[cfg(test)]
 mod fragments;
 #[cfg(test)]
 mod numbers_of_texts;
@@ -30,5 +32,3 @@ mod resources;
 mod scans;
 #[cfg(test)]
 mod shapes;
-#[cfg(test)]
-mod uri_parts;

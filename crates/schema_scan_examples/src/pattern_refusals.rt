@@ -1,7 +1,8 @@
 //! Patterns that are not built: those that the grammar does not read, and those that are too big.
 
 use patterns::{Fault, Pattern};
-use std::test::Fail;
+use std::alloc::Global;
+use std::process::Abort;
 
 // Whether each is built. Each copy of `\w` takes some 14,200 bytes, so that 16 MiB are reached between 1,170 and 1,181 of
 // them.
@@ -19,12 +20,17 @@ const PATTERNS: &[(&str, bool)] = &[
     (r"\w{1181}", false),
 ];
 
+fn expect_build(rt: &impl Abort, alloc: Global, row: &(&str, bool)) {
+    let (source, is_built) = *row;
+    match Pattern::build(alloc, source) {
+        Ok(_) => assert!(rt; is_built, "{source}"),
+        Err(fault) => assert!(rt; !is_built && fault == Fault::BadPattern, "{source}"),
+    }
+}
+
 #[test]
 fn what_is_no_pattern_or_too_big_is_refused(rt: HostRuntime) {
-    for (source, is_built) in PATTERNS {
-        match Pattern::build(rt.alloc(), source) {
-            Ok(_) => assert!(rt; *is_built, "{source}"),
-            Err(fault) => assert!(rt; !*is_built && fault == Fault::BadPattern, "{source}"),
-        }
+    for row in PATTERNS {
+        expect_build(&rt, rt.alloc(), row);
     }
 }

@@ -1,9 +1,10 @@
 //! What the patterns of a document may take together.
 
 use crate::documents::compiled;
+use crate::expectations::expect_holds;
 use schema_scan::Fault;
 use std::alloc::Global;
-use std::test::Fail;
+use std::process::Abort;
 
 // Each copy of `\w` takes 14,000 bytes and a few: the room of 32 MiB is for some 2,350. A pattern that stands twice takes
 // room once.
@@ -22,20 +23,24 @@ const TOGETHER: &[(&str, bool)] = &[
     ),
 ];
 
-fn is_built(alloc: Global, document: &str) -> Result<bool, Fault> {
+fn is_built_as(alloc: Global, document: &str, fits: bool) -> Result<bool, Fault> {
     match compiled(alloc, "https://ex.org/s", document).err() {
-        None => Ok(true),
-        Some(Fault::BadPattern) => Ok(false),
+        None => Ok(fits),
+        Some(Fault::BadPattern) => Ok(!fits),
         Some(fault) => Err(fault),
     }
 }
 
+fn expect_together(rt: &impl Abort, alloc: Global, row: &(&str, bool)) {
+    let (document, fits) = *row;
+    expect_holds(rt, is_built_as(alloc, document, fits), document);
+}
+
 #[test]
-fn patterns_share_a_room(rt: HostRuntime) -> Result<(), Fail> {
-    for (document, fits) in TOGETHER {
-        assert_eq!(rt; is_built(rt.alloc(), document)?, *fits, "{document}");
+fn patterns_share_a_room(rt: HostRuntime) {
+    for row in TOGETHER {
+        expect_together(&rt, rt.alloc(), row);
     }
-    Ok(())
 }
 
 // How many patterns a document has, what stands before and after the number of each, and whether they are built. Small
@@ -46,15 +51,34 @@ const MANY: &[(u32, &str, &str, bool)] = &[
     (40, r"(?:[^\\s\\S]x{1000}){1000}", r#"":true"#, false),
 ];
 
-#[test]
-fn thousands_of_small_patterns_are_built(rt: HostRuntime) -> Result<(), Fail> {
-    for (count, before, after, fits) in MANY {
-        let mut text = String::from_str(rt.alloc(), r#"{"patternProperties":{"a":true"#)?;
-        for number in 0..*count {
-            text.push_str(format!(in rt.alloc(); ",\"{before}{number}{after}")?.as_str())?;
-        }
-        text.push_str("}}")?;
-        assert_eq!(rt; is_built(rt.alloc(), text.as_str())?, *fits, "{before}");
-    }
+fn push_numbered(
+    alloc: Global,
+    text: &mut String,
+    before: &str,
+    number: u32,
+    after: &str,
+) -> Result<(), Fault> {
+    text.push_str(format!(in alloc; ",\"{before}{number}{after}")?.as_str())?;
     Ok(())
+}
+
+fn many(alloc: Global, count: u32, before: &str, after: &str) -> Result<String, Fault> {
+    let mut text = String::from_str(alloc, r#"{"patternProperties":{"a":true"#)?;
+    for number in 0..count {
+        push_numbered(alloc, &mut text, before, number, after)?;
+    }
+    text.push_str("}}")?;
+    Ok(text)
+}
+
+fn are_many_built(alloc: Global, row: &(u32, &str, &str, bool)) -> Result<bool, Fault> {
+    let (count, before, after, fits) = *row;
+    is_built_as(alloc, many(alloc, count, before, after)?.as_str(), fits)
+}
+
+#[test]
+fn thousands_of_small_patterns_are_built(rt: HostRuntime) {
+    for row in MANY {
+        expect_holds(&rt, are_many_built(rt.alloc(), row), row.1);
+    }
 }

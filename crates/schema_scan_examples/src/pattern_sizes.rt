@@ -1,7 +1,8 @@
 //! How much patterns take of a room that they share.
 
 use patterns::{Fault, Pattern};
-use std::test::Fail;
+use std::alloc::Global;
+use std::process::Abort;
 
 // A pattern, a room, whether the pattern is built within it, and what is left of it: nothing is taken by what isn't built.
 // A pattern takes 12 bytes a letter, and 48 for the states that each has. The class of the last is empty, so that all
@@ -15,14 +16,19 @@ const ROOMS: &[(&str, usize, bool, usize)] = &[
     (r"(?:[^\s\S]x{1000}){1000}", 32 << 20, true, 31 << 20),
 ];
 
+fn expect_room(rt: &impl Abort, alloc: Global, row: &(&str, usize, bool, usize)) {
+    let (source, room, is_built, left) = *row;
+    let mut found = room;
+    match Pattern::build_within(alloc, source, &mut found) {
+        Ok(_) => assert!(rt; is_built, "{source}"),
+        Err(fault) => assert!(rt; !is_built && fault == Fault::BadPattern, "{source}"),
+    }
+    assert_eq!(rt; found, left, "{source}");
+}
+
 #[test]
 fn patterns_take_their_tables_from_the_room(rt: HostRuntime) {
-    for (source, room, is_built, left) in ROOMS {
-        let mut found = *room;
-        match Pattern::build_within(rt.alloc(), source, &mut found) {
-            Ok(_) => assert!(rt; *is_built, "{source}"),
-            Err(fault) => assert!(rt; !*is_built && fault == Fault::BadPattern, "{source}"),
-        }
-        assert_eq!(rt; found, *left, "{source}");
+    for row in ROOMS {
+        expect_room(&rt, rt.alloc(), row);
     }
 }

@@ -1,7 +1,10 @@
 //! The patterns of compiled documents.
 
 use crate::documents::compiled;
-use std::test::Fail;
+use crate::expectations::expect_holds;
+use schema_scan::Fault;
+use std::alloc::Global;
+use std::process::Abort;
 
 const NESTED: &str = r#"{"pattern":"^a","patternProperties":{"b+":{"pattern":"z"},"c":true}}"#;
 
@@ -23,17 +26,22 @@ const PATTERNS: &[(&str, &str, bool)] = &[
     (r#"{"const":{"pattern":"("},"pattern":"a+"}"#, "(", false),
 ];
 
+fn has_pattern_as(alloc: Global, text: &str, pattern: &str, wanted: bool) -> Result<bool, Fault> {
+    let document = compiled(alloc, "https://ex.org/s", text)?;
+    Ok(match document.pattern(pattern) {
+        Some(found) => wanted && found.text() == pattern,
+        None => !wanted,
+    })
+}
+
+fn expect_pattern(rt: &impl Abort, alloc: Global, row: &(&str, &str, bool)) {
+    let (text, pattern, is_there) = *row;
+    expect_holds(rt, has_pattern_as(alloc, text, pattern, is_there), pattern);
+}
+
 #[test]
-fn a_compiled_document_has_each_of_its_patterns(rt: HostRuntime) -> Result<(), Fail> {
-    for (text, pattern, is_there) in PATTERNS {
-        let document = compiled(rt.alloc(), "https://ex.org/s", text)?;
-        match document.pattern(pattern) {
-            Some(found) => assert!(rt;
-                *is_there && found.text() == *pattern,
-                "{pattern} in {text}"
-            ),
-            None => assert!(rt; !*is_there, "{pattern} in {text}"),
-        }
+fn a_compiled_document_has_each_of_its_patterns(rt: HostRuntime) {
+    for row in PATTERNS {
+        expect_pattern(&rt, rt.alloc(), row);
     }
-    Ok(())
 }

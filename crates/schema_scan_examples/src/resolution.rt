@@ -1,9 +1,11 @@
-//! The examples of RFC 3986, section 5.4, and base forms.
+//! The parts of a text, the examples of RFC 3986, section 5.4, base forms, and parts that are an identifier's.
 
-use crate::documents::told;
+use crate::expectations::{expect_holds, expect_told};
 use std::alloc::Global;
-use std::test::Fail;
-use uri_ref::{Fault, base_form, opened_uri, recompose, resolve, resolved_uri, split};
+use std::process::Abort;
+use uri_ref::{
+    Fault, base_form, is_identifier, opened_uri, recompose, resolve, resolved_uri, split,
+};
 
 const BASE: &str = "http://a/b/c/d;p?q";
 
@@ -59,15 +61,33 @@ fn resolved(alloc: Global, base: &str, reference: &str) -> Result<String, Fault>
     recompose(alloc, &resolved.parts())
 }
 
+fn resolved_text(alloc: Global, base: &str, reference: &str) -> Result<String, Fault> {
+    Ok(resolved_uri(alloc, base, reference)?)
+}
+
+fn expect_resolved(rt: &impl Abort, alloc: Global, row: &(&str, &str, &str)) {
+    let (base, reference, wanted) = *row;
+    expect_told(
+        rt,
+        alloc,
+        resolved(alloc, base, reference),
+        wanted,
+        reference,
+    );
+    expect_told(
+        rt,
+        alloc,
+        resolved_text(alloc, base, reference),
+        wanted,
+        reference,
+    );
+}
+
 #[test]
-fn references_are_resolved(rt: HostRuntime) -> Result<(), Fail> {
-    for (base, reference, text) in REFERENCES {
-        let found = resolved(rt.alloc(), base, reference)?;
-        assert_eq!(rt; found.as_str(), *text, "{reference}");
-        let found = resolved_uri(rt.alloc(), base, reference)?;
-        assert_eq!(rt; found.as_str(), *text, "{reference}");
+fn references_are_resolved(rt: HostRuntime) {
+    for row in REFERENCES {
+        expect_resolved(&rt, rt.alloc(), row);
     }
-    Ok(())
 }
 
 // A base, an `$id`, and the resource that it opens.
@@ -82,13 +102,20 @@ const OPENED: &[(&str, &str, &str)] = &[
     ("urn:x:y", "b", "urn:b"),
 ];
 
+fn opened(alloc: Global, base: &str, id: &str) -> Result<String, Fault> {
+    Ok(opened_uri(alloc, base, id)?)
+}
+
+fn expect_opened(rt: &impl Abort, alloc: Global, row: &(&str, &str, &str)) {
+    let (base, id, wanted) = *row;
+    expect_told(rt, alloc, opened(alloc, base, id), wanted, id);
+}
+
 #[test]
-fn identifiers_open_resources(rt: HostRuntime) -> Result<(), Fail> {
-    for (base, id, text) in OPENED {
-        let found = opened_uri(rt.alloc(), base, id)?;
-        assert_eq!(rt; found.as_str(), *text, "{id}");
+fn identifiers_open_resources(rt: HostRuntime) {
+    for row in OPENED {
+        expect_opened(&rt, rt.alloc(), row);
     }
-    Ok(())
 }
 
 // A URI, and its base form or the fault.
@@ -102,11 +129,55 @@ const BASE_FORMS: &[(&str, &str)] = &[
     ("x:/b/..//a", "25 BadUri"),
 ];
 
+fn expect_base_form(rt: &impl Abort, alloc: Global, row: &(&str, &str)) {
+    let (uri, wanted) = *row;
+    expect_told(rt, alloc, base_form(alloc, uri), wanted, uri);
+}
+
 #[test]
-fn uris_have_base_forms(rt: HostRuntime) -> Result<(), Fail> {
-    for (uri, text) in BASE_FORMS {
-        let found = told(rt.alloc(), base_form(rt.alloc(), uri))?;
-        assert_eq!(rt; found.as_str(), *text, "{uri}");
+fn uris_have_base_forms(rt: HostRuntime) {
+    for row in BASE_FORMS {
+        expect_base_form(&rt, rt.alloc(), row);
     }
-    Ok(())
+}
+
+// A text, and whether its parts are an identifier's.
+const IDENTIFIERS: &[(&str, bool)] = &[
+    ("https://ex.org/a?b", true),
+    ("urn:x:y", true),
+    ("http://a/./b", false),
+    ("http://a/b#", false),
+    ("a", false),
+    ("s", false),
+    ("https://ex.org/a#", false),
+    ("https://ex.org/x/../a", false),
+];
+
+fn expect_identifier(rt: &impl Abort, row: &(&str, bool)) {
+    let (text, is_one) = *row;
+    assert_eq!(rt; is_identifier(&split(text)), is_one, "{text}");
+}
+
+// A path that begins with `//` once its dots are gone is no identifier's.
+fn moves_to_no_identifier(alloc: Global) -> Result<bool, Fault> {
+    let moved = resolve(alloc, &split("x:/b"), &split("/.//a"))?;
+    Ok(!is_identifier(&moved.parts()))
+}
+
+#[test]
+fn parts_that_identify(rt: HostRuntime) {
+    for row in IDENTIFIERS {
+        expect_identifier(&rt, row);
+    }
+    expect_holds(&rt, moves_to_no_identifier(rt.alloc()), "x:/b and /.//a");
+}
+
+#[test]
+fn parts_of_a_text(rt: HostRuntime) {
+    let parts = split("foo://example.com:8042/over/there?name=ferret#nose");
+    assert!(rt; parts.scheme() == Some("foo"));
+    assert!(rt; parts.authority() == Some("example.com:8042"));
+    assert!(rt; parts.path() == "/over/there");
+    assert!(rt; parts.query() == Some("name=ferret"));
+    assert!(rt; parts.fragment() == Some("nose"));
 }

@@ -1,10 +1,11 @@
 //! The resources, dynamic anchors and references of a document.
 
 use crate::documents::{DOCUMENT, compiled};
+use crate::expectations::{expect_holds, expect_told};
 use crate::pointers::{RESOURCES, shown};
-use schema_scan::{Compiled, Fault};
+use schema_scan::Fault;
 use std::alloc::Global;
-use std::test::Fail;
+use std::process::Abort;
 
 const BASE: &str = "https://ex.org/a/base";
 
@@ -18,6 +19,18 @@ fn joined(alloc: Global, texts: &[String]) -> Result<String, Fault> {
         line.push_str(text.as_str())?;
     }
     Ok(line)
+}
+
+fn uris(alloc: Global, base: &str, document: &str) -> Result<String, Fault> {
+    joined(alloc, compiled(alloc, base, document)?.resource_uris())
+}
+
+fn references(alloc: Global, base: &str, document: &str) -> Result<String, Fault> {
+    joined(alloc, compiled(alloc, base, document)?.references())
+}
+
+fn keeps_base(alloc: Global, base: &str, document: &str) -> Result<bool, Fault> {
+    Ok(compiled(alloc, base, document)?.base() == base)
 }
 
 // A base, a document, the URIs of its resources, and its references.
@@ -37,17 +50,19 @@ const GATHERED: &[(&str, &str, &str, &str)] = &[
     (BASE, "{}", " https://ex.org/a/base", ""),
 ];
 
+fn expect_gathered(rt: &impl Abort, alloc: Global, row: &(&str, &str, &str, &str)) {
+    let (base, document, wanted, wanted_references) = *row;
+    expect_holds(rt, keeps_base(alloc, base, document), base);
+    expect_told(rt, alloc, uris(alloc, base, document), wanted, base);
+    let references = references(alloc, base, document);
+    expect_told(rt, alloc, references, wanted_references, base);
+}
+
 #[test]
-fn uris_and_references_are_gathered(rt: HostRuntime) -> Result<(), Fail> {
-    for (base, document, uris, references) in GATHERED {
-        let compiled = compiled(rt.alloc(), base, document)?;
-        assert!(rt; compiled.base() == *base);
-        let found = joined(rt.alloc(), compiled.resource_uris())?;
-        assert_eq!(rt; found.as_str(), *uris);
-        let found = joined(rt.alloc(), compiled.references())?;
-        assert_eq!(rt; found.as_str(), *references);
+fn uris_and_references_are_gathered(rt: HostRuntime) {
+    for row in GATHERED {
+        expect_gathered(&rt, rt.alloc(), row);
     }
-    Ok(())
 }
 
 // A base, a document, and the root of the resource with this URI; nothing where it opens none.
@@ -69,16 +84,34 @@ const ROOTS: &[(&str, &str, &str, &str)] = &[
     (BASE, "{}", BASE, "https://ex.org/a/base# {}"),
 ];
 
+fn root(alloc: Global, base: &str, document: &str, uri: &str) -> Result<String, Fault> {
+    let document = compiled(alloc, base, document)?;
+    shown(alloc, document.resource_root(alloc, uri))
+}
+
+fn opens_as(
+    alloc: Global,
+    base: &str,
+    document: &str,
+    uri: &str,
+    wanted: bool,
+) -> Result<bool, Fault> {
+    let document = compiled(alloc, base, document)?;
+    Ok((document.resource_uri(uri) == Some(uri)) == wanted)
+}
+
+fn expect_root(rt: &impl Abort, alloc: Global, row: &(&str, &str, &str, &str)) {
+    let (base, document, uri, wanted) = *row;
+    let is_there = !wanted.is_empty();
+    expect_holds(rt, opens_as(alloc, base, document, uri, is_there), uri);
+    expect_told(rt, alloc, root(alloc, base, document, uri), wanted, uri);
+}
+
 #[test]
-fn roots_are_found_by_uri(rt: HostRuntime) -> Result<(), Fail> {
-    for (base, document, uri, text) in ROOTS {
-        let compiled = compiled(rt.alloc(), base, document)?;
-        let is_there = compiled.resource_uri(uri) == Some(*uri);
-        assert!(rt; is_there != text.is_empty(), "{uri}");
-        let root = shown(rt.alloc(), compiled.resource_root(rt.alloc(), uri))?;
-        assert_eq!(rt; root.as_str(), *text, "{uri}");
+fn roots_are_found_by_uri(rt: HostRuntime) {
+    for row in ROOTS {
+        expect_root(&rt, rt.alloc(), row);
     }
-    Ok(())
 }
 
 // A base, a document, a resource, a name, and what the name names there dynamically; nothing for no dynamic anchor.
@@ -103,16 +136,31 @@ const DYNAMIC: &[(&str, &str, &str, &str, &str)] = &[
     (BASE, "{}", BASE, "x", ""),
 ];
 
-fn anchored(alloc: Global, document: &Compiled, uri: &str, name: &str) -> Result<String, Fault> {
+fn anchored(
+    alloc: Global,
+    base: &str,
+    document: &str,
+    uri: &str,
+    name: &str,
+) -> Result<String, Fault> {
+    let document = compiled(alloc, base, document)?;
     shown(alloc, document.dynamically_anchored(alloc, uri, name)?)
 }
 
+fn expect_anchored(rt: &impl Abort, alloc: Global, row: &(&str, &str, &str, &str, &str)) {
+    let (base, document, uri, name, wanted) = *row;
+    expect_told(
+        rt,
+        alloc,
+        anchored(alloc, base, document, uri, name),
+        wanted,
+        name,
+    );
+}
+
 #[test]
-fn dynamic_anchors_are_found_by_their_resource(rt: HostRuntime) -> Result<(), Fail> {
-    for (base, document, uri, name, text) in DYNAMIC {
-        let compiled = compiled(rt.alloc(), base, document)?;
-        let found = anchored(rt.alloc(), &compiled, uri, name)?;
-        assert_eq!(rt; found.as_str(), *text, "{name} in {uri}");
+fn dynamic_anchors_are_found_by_their_resource(rt: HostRuntime) {
+    for row in DYNAMIC {
+        expect_anchored(&rt, rt.alloc(), row);
     }
-    Ok(())
 }

@@ -1,10 +1,10 @@
 //! Scans: what is taken, and the first fault of what is refused.
 
-use crate::documents::told;
+use crate::expectations::expect_told;
 use json_doc::read;
 use schema_scan::{Fault, scan};
 use std::alloc::Global;
-use std::test::Fail;
+use std::process::Abort;
 use uri_ref::split;
 
 // The base of the document that is scanned.
@@ -88,31 +88,51 @@ const DOCUMENTS: &[(&str, &str, &str)] = &[
     (BASE, r#"{"$anchor":"n","$dynamicAnchor":"n"}"#, BASE),
 ];
 
+fn expect_scan(rt: &impl Abort, alloc: Global, row: &(&str, &str, &str)) {
+    let (base, document, wanted) = *row;
+    expect_told(rt, alloc, scanned(alloc, base, document), wanted, document);
+}
+
 #[test]
-fn scans_take_or_refuse(rt: HostRuntime) -> Result<(), Fail> {
-    for (base, document, text) in DOCUMENTS {
-        let found = told(rt.alloc(), scanned(rt.alloc(), base, document))?;
-        assert_eq!(rt; found.as_str(), *text, "{document}");
+fn scans_take_or_refuse(rt: HostRuntime) {
+    for row in DOCUMENTS {
+        expect_scan(&rt, rt.alloc(), row);
     }
-    Ok(())
 }
 
 // How many lists stand in one another in a `const`, and what the scan answers.
 const NESTINGS: &[(u8, &str)] = &[(120, "7 TooNested"), (119, BASE)];
 
-#[test]
-fn what_nests_too_deep_is_refused(rt: HostRuntime) -> Result<(), Fail> {
-    for (depth, text) in NESTINGS {
-        let mut document = String::from_str(rt.alloc(), "{\"const\":")?;
-        for _ in 0..*depth {
-            document.push('[')?;
-        }
-        for _ in 0..*depth {
-            document.push(']')?;
-        }
-        document.push('}')?;
-        let found = told(rt.alloc(), scanned(rt.alloc(), BASE, document.as_str()))?;
-        assert_eq!(rt; found.as_str(), *text);
+fn nested(alloc: Global, depth: u8) -> Result<String, Fault> {
+    let mut document = String::from_str(alloc, "{\"const\":")?;
+    for _ in 0..depth {
+        document.push('[')?;
     }
-    Ok(())
+    for _ in 0..depth {
+        document.push(']')?;
+    }
+    document.push('}')?;
+    Ok(document)
+}
+
+fn scanned_nested(alloc: Global, depth: u8) -> Result<String, Fault> {
+    scanned(alloc, BASE, nested(alloc, depth)?.as_str())
+}
+
+fn expect_nesting(rt: &impl Abort, alloc: Global, row: &(u8, &str)) {
+    let (depth, wanted) = *row;
+    expect_told(
+        rt,
+        alloc,
+        scanned_nested(alloc, depth),
+        wanted,
+        "nested lists",
+    );
+}
+
+#[test]
+fn what_nests_too_deep_is_refused(rt: HostRuntime) {
+    for row in NESTINGS {
+        expect_nesting(&rt, rt.alloc(), row);
+    }
 }

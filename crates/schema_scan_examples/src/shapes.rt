@@ -1,9 +1,11 @@
 //! The shapes that values have.
 
-use json_doc::read;
+use crate::expectations::expect_holds;
+use json_doc::{Fault, read};
 use keyword_shapes::fits;
 use keywords::Shape;
-use std::test::Fail;
+use std::alloc::Global;
+use std::process::Abort;
 
 const SHAPES: &[(Shape, &str, bool)] = &[
     (Shape::TypeNames, r#""integer""#, true),
@@ -23,11 +25,19 @@ const SHAPES: &[(Shape, &str, bool)] = &[
     (Shape::AnyText, "null", false),
 ];
 
+fn fits_as(alloc: Global, shape: Shape, text: &str, wanted: bool) -> Result<bool, Fault> {
+    let value = read(alloc, text.as_bytes())?;
+    Ok(fits(shape, &value) == wanted)
+}
+
+fn expect_shape(rt: &impl Abort, alloc: Global, row: &(Shape, &str, bool)) {
+    let (shape, text, has_it) = *row;
+    expect_holds(rt, fits_as(alloc, shape, text, has_it), text);
+}
+
 #[test]
-fn values_have_shapes(rt: HostRuntime) -> Result<(), Fail> {
-    for (shape, text, has_it) in SHAPES {
-        let value = read(rt.alloc(), text.as_bytes())?;
-        assert_eq!(rt; fits(*shape, &value), *has_it, "{shape:?} of {text}");
+fn values_have_shapes(rt: HostRuntime) {
+    for row in SHAPES {
+        expect_shape(&rt, rt.alloc(), row);
     }
-    Ok(())
 }

@@ -1,6 +1,6 @@
 //! Documents on texts, their bundles, and what they say of instances.
 
-use crate::texts::{filled, text_or_fault};
+use crate::texts::filled;
 use bundler::{Fault, bundle};
 use evaluator::evaluate;
 use json_doc::{read, write};
@@ -8,7 +8,6 @@ use linker::{ListSource, link};
 use schema_scan::{compile, scan};
 use std::alloc::Global;
 use std::rc::Rc;
-use std::test::Fail;
 use uri_ref::split;
 
 // A list of documents, each with the URI that it stands under.
@@ -22,13 +21,15 @@ fn listed(alloc: Global, documents: &[(&str, &str)]) -> Result<ListSource, Fault
     Ok(source)
 }
 
-fn bundled(alloc: Global, documents: &[(&str, &str)], uri: &str) -> Result<String, Fault> {
+/// The text of the bundle of what this URI reaches.
+pub fn bundle_text(alloc: Global, documents: &[(&str, &str)], uri: &str) -> Result<String, Fault> {
     let mut source = listed(alloc, documents)?;
     let linked = link(alloc, &mut source, uri)?;
     write(alloc, &bundle(alloc, &linked)?)
 }
 
-fn evaluated(
+/// What the resource with this URI says of the instance.
+pub fn answer(
     alloc: Global,
     documents: &[(&str, &str)],
     uri: &str,
@@ -38,19 +39,4 @@ fn evaluated(
     let linked = link(alloc, &mut source, uri)?;
     let instance = read(alloc, instance.as_bytes())?;
     Ok(evaluate(alloc, &linked, &instance)?.into_text())
-}
-
-/// The text of the bundle of what this URI reaches, or the fault.
-pub fn bundle_text(alloc: Global, documents: &[(&str, &str)], uri: &str) -> Result<String, Fail> {
-    text_or_fault(alloc, bundled(alloc, documents, uri))
-}
-
-/// What the resource with this URI says of the instance, or the fault.
-pub fn answer(
-    alloc: Global,
-    documents: &[(&str, &str)],
-    uri: &str,
-    instance: &str,
-) -> Result<String, Fail> {
-    text_or_fault(alloc, evaluated(alloc, documents, uri, instance))
 }

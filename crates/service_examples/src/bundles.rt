@@ -1,9 +1,10 @@
 //! The texts of bundles, refusals, and what bundles say, put alone under some other URI.
 
 use crate::bundled_documents::{answer, bundle_text};
-use crate::texts::is_like;
+use crate::texts::{expect_like, expect_same};
+use bundler::Fault;
 use std::alloc::Global;
-use std::test::Fail;
+use std::process::Abort;
 
 const ROOT: &str = "https://ex.org/root";
 
@@ -66,8 +67,11 @@ const NESTED_118: &[(&str, &str)] = &[
     ("https://ex.org/b", r#"{"const":«118*[»«118*]»}"#),
 ];
 
+// Documents, each with the URI that it stands under.
+type Documents = &'static [(&'static str, &'static str)];
+
 // Documents, a URI, and the text of the bundle of what it reaches, or the fault.
-const BUNDLES: &[(&[(&str, &str)], &str, &str)] = &[
+const BUNDLES: &[(Documents, &str, &str)] = &[
     (
         &[("https://ex.org/s", "{}")],
         "https://ex.org/s",
@@ -121,21 +125,20 @@ const BUNDLES: &[(&[(&str, &str)], &str, &str)] = &[
     ),
 ];
 
+fn expect_bundle(rt: &impl Abort, alloc: Global, row: &(Documents, &str, &str)) {
+    let (documents, uri, wanted) = *row;
+    expect_like(rt, alloc, bundle_text(alloc, documents, uri), wanted, uri);
+}
+
 #[test]
-fn bundles_have_their_texts(rt: HostRuntime) -> Result<(), Fail> {
-    let alloc = rt.alloc();
-    for (documents, uri, wanted) in BUNDLES {
-        let found = bundle_text(alloc, documents, uri)?;
-        assert!(rt;
-            is_like(alloc, found.as_str(), wanted)?,
-            "{wanted}: {found}"
-        );
+fn bundles_have_their_texts(rt: HostRuntime) {
+    for row in BUNDLES {
+        expect_bundle(&rt, rt.alloc(), row);
     }
-    Ok(())
 }
 
 // Documents, the URI whose bundle is put alone, an instance, and what both say of it, or the fault.
-const STANDING_ALONE: &[(&[(&str, &str)], &str, &str, &str)] = &[
+const STANDING_ALONE: &[(Documents, &str, &str, &str)] = &[
     (BY_PROPERTY, ROOT, r#"{"a":"x"}"#, r#"…"valid":false}"#),
     (ROUND, ROOT, "1", "17 Loop"),
     (
@@ -158,22 +161,22 @@ fn alone(
     documents: &[(&str, &str)],
     uri: &str,
     instance: &str,
-) -> Result<String, Fail> {
+) -> Result<String, Fault> {
     let bundle = bundle_text(alloc, documents, uri)?;
     answer(alloc, &[("urn:x", bundle.as_str())], uri, instance)
 }
 
+fn expect_alone(rt: &impl Abort, alloc: Global, row: &(Documents, &str, &str, &str)) {
+    let (documents, uri, instance, wanted) = *row;
+    let before = answer(alloc, documents, uri, instance);
+    expect_like(rt, alloc, before, wanted, instance);
+    let after = alone(alloc, documents, uri, instance);
+    expect_same(rt, after, answer(alloc, documents, uri, instance), instance);
+}
+
 #[test]
-fn bundles_say_what_their_documents_say(rt: HostRuntime) -> Result<(), Fail> {
-    let alloc = rt.alloc();
-    for (documents, uri, instance, wanted) in STANDING_ALONE {
-        let before = answer(alloc, documents, uri, instance)?;
-        assert!(rt;
-            is_like(alloc, before.as_str(), wanted)?,
-            "{wanted}: {before}"
-        );
-        let after = alone(alloc, documents, uri, instance)?;
-        assert_eq!(rt; after.as_str(), before.as_str());
+fn bundles_say_what_their_documents_say(rt: HostRuntime) {
+    for row in STANDING_ALONE {
+        expect_alone(&rt, rt.alloc(), row);
     }
-    Ok(())
 }

@@ -1,12 +1,12 @@
 //! Documents that are asked for, kept and pushed out, and how many a cache may keep.
 
-use crate::texts::{filled, text_or_fault};
+use crate::texts::{expect_like, filled};
 use json_doc::read;
 use schema_scan::{Compiled, canonical};
 use shared_cache::{Cache, Fault};
 use std::alloc::Global;
+use std::process::Abort;
 use std::rc::Rc;
-use std::test::Fail;
 use uri_ref::split;
 
 const A: &str = "https://ex.org/a";
@@ -39,7 +39,7 @@ fn asked(
     alloc: Global,
     cache: &mut Cache,
     answers: &mut Vec<Rc<Compiled>>,
-    line: (&str, &str),
+    line: &Line,
 ) -> Result<String, Fault> {
     if line.0.is_empty() {
         cache.clear();
@@ -51,7 +51,7 @@ fn asked(
 }
 
 // The canonical URIs, each after a space.
-fn canonicals(alloc: Global, answers: &[Rc<Compiled>]) -> Result<String, Fail> {
+fn canonicals(alloc: Global, answers: &[Rc<Compiled>]) -> Result<String, Fault> {
     let mut line = String::new(alloc);
     for answer in answers {
         line.push(' ')?;
@@ -60,23 +60,26 @@ fn canonicals(alloc: Global, answers: &[Rc<Compiled>]) -> Result<String, Fail> {
     Ok(line)
 }
 
-const PUSHED_OUT: &[(&str, &str, &str)] = &[(A, "{}", "1, 1 kept"), (B, "{}", "2, 1 kept")];
+// A base, a document, and the number of what is answered and how many are kept then, or the fault.
+type Line = (&'static str, &'static str, &'static str);
 
-const CLEARED: &[(&str, &str, &str)] = &[
+const PUSHED_OUT: &[Line] = &[(A, "{}", "1, 1 kept"), (B, "{}", "2, 1 kept")];
+
+const CLEARED: &[Line] = &[
     (A, "{}", "1, 1 kept"),
     (B, "{}", "2, 2 kept"),
     ("", "", "0 kept"),
     (A, "{}", "3, 1 kept"),
 ];
 
-const REFUSED: &[(&str, &str, &str)] = &[
+const REFUSED: &[Line] = &[
     (B, "{}", "1, 1 kept"),
     (B, r#"{"pattern":"(?=a)"}"#, "5 BadPattern"),
     (B, "[]", "6 NotObject"),
     (B, "{}", "1, 1 kept"),
 ];
 
-const LONGEST_AGO: &[(&str, &str, &str)] = &[
+const LONGEST_AGO: &[Line] = &[
     (A, r#"{"type":"string"}"#, "1, 1 kept"),
     (A, r#"{"type":"integer"}"#, "2, 2 kept"),
     (A, r#"{ "type" : "string" }"#, "1, 2 kept"),
@@ -85,7 +88,7 @@ const LONGEST_AGO: &[(&str, &str, &str)] = &[
     (A, r#"{"type":"integer"}"#, "4, 2 kept"),
 ];
 
-const TOO_DEEP: &[(&str, &str, &str)] = &[
+const TOO_DEEP: &[Line] = &[
     (A, r#"{"const":«119*[»«119*]»}"#, "1, 1 kept"),
     (A, r#"{"const":«120*[»«120*]»}"#, "7 TooNested"),
     (A, r#"{"const":«126*[»«126*]»}"#, "7 TooNested"),
@@ -94,7 +97,7 @@ const TOO_DEEP: &[(&str, &str, &str)] = &[
 
 // A capacity, what is asked and answered, and the canonical URIs of all documents that were answered, which outlive their
 // places in the cache.
-const CACHES: &[(usize, &[(&str, &str, &str)], &str)] = &[
+const CACHES: &[(usize, &[Line], &str)] = &[
     (1, PUSHED_OUT, " https://ex.org/a https://ex.org/b"),
     (
         2,
@@ -110,20 +113,44 @@ const CACHES: &[(usize, &[(&str, &str, &str)], &str)] = &[
     (4, TOO_DEEP, " https://ex.org/a"),
 ];
 
-#[test]
-fn documents_are_kept_and_pushed_out(rt: HostRuntime) -> Result<(), Fail> {
-    let alloc = rt.alloc();
-    for (capacity, lines, uris) in CACHES {
-        let mut cache = Cache::new(alloc, *capacity)?;
-        let mut answers = Vec::new(alloc);
-        for (base, document, wanted) in *lines {
-            let line = (*base, *document);
-            let found = text_or_fault(alloc, asked(alloc, &mut cache, &mut answers, line))?;
-            assert_eq!(rt; found.as_str(), *wanted, "{capacity}, {base} {document}");
-        }
-        assert_eq!(rt; canonicals(alloc, &answers)?.as_str(), *uris, "{capacity}");
+fn expect_line(
+    rt: &impl Abort,
+    alloc: Global,
+    cache: &mut Cache,
+    answers: &mut Vec<Rc<Compiled>>,
+    line: &Line,
+) {
+    let found = asked(alloc, cache, answers, line);
+    expect_like(rt, alloc, found, line.2, line.1);
+}
+
+fn expect_cache(rt: &impl Abort, alloc: Global, mut cache: Cache, lines: &[Line], uris: &str) {
+    let mut answers = Vec::new(alloc);
+    for line in lines {
+        expect_line(rt, alloc, &mut cache, &mut answers, line);
     }
-    Ok(())
+    expect_like(
+        rt,
+        alloc,
+        canonicals(alloc, &answers),
+        uris,
+        "canonical URIs",
+    );
+}
+
+fn expect_new_cache(rt: &impl Abort, alloc: Global, row: &(usize, &[Line], &str)) {
+    let (capacity, lines, uris) = *row;
+    match Cache::new(alloc, capacity) {
+        Ok(cache) => expect_cache(rt, alloc, cache, lines, uris),
+        Err(fault) => panic!(rt; "{fault}"),
+    }
+}
+
+#[test]
+fn documents_are_kept_and_pushed_out(rt: HostRuntime) {
+    for row in CACHES {
+        expect_new_cache(&rt, rt.alloc(), row);
+    }
 }
 
 // A capacity, and how many documents a new cache keeps, or the fault.
@@ -141,11 +168,14 @@ fn opened(alloc: Global, capacity: usize) -> Result<String, Fault> {
     Ok(format!(in alloc; "{} kept", cache.len())?)
 }
 
+fn expect_capacity(rt: &impl Abort, alloc: Global, row: &(usize, &str)) {
+    let (capacity, wanted) = *row;
+    expect_like(rt, alloc, opened(alloc, capacity), wanted, "a new cache");
+}
+
 #[test]
-fn caches_have_capacities(rt: HostRuntime) -> Result<(), Fail> {
-    for (capacity, wanted) in CAPACITIES {
-        let found = text_or_fault(rt.alloc(), opened(rt.alloc(), *capacity))?;
-        assert_eq!(rt; found.as_str(), *wanted, "{capacity}");
+fn caches_have_capacities(rt: HostRuntime) {
+    for row in CAPACITIES {
+        expect_capacity(&rt, rt.alloc(), row);
     }
-    Ok(())
 }

@@ -1,14 +1,14 @@
 //! Heads: what they say, where they end, and those that are refused; and what their targets ask for.
 
-use crate::texts::filled;
+use crate::texts::{expect_like, filled};
 use request_heads::{Front, Method, Search, look, request_of};
-use requests::Request;
+use requests::{Fault, Request};
 use std::alloc::Global;
-use std::test::Fail;
+use std::process::Abort;
 
 // The method, how many bytes the head and the body have, and whether the request is the last one; `hopeless`, or nothing
 // where no head has come yet.
-fn head_told(alloc: Global, bytes: &[u8]) -> Result<String, Fail> {
+fn head_told(alloc: Global, bytes: &[u8]) -> Result<String, Fault> {
     let mut search = Search::new();
     match look(bytes, &mut search) {
         Some(Front::Whole(heading)) => {
@@ -62,22 +62,32 @@ const HEADS: &[(&str, &str)] = &[
     ("GET /bundle HTTP/1.0\r\n\r\n", "Get 24 0 last"),
 ];
 
-#[test]
-fn what_heads_say(rt: HostRuntime) -> Result<(), Fail> {
-    let alloc = rt.alloc();
-    for (front, wanted) in HEADS {
-        let found = head_told(alloc, filled(alloc, front)?.as_bytes())?;
-        assert_eq!(rt; found.as_str(), *wanted, "{front}");
-    }
-    // No head before its end.
-    let bytes = HEAD.as_bytes();
-    for len in 0..bytes.len() {
-        assert_eq!(rt; head_told(alloc, &bytes[..len])?.as_str(), "", "{len}");
-    }
-    Ok(())
+fn filled_head_told(alloc: Global, front: &str) -> Result<String, Fault> {
+    head_told(alloc, filled(alloc, front)?.as_bytes())
 }
 
-fn request_told(alloc: Global, request: &Option<Request>) -> Result<String, Fail> {
+fn expect_head(rt: &impl Abort, alloc: Global, row: &(&str, &str)) {
+    let (front, wanted) = *row;
+    expect_like(rt, alloc, filled_head_told(alloc, front), wanted, front);
+}
+
+#[test]
+fn what_heads_say(rt: HostRuntime) {
+    for row in HEADS {
+        expect_head(&rt, rt.alloc(), row);
+    }
+}
+
+#[test]
+fn no_head_before_its_end(rt: HostRuntime) {
+    let bytes = HEAD.as_bytes();
+    for len in 0..bytes.len() {
+        let found = head_told(rt.alloc(), &bytes[..len]);
+        expect_like(&rt, rt.alloc(), found, "", "a part of a head");
+    }
+}
+
+fn request_told(alloc: Global, request: &Option<Request>) -> Result<String, Fault> {
     let (kind, uri, body) = match request {
         Some(Request::Put(uri, body)) => ("put", uri.as_str(), body.as_slice()),
         Some(Request::Delete(uri)) => ("delete", uri.as_str(), b"".as_slice()),
@@ -110,13 +120,25 @@ const TARGETS: &[(Method, &str, &str, &str)] = &[
     (Method::Get, "/bundle?uri=%ff", "", "none '' ''"),
 ];
 
+fn target_told(alloc: Global, method: Method, target: &str, body: &str) -> Result<String, Fault> {
+    let request = request_of(alloc, method, target.as_bytes(), body.as_bytes())?;
+    request_told(alloc, &request)
+}
+
+fn expect_target(rt: &impl Abort, alloc: Global, row: &(Method, &str, &str, &str)) {
+    let (method, target, body, wanted) = *row;
+    expect_like(
+        rt,
+        alloc,
+        target_told(alloc, method, target, body),
+        wanted,
+        target,
+    );
+}
+
 #[test]
-fn what_targets_ask_for(rt: HostRuntime) -> Result<(), Fail> {
-    let alloc = rt.alloc();
-    for (method, target, body, wanted) in TARGETS {
-        let request = request_of(alloc, *method, target.as_bytes(), body.as_bytes())?;
-        let found = request_told(alloc, &request)?;
-        assert_eq!(rt; found.as_str(), *wanted, "{target}");
+fn what_targets_ask_for(rt: HostRuntime) {
+    for row in TARGETS {
+        expect_target(&rt, rt.alloc(), row);
     }
-    Ok(())
 }

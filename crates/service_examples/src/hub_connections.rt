@@ -1,42 +1,43 @@
 //! Connections to a hub: streams of requests, cut anywhere, and others in between.
 
-use crate::sent_streams::{Step, sent_in_two, sent_to_the_end, unlike_steps};
+use crate::sent_streams::{Step, expect_both, expect_steps, sent_in_two, sent_to_the_end};
 use crate::served_hubs::{
     CLOSING, EXAMPLE, EXAMPLE_REPLIES, NOT_FOUND, OUTPUT, POST, PUT, PUT_FRONT, STORED,
-    hub_sessions, library_sessions,
+    hub_sessions, library_sessions, replies_to_front,
 };
-use crate::texts::{filled, is_like};
-use std::test::Fail;
+use crate::texts::{expect_like, expect_same, filled};
+use connections::Sessions;
+use http_front::{Fault, HubHandler};
+use std::alloc::Global;
+use std::process::Abort;
 
-#[test]
-fn cut_after_each_byte_with_the_other_tenant_between(rt: HostRuntime) -> Result<(), Fail> {
-    let alloc = rt.alloc();
+const OTHERS: &[u8] =
+    b"POST /validate?uri=https://ex.org/s HTTP/1.1\r\nx-tenant-key: k2\r\ncontent-length: 4\r\n\r\nnull";
+
+fn sent_at(alloc: Global, cut: usize) -> Result<(String, String), Fault> {
     let bytes = EXAMPLE.as_bytes();
-    let others =
-        b"POST /validate?uri=https://ex.org/s HTTP/1.1\r\nx-tenant-key: k2\r\ncontent-length: 4\r\n\r\nnull";
-    for cut in 0..=bytes.len() {
-        let pieces = (&bytes[..cut], &bytes[cut..]);
-        let (out, other) = sent_in_two(alloc, &mut hub_sessions(alloc)?, pieces, others)?;
-        assert_eq!(rt; other.as_str(), NOT_FOUND, "{cut}");
-        assert_eq!(rt; out.as_str(), EXAMPLE_REPLIES, "{cut}");
-    }
-    Ok(())
+    let pieces = bytes.split_at_checked(cut).unwrap_or((bytes, b""));
+    sent_in_two(alloc, &mut hub_sessions(alloc)?, pieces, OTHERS)
 }
 
 #[test]
-fn cut_off_after_each_byte(rt: HostRuntime) -> Result<(), Fail> {
-    let alloc = rt.alloc();
+fn cut_after_each_byte_with_the_other_tenant_between(rt: HostRuntime) {
     for cut in 0..=EXAMPLE.len() {
-        let bytes = &EXAMPLE.as_bytes()[..cut];
-        let out = sent_to_the_end(alloc, &mut hub_sessions(alloc)?, bytes)?;
-        let first = if PUT.len() <= cut { STORED } else { "" };
-        let second = if cut == EXAMPLE.len() { OUTPUT } else { "" };
-        let whole = cut == 0 || cut == PUT.len() || cut == EXAMPLE.len();
-        let last = if whole { "" } else { CLOSING };
-        let told = format!(in alloc; "{first}{second}{last}")?;
-        assert_eq!(rt; out.as_str(), told.as_str(), "{cut}");
+        let sent = sent_at(rt.alloc(), cut);
+        expect_both(&rt, sent, (EXAMPLE_REPLIES, NOT_FOUND), cut);
     }
-    Ok(())
+}
+
+fn sent_for(alloc: Global, bytes: &[u8]) -> Result<String, Fault> {
+    sent_to_the_end(alloc, &mut hub_sessions(alloc)?, bytes)
+}
+
+#[test]
+fn cut_off_after_each_byte(rt: HostRuntime) {
+    for cut in 0..=EXAMPLE.len() {
+        let sent = sent_for(rt.alloc(), &EXAMPLE.as_bytes()[..cut]);
+        expect_same(&rt, sent, replies_to_front(rt.alloc(), cut), "a front");
+    }
 }
 
 // A stream, and what is sent for it and its end. A body has at most 1,048,576 bytes, and a batch at most 64 entries.
@@ -101,18 +102,22 @@ const STREAMS: &[(&str, &str)] = &[
     ),
 ];
 
-#[test]
-fn streams_have_their_replies(rt: HostRuntime) -> Result<(), Fail> {
-    let alloc = rt.alloc();
-    for (stream, replies) in STREAMS {
-        let bytes = filled(alloc, stream)?;
-        let found = sent_to_the_end(alloc, &mut hub_sessions(alloc)?, bytes.as_bytes())?;
-        assert!(rt; is_like(alloc, found.as_str(), replies)?, "{stream}");
-    }
-    Ok(())
+fn sent_for_filled(alloc: Global, stream: &str) -> Result<String, Fault> {
+    sent_for(alloc, filled(alloc, stream)?.as_bytes())
 }
 
-// A request is answered when its last byte comes.
+fn expect_stream(rt: &impl Abort, alloc: Global, row: &(&str, &str)) {
+    let (stream, wanted) = *row;
+    expect_like(rt, alloc, sent_for_filled(alloc, stream), wanted, stream);
+}
+
+#[test]
+fn streams_have_their_replies(rt: HostRuntime) {
+    for row in STREAMS {
+        expect_stream(&rt, rt.alloc(), row);
+    }
+}
+
 const LAST_BYTES: &[Step] = &[
     ("open", 1, "", "", false),
     ("open", 2, "", "", false),
@@ -148,14 +153,23 @@ const OVER_A_LIBRARY: &[Step] = &[
     ("feed", 1, PUT, "HTTP/1.1 409 Conflict\r\n…", false),
 ];
 
-#[test]
-fn steps_have_their_replies(rt: HostRuntime) -> Result<(), Fail> {
-    let alloc = rt.alloc();
-    for steps in &[LAST_BYTES, CLOSED, IDS] {
-        let unlike = unlike_steps(alloc, &mut hub_sessions(alloc)?, steps)?;
-        assert_eq!(rt; unlike.as_str(), "");
+fn expect_steps_of(
+    rt: &impl Abort,
+    alloc: Global,
+    sessions: Result<Sessions<HubHandler>, Fault>,
+    steps: &[Step],
+) {
+    match sessions {
+        Ok(mut sessions) => expect_steps(rt, alloc, &mut sessions, steps),
+        Err(fault) => panic!(rt; "{fault}"),
     }
-    let unlike = unlike_steps(alloc, &mut library_sessions(alloc)?, OVER_A_LIBRARY)?;
-    assert_eq!(rt; unlike.as_str(), "");
-    Ok(())
+}
+
+#[test]
+fn steps_have_their_replies(rt: HostRuntime) {
+    let alloc = rt.alloc();
+    expect_steps_of(&rt, alloc, hub_sessions(alloc), LAST_BYTES);
+    expect_steps_of(&rt, alloc, hub_sessions(alloc), CLOSED);
+    expect_steps_of(&rt, alloc, hub_sessions(alloc), IDS);
+    expect_steps_of(&rt, alloc, library_sessions(alloc), OVER_A_LIBRARY);
 }

@@ -1,10 +1,10 @@
 //! Documents as a registry keeps them.
 
-use crate::texts::text_or_fault;
+use crate::texts::expect_like;
 use json_doc::{Doc, read, write};
 use shared_cache::Cache;
 use std::alloc::Global;
-use std::test::Fail;
+use std::process::Abort;
 use stored_documents::{Documents, Fault, Stored};
 use uri_ref::split;
 
@@ -35,16 +35,24 @@ const DOCUMENTS: &[(&str, &str, usize)] = &[
     ),
 ];
 
-#[test]
-fn what_is_kept_with_a_document(rt: HostRuntime) -> Result<(), Fail> {
-    let alloc = rt.alloc();
-    let mut cache = Cache::new(alloc, 1)?;
-    for (document, wanted, kept) in DOCUMENTS {
-        let found = text_or_fault(alloc, told(alloc, &mut cache, document))?;
-        assert_eq!(rt; found.as_str(), *wanted, "{document}");
-        assert_eq!(rt; cache.len(), *kept, "{document}");
+fn expect_kept(rt: &impl Abort, alloc: Global, cache: &mut Cache, row: &(&str, &str, usize)) {
+    let (document, wanted, kept) = *row;
+    expect_like(rt, alloc, told(alloc, cache, document), wanted, document);
+    assert_eq!(rt; cache.len(), kept, "{document}");
+}
+
+fn expect_all_kept(rt: &impl Abort, alloc: Global, mut cache: Cache) {
+    for row in DOCUMENTS {
+        expect_kept(rt, alloc, &mut cache, row);
     }
-    Ok(())
+}
+
+#[test]
+fn what_is_kept_with_a_document(rt: HostRuntime) {
+    match Cache::new(rt.alloc(), 1) {
+        Ok(cache) => expect_all_kept(&rt, rt.alloc(), cache),
+        Err(fault) => panic!(rt; "{fault}"),
+    }
 }
 
 #[test]

@@ -3,11 +3,11 @@
 use crate::served_hubs::{
     CLOSING, EXAMPLE, EXAMPLE_REPLIES, NOT_FOUND, OUTPUT, POST, PUT, PUT_FRONT, STORED,
 };
-use crate::served_networks::{Outcome, unlike_outcomes};
-use crate::texts::filled;
+use crate::served_networks::{Outcome, expect_outcomes};
+use crate::texts::{filled, push_copies};
 use network::Happening::{self, *};
-use std::alloc::Global;
-use std::test::Fail;
+use std::alloc::{AllocError, Global};
+use std::process::Abort;
 
 const ENOUGH: usize = 1_000_000;
 
@@ -17,57 +17,73 @@ const LAST: &str = "GET /bundle HTTP/1.0\r\n\r\n";
 const LAST_REPLY: &str =
     "HTTP/1.1 404 Not Found\r\ncontent-type: application/json\r\ncontent-length: 30\r\nconnection: close\r\n\r\n{\"fault\":36,\"name\":\"BadRoute\"}";
 
-// Pieces of two streams in turn, cut after each byte.
-fn cut_in_bytes<'a>(
-    alloc: Global,
-    first: &'a str,
-    second: &'a str,
-    are_together: bool,
-) -> Result<Vec<Happening<'a>>, Fail> {
+fn push_byte<'a>(
+    script: &mut Vec<Happening<'a>>,
+    id: u64,
+    stream: &'a str,
+    index: usize,
+) -> Result<(), AllocError> {
+    match stream.get(index..index.saturating_add(1)) {
+        Some(byte) => Ok(script.push(Arrives(id, byte))?),
+        None => Ok(()),
+    }
+}
+
+// Pieces of the two streams in turn, cut after each byte.
+fn cut_in_bytes(alloc: Global, are_together: bool) -> Result<Vec<Happening<'static>>, AllocError> {
     let mut script = Vec::new(alloc);
     script.push(Opens(0))?;
     script.push(Opens(1))?;
-    for index in 0..first.len().max(second.len()) {
-        if let Some(byte) = first.get(index..index + 1) {
-            script.push(Arrives(0, byte))?;
-        }
+    for index in 0..EXAMPLE.len().max(POST.len()) {
+        push_byte(&mut script, 0, EXAMPLE, index)?;
         if !are_together {
             script.push(Rests)?;
         }
-        if let Some(byte) = second.get(index..index + 1) {
-            script.push(Arrives(1, byte))?;
-        }
+        push_byte(&mut script, 1, POST, index)?;
         script.push(Rests)?;
     }
     Ok(script)
 }
 
-#[test]
-fn two_streams_in_turn_cut_after_each_byte(rt: HostRuntime) -> Result<(), Fail> {
-    let alloc = rt.alloc();
-    for are_together in [true, false] {
-        let script = cut_in_bytes(alloc, EXAMPLE, POST, are_together)?;
-        let outcomes: &[Outcome] = &[(0, EXAMPLE_REPLIES, 0), (1, OUTPUT, 0)];
-        let unlike = unlike_outcomes(alloc, ENOUGH, &script, outcomes, "0+ 1+")?;
-        assert_eq!(rt; unlike.as_str(), "");
+// The example, where each write takes so many bytes.
+fn taken_in_parts(alloc: Global, room: usize) -> Result<Vec<Happening<'static>>, AllocError> {
+    let mut script = Vec::new(alloc);
+    script.extend_from_slice(&[Opens(0), Takes(0, room), Arrives(0, EXAMPLE)])?;
+    for _ in 0..EXAMPLE_REPLIES.len() {
+        script.push(Rests)?;
+        script.push(Takes(0, room))?;
     }
-    Ok(())
+    Ok(script)
+}
+
+fn expect_of_script(
+    rt: &impl Abort,
+    alloc: Global,
+    script: Result<Vec<Happening<'static>>, AllocError>,
+    outcomes: &[Outcome<'_>],
+    told: &str,
+) {
+    match script {
+        Ok(script) => expect_outcomes(rt, alloc, ENOUGH, &script, outcomes, told),
+        Err(_) => panic!(rt; "no room"),
+    }
 }
 
 #[test]
-fn writes_that_take_a_part(rt: HostRuntime) -> Result<(), Fail> {
+fn two_streams_in_turn_cut_after_each_byte(rt: HostRuntime) {
     let alloc = rt.alloc();
-    for room in [1_usize, 7, 100] {
-        let mut script = Vec::new(alloc);
-        script.extend_from_slice(&[Opens(0), Takes(0, room), Arrives(0, EXAMPLE)])?;
-        for _ in 0..EXAMPLE_REPLIES.len() {
-            script.push(Rests)?;
-            script.push(Takes(0, room))?;
-        }
-        let unlike = unlike_outcomes(alloc, ENOUGH, &script, &[(0, EXAMPLE_REPLIES, 0)], "0+")?;
-        assert_eq!(rt; unlike.as_str(), "");
-    }
-    Ok(())
+    let outcomes: &[Outcome] = &[(0, EXAMPLE_REPLIES, 0), (1, OUTPUT, 0)];
+    expect_of_script(&rt, alloc, cut_in_bytes(alloc, true), outcomes, "0+ 1+");
+    expect_of_script(&rt, alloc, cut_in_bytes(alloc, false), outcomes, "0+ 1+");
+}
+
+#[test]
+fn writes_that_take_a_part(rt: HostRuntime) {
+    let alloc = rt.alloc();
+    let outcomes: &[Outcome] = &[(0, EXAMPLE_REPLIES, 0)];
+    expect_of_script(&rt, alloc, taken_in_parts(alloc, 1), outcomes, "0+");
+    expect_of_script(&rt, alloc, taken_in_parts(alloc, 7), outcomes, "0+");
+    expect_of_script(&rt, alloc, taken_in_parts(alloc, 100), outcomes, "0+");
 }
 
 // What all connections may keep, what happens, what becomes of them, and what is told.
@@ -78,14 +94,9 @@ type Row = (
     &'static str,
 );
 
-fn go_as_wanted(alloc: Global, rows: &[Row]) -> Result<String, Fail> {
-    for (most_memory, script, outcomes, told) in rows {
-        let unlike = unlike_outcomes(alloc, *most_memory, script, outcomes, told)?;
-        if !unlike.is_empty() {
-            return Ok(unlike);
-        }
-    }
-    Ok(String::new(alloc))
+fn expect_row(rt: &impl Abort, alloc: Global, row: &Row) {
+    let (most_memory, script, outcomes, told) = *row;
+    expect_outcomes(rt, alloc, most_memory, script, outcomes, told);
 }
 
 const WAITING_WRITES: &[Row] = &[
@@ -161,9 +172,10 @@ const WAITING_WRITES: &[Row] = &[
 ];
 
 #[test]
-fn a_client_that_takes_no_replies_waits_alone(rt: HostRuntime) -> Result<(), Fail> {
-    assert_eq!(rt; go_as_wanted(rt.alloc(), WAITING_WRITES)?.as_str(), "");
-    Ok(())
+fn a_client_that_takes_no_replies_waits_alone(rt: HostRuntime) {
+    for row in WAITING_WRITES {
+        expect_row(&rt, rt.alloc(), row);
+    }
 }
 
 const SPURIOUS: &[Row] = &[
@@ -223,9 +235,10 @@ const SPURIOUS: &[Row] = &[
 ];
 
 #[test]
-fn readiness_that_tells_nothing(rt: HostRuntime) -> Result<(), Fail> {
-    assert_eq!(rt; go_as_wanted(rt.alloc(), SPURIOUS)?.as_str(), "");
-    Ok(())
+fn readiness_that_tells_nothing(rt: HostRuntime) {
+    for row in SPURIOUS {
+        expect_row(&rt, rt.alloc(), row);
+    }
 }
 
 const ENDS: &[Row] = &[
@@ -323,9 +336,10 @@ const ENDS: &[Row] = &[
 ];
 
 #[test]
-fn each_end_is_that_of_one_connection(rt: HostRuntime) -> Result<(), Fail> {
-    assert_eq!(rt; go_as_wanted(rt.alloc(), ENDS)?.as_str(), "");
-    Ok(())
+fn each_end_is_that_of_one_connection(rt: HostRuntime) {
+    for row in ENDS {
+        expect_row(&rt, rt.alloc(), row);
+    }
 }
 
 const OVER: &[Row] = &[
@@ -354,9 +368,10 @@ const OVER: &[Row] = &[
 ];
 
 #[test]
-fn the_end_with_bytes_to_be_sent(rt: HostRuntime) -> Result<(), Fail> {
-    assert_eq!(rt; go_as_wanted(rt.alloc(), OVER)?.as_str(), "");
-    Ok(())
+fn the_end_with_bytes_to_be_sent(rt: HostRuntime) {
+    for row in OVER {
+        expect_row(&rt, rt.alloc(), row);
+    }
 }
 
 // A request of 100 bytes in all but for its last byte, and another.
@@ -426,39 +441,49 @@ const MEMORY: &[Row] = &[
 ];
 
 #[test]
-fn memory_that_all_may_take(rt: HostRuntime) -> Result<(), Fail> {
-    assert_eq!(rt; go_as_wanted(rt.alloc(), MEMORY)?.as_str(), "");
-    Ok(())
+fn memory_that_all_may_take(rt: HostRuntime) {
+    for row in MEMORY {
+        expect_row(&rt, rt.alloc(), row);
+    }
 }
 
-// Bodies that come in many pieces, and a bundle of replies to one piece.
-#[test]
-fn long_streams_are_read_in_pieces(rt: HostRuntime) -> Result<(), Fail> {
-    let alloc = rt.alloc();
-    let body = filled(
-        alloc,
-        "PUT /schemas?uri=a HTTP/1.1\r\nx-tenant-key: k1\r\ncontent-length: 100000\r\n\r\n«100000* »",
-    )?;
-    let many = filled(
-        alloc,
-        "«40*GET /bundle?uri=a HTTP/1.1\r\nx-tenant-key: k1\r\n\r\n»",
-    )?;
-    let replies = String::from_str(alloc, NOT_FOUND)?;
-    let mut wanted = String::new(alloc);
-    for _ in 0..40 {
-        wanted.push_str(replies.as_str())?;
-    }
+fn expect_long<'x>(rt: &impl Abort, alloc: Global, body: &'x str, many: &'x str, replies: &'x str) {
     let script = &[
         Opens(0),
         Opens(1),
-        Arrives(0, body.as_str()),
-        Arrives(1, many.as_str()),
+        Arrives(0, body),
+        Arrives(1, many),
         Rests,
         Ends(0),
         Ends(1),
     ];
-    let outcomes: &[Outcome] = &[(0, STORED, 0), (1, wanted.as_str(), 0)];
-    let unlike = unlike_outcomes(alloc, ENOUGH, script, outcomes, "0+ 1+ 0- 1-")?;
-    assert_eq!(rt; unlike.as_str(), "");
-    Ok(())
+    let outcomes: &[Outcome] = &[(0, STORED, 0), (1, replies, 0)];
+    expect_outcomes(rt, alloc, ENOUGH, script, outcomes, "0+ 1+ 0- 1-");
+}
+
+fn forty(alloc: Global, piece: &str) -> Result<String, AllocError> {
+    let mut text = String::new(alloc);
+    push_copies(&mut text, 40, piece)?;
+    Ok(text)
+}
+
+const LONG_BODY: &str =
+    "PUT /schemas?uri=a HTTP/1.1\r\nx-tenant-key: k1\r\ncontent-length: 100000\r\n\r\n«100000* »";
+
+const UNKNOWN: &str = "GET /bundle?uri=a HTTP/1.1\r\nx-tenant-key: k1\r\n\r\n";
+
+// Bodies that come in many pieces, and a bundle of replies to one piece.
+#[test]
+fn long_streams_are_read_in_pieces(rt: HostRuntime) {
+    let alloc = rt.alloc();
+    match (
+        filled(alloc, LONG_BODY),
+        forty(alloc, UNKNOWN),
+        forty(alloc, NOT_FOUND),
+    ) {
+        (Ok(body), Ok(many), Ok(replies)) => {
+            expect_long(&rt, alloc, body.as_str(), many.as_str(), replies.as_str());
+        }
+        _ => panic!(rt; "no room"),
+    }
 }

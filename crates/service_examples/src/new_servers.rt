@@ -1,8 +1,8 @@
 //! What new servers are refused for.
 
-use crate::texts::{filled, text_or_fault};
+use crate::texts::{expect_like, filled};
 use std::alloc::Global;
-use std::test::Fail;
+use std::process::Abort;
 use tenant_hub::Hub;
 use tenants_file::{Fault, Tenant, server_fault};
 
@@ -15,7 +15,7 @@ fn tenant(key: String) -> Tenant {
 }
 
 // So many tenants `k0`, `k1` and so on, and then those with these keys.
-fn tenants(alloc: Global, count: usize, keys: &[&str]) -> Result<Vec<Tenant>, Fail> {
+fn tenants(alloc: Global, count: usize, keys: &[&str]) -> Result<Vec<Tenant>, Fault> {
     let mut tenants = Vec::new(alloc);
     for number in 0..count {
         tenants.push(tenant(format!(in alloc; "k{number}")?))?;
@@ -26,11 +26,23 @@ fn tenants(alloc: Global, count: usize, keys: &[&str]) -> Result<Vec<Tenant>, Fa
     Ok(tenants)
 }
 
-fn refusal(alloc: Global, refused: Option<Fault>) -> Result<String, Fail> {
-    match refused {
-        Some(fault) => text_or_fault(alloc, Err(fault)),
+// The text of no fault is empty.
+fn refusal(alloc: Global, count: usize, keys: &[&str], capacity: usize) -> Result<String, Fault> {
+    let tenants = tenants(alloc, count, keys)?;
+    match server_fault(&tenants, capacity) {
+        Some(fault) => Err(fault),
         None => Ok(String::new(alloc)),
     }
+}
+
+fn hub_refusal(
+    alloc: Global,
+    count: usize,
+    keys: &[&str],
+    capacity: usize,
+) -> Result<String, Fault> {
+    Hub::new(alloc, tenants(alloc, count, keys)?, capacity)?;
+    Ok(String::new(alloc))
 }
 
 // How many tenants there are before those with these keys, the capacity, and the fault.
@@ -62,15 +74,22 @@ const SERVERS: &[(usize, &[&str], usize, &str)] = &[
     (0, &["\u{7f}"], 256, "35 BadTenants"),
 ];
 
+fn expect_server(rt: &impl Abort, alloc: Global, row: &(usize, &[&str], usize, &str)) {
+    let (count, keys, capacity, fault) = *row;
+    expect_like(
+        rt,
+        alloc,
+        refusal(alloc, count, keys, capacity),
+        fault,
+        "a server",
+    );
+    let found = hub_refusal(alloc, count, keys, capacity);
+    expect_like(rt, alloc, found, fault, "a hub");
+}
+
 #[test]
-fn servers_are_refused_in_order(rt: HostRuntime) -> Result<(), Fail> {
-    let alloc = rt.alloc();
-    for (count, keys, capacity, fault) in SERVERS {
-        let tenants = tenants(alloc, *count, keys)?;
-        let found = refusal(alloc, server_fault(&tenants, *capacity))?;
-        assert_eq!(rt; found.as_str(), *fault, "{count} {keys:?} {capacity}");
-        let found = refusal(alloc, Hub::new(alloc, tenants, *capacity).err())?;
-        assert_eq!(rt; found.as_str(), *fault, "{count} {keys:?} {capacity}");
+fn servers_are_refused_in_order(rt: HostRuntime) {
+    for row in SERVERS {
+        expect_server(&rt, rt.alloc(), row);
     }
-    Ok(())
 }

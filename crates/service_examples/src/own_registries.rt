@@ -1,14 +1,14 @@
 //! A tenant's registry alone, over a library of its own.
 
 use crate::talks::{VALID, told};
-use crate::texts::text_or_fault;
+use crate::texts::expect_like;
 use evaluator::evaluate;
 use json_doc::{Doc, Whole};
 use linker::{ListSource, link};
 use shared_cache::Cache;
 use std::alloc::Global;
+use std::process::Abort;
 use std::rc::Rc;
-use std::test::Fail;
 use tenant_documents::{Fault, Registry, library_of};
 
 // What the resource with this URI says of the number 5.
@@ -25,14 +25,14 @@ fn answered(
     registry: &mut Registry,
     cache: &mut Cache,
     text: &str,
-) -> Result<String, Fail> {
+) -> Result<String, Fault> {
     let (kind, rest) = text.split_once(' ').unwrap_or((text, ""));
     let (uri, body) = rest.split_once(' ').unwrap_or((rest, ""));
     let reply = match kind {
         "put" => registry.put(alloc, cache, uri, body.as_bytes()),
         "batch" => registry.put_all(alloc, cache, rest.as_bytes()),
         "delete" => registry.delete(alloc, uri),
-        "say" => return text_or_fault(alloc, said(alloc, registry, cache, uri)),
+        "say" => return said(alloc, registry, cache, uri),
         _ => return Ok(format!(in alloc; "{}", cache.len())?),
     };
     told(alloc, &reply)
@@ -74,24 +74,70 @@ const CACHE_OF_TWO: &[(&str, &str)] = &[
 const EMPTY_LIBRARY: &[(&str, &str)] = &[("say https://ex.org/lib", "14 NotFound")];
 
 // A library, a cache's capacity, the most documents of the registry, and what it is asked and answers.
-const REGISTRIES: &[(Option<&str>, usize, u32, &[(&str, &str)])] = &[
+type Row = (
+    Option<&'static str>,
+    usize,
+    u32,
+    &'static [(&'static str, &'static str)],
+);
+
+const REGISTRIES: &[Row] = &[
     (Some(LIBRARY), 1, 2, OVER_A_LIBRARY),
     (None, 2, 3, CACHE_OF_TWO),
     (None, 1, 2, EMPTY_LIBRARY),
 ];
 
-#[test]
-fn registries_alone(rt: HostRuntime) -> Result<(), Fail> {
-    let alloc = rt.alloc();
-    for (batch, capacity, documents, lines) in REGISTRIES {
-        let mut cache = Cache::new(alloc, *capacity)?;
-        let library = Rc::new(alloc, library(alloc, *batch)?)?;
-        let mut registry = Registry::new(library, *documents, 100, alloc);
-        for (text, wanted) in *lines {
-            let found = answered(alloc, &mut registry, &mut cache, text)?;
-            assert_eq!(rt; found.as_str(), *wanted, "{text}");
-            registry.kept();
-        }
+fn expect_line(
+    rt: &impl Abort,
+    alloc: Global,
+    registry: &mut Registry,
+    cache: &mut Cache,
+    line: &(&str, &str),
+) {
+    let (text, wanted) = *line;
+    expect_like(
+        rt,
+        alloc,
+        answered(alloc, registry, cache, text),
+        wanted,
+        text,
+    );
+    registry.kept();
+}
+
+fn expect_lines(
+    rt: &impl Abort,
+    alloc: Global,
+    registry: &mut Registry,
+    cache: &mut Cache,
+    lines: &[(&str, &str)],
+) {
+    for line in lines {
+        expect_line(rt, alloc, registry, cache, line);
     }
-    Ok(())
+}
+
+fn new_registry(alloc: Global, batch: Option<&str>, documents: u32) -> Result<Registry, Fault> {
+    let library = Rc::new(alloc, library(alloc, batch)?)?;
+    Ok(Registry::new(library, documents, 100, alloc))
+}
+
+fn expect_registry(rt: &impl Abort, alloc: Global, row: &Row) {
+    let (batch, capacity, documents, lines) = *row;
+    match (
+        Cache::new(alloc, capacity),
+        new_registry(alloc, batch, documents),
+    ) {
+        (Ok(mut cache), Ok(mut registry)) => {
+            expect_lines(rt, alloc, &mut registry, &mut cache, lines);
+        }
+        _ => panic!(rt; "refused"),
+    }
+}
+
+#[test]
+fn registries_alone(rt: HostRuntime) {
+    for row in REGISTRIES {
+        expect_registry(&rt, rt.alloc(), row);
+    }
 }

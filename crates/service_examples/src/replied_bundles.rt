@@ -1,9 +1,10 @@
 //! Bundles of a tenant's documents, and what they say in a registry that has nothing else.
 
-use crate::talks::{TWO_TENANTS, Talk, answered, new_hub, unlike_talks};
+use crate::talks::{TWO_TENANTS, Talk, answered, expect_talk, new_hub};
+use crate::texts::{expect_holds, expect_same};
 use std::alloc::Global;
-use std::test::Fail;
-use tenant_hub::Hub;
+use std::process::Abort;
+use tenant_hub::{Fault, Hub};
 
 const BUNDLES: &[(&str, &str, &str)] = &[
     ("k1", "put https://ex.org/s {}", "stored https://ex.org/s"),
@@ -93,14 +94,20 @@ const TALKS: &[Talk] = &[
 ];
 
 #[test]
-fn bundles_are_replied_or_refused(rt: HostRuntime) -> Result<(), Fail> {
-    let unlike = unlike_talks(rt.alloc(), TALKS)?;
-    assert_eq!(rt; unlike.as_str(), "");
-    Ok(())
+fn bundles_are_replied_or_refused(rt: HostRuntime) {
+    for talk in TALKS {
+        expect_talk(&rt, rt.alloc(), talk);
+    }
 }
 
-// What the first tenant puts, the canonical URI that it bundles, and instances, of which the first is asked by both.
-const STANDING_ALONE: &[(&[&str], &str, &[&str])] = &[
+// What the first tenant puts, the canonical URI that it bundles, and instances that both ask of.
+type StandingAlone = (
+    &'static [&'static str],
+    &'static str,
+    &'static [&'static str],
+);
+
+const STANDING_ALONE: &[StandingAlone] = &[
     (
         &[
             r#"put https://ex.org/root {"properties":{"a":{"$ref":"b"}}}"#,
@@ -150,45 +157,60 @@ const STANDING_ALONE: &[(&[&str], &str, &[&str])] = &[
     ),
 ];
 
-// What the second tenant is told by the bundle of the first one's document, put alone under a URI of its own, where the
-// first one is told otherwise; an empty text where both are told the same.
-fn unlike_alone(
-    alloc: Global,
-    hub: &mut Hub,
-    uri: &str,
-    instances: &[&str],
-) -> Result<String, Fail> {
-    let bundle = answered(
-        alloc,
-        hub,
-        "k1",
-        format!(in alloc; "bundle {uri}")?.as_str(),
-    )?;
-    let put = format!(in alloc; "put urn:x {bundle}")?;
-    let stored = answered(alloc, hub, "k2", put.as_str())?;
-    if stored.as_str() != format!(in alloc; "stored {uri}")?.as_str() {
-        return Ok(stored);
-    }
-    for instance in instances {
-        let validate = format!(in alloc; "validate {uri} {instance}")?;
-        let alone = answered(alloc, hub, "k2", validate.as_str())?;
-        if alone.as_str() != answered(alloc, hub, "k1", validate.as_str())?.as_str() {
-            return Ok(alone);
+// Whether each is stored by the first tenant.
+fn are_put(alloc: Global, hub: &mut Hub, puts: &[&str]) -> Result<bool, Fault> {
+    for put in puts {
+        if !answered(alloc, hub, "k1", put)?.starts_with("stored ") {
+            return Ok(false);
         }
     }
-    Ok(String::new(alloc))
+    Ok(true)
+}
+
+// Whether the second tenant may put the bundle of the first one's document alone, under a URI of its own.
+fn is_bundle_put(alloc: Global, hub: &mut Hub, uri: &str) -> Result<bool, Fault> {
+    let ask = format!(in alloc; "bundle {uri}")?;
+    let bundle = answered(alloc, hub, "k1", ask.as_str())?;
+    let put = format!(in alloc; "put urn:x {bundle}")?;
+    let reply = answered(alloc, hub, "k2", put.as_str())?;
+    let wanted = format!(in alloc; "stored {uri}")?;
+    Ok(reply.as_str() == wanted.as_str())
+}
+
+fn said(
+    alloc: Global,
+    hub: &mut Hub,
+    key: &str,
+    uri: &str,
+    instance: &str,
+) -> Result<String, Fault> {
+    let ask = format!(in alloc; "validate {uri} {instance}")?;
+    answered(alloc, hub, key, ask.as_str())
+}
+
+// Both tenants are told the same of each instance.
+fn expect_said(rt: &impl Abort, alloc: Global, hub: &mut Hub, uri: &str, instances: &[&str]) {
+    for instance in instances {
+        let alone = said(alloc, hub, "k2", uri, instance);
+        expect_same(rt, alone, said(alloc, hub, "k1", uri, instance), instance);
+    }
+}
+
+fn expect_alone(rt: &impl Abort, alloc: Global, row: &StandingAlone) {
+    let (puts, uri, instances) = *row;
+    match new_hub(alloc, TWO_TENANTS, None, 2) {
+        Ok(mut hub) => {
+            expect_holds(rt, are_put(alloc, &mut hub, puts), uri);
+            expect_holds(rt, is_bundle_put(alloc, &mut hub, uri), uri);
+            expect_said(rt, alloc, &mut hub, uri, instances);
+        }
+        Err(fault) => panic!(rt; "{fault}"),
+    }
 }
 
 #[test]
-fn bundles_stand_alone(rt: HostRuntime) -> Result<(), Fail> {
-    let alloc = rt.alloc();
-    for (puts, uri, instances) in STANDING_ALONE {
-        let mut hub = new_hub(alloc, TWO_TENANTS, None, 2)?;
-        for put in *puts {
-            assert!(rt; answered(alloc, &mut hub, "k1", put)?.starts_with("stored "));
-        }
-        let unlike = unlike_alone(alloc, &mut hub, uri, instances)?;
-        assert_eq!(rt; unlike.as_str(), "");
+fn bundles_stand_alone(rt: HostRuntime) {
+    for row in STANDING_ALONE {
+        expect_alone(&rt, rt.alloc(), row);
     }
-    Ok(())
 }

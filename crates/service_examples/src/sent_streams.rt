@@ -1,10 +1,10 @@
 //! What is sent on connections, whatever answers behind them.
 
-use crate::texts::{filled, is_like, text_or_fault};
+use crate::texts::{expect_like, filled};
 use connections::{Handler, Sessions};
 use requests::Fault;
 use std::alloc::Global;
-use std::test::Fail;
+use std::process::Abort;
 
 fn text(alloc: Global, sent: Result<Vec<u8>, Fault>) -> Result<String, Fault> {
     Ok(String::from_utf8_lossy(alloc, &sent?)?)
@@ -51,8 +51,10 @@ fn stepped<H: Handler>(
     sessions: &mut Sessions<H>,
     kind: &str,
     id: u64,
-    bytes: &[u8],
+    bytes: &str,
 ) -> Result<String, Fault> {
+    let bytes = filled(alloc, bytes)?;
+    let bytes = bytes.as_bytes();
     let sent = match kind {
         "open" => opened(alloc, sessions, id),
         "feed" => sessions.feed(alloc, id, bytes),
@@ -66,21 +68,28 @@ fn stepped<H: Handler>(
 /// What is done with a connection, its id, the bytes, what is sent, and whether it is closed then.
 pub type Step = (&'static str, u64, &'static str, &'static str, bool);
 
-/// The first step that goes otherwise, with what is sent; an empty text where there is none.
-pub fn unlike_steps<H: Handler>(
+fn expect_step<H: Handler>(
+    rt: &impl Abort,
+    alloc: Global,
+    sessions: &mut Sessions<H>,
+    step: &Step,
+) {
+    let (kind, id, bytes, wanted, closed) = *step;
+    let found = stepped(alloc, sessions, kind, id, bytes);
+    expect_like(rt, alloc, found, wanted, bytes);
+    assert_eq!(rt; sessions.is_closed(id), closed, "{kind} {id}: {bytes}");
+}
+
+/// Expects that each step goes so.
+pub fn expect_steps<H: Handler>(
+    rt: &impl Abort,
     alloc: Global,
     sessions: &mut Sessions<H>,
     steps: &[Step],
-) -> Result<String, Fail> {
-    for (kind, id, bytes, wanted, closed) in steps {
-        let bytes = filled(alloc, bytes)?;
-        let sent = stepped(alloc, sessions, kind, *id, bytes.as_bytes());
-        let found = text_or_fault(alloc, sent)?;
-        if !is_like(alloc, found.as_str(), wanted)? || sessions.is_closed(*id) != *closed {
-            return Ok(format!(in alloc; "{kind} {id}, {wanted}: {found}")?);
-        }
+) {
+    for step in steps {
+        expect_step(rt, alloc, sessions, step);
     }
-    Ok(String::new(alloc))
 }
 
 /// What is sent for a stream on connection 1 and for its end. The id is free then.
@@ -111,4 +120,20 @@ pub fn sent_in_two<H: Handler>(
     out.extend_from_slice(&sessions.end(alloc, 1)?)?;
     let out = String::from_utf8_lossy(alloc, &out)?;
     Ok((out, String::from_utf8_lossy(alloc, &between)?))
+}
+
+/// Expects that this was sent on connection 1, and the other on connection 2.
+pub fn expect_both(
+    rt: &impl Abort,
+    sent: Result<(String, String), Fault>,
+    wanted: (&str, &str),
+    cut: usize,
+) {
+    match sent {
+        Ok((out, other)) => {
+            assert_eq!(rt; other.as_str(), wanted.1, "{cut}");
+            assert_eq!(rt; out.as_str(), wanted.0, "{cut}");
+        }
+        Err(fault) => panic!(rt; "{cut}: {fault}"),
+    }
 }

@@ -56,3 +56,12 @@ pub fn library_sessions(alloc: Global) -> Result<Sessions<HubHandler>, Fault> {
     let hub = hub_over(alloc, TENANTS.as_bytes(), 2, library)?;
     Ok(Sessions::new(alloc, HubHandler::new(hub)))
 }
+
+/// What is sent for so many bytes of the example and for their end.
+pub fn replies_to_front(alloc: Global, len: usize) -> Result<String, Fault> {
+    let first = if PUT.len() <= len { STORED } else { "" };
+    let second = if len == EXAMPLE.len() { OUTPUT } else { "" };
+    let is_whole = len == 0 || len == PUT.len() || len == EXAMPLE.len();
+    let last = if is_whole { "" } else { CLOSING };
+    Ok(format!(in alloc; "{first}{second}{last}")?)
+}

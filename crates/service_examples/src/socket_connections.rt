@@ -8,7 +8,6 @@ use sockets::{Limits, bind, serve_connections};
 use std::io::{Read, Write};
 use std::net::{Net, Shutdown, SocketAddr, TcpListener, TcpStream};
 use std::process::Abort;
-use std::test::Fail;
 use std::time::{Clock, Duration};
 
 /// Limits that a test can wait for.
@@ -89,23 +88,55 @@ const SERVED: &[(&[Client], &str)] = &[
     (GOING_ON, ""),
 ];
 
-#[test]
-fn clients_are_served(rt: HostRuntime) -> Result<(), Fail> {
-    for (clients, wanted) in SERVED {
-        let (listener, address) = listen(&rt);
-        let mut streams = Vec::new(rt.alloc());
-        for (bytes, ended, _) in *clients {
-            let bytes = filled(rt.alloc(), bytes)?;
-            streams.push(client(&rt, address, bytes.as_str(), *ended))?;
-        }
-        let told = serve(&rt, &listener, clients.len() as u32);
-        assert_eq!(rt; told.as_str(), *wanted);
-        for (_, _, reply) in clients.iter().rev() {
-            let mut stream = streams.pop().expect(&rt, "a client");
-            assert_eq!(rt; received(&rt, &mut stream).as_str(), *reply);
-        }
+/// A client that has sent the bytes, once they are filled.
+fn filled_client<R: Net<Listener = TcpListener, Stream = TcpStream> + AllocGlobal + Abort>(
+    rt: &R,
+    address: SocketAddr,
+    row: &Client,
+) -> TcpStream {
+    let (bytes, ended, _) = *row;
+    let bytes = filled(rt.alloc(), bytes).expect(rt, "memory");
+    client(rt, address, bytes.as_str(), ended)
+}
+
+fn clients<R: Net<Listener = TcpListener, Stream = TcpStream> + AllocGlobal + Abort>(
+    rt: &R,
+    address: SocketAddr,
+    rows: &[Client],
+) -> Vec<TcpStream> {
+    let mut streams = Vec::new(rt.alloc());
+    for row in rows {
+        streams
+            .push(filled_client(rt, address, row))
+            .expect(rt, "memory");
     }
-    Ok(())
+    streams
+}
+
+fn expect_received<R: AllocGlobal + Abort>(rt: &R, mut stream: TcpStream, wanted: &str) {
+    assert_eq!(rt; received(rt, &mut stream).as_str(), wanted);
+}
+
+fn expect_served<R: Net<Listener = TcpListener, Stream = TcpStream> + AllocGlobal + Clock + Abort>(
+    rt: &R,
+    row: &(&[Client], &str),
+) {
+    let (rows, wanted) = *row;
+    let (listener, address) = listen(rt);
+    let mut streams = clients(rt, address, rows);
+    let count = u32::try_from(rows.len()).expect(rt, "a few clients");
+    let told = serve(rt, &listener, count);
+    assert_eq!(rt; told.as_str(), wanted);
+    for row in rows.iter().rev() {
+        expect_received(rt, streams.pop().expect(rt, "a client"), row.2);
+    }
+}
+
+#[test]
+fn clients_are_served(rt: HostRuntime) {
+    for row in SERVED {
+        expect_served(&rt, row);
+    }
 }
 
 #[test]

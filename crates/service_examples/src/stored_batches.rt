@@ -1,7 +1,6 @@
 //! Batches that are stored, or not at all.
 
-use crate::talks::{SMALL_TENANT, TWO_TENANTS, Talk, unlike_talks};
-use std::test::Fail;
+use crate::talks::{SMALL_TENANT, TWO_TENANTS, Talk, expect_talk};
 
 const GIVEN_UP: &[(&str, &str, &str)] = &[
     (
@@ -136,8 +135,8 @@ const TALKS: &[Talk] = &[
 ];
 
 #[test]
-fn batches_are_stored_whole(rt: HostRuntime) -> Result<(), Fail> {
-    let unlike = unlike_talks(rt.alloc(), TALKS)?;
-    assert_eq!(rt; unlike.as_str(), "");
-    Ok(())
+fn batches_are_stored_whole(rt: HostRuntime) {
+    for talk in TALKS {
+        expect_talk(&rt, rt.alloc(), talk);
+    }
 }

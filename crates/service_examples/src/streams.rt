@@ -1,12 +1,18 @@
 //! Streams of requests, however they are cut, and requests behind which a connection is closed.
 
 use crate::handlers::sessions;
-use crate::sent_streams::{Step, sent_in_two, sent_to_the_end, unlike_steps};
-use crate::served_hubs::{CLOSING, EXAMPLE, EXAMPLE_REPLIES, OUTPUT, POST, PUT, STORED};
-use std::test::Fail;
+use crate::sent_streams::{Step, expect_both, expect_steps, sent_in_two, sent_to_the_end};
+use crate::served_hubs::{
+    CLOSING, EXAMPLE, EXAMPLE_REPLIES, OUTPUT, POST, STORED, replies_to_front,
+};
+use crate::texts::expect_same;
+use std::alloc::Global;
+use std::process::Abort;
 
-// What is sent on a new connection for these bytes, and whether it is closed then.
-const STREAMS: &[(&str, &str, bool)] = &[
+// Bytes on a new connection, what is sent for them, and whether it is closed then.
+type Stream = (&'static str, &'static str, bool);
+
+const STREAMS: &[Stream] = &[
     (EXAMPLE, EXAMPLE_REPLIES, false),
     ("TRACE / HTTP/1.1\r\n\r\n", CLOSING, true),
     (
@@ -72,51 +78,51 @@ const BODY_IN_BYTES: &[Step] = &[
     ("feed", 1, " ", STORED, false),
 ];
 
-#[test]
-fn streams_and_steps_have_their_replies(rt: HostRuntime) -> Result<(), Fail> {
-    let alloc = rt.alloc();
-    for (stream, wanted, closed) in STREAMS {
-        let mut sessions = sessions(alloc);
-        let steps = &[
-            ("open", 1, "", "", false),
-            ("feed", 1, *stream, *wanted, *closed),
-        ];
-        let unlike = unlike_steps(alloc, &mut sessions, steps)?;
-        assert_eq!(rt; unlike.as_str(), "", "{stream}");
-    }
-    for steps in &[CLOSED, IDS, BODY_IN_BYTES] {
-        let unlike = unlike_steps(alloc, &mut sessions(alloc), steps)?;
-        assert_eq!(rt; unlike.as_str(), "");
-    }
-    Ok(())
+fn expect_stream(rt: &impl Abort, alloc: Global, row: &Stream) {
+    let (stream, wanted, closed) = *row;
+    let steps = [
+        ("open", 1, "", "", false),
+        ("feed", 1, stream, wanted, closed),
+    ];
+    expect_steps(rt, alloc, &mut sessions(alloc), &steps);
 }
 
 #[test]
-fn cut_after_each_byte_with_another_connection_between(rt: HostRuntime) -> Result<(), Fail> {
+fn streams_and_steps_have_their_replies(rt: HostRuntime) {
     let alloc = rt.alloc();
-    let stream = format!(in alloc; "\r\n{PUT}\r\n\n{POST}\r\n")?;
-    let bytes = stream.as_bytes();
-    for cut in 0..=bytes.len() {
-        let pieces = (&bytes[..cut], &bytes[cut..]);
-        let (out, other) = sent_in_two(alloc, &mut sessions(alloc), pieces, POST.as_bytes())?;
-        assert_eq!(rt; other.as_str(), OUTPUT, "{cut}");
-        assert_eq!(rt; out.as_str(), EXAMPLE_REPLIES, "{cut}");
+    for row in STREAMS {
+        expect_stream(&rt, alloc, row);
     }
-    Ok(())
+    expect_steps(&rt, alloc, &mut sessions(alloc), CLOSED);
+    expect_steps(&rt, alloc, &mut sessions(alloc), IDS);
+    expect_steps(&rt, alloc, &mut sessions(alloc), BODY_IN_BYTES);
+}
+
+// The example with empty lines around its requests.
+const LINES_AROUND: &str =
+    "\r\nPUT /schemas?uri=https://ex.org/s HTTP/1.1\r\nx-tenant-key: k1\r\ncontent-length: 2\r\n\r\n{}\r\n\nPOST /validate?uri=https://ex.org/s HTTP/1.1\r\nx-tenant-key: k1\r\ncontent-length: 4\r\n\r\nnull\r\n";
+
+fn expect_cut(rt: &impl Abort, alloc: Global, bytes: &[u8], cut: usize) {
+    let pieces = bytes.split_at_checked(cut).unwrap_or((bytes, b""));
+    let sent = sent_in_two(alloc, &mut sessions(alloc), pieces, POST.as_bytes());
+    expect_both(rt, sent, (EXAMPLE_REPLIES, OUTPUT), cut);
 }
 
 #[test]
-fn ended_after_each_byte(rt: HostRuntime) -> Result<(), Fail> {
-    let alloc = rt.alloc();
+fn cut_after_each_byte_with_another_connection_between(rt: HostRuntime) {
+    for cut in 0..=LINES_AROUND.len() {
+        expect_cut(&rt, rt.alloc(), LINES_AROUND.as_bytes(), cut);
+    }
+}
+
+fn expect_front(rt: &impl Abort, alloc: Global, bytes: &[u8]) {
+    let sent = sent_to_the_end(alloc, &mut sessions(alloc), bytes);
+    expect_same(rt, sent, replies_to_front(alloc, bytes.len()), "a front");
+}
+
+#[test]
+fn ended_after_each_byte(rt: HostRuntime) {
     for cut in 0..=EXAMPLE.len() {
-        let bytes = &EXAMPLE.as_bytes()[..cut];
-        let out = sent_to_the_end(alloc, &mut sessions(alloc), bytes)?;
-        let first = if PUT.len() <= cut { STORED } else { "" };
-        let second = if cut == EXAMPLE.len() { OUTPUT } else { "" };
-        let whole = cut == 0 || cut == PUT.len() || cut == EXAMPLE.len();
-        let last = if whole { "" } else { CLOSING };
-        let told = format!(in alloc; "{first}{second}{last}")?;
-        assert_eq!(rt; out.as_str(), told.as_str(), "{cut}");
+        expect_front(&rt, rt.alloc(), &EXAMPLE.as_bytes()[..cut]);
     }
-    Ok(())
 }

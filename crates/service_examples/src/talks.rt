@@ -1,8 +1,8 @@
 //! Talks with a hub: requests and their replies, each as a text.
 
-use crate::texts::{filled, is_like};
+use crate::texts::{expect_like, filled};
 use std::alloc::{AllocError, Global};
-use std::test::Fail;
+use std::process::Abort;
 use tenant_hub::{Fault, Hub, Reply, Request, StoredEntry, read_tenants};
 
 /// Two tenants with room for a hundred documents each.
@@ -51,7 +51,7 @@ fn verb(replaced: bool) -> &'static str {
     if replaced { "replaced" } else { "stored" }
 }
 
-fn entries_told(alloc: Global, entries: &[StoredEntry]) -> Result<String, Fail> {
+fn entries_told(alloc: Global, entries: &[StoredEntry]) -> Result<String, Fault> {
     let mut text = String::new(alloc);
     for entry in entries {
         if !text.is_empty() {
@@ -66,7 +66,7 @@ fn entries_told(alloc: Global, entries: &[StoredEntry]) -> Result<String, Fail> 
 
 /// A reply as a text: `stored URI`, `replaced URI`, `deleted URI`, the output, the bundle, `NUMBER NAME AT` of a fault, and
 /// of a batch `stored URI, replaced URI` or `entry K: NUMBER NAME AT`.
-pub fn told(alloc: Global, reply: &Reply) -> Result<String, Fail> {
+pub fn told(alloc: Global, reply: &Reply) -> Result<String, Fault> {
     Ok(match reply {
         Reply::Stored(uri, replaced) => format!(in alloc; "{} {uri}", verb(*replaced))?,
         Reply::Deleted(uri) => format!(in alloc; "deleted {uri}")?,
@@ -78,70 +78,13 @@ pub fn told(alloc: Global, reply: &Reply) -> Result<String, Fail> {
 }
 
 /// What a tenant is told when it asks for what the text says.
-pub fn answered(alloc: Global, hub: &mut Hub, key: &str, text: &str) -> Result<String, Fail> {
+pub fn answered(alloc: Global, hub: &mut Hub, key: &str, text: &str) -> Result<String, Fault> {
     let reply = hub.apply(alloc, key, &asked(alloc, text)?);
     told(alloc, &reply)
 }
 
-// The first line of a talk (a tenant's key, what it asks, what it is told) that the hub answers otherwise, with what it
-// answers; an empty text where there is none.
-fn unlike(alloc: Global, hub: &mut Hub, lines: &[(&str, &str, &str)]) -> Result<String, Fail> {
-    for (key, text, reply) in lines {
-        let found = answered(alloc, hub, key, text)?;
-        if !is_like(alloc, found.as_str(), reply)? {
-            return Ok(format!(in alloc; "{key} {text}: {found}")?);
-        }
-    }
-    Ok(String::new(alloc))
-}
-
-// The same by one call for all lines.
-fn unlike_by_run(
-    alloc: Global,
-    hub: &mut Hub,
-    lines: &[(&str, &str, &str)],
-) -> Result<String, Fail> {
-    let mut calls = Vec::new(alloc);
-    for (key, text, _) in lines {
-        calls.push((String::from_str(alloc, key)?, asked(alloc, text)?))?;
-    }
-    let replies = hub.run(alloc, &calls)?;
-    if replies.len() != lines.len() {
-        return Ok(format!(in alloc; "{} replies", replies.len())?);
-    }
-    for ((key, text, reply), answer) in lines.iter().zip(&replies) {
-        let found = told(alloc, answer)?;
-        if !is_like(alloc, found.as_str(), reply)? {
-            return Ok(format!(in alloc; "{key} {text}: {found}")?);
-        }
-    }
-    Ok(String::new(alloc))
-}
-
-// Tells of a cache whose capacity is no longer this one.
-fn push_capacity(found: &mut String, hub: &Hub, capacity: usize) -> Result<(), AllocError> {
-    if hub.cache_capacity() != capacity {
-        found.push_str(" and the cache has another capacity")?;
-    }
-    Ok(())
-}
-
-// The same one by one with a new hub, and by one call with another. Each keeps the capacity of its cache.
-fn unlike_anyhow(
-    alloc: Global,
-    tenants: &str,
-    library: Option<&str>,
-    capacity: usize,
-    lines: &[(&str, &str, &str)],
-) -> Result<String, Fail> {
-    let mut hub = new_hub(alloc, tenants, library, capacity)?;
-    let mut found = unlike(alloc, &mut hub, lines)?;
-    push_capacity(&mut found, &hub, capacity)?;
-    let mut hub = new_hub(alloc, tenants, library, capacity)?;
-    found.push_str(unlike_by_run(alloc, &mut hub, lines)?.as_str())?;
-    push_capacity(&mut found, &hub, capacity)?;
-    Ok(found)
-}
+/// A line of a talk: a tenant's key, what it asks, and what it is told.
+pub type Line = (&'static str, &'static str, &'static str);
 
 /// A talk: its name, the tenants' file, the library, the capacities that it is held with, and its lines.
 pub type Talk = (
@@ -149,18 +92,84 @@ pub type Talk = (
     &'static str,
     Option<&'static str>,
     &'static [usize],
-    &'static [(&'static str, &'static str, &'static str)],
+    &'static [Line],
 );
 
-/// The first talk that goes otherwise: its name, its line, and what the hub answers; an empty text where there is none.
-pub fn unlike_talks(alloc: Global, talks: &[Talk]) -> Result<String, Fail> {
-    for (name, tenants, library, capacities, lines) in talks {
-        for capacity in *capacities {
-            let found = unlike_anyhow(alloc, tenants, *library, *capacity, lines)?;
-            if !found.is_empty() {
-                return Ok(format!(in alloc; "{name}, {capacity}: {found}")?);
-            }
-        }
+fn expect_line(rt: &impl Abort, alloc: Global, hub: &mut Hub, line: &Line) {
+    let (key, text, wanted) = *line;
+    expect_like(rt, alloc, answered(alloc, hub, key, text), wanted, text);
+}
+
+fn expect_lines(rt: &impl Abort, alloc: Global, hub: &mut Hub, lines: &[Line]) {
+    for line in lines {
+        expect_line(rt, alloc, hub, line);
     }
-    Ok(String::new(alloc))
+}
+
+fn push_call(
+    alloc: Global,
+    calls: &mut Vec<(String, Request)>,
+    line: &Line,
+) -> Result<(), AllocError> {
+    let (key, text, _) = *line;
+    calls.push((String::from_str(alloc, key)?, asked(alloc, text)?))?;
+    Ok(())
+}
+
+// What is replied to all lines by one call.
+fn replies(alloc: Global, hub: &mut Hub, lines: &[Line]) -> Result<Vec<Reply>, Fault> {
+    let mut calls = Vec::new(alloc);
+    for line in lines {
+        push_call(alloc, &mut calls, line)?;
+    }
+    Ok(hub.run(alloc, &calls)?)
+}
+
+fn expect_reply(rt: &impl Abort, alloc: Global, line: &Line, reply: &Reply) {
+    let (_, text, wanted) = *line;
+    expect_like(rt, alloc, told(alloc, reply), wanted, text);
+}
+
+fn expect_replies(rt: &impl Abort, alloc: Global, lines: &[Line], replies: &[Reply]) {
+    assert_eq!(rt; replies.len(), lines.len());
+    for (line, reply) in lines.iter().zip(replies) {
+        expect_reply(rt, alloc, line, reply);
+    }
+}
+
+fn expect_by_one_call(rt: &impl Abort, alloc: Global, hub: &mut Hub, lines: &[Line]) {
+    match replies(alloc, hub, lines) {
+        Ok(replies) => expect_replies(rt, alloc, lines, &replies),
+        Err(fault) => panic!(rt; "{fault}"),
+    }
+}
+
+// The talk goes so one by one or, else, by one call, with a new hub, which keeps the capacity of its cache.
+fn expect_talk_with(
+    rt: &impl Abort,
+    alloc: Global,
+    talk: &Talk,
+    capacity: usize,
+    one_by_one: bool,
+) {
+    let (name, tenants, library, _, lines) = *talk;
+    match new_hub(alloc, tenants, library, capacity) {
+        Ok(mut hub) => {
+            if one_by_one {
+                expect_lines(rt, alloc, &mut hub, lines);
+            } else {
+                expect_by_one_call(rt, alloc, &mut hub, lines);
+            }
+            assert_eq!(rt; hub.cache_capacity(), capacity, "{name}");
+        }
+        Err(fault) => panic!(rt; "{name}: {fault}"),
+    }
+}
+
+/// Expects that the talk goes so, one by one and by one call, with each of its capacities.
+pub fn expect_talk(rt: &impl Abort, alloc: Global, talk: &Talk) {
+    for capacity in talk.3 {
+        expect_talk_with(rt, alloc, talk, *capacity, true);
+        expect_talk_with(rt, alloc, talk, *capacity, false);
+    }
 }

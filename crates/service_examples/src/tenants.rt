@@ -1,9 +1,9 @@
 //! Files of tenants, bodies of requests, and batches of documents.
 
-use crate::texts::{filled, is_like, text_or_fault};
+use crate::texts::{expect_like, filled};
 use json_doc::{read, write};
 use std::alloc::Global;
-use std::test::Fail;
+use std::process::Abort;
 use tenants_file::{Fault, read_batch, read_body, read_tenants};
 
 // Each tenant's key, documents and bytes.
@@ -145,11 +145,14 @@ const TEXTS: &[(Form, &str, &str)] = &[
     ),
 ];
 
+fn expect_read(rt: &impl Abort, alloc: Global, row: &(Form, &str, &str)) {
+    let (form, text, wanted) = *row;
+    expect_like(rt, alloc, read_as(alloc, form, text), wanted, text);
+}
+
 #[test]
-fn texts_are_read_or_refused(rt: HostRuntime) -> Result<(), Fail> {
-    for (form, text, wanted) in TEXTS {
-        let found = text_or_fault(rt.alloc(), read_as(rt.alloc(), *form, text))?;
-        assert!(rt; is_like(rt.alloc(), found.as_str(), wanted)?, "{text}");
+fn texts_are_read_or_refused(rt: HostRuntime) {
+    for row in TEXTS {
+        expect_read(&rt, rt.alloc(), row);
     }
-    Ok(())
 }

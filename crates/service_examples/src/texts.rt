@@ -1,8 +1,9 @@
-//! Texts of rows: pieces that are repeated, answers that are told in part, and faults.
+//! Texts of rows: pieces that are repeated, and answers that are told in part. What tests expect of an outcome stands below:
+//! where it is otherwise, the test ends and names the row.
 
 use requests::Fault;
 use std::alloc::{AllocError, Global};
-use std::test::Fail;
+use std::process::Abort;
 
 // The copies of a piece between what stands before and after the number of each.
 fn push_numbered(
@@ -64,10 +65,52 @@ pub fn is_like(alloc: Global, text: &str, wanted: &str) -> Result<bool, AllocErr
     }
 }
 
-/// The text, or that of the fault.
-pub fn text_or_fault(alloc: Global, outcome: Result<String, Fault>) -> Result<String, Fail> {
+fn told(alloc: Global, outcome: Result<String, Fault>) -> Result<String, AllocError> {
     match outcome {
         Ok(text) => Ok(text),
-        Err(fault) => Ok(format!(in alloc; "{fault}")?),
+        Err(fault) => format!(in alloc; "{fault}"),
+    }
+}
+
+/// Expects a text that is like the wanted one, or a fault that is told so.
+pub fn expect_like(
+    rt: &impl Abort,
+    alloc: Global,
+    outcome: Result<String, Fault>,
+    wanted: &str,
+    row: &str,
+) {
+    match told(alloc, outcome) {
+        Ok(text) => expect_text_like(rt, alloc, text.as_str(), wanted, row),
+        Err(_) => panic!(rt; "{row}: no room"),
+    }
+}
+
+fn expect_text_like(rt: &impl Abort, alloc: Global, text: &str, wanted: &str, row: &str) {
+    match is_like(alloc, text, wanted) {
+        Ok(is_like) => assert!(rt; is_like, "{row}: {text}, and not {wanted}"),
+        Err(_) => panic!(rt; "{row}: no room"),
+    }
+}
+
+/// Expects the same text as the other, or the same fault.
+pub fn expect_same(
+    rt: &impl Abort,
+    outcome: Result<String, Fault>,
+    wanted: Result<String, Fault>,
+    row: &str,
+) {
+    match (outcome, wanted) {
+        (Ok(text), Ok(wanted)) => assert_eq!(rt; text.as_str(), wanted.as_str(), "{row}"),
+        (Err(fault), Err(wanted)) => assert!(rt; fault == wanted, "{row}: {fault}"),
+        _ => panic!(rt; "{row}: refused alone"),
+    }
+}
+
+/// Expects that something holds.
+pub fn expect_holds(rt: &impl Abort, outcome: Result<bool, Fault>, row: &str) {
+    match outcome {
+        Ok(holds) => assert!(rt; holds, "{row}"),
+        Err(fault) => panic!(rt; "{row}: {fault}"),
     }
 }

@@ -1,0 +1,216 @@
+//! Locations that are written one after the other, each from what it shares with the one before, by RFC 6901 and RFC 3986.
+
+use crate::expectations::expect_same;
+use crate::places::{Places, root_of};
+use basic_output::{Says, Step, Units, output_text};
+use json_doc::Fault;
+use keywords::Keyword;
+use std::alloc::Global;
+use std::process::Abort;
+
+const ALL: Step<'static> = Step::Name("all");
+
+const ONE: Step<'static> = Step::Name("one");
+
+const TYPE: Step<'static> = Step::Keyword(Keyword::Type);
+
+const ENUM: Step<'static> = Step::Name("enum");
+
+/// Steps, their pointer as a fragment, and their pointer in a string of JSON.
+type Row = (&'static [Step<'static>], &'static str, &'static str);
+
+/// Most share steps with the next.
+const LOCATIONS: &[Row] = &[
+    (&[ALL], "/all", "/all"),
+    (&[ALL, Step::Index(0), ONE], "/all/0/one", "/all/0/one"),
+    (&[ALL, Step::Index(0), ONE], "/all/0/one", "/all/0/one"),
+    (&[ALL, Step::Index(0)], "/all/0", "/all/0"),
+    (
+        &[ALL, Step::Index(0), ONE, TYPE],
+        "/all/0/one/type",
+        "/all/0/one/type",
+    ),
+    (
+        &[ALL, Step::Index(0), Step::Name("a/b"), TYPE],
+        "/all/0/a~1b/type",
+        "/all/0/a~1b/type",
+    ),
+    (
+        &[ALL, Step::Index(0), ONE, TYPE],
+        "/all/0/one/type",
+        "/all/0/one/type",
+    ),
+    (
+        &[ALL, Step::Index(0), Step::Name("a~b"), TYPE],
+        "/all/0/a~0b/type",
+        "/all/0/a~0b/type",
+    ),
+    (
+        &[ALL, Step::Index(0), ONE, TYPE],
+        "/all/0/one/type",
+        "/all/0/one/type",
+    ),
+    (
+        &[ALL, Step::Index(0), Step::Name("a\"b"), TYPE],
+        "/all/0/a%22b/type",
+        r#"/all/0/a\"b/type"#,
+    ),
+    (
+        &[ALL, Step::Index(0), ONE, TYPE],
+        "/all/0/one/type",
+        "/all/0/one/type",
+    ),
+    (
+        &[ALL, Step::Index(0), Step::Name("a%b"), TYPE],
+        "/all/0/a%25b/type",
+        "/all/0/a%b/type",
+    ),
+    (
+        &[ALL, Step::Index(0), ONE, TYPE],
+        "/all/0/one/type",
+        "/all/0/one/type",
+    ),
+    (
+        &[ALL, Step::Index(0), Step::Name("a b"), TYPE],
+        "/all/0/a%20b/type",
+        "/all/0/a b/type",
+    ),
+    (
+        &[ALL, Step::Index(0), ONE, TYPE],
+        "/all/0/one/type",
+        "/all/0/one/type",
+    ),
+    (
+        &[ALL, Step::Index(0), Step::Name("ä"), TYPE],
+        "/all/0/%C3%A4/type",
+        "/all/0/ä/type",
+    ),
+    (
+        &[ALL, Step::Index(0), ONE, TYPE],
+        "/all/0/one/type",
+        "/all/0/one/type",
+    ),
+    (
+        &[ALL, Step::Index(0), Step::Name("a\\b"), TYPE],
+        "/all/0/a%5Cb/type",
+        r#"/all/0/a\\b/type"#,
+    ),
+    (
+        &[ALL, Step::Index(0), ONE, TYPE],
+        "/all/0/one/type",
+        "/all/0/one/type",
+    ),
+    (
+        &[ALL, Step::Index(0), Step::Name(""), TYPE],
+        "/all/0//type",
+        "/all/0//type",
+    ),
+    (
+        &[ALL, Step::Index(0), ONE, TYPE],
+        "/all/0/one/type",
+        "/all/0/one/type",
+    ),
+    (
+        &[ALL, Step::Index(0), ONE, ENUM],
+        "/all/0/one/enum",
+        "/all/0/one/enum",
+    ),
+    (
+        &[ALL, Step::Index(1), ONE, ENUM],
+        "/all/1/one/enum",
+        "/all/1/one/enum",
+    ),
+    (
+        &[ALL, Step::Index(10), ONE, ENUM],
+        "/all/10/one/enum",
+        "/all/10/one/enum",
+    ),
+    (&[ALL, Step::Name("10"), ONE], "/all/10/one", "/all/10/one"),
+    (&[], "", ""),
+    (&[ALL, Step::Index(10)], "/all/10", "/all/10"),
+    (&[Step::Name("al")], "/al", "/al"),
+    (
+        &[Step::Name("alls"), Step::Index(10)],
+        "/alls/10",
+        "/alls/10",
+    ),
+    (&[Step::Name("a b"), TYPE], "/a%20b/type", "/a b/type"),
+    (&[Step::Name("a b"), ENUM], "/a%20b/enum", "/a b/enum"),
+    (&[TYPE], "/type", "/type"),
+];
+
+/// Of a location with these steps.
+fn resource_of(steps: &[Step<'_>]) -> &'static str {
+    if steps.len() == 3 {
+        "urn:x"
+    } else {
+        "https://ex.org/s"
+    }
+}
+
+/// Puts an error last, at this location and at that one of the instance.
+fn push_at(
+    alloc: Global,
+    units: &mut Units,
+    places: &mut Places<'static>,
+    path: &'static [Step<'static>],
+    instance_location: &'static [Step<'static>],
+) -> Result<(), Fault> {
+    let origin = root_of(alloc, resource_of(path))?;
+    places.turn_to(path, instance_location)?;
+    units.push(false, places.within(&origin), Says::NotAllowed)?;
+    Ok(())
+}
+
+/// The output with errors at these locations in turn, and at those of the instance in the opposite order.
+fn output_at(alloc: Global, locations: &[Row]) -> Result<String, Fault> {
+    let mut units = Units::new(alloc);
+    let mut places = Places::new(alloc);
+    for (row, instance) in locations.iter().zip(locations.iter().rev()) {
+        push_at(alloc, &mut units, &mut places, row.0, instance.0)?;
+    }
+    output_text(alloc, false, &units)
+}
+
+/// Appends the text of the error at this location, by the columns of the table.
+fn push_text(text: &mut String, row: &Row, instance_location: &str) -> Result<(), Fault> {
+    let (path, fragment, pointer) = *row;
+    if text.as_str().ends_with("}") {
+        text.push_str(",")?;
+    }
+    text.push_str(r#"{"absoluteKeywordLocation":""#)?;
+    text.push_str(resource_of(path))?;
+    text.push_str("#")?;
+    text.push_str(fragment)?;
+    text.push_str(r#"","error":"no value is allowed","instanceLocation":""#)?;
+    text.push_str(instance_location)?;
+    text.push_str(r#"","keywordLocation":""#)?;
+    text.push_str(pointer)?;
+    text.push_str(r#""}"#)?;
+    Ok(())
+}
+
+fn wanted_at(alloc: Global, locations: &[Row]) -> Result<String, Fault> {
+    let mut text = String::from_str(alloc, r#"{"errors":["#)?;
+    for (row, instance) in locations.iter().zip(locations.iter().rev()) {
+        push_text(&mut text, row, instance.2)?;
+    }
+    text.push_str(r#"],"valid":false}"#)?;
+    Ok(text)
+}
+
+fn expect_locations(rt: &impl Abort, alloc: Global, rows: &[Row]) {
+    expect_same(
+        rt,
+        output_at(alloc, rows),
+        wanted_at(alloc, rows),
+        "from some row on",
+    );
+}
+
+#[test]
+fn writes_locations_after_one_another(rt: HostRuntime) {
+    for start in 0..LOCATIONS.len() {
+        expect_locations(&rt, rt.alloc(), &LOCATIONS[start..]);
+    }
+}

@@ -1,0 +1,34 @@
+//! What tests expect of an outcome: where it is otherwise, the test ends and names the row.
+
+use schema_scan::Fault;
+use std::alloc::{AllocError, Global};
+use std::process::Abort;
+
+fn told(alloc: Global, outcome: Result<String, Fault>) -> Result<String, AllocError> {
+    match outcome {
+        Ok(text) => Ok(text),
+        Err(fault) => format!(in alloc; "{fault}"),
+    }
+}
+
+/// Expects this text, or a fault that is told so.
+pub fn expect_told(
+    rt: &impl Abort,
+    alloc: Global,
+    outcome: Result<String, Fault>,
+    wanted: &str,
+    row: &str,
+) {
+    match told(alloc, outcome) {
+        Ok(text) => assert_eq!(rt; text.as_str(), wanted, "{row}"),
+        Err(_) => panic!(rt; "{row}: no room"),
+    }
+}
+
+/// Expects that something holds.
+pub fn expect_holds(rt: &impl Abort, outcome: Result<bool, Fault>, row: &str) {
+    match outcome {
+        Ok(holds) => assert!(rt; holds, "{row}"),
+        Err(fault) => panic!(rt; "{row}: {fault}"),
+    }
+}

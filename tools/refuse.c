@@ -1,11 +1,14 @@
-/* Refuses allocations, reads and writes of a program that is run with this library loaded before the C library (see
-   refuse.py and faulty.py).
+/* Refuses allocations, reads, writes and changes of files of a program that is run with this library loaded before the C
+   library (see refuse.py, faulty.py and faulty_store.py).
 
    REFUSE_AT     the first allocation that is refused, counted from 1; none where it is 0 or isn't given
    REFUSE_COUNT  how many are refused from there on; all where it is 0, one where it isn't given
    REFUSE_READ   the first read that fails, counted from 1; all later ones fail, too
    REFUSE_WRITE  the same of writes
    REFUSE_SHORT  where it is given, a read or a write moves one byte
+   REFUSE_CHANGE the first write at a place of a file, cut or sync that fails; all later ones, too
+   REFUSE_ALONE  where it is given, that one alone fails
+   REFUSE_ERROR  the error's number; EIO if it isn't given
    REFUSE_TOLD   a file of 16 bytes: how many calls were counted, and how many were refused
 
    An allocation is a call of malloc, calloc, realloc or one that aligns. It needs glibc. */
@@ -29,8 +32,8 @@ struct counts {
 
 static struct counts none;
 static struct counts *counts = &none;
-static uint64_t first, last, first_read, first_write, reads, writes;
-static int is_short;
+static uint64_t first, last, first_read, first_write, first_change, reads, writes, changes;
+static int is_short, is_alone, error;
 
 static uint64_t number(const char *name, uint64_t otherwise) {
     const char *text = getenv(name);
@@ -51,7 +54,10 @@ __attribute__((constructor)) static void begin(void) {
     last = count ? first + count - 1 : UINT64_MAX;
     first_read = number("REFUSE_READ", 0);
     first_write = number("REFUSE_WRITE", 0);
+    first_change = number("REFUSE_CHANGE", 0);
     is_short = getenv("REFUSE_SHORT") != NULL;
+    is_alone = getenv("REFUSE_ALONE") != NULL;
+    error = (int)number("REFUSE_ERROR", EIO);
     counts->asked = counts->refused = 0;
 }
 
@@ -83,6 +89,29 @@ ssize_t write(int file, const void *bytes, size_t count) {
         return -1;
     return syscall(SYS_write, file, bytes, is_short && file != STDERR_FILENO && count ? 1 : count);
 }
+
+static int change_fails(void) {
+    uint64_t at = ++changes;
+    if (!first_change || at < first_change || (is_alone && at > first_change))
+        return 0;
+    ++counts->refused;
+    errno = error;
+    return 1;
+}
+
+ssize_t pwrite(int file, const void *bytes, size_t count, off_t at) {
+    return change_fails() ? -1 : syscall(SYS_pwrite64, file, bytes, count, at);
+}
+
+ssize_t pwrite64(int file, const void *bytes, size_t count, off_t at) { return pwrite(file, bytes, count, at); }
+
+int ftruncate(int file, off_t size) { return change_fails() ? -1 : (int)syscall(SYS_ftruncate, file, size); }
+
+int ftruncate64(int file, off_t size) { return ftruncate(file, size); }
+
+int fsync(int file) { return change_fails() ? -1 : (int)syscall(SYS_fsync, file); }
+
+int fdatasync(int file) { return change_fails() ? -1 : (int)syscall(SYS_fdatasync, file); }
 
 ssize_t __write(int file, const void *bytes, size_t count) { return write(file, bytes, count); }
 

@@ -5,6 +5,7 @@ these files by the rules of JSON Schema 2020-12, and stands here or is worked ou
 
 import json
 import os
+import resource
 import subprocess
 import tempfile
 from pathlib import Path
@@ -17,9 +18,9 @@ SECONDS = 120
 ORDERS = ["--with", "shop/schemas", "shop/schemas/order.json"]
 
 
-def ended(program, words, given=b"", folder=FOLDER):
-    """Standard output, standard error and the status."""
-    done = subprocess.run([program, *words], input=given, capture_output=True, timeout=SECONDS, cwd=folder)
+def ended(program, words, given=b"", folder=FOLDER, before=None):
+    """Standard output, standard error and the status. `before` is called in the program's process."""
+    done = subprocess.run([program, *words], input=given, capture_output=True, timeout=SECONDS, cwd=folder, preexec_fn=before)
     return done.stdout.decode(), done.stderr.decode(), done.returncode
 
 
@@ -170,14 +171,49 @@ def library_gives_documents(program):
         return wrong(("", "", 0), got)
 
 
-def unreadable_folders_are_told(program):
+def as_nobody():
+    """No rights of root, who reads each folder."""
     if os.geteuid() == 0:
-        return None
+        os.setuid(65534)
+
+
+def unreadable_folders_are_told(program):
     with tempfile.TemporaryDirectory() as folder:
+        os.chmod(folder, 0o755)
         (Path(folder) / "shut").mkdir(mode=0)
         (Path(folder) / "schema.json").write_text("{}")
-        out, errors, status = ended(program, ["check", "--quiet", "schema.json", "."], folder=folder)
-        return wrong(("", "cannot read ./shut\n", 2), (out, errors, status))
+        got = ended(program, ["check", "--quiet", "schema.json", "."], folder=folder, before=as_nobody)
+        return wrong(("", "cannot read ./shut\n", 2), got)
+
+
+def unreadable_documents_are_told(program):
+    with tempfile.TemporaryDirectory() as folder:
+        (Path(folder) / "schema.json").write_text("{}")
+        (Path(folder) / "broken.json").write_text('{"a":\n,}')
+        (Path(folder) / "i.json").write_text("1")
+        out, errors, status = ended(program, ["check", "--with", ".", "schema.json", "i.json"], folder=folder)
+        return wrong(("", 2), (out, status)) or starts(errors, "refused: ./broken.json: 1 BadJson", "  ./broken.json:2:1: ", "refused: ./i.json: 6 NotObject")
+
+
+LARGE = 2 << 30
+ROOM = 1 << 30
+
+
+def with_little_memory():
+    resource.setrlimit(resource.RLIMIT_AS, (ROOM, ROOM))
+
+
+def large_instances_are_refused(program):
+    with tempfile.TemporaryDirectory() as folder:
+        (Path(folder) / "schema.json").write_text('{"type":"string"}')
+        (Path(folder) / "a.json").write_text('"a"')
+        with open(Path(folder) / "large.json", "wb") as large:
+            large.truncate(LARGE)
+        (Path(folder) / "z.json").write_text("1")
+        out, errors, status = ended(program, ["check", "schema.json", "a.json", "large.json", "z.json"], folder=folder, before=with_little_memory)
+        return (None if status == 2 else f"status: wanted 2, got {status}") or starts(out, "z.json:1:1: (root): 1 is of another type") or starts(
+            errors, "refused: large.json: 30 NoRoom", "  Memory ran out.", "1 valid, 1 invalid, 1 refused"
+        )
 
 
 def bundles_say_the_same(program):
@@ -240,6 +276,8 @@ TRIALS = {
     "a file without $id stands under its file: URI, with escapes": names_are_escaped,
     "--library gives documents": library_gives_documents,
     "a folder that can't be read is told": unreadable_folders_are_told,
+    "each document that is refused is told, and then nothing is checked": unreadable_documents_are_told,
+    "an instance of 2 GB is refused for want of memory, and no other": large_instances_are_refused,
     "a bundle says what the documents say": bundles_say_the_same,
     "scan tells URIs and anchors, and warns of formats": scans_tell_what_a_schema_holds,
     "scan tells references that lead nowhere": scans_tell_what_leads_nowhere,

@@ -1,2 +1,9 @@
+pub mod Accounts
 pub mod Bundles
+pub mod Checks
+pub mod Judged
 pub mod Printed
+pub mod RefusalLines
+pub mod Refusals
+pub mod Scans
+pub mod Tellings

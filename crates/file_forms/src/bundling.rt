@@ -1,10 +1,11 @@
 //! Bundles.
 
-ghost use Rattle.std.specs.Prelude.{IfOk, string_bytes};
+ghost use Rattle.std.specs.Prelude.{◌≡◌, IfOk, OnErr, OnOk, option_map, string_bytes};
 ghost use Rattle.file_checks.specs.FileSources.{file_documents};
-ghost use Rattle.file_forms.specs.Bundles.{IsBundle};
+ghost use Rattle.file_forms.specs.Bundles.{EndsBundle, IsBundle, IsBundleOfSome, IsGiven};
 
 use crate::console::Console;
+use crate::folders::Folders;
 use crate::gathering::gather;
 use crate::trouble::Trouble;
 use command_line::Bundling;
@@ -12,65 +13,59 @@ use file_checks::{Fault, FileDocuments};
 use json_doc::write;
 use schema_scan::canonical;
 use std::alloc::Global;
-use std::fs;
-use std::io::Write;
-use std::rt::{Env, Files};
-use std::time::Clock;
 
-/// Writes a bundle to standard output or to a file, and gives the status: 0, or 2 where there is none.
-pub fn bundle<R, O, E>(rt: &R, mut console: Console<'_, R, O, E>, bundling: &Bundling<'_>) -> u8
-where
-    R: Files + Env + AllocGlobal + Clock + Clone + Drop,
-    O: Write,
-    E: Write,
+/// Writes a bundle to standard output or to a file, and gives the status: 0, or 2 where there is none, and nothing is written.
+pub fn bundle<F: Folders, C: Console>(
+    alloc: Global,
+    files: &F,
+    console: &mut C,
+    bundling: &Bundling<'_>,
+) -> u8
+    ensures { EndsBundle (option_map (λ p. p.now) bundling.now.out) (C.printed console.old) result
+        (C.printed console.new) }
 {
-    let status = match bundled(rt, &mut console, bundling) {
+    match bundled(alloc, files, console, bundling) {
         Ok(()) => 0,
         Err(trouble) => {
             console.tell(&trouble);
             2
         }
-    };
-    console.finish(status)
+    }
 }
 
-fn bundled<R, O, E>(
-    rt: &R,
-    console: &mut Console<'_, R, O, E>,
+fn bundled<F: Folders, C: Console>(
+    alloc: Global,
+    files: &F,
+    console: &mut C,
     bundling: &Bundling<'_>,
 ) -> Result<(), Trouble>
-where
-    R: Files + Env + AllocGlobal + Clock + Clone + Drop,
-    O: Write,
-    E: Write,
+    ensures ok { OnOk result (IsGiven (option_map (λ p. p.now) bundling.now.out)
+        (C.printed console.old) (C.printed console.new)) }
+    ensures err { OnErr result (C.printed console.new ≡ C.printed console.old) }
 {
-    let text = bundle_text(rt, console, bundling)?;
+    let text = bundle_text(alloc, files, console, bundling)?;
     match bundling.out {
         None => {
             console.print(text.as_str());
             Ok(())
         }
-        Some(path) => match fs::write(rt, path, text.as_str()) {
-            Ok(()) => Ok(()),
-            Err(_) => Err(Trouble::CannotWrite(String::from_str(rt.alloc(), path)?)),
-        },
+        Some(path) => files.write(alloc, path, text.as_str()),
     }
 }
 
 // The bundle's text, with a line feed.
-fn bundle_text<R, O, E>(
-    rt: &R,
-    console: &mut Console<'_, R, O, E>,
+fn bundle_text<F: Folders, C: Console>(
+    alloc: Global,
+    files: &F,
+    console: &mut C,
     bundling: &Bundling<'_>,
 ) -> Result<String, Trouble>
-where
-    R: Files + Env + AllocGlobal + Clock + Clone + Drop,
-    O: Write,
-    E: Write,
+    ensures ok { IfOk result (λ s. IsBundleOfSome (string_bytes s)) }
+    ensures printed { C.printed console.new ≡ C.printed console.old }
 {
-    let alloc = rt.alloc();
     let mut root = gather(
-        rt,
+        alloc,
+        files,
         console,
         &bundling.documents,
         bundling.schema,
@@ -79,7 +74,7 @@ where
     let uri = canonical(&root.schema).to_owned(alloc)?;
     match bundle_of(alloc, &mut root.documents, uri.as_str()) {
         Ok(text) => Ok(text),
-        Err(fault) => Err(Trouble::refused(alloc, bundling.schema, None, &[], fault)?),
+        Err(fault) => Err(Trouble::refused(alloc, bundling.schema, None, &[], fault)),
     }
 }
 

@@ -1,20 +1,18 @@
 //! The documents that a schema's references run over.
 
+ghost use Rattle.std.specs.Prelude.{◌≡◌, Ok, true, OnOk};
+
 use crate::console::Console;
-use crate::reading;
+use crate::folders::{Folders, Found};
 use crate::trouble::Trouble;
-use crate::walking::{JSON, files_of};
+use crate::walking::JSON;
 use checks::DEFAULT_URI;
 use command_line::Documents;
-use file_checks::{FileDocuments, absolute_path, file_uri};
+use file_checks::{Fault, FileDocuments, absolute_path, file_uri};
 use schema_scan::Compiled;
 use std::alloc::Global;
 use std::collections::BTreeSet;
-use std::env;
-use std::io::Write;
 use std::rc::Rc;
-use std::rt::{Env, Files};
-use std::time::Clock;
 use uri_ref::base_form;
 
 /// Documents, and where those of files lie.
@@ -29,76 +27,137 @@ pub(crate) struct Gathered {
 
 impl Gathered {
     /// The documents of the library alone.
-    pub(crate) fn new<R: Files + Env + AllocGlobal>(
-        rt: &R,
+    pub(crate) fn new<F: Folders>(
+        alloc: Global,
+        files: &F,
         library: Option<&str>,
     ) -> Result<Gathered, Trouble> {
-        let alloc = rt.alloc();
         Ok(Gathered {
-            documents: library_documents(rt, library)?,
-            folder: folder(rt)?,
+            documents: library_documents(alloc, files, library)?,
+            folder: files.current(alloc)?,
             places: BTreeSet::new(alloc),
         })
     }
 
-    /// Where a file lies: its `file:` URI, without dot segments.
-    fn place(&self, alloc: Global, path: &str) -> Result<String, Trouble> {
-        let path = absolute_path(alloc, self.folder.as_str(), path)?;
-        let uri = file_uri(alloc, path.as_str())?;
-        Ok(base_form(alloc, uri.as_str())?)
-    }
-
     /// Adds the document of a file, under this URI or else where it lies, unless it was read already.
-    pub(crate) fn add<R: Files + Env + AllocGlobal>(
+    pub(crate) fn add<F: Folders>(
         &mut self,
-        rt: &R,
+        alloc: Global,
+        files: &F,
         path: &str,
         uri: Option<&str>,
     ) -> Result<Option<Rc<Compiled>>, Trouble> {
-        let alloc = rt.alloc();
-        let place = self.place(alloc, path)?;
+        let place = place_of(alloc, self.folder.as_str(), path)?;
         if self.places.contains(place.as_str()) {
             return Ok(None);
         }
-        let text = reading::file(rt, path)?;
+        let text = files.read(alloc, path)?;
         let added = self
             .documents
             .add(alloc, uri.unwrap_or(place.as_str()), text.as_slice());
         self.places.insert(place)?;
         match added {
             Ok(document) => Ok(Some(document)),
-            Err(fault) => Err(Trouble::refused(alloc, path, None, text.as_slice(), fault)?),
+            Err(fault) => Err(Trouble::refused(alloc, path, None, text.as_slice(), fault)),
         }
     }
 
     /// Adds the documents of these files and folders, and tells of each that cannot be. Whether all were added.
-    pub(crate) fn add_all<R, O, E>(
+    pub(crate) fn add_all<F: Folders, C: Console>(
         &mut self,
-        rt: &R,
-        console: &mut Console<'_, R, O, E>,
+        alloc: Global,
+        files: &F,
+        console: &mut C,
         paths: &[&str],
     ) -> Result<bool, Trouble>
-    where
-        R: Files + Env + AllocGlobal + Clock + Clone + Drop,
-        O: Write,
-        E: Write,
+        ensures told { result ≡ Ok true → C.told console.new ≡ C.told console.old }
+        ensures printed { C.printed console.new ≡ C.printed console.old }
     {
         let mut all = true;
         for path in paths {
-            let found = files_of(rt, path, JSON)?;
-            for trouble in &found.troubles {
-                console.tell(trouble);
-                all = false;
-            }
-            for file in &found.files {
-                if let Err(trouble) = self.add(rt, file.as_str(), None) {
-                    console.tell(&trouble);
-                    all = false;
-                }
-            }
+            let found = files.files_of(alloc, path, JSON)?;
+            let added = self.add_found(alloc, files, console, &found);
+            all = all && added;
         }
         Ok(all)
     }
+
+    // Adds the documents of the files that were found, and tells of each that cannot be, and of each folder that can't be
+    // read. Whether there was none.
+    fn add_found<F: Folders, C: Console>(
+        &mut self,
+        alloc: Global,
+        files: &F,
+        console: &mut C,
+        found: &Found,
+    ) -> bool
+        ensures told { result ≡ true → C.told console.new ≡ C.told console.old }
+        ensures printed { C.printed console.new ≡ C.printed console.old }
+    {
+        let read = tell_each(console, found.troubles.as_slice());
+        let added = self.add_files(alloc, files, console, found.files.as_slice());
+        read && added
+    }
+
+    // Adds the documents of these files, and tells of each that cannot be. Whether all were added.
+    fn add_files<F: Folders, C: Console>(
+        &mut self,
+        alloc: Global,
+        files: &F,
+        console: &mut C,
+        paths: &[String],
+    ) -> bool
+        ensures told { result ≡ true → C.told console.new ≡ C.told console.old }
+        ensures printed { C.printed console.new ≡ C.printed console.old }
+    {
+        let mut all = true;
+        for path in paths {
+            let added = self.try_to_add(alloc, files, console, path.as_str());
+            all = all && added;
+        }
+        all
+    }
+
+    // Adds the document of the file, or tells why it cannot be. Whether it was added.
+    fn try_to_add<F: Folders, C: Console>(
+        &mut self,
+        alloc: Global,
+        files: &F,
+        console: &mut C,
+        path: &str,
+    ) -> bool
+        ensures told { result ≡ true → C.told console.new ≡ C.told console.old }
+        ensures printed { C.printed console.new ≡ C.printed console.old }
+    {
+        match self.add(alloc, files, path, None) {
+            Ok(_) => true,
+            Err(trouble) => {
+                console.tell(&trouble);
+                false
+            }
+        }
+    }
+}
+
+// Tells of each trouble. Whether there was none.
+fn tell_each<C: Console>(console: &mut C, troubles: &[Trouble]) -> bool
+    ensures told { result ≡ true → C.told console.new ≡ C.told console.old }
+    ensures printed { C.printed console.new ≡ C.printed console.old }
+{
+    if troubles.is_empty() {
+        return true;
+    }
+    for trouble in troubles {
+        console.tell(trouble);
+    }
+    false
+}
+
+// Where a file lies: its `file:` URI, without dot segments.
+fn place_of(alloc: Global, folder: &str, path: &str) -> Result<String, Fault> {
+    let path = absolute_path(alloc, folder, path)?;
+    let uri = file_uri(alloc, path.as_str())?;
+    base_form(alloc, uri.as_str())
 }
 
 /// A schema among the documents that its references run over.
@@ -110,28 +169,27 @@ pub(crate) struct Root {
 
 /// The schema of the file, among the documents that are given. Each document that is refused is told, and then there is no
 /// answer.
-pub(crate) fn gather<R, O, E>(
-    rt: &R,
-    console: &mut Console<'_, R, O, E>,
+pub(crate) fn gather<F: Folders, C: Console>(
+    alloc: Global,
+    files: &F,
+    console: &mut C,
     given: &Documents<'_>,
     schema: &str,
     uri: Option<&str>,
 ) -> Result<Root, Trouble>
-where
-    R: Files + Env + AllocGlobal + Clock + Clone + Drop,
-    O: Write,
-    E: Write,
+    ensures told { OnOk result (C.told console.new ≡ C.told console.old) }
+    ensures printed { C.printed console.new ≡ C.printed console.old }
 {
-    let mut gathered = Gathered::new(rt, given.library)?;
+    let mut gathered = Gathered::new(alloc, files, given.library)?;
     let uri = match uri {
         None if given.paths.is_empty() => Some(DEFAULT_URI),
         uri => uri,
     };
-    let schema = match gathered.add(rt, schema, uri)? {
+    let schema = match gathered.add(alloc, files, schema, uri)? {
         Some(schema) => schema,
         None => return Err(Trouble::Told),
     };
-    if !gathered.add_all(rt, console, &given.paths)? {
+    if !gathered.add_all(alloc, files, console, &given.paths)? {
         return Err(Trouble::Told);
     }
     Ok(Root {
@@ -140,26 +198,17 @@ where
     })
 }
 
-fn library_documents<R: Files + AllocGlobal>(
-    rt: &R,
+fn library_documents<F: Folders>(
+    alloc: Global,
+    files: &F,
     library: Option<&str>,
 ) -> Result<FileDocuments, Trouble> {
-    let alloc = rt.alloc();
     let Some(path) = library else {
         return Ok(FileDocuments::new(alloc));
     };
-    let text = reading::file(rt, path)?;
+    let text = files.read(alloc, path)?;
     match FileDocuments::of_library(alloc, text.as_slice()) {
         Ok(documents) => Ok(documents),
-        Err(fault) => Err(Trouble::refused(alloc, path, None, text.as_slice(), fault)?),
-    }
-}
-
-// The folder that the program runs in.
-fn folder<R: Env + AllocGlobal>(rt: &R) -> Result<String, Trouble> {
-    let alloc = rt.alloc();
-    match env::current_dir(rt) {
-        Ok(folder) => Ok(String::from_str(alloc, folder.as_str())?),
-        Err(error) => Err(reading::unread(alloc, &error, ".")),
+        Err(fault) => Err(Trouble::refused(alloc, path, None, text.as_slice(), fault)),
     }
 }

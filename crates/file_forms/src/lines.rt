@@ -1,5 +1,8 @@
 //! Instances that are lines of a text.
 
+ghost use Rattle.std.specs.Prelude.{None, IfErr};
+ghost use Rattle.file_forms.specs.Refusals.{Concerns};
+
 use crate::reading::unread;
 use crate::trouble::Trouble;
 use std::alloc::Global;
@@ -11,7 +14,9 @@ pub(crate) fn next_line<B: BufRead>(
     reader: &mut B,
     line: &mut Vec<u8>,
     name: &str,
-) -> Result<bool, Trouble> {
+) -> Result<bool, Trouble>
+    ensures { IfErr result (Concerns name.now None) }
+{
     line.clear();
     match reader.read_until(b'\n', line) {
         Ok(count) => {

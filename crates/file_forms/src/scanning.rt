@@ -1,19 +1,21 @@
 //! Scans of schemas.
 
+ghost use Rattle.std.specs.Prelude.{◌≡◌, ◌≤◌, IfOk, map};
+ghost use Rattle.schema_scan.specs.CompiledDocuments.{compiled_view};
+ghost use Rattle.file_checks.specs.FileSources.{file_documents};
+ghost use Rattle.file_forms.specs.Scans.{verdict_among, verdict_where};
+
 use crate::console::Console;
+use crate::folders::Folders;
 use crate::gathering::Gathered;
-use crate::reading;
 use crate::trouble::Trouble;
-use crate::walking::{JSON, files_of};
+use crate::walking::JSON;
 use command_line::Scanning;
-use file_checks::{Fault, FileDocuments, Tally, Verdict};
+use file_checks::{FileDocuments, Tally, Verdict};
 use schema_hints::{Anchor, Hint, look_over};
 use schema_scan::{Compiled, canonical};
-use std::alloc::Global;
-use std::io::Write;
+use std::alloc::{AllocError, Global};
 use std::rc::Rc;
-use std::rt::{Env, Files};
-use std::time::Clock;
 use text_places::{Position, position_of_location};
 
 /// A schema of a file.
@@ -24,85 +26,93 @@ struct SchemaFile {
 }
 
 /// Scans schemas, and gives the status: 0, or 1 where a reference leads nowhere, or 2 where a file is refused.
-pub fn scan<R, O, E>(rt: &R, mut console: Console<'_, R, O, E>, scanning: &Scanning<'_>) -> u8
-where
-    R: Files + Env + AllocGlobal + Clock + Clone + Drop,
-    O: Write,
-    E: Write,
+pub fn scan<F: Folders, C: Console>(
+    alloc: Global,
+    files: &F,
+    console: &mut C,
+    scanning: &Scanning<'_>,
+) -> u8
+    ensures { result ≤ 2 }
 {
-    let status = match scanned(rt, &mut console, scanning) {
+    match scanned(alloc, files, console, scanning) {
         Ok(tally) => tally.status(),
         Err(trouble) => {
             console.tell(&trouble);
             2
         }
-    };
-    console.finish(status)
+    }
 }
 
-fn scanned<R, O, E>(
-    rt: &R,
-    console: &mut Console<'_, R, O, E>,
+fn scanned<F: Folders, C: Console>(
+    alloc: Global,
+    files: &F,
+    console: &mut C,
     scanning: &Scanning<'_>,
-) -> Result<Tally, Trouble>
-where
-    R: Files + Env + AllocGlobal + Clock + Clone + Drop,
-    O: Write,
-    E: Write,
-{
-    let mut gathered = Gathered::new(rt, scanning.documents.library)?;
+) -> Result<Tally, Trouble> {
+    let mut gathered = Gathered::new(alloc, files, scanning.documents.library)?;
     let mut tally = Tally::new();
-    let mut schemas = Vec::new(rt.alloc());
+    let mut schemas = Vec::new(alloc);
     for path in &scanning.schemas {
-        add_schemas(rt, console, &mut gathered, &mut tally, &mut schemas, path)?;
+        add_schemas(
+            alloc,
+            files,
+            console,
+            &mut gathered,
+            &mut tally,
+            &mut schemas,
+            path,
+        )?;
     }
-    if !gathered.add_all(rt, console, &scanning.documents.paths)? {
+    if !gathered.add_all(alloc, files, console, &scanning.documents.paths)? {
         tally.add(Verdict::Refused);
     }
     for schema in &schemas {
-        let verdict = tell_schema(rt, console, &gathered.documents, schema)?;
+        let verdict = tell_schema(
+            alloc,
+            files,
+            console,
+            &gathered.documents,
+            schema,
+            scanning.quiet,
+        )?;
         tally.add(verdict);
     }
-    let line = sum_of(rt.alloc(), &tally)?;
+    let line = sum_of(alloc, &tally)?;
     console.note(line.as_str());
     Ok(tally)
 }
 
-fn sum_of(alloc: Global, tally: &Tally) -> Result<String, Trouble> {
+fn sum_of(alloc: Global, tally: &Tally) -> Result<String, AllocError> {
     let Tally {
         valid,
         invalid,
         refused,
     } = *tally;
-    Ok(format!(in alloc;
+    format!(in alloc;
         "{valid} in order, {invalid} with references that lead nowhere, {refused} refused\n"
-    )?)
+    )
 }
 
 /// Adds the schemas of the file or the folder, and tells of each that is refused.
-fn add_schemas<R, O, E>(
-    rt: &R,
-    console: &mut Console<'_, R, O, E>,
+fn add_schemas<F: Folders, C: Console>(
+    alloc: Global,
+    files: &F,
+    console: &mut C,
     gathered: &mut Gathered,
     tally: &mut Tally,
     schemas: &mut Vec<SchemaFile>,
     path: &str,
-) -> Result<(), Trouble>
-where
-    R: Files + Env + AllocGlobal + Clock + Clone + Drop,
-    O: Write,
-    E: Write,
-{
-    let found = files_of(rt, path, JSON)?;
+) -> Result<(), Trouble> {
+    let found = files.files_of(alloc, path, JSON)?;
     for trouble in &found.troubles {
         console.tell(trouble);
         tally.add(Verdict::Refused);
     }
     for file in &found.files {
-        match gathered.add(rt, file.as_str(), None) {
+        match gathered.add(alloc, files, file.as_str(), None) {
             Ok(None) => {}
             Ok(Some(document)) => schemas.push(SchemaFile {
-                path: String::from_str(rt.alloc(), file.as_str())?,
+                path: String::from_str(alloc, file.as_str())?,
                 document,
             })?,
             Err(trouble) => {
@@ -115,39 +125,57 @@ where
 }
 
 /// Tells what a schema holds, what of it leads nowhere, and warnings.
-fn tell_schema<R, O, E>(
-    rt: &R,
-    console: &mut Console<'_, R, O, E>,
+fn tell_schema<F: Folders, C: Console>(
+    alloc: Global,
+    files: &F,
+    console: &mut C,
     documents: &FileDocuments,
     schema: &SchemaFile,
+    quiet: bool,
 ) -> Result<Verdict, Trouble>
-where
-    R: Files + Env + AllocGlobal + Clock,
-    O: Write,
-    E: Write,
+    ensures { IfOk result (λ verdict. verdict
+        ≡ verdict_among (file_documents documents.now) (compiled_view schema.now.document.value)) }
 {
-    let alloc = rt.alloc();
-    let found = look_over(alloc, schema.document.document())?;
-    if !console.is_quiet() {
+    let dangling = documents.dangling_references(alloc, &schema.document)?;
+    let dangles = dangling_text(alloc, schema.path.as_str(), &dangling)?;
+    if quiet {
+        console.print(dangles.as_str());
+    } else {
+        let found = look_over(alloc, schema.document.document())?;
         let text = holdings(alloc, schema, &found.anchors)?;
         console.print(text.as_str());
-    }
-    let dangling = documents.dangling_references(alloc, &schema.document)?;
-    let text = dangling_text(alloc, schema.path.as_str(), &dangling)?;
-    console.print(text.as_str());
-    if !console.is_quiet() {
-        let text = reading::file(rt, schema.path.as_str())?;
-        for hint in &found.hints {
-            let line = warning(alloc, schema.path.as_str(), text.as_slice(), hint)?;
-            console.print(line.as_str());
-        }
+        console.print(dangles.as_str());
+        warn(alloc, files, console, schema.path.as_str(), &found.hints)?;
     }
     console.step(None);
-    Ok(if dangling.is_empty() {
+    Ok(verdict_of(&dangling))
+}
+
+// Whether references lead nowhere.
+fn verdict_of(dangling: &[&str]) -> Verdict
+    ensures { result ≡ verdict_where (map (λ r. r.now) dangling.now) }
+{
+    if dangling.is_empty() {
         Verdict::Valid
     } else {
         Verdict::Invalid
-    })
+    }
+}
+
+/// Prints the warnings of a schema.
+fn warn<F: Folders, C: Console>(
+    alloc: Global,
+    files: &F,
+    console: &mut C,
+    path: &str,
+    hints: &[Hint],
+) -> Result<(), Trouble> {
+    let text = files.read(alloc, path)?;
+    for hint in hints {
+        let line = warning(alloc, path, text.as_slice(), hint)?;
+        console.print(line.as_str());
+    }
+    Ok(())
 }
 
 /// The file's path, and below it its URI, its other resources and its anchors.

@@ -1,13 +1,15 @@
 //! What goes wrong with a file.
 
-use fault_sentences::Sentence;
+use crate::position::position_of;
+use crate::trouble_lines::refused_line;
+use fault_sentences::sentence_of;
 use file_checks::Fault;
 use std::alloc::{AllocError, AllocFailed, Global};
-use text_places::{Position, first_fault, position_of_location};
+use text_places::Position;
 
 /// What goes wrong with a file, or with the whole.
 #[derive(Debug, Drop)]
-pub(crate) enum Trouble {
+pub enum Trouble {
     /// The file or folder, or standard input under the name `-`, cannot be read.
     CannotRead(String),
     /// What the file holds is refused.
@@ -20,14 +22,14 @@ pub(crate) enum Trouble {
 
 /// A refusal.
 #[derive(Debug, Drop)]
-pub(crate) struct Refusal {
+pub struct Refusal {
     /// The file; none where it isn't for one.
-    pub(crate) path: Option<String>,
+    pub path: Option<String>,
     /// The line, of a file of which each line is an instance.
-    pub(crate) line: Option<usize>,
-    pub(crate) fault: Fault,
+    pub line: Option<usize>,
+    pub fault: Fault,
     /// Where in the file, where that is known.
-    pub(crate) position: Option<Position>,
+    pub position: Option<Position>,
 }
 
 impl From<Fault> for Trouble {
@@ -43,17 +45,33 @@ impl From<Fault> for Trouble {
 
 impl From<AllocError> for Trouble {
     fn from(_error: AllocError) -> Self {
-        Trouble::from(Fault::NoRoom)
+        Trouble::no_room()
     }
 }
 
 impl<T: Drop> From<AllocFailed<T>> for Trouble {
     fn from(_error: AllocFailed<T>) -> Self {
-        Trouble::from(Fault::NoRoom)
+        Trouble::no_room()
     }
 }
 
 impl Trouble {
+    ghost use Rattle.std.specs.Prelude.{◌≡◌, None, IfOk, string_bytes};
+    ghost use Rattle.file_forms.specs.Refusals.{Concerns, IsLineOf, line_of, path_of};
+
+    /// That memory ran out.
+    pub(crate) fn no_room() -> Trouble
+        ensures path { path_of result ≡ None }
+        ensures line { line_of result ≡ None }
+    {
+        Trouble::Refused(Refusal {
+            path: None,
+            line: None,
+            fault: Fault::NoRoom,
+            position: None,
+        })
+    }
+
     /// That the file at this path is refused. `text` is what it holds, and tells where.
     pub(crate) fn refused(
         alloc: Global,
@@ -61,19 +79,45 @@ impl Trouble {
         line: Option<usize>,
         text: &[u8],
         fault: Fault,
-    ) -> Result<Trouble, AllocError> {
+    ) -> Trouble
+        ensures { Concerns path.now line result }
+    {
         let position = position_of(alloc, text, &fault);
-        let path = Some(String::from_str(alloc, path)?);
-        Ok(Trouble::Refused(Refusal {
-            path,
-            line,
-            fault,
-            position,
-        }))
+        match String::from_str(alloc, path) {
+            Ok(path) => Trouble::Refused(Refusal {
+                path: Some(path),
+                line,
+                fault,
+                position,
+            }),
+            Err(_) => Trouble::no_room(),
+        }
+    }
+
+    /// That what has this name cannot be read.
+    pub(crate) fn cannot_read(alloc: Global, name: &str) -> Trouble
+        ensures { Concerns name.now None result }
+    {
+        match String::from_str(alloc, name) {
+            Ok(name) => Trouble::CannotRead(name),
+            Err(_) => Trouble::no_room(),
+        }
+    }
+
+    /// That the file at this path cannot be written.
+    pub(crate) fn cannot_write(alloc: Global, path: &str) -> Trouble
+        ensures { Concerns path.now None result }
+    {
+        match String::from_str(alloc, path) {
+            Ok(path) => Trouble::CannotWrite(path),
+            Err(_) => Trouble::no_room(),
+        }
     }
 
     /// Its lines: what went wrong, and below a refusal a sentence of what would mend it.
-    pub(crate) fn lines(&self, alloc: Global) -> Result<String, AllocError> {
+    pub(crate) fn lines(&self, alloc: Global) -> Result<String, AllocError>
+        ensures { IfOk result (λ s. IsLineOf self.now (string_bytes s)) }
+    {
         match self {
             Trouble::CannotRead(path) => format!(in alloc; "cannot read {path}\n"),
             Trouble::CannotWrite(path) => format!(in alloc; "cannot write {path}\n"),
@@ -84,23 +128,44 @@ impl Trouble {
 }
 
 impl Refusal {
+    ghost use Rattle.std.specs.Prelude.{◌≡◌, IfOk, option_map, string_bytes};
+    ghost use Rattle.faults.specs.View.{fault_view};
+    ghost use Rattle.file_forms.specs.Refusals.{IsRefusalText};
+    ghost use Rattle.file_forms.specs.RefusalLines.{refusal_line};
+
     /// `refused: PATH:LINE: 3 BadJson`, and below it `  PATH:LINE:COLUMN: ` and a sentence.
-    fn lines(&self, alloc: Global) -> Result<String, AllocError> {
-        let fault = &self.fault;
-        let sentence = Sentence(fault);
-        let Some(path) = &self.path else {
-            return format!(in alloc; "refused: {fault}\n  {sentence}\n");
-        };
-        let mut lines = match self.line {
-            Some(line) => format!(in alloc; "refused: {path}:{line}: {fault}\n"),
-            None => format!(in alloc; "refused: {path}: {fault}\n"),
-        }?;
-        let below = match self.place() {
-            Some((line, column)) => format!(in alloc; "  {path}:{line}:{column}: {sentence}\n"),
-            None => format!(in alloc; "  {sentence}\n"),
-        }?;
+    fn lines(&self, alloc: Global) -> Result<String, AllocError>
+        ensures { IfOk result (λ s. IsRefusalText
+            (option_map (λ p. string_bytes p) self.now.path)
+            self.now.line (fault_view self.now.fault) (string_bytes s)) }
+    {
+        let mut lines = self.first_line(alloc)?;
+        let below = self.second_line(alloc)?;
+        lines.push_str("\n  ")?;
         lines.push_str(below.as_str())?;
         Ok(lines)
+    }
+
+    fn first_line(&self, alloc: Global) -> Result<String, AllocError>
+        ensures { IfOk result (λ s. string_bytes s
+            ≡ refusal_line (option_map (λ p. string_bytes p) self.now.path)
+            self.now.line (fault_view self.now.fault)) }
+    {
+        let fault = &self.fault;
+        match &self.path {
+            None => format!(in alloc; "refused: {fault}"),
+            Some(path) => refused_line(alloc, path.as_str(), self.line, fault),
+        }
+    }
+
+    fn second_line(&self, alloc: Global) -> Result<String, AllocError> {
+        let sentence = sentence_of(&self.fault);
+        match (&self.path, self.place()) {
+            (Some(path), Some((line, column))) => {
+                format!(in alloc; "{path}:{line}:{column}: {sentence}\n")
+            }
+            _ => format!(in alloc; "{sentence}\n"),
+        }
     }
 
     /// The line and the column in the file.
@@ -112,14 +177,4 @@ impl Refusal {
         };
         Some((line, position.column))
     }
-}
-
-// Where in the text what is refused stands; nothing where that isn't known, or memory ran out for it.
-fn position_of(alloc: Global, text: &[u8], fault: &Fault) -> Option<Position> {
-    let found = match fault {
-        Fault::BadJson | Fault::BadNumber => first_fault(alloc, text),
-        Fault::BadKeyword(location) => position_of_location(alloc, text, location.as_str()),
-        _ => Ok(None),
-    };
-    found.unwrap_or(None)
 }

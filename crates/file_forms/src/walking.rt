@@ -1,24 +1,16 @@
 //! The files below a folder.
 
+use crate::folders::Found;
 use crate::reading::unread;
-use crate::trouble::Trouble;
-use std::alloc::Global;
-use std::fs::{self, DirEntry};
-use std::io;
+use std::alloc::{AllocError, Global};
 use std::rt::Files;
+use std::{fs, io};
 
 /// The endings of the names of JSON texts.
 pub(crate) const JSON: &[&str] = &[".json"];
 
 /// The endings of the names of texts of which each line is one.
 pub(crate) const LINES: &[&str] = &[".ndjson", ".jsonl"];
-
-/// The files that paths name, and what of these cannot be read.
-#[derive(Drop)]
-pub(crate) struct Found {
-    pub(crate) files: Vec<String>,
-    pub(crate) troubles: Vec<Trouble>,
-}
 
 /// The file of the path; or, where that is a folder, the files below it whose names have one of these endings, in byte order
 /// of paths. Folders that are symbolic links aren't entered, files that are such links stand under their names. Want of
@@ -27,7 +19,7 @@ pub(crate) fn files_of<R: Files + AllocGlobal + Clone + Drop>(
     rt: &R,
     path: &str,
     endings: &[&str],
-) -> Result<Found, Trouble> {
+) -> Result<Found, AllocError> {
     let alloc = rt.alloc();
     let mut found = Found {
         files: Vec::new(alloc),
@@ -55,7 +47,7 @@ fn walk<R: Files + AllocGlobal + Clone + Drop>(
     folder: &str,
     endings: &[&str],
     found: &mut Found,
-) -> Result<(), Trouble> {
+) -> Result<(), AllocError> {
     let alloc = rt.alloc();
     let mut folders = Vec::new(alloc);
     folders.push(String::from_str(alloc, folder)?)?;

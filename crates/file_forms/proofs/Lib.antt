@@ -1,0 +1,4 @@
+mod Accounted
+mod Checked
+mod Counted
+mod Shown

@@ -1,0 +1,149 @@
+//! A run over instances.
+
+ghost use Rattle.std.specs.Prelude.{◌≡◌, ◌∷◌, [], Err, IfOk, IfErr, max};
+ghost use Rattle.file_checks.specs.FileSources.{checker_linked};
+ghost use Rattle.file_checks.specs.Tallies.{status_of};
+ghost use Rattle.file_forms.specs.Accounts.{Accounts, IsAccount, verdict_status};
+ghost use Rattle.file_forms.specs.Judged.{IsJudged, account_of};
+ghost use Rattle.file_forms.specs.Refusals.{Concerns};
+ghost use Rattle.file_forms.specs.Tellings.{IsToldOf, state_of};
+
+use crate::answering::{Printing, answer};
+use crate::console::Console;
+use crate::trouble::Trouble;
+use file_checks::{Checker, Tally, Verdict};
+use plain_reports::Instance;
+use std::alloc::{AllocError, Global};
+
+/// A run over instances: how each is told, and how many there were.
+#[derive(Drop)]
+pub(crate) struct Run {
+    pub(crate) alloc: Global,
+    pub(crate) printing: Printing,
+    pub(crate) tally: Tally,
+    pub(crate) total: Option<usize>,
+}
+
+impl Run {
+    /// Before the first.
+    pub(crate) fn new(alloc: Global, printing: Printing) -> Run
+        ensures printing { result.printing ≡ printing }
+        ensures status { status_of result.tally.invalid result.tally.refused ≡ 0 }
+    {
+        Run {
+            alloc,
+            printing,
+            tally: Tally::new(),
+            total: None,
+        }
+    }
+
+    /// Checks the instance, and prints the answer or tells why there is none.
+    pub(crate) fn check<C: Console>(
+        &mut self,
+        console: &mut C,
+        checker: &mut Checker<'_>,
+        instance: Instance<'_>,
+    )
+        ensures accounts { Accounts
+            (IsAccount (IsJudged (checker_linked checker.old) self.old.printing))
+            ((instance.entry.path.now, instance.entry.line) ∷ [])
+            (state_of (C.printed console.old) (C.told console.old) self.old.tally)
+            (state_of (C.printed console.new) (C.told console.new) self.new.tally) }
+        ensures linked { checker_linked checker.new ≡ checker_linked checker.old }
+        ensures printing { self.new.printing ≡ self.old.printing }
+    {
+        let answered = self.answer(checker, instance);
+        self.tell(console, &answered);
+    }
+
+    // What came of the instance, and what is printed of it.
+    fn answer(
+        &self,
+        checker: &mut Checker<'_>,
+        instance: Instance<'_>,
+    ) -> Result<(Verdict, String), Trouble>
+        ensures ok { IfOk result (λ answer. IsJudged (checker_linked checker.old) self.now.printing
+            (account_of instance.entry answer)) }
+        ensures err { IfErr result (Concerns instance.entry.path.now instance.entry.line) }
+        ensures linked { checker_linked checker.new ≡ checker_linked checker.old }
+    {
+        match answer(self.alloc, self.printing, checker, instance) {
+            Ok(answer) => Ok(answer),
+            Err(fault) => Err(Trouble::refused(
+                self.alloc,
+                instance.path,
+                instance.line,
+                instance.text,
+                fault,
+            )),
+        }
+    }
+
+    // Prints the answer, or tells the trouble.
+    fn tell<C: Console>(&mut self, console: &mut C, answered: &Result<(Verdict, String), Trouble>)
+        ensures told { IsToldOf answered.now
+            (state_of (C.printed console.old) (C.told console.old) self.old.tally)
+            (state_of (C.printed console.new) (C.told console.new) self.new.tally) }
+        ensures printing { self.new.printing ≡ self.old.printing }
+    {
+        match answered {
+            Ok((verdict, text)) => {
+                console.print(text.as_str());
+                self.count(*verdict);
+            }
+            Err(trouble) => self.refuse(console, trouble),
+        }
+        console.step(self.total);
+    }
+
+    // One more of this verdict.
+    fn count(&mut self, verdict: Verdict)
+        ensures status { status_of self.new.tally.invalid self.new.tally.refused
+            ≡ max (status_of self.old.tally.invalid self.old.tally.refused)
+            (verdict_status verdict) }
+        ensures printing { self.new.printing ≡ self.old.printing }
+    {
+        self.tally.add(verdict);
+    }
+
+    /// Tells the trouble, and counts it.
+    pub(crate) fn refuse<C: Console>(&mut self, console: &mut C, trouble: &Trouble)
+        ensures told { IsToldOf (Err trouble.now)
+            (state_of (C.printed console.old) (C.told console.old) self.old.tally)
+            (state_of (C.printed console.new) (C.told console.new) self.new.tally) }
+        ensures printing { self.new.printing ≡ self.old.printing }
+    {
+        console.tell(trouble);
+        self.count(Verdict::Refused);
+    }
+
+    /// Tells a trouble that ends something, and counts it.
+    pub(crate) fn refuse_owned<C: Console>(&mut self, console: &mut C, trouble: Trouble)
+        ensures told { IsToldOf (Err trouble)
+            (state_of (C.printed console.old) (C.told console.old) self.old.tally)
+            (state_of (C.printed console.new) (C.told console.new) self.new.tally) }
+        ensures printing { self.new.printing ≡ self.old.printing }
+    {
+        self.refuse(console, &trouble);
+    }
+
+    /// Tells how many there were, unless memory lacks.
+    pub(crate) fn sum_up<C: Console>(&self, console: &mut C)
+        ensures printed { C.printed console.new ≡ C.printed console.old }
+        ensures told { C.told console.new ≡ C.told console.old }
+    {
+        if let Ok(line) = self.sum() {
+            console.note(line.as_str());
+        }
+    }
+
+    fn sum(&self) -> Result<String, AllocError> {
+        let Tally {
+            valid,
+            invalid,
+            refused,
+        } = self.tally;
+        format!(in self.alloc; "{valid} valid, {invalid} invalid, {refused} refused\n")
+    }
+}

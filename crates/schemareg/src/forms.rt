@@ -5,7 +5,7 @@ ghost use Rattle.schemareg.specs.Endings.{EndsReading};
 use crate::files::FileSystem;
 use crate::stop::Stop;
 use command_line::{Bundling, Checks, Scanning};
-use file_forms::Console;
+use file_forms::{SystemFolders, Terminal, wants_colours};
 use std::alloc::Global;
 use std::io::{Read, Write};
 use std::rt::{Env, Files};
@@ -58,8 +58,11 @@ impl<R: Files + Env + AllocGlobal + Clock + Clone + Drop> Forms for FileSystem<'
         errors: &mut E,
     ) -> Result<u8, Stop<'a>> {
         let alloc = self.rt.alloc();
-        let console = Console::new(alloc, self.rt, out, errors, self.terminal, checks.quiet);
-        status_or_told(file_forms::check_many(self.rt, input, console, checks, self.terminal))
+        let files = SystemFolders::new(self.rt);
+        let colours = self.terminal && wants_colours(self.rt);
+        let mut console = Terminal::new(alloc, self.rt, out, errors, self.terminal, checks.quiet);
+        let status = file_forms::check_many(alloc, &files, input, &mut console, checks, colours);
+        status_or_told(console.finish(status))
     }
 
     fn bundle<'a, O: Write, E: Write>(
@@ -69,8 +72,10 @@ impl<R: Files + Env + AllocGlobal + Clock + Clone + Drop> Forms for FileSystem<'
         errors: &mut E,
     ) -> Result<u8, Stop<'a>> {
         let alloc = self.rt.alloc();
-        let console = Console::new(alloc, self.rt, out, errors, self.terminal, true);
-        status_or_told(file_forms::bundle(self.rt, console, bundling))
+        let files = SystemFolders::new(self.rt);
+        let mut console = Terminal::new(alloc, self.rt, out, errors, self.terminal, true);
+        let status = file_forms::bundle(alloc, &files, &mut console, bundling);
+        status_or_told(console.finish(status))
     }
 
     fn scan<'a, O: Write, E: Write>(
@@ -80,8 +85,10 @@ impl<R: Files + Env + AllocGlobal + Clock + Clone + Drop> Forms for FileSystem<'
         errors: &mut E,
     ) -> Result<u8, Stop<'a>> {
         let alloc = self.rt.alloc();
-        let console = Console::new(alloc, self.rt, out, errors, self.terminal, scanning.quiet);
-        status_or_told(file_forms::scan(self.rt, console, scanning))
+        let files = SystemFolders::new(self.rt);
+        let mut console = Terminal::new(alloc, self.rt, out, errors, self.terminal, scanning.quiet);
+        let status = file_forms::scan(alloc, &files, &mut console, scanning);
+        status_or_told(console.finish(status))
     }
 }
 

@@ -10,7 +10,7 @@ import tempfile
 import time
 from pathlib import Path
 
-from connections import MISSED, STRING, asked, put, read_all, read_some, stored
+from connections import LAST, MISSED, STRING, asked, closing, put, read_all, read_some, stored
 from serving import HOST, SERVICE, difference
 from streams import reply, request
 
@@ -95,6 +95,23 @@ def half_closed(program):
         client.sendall(asked() * 500)
         client.shutdown(socket.SHUT_WR)
         return difference(MISSED * 500, read_all(client))
+
+
+def ends_where_asked(program):
+    """A connection ends at once behind the reply to a request of HTTP/1.0 or with `connection: close`, and no fault is told."""
+    old = asked().replace(b"HTTP/1.1", b"HTTP/1.0")
+    last = asked().replace(b"\r\n\r\n", LAST.encode(), 1)
+    with Server(program) as server:
+        for sent in (old, last):
+            with server.client() as client:
+                begun = time.monotonic()
+                client.sendall(asked() + sent)
+                said = difference(MISSED + closing(MISSED), read_all(client))
+                took = time.monotonic() - begun
+            if said or took > 5:
+                return said or f"it ended after {took:.1f} s"
+        _, told = server.end()
+        return None if told.startswith("connections: 2, requests: 4,") else repr(told)
 
 
 def never_reads(program):
@@ -296,6 +313,7 @@ TRIALS = {
     "clients are answered side by side": many_at_once,
     "an idle client holds up no other": idle_beside_busy,
     "a client that ended its side gets all replies": half_closed,
+    "a connection ends at once where it was asked to": ends_where_asked,
     "a client that takes no reply isn't read on": never_reads,
     "a client that resets is told, and the others are answered": reset,
     "it ends when standard input ends": ends_with_input,

@@ -92,6 +92,10 @@ impl Network for MemoryNetwork<'_> {
         self.scene.again(id);
     }
 
+    fn await_more(&mut self, id: u64) {
+        self.scene.again(id);
+    }
+
     fn later(&mut self, id: u64) {
         self.scene.later(id);
     }

@@ -81,6 +81,13 @@ pub trait Network {
         ensures due { (d : Bool) → due self.new d id }
         ensures others { OthersDue id (due self.old) (due self.new) };
 
+    /// Has the connection be told ready once it can be read.
+    fn await_more(&mut self, id: u64)
+        ensures reads { reads self.new ≡ reads self.old }
+        ensures writes { writes self.new ≡ writes self.old }
+        ensures due { due self.new false id }
+        ensures others { OthersDue id (due self.old) (due self.new) };
+
     /// Has the connection be told ready once some time has passed, a second at most.
     fn later(&mut self, id: u64)
         ensures reads { reads self.new ≡ reads self.old }

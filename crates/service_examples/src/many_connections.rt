@@ -290,6 +290,19 @@ const ENDS: &[Row] = &[
         &[(0, LAST_REPLY, 89)],
         "0+ 0-",
     ),
+    // It ends in the round in which its reply is written, and one that ends its stream where it is told.
+    (
+        ENOUGH,
+        &[Opens(0), Arrives(0, LAST), Ceases],
+        &[(0, LAST_REPLY, 0)],
+        "0+ 0-",
+    ),
+    (
+        ENOUGH,
+        &[Opens(0), Arrives(0, PUT), Rests, Ends(0), Ceases],
+        &[(0, STORED, 0)],
+        "0+ 0-",
+    ),
     // It is late, with nothing to be sent, and within a request.
     (
         ENOUGH,

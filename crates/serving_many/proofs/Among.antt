@@ -1,7 +1,9 @@
 -- Members of lists of numbers, and occasions.
-use Rattle.std.proofs.Common.{◌≡◌, ◌<◌, ◌+◌, ◌⊎◌, ℕ, List, [], ◌∷◌, ◌++◌, length, get_or, drop, Option, Some, None, refl, subst, inl, inr}
+use Rattle.std.proofs.Common.{◌≡◌, ◌≢◌, ◌<◌, ◌+◌, ◌⊎◌, ℕ, Bool, List, [], ◌∷◌, ◌++◌, length, get_or, drop, Option, Some, None, refl, sym, ap, ◌∙◌, subst, inl, inr, ⊎_elim}
+use Rattle.std.proofs.lemmas.Bool.{cases_eq}
 use Rattle.std.proofs.lemmas.List.{drop_more}
-use Rattle.network.specs.Readiness.{IsAmong}
+use Rattle.definitions.specs.Values.{Text}
+use Rattle.network.specs.Readiness.{has_bytes, IsAmong, AllDue, OthersDue}
 use Rattle.network.specs.declared.networks.Occasion.{Occasion}
 use Rattle.network.specs.declared.networks.Occasion.TheVariants.{Ready}
 
@@ -16,6 +18,16 @@ among_on k (x ∷ xs) ys (inr m) = inr (among_on k xs ys m)
 
 pub among_first : (k : ℕ) (xs : List ℕ) (i d : ℕ) → i < length xs → IsAmong k (drop i xs) → (k ≡ get_or xs i d) ⊎ IsAmong k (drop (i + 1) xs)
 among_first k xs i d lt m = subst (IsAmong k) (drop_more xs i d lt) m
+
+-- once the first of them is due
+pub due_next : (u v : ℕ → Option Text) (before after : Bool → ℕ → Type 0) (id : ℕ) (ids : List ℕ) (i : ℕ) → i < length ids → id ≡ get_or ids i 0
+    → ((k : ℕ) → k ≢ id → v k ≡ u k) → OthersDue id before after → ((bytes : Text) → v id ≡ Some bytes → after (has_bytes bytes) id)
+    → AllDue u before (drop i ids) → AllDue v after (drop (i + 1) ids)
+due_next u v before after id ids i lt is stay others own x k bytes e =
+    ⊎_elim
+    (λ same. inl (subst (after (has_bytes bytes)) (sym same) (own bytes (ap v (sym same) ∙ e))))
+    (λ ne. ⊎_elim (λ d. inl (others k (has_bytes bytes) ne d)) (λ m. ⊎_elim (λ first. absurd (ne (first ∙ sym is))) (λ later. inr later) (among_first k ids i 0 lt m)) (x k bytes (sym (stay k ne) ∙ e)))
+    (cases_eq k id)
 
 pub same_number : (a b : ℕ) → Ready a ≡ Ready b → a ≡ b
 same_number a b e = cc

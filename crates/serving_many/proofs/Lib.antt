@@ -1,4 +1,5 @@
 mod Lists
+mod Needed
 mod Kept
 mod Changes
 mod Turns

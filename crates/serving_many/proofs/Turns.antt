@@ -15,10 +15,12 @@ use Rattle.network.specs.Outboxes.{unsent_at}
 use Rattle.network.specs.declared.outbox.Outbox.{Outbox}
 use Rattle.serving_many.specs.Going.{Stands, State, state_of, Tells, Goes, Keeps}
 use Rattle.serving_many.specs.Kept.{IsKept}
+use Rattle.serving_many.specs.Needed.{AllNeeded}
 use Rattle.serving_many.specs.Serving.{IsServed}
 use Rattle.serving_many.proofs.Among.{no_some}
 use Rattle.connections.proofs.Standings.{put_at, put_here, put_elsewhere, streams_on, sent_on, is_own, is_other}
 use Rattle.serving_many.proofs.Lists.{bytes_on}
+use Rattle.serving_many.proofs.Needed.{is_unfinished}
 use Rattle.serving_many.proofs.Kept.{less_told, kept_more, kept_on, all_kept}
 use Rattle.serving_many.proofs.Changes.{happens_on, IsNext, change_of_end, ends_so, change_of_piece, feeds_so, opens_so, opens_not}
 
@@ -447,8 +449,8 @@ at_start state finds answers start reads writes now handler same_reads same_writ
     told k = rw (silent k) ([], refl)
 
 pub is_served : {H S : Type 0} (state : H → S) (finds : H → S → Type 0) (answers : Answers S) (before after : Sessions H) (o : Outbox) (reads writes more others : List Moved)
-    → Goes state finds answers (handler_of before) reads writes (state_of after o more others) → IsServed state finds answers before reads writes after more others
-is_served state finds answers before after o reads writes more others x = record {
+    → Goes state finds answers (handler_of before) reads writes (state_of after o more others) → AllNeeded (connection_at after) (unsent_at o) → IsServed state finds answers before reads writes after more others
+is_served state finds answers before after o reads writes more others x needed = record {
   events = x.events;
   standing = x.standing;
   happened = x.happened;
@@ -459,6 +461,7 @@ is_served state finds answers before after o reads writes more others x = record
   wrote_on = x.wrote_on;
   heard = x.heard;
   told = λ k. less_told _ _ (unsent_at o k) (x.told k);
+  unfinished = λ k. is_unfinished (connection_at after k) (unsent_at o k) (sent_to k x.events) (bytes_of k x.wrote) (needed k) (x.told k);
   kept = x.kept;
 }
 

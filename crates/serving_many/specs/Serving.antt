@@ -1,7 +1,7 @@
 -- What it comes to that many connections are served.
-use Rattle.std.specs.Prelude.{◌≡◌, ℕ, List, ◌++◌}
+use Rattle.std.specs.Prelude.{◌≡◌, ◌≢◌, ℕ, List, ◌++◌, Some}
 use Rattle.definitions.specs.Values.{Text}
-use Rattle.http_definitions.specs.Connections.{Answers}
+use Rattle.http_definitions.specs.Connections.{Answers, closed}
 use Rattle.connections.specs.Connected.{handler_of, connection_at}
 use Rattle.connections.specs.Found.{FindsOnly}
 use Rattle.connections.specs.Events.{Event, Standing, Happen, none_is_open, stream_of, sent_to}
@@ -11,9 +11,10 @@ use Rattle.serving_many.specs.Going.{Stands}
 use Rattle.serving_many.specs.Kept.{IsKept}
 
 -- Some events have happened, of connections of which none was open. What was read of each connection
--- is what it was fed, and what was written on it is a first part of what it was to be sent. Where an
--- opening found the state at the start alone, it finds what is kept: the state behind a first part of
--- the events, of which all was written that was written at all.
+-- is what it was fed, and what was written on it is a first part of what it was to be sent: not yet
+-- all, where it is closed and hasn't ended. Where an opening found the state at the start alone, it
+-- finds what is kept: the state behind a first part of the events, of which all was written that was
+-- written at all.
 pub record IsServed {H S : Type 0} (state : H → S) (finds : H → S → Type 0) (answers : Answers S) (before : Sessions H) (reads writes : List Moved) (after : Sessions H) (more others : List Moved) : Type 0 where
   pub events : List Event
   pub standing : ℕ → Standing
@@ -25,5 +26,6 @@ pub record IsServed {H S : Type 0} (state : H → S) (finds : H → S → Type 0
   pub wrote_on : others ≡ writes ++ wrote
   pub heard : (k : ℕ) → bytes_of k read ≡ stream_of k events
   pub told : (k : ℕ) → (unsent : Text) × (sent_to k events ≡ bytes_of k wrote ++ unsent)
+  pub unfinished : (k : ℕ) → connection_at after k ≡ Some closed → sent_to k events ≢ bytes_of k wrote
   pub kept : FindsOnly finds (handler_of before) (state (handler_of before))
       → (t : S) → finds (handler_of after) t → IsKept answers (state (handler_of before)) events wrote t

@@ -1,41 +1,47 @@
 //! Reading a piece of a connection's stream and answering it.
 
-ghost use Rattle.std.specs.Prelude.{◌≡◌, ◌≤◌, ◌+◌, ◌++◌, ◌∷◌, [], Some, false, List};
+ghost use Rattle.std.specs.Prelude.{◌≡◌, ◌≢◌, ◌≤◌, ◌+◌, ◌++◌, ◌∷◌, [], Some, None, false, List};
 ghost use Rattle.definitions.specs.Values.{Text};
 ghost use Rattle.connections.specs.Connected.{connection_at, is_closed_at};
 ghost use Rattle.network.specs.Traffic.{Moved};
-ghost use Rattle.network.specs.Outboxes.{unsent_at, count_of, memory_of, size_at, most_of, OthersStay};
+ghost use Rattle.network.specs.Outboxes.{unsent_at, memory_of, size_at, most_of, OthersStay};
 ghost use Rattle.network.specs.Readiness.{has_bytes, OthersDue};
 ghost use Rattle.serving_many.specs.Going.{Keeps, state_of};
+ghost use Rattle.serving_many.specs.Needed.{AllNeeded, AllNeededBut};
 
-use crate::ending::cut_off;
+use crate::ending::{cut_off, part_or_await};
 use crate::observers::Observer;
 use connections::{Handler, Sessions};
 use network::{Fault, Network, Outbox};
 
-// Puts bytes to be sent. Whether there are some; where there are none, the connection will be told ready again.
-fn hand_out<N: Network>(
+// Goes on with a connection that was answered. Whether something is to be sent; where nothing is, it is parted with at its
+// end, and else it will be told ready once it can be read.
+fn has_reply<H: Handler, N: Network, O: Observer>(
+    sessions: &mut Sessions<H>,
     outbox: &mut Outbox,
     network: &mut N,
+    observer: &mut O,
     id: u64,
-    bytes: Vec<u8>,
-    held: usize,
 ) -> bool
-    requires { unsent_at outbox.old id ≡ Some [] }
-    ensures some { unsent_at outbox.new id ≡ Some bytes.items }
+    requires { unsent_at outbox.old id ≢ None }
+    ensures kept { Keeps H.state H.finds H.answers
+        (state_of sessions.old outbox.old (N.reads network.old) (N.writes network.old))
+        (state_of sessions.new outbox.new (N.reads network.new) (N.writes network.new)) }
+    ensures own { result ≡ false → (bytes : Text) → unsent_at outbox.new id ≡ Some bytes
+        → N.due network.new (has_bytes bytes) id }
     ensures stay { OthersStay id outbox.old outbox.new }
-    ensures count { count_of outbox.new ≡ count_of outbox.old }
-    ensures reads { N.reads network.new ≡ N.reads network.old }
-    ensures writes { N.writes network.new ≡ N.writes network.old }
-    ensures own { result ≡ false → N.due network.new (has_bytes bytes.items) id }
     ensures due { OthersDue id (N.due network.old) (N.due network.new) }
+    ensures needed { AllNeededBut id (connection_at sessions.old) (unsent_at outbox.old)
+        → AllNeeded (connection_at sessions.new) (unsent_at outbox.new) }
 {
-    let is_silent = bytes.is_empty();
-    outbox.fill(id, bytes, held);
-    if is_silent {
-        network.again(id);
+    match outbox.unsent(id) {
+        None => false,
+        Some([]) => {
+            part_or_await(sessions, outbox, network, observer, id);
+            false
+        }
+        Some(_) => true,
     }
-    !is_silent
 }
 
 // Answers a piece that was read last. Whether something is to be sent.
@@ -58,10 +64,15 @@ fn answer_piece<H: Handler, N: Network, O: Observer>(
         → N.due network.new (has_bytes bytes) id }
     ensures stay { OthersStay id outbox.old outbox.new }
     ensures due { OthersDue id (N.due network.old) (N.due network.new) }
+    ensures needed { AllNeededBut id (connection_at sessions.old) (unsent_at outbox.old)
+        → AllNeeded (connection_at sessions.new) (unsent_at outbox.new) }
 {
     let mut out = outbox.lend(id);
     match sessions.feed_into(outbox.alloc(), id, piece, &mut out) {
-        Ok(()) => hand_out(outbox, network, id, out.into_bytes(), sessions.held_len(id)),
+        Ok(()) => {
+            outbox.fill(id, out.into_bytes(), sessions.held_len(id));
+            has_reply(sessions, outbox, network, observer, id)
+        }
         Err(fault) => {
             cut_off(sessions, outbox, network, observer, id, Some(fault));
             false
@@ -85,9 +96,14 @@ fn answer_end<H: Handler, N: Network, O: Observer>(
         → N.due network.new (has_bytes bytes) id }
     ensures stay { OthersStay id outbox.old outbox.new }
     ensures due { OthersDue id (N.due network.old) (N.due network.new) }
+    ensures needed { AllNeededBut id (connection_at sessions.old) (unsent_at outbox.old)
+        → AllNeeded (connection_at sessions.new) (unsent_at outbox.new) }
 {
     match sessions.end(outbox.alloc(), id) {
-        Ok(words) => hand_out(outbox, network, id, words, 0),
+        Ok(words) => {
+            outbox.fill(id, words, 0);
+            has_reply(sessions, outbox, network, observer, id)
+        }
         Err(fault) => {
             cut_off(sessions, outbox, network, observer, id, Some(fault));
             false
@@ -114,6 +130,8 @@ pub fn receive<H: Handler, N: Network, O: Observer>(
         → N.due network.new (has_bytes bytes) id }
     ensures stay { OthersStay id outbox.old outbox.new }
     ensures due { OthersDue id (N.due network.old) (N.due network.new) }
+    ensures needed { AllNeededBut id (connection_at sessions.old) (unsent_at outbox.old)
+        → AllNeeded (connection_at sessions.new) (unsent_at outbox.new) }
 {
     match network.read(id, buffer) {
         Ok(None) => false,

@@ -2,10 +2,12 @@
 
 ghost use Rattle.std.specs.Prelude.{◌≡◌, ◌≢◌, ◌⊎◌, ℕ, Bool, Some, None, [], false};
 ghost use Rattle.definitions.specs.Values.{Text};
+ghost use Rattle.connections.specs.Connected.{connection_at, is_closed_at};
 ghost use Rattle.network.specs.Outboxes.{unsent_at, OthersStay};
 ghost use Rattle.network.specs.Readiness.{has_bytes, IsAmong, AllDue, OthersDue};
 ghost use Rattle.serving_many.specs.Rounds.{IsDueBut};
 ghost use Rattle.serving_many.specs.Going.{Keeps, state_of};
+ghost use Rattle.serving_many.specs.Needed.{AllNeeded, AllNeededBut};
 
 use crate::answering::receive;
 use crate::ending::cut_off;
@@ -53,6 +55,8 @@ fn open<H: Handler, N: Network, O: Observer>(
         → unsent_at outbox.new id ≡ Some bytes → N.due network.new (has_bytes bytes) id }
     ensures stay { OthersStay id outbox.old outbox.new }
     ensures due { OthersDue id (N.due network.old) (N.due network.new) }
+    ensures needed { AllNeededBut id (connection_at sessions.old) (unsent_at outbox.old)
+        → AllNeeded (connection_at sessions.new) (unsent_at outbox.new) }
 {
     match outbox.open(id) {
         Err(fault) => cut_off(sessions, outbox, network, observer, id, Some(fault)),
@@ -74,8 +78,8 @@ fn lateness(outbox: &Outbox, id: u64) -> Fault {
     }
 }
 
-// Goes on with a connection that has nothing to be sent: it is read, or parted with where it is closed, or read later
-// where memory is short. Whether something is to be sent then.
+// Goes on with a connection that has nothing to be sent and isn't closed: it is read, or read later where memory is short.
+// Whether something is to be sent then.
 fn go_on<H: Handler, N: Network, O: Observer>(
     sessions: &mut Sessions<H>,
     outbox: &mut Outbox,
@@ -84,7 +88,8 @@ fn go_on<H: Handler, N: Network, O: Observer>(
     id: u64,
     buffer: &mut [u8],
 ) -> bool
-    requires { unsent_at outbox.old id ≡ Some [] }
+    requires silent { unsent_at outbox.old id ≡ Some [] }
+    requires open { is_closed_at (connection_at sessions.old id) ≡ false }
     ensures kept { Keeps H.state H.finds H.answers
         (state_of sessions.old outbox.old (N.reads network.old) (N.writes network.old))
         (state_of sessions.new outbox.new (N.reads network.new) (N.writes network.new)) }
@@ -92,11 +97,9 @@ fn go_on<H: Handler, N: Network, O: Observer>(
         → N.due network.new (has_bytes bytes) id }
     ensures stay { OthersStay id outbox.old outbox.new }
     ensures due { OthersDue id (N.due network.old) (N.due network.new) }
+    ensures needed { AllNeededBut id (connection_at sessions.old) (unsent_at outbox.old)
+        → AllNeeded (connection_at sessions.new) (unsent_at outbox.new) }
 {
-    if sessions.is_closed(id) {
-        cut_off(sessions, outbox, network, observer, id, None);
-        return false;
-    }
     if !outbox.may_grow(id) {
         network.later(id);
         return false;
@@ -113,6 +116,7 @@ fn take_turn<H: Handler, N: Network, O: Observer>(
     id: u64,
     buffer: &mut [u8],
 ) -> bool
+    requires { AllNeeded (connection_at sessions.old) (unsent_at outbox.old) }
     ensures kept { Keeps H.state H.finds H.answers
         (state_of sessions.old outbox.old (N.reads network.old) (N.writes network.old))
         (state_of sessions.new outbox.new (N.reads network.new) (N.writes network.new)) }
@@ -120,6 +124,7 @@ fn take_turn<H: Handler, N: Network, O: Observer>(
         → N.due network.new (has_bytes bytes) id }
     ensures stay { OthersStay id outbox.old outbox.new }
     ensures due { OthersDue id (N.due network.old) (N.due network.new) }
+    ensures needed { AllNeeded (connection_at sessions.new) (unsent_at outbox.new) }
 {
     match outbox.unsent(id) {
         None => false,
@@ -144,6 +149,8 @@ fn wait_for<H: Handler, N: Network, O: Observer>(
     ensures waiting { (k : ℕ) → IsAmong k waiting.old.items → IsAmong k waiting.new.items }
     ensures stay { OthersStay id outbox.old outbox.new }
     ensures due { OthersDue id (N.due network.old) (N.due network.new) }
+    ensures needed { AllNeeded (connection_at sessions.old) (unsent_at outbox.old)
+        → AllNeeded (connection_at sessions.new) (unsent_at outbox.new) }
 {
     match waiting.push(id) {
         Ok(()) => {}
@@ -163,13 +170,15 @@ pub fn meet<H: Handler, N: Network, O: Observer>(
     round: &mut Round,
     occasion: Occasion,
 )
-    requires { (k : ℕ) (d : Bool) → occasion ≡ Occasion.Opens k → N.due network.old d k }
+    requires opens { (k : ℕ) (d : Bool) → occasion ≡ Occasion.Opens k → N.due network.old d k }
+    requires needed { AllNeeded (connection_at sessions.old) (unsent_at outbox.old) }
     ensures kept { Keeps H.state H.finds H.answers
         (state_of sessions.old outbox.old (N.reads network.old) (N.writes network.old))
         (state_of sessions.new outbox.new (N.reads network.new) (N.writes network.new)) }
     ensures due { IsDueBut occasion
         (unsent_at outbox.old) (N.due network.old) round.old.waiting.items
         → AllDue (unsent_at outbox.new) (N.due network.new) round.new.waiting.items }
+    ensures needed { AllNeeded (connection_at sessions.new) (unsent_at outbox.new) }
 {
     match occasion {
         Occasion::Over => {}

@@ -1,17 +1,47 @@
 //! Writing what is to be sent.
 
-ghost use Rattle.std.specs.Prelude.{◌≡◌, ◌≢◌, [], Some, Err, Bool, ℕ, OnOk, OnErr};
+ghost use Rattle.std.specs.Prelude.{◌≡◌, ◌≢◌, [], true, Some, None, OnOk, OnErr};
 ghost use Rattle.definitions.specs.Values.{Text};
-ghost use Rattle.connections.specs.Connected.{handler_of};
+ghost use Rattle.connections.specs.Connected.{handler_of, connection_at};
 ghost use Rattle.connections.specs.Found.{FindsOnly};
 ghost use Rattle.network.specs.Outboxes.{unsent_at, OthersStay};
 ghost use Rattle.network.specs.Readiness.{has_bytes, AllDue, OthersDue};
 ghost use Rattle.serving_many.specs.Going.{Keeps, state_of};
+ghost use Rattle.serving_many.specs.Needed.{AllNeeded, AllNeededBut};
 
-use crate::ending::cut_off;
+use crate::ending::{cut_off, part_or_await};
 use crate::observers::Observer;
 use connections::{Handler, Outage, Sessions};
 use network::{Fault, Network, Outbox};
+
+// Has a connection be told ready again: once it can be written where bytes are to be sent, and else once it can be read.
+// Where all is sent and it is at its end, it is parted with.
+fn await_turn<H: Handler, N: Network, O: Observer>(
+    sessions: &mut Sessions<H>,
+    outbox: &mut Outbox,
+    network: &mut N,
+    observer: &mut O,
+    id: u64,
+)
+    requires { unsent_at outbox.old id ≢ None }
+    ensures kept { Keeps H.state H.finds H.answers
+        (state_of sessions.old outbox.old (N.reads network.old) (N.writes network.old))
+        (state_of sessions.new outbox.new (N.reads network.new) (N.writes network.new)) }
+    ensures handler { handler_of sessions.new ≡ handler_of sessions.old }
+    ensures rest { (bytes : Text) → has_bytes bytes ≡ true
+        → unsent_at outbox.old id ≡ Some bytes → unsent_at outbox.new id ≡ Some bytes }
+    ensures own { (bytes : Text) → unsent_at outbox.new id ≡ Some bytes
+        → N.due network.new (has_bytes bytes) id }
+    ensures stay { OthersStay id outbox.old outbox.new }
+    ensures due { OthersDue id (N.due network.old) (N.due network.new) }
+    ensures needed { AllNeededBut id (connection_at sessions.old) (unsent_at outbox.old)
+        → AllNeeded (connection_at sessions.new) (unsent_at outbox.new) }
+{
+    match outbox.unsent(id) {
+        Some([]) => part_or_await(sessions, outbox, network, observer, id),
+        _ => network.again(id),
+    }
+}
 
 // Writes some of what is to be sent on a connection, which is durable. One whose write fails is ended.
 fn send<H: Handler, N: Network, O: Observer>(
@@ -30,12 +60,14 @@ fn send<H: Handler, N: Network, O: Observer>(
         → N.due network.new (has_bytes bytes) id }
     ensures stay { OthersStay id outbox.old outbox.new }
     ensures due { OthersDue id (N.due network.old) (N.due network.new) }
+    ensures needed { AllNeeded (connection_at sessions.old) (unsent_at outbox.old)
+        → AllNeeded (connection_at sessions.new) (unsent_at outbox.new) }
 {
     let Some(bytes) = outbox.unsent(id) else {
         return;
     };
     if bytes.is_empty() {
-        network.again(id);
+        part_or_await(sessions, outbox, network, observer, id);
         return;
     }
     let failed = Some(Fault::WriteFailed);
@@ -49,7 +81,7 @@ fn send<H: Handler, N: Network, O: Observer>(
         }
         Ok(Some(count)) => {
             outbox.advance(id, count);
-            network.again(id);
+            await_turn(sessions, outbox, network, observer, id);
         }
     }
 }
@@ -69,6 +101,8 @@ fn send_all<H: Handler, N: Network, O: Observer>(
     ensures handler { handler_of sessions.new ≡ handler_of sessions.old }
     ensures due { AllDue (unsent_at outbox.old) (N.due network.old) ids.now
         → AllDue (unsent_at outbox.new) (N.due network.new) [] }
+    ensures needed { AllNeeded (connection_at sessions.old) (unsent_at outbox.old)
+        → AllNeeded (connection_at sessions.new) (unsent_at outbox.new) }
 {
     for id in ids {
         send(sessions, outbox, network, observer, *id);
@@ -95,6 +129,8 @@ pub fn end_round<H: Handler, N: Network, O: Observer>(
     ensures durable { OnOk result
         (FindsOnly H.finds (handler_of sessions.new) (H.state (handler_of sessions.new))) }
     ensures keeps { OnErr result H.keeps }
+    ensures needed { AllNeeded (connection_at sessions.old) (unsent_at outbox.old)
+        → AllNeeded (connection_at sessions.new) (unsent_at outbox.new) }
 {
     match sessions.settle() {
         Err(unsettled) => Err(Outage::Unsettled(unsettled)),

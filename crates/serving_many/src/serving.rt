@@ -21,8 +21,8 @@ use std::alloc::Global;
 ///
 /// A connection is read in pieces of at most 4,096 bytes, each of which is answered as it comes, and its replies are
 /// written at the end of the round, once all that was answered in it is durable. It isn't read while bytes are to be sent
-/// on it, nor while all others together keep more than `most_memory`. It is parted with once all is sent behind a last
-/// request or the closing fault, or, at the end of its stream, behind what is told at last. It alone is ended, and what is
+/// on it, nor while all others together keep more than `most_memory`. It is parted with as soon as all is sent behind
+/// a last request or the closing fault, or, at the end of its stream, behind what is told at last. It alone is ended, and what is
 /// still to be sent on it dropped, where one of its reads or writes fails, where a write takes nothing, where it takes too
 /// long, and where memory lacks.
 pub fn serve_all<H: Handler, N: Network, O: Observer>(

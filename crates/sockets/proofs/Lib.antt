@@ -1,2 +1,3 @@
 pub mod Queues
 mod Settled
+mod Taken

@@ -42,7 +42,7 @@ not_queued (Some s) e = by s.is_queued e
     by true e = cc
     by false e = refl
 
-same_is : (j k : ℕ) → same j k ≡ true → j ≡ k
+pub same_is : (j k : ℕ) → same j k ≡ true → j ≡ k
 same_is j k e = grind (arith, common_steps)
 
 -- each number of a queue, and one more, is that of a socket
@@ -73,7 +73,7 @@ told_then : (o : Option Socket) → is_queued (option_map as_told o) ≡ false
 told_then None = refl
 told_then (Some s) = refl
 
-apart_from_same : (j k : ℕ) → same j k ≡ false → j ≢ k
+pub apart_from_same : (j k : ℕ) → same j k ≡ false → j ≢ k
 apart_from_same j k e = grind (arith, common_steps)
 
 or_true : (b : Bool) → (b || true) ≡ true

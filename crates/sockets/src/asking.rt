@@ -3,9 +3,10 @@
 ghost use Rattle.std.specs.Prelude.{◌≡◌};
 ghost use Rattle.sockets.specs.Table.{StaysDue, StaysOpen};
 
-use crate::sockets::{INPUT, LISTENER, Sockets, TICK};
+use crate::sockets::{INPUT, LISTENER, QUIET, Sockets, TICK};
 use crate::table::Table;
 use mio::Events;
+use mio::event::Event;
 use std::io;
 use std::time::{Clock, Duration, Instant};
 
@@ -16,6 +17,11 @@ struct News {
     is_asked: bool,
     /// Standard input has ended.
     is_ended: bool,
+}
+
+/// Whether the system told of an end, of a failure or of urgent data, each of which ends a read early.
+fn interrupts(event: &Event) -> bool {
+    event.is_read_closed() || event.is_error() || event.is_priority()
 }
 
 /// Has each connection of which the system told something be told ready.
@@ -35,7 +41,7 @@ fn hear(events: &Events, table: &mut Table) -> News
         } else if number == INPUT {
             news.is_ended = event.is_read_closed();
         } else {
-            table.call(number);
+            table.wake(number, interrupts(event));
         }
     }
     news
@@ -44,9 +50,21 @@ fn hear(events: &Events, table: &mut Table) -> News
 impl<C: Clock> Sockets<'_, C> {
     ghost use Rattle.sockets.specs.Sockets.{MovesNothing};
 
+    /// Whether a client may be accepted next.
+    fn may_come(&self) -> bool {
+        self.may_accept && !self.ends()
+    }
+
+    /// Whether some connections rest, and nobody else is ready.
+    fn is_all_at_rest(&self) -> bool {
+        self.resting > 0 && self.table.queue_len() == self.resting && !self.may_come()
+    }
+
     /// How long the system may let it wait.
     fn patience(&self) -> Duration {
-        if self.table.queue_len() > 0 || self.may_accept && !self.ends() {
+        if self.is_all_at_rest() {
+            Duration::from_millis(QUIET)
+        } else if self.table.queue_len() > 0 || self.may_come() {
             Duration::from_millis(0)
         } else {
             Duration::from_millis(TICK)
@@ -61,6 +79,7 @@ impl<C: Clock> Sockets<'_, C> {
         ensures count { self.new.table.count ≡ self.old.table.count }
     {
         let patience = self.patience();
+        let was_at_rest = self.is_all_at_rest();
         self.poll.poll(&mut self.events, Some(patience))?;
         self.now = Instant::now(self.clock)?;
         let news = hear(&self.events, &mut self.table);
@@ -69,6 +88,8 @@ impl<C: Clock> Sockets<'_, C> {
             self.listener = None;
         }
         self.left = self.table.queue_len();
+        self.is_quiet = was_at_rest && self.left == self.resting;
+        self.resting = 0;
         Ok(())
     }
 }

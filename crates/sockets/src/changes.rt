@@ -1,16 +1,52 @@
 //! What happens to the sockets of a table.
 
-ghost use Rattle.std.specs.Prelude.{◌≡◌, ℕ, Bool, true, false};
+ghost use Rattle.std.specs.Prelude.{◌≡◌, ◌≢◌, ℕ, Bool, true, false, IfSome};
 ghost use Rattle.sockets.specs.Socket.{is_queued, is_open};
 ghost use Rattle.sockets.specs.Table.{socket_at, OthersStay, IsDue, StaysDue, StaysOpen};
 
+use crate::rest::Rest;
 use crate::status::Status;
+use crate::supply::Supply;
 use crate::table::Table;
 use std::time::Instant;
 
 impl Table {
-    /// A connection was read or written: it may wait until then.
-    pub(crate) fn rest(&mut self, id: u64, until: Option<Instant>)
+    /// Some was read of a connection, which may be idle until then; with `is_short` fewer bytes than there was room for. It is
+    /// amid a request, unless a write follows.
+    pub(crate) fn was_read(&mut self, id: u64, until: Option<Instant>, is_short: bool)
+        ensures due { StaysDue self.old self.new }
+        ensures opened { StaysOpen self.old self.new }
+        ensures count { self.new.count ≡ self.old.count }
+    {
+        if let Some(status) = self.status(id) {
+            let read = Status {
+                idle: until,
+                supply: status.supply.read(is_short),
+                is_amid: true,
+                ..status
+            };
+            self.set(id, read);
+        }
+    }
+
+    /// Some was written on a connection, which may be idle until then. It isn't amid a request.
+    pub(crate) fn was_written(&mut self, id: u64, until: Option<Instant>)
+        ensures due { StaysDue self.old self.new }
+        ensures opened { StaysOpen self.old self.new }
+        ensures count { self.new.count ≡ self.old.count }
+    {
+        if let Some(status) = self.status(id) {
+            let written = Status {
+                idle: until,
+                is_amid: false,
+                ..status
+            };
+            self.set(id, written);
+        }
+    }
+
+    /// A connection may be idle until then.
+    pub(crate) fn renew(&mut self, id: u64, until: Option<Instant>)
         ensures due { StaysDue self.old self.new }
         ensures opened { StaysOpen self.old self.new }
         ensures count { self.new.count ≡ self.old.count }
@@ -23,6 +59,17 @@ impl Table {
                     ..status
                 },
             );
+        }
+    }
+
+    /// A connection rests so from now on, if it does.
+    pub(crate) fn set_rest(&mut self, id: u64, rest: Option<Rest>)
+        ensures due { StaysDue self.old self.new }
+        ensures opened { StaysOpen self.old self.new }
+        ensures count { self.new.count ≡ self.old.count }
+    {
+        if let Some(status) = self.status(id) {
+            self.set(id, Status { rest, ..status });
         }
     }
 
@@ -52,6 +99,7 @@ impl Table {
         if let Some(status) = self.status(id) {
             let waits = Status {
                 waits_to_write: true,
+                is_amid: false,
                 ..status
             };
             self.set(id, waits);
@@ -82,6 +130,44 @@ impl Table {
         ensures count { self.new.count ≡ self.old.count }
     {
         self.queue(id);
+    }
+
+    /// The system told something of a connection, and with `interrupts` what ends a read early: it is to be told ready, after
+    /// those that are.
+    pub(crate) fn wake(&mut self, id: u64, interrupts: bool)
+        ensures own { (d : Bool) → IsDue self.new d id }
+        ensures undrained { IfSome (socket_at self.new id)
+            (λ s. s.status.supply ≢ Supply.Drained) }
+        ensures due { StaysDue self.old self.new }
+        ensures opened { StaysOpen self.old self.new }
+        ensures count { self.new.count ≡ self.old.count }
+    {
+        if let Some(status) = self.status(id) {
+            let woken = Status {
+                supply: status.supply.told(interrupts),
+                ..status
+            };
+            self.set(id, woken);
+        }
+        self.queue(id);
+    }
+
+    /// A connection is to be told ready once it can be read: after those that are, unless all that had come was read.
+    pub(crate) fn await_more(&mut self, id: u64)
+        ensures own { IsDue self.new false id }
+        ensures next { IfSome (socket_at self.old id) (λ s. s.status.supply ≢ Supply.Drained
+            → is_queued (socket_at self.new id) ≡ true) }
+        ensures due { StaysDue self.old self.new }
+        ensures opened { StaysOpen self.old self.new }
+        ensures count { self.new.count ≡ self.old.count }
+    {
+        if let Some(status) = self.status(id) {
+            if status.supply.is_drained() {
+                self.wait_to_read(id);
+            } else {
+                self.queue(id);
+            }
+        }
     }
 
     /// A connection is over: for so many reads and until then what still comes is let go.

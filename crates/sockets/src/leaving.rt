@@ -12,7 +12,7 @@ use std::time::Clock;
 
 /// What comes from a client whose connection is over.
 #[derive(Clone, Copy)]
-enum Rest {
+enum Remainder {
     /// Some bytes.
     Comes,
     /// Nothing yet.
@@ -66,17 +66,17 @@ impl<C: Clock> Sockets<'_, C> {
     }
 
     /// Reads some of what still comes from a client whose connection is over.
-    fn rest_of(&self, id: u64) -> Rest {
+    fn remainder(&self, id: u64) -> Remainder {
         let Some(stream) = self.table.stream(id) else {
-            return Rest::Ends;
+            return Remainder::Ends;
         };
         let mut stream = stream;
         let mut room = [0; 4096];
         match stream.read(&mut room) {
-            Ok(0) => Rest::Ends,
-            Ok(_) => Rest::Comes,
-            Err(error) if error.kind() == ErrorKind::WouldBlock => Rest::Waits,
-            Err(_) => Rest::Ends,
+            Ok(0) => Remainder::Ends,
+            Ok(_) => Remainder::Comes,
+            Err(error) if error.kind() == ErrorKind::WouldBlock => Remainder::Waits,
+            Err(_) => Remainder::Ends,
         }
     }
 
@@ -96,10 +96,10 @@ impl<C: Clock> Sockets<'_, C> {
             self.release(id);
             return;
         }
-        match self.rest_of(id) {
-            Rest::Ends => self.release(id),
-            Rest::Waits => {}
-            Rest::Comes => self.table.part(id, status.whole, status.reads_left - 1),
+        match self.remainder(id) {
+            Remainder::Ends => self.release(id),
+            Remainder::Waits => {}
+            Remainder::Comes => self.table.part(id, status.whole, status.reads_left - 1),
         }
     }
 }

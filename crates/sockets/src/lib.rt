@@ -12,11 +12,14 @@ mod limits;
 mod moving;
 mod newcomers;
 mod parting;
+mod rest;
 mod socket;
 mod sockets;
 mod status;
+mod supply;
 mod table;
 mod telling;
+mod turns;
 
 pub use accepting::{bind, serve_connections};
 pub use descriptors::most_connections;

@@ -1,11 +1,14 @@
 //! Bytes that are read and written on many connections.
 
-ghost use Rattle.std.specs.Prelude.{◌≡◌, ◌++◌, ◌∷◌, [], false, None, IfSome};
+ghost use Rattle.std.specs.Prelude.{◌≡◌, ◌≢◌, ◌++◌, ◌∷◌, [], true, false, None, IfSome};
 ghost use Rattle.std.specs.Io.{ReadsAtMost, WritesAtMost};
+ghost use Rattle.network.specs.Readiness.{OthersDue};
 ghost use Rattle.network.specs.Transcripts.{moves_of};
-ghost use Rattle.sockets.specs.Table.{IsDue, StaysDue, StaysOpen};
+ghost use Rattle.sockets.specs.Socket.{is_queued};
+ghost use Rattle.sockets.specs.Table.{socket_at, IsDue, StaysDue, StaysOpen};
 
 use crate::sockets::Sockets;
+use crate::supply::Supply;
 use network::{Broken, Network, Occasion, Outbox};
 use std::io::{self, ErrorKind, Read, Write};
 use std::time::Clock;
@@ -79,7 +82,7 @@ impl<C: Clock> Network for Sockets<'_, C> {
         match self.read_some(id, buffer) {
             Ok(count) => {
                 let until = self.idle_until();
-                self.table.rest(id, until);
+                self.table.was_read(id, until, count < buffer.len());
                 self.reads = self.reads.moved(id, &buffer[..count]);
                 Ok(Some(count))
             }
@@ -93,7 +96,7 @@ impl<C: Clock> Network for Sockets<'_, C> {
             Ok(0) => Err(Broken),
             Ok(count) => {
                 let until = self.idle_until();
-                self.table.rest(id, until);
+                self.table.was_written(id, until);
                 self.writes = self.writes.moved(id, &bytes[..count]);
                 Ok(Some(count))
             }
@@ -107,6 +110,19 @@ impl<C: Clock> Network for Sockets<'_, C> {
 
     fn again(&mut self, id: u64) {
         self.table.call(id);
+    }
+
+    fn await_more(&mut self, id: u64)
+        ensures reads { moves_of self.new.reads ≡ moves_of self.old.reads }
+        ensures writes { moves_of self.new.writes ≡ moves_of self.old.writes }
+        ensures due { IsDue self.new.table false id }
+        ensures others { OthersDue id
+            (λ d k. IsDue self.old.table d k) (λ d k. IsDue self.new.table d k) }
+        ensures next { IfSome (socket_at self.old.table id)
+            (λ s. s.status.supply ≢ Supply.Drained
+            → is_queued (socket_at self.new.table id) ≡ true) }
+    {
+        self.table.await_more(id);
     }
 
     fn later(&mut self, id: u64) {

@@ -30,10 +30,10 @@ impl<C: Clock> Sockets<'_, C> {
         };
         let _ = stream.set_nodelay(true);
         let id = self.table.count();
-        let both = Interest::READABLE | Interest::WRITABLE;
+        let all = Interest::READABLE | Interest::WRITABLE | Interest::PRIORITY;
         self.poll
             .registry()
-            .register(&mut stream, Token(id as usize), both)?;
+            .register(&mut stream, Token(id as usize), all)?;
         let status = Status::new(self.idle_until(), self.now.checked_add(self.limits.whole));
         self.table.add(stream, status)?;
         Ok(id)

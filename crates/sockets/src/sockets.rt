@@ -1,7 +1,10 @@
 //! Many connections on sockets, none of which waits.
 
+ghost use Rattle.std.specs.Prelude.{◌≡◌, [], IfOk};
+
 use crate::limits::Limits;
 use crate::table::Table;
+use crate::turns::Turn;
 use mio::net::TcpListener;
 use mio::unix::SourceFd;
 use mio::{Events, Interest, Poll, Token};
@@ -18,6 +21,9 @@ pub(crate) const INPUT: u64 = u64::MAX - 1;
 
 /// How often all connections are looked at, in milliseconds.
 pub(crate) const TICK: u64 = 500;
+
+/// How long nobody else is ready when those that rest are told ready all the same, in milliseconds.
+pub(crate) const QUIET: u64 = 1;
 
 /// How many events the system tells at once.
 const MOST_EVENTS: usize = 1024;
@@ -36,6 +42,13 @@ pub struct Sockets<'r, C> {
     pub(crate) table: Table,
     /// How many of the queue are told before the system is asked again.
     pub(crate) left: usize,
+    /// How many of the queue rest, of those that were looked at since the system was asked.
+    pub(crate) resting: usize,
+    /// While some rested, nobody else was ready for as long as the system was asked to wait for.
+    pub(crate) is_quiet: bool,
+    /// How often a connection took a turn behind another's.
+    pub(crate) changes: u64,
+    pub(crate) turn: Turn,
     pub(crate) now: Instant,
     /// When all connections are looked at again, and from which number on.
     pub(crate) look: Option<Instant>,
@@ -49,6 +62,8 @@ pub struct Sockets<'r, C> {
 }
 
 impl<'r, C: Clock + Net> Sockets<'r, C> {
+    ghost use Rattle.sockets.specs.Sockets.{reads_of, writes_of};
+
     /// Listens at an IP address and a port, as `127.0.0.1:8080` or `[::1]:0`; at port 0 the system chooses one. Any other
     /// text is an error, also a name. So many connections at most are open at once.
     pub fn bind(
@@ -57,7 +72,10 @@ impl<'r, C: Clock + Net> Sockets<'r, C> {
         address: &str,
         connections: usize,
         limits: Limits,
-    ) -> io::Result<Sockets<'r, C>> {
+    ) -> io::Result<Sockets<'r, C>>
+        ensures reads { IfOk result (λ sockets. reads_of sockets ≡ []) }
+        ensures writes { IfOk result (λ sockets. writes_of sockets ≡ []) }
+    {
         let Ok(address) = address.parse::<SocketAddr>() else {
             return Err(io::Error::from(ErrorKind::InvalidInput));
         };
@@ -78,6 +96,13 @@ impl<'r, C: Clock + Net> Sockets<'r, C> {
             events: Events::with_capacity(alloc, MOST_EVENTS)?,
             table: Table::new(alloc),
             left: 0,
+            resting: 0,
+            is_quiet: false,
+            changes: 0,
+            turn: Turn {
+                id: LISTENER,
+                start: None,
+            },
             now,
             look: now.checked_add(Duration::from_millis(TICK)),
             look_from: 0,

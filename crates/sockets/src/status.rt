@@ -2,6 +2,8 @@
 
 ghost use Rattle.std.specs.Prelude.{◌≡◌, true, false};
 
+use crate::rest::Rest;
+use crate::supply::Supply;
 use std::time::Instant;
 
 /// What is known of a connection.
@@ -11,7 +13,13 @@ pub struct Status {
     pub idle: Option<Instant>,
     /// When it has taken too long as a whole.
     pub whole: Option<Instant>,
-    /// Its last read would have waited, and it wasn't told ready since.
+    pub supply: Supply,
+    /// It is amid a request: it was read, and no write was tried since.
+    pub is_amid: bool,
+    /// Its rest behind a turn that took long.
+    pub rest: Option<Rest>,
+    /// It has to be read again only once something comes: its last read would have waited, or took all that had come. It
+    /// wasn't told ready since.
     pub waits_to_read: bool,
     /// Its last write would have waited, and it wasn't told ready since.
     pub waits_to_write: bool,
@@ -31,6 +39,9 @@ impl Status {
         Status {
             idle,
             whole,
+            supply: Supply::Unknown,
+            is_amid: false,
+            rest: None,
             waits_to_read: false,
             waits_to_write: false,
             is_put_off: false,
@@ -46,6 +57,9 @@ impl Status {
         Status {
             idle: until,
             whole: until,
+            supply: Supply::Unknown,
+            is_amid: false,
+            rest: None,
             waits_to_read: false,
             waits_to_write: false,
             is_put_off: false,

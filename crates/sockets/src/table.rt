@@ -8,6 +8,7 @@ ghost use Rattle.std.specs.VecDeque.{deque_capacity};
 ghost use Rattle.std.proofs.Props.{props};
 ghost use Rattle.sockets.specs.Socket.{is_queued, is_open, is_unqueued, with_status, as_queued, as_told};
 
+use crate::rest::Rest;
 use crate::socket::Socket;
 use crate::status::Status;
 use mio::net::TcpStream;
@@ -90,6 +91,22 @@ impl Table {
         match self.sockets.get(&id) {
             Some(socket) => socket.is_queued,
             None => false,
+        }
+    }
+
+    /// Whether a connection is amid a request.
+    pub(crate) fn is_amid(&self, id: u64) -> bool {
+        match self.sockets.get(&id) {
+            Some(socket) => socket.status.is_amid,
+            None => false,
+        }
+    }
+
+    /// The rest of a connection that is amid a request.
+    pub(crate) fn rest(&self, id: u64) -> Option<Rest> {
+        match self.sockets.get(&id) {
+            Some(socket) if socket.status.is_amid => socket.status.rest,
+            _ => None,
         }
     }
 

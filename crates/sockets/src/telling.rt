@@ -1,7 +1,8 @@
 //! What happens on many connections, one after the other.
 
-ghost use Rattle.std.specs.Prelude.{◌≡◌, ◌≢◌, ℕ, Bool, Some};
-ghost use Rattle.sockets.specs.Table.{IsOpen, IsDue, StaysDue, StaysDueBut, StaysOpen};
+ghost use Rattle.std.specs.Prelude.{◌≡◌, ◌≢◌, ℕ, Bool, false, Some};
+ghost use Rattle.sockets.specs.Socket.{is_queued};
+ghost use Rattle.sockets.specs.Table.{socket_at, IsOpen, IsDue, StaysDue, StaysDueBut, StaysOpen};
 
 use crate::sockets::{Sockets, TICK};
 use network::Occasion;
@@ -23,10 +24,12 @@ impl<C: Clock> Sockets<'_, C> {
         ensures number { (k : ℕ) → result ≡ Some (Occasion.Opens k) → k ≡ self.old.table.count }
         ensures count { self.new.table.count ≡ count_after result self.old.table.count }
     {
+        self.end_turn();
         if let Some(id) = self.newcomer() {
             return Some(Occasion::Opens(id));
         }
         if let Some(id) = self.ready() {
+            self.begin_turn(id);
             return Some(Occasion::Ready(id));
         }
         if let Some(id) = self.late() {
@@ -36,6 +39,27 @@ impl<C: Clock> Sockets<'_, C> {
             return Some(Occasion::Over);
         }
         None
+    }
+
+    /// Whether a connection that was taken out of the queue takes a turn now. Else it rests on; or it is over, and some of
+    /// what still comes is let go.
+    fn takes_turn(&mut self, id: u64) -> bool
+        requires { is_queued (socket_at self.old.table id) ≡ false }
+        ensures moves { MovesNothing self.old self.new }
+        ensures own { result ≡ false → (d : Bool) → IsDue self.new.table d id }
+        ensures due { StaysDue self.old.table self.new.table }
+        ensures opened { StaysOpen self.old.table self.new.table }
+        ensures count { self.new.table.count ≡ self.old.table.count }
+    {
+        if !self.table.is_open(id) {
+            self.drain(id);
+            return false;
+        }
+        if self.is_resting(id) {
+            self.put_back(id);
+            return false;
+        }
+        true
     }
 
     /// The next of the queue that is to be told ready.
@@ -50,10 +74,9 @@ impl<C: Clock> Sockets<'_, C> {
             match self.table.pop() {
                 None => return None,
                 Some(id) => {
-                    if self.table.is_open(id) {
+                    if self.takes_turn(id) {
                         return Some(id);
                     }
-                    self.drain(id);
                 }
             }
         }

@@ -3,9 +3,10 @@ use Rattle.serving_many.proofs.Turns.{told_at_last, words_at_last, nothing_at_la
 use Rattle.serving_many.proofs.answering.answer_end.Goals as goal
 
 pub returns-in-Ok-clause-kept : goal.returns-in-Ok-clause-kept
-returns-in-Ok-clause-kept g c =
-    told_at_last g.H.Handler.state g.H.Handler.finds g.H.Handler.answers c.args.id _ _ c.hand_out.ensures.count c.in-Ok.ensures.others c.hand_out.ensures.stay (Ok c.in-Ok.words) c.in-Ok.ensures.ended c.in-Ok.ensures.handler c.hand_out.ensures.reads c.hand_out.ensures.writes c.requires.silent
-    (c.hand_out.ensures.some ∙ ap (λ t. Some t) (words_at_last _ c.in-Ok.words _ c.in-Ok.ensures.ended))
+returns-in-Ok-clause-kept g c s reads writes x =
+    c.has_reply.ensures.kept s reads writes
+    (told_at_last g.H.Handler.state g.H.Handler.finds g.H.Handler.answers c.args.id _ _ c.fill.ensures.count c.in-Ok.ensures.others c.fill.ensures.others (Ok c.in-Ok.words) c.in-Ok.ensures.ended c.in-Ok.ensures.handler refl refl c.requires.silent
+    (c.fill.ensures.some ∙ ap (λ t. Some t) (words_at_last _ c.in-Ok.words _ c.in-Ok.ensures.ended)) s reads writes x)
 
 pub returns-in-Err-clause-kept : goal.returns-in-Err-clause-kept
 returns-in-Err-clause-kept g c s reads writes x =

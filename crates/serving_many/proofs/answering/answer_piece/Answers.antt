@@ -3,9 +3,10 @@ use Rattle.serving_many.proofs.Turns.{fed_one}
 use Rattle.serving_many.proofs.answering.answer_piece.Goals as goal
 
 pub returns-in-Ok-clause-kept : goal.returns-in-Ok-clause-kept
-returns-in-Ok-clause-kept g c before e =
-    fed_one g.H.Handler.state g.H.Handler.finds g.H.Handler.answers c.args.id _ _ (c.hand_out.ensures.count ∙ c.lend-out.ensures.count) c.in-Ok.ensures.others (λ k ne. c.hand_out.ensures.stay k ne ∙ c.lend-out.ensures.same k) c.args.piece.now _ (Ok tt) c.in-Ok.ensures.fed c.requires.«open» (c.hand_out.ensures.reads ∙ e) c.hand_out.ensures.writes c.requires.silent
-    (c.hand_out.ensures.some ∙ ap (λ v. Some v.items) c.into_bytes.ensures.value) c.in-Ok.ensures.found
+returns-in-Ok-clause-kept g c before e s reads writes x =
+    c.has_reply.ensures.kept s reads writes
+    (fed_one g.H.Handler.state g.H.Handler.finds g.H.Handler.answers c.args.id _ _ (c.fill.ensures.count ∙ c.lend-out.ensures.count) c.in-Ok.ensures.others (λ k ne. c.fill.ensures.others k ne ∙ c.lend-out.ensures.same k) c.args.piece.now _ (Ok tt) c.in-Ok.ensures.fed c.requires.«open» e refl c.requires.silent
+    (c.fill.ensures.some ∙ ap (λ v. Some v.items) c.into_bytes.ensures.value) c.in-Ok.ensures.found s reads writes x)
 
 pub returns-in-Err-clause-kept : goal.returns-in-Err-clause-kept
 returns-in-Err-clause-kept g c before e s reads writes x =

@@ -1,4 +1,5 @@
 use Rattle.serving_many.proofs.Changes.{gone_at_end}
+use Rattle.serving_many.proofs.Needed.{needed_here, needed_elsewhere, gone}
 use Rattle.serving_many.proofs.Turns.{ended}
 use Rattle.serving_many.proofs.ending.cut_off.Goals as goal
 
@@ -15,3 +16,11 @@ returns-then-was_open-clause-gone g c = gone_at_end _ _ _ c.end.ensures.ended
 
 pub returns-clause-gone : goal.returns-clause-gone
 returns-clause-gone g c = gone_at_end _ _ _ c.end.ensures.ended
+
+pub returns-then-was_open-clause-needed : goal.returns-then-was_open-clause-needed
+returns-then-was_open-clause-needed g c x =
+    needed_here _ _ c.args.id (gone _ _ (gone_at_end _ _ _ c.end.ensures.ended) c.end-was_open.ensures.none) (needed_elsewhere _ _ _ _ c.args.id c.end.ensures.others c.end-was_open.ensures.others x)
+
+pub returns-clause-needed : goal.returns-clause-needed
+returns-clause-needed g c x =
+    needed_here _ _ c.args.id (gone _ _ (gone_at_end _ _ _ c.end.ensures.ended) c.end-was_open.ensures.none) (needed_elsewhere _ _ _ _ c.args.id c.end.ensures.others c.end-was_open.ensures.others x)

@@ -1,12 +1,17 @@
-use Rattle.std.proofs.Common.{refl, sym, ◌∙◌}
+use Rattle.std.proofs.Common.{refl, sym}
+use Rattle.serving_many.proofs.Among.{no_some}
 use Rattle.serving_many.proofs.Turns.{wrote_some, wrote_nothing}
 use Rattle.serving_many.proofs.sending.send.Goals as goal
 
+pub await_turn-requires : goal.await_turn-requires
+await_turn-requires g c = no_some _ _ (c.advance.ensures.some _ (sym c.in-Some.ensures))
+
 pub returns-in-Ok-Some-clause-kept : goal.returns-in-Ok-Some-clause-kept
-returns-in-Ok-Some-clause-kept g c =
+returns-in-Ok-Some-clause-kept g c s reads writes x =
     let was = sym c.in-Some.ensures in
-    wrote_some g.H.Handler.state g.H.Handler.finds g.H.Handler.answers c.args.id _ _ c.advance.ensures.count (λ k ne. refl) c.advance.ensures.others _ c.in-Ok-Some.count refl refl
-    (c.again-in-Ok-Some.ensures.reads ∙ c.write.ensures.reads) (c.again-in-Ok-Some.ensures.writes ∙ (rw c.in-Ok-Some.field-0-is at c.in-Ok-Some.ensures.told)) was (c.advance.ensures.some _ was) c.requires
+    c.await_turn.ensures.kept s reads writes
+    (wrote_some g.H.Handler.state g.H.Handler.finds g.H.Handler.answers c.args.id _ _ c.advance.ensures.count (λ k ne. refl) c.advance.ensures.others _ c.in-Ok-Some.count refl refl
+    c.write.ensures.reads (rw c.in-Ok-Some.field-0-is at c.in-Ok-Some.ensures.told) was (c.advance.ensures.some _ was) c.requires s reads writes x)
 
 pub returns-in-Ok-Some-eq0-clause-kept : goal.returns-in-Ok-Some-eq0-clause-kept
 returns-in-Ok-Some-eq0-clause-kept g c s reads writes x =

@@ -5,6 +5,7 @@ use Rattle.network.specs.declared.networks.Occasion.TheVariants.{Ready}
 use Rattle.connections.specs.Connected.{handler_of}
 use Rattle.serving_many.specs.Going.{Goes, state_of}
 use Rattle.serving_many.proofs.Among.{same_occasion, no_some}
+use Rattle.serving_many.proofs.Needed.{gone}
 use Rattle.serving_many.proofs.Turns.{at_start, is_served, goes_on}
 use Rattle.serving_many.proofs.serving.serve_all.Goals as goal
 use Rattle.serving_many.proofs.serving.serve_all.Goals.{in-Some, in-None+in-Ok+in-Ok-wait, else-loop-test, then-loop-test+in-Some-Over}
@@ -13,12 +14,13 @@ pub loop-init : goal.loop-init
 loop-init g c = record {
   goes = at_start _ _ _ _ _ _ _ refl refl refl c.requires c.new-outbox.ensures.none;
   due = λ k p e. absurd (no_some p (unsent_at c.new-outbox.result k) e (c.new-outbox.ensures.none k));
+  needed = λ k. gone _ _ (c.requires k) (c.new-outbox.ensures.none k);
 }
 
 pub returns-in-Err-clause-served : goal.returns-in-Err-clause-served
 returns-in-Err-clause-served g c =
     is_served g.H.Handler.state g.H.Handler.finds g.H.Handler.answers _ _ c.end_round.new.outbox _ _ _ _ (c.end_round.ensures.kept _ _ _
-    (goes_on g.H.Handler.state g.H.Handler.finds g.H.Handler.answers _ _ _ c.loop.sessions c.loop.outbox _ _ _ _ c.next.ensures.reads c.next.ensures.writes c.loop.invariant.goes))
+    (goes_on g.H.Handler.state g.H.Handler.finds g.H.Handler.answers _ _ _ c.loop.sessions c.loop.outbox _ _ _ _ c.next.ensures.reads c.next.ensures.writes c.loop.invariant.goes)) (c.end_round.ensures.needed c.loop.invariant.needed)
 
 pub wait-requires : goal.wait-requires
 wait-requires g c k p e =
@@ -28,7 +30,7 @@ pub returns-in-Err-wait-clause-served : goal.returns-in-Err-wait-clause-served
 returns-in-Err-wait-clause-served g c =
     is_served g.H.Handler.state g.H.Handler.finds g.H.Handler.answers _ _ c.end_round.new.outbox _ _ _ _
     (goes_on g.H.Handler.state g.H.Handler.finds g.H.Handler.answers _ _ _ c.end_round.new.sessions c.end_round.new.outbox _ _ _ _ c.in-Err-wait.ensures.reads c.in-Err-wait.ensures.writes (c.end_round.ensures.kept _ _ _
-    (goes_on g.H.Handler.state g.H.Handler.finds g.H.Handler.answers _ _ _ c.loop.sessions c.loop.outbox _ _ _ _ c.next.ensures.reads c.next.ensures.writes c.loop.invariant.goes)))
+    (goes_on g.H.Handler.state g.H.Handler.finds g.H.Handler.answers _ _ _ c.loop.sessions c.loop.outbox _ _ _ _ c.next.ensures.reads c.next.ensures.writes c.loop.invariant.goes))) (c.end_round.ensures.needed c.loop.invariant.needed)
 
 pub loop-preserved : goal.loop-preserved
 loop-preserved g c =
@@ -40,6 +42,7 @@ loop-preserved g c =
             due = w.meet.ensures.due (λ k p ne e.
                 ⊎_elim (λ d. inl (c.next.ensures.due k (has_bytes p) (λ is. ne (same_occasion c.next.result w.in-Some.occasion (Ready k) w.in-Some.is is)) d)) (λ m. inr m)
                 (c.loop.invariant.due k p e));
+            needed = w.meet.ensures.needed;
           })
       | in-None+in-Ok+in-Ok-wait w ↦
           let due = w.in-Ok.ensures.due (λ k p e.
@@ -47,6 +50,7 @@ loop-preserved g c =
           rw (w.sessions-is, w.outbox-is, w.network-is, w.round-is) (record {
             goes = goes_on g.H.Handler.state g.H.Handler.finds g.H.Handler.answers _ _ _ w.end_round.new.sessions w.end_round.new.outbox _ _ _ _ w.wait.ensures.reads w.wait.ensures.writes (w.end_round.ensures.kept _ _ _ goes);
             due = λ k p e. ⊎_elim (λ d. inl (w.wait.ensures.due k (has_bytes p) d)) (λ m. absurd m) (due k p e);
+            needed = w.end_round.ensures.needed c.loop.invariant.needed;
           })
     ]
 
@@ -59,4 +63,4 @@ returns-clause-served g c =
       | then-loop-test+in-Some-Over w ↦
           rw w.network-is (goes_on g.H.Handler.state g.H.Handler.finds g.H.Handler.answers _ _ _ c.loop.sessions c.loop.outbox _ _ _ _ w.next.ensures.reads w.next.ensures.writes c.loop.invariant.goes)
     ] in
-    is_served g.H.Handler.state g.H.Handler.finds g.H.Handler.answers _ _ c.end_round-2.new.outbox _ _ _ _ (c.end_round-2.ensures.kept _ _ _ goes)
+    is_served g.H.Handler.state g.H.Handler.finds g.H.Handler.answers _ _ c.end_round-2.new.outbox _ _ _ _ (c.end_round-2.ensures.kept _ _ _ goes) (c.end_round-2.ensures.needed c.loop.invariant.needed)

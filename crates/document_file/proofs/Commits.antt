@@ -13,5 +13,5 @@ pub committed_rows : (old new : View) {was is : Trees → Type 0} → (IsClean n
 committed_rows old new {was} {is} back crash rs ss held found = go (crash found.1.0 found.1.1)
   where
     go : ((old.is_broken ≡ false) × (found.1.0 ≡ old.trees)) ⊎ was found.1.0 → MayFind old was ss ⊎ (ss ≡ rs)
-    go (inl new) = inr (same_rows ss rs (sym found.1.2 ∙ ap (λ f. f 0) new.1 ∙ held (back found.0)))
+    go (inl new) = inr (same_rows ss rs (sym found.1.2 ∙ ap (λ f. f 0) new.1 ∙ held (back found.0) new.0))
     go (inr old) = inl (back found.0, (found.1.0, old, found.1.2))

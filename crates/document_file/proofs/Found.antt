@@ -1,8 +1,8 @@
 -- What an opening of files finds.
-use Rattle.std.proofs.Common.{ap, arith, eqb, false, if◌then◌else◌, inl, inr, refl, sym, true, true≢false, Bool, Err, IfOk, IsTrue, List, None, Ok, Option, Result, Some, [], ℕ, ◌∙◌, ◌≡◌, ◌⊎◌}
+use Rattle.std.proofs.Common.{ap, arith, eqb, false, if◌then◌else◌, inl, inr, refl, sym, true, true≢false, Bool, Err, IfErr, IfOk, IsTrue, List, None, Ok, Option, Result, Some, [], ℕ, ◌&&◌, ◌<◌, ◌∙◌, ◌≡◌, ◌≤◌, ◌⊎◌}
 use Rattle.std.proofs.Math.Logic.{∥∥₁_elim, ∥∥₁_map}
 use Rattle.sqlite_disk.specs.declared.Disk.{Ghosts}
-use Rattle.sqlite_wal.specs.Reads.{are_clean}
+use Rattle.sqlite_wal.specs.Reads.{are_clean, AreClean, OnlyReads}
 use Rattle.sqlite_wal.specs.Recovery.{Image, IsIgnored, Pages}
 use Rattle.sqlite_wal.specs.Format.{be32}
 use Rattle.sqlite_wal.specs.PageSize.{bytes_of, size_in_file, Names}
@@ -10,7 +10,10 @@ use Rattle.sqlite_wal.specs.declared.page_size.PageSize.{PageSize}
 use Rattle.std.proofs.lemmas.Bool.Decides.{nat_tests}
 use Rattle.std.proofs.lemmas.Map.Views.{exact_unsigned_eq}
 use Rattle.sqlite_pool.specs.Pool as pool
+use Rattle.sqlite_pool.specs.Opening.{IsBlankFile}
 use Rattle.sqlite_pool.specs.Stored.{Recovers}
+use Rattle.sqlite_pool.proofs.ProbeLemmas.{not_blank}
+use Rattle.sqlite_pool.proofs.ResealLemmas.{adopts_of}
 use Rattle.sqlite_trees.specs.View.{doubt, IsClean}
 use Rattle.sqlite_store.specs.declared.store.FileStore.{FileStore}
 use Rattle.sqlite_store.specs.declared.store.open.Unopened.{Unopened}
@@ -39,6 +42,26 @@ doubtless false h = absurd (true≢false (sym h))
 pub both_ok : {X E : Type 0} (r : Result X E) {P Q R : X → Type 0} → IfOk r P → IfOk r Q → ((x : X) → P x → Q x → R x) → IfOk r R
 both_ok (Ok x) p q f = f x p q
 both_ok (Err e) p q f = tt
+
+pub each_err : {X E : Type 0} (r : Result X E) {P Q : E → Type 0} → IfErr r P → ((e : E) → P e → Q e) → IfErr r Q
+each_err (Ok x) p f = tt
+each_err (Err e) p f = f e p
+
+read_clean : (old-log old-db new-log new-db : Bool) → (IsTrue new-log → IsTrue old-log) → (IsTrue new-db → IsTrue old-db) → IsTrue (new-log && new-db) → IsTrue (old-log && old-db)
+read_clean old-log old-db true true log db clean = rw (log refl, db refl) refl
+read_clean old-log old-db true false log db clean = absurd (true≢false (sym clean))
+read_clean old-log old-db false new-db log db clean = absurd (true≢false (sym clean))
+
+-- files that were only read are as clean as before at least
+pub clean_before : {D : Type 0} (g : Ghosts D) (log log-after db db-after : D) → OnlyReads g log log-after → OnlyReads g db db-after → AreClean g log-after db-after → AreClean g log db
+clean_before g log log-after db db-after read-log read-db clean =
+    read_clean (g.is_clean log) (g.is_clean db) (g.is_clean log-after) (g.is_clean db-after) read-log.clean read-db.clean clean
+
+-- files that a making was cut off in stand for no documents
+pub blank_stands : (size other : ℕ) (image : Image) → 512 ≤ size → 0 < other → IsBlankFile other image → (entries : List Entry) → ¬ StandFor size image entries
+blank_stands size other image large some blank entries stand =
+    ∥∥₁_elim stand.sound (λ x y. absurd x) (λ sound.
+    not_blank size image stand.pages (adopts_of size image stand.pages stand.found) (omega arith) sound.sound other some blank)
 
 -- pages that are a sound file of the schema, by the words of a store
 stands : (saved : Option Saved) (listed : List Wanted) (other size : ℕ) (found : Image) (pages : Pages) (honest : Bool) (entries : List Entry)

@@ -1,6 +1,7 @@
 mod Commits
 mod Found
 mod Puts
+mod Refusals
 mod Rows
 mod Seeks
 mod Turns

@@ -2,15 +2,16 @@
 use Rattle.std.proofs.Common.{if◌then◌else◌, sym, ap, ap₂, cond, false, is_eq, map, not, refl, true, Bool, Equal, Greater, Less, List, Ordering, [], ◌∙◌, ◌∷◌, ◌≡◌, ◌&&◌}
 use Rattle.std.specs.List.{AllByRecursion}
 use Rattle.std.specs.List.Sorted.{IsStrictlySortedBy}
-use Rattle.std.specs.Cmp.{IsTotalOrder}
+use Rattle.std.specs.Cmp.{tied_then}
 use Rattle.std.specs.Cmp.Derive.{then_next}
 use Rattle.std.specs.Cmp.Lexicographic.{slice_cmp}
 use Rattle.std.specs.Ordering.{match_ordering, nat_cmp, ordering_reverse, ordering_then}
 use Rattle.std.specs.Str.{bytes_eq}
-use Rattle.std.proofs.lemmas.Cmp.{nat_list_cmp_total, on_total, then_total}
+use Rattle.std.proofs.lemmas.Cmp.{nat_list_cmp_total}
 use Rattle.std.proofs.lemmas.Map.Text.{is_eq-slice_cmp}
 use Rattle.definitions.specs.Values.{Text}
 use Rattle.lemmas.proofs.Texts.{same_text_is}
+use Rattle.stored_rows.proofs.RowOrder.{row_order}
 use Rattle.stored_rows.specs.Rows.{is_row_at, row_cmp, with_row, without_row, Ascend, Row}
 use Rattle.sqlite_value.specs.declared.value.Value.{Value}
 use Rattle.sqlite_value.specs.declared.value.Value.TheVariants as value
@@ -24,11 +25,8 @@ use Rattle.document_file.specs.Entries.{base_value, entry_of, has_key, key_of, w
 abbrev key : Row → Entry
 key r = key_of r.tenant r.uri
 
-row_total : IsTotalOrder row_cmp
-row_total = then_total (on_total (λ (r : Row). r.tenant) nat_list_cmp_total) (on_total (λ (r : Row). r.uri) nat_list_cmp_total)
-
 turned : (r s : Row) → row_cmp s r ≡ ordering_reverse (row_cmp r s)
-turned r s = row_total.antisymm s r
+turned r s = row_order.antisymm s r
 
 key_is : (tenant uri : Text) (s : Row) → prefix_cmp plain (entry_of s) (key_of tenant uri) ≡ ordering_then (slice_cmp nat_cmp s.tenant tenant) (slice_cmp nat_cmp s.uri uri)
 key_is tenant uri s = rw (first_key-plain, value_cmp-Text, value_cmp-Text, then-Equal) refl
@@ -56,11 +54,11 @@ first r (s ∷ ss) up =
 
 farther : (r s : Row) (rs : List Row) → row_cmp r s ≡ Less → Above s rs → Above r rs
 farther r s [] h up = tt
-farther r s (t ∷ ts) h up = (row_total.trans r s t h up.0, farther r s ts h up.1)
+farther r s (t ∷ ts) h up = (row_order.trans r s t h up.0, farther r s ts h up.1)
 
 no_nearer : (r s : Row) (rs : List Row) → row_cmp r s ≡ Equal → Above s rs → Above r rs
 no_nearer r s [] h up = tt
-no_nearer r s (t ∷ ts) h up = (row_total.congr r s t h ∙ up.0, no_nearer r s ts h up.1)
+no_nearer r s (t ∷ ts) h up = (row_order.congr r s t h ∙ up.0, no_nearer r s ts h up.1)
 
 pub put_is_put : (r : Row) (rs : List Row) → Ascend rs → with_entry (key r) (entry_of r) (map entry_of rs) ≡ map entry_of (with_row r rs)
 unfolding IsStrictlySortedBy
@@ -83,11 +81,6 @@ put_is_put r (s ∷ ss) up = go (row_cmp r s) refl (put_is_put r ss up.1)
         rw (other, under) (ap (λ l. entry_of s ∷ l) more)
 
 -- ---- a delete
-both : (a b : Ordering) → is_eq (ordering_then a b) ≡ (is_eq a && is_eq b)
-both Less b = refl
-both Equal b = refl
-both Greater b = refl
-
 same_backwards : (o : Ordering) → is_eq (ordering_reverse o) ≡ is_eq o
 same_backwards Less = refl
 same_backwards Equal = refl
@@ -97,7 +90,7 @@ same_either_way : (s t : Text) → is_eq (slice_cmp nat_cmp s t) ≡ bytes_eq t 
 same_either_way s t = ap is_eq (nat_list_cmp_total.antisymm s t) ∙ same_backwards (slice_cmp nat_cmp t s) ∙ is_eq-slice_cmp t s
 
 at_is : (tenant uri : Text) (s : Row) → has_key (key_of tenant uri) (entry_of s) ≡ is_row_at tenant uri s
-at_is tenant uri s = ap is_eq (key_is tenant uri s) ∙ both (slice_cmp nat_cmp s.tenant tenant) (slice_cmp nat_cmp s.uri uri)
+at_is tenant uri s = ap is_eq (key_is tenant uri s) ∙ sym (tied_then (slice_cmp nat_cmp s.tenant tenant) (slice_cmp nat_cmp s.uri uri))
     ∙ ap₂ ◌&&◌ (same_either_way s.tenant tenant) (same_either_way s.uri uri)
 
 pub delete_is_delete : (tenant uri : Text) (rs : List Row) → without_key (key_of tenant uri) (map entry_of rs) ≡ map entry_of (without_row tenant uri rs)

@@ -10,15 +10,19 @@ use Rattle.document_file.specs.Entries.{has_key, without_key}
 use Rattle.document_file.specs.Tables.{HasTable}
 use Rattle.document_file.proofs.Seeks.{nothing_left, removes, IsApart}
 
--- the entries of `now` differ from those of `start` by entries with the key alone
+-- the entries of `now` differ from those of `start` by entries with the key alone, and no call has mended the transaction
 pub record Turns (key : Entry) (start now : View) : Type 0 where
   pub rows : without_key key (now.trees 0) ≡ without_key key (start.trees 0)
+  pub sound : now.is_broken ≡ false → start.is_broken ≡ false
 
 -- a cursor was placed, and moved
 pub record Looks (key : Entry) (old mid new : View) : Type 0 where
   pub table : HasTable old
   pub placed : mid ≡ with_cursor old 0 (sought (order_of (old.shape 0)) Forward key (old.trees 0))
   pub moved : new ≡ record mid { cursors = new.cursors }
+
+same_soundness : {key : Entry} {old mid new : View} → Looks key old mid new → new.is_broken ≡ old.is_broken
+same_soundness looks = ap (λ v. v.is_broken) looks.moved ∙ ap (λ v. v.is_broken) looks.placed
 
 same_trees : {key : Entry} {old mid new : View} → Looks key old mid new → new.trees ≡ old.trees
 same_trees looks = ap (λ v. v.trees) looks.moved ∙ ap (λ v. v.trees) looks.placed
@@ -35,4 +39,7 @@ module _ {key : Entry} {start old mid new : View} (turns : Turns key start old) 
   pub goes_on : {after : View} {row : Entry} → has_key key row ≡ true → HasTable new → SetsTree new after 0 (remove_entry (order_of (new.shape 0)) row) → Turns key start after
   goes_on {after} {row} has table sets =
       let rows : after.trees 0 ≡ remove_entry plain row (old.trees 0) = ap (λ v. v.trees 0) sets.is ∙ rw (table, same_trees looks) refl in
-      record { rows = ap (without_key key) rows ∙ removes key row (old.trees 0) has ∙ turns.rows }
+      record {
+        rows = ap (without_key key) rows ∙ removes key row (old.trees 0) has ∙ turns.rows;
+        sound = λ now. turns.sound (sym (same_soundness looks) ∙ sym (ap (λ v. v.is_broken) sets.is) ∙ now);
+      }

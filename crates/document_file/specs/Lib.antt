@@ -4,3 +4,5 @@ pub mod Props
 pub mod Puts
 pub mod Tables
 pub mod OpenFaults
+pub mod Refusals
+pub mod Making

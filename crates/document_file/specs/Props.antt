@@ -7,4 +7,4 @@ use Rattle.sqlite_trees.specs.View.{View}
 use Rattle.document_file.specs.Tables.{HoldsRows}
 
 pub one_way : (v : View) (rows : List Row) → IsProp (HoldsRows v rows)
-one_way v rows = Π_prop (λ _. rows_set _ _)
+one_way v rows = Π_prop (λ _. Π_prop (λ _. rows_set _ _))

@@ -1,5 +1,5 @@
 -- The table of documents, in a store of trees.
-use Rattle.std.specs.Prelude.{List, Some, map, ◌++◌, ◌≡◌}
+use Rattle.std.specs.Prelude.{List, Some, false, map, ◌++◌, ◌≡◌}
 use Rattle.stored_rows.specs.Rows.{Row}
 use Rattle.sqlite_value.specs.Order.{Row as Entry}
 use Rattle.sqlite_value.specs.Keys.{plain}
@@ -12,9 +12,14 @@ use Rattle.document_file.specs.Entries.{entry_of}
 abbrev pub HasTable : View → Type 0
 HasTable v = v.shape 0 ≡ Index plain
 
--- these are the documents' rows, unless a wrong answer of the disk was taken as true
+-- these are the documents' rows, unless a wrong answer of the disk was taken as true, or a failed call broke the transaction
 abbrev pub HoldsRows : View → List Row → Type 0
-HoldsRows v rows = IsClean v → v.trees 0 ≡ map entry_of rows
+HoldsRows v rows = IsClean v → v.is_broken ≡ false → v.trees 0 ≡ map entry_of rows
+
+-- the transaction isn't broken, and an opening after a crash may find nothing but what it sees
+pub record IsKept (v : View) (recovers : Trees → Type 0) : Type 0 where
+  pub sound : v.is_broken ≡ false
+  pub kept : (found : Trees) → recovers found → found ≡ v.trees
 
 -- an opening after a crash may find these rows, where the disk gave no wrong answer so far
 abbrev pub MayFind : View → (Trees → Type 0) → List Row → Type 0

@@ -5,9 +5,11 @@ mod checkpoints;
 mod crashing;
 mod entries;
 mod files;
+mod making;
 mod open_faults;
 mod opening;
 mod tables;
+mod versions;
 
 pub use checkpoints::Checkpoint;
 pub use crashing::put_and_crash;

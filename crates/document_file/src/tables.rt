@@ -1,6 +1,6 @@
 //! The table of documents in a store of trees.
 
-ghost use Rattle.std.specs.Prelude.{◌≡◌, ◌↔◌, IsTrue, OnOk};
+ghost use Rattle.std.specs.Prelude.{◌≡◌, ◌↔◌, false, IsTrue, OnOk};
 ghost use Rattle.sqlite_trees.specs.View.{IsClean, IsQuiet};
 ghost use Rattle.stored_rows.specs.RowViews.{row_ref_view};
 ghost use Rattle.document_file.specs.Entries.{entry_of, key_of, with_entry, without_key};
@@ -35,6 +35,7 @@ fn clear<S: Store>(store: &mut S, alloc: Global, key: &Row) -> Result<(), StoreE
     requires { HasTable (S.view store.old) }
     ensures ok { OnOk result (IsClean (S.view store.new)
         → (S.view store.new).trees 0 ≡ without_key key.now ((S.view store.old).trees 0)) }
+    ensures sound { OnOk result (IsClean (S.view store.new) → (S.view store.old).is_broken ≡ false) }
     ensures table { HasTable (S.view store.new) }
     ensures quiet { IsQuiet S.view S.faults S.recovers S.is_shielded store.old store.new }
 {
@@ -62,6 +63,7 @@ pub(crate) fn put_row<S: Store>(
         → (S.view store.new).trees 0
         ≡ with_entry (key_of row.entry.tenant.now row.entry.uri.now)
         (entry_of (row_ref_view row.entry)) ((S.view store.old).trees 0)) }
+    ensures sound { OnOk result (IsClean (S.view store.new) → (S.view store.old).is_broken ≡ false) }
     ensures quiet { IsQuiet S.view S.faults S.recovers S.is_shielded store.old store.new }
 {
     if !has_table(store) {
@@ -83,6 +85,7 @@ pub(crate) fn delete_row<S: Store>(
     ensures ok { OnOk result (IsClean (S.view store.new)
         → (S.view store.new).trees 0
         ≡ without_key (key_of tenant.now uri.now) ((S.view store.old).trees 0)) }
+    ensures sound { OnOk result (IsClean (S.view store.new) → (S.view store.old).is_broken ≡ false) }
     ensures quiet { IsQuiet S.view S.faults S.recovers S.is_shielded store.old store.new }
 {
     if !has_table(store) {

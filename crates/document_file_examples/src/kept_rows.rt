@@ -34,6 +34,11 @@ b https://ex.org/a https://ex.org/x true\n\
 b https://ex.org/s https://ex.org/x {\"type\":\"string\"}\n\
 b https://ex.org/s/t  {}\n";
 
+// The header of a log in SQLite's format, section 4.1: for pages of 1,024 bytes, with a count of checkpoints that only a
+// making writes, two salts and the checksum. Then the first bytes of a frame that isn't written.
+const BEGUN: &[u8] =
+    b"7\x7f\x06\x82\x00-\xe2\x18\x00\x00\x04\x00\xff\xff\xff\xff\x01\x02\x03\x04\x05\x06\x07\x08\xd8\xd2\x05\x13\x98\xb4\xe2\xbc\x00\x00\x00\x00\x00\x00\x00\x00\x00";
+
 fn change<D: DocumentStore>(
     store: &mut D,
     row: &(&str, &str, &str, &str),
@@ -70,25 +75,25 @@ fn rows_of<S: Reopen + Checkpoint + Drop>(
     Ok((rows, written_rows(alloc, &mut documents)?))
 }
 
-/// Files with these bytes.
-pub fn files(alloc: Global, bytes: &[u8]) -> io::Result<Files<Memory>>
+/// A log and a file with these bytes.
+fn files(alloc: Global, log_bytes: &[u8], db_bytes: &[u8]) -> io::Result<Files<Memory>>
     ensures log { IfOk result (λ files. IsTrue (memory_is_usable files.log)) }
     ensures db { IfOk result (λ files. IsTrue (memory_is_usable files.db)) }
 {
-    let (log, mut db) = (Memory::new(alloc), Memory::new(alloc));
-    db.write_at(0, bytes)?;
+    let (mut log, mut db) = (Memory::new(alloc), Memory::new(alloc));
+    log.write_at(0, log_bytes)?;
+    db.write_at(0, db_bytes)?;
     Ok(Files { log, db })
 }
 
-fn read_back(alloc: Global) -> Option<(String, String)> {
-    let documents = open(alloc, files(alloc, b"").ok()?, 7).ok()?;
+fn read_back(alloc: Global, log: &[u8], db: &[u8]) -> Option<(String, String)> {
+    let documents = open(alloc, files(alloc, log, db).ok()?, 7).ok()?;
     rows_of(alloc, documents).ok()
 }
 
-// A text whose first bytes are those of no database.
-fn is_foreign(alloc: Global) -> Option<bool> {
-    let text = files(alloc, b"The names of all who were there.").ok()?;
-    Some(open(alloc, text, 7).is_err_and(|fault| fault == OpenFault::Foreign))
+fn is_foreign(alloc: Global, log: &[u8], db: &[u8]) -> Option<bool> {
+    let files = files(alloc, log, db).ok()?;
+    Some(open(alloc, files, 7).is_err_and(|fault| fault == OpenFault::Foreign))
 }
 
 fn expect_rows(rt: &impl Abort, rows: Option<(String, String)>) {
@@ -103,6 +108,11 @@ fn expect_rows(rt: &impl Abort, rows: Option<(String, String)>) {
 
 #[test]
 fn reads_back_in_order(rt: HostRuntime) {
-    expect_rows(&rt, read_back(rt.alloc()));
-    assert!(rt; is_foreign(rt.alloc()) == Some(true));
+    expect_rows(&rt, read_back(rt.alloc(), b"", b""));
+    // A text whose first bytes are those of no database.
+    let text = b"The names of all who were there.";
+    assert!(rt; is_foreign(rt.alloc(), b"", text) == Some(true));
+    // A making that was cut off: a page without its first byte, behind the log that was begun for it.
+    expect_rows(&rt, read_back(rt.alloc(), BEGUN, &[0; 1024]));
+    assert!(rt; is_foreign(rt.alloc(), b"", &[0; 1024]) == Some(true));
 }

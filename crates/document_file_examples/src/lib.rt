@@ -6,4 +6,6 @@ mod crashes;
 #[cfg(test)]
 mod kept_rows;
 #[cfg(test)]
+mod stored_hubs;
+#[cfg(test)]
 mod written_rows;

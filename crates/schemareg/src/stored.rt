@@ -49,7 +49,7 @@ fn restore<'a, D: DocumentStore + Drop>(
     ensures err { IfErr result (IsRefusedStore path.now (hub_view hub)) }
 {
     match stored_hub::open(alloc, hub, store) {
-        Err(refusal) => Err(StoreStop::Unrestored(path, refusal)),
+        Err((refusal, _store)) => Err(StoreStop::Unrestored(path, refusal)),
         Ok(mut hub) => match hub.settle() {
             Ok(()) => Ok(hub),
             Err(unsettled) => Err(StoreStop::Unopened(path, opening_fault(unsettled))),

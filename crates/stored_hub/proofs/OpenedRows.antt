@@ -1,6 +1,6 @@
 -- Rows that are read and put back, one after the other.
-use Rattle.std.proofs.Common.{◌≡◌, ◌++◌, List, [], ◌∷◌, Bool, false, Contains, Option, Some, None, Less, Greater, is_some, refl, sym, ap, ◌∙◌, subst, inl, inr}
-use Rattle.std.proofs.lemmas.List.Elements.{Contains-append_cases}
+use Rattle.std.proofs.Common.{◌≡◌, ◌≢◌, ◌++◌, List, [], ◌∷◌, Bool, false, Contains, Option, Some, None, Less, Greater, is_some, refl, sym, ap, ◌∙◌, subst, inl, inr}
+use Rattle.std.proofs.lemmas.List.Elements.{Contains-append_cases, Contains-append_right}
 use Rattle.std.specs.Prelude.{option_and_then}
 use Rattle.std.specs.Ordering.{match_ordering, ordering_reverse}
 use Rattle.definitions.specs.Documents.{document_of, documents_with}
@@ -23,6 +23,7 @@ use Rattle.stored_rows.proofs.KeyedRegistries.{own_after}
 use Rattle.stored_rows.proofs.RestoredRows.{restored_rows}
 use Rattle.stored_rows.proofs.RowOrder.{ascend_with, row_order}
 use Rattle.stored_hub.specs.Opening.{IsBehind, IsPutBack, IsRestoredFrom}
+use Rattle.stored_hub.specs.Storing.{OnlyReads, RecoversNoMore}
 use Rattle.tenant_hub.specs.PutBack.{IsRestored, stored_texts_of}
 use Rattle.tenant_hub.proofs.PutBack.{restored_into}
 use Rattle.stored_hub.proofs.WrittenRows.{has_texts}
@@ -55,6 +56,24 @@ ends_later rows last next behind ends r s after c = elim (Contains-append_cases 
 
 pub ascend_later : (rows : List Row) (last : Option Row) (next : Row) → IsBehind last next → EndsAt rows last → Ascend rows → Ascend (rows ++ next ∷ [])
 ascend_later rows last next behind ends up = subst Ascend (at_end rows next (λ s c. ends next s behind c)) (ascend_with next rows up)
+
+-- the last one is one of these
+abbrev pub HasLast : List Row → Option Row → Type 0
+HasLast rows last = (s : Row) → last ≡ Some s → Contains rows s
+
+pub has_none : HasLast [] None
+has_none s e = cc
+
+pub has_next : (rows : List Row) (next : Row) → HasLast (rows ++ next ∷ []) (Some next)
+has_next rows next s e = subst (Contains (rows ++ next ∷ [])) (some_same e) (Contains-append_right rows (next ∷ []) next (is_first next []))
+
+-- one of these isn't before the row
+abbrev pub Outruns : List Row → Row → Type 0
+Outruns rows r = (last : Row) × Contains rows last × (row_cmp last r ≢ Less)
+
+pub not_behind : (rows : List Row) (last : Option Row) (r : Row) → HasLast rows last → ¬ IsBehind last r → Outruns rows r
+not_behind rows None r has apart = absurd (apart tt)
+not_behind rows (Some s) r has apart = (s, has s refl, apart)
 
 -- ---- one more
 pub restores_later : (ks ms ls : List KeyedRegistry) (rows : List Row) (r : Row) → Restores regular_search ks rows ms → IsPutBack ms r ls
@@ -115,6 +134,15 @@ put_back_as_written ks ls r key uri kept is_digest restored same texts =
       },
       into.with_it,
     )
+
+-- ---- a store that is read on
+pub read_nothing : {D : Type 0} {holds recovers : D → List Row → Type 0} {store : D} → OnlyReads holds recovers store store
+read_nothing = record { same = λ rs held. held; found = λ rs may. may }
+
+pub read_on : {D : Type 0} {holds recovers : D → List Row → Type 0} {first before after : D} → OnlyReads holds recovers first before
+    → ((rs : List Row) → holds before rs → holds after rs) → RecoversNoMore recovers before after → OnlyReads holds recovers first after
+read_on earlier same found =
+    record { same = λ rs held. same rs (earlier.same rs held); found = λ rs may. earlier.found rs (found rs may) }
 
 -- ---- all of them
 pub all_restored : {D : Type 0} (holds : D → List Row → Type 0) (store : D) (ks ls : List KeyedRegistry) (rows : List Row) → HaveDistinctDigests ks → emptied ks ≡ ks

@@ -1,6 +1,7 @@
 -- The digests of keys, and the first that stands twice.
-use Rattle.std.proofs.Common.{◌≡◌, ◌<◌, ◌+◌, ◌-◌, ◌||◌, ℕ, List, [], ◌∷◌, Bool, true, false, map, get_or, take, drop, length, string_bytes, refl, sym, ap, ◌∙◌}
+use Rattle.std.proofs.Common.{◌≡◌, ◌<◌, ◌+◌, ◌-◌, ◌||◌, ℕ, List, [], ◌∷◌, Bool, true, false, Some, map, option_map, slice_get, get_or, take, drop, length, string_bytes, refl, sym, ap, ◌∙◌}
 use Rattle.std.proofs.lemmas.List.{drop_more, take_rest}
+use Rattle.std.proofs.lemmas.Option.{slice_get-map, slice_get_read}
 use Rattle.std.specs.List.{list_any}
 use Rattle.lemmas.proofs.Lists.{list_any-map}
 use Rattle.definitions.specs.Lists.{has_repeat}
@@ -45,6 +46,12 @@ pub repeats_later : (ks : List DigestedKey) (i : ℕ) (k : DigestedKey) (tenant 
     → repeats (drop i ks) ≡ repeats ks → have_digest tenant (after ks i) ≡ false → repeats (drop (i + 1) ks) ≡ repeats ks
 repeats_later ks i k tenant lt is same so_far e =
     sym (ap (λ b. b || repeats (drop (i + 1) ks)) e) ∙ sym (at_place ks i k tenant lt is same) ∙ so_far
+
+-- the one at i
+pub digest_at : (ks : List DigestedKey) (i : ℕ) (k : DigestedKey) (tenant : Text) → i < length ks → k ≡ get_or ks i k → tenant ≡ string_bytes k.tenant
+    → slice_get (digests_in ks) i ≡ Some tenant
+digest_at ks i k tenant lt is same =
+    slice_get-map (λ u. string_bytes u.tenant) ks i ∙ ap (option_map (λ u. string_bytes u.tenant)) (slice_get_read ks (length ks) i k refl lt is) ∙ ap Some (sym same)
 
 -- ---- of the registries
 pub digests_stay : (ks ms : List KeyedRegistry) → emptied ms ≡ emptied ks → digests_of ms ≡ digests_of ks

@@ -38,3 +38,8 @@ WritesInto {D} holds before change after = (rs : List Row) → Ascend rs → hol
 -- an opening may find no rows that it couldn't have found before
 abbrev pub RecoversNoMore : {D : Type 0} → (D → List Row → Type 0) → D → D → Type 0
 RecoversNoMore {D} recovers before after = (rs : List Row) → recovers after rs → recovers before rs
+
+-- it was only read: it has the rows that it had, and an opening may find no others than before
+pub record OnlyReads {D : Type 0} (holds recovers : D → List Row → Type 0) (before after : D) : Type 0 where
+  pub same : (rs : List Row) → holds before rs → holds after rs
+  pub found : RecoversNoMore recovers before after

@@ -1,6 +1,6 @@
 //! The tenants' keys with their digests.
 
-ghost use Rattle.std.specs.Prelude.{◌≡◌, false, IfNone, IfOk, IfSome, map, string_bytes};
+ghost use Rattle.std.specs.Prelude.{◌≡◌, false, IfNone, IfOk, IfSome, Some, map, slice_get, string_bytes};
 ghost use Rattle.std.specs.List.{list_any};
 ghost use Rattle.definitions.specs.Lists.{has_repeat};
 ghost use Rattle.definitions.specs.Values.{same_text};
@@ -45,6 +45,7 @@ fn have_digest(keys: &[DigestedKey], tenant: &str) -> bool
 // The first key that has this digest, and its place.
 pub(crate) fn key_of<'a>(keys: &'a [DigestedKey], tenant: &str) -> Option<(usize, &'a str)>
     ensures some { IfSome result (λ t. digest t.1.now ≡ tenant.now) }
+    ensures place { IfSome result (λ t. slice_get (digests_in keys.now) t.0 ≡ Some tenant.now) }
     ensures none { IfNone result (list_any (same_text tenant.now) (digests_in keys.now) ≡ false) }
 {
     for (place, key) in keys.iter().enumerate() {

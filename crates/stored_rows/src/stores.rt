@@ -12,8 +12,8 @@ use std::alloc::Global;
 /// What keeps documents beyond the process, as rows in byte order of their tenants and URIs.
 ///
 /// What is put and deleted is seen at once, and is kept from the next commit on: an opening after a crash finds the rows of
-/// the last commit that was answered, or of one that was going on. After a failed call nothing is promised of the rows
-/// that the store has, and all the same of those that an opening finds.
+/// the last commit that was answered, or of one that was going on. After a failed put, delete or commit nothing is promised
+/// of the rows that the store has, and all the same of those that an opening finds.
 pub trait DocumentStore {
     /// These are its rows now.
     ghost holds: { Self → List Row → Type 0 };
@@ -24,17 +24,19 @@ pub trait DocumentStore {
     /// Since the reading was begun, these were read.
     ghost has_read: { Self → List Row → Type 0 };
 
-    /// Begins to read the rows from the first on.
+    /// Begins to read the rows from the first on. They stay as they are.
     fn begin(&mut self) -> Result<(), StoreFault>
         ensures read { OnOk result (has_read self.new []) }
+        ensures holds { (rs : List Row) → holds self.old rs → holds self.new rs }
         ensures recovers { (rs : List Row) → recovers self.new rs → recovers self.old rs };
 
-    /// The next row, where one is left. `Damaged` is for what is no document's row.
+    /// The next row, where one is left. The rows stay as they are. `Damaged` is for what is no document's row.
     fn next(&mut self, alloc: Global) -> Result<Option<DocumentRow>, StoreFault>
         ensures some { IfOk result (λ found. (r : DocumentRow) (rs : List Row) → found ≡ Some r
             → has_read self.old rs → has_read self.new (rs ++ row_view r ∷ [])) }
         ensures none { IfOk result (λ found. (rs : List Row) → found ≡ None
             → has_read self.old rs → holds self.new rs) }
+        ensures holds { (rs : List Row) → holds self.old rs → holds self.new rs }
         ensures recovers { (rs : List Row) → recovers self.new rs → recovers self.old rs };
 
     /// Puts a row at its place, instead of the one with its tenant and URI.

@@ -1,39 +1,43 @@
-use Rattle.std.proofs.Common.{inl, inr, refl, IsTrue, ◌∙◌}
+use Rattle.std.proofs.Common.{ap₂, arith, inr, sym, true≢false, ◌∙◌, ◌≡◌}
 use Rattle.sqlite_wal.specs.Files.{seen_image}
 use Rattle.sqlite_wal.specs.PageSize.{bytes_of}
-use Rattle.sqlite_store.specs.Unopened.{state_of}
-use Rattle.document_file.proofs.Found.{both_ok, clean_files, opened_stands, refused_stands, undoubted}
+use Rattle.sqlite_wal.specs.Recovery.{Image}
+use Rattle.document_file.specs.Refusals.{IsHonest}
+use Rattle.document_file.proofs.Found.{blank_stands, both_ok, clean_before, each_err}
+use Rattle.document_file.proofs.Refusals.{found_sized, honest_files}
 use Rattle.document_file.proofs.opening.found_or_made.Goals as goal
 
-pub returns-in-Ok-clause-found : goal.returns-in-Ok-clause-found
-returns-in-Ok-clause-found g c clean =
-    let honest = undoubted _ clean in
-    let before = c.in_ok-unopened.ensures in
-    inl (opened_stands c.in-Ok.store (bytes_of c.args.size) (seen_image g.D.Disk c.args.files.log c.args.files.db) c.in-Ok.ensures.ready
-    (c.in-Ok.ensures.schema ∙ before.schema) ((c.in-Ok.ensures.kept honest).size ∙ before.size)
-    (rw (before.size, before.files) at (c.in-Ok.ensures.found honest)) clean)
-
-pub returns-in_ok-files_again-in-Err-Refused-default-clause-found :
-    goal.returns-in_ok-files_again-in-Err-Refused-default-clause-found
-returns-in_ok-files_again-in-Err-Refused-default-clause-found g c = both_ok c.made.result c.made.ensures.empty c.made.ensures.honest
+pub returns-then-branch-clause-found : goal.returns-then-branch-clause-found
+returns-then-branch-clause-found g c = both_ok c.made_in_blank.result c.made_in_blank.ensures.empty c.made_in_blank.ensures.honest
     (λ store empty honest clean.
-    let before = c.in_ok-unopened.ensures in
-    let left = c.in-Err-Refused-default.left in
-    let kept : IsTrue (state_of left).is_clean = rw (clean_files left, ← c.in_ok-files_again-in-Err-Refused-default.ensures.same) (honest clean) in
+    let size = bytes_of c.args.size in
+    let blank = (c.in_ok-are_blank.ensures.blank (honest clean)).0 c.if-branch.true in
     inr (
       empty clean,
-      refused_stands c.in_ok-unopened.field-0 (bytes_of c.args.size) (seen_image g.D.Disk c.args.files.log c.args.files.db)
-          (rw c.in-Err-Refused-default.field-0-0-is at (c.in-Err-Refused-default.ensures.cause kept)) before.schema before.size (rw before.files refl),
+      blank_stands size size (seen_image g.D.Disk c.args.files.log c.args.files.db) c.args.size.smallest (omega (arith, c.args.size.smallest)) blank,
     ))
 
-pub returns-in-Ok-clause-honest : goal.returns-in-Ok-clause-honest
-returns-in-Ok-clause-honest g c clean =
-    rw (clean_files c.in_ok-unopened.field-0, c.in_ok-unopened.ensures.files) at (c.in-Ok.ensures.honest (undoubted _ clean))
+pub returns-else-branch-clause-found : goal.returns-else-branch-clause-found
+returns-else-branch-clause-found g c =
+    let same : seen_image g.D.Disk c.are_blank.new.files.log c.are_blank.new.files.db ≡ seen_image g.D.Disk c.args.files.log c.args.files.db =
+    ap₂ (λ log db. record { log = log; db = db }) c.in_ok-are_blank.ensures.log.seen c.in_ok-are_blank.ensures.db.seen in
+    rw same at c.found.ensures.found
 
-pub returns-in_ok-files_again-in-Err-Refused-default-clause-honest :
-    goal.returns-in_ok-files_again-in-Err-Refused-default-clause-honest
-returns-in_ok-files_again-in-Err-Refused-default-clause-honest g c = both_ok c.made.result c.made.ensures.honest c.made.ensures.honest
-    (λ store honest _ clean.
-    let left = c.in-Err-Refused-default.left in
-    let kept : IsTrue (state_of left).is_clean = rw (clean_files left, ← c.in_ok-files_again-in-Err-Refused-default.ensures.same) (honest clean) in
-    rw (clean_files c.in_ok-unopened.field-0, c.in_ok-unopened.ensures.files) at (c.in-Err-Refused-default.ensures.falls kept))
+pub returns-else-branch-clause-honest : goal.returns-else-branch-clause-honest
+returns-else-branch-clause-honest g c = both_ok c.found.result c.found.ensures.honest c.found.ensures.honest (λ store honest again clean.
+    clean_before g.D.Disk c.args.files.log c.are_blank.new.files.log c.args.files.db c.are_blank.new.files.db c.in_ok-are_blank.ensures.log c.in_ok-are_blank.ensures.db
+    (honest clean))
+
+pub returns-else-branch-clause-err : goal.returns-else-branch-clause-err
+returns-else-branch-clause-err g c =
+    let image : Image = seen_image g.D.Disk c.args.files.log c.args.files.db in
+    let same : seen_image g.D.Disk c.are_blank.new.files.log c.are_blank.new.files.db ≡ image =
+    ap₂ (λ log db. record { log = log; db = db }) c.in_ok-are_blank.ensures.log.seen c.in_ok-are_blank.ensures.db.seen in
+    each_err c.found.result (rw same at c.found.ensures.err) (λ fault it. found_sized (IsHonest g.D.Disk) (bytes_of c.args.size) image fault it
+    (λ honest blank. true≢false
+    (sym ((c.in_ok-are_blank.ensures.blank (honest_files g.D.Disk honest c.are_blank.new.files.log c.are_blank.new.files.db)).1 blank) ∙ c.if-branch.false)))
+
+pub returns-then-branch-clause-honest : goal.returns-then-branch-clause-honest
+returns-then-branch-clause-honest g c = both_ok c.made_in_blank.result c.made_in_blank.ensures.honest c.made_in_blank.ensures.honest (λ store honest again clean.
+    clean_before g.D.Disk c.args.files.log c.are_blank.new.files.log c.args.files.db c.are_blank.new.files.db c.in_ok-are_blank.ensures.log c.in_ok-are_blank.ensures.db
+    (honest clean))

@@ -36,3 +36,15 @@ again-preserved g c = (
   search rules,
   search rules,
 )
+
+pub returns-then-not-branch-clause-sound : goal.returns-then-not-branch-clause-sound
+returns-then-not-branch-clause-sound g c clean =
+    let sought : IsClean (g.S.Store.view c.seek.new.self) = omega (arith, c.next.ensures.quiet.clean) in
+    let before : IsClean (g.S.Store.view c.again.store) = omega (arith, c.seek.ensures.quiet.clean) in
+    (c.again.invariant.0 before).sound (c.in_ok-seek.ensures.sound sought)
+
+pub returns-then-not-is_eq-clause-sound : goal.returns-then-not-is_eq-clause-sound
+returns-then-not-is_eq-clause-sound g c clean =
+    let sought : IsClean (g.S.Store.view c.seek.new.self) = omega (arith, c.next.ensures.quiet.clean) in
+    let before : IsClean (g.S.Store.view c.again.store) = omega (arith, c.seek.ensures.quiet.clean) in
+    (c.again.invariant.0 before).sound (c.in_ok-seek.ensures.sound sought)

@@ -16,7 +16,7 @@ invariant_of-result g c =
     let ls = hub_view c.restore_all.new.hub in
     let distinct : HaveDistinctDigests ks =
     ap (has_repeat same_text) (sym c.in-Ok.ensures ∙ ap digests_in (sym c.deref.ensures.value)) ∙ (sym c.have_repeat.ensures ∙ c.if-have_repeat.false) in
-    let is = c.in_ok-restore_all.ensures.ok in
+    let is = c.in-Ok-restore_all.ensures.ok in
     record {
       distinct = distinct_by_emptied ks ls (restoring_keeps regular_search ks ls is.0 is.1.1) distinct;
       stored = ∣ (λ e. has_its_rows g.D.DocumentStore.holds c.restore_all.new.store ks ls is) ∣₁;

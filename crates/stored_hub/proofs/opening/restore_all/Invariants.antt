@@ -3,9 +3,9 @@ use Rattle.definitions.specs.Patterns.{regular_search}
 use Rattle.stored_rows.specs.Restoring.{Restores}
 use Rattle.stored_rows.specs.RowViews.{row_view}
 use Rattle.stored_rows.specs.Rows.{Ascend, Row}
-use Rattle.stored_hub.specs.Storing.{RecoversNoMore}
+use Rattle.stored_hub.specs.Storing.{OnlyReads}
 use Rattle.tenant_hub.specs.Hubs.{hub_view}
-use Rattle.stored_hub.proofs.OpenedRows.{EndsAt}
+use Rattle.stored_hub.proofs.OpenedRows.{EndsAt, HasLast}
 use Rattle.stored_hub.proofs.opening.restore_all.Given as goal
 
 -- these rows were read, and are put back
@@ -16,5 +16,6 @@ invariant-rows g l =
       restores : Restores regular_search (hub_view l.initial.hub) rows (hub_view l.hub);
       ascend : Ascend rows;
       ends : EndsAt rows (option_map row_view l.last);
-      recovers : RecoversNoMore g.D.DocumentStore.recovers l.fn.store l.store;
+      has_last : HasLast rows (option_map row_view l.last);
+      same : OnlyReads g.D.DocumentStore.holds g.D.DocumentStore.recovers l.fn.store l.store;
     }

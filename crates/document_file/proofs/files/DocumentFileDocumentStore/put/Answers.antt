@@ -5,6 +5,6 @@ use Rattle.document_file.proofs.Rows.{put_is_put}
 use Rattle.document_file.proofs.files.DocumentFileDocumentStore.put.Goals as goal
 
 pub returns-in-Ok-clause-ok : goal.returns-in-Ok-clause-ok
-returns-in-Ok-clause-ok g c rs up held clean =
+returns-in-Ok-clause-ok g c rs up held clean sound =
     let before : IsClean (g.S.Store.view c.args.self.now.store) = omega (arith, c.put_row.ensures.quiet.clean) in
-    c.in-Ok.ensures.ok clean ∙ rw (held before) (put_is_put (row_ref_view c.args.row) rs up)
+    c.in-Ok.ensures.ok clean ∙ rw (held before (c.in-Ok.ensures.sound clean)) (put_is_put (row_ref_view c.args.row) rs up)

@@ -6,6 +6,7 @@ use Rattle.std.specs.List.Sorted.{IsBinarySearchResult}
 use Rattle.std.specs.Ordering.{nat_cmp, ordering_then}
 use Rattle.definitions.specs.Assertions.{enum_of, holds, is_one_of}
 use Rattle.definitions.specs.Values.{Text, Value, same}
+use Rattle.definition_laws.proofs.PlacedDocuments.{tied}
 use Rattle.assertions.proofs.Elements.{is_one_of-List}
 use Rattle.json_doc.specs.Docs.{value}
 use Rattle.json_doc.specs.declared.doc.Doc.{Doc, List as DocList}
@@ -15,7 +16,7 @@ use Rattle.keyword_plans.specs.Enumerated.{IsPlacedAt}
 use Rattle.keyword_plans.specs.Places.{steps_order}
 use Rattle.keyword_plans.specs.declared.enumerations.Enumeration.{Enumeration}
 use Rattle.locations.specs.Steps.{tokens}
-use Rattle.keyword_plans.proofs.PlaceOrders.{both_equal, equal_texts, equal_steps}
+use Rattle.keyword_plans.proofs.PlaceOrders.{both_equal, equal_steps}
 
 -- a list of values holds of what is one of them
 listed : (vs : Vec Doc Global) (x : Value) → holds enum_of (value (DocList vs)) x ≡ is_one_of x (value (DocList vs))
@@ -29,7 +30,7 @@ placed : (e : Enumeration) (resource : Text) (steps : List Step) → ordering_th
     → IsPlacedAt resource (tokens steps) e
 placed e resource steps equal =
     let both = both_equal (slice_cmp nat_cmp e.resource.now resource) (steps_order e.steps.items steps) equal in
-    ap₂ (λ r p. (r, p)) (equal_texts e.resource.now resource both.0) (equal_steps e.steps.items steps both.1)
+    ap₂ (λ r p. (r, p)) (tied e.resource.now resource both.0) (equal_steps e.steps.items steps both.1)
 
 pub found_place : (es : List Enumeration) (resource : Text) (steps : List Step) (r : Result ℕ ℕ)
     → IsBinarySearchResult (λ (e : Enumeration). ordering_then (slice_cmp nat_cmp e.resource.now resource) (steps_order e.steps.items steps)) es r

@@ -1,12 +1,10 @@
 -- The order of places.
-use Rattle.std.proofs.Common.{◌≡◌, ◌<◌, ◌≤◌, ℕ, List, [], ◌∷◌, length, drop, decimal, Ordering, Less, Equal, Greater, refl, sym, ap, ap₂, ◌∙◌, arith}
+use Rattle.std.proofs.Common.{◌≡◌, ◌<◌, ◌≤◌, ℕ, List, [], ◌∷◌, length, drop, decimal, Ordering, Less, Equal, Greater, refl, sym, ap, ap₂, arith}
 use Rattle.std.proofs.lemmas.Cmp.{ranked}
 use Rattle.std.proofs.lemmas.List.{length-drop}
-use Rattle.std.proofs.lemmas.Map.Text.{is_eq-slice_cmp}
-use Rattle.std.specs.Cmp.Lexicographic.{slice_cmp}
-use Rattle.std.specs.Ordering.{is_eq, nat_cmp, ordering_then}
+use Rattle.std.specs.Ordering.{nat_cmp, ordering_then}
 use Rattle.definitions.specs.Values.{Text}
-use Rattle.lemmas.proofs.Texts.{same_text_is}
+use Rattle.definition_laws.proofs.PlacedDocuments.{tied}
 use Rattle.keywords.specs.Rows.{row_of}
 use Rattle.locations.specs.Steps.{token, tokens}
 use Rattle.locations.specs.declared.step.Step.{Step}
@@ -36,16 +34,13 @@ both_equal Less b e = absurd (cc)
 both_equal Equal b e = (refl, e)
 both_equal Greater b e = absurd (cc)
 
-pub equal_texts : (t u : Text) → slice_cmp nat_cmp t u ≡ Equal → t ≡ u
-equal_texts t u e = same_text_is t u (sym (is_eq-slice_cmp t u) ∙ ap is_eq e)
-
 equal_numbers : (m n : ℕ) → nat_cmp m n ≡ Equal → m ≡ n
 equal_numbers m n e = ranked m n Equal (sym e)
 
 equal_name : (n : Text) (t : Step) → name_order n t ≡ Equal → n ≡ token t
-equal_name n (Name m) e = equal_texts n m.now e
+equal_name n (Name m) e = tied n m.now e
 equal_name n (Index j) e = absurd (cc)
-equal_name n (Keyword k) e = equal_texts n (row_of k).name e
+equal_name n (Keyword k) e = tied n (row_of k).name e
 
 equal_index : (i : ℕ) (t : Step) → index_order i t ≡ Equal → decimal i ≡ token t
 equal_index i (Name m) e = absurd (cc)

@@ -1,5 +1,5 @@
 -- References with a target and without, among documents with distinct resource URIs.
-use Rattle.std.proofs.Common.{◌≡◌, List, [], ◌∷◌, ◌++◌, Option, Some, None, false, cond, is_some, is_none, filter, flat_map, Result, Ok, Err, Contains, find, sym, refl, ap, ◌∙◌, append_assoc, append-nil}
+use Rattle.std.proofs.Common.{◌≡◌, List, [], ◌∷◌, ◌++◌, Option, Some, None, false, cond, is_some, is_none, filter, flat_map, Bool, IfOk, Result, Ok, Err, Contains, find, sym, subst, refl, ap, ◌∙◌, append_assoc, append-nil}
 use Rattle.std.proofs.lemmas.List.Elements.{filter-append}
 use Rattle.definitions.specs.Values.{Text, same_text}
 use Rattle.definitions.specs.Lists.{has_repeat}
@@ -29,6 +29,10 @@ target_where_held ds reference d distinct found =
 
 pub no_target : (ds : List Document) (reference : Text) → find (holds_resource (without_fragment reference)) ds ≡ None → target (table_of ds) reference ≡ None
 no_target ds reference none = nowhere ds (without_fragment reference) (fragment_of reference) (no_holder ds (without_fragment reference) none)
+
+-- ---- what is told of one schema is told of the same one
+pub carried : {E : Type 0} (r : Result Bool E) (o p : Option Schema) → o ≡ p → IfOk r (λ b. b ≡ is_some o) → IfOk r (λ b. b ≡ is_some p)
+carried r o p e h = subst (λ x. IfOk r (λ b. b ≡ is_some x)) e h
 
 -- ---- one reference more
 judged_at : (ts : List Text) (r : Text) (o : Option Schema) → least (ts ++ cond (is_none o) (r ∷ []) []) ≡ cond (is_some o) (least ts) (Some (lesser r (least ts)))

@@ -6,5 +6,6 @@ pub mod HeldValues
 pub mod Subschemas
 pub mod Marked
 pub mod Owned
+pub mod Anchors
 pub mod Named
 pub mod Known

@@ -5,6 +5,5 @@ pub mod CompiledDocuments
 pub mod Locateds
 pub mod Descents
 pub mod DescentViews
-pub mod AnchorNumbers
 pub mod DynamicResources
 pub mod ReferenceTexts

@@ -1,59 +1,39 @@
 //! Anchors by number.
 
-ghost use Rattle.std.specs.Prelude.{◌≡◌, IfOk, OnOk, Some, if◌then◌else◌, map, option_and_then, option_map, slice_get};
+ghost use Rattle.std.specs.Prelude.{◌≡◌, IfOk, map, option_and_then, option_map, slice_get};
 ghost use Rattle.std.specs.List.{position_from};
 ghost use Rattle.definitions.specs.Values.{Text};
-ghost use Rattle.schema_scan.specs.AnchorNumbers.{is_marked};
 ghost use Rattle.schema_table.specs.PairNumbers.{pair_number};
 ghost use Rattle.schema_table.specs.Gathering.{anchor_mark};
+ghost use Rattle.schema_table.specs.Lookups.{has_mark};
 
 use schema_table::{Anchor, add_pair, pair_number};
 use std::alloc::{AllocError, Global};
 use std::collections::BTreeMap;
 
-/// The number of each anchor, by the URI of its resource and by its name: of all anchors, or of the dynamic ones alone. The
-/// first of those that share both counts.
+/// The number of each anchor, by the URI of its resource and by its name. The first of those that share both counts.
 pub(crate) fn anchor_numbers_of(
     alloc: Global,
     anchors: &[Anchor],
-    any: bool,
 ) -> Result<BTreeMap<String, BTreeMap<String, usize>>, AllocError>
     ensures { IfOk result (λ numbers. (u n : Text)
         → pair_number numbers u n
-        ≡ position_from (is_marked any u n) 0 (map anchor_mark anchors.now)) }
+        ≡ position_from (has_mark u n) 0 (map anchor_mark anchors.now)) }
 {
     let mut numbers = BTreeMap::new(alloc);
     let mut number = anchors.len();
     while number > 0 {
         number -= 1;
-        add_anchor(alloc, &mut numbers, &anchors[number], any, number)?;
-    }
-    Ok(numbers)
-}
-
-fn add_anchor(
-    alloc: Global,
-    numbers: &mut BTreeMap<String, BTreeMap<String, usize>>,
-    anchor: &Anchor,
-    any: bool,
-    number: usize,
-) -> Result<(), AllocError>
-    ensures { OnOk result ((u n : Text)
-        → pair_number numbers.new u n
-        ≡ (if is_marked any u n (anchor_mark anchor.now) then Some number else pair_number
-        numbers.old u n)) }
-{
-    if any || anchor.dynamic {
+        let anchor = &anchors[number];
         add_pair(
             alloc,
-            numbers,
+            &mut numbers,
             anchor.resource.as_str(),
             anchor.name.as_str(),
             number,
-        )
-    } else {
-        Ok(())
+        )?;
     }
+    Ok(numbers)
 }
 
 /// The first anchor of this name in the resource with this URI.

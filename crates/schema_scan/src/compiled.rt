@@ -1,6 +1,6 @@
 //! Documents that can be evaluated.
 
-ghost use Rattle.std.specs.Prelude.{◌≡◌, ◌||◌, [], false, true, Contains, None, IfOk, IfSome, IsTrue, OnOk, Some, codes, is_some, map, option_and_then, option_map, slice_get, string_bytes};
+ghost use Rattle.std.specs.Prelude.{◌≡◌, ◌||◌, [], false, true, Contains, None, IfOk, IfSome, IsTrue, OnOk, Some, codes, find, is_some, map, option_and_then, option_map, slice_get, string_bytes};
 ghost use Rattle.std.specs.BTreeMap.{get_by_text};
 ghost use Rattle.std.specs.List.{list_all, position_from};
 ghost use Rattle.definitions.specs.Patterns.{regular_search};
@@ -13,13 +13,12 @@ ghost use Rattle.definitions.specs.Uris.{without_fragment};
 ghost use Rattle.definitions.specs.Schemas.{Schema};
 ghost use Rattle.definitions.specs.Values.{Text, is_well_formed, same_text, text_at};
 ghost use Rattle.json_doc.specs.Docs.{value};
-ghost use Rattle.schema_scan.specs.AnchorNumbers.{is_marked};
 ghost use Rattle.schema_scan.specs.DynamicResources.{has_resource};
 ghost use Rattle.schema_scan.specs.Locateds.{located_view};
 ghost use Rattle.schema_scan.specs.PatternTables.{holds_pattern};
 ghost use Rattle.schema_scan.specs.ReferenceTexts.{HasReference};
-ghost use Rattle.schema_table.specs.Gathering.{IsTableOf, table_identifiers, table_marks, table_texts, table_uris, table_ways};
-ghost use Rattle.schema_table.specs.Lookups.{numbered_root};
+ghost use Rattle.schema_table.specs.Gathering.{IsTableOf, anchor_mark, table_identifiers, table_marks, table_texts, table_uris, table_ways};
+ghost use Rattle.schema_table.specs.Lookups.{has_mark, numbered_root};
 ghost use Rattle.schema_table.specs.PairNumbers.{pair_number};
 ghost use Rattle.schema_table.specs.Spots.{spots};
 ghost use Rattle.text_numbers.specs.TextNumbers.{AreNumbers};
@@ -33,7 +32,7 @@ use crate::numbers::{numbered, numbers_of, way_of};
 use crate::pattern_table::PatternTable;
 use json_doc::{Doc, Pointer, copy};
 use patterns::Pattern;
-use schema_table::SchemaTable;
+use schema_table::{Anchor, SchemaTable};
 use std::alloc::{AllocError, Global};
 use std::collections::{BTreeMap, BTreeSet};
 use text_numbers::TextNumbers;
@@ -54,8 +53,6 @@ pub struct Compiled {
     numbers: BTreeMap<String, usize>,
     /// The number of each anchor in the table, by the URI of its resource and by its name.
     anchor_numbers: BTreeMap<String, BTreeMap<String, usize>>,
-    /// The same of the dynamic anchors alone.
-    dynamic_numbers: BTreeMap<String, BTreeMap<String, usize>>,
     /// The numbers of the resources' URIs and `$id`s, and of the references' texts, of those that are known to be there.
     uri_numbers: TextNumbers,
     identifier_numbers: TextNumbers,
@@ -69,8 +66,7 @@ pub struct Compiled {
     ghost by_known_uri: { AreNumbers uri_numbers (table_uris table) },
     ghost by_identifier: { AreNumbers identifier_numbers (table_identifiers table) },
     ghost by_text: { AreNumbers text_numbers (table_texts table) },
-    ghost by_anchor: { (uri name : Text) → pair_number anchor_numbers uri name ≡ position_from (is_marked true uri name) 0 (table_marks table) },
-    ghost by_dynamic_anchor: { (uri name : Text) → pair_number dynamic_numbers uri name ≡ position_from (is_marked false uri name) 0 (table_marks table) },
+    ghost by_anchor: { (uri name : Text) → pair_number anchor_numbers uri name ≡ position_from (has_mark uri name) 0 (table_marks table) },
 }
 
 impl Compiled {
@@ -94,8 +90,7 @@ impl Compiled {
             (λ d. (compiled_base d ≡ string_bytes base) × (compiled_value d ≡ value document.now)) }
     {
         let numbers = numbers_of(alloc, &table.uris)?;
-        let anchor_numbers = anchor_numbers_of(alloc, &table.anchors, true)?;
-        let dynamic_numbers = anchor_numbers_of(alloc, &table.anchors, false)?;
+        let anchor_numbers = anchor_numbers_of(alloc, &table.anchors)?;
         let uri_numbers = TextNumbers::of(alloc, &table.uris)?;
         let identifier_numbers = TextNumbers::of(alloc, &table.identifiers)?;
         let text_numbers = TextNumbers::of(alloc, &table.texts)?;
@@ -106,7 +101,6 @@ impl Compiled {
             pattern_table,
             numbers,
             anchor_numbers,
-            dynamic_numbers,
             uri_numbers,
             identifier_numbers,
             text_numbers,
@@ -308,8 +302,14 @@ impl Compiled {
             (λ t. option_map located_view t
             ≡ schema_with_dynamic_anchor (compiled_schemas self.now) uri.now name.now) }
     {
-        match find_anchor(&self.table.anchors, &self.dynamic_numbers, uri, name) {
-            Some(anchor) => schema_of_anchor(alloc, anchor, &self.document),
+        match self.anchor(uri, name) {
+            Some(anchor) => {
+                if anchor.dynamic {
+                    schema_of_anchor(alloc, anchor, &self.document)
+                } else {
+                    Ok(None)
+                }
+            }
             None => Ok(None),
         }
     }
@@ -357,10 +357,18 @@ impl Compiled {
             (λ t. option_map located_view t
             ≡ schema_with_anchor (compiled_schemas self.now) uri.now name.now) }
     {
-        match find_anchor(&self.table.anchors, &self.anchor_numbers, uri, name) {
+        match self.anchor(uri, name) {
             Some(anchor) => schema_of_anchor(alloc, anchor, &self.document),
             None => Ok(None),
         }
+    }
+
+    // The anchor of this name in the resource with this URI.
+    fn anchor(&self, uri: &str, name: &str) -> Option<&Anchor>
+        ensures { option_map (λ a. anchor_mark a.now) result
+            ≡ find (has_mark uri.now name.now) (table_marks self.now.table) }
+    {
+        find_anchor(&self.table.anchors, &self.anchor_numbers, uri, name)
     }
 
     /// The pattern with this text, where one of the document's schemas has it.

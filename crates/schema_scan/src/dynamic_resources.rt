@@ -5,9 +5,9 @@ ghost use Rattle.std.specs.BTreeMap.{get_by_text};
 ghost use Rattle.std.specs.BTreeSet.{contains_text};
 ghost use Rattle.std.specs.List.{list_any};
 ghost use Rattle.definitions.specs.Values.{Text, same_text};
-ghost use Rattle.schema_scan.specs.AnchorNumbers.{is_marked};
 ghost use Rattle.schema_scan.specs.DynamicResources.{has_resource};
 ghost use Rattle.schema_table.specs.Gathering.{anchor_mark};
+ghost use Rattle.schema_table.specs.Lookups.{has_dynamic_mark};
 
 use schema_table::Anchor;
 use std::alloc::{AllocError, Global};
@@ -22,7 +22,7 @@ pub(crate) fn add_resources(
     ensures { OnOk result ((u n : Text)
         → has_resource resources.new u n
         ≡ (has_resource resources.old u n
-        || list_any (is_marked false u n) (map anchor_mark anchors.now))) }
+        || list_any (has_dynamic_mark u n) (map anchor_mark anchors.now))) }
 {
     for anchor in anchors {
         add_resource(alloc, resources, anchor)?;
@@ -37,7 +37,7 @@ fn add_resource(
 ) -> Result<(), AllocError>
     ensures { OnOk result ((u n : Text)
         → has_resource resources.new u n
-        ≡ (has_resource resources.old u n || is_marked false u n (anchor_mark anchor.now))) }
+        ≡ (has_resource resources.old u n || has_dynamic_mark u n (anchor_mark anchor.now))) }
 {
     if anchor.dynamic {
         add_uri(

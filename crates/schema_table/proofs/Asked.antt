@@ -1,11 +1,12 @@
 -- What the shapes that a value alone decides ask.
-use Rattle.std.proofs.Common.{◌≡◌, [], ◌∷◌, Bool, true, false, refl}
+use Rattle.std.proofs.Common.{◌≡◌, [], ◌∷◌, Bool, true, false, None, refl}
 use Rattle.definitions.specs.Values.{Text, Value}
 use Rattle.definitions.specs.Shapes as meaning
 use Rattle.keywords.specs.Shapes.{fits_shape, shape_view}
 use Rattle.keywords.specs.declared.shape.Shape.{Shape}
 use Rattle.keywords.specs.declared.shape.Shape.TheVariants.{AnyValue, Truth, WholeNumber, Size, Divisor, AnyText, ValueList, TextList, TextLists, TypeNames, Reference, OneSchema, SchemaList, SchemaMap, Identifier, AnchorName, Dialect}
 use Rattle.schema_table.specs.Missteps.{wrong_shape, is_as_asked, misstep_at, shape_missteps}
+use Rattle.schema_table.specs.Openings.{id_under}
 use Rattle.schema_table.specs.Refusals.{Refuses}
 use Rattle.schema_table.specs.declared.refusal.Refusal.{Refusal}
 
@@ -47,6 +48,11 @@ misstep-shape SchemaMap name i n d = refl
 misstep-shape Identifier name i n d = absurd (i refl)
 misstep-shape AnchorName name i n d = absurd (n refl)
 misstep-shape Dialect name i n d = absurd (d refl)
+
+-- no other shape is an `$id`'s
+pub none_under : (s : Shape) (v : Value) → (s ≡ Identifier → ⊥) → None ≡ id_under (shape_view s) v
+none_under Identifier v i = absurd (i refl)
+none_under _ v i = refl
 
 pub no_missteps : (s : meaning.Shape) (base : Text) (at_root : Bool) (name : Text) (v : Value) → true ≡ is_as_asked s base at_root v → shape_missteps s base at_root name v ≡ []
 unfolding shape_missteps

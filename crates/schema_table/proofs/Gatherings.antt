@@ -53,11 +53,6 @@ gathers-append g h k ss ts a b =
       patterns = two _ _ _ _ _ _ a.patterns b.patterns (flat_map-append spot_patterns ss ts);
     }
 
--- what is gathered after nothing was
-pub on_ok-gathers : {T E : Type 0} (r : Result T E) (g h k : Gathered) (ss : List Spot) → Gathers g h [] → OnOk r (Gathers h k ss) → OnOk r (Gathers g k ss)
-on_ok-gathers (Ok u) g h k ss none rest = gathers-append g h k [] ss none rest
-on_ok-gathers (Err e) g h k ss none rest = rest
-
 -- ---- what a step adds
 pub on_ok-opened : {T E : Type 0} (r : Result T E) (g h : Gathered) → gathered_patterns h ≡ gathered_patterns g → OnOk r (Extends g.table h.table []) → OnOk r (Gathers g h [])
 on_ok-opened (Ok u) g h same more = record { table = more; patterns = same ∙ none (gathered_patterns g) }

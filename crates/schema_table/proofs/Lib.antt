@@ -4,6 +4,9 @@ pub mod Walked
 pub mod Asked
 pub mod Visiting
 pub mod Gatherings
+pub mod Visited
+pub mod Identified
+pub mod ResolvedIds
 pub mod SeenKeys
 pub mod SameNames
 pub mod Lists

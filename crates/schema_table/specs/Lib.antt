@@ -6,3 +6,5 @@ pub mod Gathering
 pub mod Lookups
 pub mod PairNumbers
 pub mod AnchorViews
+pub mod Visits
+pub mod Openings

@@ -1,5 +1,5 @@
 -- Why a walk stops.
-use Rattle.std.specs.Prelude.{◌≡◌, List, Some, reverse}
+use Rattle.std.specs.Prelude.{◌≡◌, List, [], Some, Result, Ok, Err, reverse}
 use Rattle.definitions.specs.Pointers.{Pointer}
 use Rattle.definitions.specs.Lists.{first}
 use Rattle.locations.specs.Steps.{tokens}
@@ -19,3 +19,8 @@ Refuses (Shape steps) ms = first ms ≡ Some (wrong_shape (way_up steps.items))
 Refuses Id ms = first ms ≡ Some wrong_id
 Refuses Anchor ms = first ms ≡ Some wrong_anchor
 Refuses Dialect ms = first ms ≡ Some wrong_dialect
+
+-- it ends after none of these missteps, or stops at the first
+abbrev pub Ends : {T : Type 0} → Result T Refusal → List Misstep → Type 0
+Ends (Ok t) ms = ms ≡ []
+Ends (Err r) ms = Refuses r ms

@@ -1,6 +1,6 @@
 //! What the references and the `$id`s of a document's schemas are read as, each once.
 
-ghost use Rattle.std.specs.Prelude.{◌≡◌, ◌<◌, ℕ, IfSome, Some, length, slice_get};
+ghost use Rattle.std.specs.Prelude.{◌≡◌, ◌<◌, ℕ, IfOk, IfSome, Some, length, slice_get, string_bytes};
 ghost use Rattle.definitions.specs.Resolution.{target_uri};
 ghost use Rattle.definitions.specs.Values.{Text};
 ghost use Rattle.schema_table.specs.PairNumbers.{pair_number};
@@ -10,7 +10,7 @@ ghost use Rattle.uri_ref.specs.declared.absolute_references.AbsoluteReference.{A
 use crate::pair_numbers::{add_pair, pair_number};
 use std::alloc::{AllocError, Global};
 use std::collections::BTreeMap;
-use uri_ref::{AbsoluteReference, absolute_reference};
+use uri_ref::{AbsoluteReference, ResolvedReference, resolved_reference, resolved_uri};
 
 /// What the references and the `$id`s of a document's schemas are read as inside the resources around them.
 ///
@@ -36,21 +36,29 @@ impl AbsoluteReferences {
         }
     }
 
-    /// Adds what the reference is read as inside this resource, where it can be read. It fails only for want of memory.
-    pub(crate) fn add(
+    /// The reference, resolved inside this resource. What it is read as is kept, where it can be read.
+    pub(crate) fn resolve(
         &mut self,
         alloc: Global,
         resource: &str,
         reference: &str,
-    ) -> Result<(), AllocError> {
+    ) -> Result<String, AllocError>
+        ensures { IfOk result
+            (λ uri. string_bytes uri ≡ target_uri resource.now reference.now) }
+    {
         if self.get(resource, reference).is_some() {
-            return Ok(());
+            return resolved_uri(alloc, resource, reference);
         }
-        match absolute_reference(alloc, resource, reference) {
-            Ok(Some(read)) => self.insert(alloc, resource, reference, read),
-            Ok(None) => Ok(()),
-            Err(_) => Err(AllocError),
+        let ResolvedReference { text, named } = match resolved_reference(
+            alloc, resource, reference,
+        ) {
+            Ok(resolved) => resolved,
+            Err(_) => return Err(AllocError),
+        };
+        if let Some(named) = named {
+            self.insert(alloc, resource, reference, named)?;
         }
+        Ok(text)
     }
 
     /// What the reference is read as inside this resource, where it was added.
@@ -64,8 +72,8 @@ impl AbsoluteReferences {
         }
     }
 
-    // Where memory is wanted, none can be found any more.
-    fn insert(
+    /// Keeps what the reference is read as inside this resource. Where memory is wanted, none can be found any more.
+    pub(crate) fn insert(
         &mut self,
         alloc: Global,
         resource: &str,

@@ -6,9 +6,11 @@ ghost use Rattle.definitions.specs.Uris.{without_fragment};
 ghost use Rattle.json_doc.specs.Docs.{value};
 ghost use Rattle.locations.specs.Hops.{step_hops};
 ghost use Rattle.schema_table.specs.Gathering.{IsGathered};
+ghost use Rattle.schema_table.specs.Openings.{IsReadInside};
 ghost use Rattle.schema_table.specs.Spots.{spot_in};
 
 use crate::pattern_texts::push_patterns;
+use crate::resources::Opened;
 use crate::table::SchemaTable;
 use json_doc::Doc;
 use locations::Step;
@@ -35,18 +37,19 @@ impl<'a> Gathered<'a> {
         }
     }
 
-    /// The URI of the resource that a schema with this `$id` opens inside the resource around it.
+    /// The URI of the resource that a schema opens inside the resource around it. What its `$id` is read as is kept.
     pub(crate) fn open(
         &mut self,
         alloc: Global,
         around: &str,
-        id: &str,
+        opened: Opened<'a>,
     ) -> Result<String, AllocError>
+        requires { IsReadInside around.now opened }
         ensures uri { IfOk result
-            (λ uri. string_bytes uri ≡ without_fragment (target_uri around.now id.now)) }
+            (λ uri. string_bytes uri ≡ without_fragment (target_uri around.now opened.entry.id.now)) }
         ensures gathers { OnOk result (Gathers self.old self.new []) }
     {
-        self.table.open(alloc, around, id)
+        self.table.open(alloc, around, opened)
     }
 
     /// Adds a schema that stands at the end of this way, in the resource of this URI, whose root is `start` steps along

@@ -1,8 +1,8 @@
 //! The test of one keyword's value.
 
-ghost use Rattle.std.specs.Prelude.{◌≡◌, [], ◌∷◌, OnOk, IfOk, IfErr, is_ok};
+ghost use Rattle.std.specs.Prelude.{◌≡◌, ◌≢◌, [], ◌∷◌, IfOk, is_ok};
 ghost use Rattle.std.specs.List.{list_any};
-ghost use Rattle.definitions.specs.Values.{same_text};
+ghost use Rattle.definitions.specs.Values.{Text, same_text};
 ghost use Rattle.definitions.specs.Uris.{split};
 ghost use Rattle.definitions.specs.Fragments.{fragment_kind};
 ghost use Rattle.definitions.specs.Shapes.{is_reference};
@@ -10,10 +10,11 @@ ghost use Rattle.definitions.specs.Scanning.{is_dialect, dialects};
 ghost use Rattle.json_doc.specs.Docs.{value};
 ghost use Rattle.keywords.specs.Shapes.{shape_view};
 ghost use Rattle.schema_table.specs.Missteps.{shape_missteps, is_as_asked, misstep_at};
-ghost use Rattle.schema_table.specs.Refusals.{Refuses};
+ghost use Rattle.schema_table.specs.Openings.{IsOpenedBy, id_under};
+ghost use Rattle.schema_table.specs.Refusals.{Ends, Refuses};
 
 use crate::refusal::Refusal;
-use crate::resources::is_id;
+use crate::resources::{Opened, opened_resource};
 use faults::Fault;
 use json_doc::Doc;
 use keyword_shapes::fits;
@@ -22,40 +23,42 @@ use std::alloc::{AllocError, Global};
 use uri_ref::{fragment_kind, split};
 
 /// Tests the value of the keyword of this name and shape, in a schema that stands inside this base, and at the root of a
-/// resource or not.
+/// resource or not. It answers the resource that the schema opens, where the keyword is `$id`.
 pub(crate) fn check_value<'a>(
     alloc: Global,
     shape: Shape,
     base: &str,
     at_root: bool,
     name: &'a str,
-    member: &Doc,
-) -> Result<(), Refusal<'a>>
-    ensures passed { OnOk result
-        (shape_missteps (shape_view shape) base.now at_root name.now (value member.now) ≡ []) }
-    ensures refused { IfErr result
-        (λ r. Refuses r (shape_missteps (shape_view shape) base.now at_root name.now
-        (value member.now))) }
+    member: &'a Doc,
+) -> Result<Option<Opened<'a>>, Refusal<'a>>
+    ensures ends { Ends result
+        (shape_missteps (shape_view shape) base.now at_root name.now (value member.now)) }
+    ensures opened { IfOk result
+        (IsOpenedBy base.now (id_under (shape_view shape) (value member.now))) }
 {
-    if is_as_asked(alloc, shape, base, at_root, member)? {
-        return Ok(());
+    match shape {
+        Shape::Identifier => match opened_resource(alloc, base, member)? {
+            Some(opened) => Ok(Some(opened)),
+            None => Err(refusal_of(alloc, shape, name)),
+        },
+        _ => {
+            if is_as_asked(alloc, shape, at_root, member)? {
+                Ok(None)
+            } else {
+                Err(refusal_of(alloc, shape, name))
+            }
+        }
     }
-    Err(refusal_of(alloc, shape, name))
 }
 
-fn is_as_asked(
-    alloc: Global,
-    shape: Shape,
-    base: &str,
-    at_root: bool,
-    member: &Doc,
-) -> Result<bool, AllocError>
-    ensures { IfOk result (λ b. b
-        ≡ is_as_asked (shape_view shape) base.now at_root (value member.now)) }
+// Whether the value is as a keyword of this shape asks, but `$id`.
+fn is_as_asked(alloc: Global, shape: Shape, at_root: bool, member: &Doc) -> Result<bool, AllocError>
+    ensures { (base : Text) → shape ≢ Shape.Identifier → IfOk result (λ b. b
+        ≡ is_as_asked (shape_view shape) base at_root (value member.now)) }
 {
     match shape {
         Shape::Reference => is_reference(alloc, member),
-        Shape::Identifier => is_id(alloc, base, member),
         Shape::Dialect => Ok(is_dialect(member) || !at_root),
         _ => Ok(fits(shape, member)),
     }

@@ -7,6 +7,7 @@ mod anchors;
 mod gathered;
 mod keyword_values;
 mod names;
+mod own_keywords;
 mod pair_numbers;
 mod pattern_texts;
 mod reading;

@@ -10,7 +10,7 @@ ghost use Rattle.schema_table.specs.Spots.{spots};
 
 use crate::gathered::Gathered;
 use crate::names::{has_repeated_anchor, has_repeated_uri};
-use crate::visit::visit_schema;
+use crate::visit::Visit;
 use faults::Fault;
 use json_doc::{Doc, nesting};
 use std::alloc::Global;
@@ -40,12 +40,12 @@ pub fn read_schemas<'a>(alloc: Global, base: &str, document: &'a Doc) -> Result<
     if nesting(document) > MOST_NESTED {
         return Err(Fault::TooNested);
     }
-    let mut gathered = Gathered::new(alloc);
-    let mut way = Vec::new(alloc);
-    match visit_schema(alloc, &mut gathered, &mut way, 0, base, true, document) {
+    let mut visit = Visit::new(alloc);
+    match visit.visit_schema(0, base, true, document) {
         Ok(()) => {}
         Err(refusal) => return Err(refusal.fault(alloc)),
     }
+    let gathered = visit.gathered;
     if has_repeated_uri(alloc, &gathered.table.uris)? {
         return Err(Fault::DuplicateUri);
     }

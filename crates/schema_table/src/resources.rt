@@ -1,15 +1,17 @@
 //! The resources that `$id` opens (JSON Schema 2020-12 Core, section 8.2.1).
 
-ghost use Rattle.std.specs.Prelude.{◌≡◌, ◌&&◌, None, IfOk, option_map};
+ghost use Rattle.std.specs.Prelude.{◌≡◌, ◌&&◌, None, Some, IfOk, is_some, option_map, true};
 ghost use Rattle.definitions.specs.Uris.{split, is_identifier};
 ghost use Rattle.definitions.specs.Resolution.{resolve};
 ghost use Rattle.definitions.specs.Scanning.{is_id, is_empty_fragment};
+ghost use Rattle.definitions.specs.Values.{as_string};
 ghost use Rattle.json_doc.specs.Docs.{value};
+ghost use Rattle.schema_table.specs.Openings.{IsOpenedBy};
 ghost use Rattle.schema_table.specs.Spots.{opens_resource};
 
 use json_doc::Doc;
 use std::alloc::{AllocError, Global};
-use uri_ref::{is_identifier, resolve, split};
+use uri_ref::{AbsoluteReference, FragmentKind, is_identifier, recompose, resolve, split};
 
 /// Whether a schema opens a resource.
 #[tactic(auto, unfolding(crate::specs::Spots::opens_resource))]
@@ -19,28 +21,56 @@ pub(crate) fn opens_resource(schema: &Doc) -> bool
     schema.text_at("$id").is_some()
 }
 
-/// Whether the value of `$id`, resolved against the base around its schema, makes an identifier.
-pub(crate) fn is_id(alloc: Global, base: &str, id: &Doc) -> Result<bool, AllocError>
-    ensures { IfOk result (λ b. b ≡ is_id base.now (value id.now)) }
+/// A resource that a schema opens by its `$id`.
+#[derive(Drop)]
+pub(crate) struct Opened<'a> {
+    /// The `$id`.
+    pub(crate) id: &'a str,
+    /// What it is read as: the resource's URI.
+    pub(crate) named: AbsoluteReference,
+}
+
+/// The resource that a schema opens by this value of `$id` inside the base around it, where this makes an identifier.
+pub(crate) fn opened_resource<'a>(
+    alloc: Global,
+    base: &str,
+    id: &'a Doc,
+) -> Result<Option<Opened<'a>>, AllocError>
+    ensures asked { IfOk result (λ o. is_some o ≡ is_id base.now (value id.now)) }
+    ensures opened { IfOk result (λ o. is_some o ≡ true
+        → IsOpenedBy base.now (as_string (value id.now)) o) }
 {
     match id {
-        Doc::Str(id) => makes_identifier(alloc, base, id.as_str()),
-        Doc::Short(id) => makes_identifier(alloc, base, id.as_str()),
-        _ => Ok(false),
+        Doc::Str(id) => opened_by(alloc, base, id.as_str()),
+        Doc::Short(id) => opened_by(alloc, base, id.as_str()),
+        _ => Ok(None),
     }
 }
 
-// Whether the reference has no fragment but an empty one, and what it resolves to is an identifier.
-fn makes_identifier(alloc: Global, base: &str, id: &str) -> Result<bool, AllocError>
-    ensures { IfOk result (λ b. b ≡ (is_empty_fragment ((split id.now).fragment)
+// The resource that this `$id` opens, where it has no fragment but an empty one, and what it resolves to is an identifier.
+fn opened_by<'a>(alloc: Global, base: &str, id: &'a str) -> Result<Option<Opened<'a>>, AllocError>
+    ensures asked { IfOk result (λ o. is_some o ≡ (is_empty_fragment ((split id.now).fragment)
         && is_identifier (record (resolve (split base.now) (split id.now)) { fragment = None }))) }
+    ensures opened { IfOk result (λ o. is_some o ≡ true → IsOpenedBy base.now (Some id.now) o) }
 {
     let reference = split(id);
     if !is_empty_fragment(reference.fragment()) {
-        return Ok(false);
+        return Ok(None);
     }
-    match resolve(alloc, &split(base), &reference) {
-        Ok(resolved) => Ok(is_identifier(&resolved.parts().without_fragment())),
+    let resolved = match resolve(alloc, &split(base), &reference) {
+        Ok(resolved) => resolved,
+        Err(_) => return Err(AllocError),
+    };
+    let identifier = resolved.parts().without_fragment();
+    if !is_identifier(&identifier) {
+        return Ok(None);
+    }
+    match recompose(alloc, &identifier) {
+        Ok(uri) => {
+            let fragment = FragmentKind::Empty;
+            let named = AbsoluteReference { uri, fragment };
+            Ok(Some(Opened { id, named }))
+        }
         Err(_) => Err(AllocError),
     }
 }

@@ -6,16 +6,17 @@ ghost use Rattle.definitions.specs.Uris.{without_fragment};
 ghost use Rattle.definitions.specs.Values.{text_at};
 ghost use Rattle.json_doc.specs.Docs.{value};
 ghost use Rattle.locations.specs.Hops.{step_hops};
+ghost use Rattle.schema_table.specs.Openings.{IsReadInside};
 ghost use Rattle.schema_table.specs.Spots.{spot_in};
 ghost use Rattle.locations.specs.Ways.{owned_hops};
 ghost use Rattle.schema_table.specs.Gathering.{anchor_mark, identifier_at, marks, plain_name, reference_under, references_at, text_under, texts_at};
 
 use crate::absolute_references::AbsoluteReferences;
 use crate::anchors::Anchor;
+use crate::resources::Opened;
 use json_doc::Doc;
 use locations::{OwnedWay, Step, own};
 use std::alloc::{AllocError, Global};
-use uri_ref::{opened_uri, resolved_uri};
 
 /// What is kept of a document's schemas, each list in the order of the walk.
 #[derive(Debug, Drop)]
@@ -55,24 +56,22 @@ impl SchemaTable {
         }
     }
 
-    /// The URI of the resource that a schema with this `$id` opens inside the resource around it. What the `$id` is read as
-    /// is kept.
+    /// The URI of the resource that a schema opens inside the resource around it. What its `$id` is read as is kept.
     #[tactic(auto, unfolding(crate::specs::Gathering::table_uris, crate::specs::Gathering::table_ways, crate::specs::Gathering::table_identifiers, crate::specs::Gathering::table_references, crate::specs::Gathering::table_texts, crate::specs::Gathering::table_marks))]
     pub(crate) fn open(
         &mut self,
         alloc: Global,
         around: &str,
-        id: &str,
+        opened: Opened<'_>,
     ) -> Result<String, AllocError>
+        requires { IsReadInside around.now opened }
         ensures uri { IfOk result
-            (λ uri. string_bytes uri ≡ without_fragment (target_uri around.now id.now)) }
+            (λ uri. string_bytes uri ≡ without_fragment (target_uri around.now opened.entry.id.now)) }
         ensures extends { OnOk result (Extends self.old self.new []) }
     {
-        self.read.add(alloc, around, id)?;
-        match self.read.get(around, id) {
-            Some(read) => String::from_str(alloc, read.uri.as_str()),
-            None => opened_uri(alloc, around, id),
-        }
+        let uri = String::from_str(alloc, opened.named.uri.as_str())?;
+        self.read.insert(alloc, around, opened.id, opened.named)?;
+        Ok(uri)
     }
 
     /// Adds a schema that stands at the end of this way, in the resource of this URI, whose root is `start` steps along
@@ -174,9 +173,8 @@ fn push_reference(
         ≡ map string_bytes texts.old.items ++ text_under keyword.now (value schema.now)) }
 {
     if let Some(reference) = schema.text_at(keyword) {
-        references.push(resolved_uri(alloc, base, reference)?)?;
+        references.push(read.resolve(alloc, base, reference)?)?;
         texts.push(String::from_str(alloc, reference)?)?;
-        read.add(alloc, base, reference)?;
     }
     Ok(())
 }

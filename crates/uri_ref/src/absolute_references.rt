@@ -1,12 +1,15 @@
 //! References, as they are read inside a resource (JSON Schema 2020-12 Core, section 8.2.3).
 
-ghost use Rattle.std.specs.Prelude.{◌≡◌, IfOk, IfErr, option_map};
+ghost use Rattle.std.specs.Prelude.{◌≡◌, IfOk, IfErr, option_map, string_bytes};
 ghost use Rattle.definitions.specs.Fragments.{fragment_kind};
-ghost use Rattle.definitions.specs.Resolution.{target_uri};
+ghost use Rattle.definitions.specs.Resolution.{resolve, target_uri};
+ghost use Rattle.definitions.specs.Uris.{split};
+ghost use Rattle.definitions.specs.Values.{Text};
 ghost use Rattle.uri_ref.specs.AbsoluteReferences.{IsReadAs, IsShownBy};
 
 use crate::fragments::{FragmentKind, fragment_kind};
 use crate::recomposing::recompose;
+use crate::resolved_parts::ResolvedParts;
 use crate::resolving::resolve;
 use crate::splitting::split;
 use faults::Fault;
@@ -21,6 +24,33 @@ pub struct AbsoluteReference {
     pub fragment: FragmentKind,
 }
 
+/// A reference, resolved against the URI of the resource around it.
+#[derive(Debug, Drop)]
+pub struct ResolvedReference {
+    /// Its text.
+    pub text: String,
+    /// What it names, or none where its fragment can't be read.
+    pub named: Option<AbsoluteReference>,
+}
+
+/// The reference, resolved where the resource around it has this URI (RFC 3986, section 5.2), and what it names there. The
+/// only error is want of memory.
+pub fn resolved_reference(
+    alloc: Global,
+    resource: &str,
+    reference: &str,
+) -> Result<ResolvedReference, Fault>
+    ensures text { IfOk result
+        (λ r. string_bytes r.text ≡ target_uri resource.now reference.now) }
+    ensures named { IfOk result (λ r. IsReadAs (target_uri resource.now reference.now) r.named) }
+    ensures err { IfErr result (λ f. f ≡ Fault.NoRoom) }
+{
+    let resolved = resolve(alloc, &split(resource), &split(reference))?;
+    let text = recompose(alloc, &resolved.parts())?;
+    let named = named_by(alloc, &resolved)?;
+    Ok(ResolvedReference { text, named })
+}
+
 /// What the reference names where the resource around it has this URI, or none where its fragment can't be read. The only
 /// error is want of memory.
 pub fn absolute_reference(
@@ -32,9 +62,20 @@ pub fn absolute_reference(
     ensures err { IfErr result (λ f. f ≡ Fault.NoRoom) }
 {
     let resolved = resolve(alloc, &split(resource), &split(reference))?;
-    match readable_fragment(alloc, resolved.parts().fragment())? {
+    named_by(alloc, &resolved)
+}
+
+// What these parts name, where a reference resolves to them, or none where their fragment can't be read.
+fn named_by(alloc: Global, resolved: &ResolvedParts<'_>) -> Result<Option<AbsoluteReference>, Fault>
+    ensures ok { (resource reference : Text)
+        → resolved.now ≡ resolve (split resource) (split reference)
+        → IfOk result (λ r. IsReadAs (target_uri resource reference) r) }
+    ensures err { IfErr result (λ f. f ≡ Fault.NoRoom) }
+{
+    let parts = resolved.parts();
+    match readable_fragment(alloc, parts.fragment())? {
         Some(fragment) => {
-            let uri = recompose(alloc, &resolved.parts().without_fragment())?;
+            let uri = recompose(alloc, &parts.without_fragment())?;
             Ok(Some(AbsoluteReference { uri, fragment }))
         }
         None => Ok(None),

@@ -13,7 +13,9 @@ mod resolved_parts;
 mod resolving;
 mod splitting;
 
-pub use absolute_references::{AbsoluteReference, absolute_reference};
+pub use absolute_references::{
+    AbsoluteReference, ResolvedReference, absolute_reference, resolved_reference,
+};
 pub use base_forms::base_form;
 pub use faults::Fault;
 pub use fragments::{FragmentKind, fragment_kind};

@@ -4,6 +4,5 @@ use Rattle.schema_table.proofs.Asked.{asked-shape}
 use Rattle.schema_table.proofs.keyword_values.is_as_asked.Goals as goal
 
 pub returns-in_default : goal.returns-in_default
-returns-in_default c =
-    c.fits.ensures
-    ∙ asked-shape c.args.shape c.args.base.now c.args.at_root (value c.args.member.now) c.in_default.not-Reference c.in_default.not-Identifier c.in_default.not-Dialect
+returns-in_default c = λ base other.
+    c.fits.ensures ∙ asked-shape c.args.shape base c.args.at_root (value c.args.member.now) c.in_default.not-Reference other c.in_default.not-Dialect

@@ -1,5 +1,6 @@
 -- Texts and tokens of which nothing is escaped.
-use Rattle.std.proofs.Common.{◌≡◌, ◌<◌, ◌≤◌, ◌^◌, ◌/◌, ◌%◌, ◌==◌, ◌&&◌, ◌||◌, ℕ, Bool, true, false, not, cond, List, [], ◌∷◌, ◌++◌, codes, decimal, flat_map, refl, sym, ap, ap₂, ◌∙◌, arith, append_assoc, append-nil}
+use Rattle.std.proofs.Common.{◌≡◌, ◌<◌, ◌≤◌, ◌^◌, ◌/◌, ◌%◌, ◌==◌, ◌&&◌, ◌||◌, ℕ, suc, ◌+◌, length, get_or, take, Bool, true, false, not, cond, List, [], ◌∷◌, ◌++◌, codes, decimal, flat_map, refl, sym, ap, ap₂, ◌∙◌, arith, append_assoc, append-nil}
+use Rattle.std.proofs.Math.Seq.{take-suc}
 use Rattle.std.proofs.lemmas.Bool.{agree_below_at, and_parts, eqb-false, leb-true, le-leb, not-true}
 use Rattle.std.proofs.lemmas.Fmt.{decimal_is_IsNumeral}
 use Rattle.std.proofs.lemmas.List.Folds.{list_all-append}
@@ -36,15 +37,20 @@ unescaped_byte x h =
 pub escape_same : (t : Text) → list_all is_unescaped t ≡ true → escape t ≡ t
 escape_same = kept escape_byte is_unescaped unescaped_byte
 
-pub as_it_is : (t : Text) → list_all is_unescaped t ≡ true → quoted t ≡ 34 ∷ (t ++ 34 ∷ [])
-as_it_is t h = ap (λ s. 34 ∷ (s ++ 34 ∷ [])) (escape_same t h)
+pub quoted_same : (t : Text) → escape t ≡ t → quoted t ≡ 34 ∷ (t ++ 34 ∷ [])
+quoted_same t same = ap (λ s. 34 ∷ (s ++ 34 ∷ [])) same
 
 pub all_of_both : (p : ℕ → Bool) (xs ys : Text) → list_all p xs ≡ true → list_all p ys ≡ true → list_all p (xs ++ ys) ≡ true
 all_of_both p xs ys h g = list_all-append p xs ys ∙ ap₂ (λ a b. a && b) h g
 
+pub one_more : (p : ℕ → Bool) (xs : Text) (i d : ℕ) → i < length xs → list_all p (take i xs) ≡ true → p (get_or xs i d) ≡ true → list_all p (take (i + 1) xs) ≡ true
+one_more p xs i d less h g =
+    let next : i + 1 ≡ suc i = omega arith in
+    ap (λ n. list_all p (take n xs)) next ∙ ap (list_all p) (take-suc xs i d less) ∙ all_of_both p (take i xs) (get_or xs i d ∷ []) h (ap (λ b. b && true) g)
+
 pub message : (t : Text) → list_all is_unescaped t ≡ true → quoted (t ++ codes " is not met") ≡ 34 ∷ (t ++ codes " is not met\"")
 message t h =
-    as_it_is (t ++ codes " is not met") (all_of_both is_unescaped t (codes " is not met") h refl)
+    quoted_same (t ++ codes " is not met") (escape_same (t ++ codes " is not met") (all_of_both is_unescaped t (codes " is not met") h refl))
     ∙ ap (λ s. 34 ∷ s) (append_assoc t (codes " is not met") (34 ∷ []))
 
 -- ---- in a pointer and in its fragment
@@ -58,7 +64,7 @@ all_agree x below = agree_below_at agrees (λ n. true) 123 x refl below
 is_small_enough : (x : ℕ) → is_plain x ≡ true → x < 123
 is_small_enough x h = grind (arith, h)
 
-chosen : (p b : Bool) → cond p b true ≡ true → p ≡ true → b ≡ true
+pub chosen : (p b : Bool) → cond p b true ≡ true → p ≡ true → b ≡ true
 chosen true b h e = h
 chosen false b h e = cc
 

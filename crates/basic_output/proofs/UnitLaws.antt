@@ -15,11 +15,11 @@ use Rattle.basic_output.specs.declared.unit_text.saying.Form.TheVariants.{NotMet
 use Rattle.basic_output.specs.declared.unit_text.saying.Said.{Said}
 use Rattle.basic_output.specs.declared.unit_text.step_texts.Notation.TheVariants as notation
 use Rattle.basic_output.specs.Notations.{kept_text}
-use Rattle.basic_output.specs.Parts.{AreParts, formed_text, parts_text, path_key, said_ending, said_opening, said_text, unit_end}
+use Rattle.basic_output.specs.Parts.{AreParts, formed_text, parts_text, path_key, quotation, said_ending, said_opening, said_text, unit_end}
 use Rattle.basic_output.specs.Pieces.{IsHead, is_unescaped, kind_key, unit_text}
 use Rattle.basic_output.specs.PointerViews.{onward_pointer, origin_view, pointer_view}
 use Rattle.basic_output.specs.Sayings.{says_value, unit_at}
-use Rattle.basic_output.proofs.PlainLaws.{as_it_is, fragment_append, message}
+use Rattle.basic_output.proofs.PlainLaws.{fragment_append, message}
 
 -- a position past the end is the end
 pub insert_min : {A : Type 0} (xs : List A) (i : ℕ) (x : A) → insert xs (min i (length xs)) x ≡ insert xs i x
@@ -56,7 +56,7 @@ places location p are =
     ∙ ap (λ t. codes ",\"instanceLocation\":" ++ (quoted instance_location ++ (codes ",\"keywordLocation\":" ++ t))) (closed p.path.now (pointer_text (pointer_view location.path.now)) (codes "}") are.path)
 
 -- the three texts around what it says
-around : (f : Form) (t rest : Text) → said_opening f ++ (t ++ (said_ending f ++ rest)) ≡ formed_text f t ++ (codes ",\"instanceLocation\":\"" ++ rest)
+around : (f : Form) (t rest : Text) → quotation f ++ (t ++ (said_ending f ++ rest)) ≡ formed_text f t ++ (codes ",\"instanceLocation\":\"" ++ rest)
 around NotMet t rest = ap (λ u. 34 ∷ u) (sym (append_assoc t (codes " is not met\"") (codes ",\"instanceLocation\":\"" ++ rest)))
 around Plain t rest = ap (λ u. 34 ∷ u) (sym (append_assoc t (34 ∷ []) (codes ",\"instanceLocation\":\"" ++ rest)))
 around Written t rest = refl
@@ -68,8 +68,8 @@ unit_parts annotates location says p s are said =
     let rest = p.instance_location.now ++ (path_key ++ (p.path.now ++ unit_end)) in
     let kind = kind_key annotates in
     let origin = origin_view location.origin.now in
-    let from_opening : (34 ∷ kind) ++ (said_opening s.form ++ (s.text.now ++ (said_ending s.form ++ rest))) ≡ 34 ∷ (kind ++ (text (says_value says) ++ places_text location)) =
-    ap (λ t. 34 ∷ (kind ++ t)) (around s.form s.text.now rest ∙ ap₂ (λ a b. a ++ b) said (places location p are)) in
+    let from_opening : said_opening annotates s.form ++ (s.text.now ++ (said_ending s.form ++ rest)) ≡ 34 ∷ (kind ++ (text (says_value says) ++ places_text location)) =
+    append_assoc (34 ∷ kind) (quotation s.form) (s.text.now ++ (said_ending s.form ++ rest)) ∙ ap (λ t. 34 ∷ (kind ++ t)) (around s.form s.text.now rest ∙ ap₂ (λ a b. a ++ b) said (places location p are)) in
     ap (λ t. p.head.now ++ (p.onward.now ++ t)) from_opening
     ∙ opened origin.0 origin.1 (onward_pointer location.path.now location.onward) p.head.now p.onward.now (kind ++ (text (says_value says) ++ places_text location)) are.head are.onward
 

@@ -1,5 +1,5 @@
 -- A unit's text, put together of its parts.
-use Rattle.std.specs.Prelude.{◌≡◌, ◌+◌, ◌∷◌, ◌++◌, [], ℕ, codes, length}
+use Rattle.std.specs.Prelude.{◌≡◌, ◌+◌, ◌∷◌, ◌++◌, [], ℕ, Bool, codes, length}
 use Rattle.definitions.specs.Values.{Text}
 use Rattle.basic_output.specs.Notations.{kept_text}
 use Rattle.basic_output.specs.Pieces.{IsHead, kind_key}
@@ -20,10 +20,13 @@ abbrev pub unit_end : Text
 unit_end = codes "\"}"
 
 -- what stands before the text of what the unit says, and behind it, up to the instance location
-abbrev pub said_opening : Form → Text
-said_opening NotMet = 34 ∷ []
-said_opening Plain = 34 ∷ []
-said_opening Written = []
+abbrev pub quotation : Form → Text
+quotation NotMet = 34 ∷ []
+quotation Plain = 34 ∷ []
+quotation Written = []
+
+abbrev pub said_opening : Bool → Form → Text
+said_opening annotates form = (34 ∷ kind_key annotates) ++ quotation form
 
 abbrev pub said_ending : Form → Text
 said_ending NotMet = codes " is not met\",\"instanceLocation\":\""
@@ -42,8 +45,8 @@ said_text s = formed_text s.form s.text.now
 -- the unit
 abbrev pub parts_text : UnitParts → Text
 parts_text u =
-    u.location.head.now ++ (u.location.onward.now ++ ((34 ∷ kind_key u.annotates) ++ (said_opening u.said.form ++ (u.said.text.now ++ (said_ending u.said.form
-    ++ (u.location.instance_location.now ++ (path_key ++ (u.location.path.now ++ unit_end))))))))
+    u.location.head.now ++ (u.location.onward.now ++ (said_opening u.annotates u.said.form ++ (u.said.text.now ++ (said_ending u.said.form
+    ++ (u.location.instance_location.now ++ (path_key ++ (u.location.path.now ++ unit_end)))))))
 
 -- how long the texts are that differ from unit to unit
 abbrev pub texts_length : UnitParts → ℕ

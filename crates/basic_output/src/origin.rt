@@ -8,7 +8,7 @@ ghost use Rattle.definitions.specs.Pointers.{fragment_text};
 ghost use Rattle.locations.specs.Steps.{tokens};
 ghost use Rattle.basic_output.specs.Pieces.{IsHead, head_text};
 
-use crate::origin_memory::OriginMemory;
+use crate::memory::OriginMemory;
 use crate::unit_text::{TextBuffer, are_unescaped, push_escaped};
 use locations::{Step, push_fragment};
 use std::alloc::{AllocError, Global};
@@ -169,6 +169,6 @@ fn escaped_head(alloc: Global, uri: &str, steps: &[Step<'_>]) -> Result<String, 
     location.push_str("#")?;
     push_fragment(&mut location, steps)?;
     let mut head = TextBuffer::new(alloc);
-    push_escaped(&mut head, KEY, location.as_str())?;
+    push_escaped(&mut head, &mut String::new(alloc), KEY, location.as_str())?;
     String::from_str(alloc, head.as_str())
 }

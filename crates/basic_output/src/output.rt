@@ -43,28 +43,20 @@ fn write_output(valid: bool, units: &Units, out: &mut String) -> Result<(), Allo
     ensures { OnOk result (string_bytes out.new ≡ string_bytes out.old
         ++ (list_key valid ++ (array_text (unit_texts units.now) ++ valid_member valid))) }
 {
-    out.push_str(list_key(valid))?;
+    let (opening, ending) = frame(valid);
+    out.push_str(opening)?;
     write_texts(units.text(), units.spans(), units.order(), out)?;
-    out.push_str(valid_member(valid))
+    out.push_str(ending)
 }
 
-fn list_key(valid: bool) -> &'static str
-    ensures { result.now ≡ list_key valid }
+// What stands before the list of units, and behind it.
+fn frame(valid: bool) -> (&'static str, &'static str)
+    ensures { (result.0.now ≡ list_key valid) × (result.1.now ≡ valid_member valid) }
 {
     if valid {
-        "{\"annotations\":"
+        ("{\"annotations\":", ",\"valid\":true}")
     } else {
-        "{\"errors\":"
-    }
-}
-
-fn valid_member(valid: bool) -> &'static str
-    ensures { result.now ≡ valid_member valid }
-{
-    if valid {
-        ",\"valid\":true}"
-    } else {
-        ",\"valid\":false}"
+        ("{\"errors\":", ",\"valid\":false}")
     }
 }
 

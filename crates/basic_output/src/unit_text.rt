@@ -5,7 +5,7 @@ ghost use Rattle.locations.specs.Steps.{tokens};
 ghost use Rattle.basic_output.specs.Buffers.{buffer_text};
 ghost use Rattle.basic_output.specs.Notations.{kept_text};
 ghost use Rattle.basic_output.specs.Parts.{AreParts, parts_text, said_ending, said_opening, texts_length};
-ghost use Rattle.basic_output.specs.Pieces.{kind_key, unit_text};
+ghost use Rattle.basic_output.specs.Pieces.{unit_text};
 ghost use Rattle.basic_output.specs.Sayings.{unit_at};
 ghost use Rattle.basic_output.specs.WrittenOver.{IsWrittenOver};
 ghost use Rattle.basic_output.specs.declared.location.Location.{Location};
@@ -181,20 +181,6 @@ fn room_for(unit: UnitParts<'_>) -> Option<usize>
 /// How many bytes all else of a unit takes at most.
 const FRAME: usize = 128;
 
-const ANNOTATION: &str = "\",\"annotation\":";
-
-const ERROR: &str = "\",\"error\":";
-
-const NOT_MET: &str = " is not met\",\"instanceLocation\":\"";
-
-const PLAIN: &str = "\",\"instanceLocation\":\"";
-
-const WRITTEN: &str = ",\"instanceLocation\":\"";
-
-const KEY: &str = "\",\"keywordLocation\":\"";
-
-const END: &str = "\"}";
-
 // Writes a comma and the unit over the bytes from there on: the position behind it.
 #[inline(always)]
 fn write_unit(bytes: &mut [u8], start: usize, unit: UnitParts<'_>) -> usize
@@ -204,47 +190,33 @@ fn write_unit(bytes: &mut [u8], start: usize, unit: UnitParts<'_>) -> usize
 {
     let head = write(bytes, start, ",");
     let onward = write(bytes, head, unit.location.head);
-    let kind = write(bytes, onward, unit.location.onward);
-    let opening = write_kind(bytes, kind, unit.annotates);
-    let said = write_opening(bytes, opening, unit.said.form);
+    let opening = write(bytes, onward, unit.location.onward);
+    let said = write_opening(bytes, opening, unit.annotates, unit.said.form);
     let ending = write(bytes, said, unit.said.text);
     let instance_location = write_ending(bytes, ending, unit.said.form);
     let key = write(bytes, instance_location, unit.location.instance_location);
-    let path = write(bytes, key, KEY);
+    let path = write(bytes, key, "\",\"keywordLocation\":\"");
     let end = write(bytes, path, unit.location.path);
-    write(bytes, end, END)
+    write(bytes, end, "\"}")
 }
 
 // The same of what stands before what the unit says. Each text is written in a branch of its own, since one of a length
 // that is known takes few instructions.
-fn write_kind(bytes: &mut [u8], start: usize, annotates: bool) -> usize
-    requires { start + 16 ≤ length bytes.old }
-    ensures end { result ≤ start + 16 }
-    ensures written { IsWrittenOver start result (34 ∷ kind_key annotates) bytes.old bytes.new }
+fn write_opening(bytes: &mut [u8], start: usize, annotates: bool, form: Form) -> usize
+    requires { start + 17 ≤ length bytes.old }
+    ensures end { result ≤ start + 17 }
+    ensures written { IsWrittenOver start result (said_opening annotates form) bytes.old bytes.new }
     ensures len { length bytes.new ≡ length bytes.old }
 {
-    if annotates {
-        write(bytes, start, ANNOTATION)
-    } else {
-        write(bytes, start, ERROR)
+    match (annotates, form) {
+        (true, Form::Written) => write(bytes, start, "\",\"annotation\":"),
+        (true, Form::NotMet | Form::Plain) => write(bytes, start, "\",\"annotation\":\""),
+        (false, Form::Written) => write(bytes, start, "\",\"error\":"),
+        (false, Form::NotMet | Form::Plain) => write(bytes, start, "\",\"error\":\""),
     }
 }
 
-// The quotation mark, where what the unit says lacks it.
-fn write_opening(bytes: &mut [u8], start: usize, form: Form) -> usize
-    requires { start + 1 ≤ length bytes.old }
-    ensures end { result ≤ start + 1 }
-    ensures written { IsWrittenOver start result (said_opening form) bytes.old bytes.new }
-    ensures len { length bytes.new ≡ length bytes.old }
-{
-    match form {
-        Form::NotMet => write(bytes, start, "\""),
-        Form::Plain => write(bytes, start, "\""),
-        Form::Written => write(bytes, start, ""),
-    }
-}
-
-// What stands behind what the unit says.
+// The same of what stands behind what the unit says.
 fn write_ending(bytes: &mut [u8], start: usize, form: Form) -> usize
     requires { start + 40 ≤ length bytes.old }
     ensures end { result ≤ start + 40 }
@@ -252,8 +224,8 @@ fn write_ending(bytes: &mut [u8], start: usize, form: Form) -> usize
     ensures len { length bytes.new ≡ length bytes.old }
 {
     match form {
-        Form::NotMet => write(bytes, start, NOT_MET),
-        Form::Plain => write(bytes, start, PLAIN),
-        Form::Written => write(bytes, start, WRITTEN),
+        Form::NotMet => write(bytes, start, " is not met\",\"instanceLocation\":\""),
+        Form::Plain => write(bytes, start, "\",\"instanceLocation\":\""),
+        Form::Written => write(bytes, start, ",\"instanceLocation\":\""),
     }
 }

@@ -8,8 +8,8 @@ ghost use Rattle.basic_output.specs.Pieces.{unit_text};
 ghost use Rattle.basic_output.specs.Sayings.{unit_at};
 ghost use Rattle.basic_output.specs.Spans.{IsSpan, ascends, last_end, order_of, span_text, texts_in_order};
 
-use crate::keeping::is_still_kept;
 use crate::location::Location;
+use crate::memory::is_still_kept;
 use crate::says::Says;
 use crate::unit_text::{Saying, TextBuffer, append_unit};
 use std::alloc::{AllocError, Global};
@@ -45,8 +45,7 @@ impl Span {
     {
         Span {
             start: self.start,
-            end: last.end,
-            position: last.position,
+            ..last
         }
     }
 }
@@ -246,14 +245,7 @@ fn put(order: &mut Vec<usize>, position: usize, place: usize) -> Result<(), Allo
 fn are_put_behind(spans: &[Span], units: usize) -> bool
     ensures { result ≡ list_all (λ s. nat_le units s.position) (drop units spans.now) }
 {
-    let (_, later) = spans.split_at(units.min(spans.len()));
-    are_behind(later, units)
-}
-
-fn are_behind(spans: &[Span], units: usize) -> bool
-    ensures { result ≡ list_all (λ s. nat_le units s.position) spans.now }
-{
-    spans.iter().all(|span| units <= span.position)
+    spans.iter().skip(units).all(|span| units <= span.position)
 }
 
 // Where the last text ends.

@@ -8,7 +8,7 @@ ghost use Rattle.basic_output.specs.Notations.{kept_text};
 ghost use Rattle.basic_output.specs.StepTexts.{AreStepTexts};
 ghost use Rattle.basic_output.specs.declared.unit_text.step_texts.Notation.TheVariants as notation;
 
-use crate::pointer_memory::PointerMemory;
+use crate::memory::PointerMemory;
 use crate::unit_text::{Notation, StepTexts};
 use locations::Step;
 use std::alloc::{AllocError, Global};

@@ -16,6 +16,21 @@ const NAMES: &[(&str, &str, &str)] = &[
     ("\u{8}\u{c}", "%08%0C", r#"\b\f"#),
     ("\t\n\r", "%09%0A%0D", r#"\t\n\r"#),
     ("\u{b}x\u{1f}", "%0Bx%1F", r#"\u000bx\u001f"#),
+    (
+        "\u{1}\u{2}\u{3}\u{4}\u{5}\u{6}\u{7}",
+        "%01%02%03%04%05%06%07",
+        r#"\u0001\u0002\u0003\u0004\u0005\u0006\u0007"#,
+    ),
+    (
+        "\u{e}\u{f}\u{10}\u{11}\u{12}\u{13}\u{14}\u{15}\u{16}",
+        "%0E%0F%10%11%12%13%14%15%16",
+        r#"\u000e\u000f\u0010\u0011\u0012\u0013\u0014\u0015\u0016"#,
+    ),
+    (
+        "\u{17}\u{18}\u{19}\u{1a}\u{1b}\u{1c}\u{1d}\u{1e}",
+        "%17%18%19%1A%1B%1C%1D%1E",
+        r#"\u0017\u0018\u0019\u001a\u001b\u001c\u001d\u001e"#,
+    ),
     ("\u{7f}", "%7F", "\u{7f}"),
     ("a/b", "a~1b", "a~1b"),
     ("~", "~0", "~0"),
@@ -32,6 +47,23 @@ const NAMES: &[(&str, &str, &str)] = &[
         "a%20name%20of%20more%20than%20thirty-two%20bytes%20%5C",
         r#"a name of more than thirty-two bytes \\"#,
     ),
+    ("abc\"", "abc%22", r#"abc\""#),
+    ("\\bcde", "%5Cbcde", r#"\\bcde"#),
+    (
+        "abcdefghijklmno\"",
+        "abcdefghijklmno%22",
+        r#"abcdefghijklmno\""#,
+    ),
+    (
+        "\tbcdefghijklmnopq",
+        "%09bcdefghijklmnopq",
+        r#"\tbcdefghijklmnopq"#,
+    ),
+    (
+        "abcdefghijklmnop\\",
+        "abcdefghijklmnop%5C",
+        r#"abcdefghijklmnop\\"#,
+    ),
     ("plain", "plain", "plain"),
 ];
 
@@ -42,7 +74,25 @@ const PLACES: &[[bool; 3]] = &[
     [false, false, true],
     [true, false, true],
     [true, true, false],
+    [false, true, true],
 ];
+
+/// In which parts of the unit it stands there: in the origin, in the path, in the instance location.
+const PARTS: &[[bool; 3]] = &[
+    [true, true, true],
+    [true, false, false],
+    [false, true, false],
+    [false, false, true],
+];
+
+/// Where it stands in a part, if it does there.
+fn place_in(is_there: bool, place: &[bool; 3]) -> [bool; 3] {
+    if is_there {
+        *place
+    } else {
+        [false, false, false]
+    }
+}
 
 /// The steps, of which some have this name.
 fn steps_of<'a>(place: &[bool; 3], name: &'a str) -> [Step<'a>; 3] {
@@ -118,17 +168,20 @@ fn pointer_to<'a>(
     Ok(pointer)
 }
 
-/// The output with one error, at steps of which some have this name. The path's first step leads to the origin, which stands at
-/// the same steps as the whole path.
+/// The output with one error, at steps of which some have this name in these parts. The path's first step leads to the origin.
 fn output_at(
     alloc: Global,
+    parts: &[bool; 3],
     place: &[bool; 3],
     name: &str,
     written: Written,
 ) -> Result<String, Fault> {
-    let steps = steps_of(place, name);
+    let [in_origin, in_path, in_instance] = *parts;
+    let steps = steps_of(&place_in(in_origin, place), name);
     let origin = Origin::new(alloc, "urn:x", Vec::from_slice(alloc, &steps)?)?;
+    let steps = steps_of(&place_in(in_path, place), name);
     let path = pointer_to(alloc, &steps, 2, written)?;
+    let steps = steps_of(&place_in(in_instance, place), name);
     let instance_location = pointer_to(alloc, &steps, 0, written)?;
     let mut units = Units::new(alloc);
     let location = Location {
@@ -144,17 +197,20 @@ fn output_at(
 /// The text of that output, where the name has this token in a fragment and this one in a string.
 fn wanted_at(
     alloc: Global,
+    parts: &[bool; 3],
     place: &[bool; 3],
     fragment: &str,
     pointer: &str,
 ) -> Result<String, Fault> {
+    let [in_origin, in_path, in_instance] = *parts;
+    let path = place_in(in_path, place);
     let mut text = String::from_str(alloc, r#"{"errors":[{"absoluteKeywordLocation":"urn:x#"#)?;
-    push_steps(&mut text, place, fragment)?;
-    push_onward(&mut text, place, fragment)?;
+    push_steps(&mut text, &place_in(in_origin, place), fragment)?;
+    push_onward(&mut text, &path, fragment)?;
     text.push_str(r#"","error":"no value is allowed","instanceLocation":""#)?;
-    push_steps(&mut text, place, pointer)?;
+    push_steps(&mut text, &place_in(in_instance, place), pointer)?;
     text.push_str(r#"","keywordLocation":""#)?;
-    push_steps(&mut text, place, pointer)?;
+    push_steps(&mut text, &path, pointer)?;
     text.push_str(r#""}],"valid":false}"#)?;
     Ok(text)
 }
@@ -163,19 +219,32 @@ fn expect_escaped_at(
     rt: &impl Abort,
     alloc: Global,
     row: &(&str, &str, &str),
+    parts: &[bool; 3],
     place: &[bool; 3],
     written: Written,
 ) {
     let (name, fragment, pointer) = *row;
-    let found = output_at(alloc, place, name, written);
-    expect_same(rt, found, wanted_at(alloc, place, fragment, pointer), name);
+    let found = output_at(alloc, parts, place, name, written);
+    let wanted = wanted_at(alloc, parts, place, fragment, pointer);
+    expect_same(rt, found, wanted, name);
+}
+
+fn expect_escaped_in_parts(
+    rt: &impl Abort,
+    alloc: Global,
+    row: &(&str, &str, &str),
+    place: &[bool; 3],
+) {
+    for parts in PARTS {
+        expect_escaped_at(rt, alloc, row, parts, place, Written::Nothing);
+        expect_escaped_at(rt, alloc, row, parts, place, Written::Pointers);
+        expect_escaped_at(rt, alloc, row, parts, place, Written::All);
+    }
 }
 
 fn expect_escaped(rt: &impl Abort, alloc: Global, row: &(&str, &str, &str)) {
     for place in PLACES {
-        expect_escaped_at(rt, alloc, row, place, Written::Nothing);
-        expect_escaped_at(rt, alloc, row, place, Written::Pointers);
-        expect_escaped_at(rt, alloc, row, place, Written::All);
+        expect_escaped_in_parts(rt, alloc, row, place);
     }
 }
 

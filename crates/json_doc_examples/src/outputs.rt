@@ -112,6 +112,13 @@ const VALUES: &[(&str, &str)] = &[
     (r#"{"b":[1,null],"a":"x"}"#, r#"{"a":"x","b":[1,null]}"#),
     (r#""x/y""#, r#""x/y""#),
     (r#""x\"y""#, r#""x\"y""#),
+    (r#""\\d{2}""#, r#""\\d{2}""#),
+    (r#""\u0001\t\n""#, r#""\u0001\t\n""#),
+    ("\"é 数 𝕏\"", "\"é 数 𝕏\""),
+    (
+        r#""a text of more than thirty-two bytes \\""#,
+        r#""a text of more than thirty-two bytes \\""#,
+    ),
 ];
 
 fn value_annotation(alloc: Global, value: &str) -> Result<String, Fault> {

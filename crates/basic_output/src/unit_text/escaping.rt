@@ -1,60 +1,119 @@
-//! Texts as they stand in strings of JSON (RFC 8259, section 7).
+//! Texts as they stand in strings of JSON (RFC 8259, section 7), by the writer of `json`.
 
-ghost use Rattle.std.specs.Prelude.{◌≡◌, ◌++◌, IfOk, OnOk, string_bytes};
-ghost use Rattle.std.specs.List.{list_all};
-ghost use Rattle.json.specs.Print.{escape, quoted};
+ghost use Rattle.std.specs.Prelude.{◌≡◌, ◌+◌, ◌<◌, ◌≤◌, ◌++◌, [], length, OnOk, string_bytes};
+ghost use Rattle.std.specs.Bool.{OnTrue};
+ghost use Rattle.json.specs.Print.{escape, print, quoted};
+ghost use Rattle.json.specs.Written.{PlainBetween};
 ghost use Rattle.basic_output.specs.Buffers.{buffer_text};
-ghost use Rattle.basic_output.specs.Pieces.{is_unescaped};
 
 use super::buffer::TextBuffer;
 use json::Writer;
 use std::alloc::{AllocError, Global};
+use std::mem::replace;
+use std::simd::prelude::*;
 
-/// Appends a text as it stands in a string, behind what leads it. The only error is want of memory.
+/// Appends a text as it stands in a string, behind what leads it. Escapes are made in the memory first, whatever that has in it. The
+/// only error is want of memory.
 #[inline(always)]
-#[tactic(auto, using(crate::proofs::PlainLaws::escape_same))]
-pub(crate) fn push_escaped(out: &mut TextBuffer, lead: &str, text: &str) -> Result<(), AllocError>
+pub(crate) fn push_escaped(
+    out: &mut TextBuffer,
+    memory: &mut String,
+    lead: &str,
+    text: &str,
+) -> Result<(), AllocError>
     ensures { OnOk result (buffer_text out.new
         ≡ buffer_text out.old ++ (lead.now ++ escape text.now)) }
 {
     if are_unescaped(text.as_bytes()) {
         return out.push_led(lead, text);
     }
-    push_escapes(out, lead, text)
+    push_escapes(out, memory, lead, text)
 }
 
 // The same of a text that may have escapes. It is called apart, since few texts have any.
 #[inline(never)]
-fn push_escapes(out: &mut TextBuffer, lead: &str, text: &str) -> Result<(), AllocError>
+fn push_escapes(
+    out: &mut TextBuffer,
+    memory: &mut String,
+    lead: &str,
+    text: &str,
+) -> Result<(), AllocError>
     ensures { OnOk result (buffer_text out.new
         ≡ buffer_text out.old ++ (lead.now ++ escape text.now)) }
 {
-    let string = quoted(out.allocator(), text)?;
-    out.push_led(lead, &string.as_str()[1..string.len() - 1])
+    write_string(memory, text)?;
+    out.push_led(lead, &memory.as_str()[1..memory.len() - 1])
 }
 
-// The string, with its quotation marks.
-fn quoted(alloc: Global, text: &str) -> Result<String, AllocError>
-    ensures { IfOk result (λ s. string_bytes s ≡ quoted text.now) }
+// Writes the string, with its quotation marks, in place of what the memory has.
+fn write_string(memory: &mut String, text: &str) -> Result<(), AllocError>
+    ensures { OnOk result (string_bytes memory.new ≡ quoted text.now) }
 {
-    let mut out = Writer::new(Vec::new(alloc));
+    let mut out = writer_over(memory);
     out.string(text)?;
-    Ok(unsafe { String::from_utf8_unchecked(out.into_inner()) })
+    *memory = written_by(out);
+    Ok(())
 }
 
-/// Whether the text stands in a string as it is. All bytes are looked at, so that the compiler does it by vectors.
+/// A writer that writes over the memory, which has none until it is given back.
+pub(super) fn writer_over(memory: &mut String) -> Writer
+    ensures before { result.before ≡ [] }
+    ensures tokens { result.tokens ≡ [] }
+{
+    let alloc = *memory.allocator();
+    let mut bytes = replace(memory, String::new(alloc)).into_bytes();
+    bytes.clear();
+    Writer::new(bytes)
+}
+
+/// What such a writer wrote.
+pub(super) fn written_by(out: Writer) -> String
+    requires { out.before ≡ [] }
+    ensures { string_bytes result ≡ print out.tokens }
+{
+    unsafe { String::from_utf8_unchecked(out.into_inner()) }
+}
+
+/// Whether the text surely stands in a string as it is: it is looked at by vectors.
+#[inline(always)]
 pub(crate) fn are_unescaped(bytes: &[u8]) -> bool
-    ensures { result ≡ list_all is_unescaped bytes.now }
+    ensures { OnTrue result (escape bytes.now ≡ bytes.now) }
 {
-    let mut unescaped = true;
-    for byte in bytes {
-        unescaped &= is_unescaped(*byte);
+    if bytes.len() >= 16 {
+        are_many_unescaped::<16>(bytes)
+    } else if bytes.len() >= 4 {
+        are_many_unescaped::<4>(bytes)
+    } else if !bytes.is_empty() {
+        are_many_unescaped::<1>(bytes)
+    } else {
+        true
     }
-    unescaped
 }
 
-fn is_unescaped(byte: u8) -> bool
-    ensures { result ≡ is_unescaped byte }
+// The same of N bytes and more, of which the last N may be looked at twice. It is inlined for its size.
+fn are_many_unescaped<const N: usize>(bytes: &[u8]) -> bool
+    requires { (0 < N) × (N ≤ 64) × (N ≤ length bytes.now) }
+    ensures { OnTrue result (PlainBetween bytes.now 0 (length bytes.now)) }
 {
-    byte >= b' ' && byte != b'"' && byte != b'\\'
+    let mut at = 0;
+    while bytes.len() - at > N {
+        if !are_unescaped_at::<N>(bytes, at) {
+            return false;
+        }
+        at += N;
+    }
+    are_unescaped_at::<N>(bytes, bytes.len() - N)
+}
+
+// Whether N bytes from there on do.
+#[inline(always)]
+fn are_unescaped_at<const N: usize>(bytes: &[u8], at: usize) -> bool
+    requires { (N ≤ 64) × (at + N ≤ length bytes.now) }
+    ensures { OnTrue result (PlainBetween bytes.now at (at + N)) }
+{
+    let lanes = Simd::<u8, N>::from_slice(&bytes[at..]);
+    let escaped = lanes.simd_eq(Simd::splat(b'"'))
+        | lanes.simd_eq(Simd::splat(b'\\'))
+        | lanes.simd_lt(Simd::splat(b' '));
+    escaped.to_bitmask() == 0
 }

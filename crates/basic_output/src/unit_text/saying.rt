@@ -10,15 +10,14 @@ ghost use Rattle.basic_output.specs.Pieces.{index_tokens, name_tokens, names_tex
 ghost use Rattle.basic_output.specs.Sayings.{says_value};
 ghost use Rattle.basic_output.specs.declared.says.Says.TheVariants as says;
 
-use super::escaping::are_unescaped;
-use crate::keeping::is_kept;
+use super::escaping::{are_unescaped, writer_over, written_by};
+use crate::memory::is_kept;
 use crate::name_lists::NameListCache;
 use crate::says::Says;
 use json::Writer;
 use json_doc::{Name, write_doc};
 use keywords::Keyword;
 use std::alloc::{AllocError, Global};
-use std::mem::replace;
 
 /// What a unit says, and how.
 #[derive(Clone, Copy)]
@@ -111,11 +110,9 @@ impl Saying {
         ensures { OnOk result (string_bytes self.new.text ≡ text (says_value says.entry)) }
     {
         let alloc = *self.text.allocator();
-        let mut bytes = replace(&mut self.text, String::new(alloc)).into_bytes();
-        bytes.clear();
-        let mut out = Writer::new(bytes);
+        let mut out = writer_over(&mut self.text);
         write_says(alloc, says, &mut out)?;
-        self.text = unsafe { String::from_utf8_unchecked(out.into_inner()) };
+        self.text = written_by(out);
         Ok(())
     }
 }
@@ -146,7 +143,7 @@ fn not_met<'s>(keyword: Keyword) -> Said<'s>
 }
 
 // The text, where it stands in a string as it is.
-#[tactic(auto, using(crate::proofs::PlainLaws::as_it_is))]
+#[tactic(auto, using(crate::proofs::PlainLaws::quoted_same))]
 fn plain_string(said: &str) -> Option<Said<'_>>
     ensures { IfSome result (λ s. said_text s ≡ text (string said.now)) }
 {

@@ -1,11 +1,11 @@
 //! The texts of steps, one behind the other, as they stand in the output.
 
-ghost use Rattle.std.specs.Prelude.{◌≡◌, ◌+◌, ◌≤◌, ◌<◌, ◌∷◌, ◌++◌, [], List, true, decimal, drop, get_or, length, IfOk, IfSome, OnOk};
+ghost use Rattle.std.specs.Prelude.{◌≡◌, ◌+◌, ◌≤◌, ◌<◌, ◌∷◌, ◌++◌, [], List, true, drop, get_or, length, string_bytes, IfOk, IfSome, OnOk};
 ghost use Rattle.std.specs.List.{list_all};
 ghost use Rattle.locations.specs.Steps.{token, tokens};
 ghost use Rattle.locations.specs.declared.step.Step.{Step};
 ghost use Rattle.basic_output.specs.Buffers.{buffer_text};
-ghost use Rattle.basic_output.specs.Notations.{IsPushed, kept_text, stands_in_pointer};
+ghost use Rattle.basic_output.specs.Notations.{IsPushed, kept_text, notation_text, stands_in_pointer};
 ghost use Rattle.basic_output.specs.Pieces.{is_plain};
 ghost use Rattle.basic_output.specs.declared.unit_text.step_texts.Notation.TheVariants as notation;
 
@@ -13,17 +13,18 @@ use super::buffer::TextBuffer;
 use super::escaping::push_escaped;
 use locations::{Step, push_fragment, push_pointer};
 use std::alloc::{AllocError, Global};
+use std::mem::replace;
 
-// Each plain byte stands at its own place, and a comma at every other place.
-static PLAIN: [u8; 256] = *b"\
-    ,,,,,,,,,,,,,,,,,,,,,,,,,,,,,,,,\
-    ,,,,$,,,,,,,,-.,0123456789,,,,,,\
-    ,ABCDEFGHIJKLMNOPQRSTUVWXYZ,,,,_\
-    ,abcdefghijklmnopqrstuvwxyz,,,,,\
-    ,,,,,,,,,,,,,,,,,,,,,,,,,,,,,,,,\
-    ,,,,,,,,,,,,,,,,,,,,,,,,,,,,,,,,\
-    ,,,,,,,,,,,,,,,,,,,,,,,,,,,,,,,,\
-    ,,,,,,,,,,,,,,,,,,,,,,,,,,,,,,,,";
+// Of each byte whether it stands as it is: `0` in a pointer, in its fragment and in a string, `1` in a pointer, `3` in none.
+static MARKS: [u8; 256] = *b"\
+    11111111111111111111111111111111\
+    11110111111110030000000000111111\
+    10000000000000000000000000011110\
+    10000000000000000000000000011131\
+    11111111111111111111111111111111\
+    11111111111111111111111111111111\
+    11111111111111111111111111111111\
+    11111111111111111111111111111111";
 
 /// How steps are written.
 #[derive(Clone, Copy, Debug)]
@@ -43,6 +44,8 @@ pub(crate) struct StepTexts {
     text: TextBuffer,
     // Where the text of each step starts.
     starts: Vec<usize>,
+    // Where a name is written first that isn't plain, whatever stands there.
+    memory: String,
     // From this step on all are plain: they are written in the same way in a pointer and in its fragment.
     plain_from: usize,
 }
@@ -57,6 +60,7 @@ impl StepTexts {
         StepTexts {
             text: TextBuffer::new(alloc),
             starts: Vec::new(alloc),
+            memory: String::new(alloc),
             plain_from: 0,
         }
     }
@@ -77,7 +81,7 @@ impl StepTexts {
 
     /// How many bytes there are in all.
     pub(crate) fn room(&self) -> usize {
-        self.text.room()
+        self.text.room().saturating_add(self.memory.capacity())
     }
 
     /// How many steps are written.
@@ -123,7 +127,13 @@ impl StepTexts {
         ensures one { OnOk result
             (length self.new.starts.items ≡ length self.old.starts.items + 1) }
     {
-        match push_next(&mut self.text, &mut self.starts, notation, step) {
+        let StepTexts {
+            text,
+            starts,
+            memory,
+            ..
+        } = self;
+        match push_next(text, starts, memory, notation, step) {
             Ok(true) => Ok(()),
             Ok(false) => {
                 self.plain_from = self.starts.len();
@@ -173,6 +183,7 @@ impl StepTexts {
 fn push_next(
     text: &mut TextBuffer,
     starts: &mut Vec<usize>,
+    memory: &mut String,
     notation: Notation,
     step: Step<'_>,
 ) -> Result<bool, AllocError>
@@ -182,21 +193,29 @@ fn push_next(
         ≡ starts.old.items ++ length (buffer_text text.old) ∷ []) }
 {
     let start = text.len();
-    let plain = push_step(text, notation, step)?;
+    let plain = push_step(text, memory, notation, step)?;
     starts.push(start)?;
     Ok(plain)
 }
 
 // Appends the text of a step: whether it is plain, as indexes and the names of keywords are.
 #[inline(always)]
-#[tactic(auto, using(crate::proofs::PlainLaws::plain_pushed, crate::proofs::KeywordNames::name_is_plain))]
-fn push_step(text: &mut TextBuffer, notation: Notation, step: Step<'_>) -> Result<bool, AllocError>
+#[tactic(auto, using(crate::proofs::PlainLaws::plain_pushed, crate::proofs::PlainLaws::index_is_plain, crate::proofs::KeywordNames::name_is_plain))]
+fn push_step(
+    text: &mut TextBuffer,
+    memory: &mut String,
+    notation: Notation,
+    step: Step<'_>,
+) -> Result<bool, AllocError>
     ensures { IfOk result (λ plain. IsPushed notation (token step.entry) plain
         (buffer_text text.old) (buffer_text text.new)) }
 {
     match step {
-        Step::Name(name) => push_name(text, notation, name),
-        Step::Index(index) => push_index(text, notation, index),
+        Step::Name(name) => push_name(text, memory, notation, name),
+        Step::Index(index) => {
+            text.push_led("/", itoa::Buffer::new().format(index))?;
+            Ok(true)
+        }
         Step::Keyword(keyword) => {
             text.push_led("/", keyword.name())?;
             Ok(true)
@@ -204,89 +223,89 @@ fn push_step(text: &mut TextBuffer, notation: Notation, step: Step<'_>) -> Resul
     }
 }
 
-#[inline(always)]
-#[tactic(auto, using(crate::proofs::PlainLaws::plain_pushed, crate::proofs::PlainLaws::index_is_plain))]
-fn push_index(text: &mut TextBuffer, notation: Notation, index: usize) -> Result<bool, AllocError>
-    ensures { IfOk result (λ plain. IsPushed notation (decimal index) plain
-        (buffer_text text.old) (buffer_text text.new)) }
-{
-    let _notation = notation;
-    let mut digits = itoa::Buffer::new();
-    text.push_led("/", digits.format(index))?;
-    Ok(true)
-}
-
 // The same of a member's name.
 #[inline(always)]
-fn push_name(text: &mut TextBuffer, notation: Notation, name: &str) -> Result<bool, AllocError>
+fn push_name(
+    text: &mut TextBuffer,
+    memory: &mut String,
+    notation: Notation,
+    name: &str,
+) -> Result<bool, AllocError>
     ensures { IfOk result (λ plain. IsPushed notation name.now plain
         (buffer_text text.old) (buffer_text text.new)) }
 {
-    let plain = are_plain_bytes(name.as_bytes());
-    if plain {
+    let mark = mark_of(name.as_bytes());
+    if mark == b'0' {
         text.push_led("/", name)?;
+        Ok(true)
     } else {
-        push_other_name(text, notation, name)?;
+        push_other_name(text, memory, notation, name, mark)?;
+        Ok(false)
     }
-    Ok(plain)
 }
 
-// The same of a name that isn't plain. It is called apart, since few names are such.
+// The same of a name that isn't plain, whose mark this is. It is called apart, since few names are such.
 #[inline(never)]
-fn push_other_name(text: &mut TextBuffer, notation: Notation, name: &str) -> Result<(), AllocError>
+fn push_other_name(
+    text: &mut TextBuffer,
+    memory: &mut String,
+    notation: Notation,
+    name: &str,
+    mark: u8,
+) -> Result<(), AllocError>
+    requires { mark < 51 → list_all stands_in_pointer name.now ≡ true }
     ensures { OnOk result (buffer_text text.new
         ≡ buffer_text text.old ++ kept_text notation (name.now ∷ [])) }
 {
     match notation {
-        Notation::Pointer => push_in_pointer(text, name),
-        Notation::Fragment => push_in_fragment(text, name),
+        Notation::Pointer if mark < b'3' => push_escaped(text, memory, "/", name),
+        _ => push_written_name(text, memory, notation, name),
     }
 }
 
-fn push_in_pointer(text: &mut TextBuffer, name: &str) -> Result<(), AllocError>
+// The same of a name that is written in the memory first.
+fn push_written_name(
+    text: &mut TextBuffer,
+    memory: &mut String,
+    notation: Notation,
+    name: &str,
+) -> Result<(), AllocError>
     ensures { OnOk result (buffer_text text.new
-        ≡ buffer_text text.old ++ kept_text notation.Pointer (name.now ∷ [])) }
+        ≡ buffer_text text.old ++ kept_text notation (name.now ∷ [])) }
 {
-    if stands_in_pointer(name) {
-        return push_escaped(text, "/", name);
+    let mut token = replace(memory, String::new(text.allocator()));
+    token.clear();
+    write_name(&mut token, notation, name)?;
+    push_escaped(text, memory, "", token.as_str())?;
+    *memory = token;
+    Ok(())
+}
+
+fn write_name(out: &mut String, notation: Notation, name: &str) -> Result<(), AllocError>
+    ensures { OnOk result (string_bytes out.new
+        ≡ string_bytes out.old ++ notation_text notation (name.now ∷ [])) }
+{
+    match notation {
+        Notation::Pointer => push_pointer(out, &[Step::Name(name)]),
+        Notation::Fragment => push_fragment(out, &[Step::Name(name)]),
     }
-    let mut written = String::new(text.allocator());
-    push_pointer(&mut written, &[Step::Name(name)])?;
-    push_escaped(text, "", written.as_str())
 }
 
-fn push_in_fragment(text: &mut TextBuffer, name: &str) -> Result<(), AllocError>
-    ensures { OnOk result (buffer_text text.new
-        ≡ buffer_text text.old ++ kept_text notation.Fragment (name.now ∷ [])) }
+// The marks of all bytes in one: a `3` makes it one, and else a `1`.
+fn mark_of(bytes: &[u8]) -> u8
+    ensures plain { result ≤ 48 → list_all is_plain bytes.now ≡ true }
+    ensures pointer { result < 51 → list_all stands_in_pointer bytes.now ≡ true }
 {
-    let mut written = String::new(text.allocator());
-    push_fragment(&mut written, &[Step::Name(name)])?;
-    push_escaped(text, "", written.as_str())
-}
-
-// Whether a pointer has the token as it is.
-fn stands_in_pointer(token: &str) -> bool
-    ensures { result ≡ list_all stands_in_pointer token.now }
-{
-    token
-        .as_bytes()
-        .iter()
-        .all(|byte| *byte != b'~' && *byte != b'/')
-}
-
-// Whether a text is written in the same way in a pointer and in its fragment, and nothing of it is escaped in a string.
-fn are_plain_bytes(bytes: &[u8]) -> bool
-    ensures { result ≡ list_all is_plain bytes.now }
-{
-    let mut plain = true;
+    let mut mark = b'0';
     for byte in bytes {
-        plain &= is_plain(*byte);
+        mark |= mark_at(*byte);
     }
-    plain
+    mark
 }
 
-fn is_plain(byte: u8) -> bool
-    ensures { result ≡ is_plain byte }
+fn mark_at(byte: u8) -> u8
+    ensures plain { result ≤ 48 → is_plain byte ≡ true }
+    ensures pointer { result < 51 → stands_in_pointer byte ≡ true }
 {
-    PLAIN[byte as usize] != b','
+    MARKS[byte as usize]
 }

@@ -1,10 +1,8 @@
-use Rattle.std.proofs.Common.{◌≡◌, ◌++◌, ◌∷◌, ◌-◌, [], true, codes, drop, length, string_bytes, take, append_assoc, sym, ap, ◌∙◌}
+use Rattle.std.proofs.Common.{◌≡◌, ◌++◌, ◌∷◌, ◌-◌, [], codes, drop, length, string_bytes, take, append_assoc, sym, ap, ◌∙◌}
 use Rattle.std.proofs.lemmas.List.{take_rest}
-use Rattle.std.specs.List.{list_all}
+use Rattle.json.specs.Print.{escape}
 use Rattle.definitions.specs.Pointers.{fragment_text}
 use Rattle.locations.specs.Steps.{tokens}
-use Rattle.basic_output.specs.Pieces.{is_unescaped}
-use Rattle.basic_output.proofs.PlainLaws.{escape_same}
 use Rattle.basic_output.proofs.origin.head_of.Goals as goal
 
 pub returns-then-are_unescaped : goal.returns-then-are_unescaped
@@ -21,5 +19,5 @@ returns-then-are_unescaped c =
     ∙ ap (λ t. key ++ t) (append_assoc uri (35 ∷ []) fragment) in
     let seen = take (length b - 28) (drop 28 b) in
     let there : seen ≡ location = take_rest b 28 ∙ ap (drop 28) (c.as_bytes.ensures.value ∙ written) in
-    let plain : list_all is_unescaped location ≡ true = ap (list_all is_unescaped) (sym there) ∙ sym c.are_unescaped.ensures ∙ c.if-are_unescaped.true in
-    written ∙ ap (λ t. key ++ t) (sym (escape_same location plain))
+    let same : escape location ≡ location = ap escape (sym there) ∙ c.if-are_unescaped.ensures ∙ there in
+    written ∙ ap (λ t. key ++ t) (sym same)

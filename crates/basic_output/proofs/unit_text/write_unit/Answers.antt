@@ -5,11 +5,10 @@ pub returns-clause-written : goal.returns-clause-written
 returns-clause-written c =
     written_on c.write-head.ensures.written
     (written_on c.write-onward.ensures.written
-    (written_on c.write-kind.ensures.written
-    (written_on c.write_kind-opening.ensures.written
+    (written_on c.write-opening.ensures.written
     (written_on c.write_opening-said.ensures.written
     (written_on c.write-ending.ensures.written
     (written_on c.write_ending-instance_location.ensures.written
     (written_on c.write-key.ensures.written
     (written_on c.write-path.ensures.written
-    (written_on c.write-end.ensures.written c.write.ensures.written)))))))))
+    (written_on c.write-end.ensures.written c.write.ensures.written))))))))

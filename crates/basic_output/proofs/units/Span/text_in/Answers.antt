@@ -1,6 +1,5 @@
 use Rattle.std.proofs.Common.{take, arith}
 use Rattle.std.proofs.lemmas.Str.{IsCharBoundary-from_take, IsUtf8-from_is_utf8}
-use Rattle.basic_output.specs.Spans.{span_text}
 use Rattle.basic_output.proofs.units.Span.text_in.Goals as goal
 
 pub range-requires-clause-start_boundary : goal.range-requires-clause-start_boundary

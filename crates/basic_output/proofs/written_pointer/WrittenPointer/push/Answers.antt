@@ -1,7 +1,4 @@
-use Rattle.std.proofs.Common.{◌∷◌, [], ap, is_ok, ◌∙◌}
-use Rattle.std.proofs.lemmas.List.{map-append}
-use Rattle.locations.specs.Steps.{token, tokens}
-use Rattle.basic_output.specs.PointerViews.{pointer_view}
+use Rattle.std.proofs.Common.{◌∷◌, [], is_ok}
 use Rattle.basic_output.proofs.FrontLaws.{pushed_texts}
 use Rattle.basic_output.proofs.written_pointer.WrittenPointer.push.Goals as goal
 

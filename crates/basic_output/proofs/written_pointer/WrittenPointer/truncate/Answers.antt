@@ -1,5 +1,5 @@
 use Rattle.std.proofs.Common.{◌≤◌, length, take, sym, ap, ◌∙◌, arith}
-use Rattle.std.proofs.lemmas.List.{length-map, take-map, take_all}
+use Rattle.std.proofs.lemmas.List.{take-map}
 use Rattle.locations.specs.Steps.{token, tokens}
 use Rattle.basic_output.specs.PointerViews.{pointer_view}
 use Rattle.basic_output.proofs.FrontLaws.{cut_texts}

@@ -1,6 +1,3 @@
-use Rattle.std.proofs.Common.{ap}
-use Rattle.locations.specs.Steps.{tokens}
-use Rattle.basic_output.specs.PointerViews.{pointer_view}
 use Rattle.basic_output.specs.declared.unit_text.step_texts.Notation.TheVariants as notation
 use Rattle.basic_output.proofs.written_pointer.WrittenPointer.within.Goals as goal
 

@@ -1,4 +1,4 @@
-use Rattle.std.proofs.Common.{take, subst, sym, ap, ◌∙◌}
+use Rattle.std.proofs.Common.{take, subst, sym}
 use Rattle.std.specs.Str.{IsUtf8}
 use Rattle.basic_output.specs.Buffers.{buffer_text}
 use Rattle.basic_output.proofs.BufferLaws.{whole_buffer}

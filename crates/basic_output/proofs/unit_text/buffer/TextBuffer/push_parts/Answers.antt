@@ -1,6 +1,3 @@
-use Rattle.std.proofs.Common.{◌++◌, ◌∷◌, ap, ◌∙◌}
-use Rattle.basic_output.specs.Buffers.{buffer_text}
-use Rattle.basic_output.specs.Parts.{parts_text}
 use Rattle.basic_output.proofs.BufferLaws.{written_behind, written_in}
 use Rattle.basic_output.proofs.unit_text.buffer.TextBuffer.push_parts.Goals as goal
 

@@ -1,5 +1,5 @@
-use Rattle.std.proofs.Common.{sym, arith}
-use Rattle.std.proofs.lemmas.List.{length-take-le, take-take, take_all}
+use Rattle.std.proofs.Common.{arith}
+use Rattle.std.proofs.lemmas.List.{length-take-le}
 use Rattle.basic_output.specs.Buffers.{buffer_text}
 use Rattle.basic_output.proofs.BufferLaws.{cut_buffer}
 use Rattle.basic_output.proofs.unit_text.buffer.TextBuffer.truncate.Goals as goal

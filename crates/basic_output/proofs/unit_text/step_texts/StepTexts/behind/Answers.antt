@@ -1,7 +1,7 @@
-use Rattle.std.proofs.Common.{◌≡◌, ◌<◌, length, drop, ap, sym, refl, ◌∙◌, arith}
+use Rattle.std.proofs.Common.{◌≡◌, ◌<◌, length, drop, ap, sym, ◌∙◌, arith}
 use Rattle.std.specs.List.{slice_index}
 use Rattle.basic_output.specs.Buffers.{buffer_text}
-use Rattle.basic_output.proofs.FrontLaws.{behind, may_cut, none_left, starts_at}
+use Rattle.basic_output.proofs.FrontLaws.{behind, may_cut, starts_at}
 use Rattle.basic_output.proofs.unit_text.step_texts.StepTexts.behind.Goals as goal
 
 pub range_from-requires : goal.range_from-requires

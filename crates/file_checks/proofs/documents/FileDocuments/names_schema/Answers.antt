@@ -1,17 +1,13 @@
-use Rattle.std.proofs.Common.{◌≡◌, Some, Option, IfOk, Result, Bool, is_some, find, ap, sym, ◌∙◌, subst, option_map}
+use Rattle.std.proofs.Common.{◌≡◌, Some, is_some, find, ap, sym, ◌∙◌, option_map}
 use Rattle.definitions.specs.Fragments.{fragment_kind}
 use Rattle.definitions.specs.Reach.{holds_resource}
-use Rattle.definitions.specs.Schemas.{Schema}
 use Rattle.definitions.specs.Targets.{target_in, fragment_of}
 use Rattle.definitions.specs.Uris.{without_fragment}
 use Rattle.schema_scan.specs.CompiledDocuments.{compiled_schemas, compiled_view}
-use Rattle.linker.proofs.Judged.{target_where_held, no_target}
+use Rattle.linker.proofs.Judged.{carried, target_where_held, no_target}
 use Rattle.file_checks.specs.FileSources.{file_documents}
 use Rattle.file_checks.proofs.Held.{distinct_documents}
 use Rattle.file_checks.proofs.documents.FileDocuments.names_schema.Goals as goal
-
-carried : {E : Type 0} (r : Result Bool E) (o p : Option Schema) → o ≡ p → IfOk r (λ b. b ≡ is_some o) → IfOk r (λ b. b ≡ is_some p)
-carried r o p e h = subst (λ x. IfOk r (λ b. b ≡ is_some x)) e h
 
 pub returns-in-Some-clause-ok : goal.returns-in-Some-clause-ok
 returns-in-Some-clause-ok c =

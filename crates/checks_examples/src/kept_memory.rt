@@ -85,15 +85,19 @@ fn text_of(outcome: Result<Report, Fault>) -> Result<String, Fault> {
     Ok(outcome?.into_text())
 }
 
-fn are_answered_by_one(alloc: Global, linked: &Linked) -> Result<bool, Fault> {
-    let instances = instances(alloc)?;
-    let mut evaluator = Evaluator::new(alloc, linked)?;
+fn are_answered_by<'a>(evaluator: &mut Evaluator<'a>, instances: &'a [Doc]) -> Result<bool, Fault> {
     for (instance, row) in instances.iter().zip(ANSWERS.iter()) {
         if text_of(evaluator.evaluate(instance))?.as_str() != row.1 {
             return Ok(false);
         }
     }
     Ok(true)
+}
+
+fn are_answered_by_one(alloc: Global, linked: &Linked) -> Result<bool, Fault> {
+    let instances = instances(alloc)?;
+    let mut evaluator = Evaluator::new(alloc, linked)?;
+    are_answered_by(&mut evaluator, &instances)
 }
 
 fn one_evaluator_answers(alloc: Global) -> Result<bool, Fault> {

@@ -166,16 +166,25 @@ fn escapes_locations(rt: HostRuntime) {
 
 /// Puts the error of a subschema, then one that is cut off again, and at the mark that of the keyword.
 fn push_marked(alloc: Global, units: &mut Units, own: Mark) -> Result<(), Fault> {
-    let path = [Step::Name("anyOf"), Step::Index(1), Step::Name("type")];
     let mut places = Places::new(alloc);
+    push_marked_at(alloc, units, own, &mut places)
+}
+
+fn push_marked_at(
+    alloc: Global,
+    units: &mut Units,
+    own: Mark,
+    places: &mut Places<'static>,
+) -> Result<(), Fault> {
+    let path = [Step::Name("anyOf"), Step::Index(1), Step::Name("type")];
     places.turn_to(&path, &[])?;
-    push_error(alloc, units, &places, Says::NotMet(Keyword::Type))?;
+    push_error(alloc, units, places, Says::NotMet(Keyword::Type))?;
     let later = units.mark();
     places.turn_to(&path[..2], &[])?;
-    push_error(alloc, units, &places, Says::NotAllowed)?;
+    push_error(alloc, units, places, Says::NotAllowed)?;
     units.cut_back(later);
     places.turn_to(&path[..1], &[])?;
-    insert_error(alloc, units, own, &places, Says::NotMet(Keyword::AnyOf))
+    insert_error(alloc, units, own, places, Says::NotMet(Keyword::AnyOf))
 }
 
 fn marked(alloc: Global) -> Result<String, Fault> {

@@ -73,9 +73,6 @@ row-entry name (m ∷ ms) = by (same_text name m.0) refl (row-entry name ms)
     by true h more = ap {B = Option (Text × Value)} (λ n. Some (n, m.1)) (sym (same_text_is name m.0 h))
     by false h more = more
 
-pub row-some : (name : Text) (ms : List (Text × Value)) (v : Value) → entry name ms ≡ Some v → row name_of name ms ≡ Some (name, v)
-row-some name ms v e = row-entry name ms ∙ ap (option_map {U = Text × Value} (λ w. (name, w))) e
-
 pub row-in : {X : Type 0} (key : X → Text) (name : Text) (xs : List X) (x : X) → row key name xs ≡ Some x → IsIn x xs
 row-in key name [] x e = cc
 row-in {X} key name (y ∷ ys) x e = by (same_text name (key y)) e (row-in key name ys x)

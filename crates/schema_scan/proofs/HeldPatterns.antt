@@ -1,8 +1,7 @@
 -- Texts that are among others, and the patterns that stand by their numbers.
-use Rattle.std.proofs.Common.{◌≡◌, ℕ, zero, suc, ◌<◌, ◌+◌, List, [], ◌∷◌, ◌++◌, map, take, get_or, length, Bool, true, false, cond, ◌||◌, Some, Bor, refl, sym, ap, ap₂, ◌∙◌}
+use Rattle.std.proofs.Common.{◌≡◌, ℕ, suc, ◌<◌, ◌+◌, List, [], ◌∷◌, ◌++◌, map, take, get_or, length, Bool, true, false, cond, ◌||◌, Some, Bor, refl, sym, ap, ap₂, ◌∙◌}
 use Rattle.std.proofs.lemmas.Bool.{and_parts, and_from, or_right}
 use Rattle.std.proofs.lemmas.List.{map_more}
-use Rattle.std.proofs.lemmas.Option.{same_Some}
 use Rattle.std.specs.List.{list_all, slice_get}
 use Rattle.definitions.specs.Patterns.{is_read}
 use Rattle.definitions.specs.Values.{Text, same_text}
@@ -102,9 +101,3 @@ read_pushed ts us t e before here = ap (list_all is_read) e ∙ all_push is_read
 -- ---- the pattern of a text's number
 pub numbered_text : (n : TextNumbers) (ts : List Text) (t : Text) → AreNumbers n ts → is_among ts t ≡ true → slice_get ts (text_number n t) ≡ Some t
 numbered_text n ts t a h = let i = place_of ts t h in a.found t i.0 i.1
-
--- a text with a number is among them
-pub among_at : (ts : List Text) (t : Text) (i : ℕ) → slice_get ts i ≡ Some t → is_among ts t ≡ true
-among_at [] t i e = absurd (cc)
-among_at (u ∷ ts) t zero e = ap (λ b. b || is_among ts t) (ap (same_text t) (same_Some _ _ e) ∙ same_text_itself t)
-among_at (u ∷ ts) t (suc i) e = or_right (same_text t u) (is_among ts t) (among_at ts t i e)

@@ -2,7 +2,7 @@
 use Rattle.std.proofs.Common.{◌≡◌, ◌<◌, ℕ, List, [], map, subst, length, get_or, Some, None, Bor, option_map, refl, sym, ap, ◌∙◌}
 use Rattle.std.proofs.lemmas.Option.{slice_get-get_or, slice_get-map}
 use Rattle.std.specs.List.{slice_get}
-use Rattle.definitions.specs.Values.{Text, Value, null, boolean, integer, string, array, object, elements, members}
+use Rattle.definitions.specs.Values.{Text, Value, null, array, object, elements, members}
 use Rattle.json_doc.specs.Docs.{value}
 use Rattle.json_doc.specs.Kinds.{as_elements, as_members}
 use Rattle.json_doc.specs.Members.{member_view, HasNamesInOrder}
@@ -11,36 +11,20 @@ use Rattle.schema_scan.specs.Descents.{row, name_of, IsHeld}
 use Rattle.schema_scan.proofs.Descents.{row-key}
 
 pub elements_none : (v : Value) → as_elements v ≡ None → elements v ≡ []
-elements_none null e = refl
-elements_none (boolean b) e = refl
-elements_none (integer z) e = refl
-elements_none (string s) e = refl
 elements_none (array vs) e = cc
-elements_none (object ms) e = refl
+elements_none _ e = refl
 
 pub elements_some : (v : Value) (vs : List Value) → as_elements v ≡ Some vs → elements v ≡ vs
 elements_some null vs e = cc
-elements_some (boolean b) vs e = cc
-elements_some (integer z) vs e = cc
-elements_some (string s) vs e = cc
-elements_some (array us) vs e = cc
-elements_some (object ms) vs e = cc
+elements_some _ vs e = cc
 
 pub members_none : (v : Value) → as_members v ≡ None → members v ≡ []
-members_none null e = refl
-members_none (boolean b) e = refl
-members_none (integer z) e = refl
-members_none (string s) e = refl
-members_none (array vs) e = refl
 members_none (object ms) e = cc
+members_none _ e = refl
 
 pub members_some : (v : Value) (ms : List (Text × Value)) → as_members v ≡ Some ms → members v ≡ ms
 members_some null ms e = cc
-members_some (boolean b) ms e = cc
-members_some (integer z) ms e = cc
-members_some (string s) ms e = cc
-members_some (array vs) ms e = cc
-members_some (object ns) ms e = cc
+members_some _ ms e = cc
 
 pub element_of : (w : Value) (items : List Doc) (i : ℕ) (d : Doc) → elements w ≡ map value items → i < length items → d ≡ get_or items i d → slice_get (elements w) i ≡ Some (value d)
 element_of w items i d is h e =

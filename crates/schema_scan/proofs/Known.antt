@@ -1,16 +1,16 @@
 -- What stands in a document has its number there.
-use Rattle.std.proofs.Common.{◌≡◌, ◌⊎◌, ◌++◌, ℕ, List, [], ◌∷◌, Option, Some, None, Contains, codes, filter, map, option_map, unwrap_or, sym, ap, ◌∙◌, subst, inl, inr, true, find, length}
-use Rattle.std.proofs.lemmas.List.{length-map}
-use Rattle.std.proofs.lemmas.Option.{slice_get-get_or, slice_get-map}
+use Rattle.std.proofs.Common.{◌≡◌, ◌⊎◌, ◌++◌, ℕ, List, [], ◌∷◌, Option, Some, None, Contains, codes, filter, map, option_map, unwrap_or, sym, ap, ◌∙◌, subst, inl, inr, true}
+use Rattle.std.proofs.lemmas.Option.{get_or_from_slice_get, slice_get-get_or, slice_get-map, slice_get_within}
 use Rattle.std.specs.List.{flat_map, slice_get}
 use Rattle.definitions.specs.Lists.{option_list}
 use Rattle.definitions.specs.Reach.{holds_resource}
 use Rattle.definitions.specs.Scanning.{resource_uris}
 use Rattle.definitions.specs.Schemas.{Schema}
-use Rattle.definitions.specs.Values.{Text, Value, same_text, text_at}
-use Rattle.definition_laws.proofs.Membership.{found_there, in_filter, is_first, is_later}
+use Rattle.definitions.specs.Values.{Text, Value, text_at}
+use Rattle.definition_laws.proofs.Membership.{in_filter, is_first, is_later}
 use Rattle.definition_laws.proofs.Occurrences.{IsIn, contains_from_in, in_from_contains, in_map}
 use Rattle.definition_laws.proofs.Repeats.{in_flat_map}
+use Rattle.definition_laws.proofs.Resources.{opened_is_root, root_opens}
 use Rattle.definition_laws.proofs.Roots.{pointer_root}
 use Rattle.schema_table.specs.Gathering.{table_identifiers, table_uris, identifier_at, spot_texts, texts_at}
 use Rattle.schema_scan.specs.CompiledDocuments.{compiled_base, compiled_identifiers, compiled_value, compiled_schemas, compiled_texts, compiled_view}
@@ -19,21 +19,22 @@ use Rattle.schema_table.specs.Spots.{Spot, at_root, spot_view}
 use Rattle.schema_scan.specs.declared.compiled.Compiled.{Compiled}
 use Rattle.schema_table.proofs.Indexing.{standing}
 use Rattle.schema_table.proofs.Standing.{schemas_of-spots}
-use Rattle.schema_scan.proofs.Owned.{owned-held, owned-uris}
-use Rattle.schema_table.proofs.Tables.{is_root-spot, uri-found}
-use Rattle.lemmas.proofs.Options.{some_from_is_some}
+use Rattle.schema_scan.proofs.Owned.{owned-uris}
+use Rattle.schema_table.proofs.Tables.{is_root-spot}
+use Rattle.lemmas.proofs.Texts.{same_text_itself}
 use Rattle.text_numbers.specs.TextNumbers.{AreNumbers, is_only, text_number}
 
 pub at_place : {A : Type 0} (xs : List A) (x : A) (c : Contains xs x) → slice_get xs c.0 ≡ Some x
 at_place xs x c = slice_get-get_or xs c.0 x c.1 ∙ ap Some c.2
 
 -- ---- resources
-pub uri-there : (d : Compiled) (uri : Text) → holds_resource uri (compiled_view d) ≡ true → (i : ℕ) × (slice_get (table_uris d.table) i ≡ Some uri)
-uri-there d uri held =
-    let us = table_uris d.table in
-    let some = some_from_is_some (find (same_text uri) us) (owned-held d uri ∙ held) in
-    let there = found_there (same_text uri) us some.0 some.1 in
-    (there.0.0, at_place us some.0 there.0 ∙ ap Some (uri-found uri us some.0 some.1))
+pub uri-there : (d : Compiled) (uri : Text) → holds_resource uri (compiled_view d) ≡ true → (i : ℕ) × (slice_get (resource_uris (compiled_schemas d)) i ≡ Some uri)
+uri-there d uri held = let there = root_opens (compiled_schemas d) uri held in (there.0, at_place (resource_uris (compiled_schemas d)) uri there)
+
+pub held-at : (d : Compiled) (uri : Text) (n : ℕ) → slice_get (resource_uris (compiled_schemas d)) n ≡ Some uri → holds_resource uri (compiled_view d) ≡ true
+held-at d uri n at =
+    let us = resource_uris (compiled_schemas d) in
+    opened_is_root (compiled_schemas d) uri uri (n, slice_get_within us n uri at, get_or_from_slice_get us n uri uri at) (same_text_itself uri)
 
 -- ---- references
 in_texts : (v : Value) (text : Text) → (text_at (codes "$ref") v ≡ Some text) ⊎ (text_at (codes "$dynamicRef") v ≡ Some text) → Contains (texts_at v) text
@@ -101,10 +102,3 @@ pub identified-at : (d : Compiled) (s : Schema) (id : Text) → Contains (compil
 unfolding compiled_identifiers
 identified-at d s id inside root has =
     let there = identified-there d s id inside root has in (there.0, there.1, ap (λ us. slice_get us there.0) (sym (owned-uris d)) ∙ there.2)
-
-pub as-many-identifiers : (d : Compiled) → length (compiled_identifiers d) ≡ length (resource_uris (compiled_schemas d))
-unfolding compiled_identifiers compiled_base compiled_value
-as-many-identifiers d =
-    let roots = filter at_root (standing (compiled_base d) (compiled_value d)) in
-    ap length d.of_document.identifiers ∙ length-map roots (λ (q : Spot). identifier_at q.value)
-    ∙ sym (length-map roots (λ (q : Spot). q.resource)) ∙ ap length (sym d.of_document.uris ∙ owned-uris d)

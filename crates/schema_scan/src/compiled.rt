@@ -1,7 +1,6 @@
 //! Documents that can be evaluated.
 
-ghost use Rattle.std.specs.Prelude.{◌≡◌, ◌||◌, [], false, true, Contains, None, IfOk, IfSome, IsTrue, OnOk, Some, codes, find, is_some, map, option_and_then, option_map, slice_get, string_bytes};
-ghost use Rattle.std.specs.BTreeMap.{get_by_text};
+ghost use Rattle.std.specs.Prelude.{◌≡◌, ◌||◌, [], true, Contains, None, IfOk, IfSome, OnOk, Some, codes, find, is_some, map, option_and_then, option_map, slice_get, string_bytes};
 ghost use Rattle.std.specs.List.{list_all, position_from};
 ghost use Rattle.definitions.specs.Patterns.{regular_search};
 ghost use Rattle.definitions.specs.Reach.{holds_resource, references_in};
@@ -11,14 +10,14 @@ ghost use Rattle.definitions.specs.Searches.{is_regular, patterns};
 ghost use Rattle.definitions.specs.Targets.{resource_root, target_by, schema_at_pointer, schema_with_anchor, schema_with_dynamic_anchor};
 ghost use Rattle.definitions.specs.Uris.{without_fragment};
 ghost use Rattle.definitions.specs.Schemas.{Schema};
-ghost use Rattle.definitions.specs.Values.{Text, is_well_formed, same_text, text_at};
+ghost use Rattle.definitions.specs.Values.{Text, is_well_formed, text_at};
 ghost use Rattle.json_doc.specs.Docs.{value};
 ghost use Rattle.schema_scan.specs.DynamicResources.{has_resource};
 ghost use Rattle.schema_scan.specs.Locateds.{located_view};
 ghost use Rattle.schema_scan.specs.PatternTables.{holds_pattern};
 ghost use Rattle.schema_scan.specs.ReferenceTexts.{HasReference};
-ghost use Rattle.schema_table.specs.Gathering.{IsTableOf, anchor_mark, table_identifiers, table_marks, table_texts, table_uris, table_ways};
-ghost use Rattle.schema_table.specs.Lookups.{has_mark, numbered_root};
+ghost use Rattle.schema_table.specs.Gathering.{IsTableOf, anchor_mark, table_identifiers, table_marks, table_texts, table_uris};
+ghost use Rattle.schema_table.specs.Lookups.{has_mark};
 ghost use Rattle.schema_table.specs.PairNumbers.{pair_number};
 ghost use Rattle.schema_table.specs.Spots.{spots};
 ghost use Rattle.text_numbers.specs.TextNumbers.{AreNumbers};
@@ -28,7 +27,7 @@ ghost use Rattle.uri_ref.specs.FragmentViews.{fragment_view};
 use crate::anchor_numbers::{anchor_numbers_of, find_anchor};
 use crate::dynamic_resources::add_resources;
 use crate::located::{Located, root_along, schema_of_anchor};
-use crate::numbers::{numbered, numbers_of, way_of};
+use crate::numbers::{numbered, way_of};
 use crate::pattern_table::PatternTable;
 use json_doc::{Doc, Pointer, copy};
 use patterns::Pattern;
@@ -49,8 +48,6 @@ pub struct Compiled {
     document: Doc,
     table: SchemaTable,
     pattern_table: PatternTable,
-    /// The number of each resource's URI in the table.
-    numbers: BTreeMap<String, usize>,
     /// The number of each anchor in the table, by the URI of its resource and by its name.
     anchor_numbers: BTreeMap<String, BTreeMap<String, usize>>,
     /// The numbers of the resources' URIs and `$id`s, and of the references' texts, of those that are known to be there.
@@ -62,8 +59,7 @@ pub struct Compiled {
     ghost regular: { is_regular regular_search (value document) ≡ true },
     ghost built: { list_all (holds_pattern pattern_table) (patterns (value document)) ≡ true },
     ghost of_document: { IsTableOf table (spots [] 0 (string_bytes base) (value document)) },
-    ghost by_uri: { (uri : Text) → get_by_text numbers uri ≡ position_from (same_text uri) 0 (table_uris table) },
-    ghost by_known_uri: { AreNumbers uri_numbers (table_uris table) },
+    ghost by_uri: { AreNumbers uri_numbers (table_uris table) },
     ghost by_identifier: { AreNumbers identifier_numbers (table_identifiers table) },
     ghost by_text: { AreNumbers text_numbers (table_texts table) },
     ghost by_anchor: { (uri name : Text) → pair_number anchor_numbers uri name ≡ position_from (has_mark uri name) 0 (table_marks table) },
@@ -89,7 +85,6 @@ impl Compiled {
         ensures { IfOk result
             (λ d. (compiled_base d ≡ string_bytes base) × (compiled_value d ≡ value document.now)) }
     {
-        let numbers = numbers_of(alloc, &table.uris)?;
         let anchor_numbers = anchor_numbers_of(alloc, &table.anchors)?;
         let uri_numbers = TextNumbers::of(alloc, &table.uris)?;
         let identifier_numbers = TextNumbers::of(alloc, &table.identifiers)?;
@@ -99,7 +94,6 @@ impl Compiled {
             document: copied(alloc, document)?,
             table,
             pattern_table,
-            numbers,
             anchor_numbers,
             uri_numbers,
             identifier_numbers,
@@ -162,8 +156,8 @@ impl Compiled {
         ensures same { IfSome result (λ u. u.now ≡ uri.now) }
         ensures held { is_some result ≡ holds_resource uri.now (compiled_view self.now) }
     {
-        match self.number(uri) {
-            Some(number) => numbered(&self.table.uris, number),
+        match numbered(&self.table.uris, self.resource_number(uri)) {
+            Some(known) => { if known == uri { Some(known) } else { None } }
             None => None,
         }
     }
@@ -244,27 +238,8 @@ impl Compiled {
         ensures { option_map located_view result
             ≡ resource_root (compiled_schemas self.now) uri.now }
     {
-        match self.number(uri) {
-            Some(number) => self.root(alloc, number),
-            None => None,
-        }
-    }
-
-    // The number of the first resource with this URI.
-    fn number(&self, uri: &str) -> Option<usize>
-        ensures { result ≡ position_from (same_text uri.now) 0 (table_uris self.now.table) }
-    {
-        self.numbers.get(uri).copied()
-    }
-
-    // The root of the resource of this number.
-    fn root(&self, alloc: Global, number: usize) -> Option<Located<'_>>
-        ensures { option_map located_view result
-            ≡ numbered_root (table_uris self.now.table) (table_ways self.now.table)
-            (value self.now.document) number }
-    {
-        match numbered(&self.table.uris, number) {
-            Some(resource) => match way_of(&self.table.ways, number) {
+        match self.resource_uri(uri) {
+            Some(resource) => match way_of(&self.table.ways, self.resource_number(uri)) {
                 Some(way) => root_along(alloc, resource, way, &self.document),
                 None => None,
             },
@@ -341,7 +316,7 @@ impl Compiled {
             (resource_root (compiled_schemas self.now) uri.now)) }
     {
         match self.resource_root(alloc, uri) {
-            Some(root) => self.pointed(alloc, root, pointer),
+            Some(root) => self.led(alloc, root, pointer.tokens()),
             None => Ok(None),
         }
     }
@@ -371,30 +346,21 @@ impl Compiled {
         find_anchor(&self.table.anchors, &self.anchor_numbers, uri, name)
     }
 
-    /// The pattern with this text, where one of the document's schemas has it.
-    #[tactic(auto, unfolding(crate::specs::CompiledDocuments::compiled_value))]
-    pub fn pattern(&self, text: &str) -> Option<&Pattern>
-        ensures same { IfSome result (λ p. p.now ≡ text.now) }
-        ensures there { Contains (patterns (compiled_value self.now)) text.now
-            → IsTrue (is_some result) }
-    {
-        self.pattern_table.get(text)
-    }
-
     /// The number of the pattern with this text, where one of the document's schemas has it. It is told by the bytes in which
     /// their texts differ: of another text it is some number.
     pub fn pattern_number(&self, text: &str) -> usize
         ensures { Contains (patterns (compiled_value self.now)) text.now
             → slice_get (compiled_patterns self.now) result ≡ Some text.now }
     {
-        self.pattern_table.number(text)
+        self.pattern_table.numbers.number(text)
     }
 
     /// The pattern of this number.
+    #[tactic(auto, unfolding(crate::specs::PatternTables::table_patterns))]
     pub fn numbered_pattern(&self, number: usize) -> Option<&Pattern>
         ensures { option_map (λ p. p.now) result ≡ slice_get (compiled_patterns self.now) number }
     {
-        self.pattern_table.numbered(number)
+        self.pattern_table.patterns.get(number)
     }
 }
 

@@ -1,6 +1,6 @@
 //! The patterns of a document, each built once.
 
-ghost use Rattle.std.specs.Prelude.{◌≡◌, ◌≢◌, ◌<◌, ◌≤◌, true, IfOk, IfErr, IfSome, OnOk, Some, is_some, map, length, option_map, slice_get, string_bytes};
+ghost use Rattle.std.specs.Prelude.{◌≡◌, ◌≢◌, ◌<◌, ◌≤◌, true, IfOk, IfErr, OnOk, map, length, string_bytes};
 ghost use Rattle.std.specs.List.{list_all};
 ghost use Rattle.definitions.specs.Values.{Text};
 ghost use Rattle.definitions.specs.Patterns.{is_read};
@@ -22,13 +22,13 @@ const SIZE_LIMIT: usize = 32 << 20;
 /// Contracts see the texts that it holds, by `holds_pattern`.
 #[derive(Drop)]
 pub(crate) struct PatternTable {
-    patterns: Vec<Pattern>,
-    numbers: TextNumbers,
+    pub(crate) patterns: Vec<Pattern>,
+    pub(crate) numbers: TextNumbers,
     ghost numbered: { AreNumbers numbers patterns.items },
 }
 
 impl PatternTable {
-    ghost use Rattle.schema_scan.specs.PatternTables.{holds_pattern, table_patterns};
+    ghost use Rattle.schema_scan.specs.PatternTables.{holds_pattern};
 
     /// Builds the pattern of each text, once where a text stands more than once. The first pattern that can't be built
     /// is [`Fault::BadPattern`], and so is the first that takes more than what those before it have left of 32 MiB.
@@ -43,41 +43,6 @@ impl PatternTable {
         let patterns = built_patterns(alloc, &distinct)?;
         let numbers = TextNumbers::of(alloc, &distinct)?;
         Ok(PatternTable { patterns, numbers })
-    }
-
-    /// The pattern with this text.
-    pub(crate) fn get(&self, text: &str) -> Option<&Pattern>
-        ensures same { IfSome result (λ p. p.now ≡ text.now) }
-        ensures held { is_some result ≡ holds_pattern self.now text.now }
-    {
-        match self.numbered(self.number(text)) {
-            Some(pattern) => {
-                if pattern.text() == text {
-                    Some(pattern)
-                } else {
-                    None
-                }
-            }
-            None => None,
-        }
-    }
-
-    /// The number of the pattern with this text, where the table holds it. It is told by the bytes in which the patterns'
-    /// texts differ: of another text it is some number.
-    #[tactic(auto, unfolding(crate::specs::PatternTables::table_patterns))]
-    pub(crate) fn number(&self, text: &str) -> usize
-        ensures { holds_pattern self.now text.now ≡ true
-            → slice_get (table_patterns self.now) result ≡ Some text.now }
-    {
-        self.numbers.number(text)
-    }
-
-    /// The pattern of this number.
-    #[tactic(auto, unfolding(crate::specs::PatternTables::table_patterns))]
-    pub(crate) fn numbered(&self, number: usize) -> Option<&Pattern>
-        ensures { option_map (λ p. p.now) result ≡ slice_get (table_patterns self.now) number }
-    {
-        self.patterns.get(number)
     }
 }
 

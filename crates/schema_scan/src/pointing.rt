@@ -3,7 +3,6 @@
 ghost use Rattle.std.specs.Prelude.{◌≡◌, ◌∷◌, ◌++◌, IfOk, Contains, map, option_map, string_bytes};
 ghost use Rattle.definitions.specs.Schemas.{below};
 ghost use Rattle.definitions.specs.Lists.{option_list};
-ghost use Rattle.definitions.specs.Targets.{schema_at_pointer};
 ghost use Rattle.json_doc.specs.Docs.{value};
 ghost use Rattle.locations.specs.Steps.{tokens};
 ghost use Rattle.schema_scan.specs.DescentViews.{tokens_taken};
@@ -12,7 +11,6 @@ ghost use Rattle.schema_scan.specs.Locateds.{located_view};
 
 use crate::compiled::Compiled;
 use crate::located::Located;
-use json_doc::{Doc, Pointer};
 use locations::Step;
 use std::alloc::{AllocError, Global};
 
@@ -23,27 +21,12 @@ use descending::{Descent, descend};
 impl Compiled {
     ghost use Rattle.schema_scan.specs.CompiledDocuments.{compiled_schemas};
 
-    /// The schema that a pointer leads to from the root of a resource, or from another schema of the document (JSON Schema
-    /// 2020-12 Core, section 8.2.3). It goes by the places of subschemas alone: a pointer that leads to anything else names
-    /// nothing. A schema with an `$id` opens a resource, and the steps begin anew there.
+    /// The schema that a pointer with these tokens leads to from one of the document's (JSON Schema 2020-12 Core, section
+    /// 8.2.3). It goes by the places of subschemas alone: a pointer that leads to anything else names nothing. A schema with
+    /// an `$id` opens a resource, and the steps begin anew there.
     ///
     /// The time grows with the pointer's tokens and with the members of each object on the way.
-    pub(crate) fn pointed<'a>(
-        &'a self,
-        alloc: Global,
-        root: Located<'a>,
-        pointer: &Pointer,
-    ) -> Result<Option<Located<'a>>, AllocError>
-        requires { Contains (compiled_schemas self.now) (located_view root) }
-        ensures { IfOk result
-            (λ t. option_map located_view t
-            ≡ schema_at_pointer pointer.now (located_view root.entry)) }
-    {
-        self.led(alloc, root, pointer.tokens())
-    }
-
-    // The schema that a pointer with these tokens leads to from one of the document's.
-    fn led<'a>(
+    pub(crate) fn led<'a>(
         &'a self,
         alloc: Global,
         from: Located<'a>,

@@ -28,8 +28,9 @@ const PATTERNS: &[(&str, &str, bool)] = &[
 
 fn has_pattern_as(alloc: Global, text: &str, pattern: &str, wanted: bool) -> Result<bool, Fault> {
     let document = compiled(alloc, "https://ex.org/s", text)?;
-    Ok(match document.pattern(pattern) {
-        Some(found) => wanted && found.text() == pattern,
+    let number = document.pattern_number(pattern);
+    Ok(match document.numbered_pattern(number) {
+        Some(found) => (found.text() == pattern) == wanted,
         None => !wanted,
     })
 }

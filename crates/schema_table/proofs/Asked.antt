@@ -4,7 +4,7 @@ use Rattle.definitions.specs.Values.{Text, Value}
 use Rattle.definitions.specs.Shapes as meaning
 use Rattle.keywords.specs.Shapes.{fits_shape, shape_view}
 use Rattle.keywords.specs.declared.shape.Shape.{Shape}
-use Rattle.keywords.specs.declared.shape.Shape.TheVariants.{AnyValue, Truth, WholeNumber, Size, Divisor, AnyText, ValueList, TextList, TextLists, TypeNames, Reference, OneSchema, SchemaList, SchemaMap, Identifier, AnchorName, Dialect}
+use Rattle.keywords.specs.declared.shape.Shape.TheVariants.{Reference, Identifier, AnchorName, Dialect}
 use Rattle.schema_table.specs.Missteps.{wrong_shape, is_as_asked, misstep_at, shape_missteps}
 use Rattle.schema_table.specs.Openings.{id_under}
 use Rattle.schema_table.specs.Refusals.{Refuses}
@@ -12,42 +12,16 @@ use Rattle.schema_table.specs.declared.refusal.Refusal.{Refusal}
 
 pub asked-shape : (s : Shape) (base : Text) (at_root : Bool) (v : Value) → (s ≡ Reference → ⊥) → (s ≡ Identifier → ⊥) → (s ≡ Dialect → ⊥)
     → fits_shape (shape_view s) v ≡ is_as_asked (shape_view s) base at_root v
-asked-shape AnyValue base at_root v r i d = refl
-asked-shape Truth base at_root v r i d = refl
-asked-shape WholeNumber base at_root v r i d = refl
-asked-shape Size base at_root v r i d = refl
-asked-shape Divisor base at_root v r i d = refl
-asked-shape AnyText base at_root v r i d = refl
-asked-shape ValueList base at_root v r i d = refl
-asked-shape TextList base at_root v r i d = refl
-asked-shape TextLists base at_root v r i d = refl
-asked-shape TypeNames base at_root v r i d = refl
 asked-shape Reference base at_root v r i d = absurd (r refl)
-asked-shape OneSchema base at_root v r i d = refl
-asked-shape SchemaList base at_root v r i d = refl
-asked-shape SchemaMap base at_root v r i d = refl
 asked-shape Identifier base at_root v r i d = absurd (i refl)
-asked-shape AnchorName base at_root v r i d = refl
 asked-shape Dialect base at_root v r i d = absurd (d refl)
+asked-shape _ base at_root v r i d = refl
 
 pub misstep-shape : (s : Shape) (name : Text) → (s ≡ Identifier → ⊥) → (s ≡ AnchorName → ⊥) → (s ≡ Dialect → ⊥) → wrong_shape (name ∷ []) ≡ misstep_at (shape_view s) name
-misstep-shape AnyValue name i n d = refl
-misstep-shape Truth name i n d = refl
-misstep-shape WholeNumber name i n d = refl
-misstep-shape Size name i n d = refl
-misstep-shape Divisor name i n d = refl
-misstep-shape AnyText name i n d = refl
-misstep-shape ValueList name i n d = refl
-misstep-shape TextList name i n d = refl
-misstep-shape TextLists name i n d = refl
-misstep-shape TypeNames name i n d = refl
-misstep-shape Reference name i n d = refl
-misstep-shape OneSchema name i n d = refl
-misstep-shape SchemaList name i n d = refl
-misstep-shape SchemaMap name i n d = refl
 misstep-shape Identifier name i n d = absurd (i refl)
 misstep-shape AnchorName name i n d = absurd (n refl)
 misstep-shape Dialect name i n d = absurd (d refl)
+misstep-shape _ name i n d = refl
 
 -- no other shape is an `$id`'s
 pub none_under : (s : Shape) (v : Value) → (s ≡ Identifier → ⊥) → None ≡ id_under (shape_view s) v

@@ -7,7 +7,7 @@ use Rattle.std.proofs.lemmas.Map.Text.{is_eq-slice_cmp}
 use Rattle.std.specs.Cmp.Lexicographic.{slice_cmp}
 use Rattle.std.specs.List.{AllByRecursion, slice_get}
 use Rattle.std.specs.Ordering.{is_eq, ordering_reverse}
-use Rattle.definitions.specs.Values.{Text, Value, null, boolean, integer, string, array, object, Elements, no_elements, element, elements_list, Members, no_members, member, members_list, entry, same_text, is_before, is_well_formed, are_well_formed, are_well_formed_members}
+use Rattle.definitions.specs.Values.{Text, Value, array, object, Elements, no_elements, element, elements_list, Members, no_members, member, members_list, entry, same_text, is_before, is_well_formed, are_well_formed, are_well_formed_members}
 use Rattle.definitions.specs.Shapes.{Shape, one_schema, schema_list, schema_map}
 use Rattle.keywords.specs.Rows.{shape_named}
 use Rattle.lemmas.proofs.Orders.{is_less}
@@ -117,11 +117,7 @@ module _ (root : Value) where
     pub spots-followed : (way : List Hop) (start : ℕ) (base : Text) (v : Value) → is_well_formed v ≡ true → follow way root ≡ Some v → AreFollowed (spots way start base v)
     spots-followed way start base (object ms) h f =
         (f, below-followed way (start_of start way (object ms)) (resource_of base (object ms)) ms h (leads-to-members way ms h f))
-    spots-followed way start base null h f = (f, tt)
-    spots-followed way start base (boolean b) h f = (f, tt)
-    spots-followed way start base (integer z) h f = (f, tt)
-    spots-followed way start base (string t) h f = (f, tt)
-    spots-followed way start base (array vs) h f = (f, tt)
+    spots-followed way start base _ h f = (f, tt)
 
     below-followed : (way : List Hop) (start : ℕ) (uri : Text) (ms : Members) → are_well_formed_members ms ≡ true → LeadsToMembers way ms → AreFollowed (spots_below way start uri ms)
     below-followed way start uri no_members h l = tt
@@ -134,24 +130,10 @@ module _ (root : Value) where
     at-followed : (k : Shape) (way : List Hop) (start : ℕ) (uri : Text) (v : Value) → is_well_formed v ≡ true → follow way root ≡ Some v → AreFollowed (spots_at k way start uri v)
     at-followed one_schema way start uri (object ms) h f =
         (f, below-followed way (start_of start way (object ms)) (resource_of uri (object ms)) ms h (leads-to-members way ms h f))
-    at-followed one_schema way start uri null h f = (f, tt)
-    at-followed one_schema way start uri (boolean b) h f = (f, tt)
-    at-followed one_schema way start uri (integer z) h f = (f, tt)
-    at-followed one_schema way start uri (string t) h f = (f, tt)
-    at-followed one_schema way start uri (array vs) h f = (f, tt)
+    at-followed one_schema way start uri _ h f = (f, tt)
     at-followed schema_list way start uri (array vs) h f = list-followed way start uri 0 vs h (leads-to-elements way vs f)
-    at-followed schema_list way start uri (object ms) h f = tt
-    at-followed schema_list way start uri null h f = tt
-    at-followed schema_list way start uri (boolean b) h f = tt
-    at-followed schema_list way start uri (integer z) h f = tt
-    at-followed schema_list way start uri (string t) h f = tt
     at-followed schema_map way start uri (object ms) h f = map-followed way start uri ms h (leads-to-members way ms h f)
-    at-followed schema_map way start uri (array vs) h f = tt
-    at-followed schema_map way start uri null h f = tt
-    at-followed schema_map way start uri (boolean b) h f = tt
-    at-followed schema_map way start uri (integer z) h f = tt
-    at-followed schema_map way start uri (string t) h f = tt
-    at-followed _ way start uri v h f = tt
+    at-followed _ way start uri _ h f = tt
 
     list-followed : (way : List Hop) (start : ℕ) (uri : Text) (i : ℕ) (vs : Elements) → are_well_formed vs ≡ true → LeadsToElements way i vs → AreFollowed (spots_in_list way start uri i vs)
     list-followed way start uri i no_elements h l = tt

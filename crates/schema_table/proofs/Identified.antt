@@ -6,7 +6,7 @@ use Rattle.std.specs.Option.{option_or}
 use Rattle.definitions.specs.Keywords.{Keyword, keyword_named, keywords}
 use Rattle.definitions.specs.Scanning.{is_id}
 use Rattle.definitions.specs.Shapes.{Shape, any_value, identifier}
-use Rattle.definitions.specs.Values.{Text, Value, Members, null, boolean, integer, string, array, object, member, as_string, same_text, text_at}
+use Rattle.definitions.specs.Values.{Text, Value, Members, string, object, member, as_string, same_text, text_at}
 use Rattle.keywords.specs.Rows.{shape_named}
 use Rattle.lemmas.proofs.Texts.{same_text_is}
 use Rattle.schema_table.specs.Missteps.{misstep_at, shape_missteps}
@@ -58,11 +58,7 @@ its_shape = refl
 -- the value of an `$id` that passes is a text
 is_text : (base : Text) (v : Value) (rest : Option Text) → is_id base v ≡ true → as_string v ≡ option_or (as_string v) rest
 is_text base (string t) rest e = refl
-is_text base null rest e = cc
-is_text base (boolean b) rest e = cc
-is_text base (integer z) rest e = cc
-is_text base (array vs) rest e = cc
-is_text base (object ms) rest e = cc
+is_text base _ rest e = cc
 
 passes : (base : Text) (at_root : Bool) (name : Text) (v : Value) → shape_missteps identifier base at_root name v ≡ [] → is_id base v ≡ true
 unfolding shape_missteps

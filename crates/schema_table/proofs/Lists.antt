@@ -1,5 +1,5 @@
 -- Lists that a loop makes of the items of another.
-use Rattle.std.proofs.Common.{◌≡◌, ◌<◌, ◌≤◌, ℕ, ◌+◌, List, [], ◌∷◌, ◌++◌, map, length, get_or, drop, refl, sym, ap, ap₂, ◌∙◌, append_assoc}
+use Rattle.std.proofs.Common.{◌≡◌, ◌<◌, ◌≤◌, ℕ, ◌+◌, List, [], ◌∷◌, ◌++◌, map, length, get_or, drop, sym, ap, ap₂, ◌∙◌, append_assoc}
 use Rattle.std.proofs.lemmas.List.{drop_more, drop_all, map-append}
 
 module _ {A : Type 0} where
@@ -11,10 +11,6 @@ module _ {A : Type 0} where
 
   pub grown : (whole done next here rest : List A) → whole ≡ done ++ (here ++ rest) → next ≡ done ++ here → whole ≡ next ++ rest
   grown whole done next here rest e f = e ∙ sym (append_assoc done here rest) ∙ ap (λ xs. xs ++ rest) (sym f)
-
-  pub append-none : (xs : List A) → xs ++ [] ≡ xs
-  append-none [] = refl
-  append-none (x ∷ xs) = ap (λ ys. x ∷ ys) (append-none xs)
 
 module _ {A B : Type 0} (f : A → B) where
   pub map-push : (xs ys : List A) (a : A) → ys ≡ xs ++ a ∷ [] → map f ys ≡ map f xs ++ f a ∷ []

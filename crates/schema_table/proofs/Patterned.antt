@@ -1,11 +1,11 @@
 -- The patterns of a schema, and those of a document.
-use Rattle.std.proofs.Common.{◌≡◌, ◌+◌, ℕ, List, [], ◌∷◌, ◌++◌, map, Option, Some, None, option_map, option_and_then, unwrap_or, codes, refl, sym, ap, ap₂, ◌∙◌}
+use Rattle.std.proofs.Common.{◌≡◌, ◌+◌, ℕ, List, [], ◌∷◌, ◌++◌, map, Option, Some, option_map, option_and_then, unwrap_or, codes, refl, sym, ap, ap₂, ◌∙◌}
 use Rattle.std.proofs.lemmas.Grind.{flat_map-append}
 use Rattle.std.specs.List.{flat_map}
-use Rattle.definitions.specs.Values.{Text, Value, null, boolean, integer, string, array, object, Elements, no_elements, element, Members, no_members, member, get, members, text_at}
+use Rattle.definitions.specs.Values.{Text, Value, array, object, Elements, no_elements, element, Members, no_members, member, get, members, text_at}
 use Rattle.definitions.specs.Lists.{option_list}
 use Rattle.definitions.specs.Searches.{patterns, patterns_of}
-use Rattle.definitions.specs.Shapes.{Shape, any_value, truth, whole_number, size, divisor, any_text, value_list, text_list, text_lists, type_names, reference, one_schema, schema_list, schema_map, identifier, anchor_name, dialect}
+use Rattle.definitions.specs.Shapes.{Shape, one_schema, schema_list, schema_map}
 use Rattle.json_doc.specs.Kinds.{as_members}
 use Rattle.schema_table.specs.PatternTexts.{patterns_at, names_at}
 use Rattle.keywords.specs.Rows.{shape_named}
@@ -19,13 +19,8 @@ abbrev names : Option (List (Text × Value)) → List Text
 names ms = unwrap_or (option_map (map (λ m. m.0)) ms) []
 
 names-of : (u : Option Value) → unwrap_or (option_map (λ u. map (λ m. m.0) (members u)) u) [] ≡ names (option_and_then as_members u)
-names-of None = refl
-names-of (Some null) = refl
-names-of (Some (boolean b)) = refl
-names-of (Some (integer z)) = refl
-names-of (Some (string t)) = refl
-names-of (Some (array vs)) = refl
 names-of (Some (object ms)) = refl
+names-of _ = refl
 
 pub names_at-members : (keyword : Text) (v : Value) (ms : Option (List (Text × Value))) → ms ≡ option_and_then as_members (get keyword v) → names_at keyword v ≡ names ms
 unfolding names_at
@@ -49,12 +44,8 @@ both ps qs rs ss e f = flat_map-append spot_patterns ps qs ∙ ap₂ (λ a b. a 
 module _ where
   mutual
     same_everywhere : (way hops : List Hop) (start from : ℕ) (base other : Text) (v : Value) → flat_map spot_patterns (spots way start base v) ≡ flat_map spot_patterns (spots hops from other v)
-    same_everywhere way hops start from base other null = refl
-    same_everywhere way hops start from base other (boolean b) = refl
-    same_everywhere way hops start from base other (integer z) = refl
-    same_everywhere way hops start from base other (string t) = refl
-    same_everywhere way hops start from base other (array vs) = refl
     same_everywhere way hops start from base other (object ms) = ap (λ ts. patterns_at (object ms) ++ ts) (same_below way hops (start_of start way (object ms)) (start_of from hops (object ms)) (resource_of base (object ms)) (resource_of other (object ms)) ms)
+    same_everywhere way hops start from base other _ = refl
 
     same_below : (way hops : List Hop) (start from : ℕ) (base other : Text) (ms : Members) → flat_map spot_patterns (spots_below way start base ms) ≡ flat_map spot_patterns (spots_below hops from other ms)
     same_below way hops start from base other no_members = refl
@@ -63,38 +54,10 @@ module _ where
         (same_at (shape_named name) (way ++ to_member name ∷ []) (hops ++ to_member name ∷ []) start from base other v) (same_below way hops start from base other ms)
 
     same_at : (shape : Shape) (way hops : List Hop) (start from : ℕ) (base other : Text) (v : Value) → flat_map spot_patterns (spots_at shape way start base v) ≡ flat_map spot_patterns (spots_at shape hops from other v)
-    same_at one_schema way hops start from base other null = refl
-    same_at one_schema way hops start from base other (boolean b) = refl
-    same_at one_schema way hops start from base other (integer z) = refl
-    same_at one_schema way hops start from base other (string t) = refl
-    same_at one_schema way hops start from base other (array vs) = refl
     same_at one_schema way hops start from base other (object ms) = ap (λ ts. patterns_at (object ms) ++ ts) (same_below way hops (start_of start way (object ms)) (start_of from hops (object ms)) (resource_of base (object ms)) (resource_of other (object ms)) ms)
     same_at schema_list way hops start from base other (array vs) = same_in_list way hops start from base other 0 0 vs
-    same_at schema_list way hops start from base other null = refl
-    same_at schema_list way hops start from base other (boolean b) = refl
-    same_at schema_list way hops start from base other (integer z) = refl
-    same_at schema_list way hops start from base other (string t) = refl
-    same_at schema_list way hops start from base other (object ms) = refl
     same_at schema_map way hops start from base other (object ms) = same_in_map way hops start from base other ms
-    same_at schema_map way hops start from base other null = refl
-    same_at schema_map way hops start from base other (boolean b) = refl
-    same_at schema_map way hops start from base other (integer z) = refl
-    same_at schema_map way hops start from base other (string t) = refl
-    same_at schema_map way hops start from base other (array vs) = refl
-    same_at any_value way hops start from base other v = refl
-    same_at truth way hops start from base other v = refl
-    same_at whole_number way hops start from base other v = refl
-    same_at size way hops start from base other v = refl
-    same_at divisor way hops start from base other v = refl
-    same_at any_text way hops start from base other v = refl
-    same_at value_list way hops start from base other v = refl
-    same_at text_list way hops start from base other v = refl
-    same_at text_lists way hops start from base other v = refl
-    same_at type_names way hops start from base other v = refl
-    same_at reference way hops start from base other v = refl
-    same_at identifier way hops start from base other v = refl
-    same_at anchor_name way hops start from base other v = refl
-    same_at dialect way hops start from base other v = refl
+    same_at _ way hops start from base other _ = refl
 
     same_in_list : (way hops : List Hop) (start from : ℕ) (base other : Text) (i j : ℕ) (vs : Elements) → flat_map spot_patterns (spots_in_list way start base i vs) ≡ flat_map spot_patterns (spots_in_list hops from other j vs)
     same_in_list way hops start from base other i j no_elements = refl

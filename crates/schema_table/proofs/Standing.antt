@@ -1,11 +1,11 @@
 -- The schemas of the definitions are those of the walk.
-use Rattle.std.proofs.Common.{◌≡◌, ◌<◌, ◌≤◌, ℕ, zero, suc, ◌+◌, List, [], ◌∷◌, ◌++◌, map, length, drop, Option, Some, None, decimal, refl, sym, ap, ap₂, ◌∙◌, arith, append_assoc, length-append}
+use Rattle.std.proofs.Common.{◌≡◌, ◌<◌, ◌≤◌, ℕ, zero, suc, ◌+◌, List, [], ◌∷◌, ◌++◌, map, length, drop, Option, Some, None, decimal, refl, sym, ap, ap₂, ◌∙◌, arith, append_assoc, append-nil, length-append}
 use Rattle.std.proofs.lemmas.Grind.{flat_map-append}
 use Rattle.std.proofs.lemmas.List.{map-append, drop_all, drop-append-le}
 use Rattle.std.specs.List.{flat_map, enumerate_from}
-use Rattle.definitions.specs.Values.{Text, Value, null, boolean, integer, string, array, object, Elements, no_elements, element, elements_list, Members, no_members, member, members_list, nesting, elements_nesting, members_nesting}
+use Rattle.definitions.specs.Values.{Text, Value, null, array, object, Elements, no_elements, element, elements_list, Members, no_members, member, members_list, nesting, elements_nesting, members_nesting}
 use Rattle.definitions.specs.Pointers.{Pointer}
-use Rattle.definitions.specs.Shapes.{Shape, any_value, truth, whole_number, size, divisor, any_text, value_list, text_list, text_lists, type_names, reference, one_schema, schema_list, schema_map, identifier, anchor_name, dialect}
+use Rattle.definitions.specs.Shapes.{Shape, one_schema, schema_list, schema_map}
 use Rattle.definitions.specs.Keywords.{keywords, shape_in}
 use Rattle.definitions.specs.Schemas.{Schema, opened_schema, schema_at, below, at_place, schemas_within, schemas_of}
 use Rattle.keywords.specs.Rows.{shape_named}
@@ -41,11 +41,7 @@ of_schema t = t.1
 -- a single schema
 pub one-spots : (way : List Hop) (start : ℕ) (base : Text) (v : Value) → spots_at one_schema way start base v ≡ spots way start base v
 one-spots way start base (object ms) = refl
-one-spots way start base null = refl
-one-spots way start base (boolean b) = refl
-one-spots way start base (integer z) = refl
-one-spots way start base (string t) = refl
-one-spots way start base (array vs) = refl
+one-spots way start base _ = refl
 
 -- what so many levels hold, at every schema that nests less deep
 abbrev Holds : ℕ → Type 0
@@ -92,10 +88,6 @@ module _ (n : ℕ) (holds : Holds n) (w : Pointer) (way : List Hop) (start : ℕ
       ∙ ap₂ (λ a b. a ++ b) (held_below name (to_element i) v (omega arith)) (list_spots name (i + 1) vs (omega arith))
       ∙ sym (map-append spot_view (spots ((way ++ to_member name ∷ []) ++ to_element i ∷ []) start uri v) (spots_in_list (way ++ to_member name ∷ []) start uri (i + 1) vs))
 
-  append-nil : (ss : List Schema) → ss ++ [] ≡ ss
-  append-nil [] = refl
-  append-nil (s ∷ ss) = ap (λ ts. s ∷ ts) (append-nil ss)
-
   one_spot : (name : Text) (v : Value) → nesting v < n
       → map of_schema (flat_map within ((name ∷ [], below around (name ∷ []) v) ∷ [])) ≡ map spot_view (spots (way ++ to_member name ∷ []) start uri v)
   one_spot name v h =
@@ -107,31 +99,8 @@ module _ (n : ℕ) (holds : Holds n) (w : Pointer) (way : List Hop) (start : ℕ
       → map of_schema (flat_map within (at_place around name v shape)) ≡ map spot_view (spots_at shape (way ++ to_member name ∷ []) start uri v)
   at_spots one_schema name v h = one_spot name v h ∙ ap (map spot_view) (sym (one-spots (way ++ to_member name ∷ []) start uri v))
   at_spots schema_list name (array vs) h = list_spots name 0 vs (omega arith)
-  at_spots schema_list name null h = refl
-  at_spots schema_list name (boolean b) h = refl
-  at_spots schema_list name (integer z) h = refl
-  at_spots schema_list name (string t) h = refl
-  at_spots schema_list name (object ms) h = refl
   at_spots schema_map name (object ms) h = map_spots name ms (omega arith)
-  at_spots schema_map name null h = refl
-  at_spots schema_map name (boolean b) h = refl
-  at_spots schema_map name (integer z) h = refl
-  at_spots schema_map name (string t) h = refl
-  at_spots schema_map name (array vs) h = refl
-  at_spots any_value name v h = refl
-  at_spots truth name v h = refl
-  at_spots whole_number name v h = refl
-  at_spots size name v h = refl
-  at_spots divisor name v h = refl
-  at_spots any_text name v h = refl
-  at_spots value_list name v h = refl
-  at_spots text_list name v h = refl
-  at_spots text_lists name v h = refl
-  at_spots type_names name v h = refl
-  at_spots reference name v h = refl
-  at_spots identifier name v h = refl
-  at_spots anchor_name name v h = refl
-  at_spots dialect name v h = refl
+  at_spots _ name _ h = refl
 
   below_spots : (ms : Members) → members_nesting ms < n
       → map of_schema (flat_map within (flat_map (λ m. at_place around m.0 m.1 (shape_in keywords m.0)) (members_list ms))) ≡ map spot_view (spots_below way start uri ms)
@@ -150,10 +119,7 @@ level_spots n holds w way start base (object ms) k h =
     ap (λ ss. spot_view (spot_in way (start_of start way (object ms)) (resource_of base (object ms)) (object ms)) ∷ ss)
     (below_spots n holds w way (start_of start way (object ms)) (resource_of base (object ms)) (object ms) (start_within start way (object ms) k) ms (omega arith))
 level_spots n holds w way start base null k h = refl
-level_spots n holds w way start base (boolean b) k h = refl
-level_spots n holds w way start base (integer z) k h = refl
-level_spots n holds w way start base (string t) k h = refl
-level_spots n holds w way start base (array vs) k h = refl
+level_spots n holds w way start base _ k h = refl
 
 pub schemas_within-spots : (n : ℕ) → Holds n
 schemas_within-spots zero w way start base v k h = absurd (omega arith)

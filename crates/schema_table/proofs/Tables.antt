@@ -1,18 +1,23 @@
 -- What is gathered of the schemas is what the definitions find in them.
-use Rattle.std.proofs.Common.{◌≡◌, ◌==◌, ◌&&◌, ◌||◌, ◌⊎◌, ℕ, suc, ◌+◌, ◌-◌, List, [], ◌∷◌, ◌++◌, Bool, true, false, cond, Option, Some, None, codes, drop, length, map, filter, nat_le, is_some, option_and_then, option_map, unwrap_or, refl, sym, ap, ap₂, ◌∙◌, arith, inl, inr, append_assoc}
+use Rattle.std.proofs.Common.{◌≡◌, ◌==◌, ◌&&◌, ◌||◌, ℕ, zero, suc, ◌-◌, List, [], ◌∷◌, ◌++◌, Bool, true, false, cond, Option, Some, None, codes, drop, length, map, filter, nat_le, is_some, option_and_then, option_map, unwrap_or, refl, sym, ap, ap₂, ◌∙◌, arith, inl, inr, append_assoc, subst}
 use Rattle.std.proofs.lemmas.Bool.Decides.{nat_tests}
 use Rattle.std.proofs.lemmas.List.{drop_all, length-drop, length-map, map-append}
+use Rattle.std.proofs.lemmas.Bool.{and_from, and_parts}
+use Rattle.std.proofs.lemmas.Option.{same_Some, slice_get-map}
 use Rattle.std.proofs.lemmas.Slice.Eq.{bytes_eq-Decides}
-use Rattle.std.specs.List.{find, flat_map, list_any, position_from, slice_get}
+use Rattle.std.specs.List.{find, flat_map, list_any, slice_get}
 use Rattle.definitions.specs.Values.{Text, Value, same_text, text_at}
 use Rattle.definitions.specs.Schemas.{Schema, is_root, references}
-use Rattle.definitions.specs.Lists.{option_list}
+use Rattle.definitions.specs.Lists.{has_repeat, option_list}
 use Rattle.definitions.specs.Scanning.{anchor_names, anchors_of, resource_uris}
 use Rattle.definitions.specs.Targets.{resource_root, is_anchor, is_dynamic_anchor, schema_with_anchor, schema_with_dynamic_anchor}
 use Rattle.locations.specs.Hops.{Hop, hop_token, hop_tokens}
 use Rattle.schema_table.specs.Spots.{Spot, at_root, spot_view}
 use Rattle.schema_table.specs.Gathering.{Mark, mark, mark_pair, marks, marks_named, plain_name, references_at, root_uris, root_ways, spot_references}
-use Rattle.schema_table.specs.Lookups.{has_dynamic_mark, has_mark, marked_schema, numbered_root, root_at, root_schema}
+use Rattle.schema_table.specs.Lookups.{has_dynamic_mark, has_mark, marked_schema, root_at, root_schema}
+use Rattle.lemmas.proofs.Texts.{same_text_is, same_text_itself}
+use Rattle.definition_laws.proofs.Occurrences.{IsIn, filter_passes, finds_only, from_filter, into_map}
+use Rattle.definition_laws.proofs.Roots.{root_pointer, roots_once}
 use Rattle.schema_table.proofs.Following.{AreFollowed, IsFollowed}
 
 -- ---- roots
@@ -45,7 +50,7 @@ unfolding references_at
 references-of [] = refl
 references-of (s ∷ ss) = ap (λ us. references (spot_view s) ++ us) (references-of ss)
 
--- ---- the root with a URI
+-- ---- the root of a resource
 root-pointer : (s : Spot) → at_root s ≡ true → drop s.start s.way ≡ []
 root-pointer s e = drop_all s.start s.way (grind (arith, nat_tests))
 
@@ -56,116 +61,40 @@ root-at : (root : Value) (s : Spot) → at_root s ≡ true → IsFollowed root s
 unfolding root_at
 root-at root s e f = ap (option_map (root_schema s.resource)) f ∙ ap (λ hops. Some (schema_with s.resource s.value hops)) (sym (root-pointer s e))
 
-module _ (uri : Text) (root : Value) where
-  -- the first of these roots with the URI
-  abbrev pub root_named : List Text → List (List Hop) → Option Schema
-  root_named [] ws = None
-  root_named (u ∷ us) [] = None
-  root_named (u ∷ us) (w ∷ ws) = cond (same_text uri u) (root_at u w root) (root_named us ws)
+-- by its number, which is that of its URI
+mapped : {A B : Type 0} (f : A → B) (xs : List A) (n : ℕ) (y : B) → slice_get (map f xs) n ≡ Some y → (x : A) × (slice_get xs n ≡ Some x) × IsIn x xs × (f x ≡ y)
+mapped f [] n y e = cc
+mapped f (x ∷ xs) zero y e = (x, refl, inl refl, same_Some _ _ e)
+mapped f (x ∷ xs) (suc n) y e = let later = mapped f xs n y e in (later.0, later.1, inr later.2, later.3)
 
-  abbrev IsNamed : Schema → Bool
-  IsNamed t = same_text uri t.resource && is_root t
+followed-in : (root : Value) (ss : List Spot) (s : Spot) → AreFollowed root ss → IsIn s ss → IsFollowed root s
+followed-in root [] s f i = absurd i
+followed-in root (t ∷ ss) s f (inl e) = subst (IsFollowed root) e f.0
+followed-in root (t ∷ ss) s f (inr i) = followed-in root ss s f.1 i
 
-  pub root-named : (ss : List Spot) → AreFollowed root ss → root_named (root_uris ss) (root_ways ss) ≡ resource_root (map spot_view ss) uri
-  root-named [] f = refl
-  root-named (s ∷ ss) f =
-      by (at_root s) refl (root-named ss f.1)
-      ∙ sym (ap (λ b. cond (same_text uri s.resource && b) (Some (spot_view s)) (resource_root (map spot_view ss) uri)) (is_root-spot s))
-    where
-      hit : (u : Bool) (r t : Option Schema) → root_at s.resource s.way root ≡ Some (spot_view s) → r ≡ t
-          → cond u (root_at s.resource s.way root) r ≡ cond (u && true) (Some (spot_view s)) t
-      hit true r t e g = e
-      hit false r t e g = g
-
-      miss : (u : Bool) (r t : Option Schema) → r ≡ t → r ≡ cond (u && false) (Some (spot_view s)) t
-      miss true r t g = g
-      miss false r t g = g
-
-      by : (b : Bool) → at_root s ≡ b → root_named (root_uris ss) (root_ways ss) ≡ resource_root (map spot_view ss) uri
-          → root_named (map (λ (t : Spot). t.resource) (cond b (s ∷ filter at_root ss) (filter at_root ss))) (map (λ (t : Spot). t.way) (cond b (s ∷ filter at_root ss) (filter at_root ss)))
-          ≡ cond (same_text uri s.resource && b) (Some (spot_view s)) (resource_root (map spot_view ss) uri)
-      by true e g = hit (same_text uri s.resource) _ _ (root-at root s e f.0) g
-      by false e g = miss (same_text uri s.resource) _ _ g
-
-  -- by the number of the URI
-  abbrev named_by : List Spot → List Text
-  named_by rs = map (λ (s : Spot). s.resource) rs
-
-  abbrev ways_to : List Spot → List (List Hop)
-  ways_to rs = map (λ (s : Spot). s.way) rs
-
-  abbrev Found : ℕ → Option ℕ → Option Schema → List Text → List (List Hop) → Type 0
-  Found k at_number named us ws =
-      ((at_number ≡ None) × (named ≡ None)) ⊎ ((j : ℕ) × (at_number ≡ Some (k + j)) × (named ≡ numbered_root us ws root j))
-
-  found : (k : ℕ) (rs : List Spot) → Found k (position_from (same_text uri) k (named_by rs)) (root_named (named_by rs) (ways_to rs)) (named_by rs) (ways_to rs)
-  unfolding numbered_root
-  found k [] = inl (refl, refl)
-  found k (s ∷ rs) = by (same_text uri s.resource) _ _ (found (k + 1) rs)
-    where
-      by : (b : Bool) (o : Option ℕ) (t : Option Schema) → Found (k + 1) o t (named_by rs) (ways_to rs)
-          → Found k (cond b (Some k) o) (cond b (root_at s.resource s.way root) t) (s.resource ∷ named_by rs) (s.way ∷ ways_to rs)
-      by true o t f = inr (0, ap Some (omega arith), refl)
-      by false o t (inl f) = inl f
-      by false o t (inr f) = inr (suc f.0, f.1 ∙ ap Some (omega arith), f.2)
-
-  by-number : (rs : List Spot) → option_and_then (numbered_root (named_by rs) (ways_to rs) root) (position_from (same_text uri) 0 (named_by rs)) ≡ root_named (named_by rs) (ways_to rs)
-  by-number rs = elim (found 0 rs) [
-    | inl f ↦ ap (option_and_then (numbered_root (named_by rs) (ways_to rs) root)) f.0 ∙ sym f.1
-    | inr f ↦ ap (option_and_then (numbered_root (named_by rs) (ways_to rs) root)) (f.1 ∙ ap Some (omega arith)) ∙ sym f.2
-  ]
-
-  pub root-by_number : (ss : List Spot) → AreFollowed root ss
-      → option_and_then (numbered_root (root_uris ss) (root_ways ss) root) (position_from (same_text uri) 0 (root_uris ss)) ≡ resource_root (map spot_view ss) uri
-  root-by_number ss f = by-number (filter at_root ss) ∙ root-named ss f
-
--- ---- a URI among others
-module _ (uri : Text) where
-  abbrev FoundUri : ℕ → Option ℕ → Option Text → List Text → Type 0
-  FoundUri k at_number text us = ((at_number ≡ None) × (text ≡ None)) ⊎ ((j : ℕ) × (at_number ≡ Some (k + j)) × (text ≡ slice_get us j))
-
-  found-uri : (k : ℕ) (us : List Text) → FoundUri k (position_from (same_text uri) k us) (find (same_text uri) us) us
-  found-uri k [] = inl (refl, refl)
-  found-uri k (u ∷ us) = by (same_text uri u) _ _ (found-uri (k + 1) us)
-    where
-      by : (b : Bool) (o : Option ℕ) (t : Option Text) → FoundUri (k + 1) o t us → FoundUri k (cond b (Some k) o) (cond b (Some u) t) (u ∷ us)
-      by true o t f = inr (0, ap Some (omega arith), refl)
-      by false o t (inl f) = inl f
-      by false o t (inr f) = inr (suc f.0, f.1 ∙ ap Some (omega arith), f.2)
-
-  pub uri-by_number : (us : List Text) → option_and_then (slice_get us) (position_from (same_text uri) 0 us) ≡ find (same_text uri) us
-  uri-by_number us = elim (found-uri 0 us) [
-    | inl f ↦ ap (option_and_then (slice_get us)) f.0 ∙ sym f.1
-    | inr f ↦ ap (option_and_then (slice_get us)) (f.1 ∙ ap Some (omega arith)) ∙ sym f.2
-  ]
-
-  pub uri-found : (us : List Text) (u : Text) → find (same_text uri) us ≡ Some u → u ≡ uri
-  uri-found [] u e = cc
-  uri-found (w ∷ us) u e = by (same_text uri w) refl (uri-found us u) e
-    where
-      by : (b : Bool) → same_text uri w ≡ b → (find (same_text uri) us ≡ Some u → u ≡ uri) → cond b (Some w) (find (same_text uri) us) ≡ Some u → u ≡ uri
-      by true t more f = let same : w ≡ u = cc in sym same ∙ sym ((bytes_eq-Decides uri w).0 t)
-      by false t more f = more f
-
-  pub uri-held : (ss : List Spot) → is_some (find (same_text uri) (root_uris ss)) ≡ is_some (resource_root (map spot_view ss) uri)
-  uri-held [] = refl
-  uri-held (s ∷ ss) =
-      by (at_root s) (same_text uri s.resource) (uri-held ss)
-      ∙ sym (ap (λ b. is_some (cond (same_text uri s.resource && b) (Some (spot_view s)) (resource_root (map spot_view ss) uri))) (is_root-spot s))
-    where
-      hit : (u : Bool) (r : Option Text) (t : Option Schema) → is_some r ≡ is_some t → is_some (cond u (Some s.resource) r) ≡ is_some (cond (u && true) (Some (spot_view s)) t)
-      hit true r t g = refl
-      hit false r t g = g
-
-      miss : (u : Bool) (r : Option Text) (t : Option Schema) → is_some r ≡ is_some t → is_some r ≡ is_some (cond (u && false) (Some (spot_view s)) t)
-      miss true r t g = g
-      miss false r t g = g
-
-      by : (b u : Bool) → is_some (find (same_text uri) (root_uris ss)) ≡ is_some (resource_root (map spot_view ss) uri)
-          → is_some (find (same_text uri) (map (λ (t : Spot). t.resource) (cond b (s ∷ filter at_root ss) (filter at_root ss))))
-          ≡ is_some (cond (same_text uri s.resource && b) (Some (spot_view s)) (resource_root (map spot_view ss) uri))
-      by true u g = hit (same_text uri s.resource) _ _ g
-      by false u g = miss (same_text uri s.resource) _ _ g
+pub root-numbered : (root : Value) (ss : List Spot) (uri : Text) (n : ℕ) → AreFollowed root ss → has_repeat same_text (root_uris ss) ≡ false → slice_get (root_uris ss) n ≡ Some uri
+    → (way : List Hop) × (slice_get (root_ways ss) n ≡ Some way) × (root_at uri way root ≡ resource_root (map spot_view ss) uri)
+root-numbered root ss uri n followed distinct at =
+    let roots = filter at_root ss in
+    let it = mapped (λ (t : Spot). t.resource) roots n uri at in
+    let s = it.0 in
+    let inside : IsIn s ss = from_filter at_root ss s it.2 in
+    let starts : at_root s ≡ true = filter_passes at_root ss s it.2 in
+    let table = map spot_view ss in
+    let here : IsIn (spot_view s) table = into_map spot_view ss s inside in
+    let is : is_root (spot_view s) ≡ true = is_root-spot s ∙ starts in
+    let only : (t : Schema) → IsIn t table → (same_text uri t.resource && is_root t) ≡ true → t ≡ spot_view s =
+    λ t i passes.
+    let p = and_parts (same_text uri t.resource) (is_root t) passes in
+    roots_once table t (spot_view s) (ap (has_repeat same_text) (sym (uris-of ss)) ∙ distinct) i here (root_pointer t p.1) (root_pointer (spot_view s) is)
+    (sym (same_text_is uri t.resource p.0) ∙ sym it.3) in
+    let found : resource_root table uri ≡ Some (spot_view s) =
+    finds_only (λ t. same_text uri t.resource && is_root t) table (spot_view s) here
+    (and_from (same_text uri s.resource) (is_root (spot_view s)) (ap (same_text uri) it.3 ∙ same_text_itself uri) is) only in (
+      s.way,
+      slice_get-map (λ (t : Spot). t.way) roots n ∙ ap (option_map (λ (t : Spot). t.way)) it.1,
+      ap (λ u. root_at u s.way root) (sym it.3) ∙ root-at root s starts (followed-in root ss s followed inside) ∙ sym found,
+    )
 
 -- ---- anchors
 module _ (root : Value) (uri name : Text) where

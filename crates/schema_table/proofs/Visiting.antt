@@ -1,7 +1,7 @@
 -- One step of a walk.
 use Rattle.std.proofs.Common.{◌≡◌, ◌<◌, ℕ, ◌+◌, List, [], ◌∷◌, ◌++◌, map, length, get_or, drop, Bool, false, decimal, Option, Some, codes, refl, sym, ap, ◌∙◌}
 use Rattle.std.proofs.lemmas.List.{drop_more}
-use Rattle.definitions.specs.Values.{Text, Value, null, boolean, integer, string, array, object, text_at, to_elements}
+use Rattle.definitions.specs.Values.{Text, Value, object, text_at, to_elements}
 use Rattle.definitions.specs.Lists.{first}
 use Rattle.json_doc.specs.Docs.{value}
 use Rattle.json_doc.specs.declared.doc.Doc.{Doc}
@@ -10,15 +10,11 @@ use Rattle.schema_table.specs.Missteps.{Misstep, below_name, missteps, missteps_
 use Rattle.schema_table.specs.Refusals.{Refuses}
 use Rattle.schema_table.specs.Spots.{opened_start, opened_uri, start_of, resource_of, spots, spots_from, spots_in_list}
 use Rattle.schema_table.specs.declared.refusal.Refusal.{Refusal}
-use Rattle.schema_table.specs.declared.refusal.Refusal.TheVariants.{NoRoom, Shape, Id, Anchor, Dialect}
+use Rattle.schema_table.specs.declared.refusal.Refusal.TheVariants.{NoRoom}
 
 spots-is : (way : List Hop) (start : ℕ) (base : Text) (v : Value) → spots way start base v ≡ spots_from way (start_of start way v) (resource_of base v) v
 spots-is way start base (object ms) = refl
-spots-is way start base null = refl
-spots-is way start base (boolean b) = refl
-spots-is way start base (integer z) = refl
-spots-is way start base (string t) = refl
-spots-is way start base (array vs) = refl
+spots-is way start base _ = refl
 
 by-id : (way : List Hop) (start : ℕ) (base : Text) (v : Value) (id : Option Text) → text_at (codes "$id") v ≡ id
     → spots_from way (start_of start way v) (resource_of base v) v ≡ spots_from way (opened_start start (length way) id) (opened_uri base id) v
@@ -41,11 +37,7 @@ spots-index way start uri xs i d h e =
 -- ---- missteps: the schema's own come first
 missteps-is : (base : Text) (at_root : Bool) (v : Value) → missteps base at_root v ≡ schema_missteps base at_root v ++ missteps_inside (resource_of base v) v
 missteps-is base at_root (object ms) = refl
-missteps-is base at_root null = refl
-missteps-is base at_root (boolean b) = refl
-missteps-is base at_root (integer z) = refl
-missteps-is base at_root (string t) = refl
-missteps-is base at_root (array vs) = refl
+missteps-is base at_root _ = refl
 
 inside-by : (base : Text) (v : Value) (id : Option Text) → text_at (codes "$id") v ≡ id → missteps_inside (resource_of base v) v ≡ missteps_inside (opened_uri base id) v
 unfolding resource_of
@@ -64,10 +56,7 @@ first-append (z ∷ xs) ys x e = e
 -- what comes later doesn't matter
 pub Refuses-append : (r : Refusal) (ms ns : List Misstep) → Refuses r ms → Refuses r (ms ++ ns)
 Refuses-append NoRoom ms ns h = tt
-Refuses-append (Shape steps) ms ns h = first-append ms ns _ h
-Refuses-append Id ms ns h = first-append ms ns _ h
-Refuses-append Anchor ms ns h = first-append ms ns _ h
-Refuses-append Dialect ms ns h = first-append ms ns _ h
+Refuses-append _ ms ns h = first-append ms ns _ h
 
 -- the element of this index comes next
 pub missteps-index : (base : Text) (xs : List Doc) (i : ℕ) (d : Doc) → i < length xs → d ≡ get_or xs i d

@@ -1,19 +1,19 @@
 -- The walk of the definitions finds the missteps of the value.
-use Rattle.std.proofs.Common.{◌≡◌, ◌<◌, ℕ, zero, suc, ◌+◌, List, [], ◌∷◌, ◌++◌, map, length, Bool, true, false, cond, ◌||◌, ◌==◌, Option, Some, None, option_map, unwrap_or, decimal, refl, sym, ap, ap₂, ◌∙◌, arith, append_assoc}
+use Rattle.std.proofs.Common.{◌≡◌, ◌<◌, ℕ, zero, suc, ◌+◌, List, [], ◌∷◌, ◌++◌, map, length, Bool, true, false, cond, ◌||◌, ◌==◌, Option, Some, None, option_map, unwrap_or, decimal, refl, sym, ap, ap₂, ◌∙◌, arith, append_assoc, append-nil}
 use Rattle.std.proofs.lemmas.Grind.{flat_map-append}
 use Rattle.std.proofs.lemmas.List.{map-append}
 use Rattle.std.specs.List.{flat_map, enumerate_from}
-use Rattle.definitions.specs.Values.{Text, Value, null, boolean, integer, string, array, object, Elements, no_elements, element, elements_list, Members, no_members, member, members, members_list, nesting, elements_nesting, members_nesting}
+use Rattle.definitions.specs.Values.{Text, Value, null, array, object, Elements, no_elements, element, elements_list, Members, no_members, member, members, members_list, nesting, elements_nesting, members_nesting}
 use Rattle.definitions.specs.Pointers.{Pointer, pointer_text}
 use Rattle.definitions.specs.Faults.{Fault, bad_keyword}
-use Rattle.definitions.specs.Shapes.{Shape, any_value, truth, whole_number, size, divisor, any_text, value_list, text_list, text_lists, type_names, reference, one_schema, schema_list, schema_map, identifier, anchor_name, dialect}
+use Rattle.definitions.specs.Shapes.{Shape, any_value, one_schema, schema_list, schema_map, identifier}
 use Rattle.definitions.specs.Keywords.{Keyword, keywords, keyword_named, shape_in}
 use Rattle.definitions.specs.Schemas.{Schema, schema_at, below, at_place, is_root}
 use Rattle.definitions.specs.Scanning.{shape_faults, keyword_faults, subtree_faults}
 use Rattle.definitions.specs.Lists.{unless}
 use Rattle.keywords.specs.Rows.{shape_named}
 use Rattle.schema_table.specs.Spots.{resource_of, opens_resource}
-use Rattle.schema_table.specs.Missteps.{Misstep, wrong_shape, wrong_id, wrong_anchor, wrong_dialect, misstep_fault, deeper, below_name, is_as_asked, misstep_at, shape_missteps, own_missteps, missteps, missteps_below, missteps_at, missteps_in_list, missteps_in_map}
+use Rattle.schema_table.specs.Missteps.{Misstep, wrong_shape, misstep_fault, deeper, below_name, is_as_asked, misstep_at, shape_missteps, own_missteps, missteps, missteps_below, missteps_at, missteps_in_list, missteps_in_map}
 use Rattle.keywords.proofs.Names.{shape_named-row}
 use Rattle.schema_table.proofs.Opened.{value-at, resource-at, is_root-at, not_empty}
 
@@ -26,22 +26,7 @@ shape_faults-missteps : (shape : Shape) (base : Text) (way : Pointer) (s : Schem
     → shape_faults shape base (way ++ name ∷ []) s v ≡ map (misstep_fault way) (shape_missteps shape base (is_root s) name v)
 unfolding shape_missteps
 shape_faults-missteps identifier base way s name v = unless-misstep (is_as_asked identifier base (is_root s) v) way (misstep_at identifier name)
-shape_faults-missteps anchor_name base way s name v = unless-misstep (is_as_asked anchor_name base (is_root s) v) way (misstep_at anchor_name name)
-shape_faults-missteps dialect base way s name v = unless-misstep (is_as_asked dialect base (is_root s) v) way (misstep_at dialect name)
-shape_faults-missteps any_value base way s name v = unless-misstep (is_as_asked any_value base (is_root s) v) way (misstep_at any_value name)
-shape_faults-missteps truth base way s name v = unless-misstep (is_as_asked truth base (is_root s) v) way (misstep_at truth name)
-shape_faults-missteps whole_number base way s name v = unless-misstep (is_as_asked whole_number base (is_root s) v) way (misstep_at whole_number name)
-shape_faults-missteps size base way s name v = unless-misstep (is_as_asked size base (is_root s) v) way (misstep_at size name)
-shape_faults-missteps divisor base way s name v = unless-misstep (is_as_asked divisor base (is_root s) v) way (misstep_at divisor name)
-shape_faults-missteps any_text base way s name v = unless-misstep (is_as_asked any_text base (is_root s) v) way (misstep_at any_text name)
-shape_faults-missteps value_list base way s name v = unless-misstep (is_as_asked value_list base (is_root s) v) way (misstep_at value_list name)
-shape_faults-missteps text_list base way s name v = unless-misstep (is_as_asked text_list base (is_root s) v) way (misstep_at text_list name)
-shape_faults-missteps text_lists base way s name v = unless-misstep (is_as_asked text_lists base (is_root s) v) way (misstep_at text_lists name)
-shape_faults-missteps type_names base way s name v = unless-misstep (is_as_asked type_names base (is_root s) v) way (misstep_at type_names name)
-shape_faults-missteps reference base way s name v = unless-misstep (is_as_asked reference base (is_root s) v) way (misstep_at reference name)
-shape_faults-missteps one_schema base way s name v = unless-misstep (is_as_asked one_schema base (is_root s) v) way (misstep_at one_schema name)
-shape_faults-missteps schema_list base way s name v = unless-misstep (is_as_asked schema_list base (is_root s) v) way (misstep_at schema_list name)
-shape_faults-missteps schema_map base way s name v = unless-misstep (is_as_asked schema_map base (is_root s) v) way (misstep_at schema_map name)
+shape_faults-missteps shape base way s name v = unless-misstep (is_as_asked shape base (is_root s) v) way (misstep_at shape name)
 
 abbrev shape_of_row : Option Keyword → Shape
 shape_of_row k = unwrap_or (option_map (λ r. r.shape) k) any_value
@@ -64,9 +49,7 @@ own_faults base way s (member name v ms) =
 -- ---- its subschemas
 fault-deeper : (way : Pointer) (name : Text) (m : Misstep) → misstep_fault (way ++ name ∷ []) m ≡ misstep_fault way (deeper name m)
 fault-deeper way name (wrong_shape p) = ap (λ q. bad_keyword (pointer_text q)) (append_assoc way (name ∷ []) p)
-fault-deeper way name wrong_id = refl
-fault-deeper way name wrong_anchor = refl
-fault-deeper way name wrong_dialect = refl
+fault-deeper way name _ = refl
 
 faults-deeper : (way : Pointer) (name : Text) (ms : List Misstep) → map (misstep_fault (way ++ name ∷ [])) ms ≡ map (misstep_fault way) (below_name name ms)
 faults-deeper way name [] = refl
@@ -75,11 +58,7 @@ faults-deeper way name (m ∷ ms) = ap₂ (λ a b. a ∷ b) (fault-deeper way na
 -- a single schema
 pub one-missteps : (base : Text) (v : Value) → missteps_at one_schema base v ≡ missteps base false v
 one-missteps base (object ms) = refl
-one-missteps base null = refl
-one-missteps base (boolean b) = refl
-one-missteps base (integer z) = refl
-one-missteps base (string t) = refl
-one-missteps base (array vs) = refl
+one-missteps base _ = refl
 
 -- what so many levels find, at every schema that nests less deep
 abbrev Finds : ℕ → Type 0
@@ -112,10 +91,6 @@ module _ (n : ℕ) (finds : Finds n) (way : Pointer) (s : Schema) where
       ap₂ (λ a b. a ++ b) (found name (decimal i) v (omega arith)) (list_faults name (i + 1) vs (omega arith))
       ∙ sym (map-append (misstep_fault (way ++ name ∷ [])) (below_name (decimal i) (missteps s.resource false v)) (missteps_in_list s.resource (i + 1) vs))
 
-  append-nil : (fs : List Fault) → fs ++ [] ≡ fs
-  append-nil [] = refl
-  append-nil (f ∷ fs) = ap (λ gs. f ∷ gs) (append-nil fs)
-
   one_fault : (name : Text) (v : Value) → nesting v < n
       → flat_map found_below ((name ∷ [], below s (name ∷ []) v) ∷ []) ≡ map (misstep_fault (way ++ name ∷ [])) (missteps s.resource false v)
   one_fault name v h =
@@ -126,31 +101,8 @@ module _ (n : ℕ) (finds : Finds n) (way : Pointer) (s : Schema) where
       → flat_map found_below (at_place s name v shape) ≡ map (misstep_fault (way ++ name ∷ [])) (missteps_at shape s.resource v)
   at_faults one_schema name v h = one_fault name v h ∙ ap (map (misstep_fault (way ++ name ∷ []))) (sym (one-missteps s.resource v))
   at_faults schema_list name (array vs) h = list_faults name 0 vs (omega arith)
-  at_faults schema_list name null h = refl
-  at_faults schema_list name (boolean b) h = refl
-  at_faults schema_list name (integer z) h = refl
-  at_faults schema_list name (string t) h = refl
-  at_faults schema_list name (object ms) h = refl
   at_faults schema_map name (object ms) h = map_faults name ms (omega arith)
-  at_faults schema_map name null h = refl
-  at_faults schema_map name (boolean b) h = refl
-  at_faults schema_map name (integer z) h = refl
-  at_faults schema_map name (string t) h = refl
-  at_faults schema_map name (array vs) h = refl
-  at_faults any_value name v h = refl
-  at_faults truth name v h = refl
-  at_faults whole_number name v h = refl
-  at_faults size name v h = refl
-  at_faults divisor name v h = refl
-  at_faults any_text name v h = refl
-  at_faults value_list name v h = refl
-  at_faults text_list name v h = refl
-  at_faults text_lists name v h = refl
-  at_faults type_names name v h = refl
-  at_faults reference name v h = refl
-  at_faults identifier name v h = refl
-  at_faults anchor_name name v h = refl
-  at_faults dialect name v h = refl
+  at_faults _ name _ h = refl
 
   below_faults : (ms : Members) → members_nesting ms < n
       → flat_map found_below (flat_map (λ m. at_place s m.0 m.1 (shape_in keywords m.0)) (members_list ms)) ≡ map (misstep_fault way) (missteps_below s.resource ms)
@@ -174,10 +126,7 @@ level_faults n finds base way p (object ms) at_root e h =
     (below_faults n finds way (schema_at base p (object ms)) ms (omega arith) ∙ ap (λ r. map (misstep_fault way) (missteps_below r ms)) (resource-at base p (object ms)))
     ∙ sym (map-append (misstep_fault way) (own_missteps base (at_root || opens_resource (object ms)) ms) (missteps_below (resource_of base (object ms)) ms))
 level_faults n finds base way p null at_root e h = refl
-level_faults n finds base way p (boolean b) at_root e h = refl
-level_faults n finds base way p (integer z) at_root e h = refl
-level_faults n finds base way p (string t) at_root e h = refl
-level_faults n finds base way p (array vs) at_root e h = refl
+level_faults n finds base way p _ at_root e h = refl
 
 pub walked-missteps : (n : ℕ) → Finds n
 walked-missteps zero base way p v at_root e h = absurd (omega arith)

@@ -1,5 +1,5 @@
--- What is found by number, by URI and by name.
-use Rattle.std.specs.Prelude.{ℕ, List, [], Bool, ◌&&◌, Option, drop, option_and_then, option_map, slice_get}
+-- What is found by URI and by name.
+use Rattle.std.specs.Prelude.{List, [], Bool, ◌&&◌, Option, drop, option_map}
 use Rattle.definitions.specs.Values.{Text, Value, same_text}
 use Rattle.definitions.specs.Schemas.{Schema}
 use Rattle.locations.specs.Hops.{Hop, follow, hop_tokens}
@@ -11,10 +11,6 @@ root_schema uri v = record { resource = uri; pointer = []; value = v }
 
 unfoldable pub root_at : Text → List Hop → Value → Option Schema
 root_at uri way root = option_map (root_schema uri) (follow way root)
-
-unfoldable pub numbered_root : List Text → List (List Hop) → Value → ℕ → Option Schema
-numbered_root uris ways root number =
-    option_and_then (λ uri. option_and_then (λ way. root_at uri way root) (slice_get ways number)) (slice_get uris number)
 
 -- the schema that has an anchor
 unfoldable pub marked_schema : Value → Mark → Option Schema

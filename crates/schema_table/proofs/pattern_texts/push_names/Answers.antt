@@ -1,8 +1,8 @@
-use Rattle.std.proofs.Common.{◌++◌, [], ◌∷◌, List, map, Bor, sym, ap, ◌∙◌}
+use Rattle.std.proofs.Common.{◌++◌, [], ◌∷◌, List, map, Bor, sym, ap, ◌∙◌, append-nil}
 use Rattle.definitions.specs.Values.{Text, Value}
 use Rattle.json_doc.specs.Docs.{members_value}
 use Rattle.json_doc.specs.Members.{members_left}
-use Rattle.schema_table.proofs.Lists.{map-push, grown, append-none}
+use Rattle.schema_table.proofs.Lists.{map-push, grown}
 use Rattle.schema_table.proofs.pattern_texts.push_names.Goals as goal
 
 abbrev texts : List (Bor Text) → List Text
@@ -23,4 +23,4 @@ loop-name-preserved c =
 
 pub returns : goal.returns
 returns c =
-    sym (c.loop-name.invariant ∙ ap (λ ms. texts c.loop-name.texts.items ++ names ms) c.in-None.ensures.steps.0 ∙ append-none (texts c.loop-name.texts.items))
+    sym (c.loop-name.invariant ∙ ap (λ ms. texts c.loop-name.texts.items ++ names ms) c.in-None.ensures.steps.0 ∙ append-nil (texts c.loop-name.texts.items))

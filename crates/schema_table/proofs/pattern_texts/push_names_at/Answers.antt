@@ -1,7 +1,6 @@
-use Rattle.std.proofs.Common.{◌≡◌, ◌++◌, List, map, OnOk, Some, None, Bor, subst, sym, ap, ◌∙◌}
+use Rattle.std.proofs.Common.{◌≡◌, ◌++◌, List, map, OnOk, Some, None, Bor, subst, sym, ap, ◌∙◌, append-nil}
 use Rattle.definitions.specs.Values.{Text}
 use Rattle.json_doc.specs.Docs.{value, members_value}
-use Rattle.schema_table.proofs.Lists.{append-none}
 use Rattle.schema_table.proofs.Patterned.{names_at-members}
 use Rattle.schema_table.proofs.pattern_texts.push_names_at.Goals as goal
 
@@ -16,5 +15,5 @@ returns-in-Some c =
 
 pub returns-in-None : goal.returns-in-None
 returns-in-None c =
-    sym (append-none (texts c.args.texts.now.items))
+    sym (append-nil (texts c.args.texts.now.items))
     ∙ ap (λ ts. texts c.args.texts.now.items ++ ts) (sym (names_at-members c.args.keyword.now (value c.args.schema.now) None c.in-None.ensures))

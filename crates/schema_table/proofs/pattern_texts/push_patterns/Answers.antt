@@ -1,9 +1,9 @@
-use Rattle.std.proofs.Common.{◌≡◌, ◌++◌, List, map, OnOk, option_map, Bor, codes, subst, sym, ap, ◌∙◌, append_assoc}
+use Rattle.std.proofs.Common.{◌≡◌, ◌++◌, List, map, OnOk, option_map, Bor, codes, subst, sym, ap, ◌∙◌, append_assoc, append-nil}
 use Rattle.definitions.specs.Lists.{option_list}
 use Rattle.definitions.specs.Values.{Text}
 use Rattle.json_doc.specs.Docs.{value}
 use Rattle.schema_table.specs.PatternTexts.{names_at}
-use Rattle.schema_table.proofs.Lists.{map-push, append-none}
+use Rattle.schema_table.proofs.Lists.{map-push}
 use Rattle.schema_table.proofs.Patterned.{patterns_at-parts}
 use Rattle.schema_table.proofs.pattern_texts.push_patterns.Goals as goal
 use Rattle.schema_table.proofs.pattern_texts.push_patterns.Goals.{in-Some+in_ok-push, in_default}
@@ -23,7 +23,7 @@ returns c =
           ap (λ ts. texts ts.items) w.texts-is ∙ map-push (λ (t : Bor Text). t.now) c.args.texts.now.items w.push.new.self.items w.in-Some.text w.in_ok-push.ensures.items
           ∙ ap (λ t. before ++ option_list (option_map (λ (t : Bor Text). t.now) t)) (sym w.in-Some.is)
       | in_default w ↦
-          ap (λ ts. texts ts.items) w.texts-is ∙ sym (append-none before)
+          ap (λ ts. texts ts.items) w.texts-is ∙ sym (append-nil before)
           ∙ ap (λ t. before ++ option_list (option_map (λ (t : Bor Text). t.now) t)) (sym w.in_default.is)
     ] in
     subst (λ ts. OnOk c.push_names_at.result (texts c.push_names_at.new.texts.items ≡ ts))

@@ -3,7 +3,6 @@ use Rattle.std.specs.List.{list_all, position_from}
 use Rattle.definitions.specs.Patterns.{regular_search}
 use Rattle.definitions.specs.Scanning.{scan_fault}
 use Rattle.definitions.specs.Searches.{is_regular, patterns}
-use Rattle.definitions.specs.Values.{same_text}
 use Rattle.json_doc.specs.Docs.{value}
 use Rattle.schema_scan.specs.CompiledDocuments.{compiled_base, compiled_value}
 use Rattle.schema_scan.specs.PatternTables.{holds_pattern}
@@ -23,11 +22,10 @@ invariant_of-result c =
       regular = ap (is_regular regular_search) same ∙ c.requires.regular;
       built = ap (λ v. list_all (holds_pattern c.args.pattern_table) (patterns v)) same ∙ c.requires.built;
       of_document = subst (λ v. IsTableOf c.args.table (spots [] 0 (string_bytes c.args.base) v)) (sym same) c.requires.of_document;
-      by_uri = λ uri. c.in_ok-numbers.ensures uri ∙ ap (λ us. position_from (same_text uri) 0 (map string_bytes us)) c.deref.ensures.value;
-      by_known_uri = subst (λ us. AreNumbers c.in_ok-uri_numbers.uri_numbers (map string_bytes us)) c.deref-3.ensures.value c.in_ok-uri_numbers.ensures;
-      by_identifier = subst (λ ids. AreNumbers c.in_ok-identifier_numbers.identifier_numbers (map string_bytes ids)) c.deref-4.ensures.value c.in_ok-identifier_numbers.ensures;
-      by_text = subst (λ ts. AreNumbers c.in_ok-text_numbers.text_numbers (map string_bytes ts)) c.deref-5.ensures.value c.in_ok-text_numbers.ensures;
-      by_anchor = λ uri name. c.in_ok-anchor_numbers.ensures uri name ∙ ap (λ anchors. position_from (has_mark uri name) 0 (map anchor_mark anchors)) c.deref-2.ensures.value;
+      by_uri = subst (λ us. AreNumbers c.in_ok-uri_numbers.uri_numbers (map string_bytes us)) c.deref-2.ensures.value c.in_ok-uri_numbers.ensures;
+      by_identifier = subst (λ ids. AreNumbers c.in_ok-identifier_numbers.identifier_numbers (map string_bytes ids)) c.deref-3.ensures.value c.in_ok-identifier_numbers.ensures;
+      by_text = subst (λ ts. AreNumbers c.in_ok-text_numbers.text_numbers (map string_bytes ts)) c.deref-4.ensures.value c.in_ok-text_numbers.ensures;
+      by_anchor = λ uri name. c.in_ok-anchor_numbers.ensures uri name ∙ ap (λ anchors. position_from (has_mark uri name) 0 (map anchor_mark anchors)) c.deref.ensures.value;
     }
 
 pub returns : goal.returns

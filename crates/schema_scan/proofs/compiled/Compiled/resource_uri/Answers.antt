@@ -1,25 +1,41 @@
-use Rattle.std.proofs.Common.{None, Some, map, string_bytes, ap, ◌∙◌}
+use Rattle.std.proofs.Common.{◌≡◌, Some, None, map, string_bytes, true≢false, sym, ap, ◌∙◌}
+use Rattle.std.proofs.lemmas.Bool.{false_from_ne_true}
+use Rattle.std.proofs.lemmas.Option.{same_Some}
+use Rattle.std.proofs.lemmas.Slice.Eq.{bytes_eq-Decides}
 use Rattle.std.specs.List.{slice_get}
+use Rattle.definitions.specs.Reach.{holds_resource}
+use Rattle.definitions.specs.Scanning.{resource_uris}
 use Rattle.schema_table.specs.Gathering.{table_uris}
-use Rattle.schema_scan.proofs.Owned.{held-uri, same-uri, uri-at}
+use Rattle.schema_scan.specs.CompiledDocuments.{compiled_schemas, compiled_view}
+use Rattle.schema_scan.proofs.Known.{held-at}
+use Rattle.schema_scan.proofs.Owned.{owned-uris}
 use Rattle.schema_scan.proofs.compiled.Compiled.resource_uri.Goals as goal
 
-pub returns-in-Some-clause-same : goal.returns-in-Some-clause-same
+pub returns-then-eq-clause-held : goal.returns-then-eq-clause-held
 unfolding table_uris
-returns-in-Some-clause-same c =
-    let us = map string_bytes c.args.self.now.table.uris.items in
-    same-uri c.args.uri.now us c.numbered.result
-    (c.numbered.ensures ∙ ap (λ ts. slice_get (map string_bytes ts) c.in-Some.number) c.deref.ensures.value ∙ uri-at c.args.uri.now us (Some c.in-Some.number) c.in-Some.ensures)
+returns-then-eq-clause-held c =
+    let d = c.args.self.now in
+    let n = c.resource_number.result in
+    let at : Some c.in-Some.known.now ≡ slice_get (resource_uris (compiled_schemas d)) n =
+    c.in-Some.ensures ∙ ap (λ us. slice_get (map string_bytes us) n) c.deref.ensures.value ∙ ap (λ us. slice_get us n) (owned-uris d) in
+    sym (held-at d c.args.uri.now n (sym at ∙ ap Some ((bytes_eq-Decides c.in-Some.known.now c.args.uri.now).0 (sym c.eq.ensures ∙ c.if-eq.true))))
 
-pub returns-in-Some-clause-held : goal.returns-in-Some-clause-held
+pub returns-else-eq-clause-held : goal.returns-else-eq-clause-held
 unfolding table_uris
-returns-in-Some-clause-held c =
-    let us = map string_bytes c.args.self.now.table.uris.items in
-    held-uri c.args.self.now c.args.uri.now c.numbered.result
-    (c.numbered.ensures ∙ ap (λ ts. slice_get (map string_bytes ts) c.in-Some.number) c.deref.ensures.value ∙ uri-at c.args.uri.now us (Some c.in-Some.number) c.in-Some.ensures)
+returns-else-eq-clause-held c =
+    let d = c.args.self.now in
+    let n = c.resource_number.result in
+    let at : Some c.in-Some.known.now ≡ slice_get (resource_uris (compiled_schemas d)) n =
+    c.in-Some.ensures ∙ ap (λ us. slice_get (map string_bytes us) n) c.deref.ensures.value ∙ ap (λ us. slice_get us n) (owned-uris d) in
+    sym (false_from_ne_true (holds_resource c.args.uri.now (compiled_view d)) (λ held.
+    true≢false (sym ((bytes_eq-Decides c.in-Some.known.now c.args.uri.now).1 (same_Some _ _ (at ∙ c.resource_number.ensures held))) ∙ sym c.eq.ensures ∙ c.if-eq.false)))
 
 pub returns-in-None-clause-held : goal.returns-in-None-clause-held
 unfolding table_uris
 returns-in-None-clause-held c =
-    let us = map string_bytes c.args.self.now.table.uris.items in
-    held-uri c.args.self.now c.args.uri.now None (uri-at c.args.uri.now us None c.in-None.ensures)
+    let d = c.args.self.now in
+    let n = c.resource_number.result in
+    sym (false_from_ne_true (holds_resource c.args.uri.now (compiled_view d)) (λ held.
+    let none : None ≡ Some c.args.uri.now =
+    c.in-None.ensures ∙ ap (λ us. slice_get (map string_bytes us) n) c.deref.ensures.value ∙ ap (λ us. slice_get us n) (owned-uris d) ∙ c.resource_number.ensures held in
+    cc))

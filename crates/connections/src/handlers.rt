@@ -66,6 +66,12 @@ pub trait Handler {
             → finds self.old s ⊎ (s ≡ state self.old) }
         ensures err { OnErr result keeps };
 
+    /// How many changes were granted up to now, modulo 2^64: where it grows, the next settle has something to do. This decides
+    /// nothing that is answered.
+    fn changes(&self) -> u64 {
+        0
+    }
+
     /// What is noted from here on is of this connection: a piece of its stream is taken. This changes nothing that is
     /// answered.
     fn take_up(&self, _connection: u64) {}

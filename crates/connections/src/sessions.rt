@@ -138,6 +138,11 @@ impl<H: Handler> Sessions<H> {
         }
     }
 
+    /// How many changes were granted up to now, as [`Handler::changes`] counts them.
+    pub fn changes(&self) -> u64 {
+        self.handler.changes()
+    }
+
     /// Makes durable what was answered, as [`Handler::settle`] does. Nothing that was answered since the last time may be
     /// told before, nor where it fails.
     pub fn settle(&mut self) -> Result<(), Unsettled>

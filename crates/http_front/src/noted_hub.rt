@@ -62,6 +62,10 @@ impl<H: Handler + HasHub, J: Journal> Handler for NotedHub<'_, H, J> {
         self.handler.settle()
     }
 
+    fn changes(&self) -> u64 {
+        self.handler.changes()
+    }
+
     fn take_up(&self, connection: u64) {
         self.journal.take_up(connection);
     }

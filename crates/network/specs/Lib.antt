@@ -3,6 +3,8 @@ pub mod Codes
 pub mod Notes
 pub mod Transcripts
 pub mod Readiness
+pub mod Clients
 pub mod Sizes
 pub mod Outboxes
+pub mod Scenes
 pub mod Memory

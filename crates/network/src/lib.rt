@@ -1,13 +1,16 @@
 //! What tells which of many connections are ready, and moves their bytes.
 #![tactic(auto)]
 
+mod clients;
 mod kept;
 mod memory;
 mod networks;
 mod outbox;
+mod peers;
 mod scenes;
 mod transcript;
 
+pub use clients::Client;
 pub use faults::Fault;
 pub use kept::Kept;
 pub use memory::MemoryNetwork;

@@ -1,6 +1,7 @@
 //! Connections over memory.
 
 ghost use Rattle.std.specs.Prelude.{◌≡◌, [], ⊤};
+ghost use Rattle.network.specs.Scenes.{client_at};
 ghost use Rattle.network.specs.Transcripts.{moves_of};
 
 use crate::networks::{Broken, Network, Occasion};
@@ -57,6 +58,8 @@ impl Network for MemoryNetwork<'_> {
 
     ghost due = { λ s d k. ⊤ };
 
+    ghost client = { λ s k. client_at s.scene k };
+
     fn next(&mut self) -> Option<Occasion> {
         self.scene.next()
     }
@@ -99,6 +102,8 @@ impl Network for MemoryNetwork<'_> {
     fn later(&mut self, id: u64) {
         self.scene.later(id);
     }
+
+    fn give_way(&mut self, _id: u64) {}
 
     fn close(&mut self, id: u64) {
         self.scene.close(id);

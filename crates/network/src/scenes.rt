@@ -1,8 +1,11 @@
 //! What happens on connections over memory.
 
-ghost use Rattle.std.specs.Prelude.{◌≤◌, IfOk, IfSome, length};
+ghost use Rattle.std.specs.Prelude.{◌≡◌, ◌≢◌, ◌≤◌, true, false, ℕ, Some, IfOk, IfSome, length};
+ghost use Rattle.network.specs.Clients.{failed, client_behind, OthersAreSame};
 
+use crate::clients::Client;
 use crate::networks::{Broken, Occasion};
+use crate::peers::Peer;
 use std::alloc::{AllocError, Global};
 use std::collections::{BTreeMap, VecDeque};
 
@@ -29,68 +32,6 @@ pub enum Happening<'a> {
     Rests,
 }
 
-// The other side of a connection.
-#[derive(Drop)]
-struct Peer<'a> {
-    arrived: VecDeque<&'a [u8]>,
-    has_ended: bool,
-    is_broken: bool,
-    room: usize,
-    written: Vec<u8>,
-    is_closed: bool,
-}
-
-impl<'a> Peer<'a> {
-    fn new(alloc: Global) -> Peer<'a> {
-        Peer {
-            arrived: VecDeque::new(alloc),
-            has_ended: false,
-            is_broken: false,
-            room: usize::MAX,
-            written: Vec::new(alloc),
-            is_closed: false,
-        }
-    }
-
-    fn read(&mut self, buffer: &mut [u8]) -> Result<Option<usize>, Broken>
-        ensures { IfOk result (λ n. IfSome n (λ count. count ≤ length buffer.new)) }
-    {
-        if self.is_broken {
-            return Err(Broken);
-        }
-        let Some(front) = self.arrived.pop_front() else {
-            return Ok(if self.has_ended { Some(0) } else { None });
-        };
-        let count = front.len().min(buffer.len());
-        buffer[..count].copy_from_slice(&front[..count]);
-        if count < front.len() && self.arrived.push_front(&front[count..]).is_err() {
-            self.is_broken = true;
-        }
-        Ok(Some(count))
-    }
-
-    fn write(&mut self, bytes: &[u8]) -> Result<Option<usize>, Broken>
-        ensures { IfOk result (λ n. IfSome n (λ count. count ≤ length bytes.now)) }
-    {
-        if self.is_broken {
-            return Err(Broken);
-        }
-        if self.room == 0 {
-            return Ok(None);
-        }
-        let count = bytes.len().min(self.room);
-        match self.written.extend_from_slice(&bytes[..count]) {
-            Ok(()) => {
-                if self.room < usize::MAX {
-                    self.room -= count;
-                }
-                Ok(Some(count))
-            }
-            Err(_) => Err(Broken),
-        }
-    }
-}
-
 /// All connections over memory, and what is still to happen on them.
 #[derive(Drop)]
 pub struct Scene<'a> {
@@ -103,6 +44,8 @@ pub struct Scene<'a> {
 }
 
 impl<'a> Scene<'a> {
+    ghost use Rattle.network.specs.Scenes.{client_at, Stays};
+
     pub fn new(alloc: Global, script: &'a [Happening<'a>]) -> Scene<'a> {
         Scene {
             alloc,
@@ -114,68 +57,124 @@ impl<'a> Scene<'a> {
         }
     }
 
-    pub fn next(&mut self) -> Option<Occasion> {
-        self.occasions.pop_front()
+    // The client of a connection comes. Whether there is such a connection.
+    fn greet(&mut self, id: u64) -> bool
+        ensures comes { result ≡ true → client_at self.new id ≡ Client.Present }
+        ensures none { result ≡ false → client_at self.new id ≡ client_at self.old id }
+        ensures clients { OthersAreSame id (client_at self.old) (client_at self.new) }
+    {
+        match self.peers.get_mut(&id) {
+            Some(peer) => {
+                peer.client = Client::Present;
+                true
+            }
+            None => false,
+        }
+    }
+
+    // The client of a connection fails.
+    fn fail(&mut self, id: u64)
+        ensures client { client_at self.new id ≡ failed (client_at self.old id) }
+        ensures clients { OthersAreSame id (client_at self.old) (client_at self.new) }
+    {
+        if let Some(peer) = self.peers.get_mut(&id) {
+            peer.client = peer.client.failed();
+        }
+    }
+
+    pub fn next(&mut self) -> Option<Occasion>
+        ensures comes { (k : ℕ) → result ≡ Some (Occasion.Opens k)
+            → client_at self.new k ≡ Client.Present }
+        ensures late { (k : ℕ) → result ≡ Some (Occasion.Late k)
+            → client_at self.new k ≡ failed (client_at self.old k) }
+        ensures clients { (k : ℕ) → result ≢ Some (Occasion.Opens k)
+            → result ≢ Some (Occasion.Late k) → client_at self.new k ≡ client_at self.old k }
+    {
+        match self.occasions.pop_front() {
+            Some(Occasion::Opens(id)) => {
+                if self.greet(id) {
+                    Some(Occasion::Opens(id))
+                } else {
+                    None
+                }
+            }
+            Some(Occasion::Late(id)) => {
+                self.fail(id);
+                Some(Occasion::Late(id))
+            }
+            other => other,
+        }
     }
 
     // Tells what is next. Where memory lacks, the script is at its end.
-    fn tell(&mut self, occasion: Occasion) {
+    fn tell(&mut self, occasion: Occasion)
+        ensures { Stays self.old self.new }
+    {
         if self.occasions.push_back(occasion).is_err() {
             self.told = self.script.len();
         }
     }
 
-    pub fn again(&mut self, id: u64) {
+    pub fn again(&mut self, id: u64)
+        ensures { Stays self.old self.new }
+    {
         self.tell(Occasion::Ready(id));
     }
 
-    pub fn later(&mut self, id: u64) {
+    pub fn later(&mut self, id: u64)
+        ensures { Stays self.old self.new }
+    {
         if self.later.push_back(id).is_err() {
             self.told = self.script.len();
         }
     }
 
+    // A connection begins, whose client is still to be told.
+    fn begin(&mut self, id: u64) -> Result<(), AllocError>
+        ensures { Stays self.old self.new }
+    {
+        if !self.peers.contains_key(&id) {
+            self.peers.insert(id, Peer::new(self.alloc))?;
+        }
+        Ok(())
+    }
+
+    // Something happens on a connection, which is told ready.
+    fn reach(&mut self, happening: Happening<'a>, id: u64) -> Result<(), AllocError>
+        ensures { Stays self.old self.new }
+    {
+        if let Some(peer) = self.peers.get_mut(&id) {
+            peer.meet(happening)?;
+        }
+        self.again(id);
+        Ok(())
+    }
+
     // Has what is next in the script happen. Whether what comes behind it happens at the same time.
-    fn happen(&mut self, happening: Happening<'a>) -> Result<bool, AllocError> {
+    fn happen(&mut self, happening: Happening<'a>) -> Result<bool, AllocError>
+        ensures { Stays self.old self.new }
+    {
         match happening {
             Happening::Rests => return Ok(false),
             Happening::Ceases => self.tell(Occasion::Over),
             Happening::Tires(id) => self.tell(Occasion::Late(id)),
             Happening::Opens(id) => {
-                self.peers.insert(id, Peer::new(self.alloc))?;
+                self.begin(id)?;
                 self.tell(Occasion::Opens(id));
             }
-            Happening::Arrives(id, bytes) => {
-                if let Some(peer) = self.peers.get_mut(&id) {
-                    peer.arrived.push_back(bytes.as_bytes())?;
-                }
-                self.again(id);
-            }
-            Happening::Ends(id) => {
-                if let Some(peer) = self.peers.get_mut(&id) {
-                    peer.has_ended = true;
-                }
-                self.again(id);
-            }
-            Happening::Takes(id, room) => {
-                if let Some(peer) = self.peers.get_mut(&id) {
-                    peer.room = room;
-                }
-                self.again(id);
-            }
-            Happening::Breaks(id) => {
-                if let Some(peer) = self.peers.get_mut(&id) {
-                    peer.is_broken = true;
-                }
-                self.again(id);
-            }
-            Happening::Stirs(id) => self.again(id),
+            Happening::Arrives(id, _)
+            | Happening::Ends(id)
+            | Happening::Takes(id, _)
+            | Happening::Breaks(id)
+            | Happening::Stirs(id) => self.reach(happening, id)?,
         }
         Ok(true)
     }
 
     // Tells those ready that were to be told later.
-    fn recall(&mut self) {
+    fn recall(&mut self)
+        ensures { Stays self.old self.new }
+    {
         for _ in 0..self.later.len() {
             if let Some(id) = self.later.pop_front() {
                 self.again(id);
@@ -184,7 +183,9 @@ impl<'a> Scene<'a> {
     }
 
     // Has all happen up to the next rest.
-    fn go_on(&mut self) {
+    fn go_on(&mut self)
+        ensures { Stays self.old self.new }
+    {
         let script = self.script;
         for index in self.told..script.len() {
             self.told = index + 1;
@@ -200,7 +201,9 @@ impl<'a> Scene<'a> {
     }
 
     /// Goes on where nobody is ready; at the end of the script all is over.
-    pub fn wait(&mut self) {
+    pub fn wait(&mut self)
+        ensures { Stays self.old self.new }
+    {
         if !self.occasions.is_empty() {
             return;
         }
@@ -213,7 +216,9 @@ impl<'a> Scene<'a> {
     }
 
     pub fn read(&mut self, id: u64, buffer: &mut [u8]) -> Result<Option<usize>, Broken>
-        ensures { IfOk result (λ n. IfSome n (λ count. count ≤ length buffer.new)) }
+        ensures fits { IfOk result (λ n. IfSome n (λ count. count ≤ length buffer.new)) }
+        ensures client { client_at self.new id ≡ client_behind result (client_at self.old id) }
+        ensures clients { OthersAreSame id (client_at self.old) (client_at self.new) }
     {
         match self.peers.get_mut(&id) {
             Some(peer) => peer.read(buffer),
@@ -222,7 +227,9 @@ impl<'a> Scene<'a> {
     }
 
     pub fn write(&mut self, id: u64, bytes: &[u8]) -> Result<Option<usize>, Broken>
-        ensures { IfOk result (λ n. IfSome n (λ count. count ≤ length bytes.now)) }
+        ensures fits { IfOk result (λ n. IfSome n (λ count. count ≤ length bytes.now)) }
+        ensures client { client_at self.new id ≡ client_behind result (client_at self.old id) }
+        ensures clients { OthersAreSame id (client_at self.old) (client_at self.new) }
     {
         match self.peers.get_mut(&id) {
             Some(peer) => peer.write(bytes),
@@ -230,8 +237,12 @@ impl<'a> Scene<'a> {
         }
     }
 
-    pub fn close(&mut self, id: u64) {
+    pub fn close(&mut self, id: u64)
+        ensures client { client_at self.new id ≡ Client.Absent }
+        ensures clients { OthersAreSame id (client_at self.old) (client_at self.new) }
+    {
         if let Some(peer) = self.peers.get_mut(&id) {
+            peer.client = Client::Absent;
             peer.is_closed = true;
         }
     }

@@ -346,6 +346,33 @@ const ENDS: &[Row] = &[
         &[(0, "HTT", 0), (1, OUTPUT, 0)],
         "0+ 0-WriteFailed 1+",
     ),
+    // What comes on one that was late, or failed, isn't read any more.
+    (
+        ENOUGH,
+        &[Opens(0), Rests, Tires(0), Rests, Arrives(0, POST)],
+        &[(0, "", 89)],
+        "0+ 0-ReadFailed",
+    ),
+    (
+        ENOUGH,
+        &[Opens(0), Breaks(0), Rests, Arrives(0, POST)],
+        &[(0, "", 89)],
+        "0+ 0-ReadFailed",
+    ),
+    (
+        ENOUGH,
+        &[
+            Opens(0),
+            Takes(0, 3),
+            Arrives(0, PUT),
+            Rests,
+            Breaks(0),
+            Rests,
+            Arrives(0, POST),
+        ],
+        &[(0, "HTT", 89)],
+        "0+ 0-WriteFailed",
+    ),
 ];
 
 #[test]

@@ -68,14 +68,31 @@ fn expect_outcome(
     assert_eq!(rt; network.unread(id), unread, "unread of {id}");
 }
 
+fn mark_of_end(alloc: Global, id: u64) -> Result<String, AllocError> {
+    format!(in alloc; "{id}-")
+}
+
+// One that is told to have ended was let go.
+fn expect_let_go(rt: &impl Abort, alloc: Global, network: &MemoryNetwork<'_>, id: u64, told: &str) {
+    match mark_of_end(alloc, id) {
+        Ok(mark) => assert!(rt;
+            network.is_closed(id) || !told.contains(mark.as_str()),
+            "{told}"
+        ),
+        Err(_) => panic!(rt; "no room"),
+    }
+}
+
 fn expect_all(
     rt: &impl Abort,
     alloc: Global,
     network: &MemoryNetwork<'_>,
     outcomes: &[Outcome<'_>],
+    told: &str,
 ) {
     for outcome in outcomes {
         expect_outcome(rt, alloc, network, outcome);
+        expect_let_go(rt, alloc, network, outcome.0, told);
     }
 }
 
@@ -104,7 +121,7 @@ pub fn expect_outcomes(
         "{told}: {}",
         observer.text
     );
-    expect_all(rt, alloc, &network, outcomes);
+    expect_all(rt, alloc, &network, outcomes, told);
 }
 
 const UNSETTLED: &[Happening<'static>] = &[

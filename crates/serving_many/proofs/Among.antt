@@ -5,7 +5,7 @@ use Rattle.std.proofs.lemmas.List.{drop_more}
 use Rattle.definitions.specs.Values.{Text}
 use Rattle.network.specs.Readiness.{has_bytes, IsAmong, AllDue, OthersDue}
 use Rattle.network.specs.declared.networks.Occasion.{Occasion}
-use Rattle.network.specs.declared.networks.Occasion.TheVariants.{Ready}
+use Rattle.network.specs.declared.networks.Occasion.TheVariants.{Opens, Ready, Late, Over}
 
 pub among_last : (k : ℕ) (xs : List ℕ) → IsAmong k (xs ++ k ∷ [])
 among_last k [] = inl refl
@@ -31,6 +31,12 @@ due_next u v before after id ids i lt is stay others own x k bytes e =
 
 pub same_number : (a b : ℕ) → Ready a ≡ Ready b → a ≡ b
 same_number a b e = cc
+
+pub opens_not_over : (r : Option Occasion) (k : ℕ) → r ≡ Some Over → r ≡ Some (Opens k) → ⊥
+opens_not_over r k e f = cc (e, f)
+
+pub late_not_over : (r : Option Occasion) (k : ℕ) → r ≡ Some Over → r ≡ Some (Late k) → ⊥
+late_not_over r k e f = cc (e, f)
 
 pub no_some : {A : Type 0} (x : A) (p : Option A) → p ≡ Some x → p ≡ None → ⊥
 no_some x p e f = cc (e, f)

@@ -1,5 +1,6 @@
 mod Lists
 mod Needed
+mod Present
 mod Kept
 mod Changes
 mod Turns

@@ -1,5 +1,5 @@
 -- Which connections stand open, once something was done on one of them.
-use Rattle.std.proofs.Common.{◌≡◌, ◌≢◌, ◌⊎◌, ℕ, List, [], ◌∷◌, ◌++◌, length, true, false, Option, Some, None, sym, ap, ◌∙◌, subst, inl, inr, true≢false, arith}
+use Rattle.std.proofs.Common.{◌≡◌, ◌≢◌, ◌⊎◌, ℕ, [], ◌∷◌, ◌++◌, false, Option, Some, None, sym, ap, ◌∙◌, subst, inl, inr, true≢false}
 use Rattle.std.proofs.lemmas.Bool.{cases_eq}
 use Rattle.definitions.specs.Values.{Text}
 use Rattle.http_definitions.specs.Connections.{Connection, closed}
@@ -28,12 +28,15 @@ at_rest c u opened silent = rw (silent) opened
 pub opened_at_rest : (c : Option Connection) (u : Option Text) → IsNeeded c u → u ≡ Some [] → is_closed_at c ≡ false
 opened_at_rest c u x silent = rw silent at x
 
+pub stays_open : (c : Option Connection) → c ≡ None → is_closed_at c ≡ false → ⊥
+stays_open c none opened = true≢false (sym (ap is_closed_at none) ∙ opened)
+
+pub longer : (b : ℕ) (bytes wrote : Text) → wrote ≡ wrote ++ b ∷ bytes → ⊥
+longer b bytes [] e = cc (e)
+longer b bytes (w ∷ wrote) e = longer b bytes wrote (cc (e))
+
 -- ---- not all was written of what a closed connection is to be sent
 pub is_unfinished : (c : Option Connection) (u : Option Text) (sent wrote : Text) → IsNeeded c u → Tells sent wrote u → c ≡ Some closed → sent ≢ wrote
 is_unfinished c None sent wrote x t e same = no_some closed c e x
 is_unfinished c (Some []) sent wrote x t e same = true≢false (sym (ap is_closed_at e) ∙ x)
 is_unfinished c (Some (b ∷ bytes)) sent wrote x t e same = longer b bytes wrote (sym same ∙ t)
-  where
-    longer : (b : ℕ) (bytes wrote : Text) → wrote ≡ wrote ++ b ∷ bytes → ⊥
-    longer b bytes [] e = cc (e)
-    longer b bytes (w ∷ wrote) e = longer b bytes wrote (cc (e))

@@ -10,17 +10,21 @@ use Rattle.connections.specs.Connected.{handler_of, connection_at, IsOpened, IsF
 use Rattle.connections.specs.Found.{FindsNoMore, FindsOnly}
 use Rattle.connections.specs.Events.{Event, Change, opens, Standing, unopened, Happen, none_is_open, piece_in, bytes_in, stream_of, sent_to}
 use Rattle.network.specs.Traffic.{Moved, bytes_of}
+use Rattle.network.specs.declared.clients.Client.{Client}
+use Rattle.network.specs.declared.clients.Client.TheVariants.{Absent}
 use Rattle.connections.specs.declared.sessions.Sessions.{Sessions}
 use Rattle.network.specs.Outboxes.{unsent_at}
 use Rattle.network.specs.declared.outbox.Outbox.{Outbox}
 use Rattle.serving_many.specs.Going.{Stands, State, state_of, Tells, Goes, Keeps}
 use Rattle.serving_many.specs.Kept.{IsKept}
 use Rattle.serving_many.specs.Needed.{AllNeeded}
+use Rattle.serving_many.specs.Present.{AllPresent}
 use Rattle.serving_many.specs.Serving.{IsServed}
 use Rattle.serving_many.proofs.Among.{no_some}
 use Rattle.connections.proofs.Standings.{put_at, put_here, put_elsewhere, streams_on, sent_on, is_own, is_other}
 use Rattle.serving_many.proofs.Lists.{bytes_on}
 use Rattle.serving_many.proofs.Needed.{is_unfinished}
+use Rattle.serving_many.proofs.Present.{may_stay}
 use Rattle.serving_many.proofs.Kept.{less_told, kept_more, kept_on, all_kept}
 use Rattle.serving_many.proofs.Changes.{happens_on, IsNext, change_of_end, ends_so, change_of_piece, feeds_so, opens_so, opens_not}
 
@@ -317,6 +321,24 @@ module _ {H S : Type 0} (state : H → S) (finds : H → S → Type 0) (answers 
     rests = λ e u. (refl, unsent ∙ u, is_own id []);
   })
 
+  pub moved_nothing : new.connection id ≡ old.connection id → new.unsent id ≡ old.unsent id → new.handler ≡ old.handler → new.reads ≡ old.reads → new.writes ≡ old.writes → Keeps state finds answers old new
+  moved_nothing stay unsent handler reads writes = turns_keep state finds answers id old new (record {
+    change = None;
+    next = λ at st. (subst (Stands at) (sym stay) st, ap state handler);
+    same = same;
+    others = others;
+    count = count;
+    read = [];
+    read_on = reads ∙ sym (append-nil old.reads);
+    wrote = [];
+    wrote_on = writes ∙ sym (append-nil old.writes);
+    silent = λ k ne. (refl, refl);
+    hears = refl;
+    tells = λ a b x. rw (append-nil a, append-nil b, unsent) x;
+    kept = λ t f. inl (subst (λ h. finds h t) handler f, λ k. refl);
+    rests = λ e u. (refl, unsent ∙ u, refl);
+  })
+
   pub read_nothing : new.connection id ≡ old.connection id → new.unsent id ≡ old.unsent id → new.handler ≡ old.handler → new.reads ≡ old.reads ++ (id, []) ∷ [] → new.writes ≡ old.writes → Keeps state finds answers old new
   read_nothing stay unsent handler reads writes = turns_keep state finds answers id old new (record {
     change = None;
@@ -448,9 +470,10 @@ at_start state finds answers start reads writes now handler same_reads same_writ
     told : (k : ℕ) → Tells [] [] (now.unsent k)
     told k = rw (silent k) ([], refl)
 
-pub is_served : {H S : Type 0} (state : H → S) (finds : H → S → Type 0) (answers : Answers S) (before after : Sessions H) (o : Outbox) (reads writes more others : List Moved)
-    → Goes state finds answers (handler_of before) reads writes (state_of after o more others) → AllNeeded (connection_at after) (unsent_at o) → IsServed state finds answers before reads writes after more others
-is_served state finds answers before after o reads writes more others x needed = record {
+pub is_served : {H S : Type 0} (state : H → S) (finds : H → S → Type 0) (answers : Answers S) (before after : Sessions H) (o : Outbox) (reads writes more others : List Moved) (clients remaining : ℕ → Client)
+    → Goes state finds answers (handler_of before) reads writes (state_of after o more others) → AllNeeded (connection_at after) (unsent_at o) → (((k : ℕ) → clients k ≡ Absent) → AllPresent remaining (unsent_at o))
+    → IsServed state finds answers before reads writes clients after more others remaining
+is_served state finds answers before after o reads writes more others clients remaining x needed present = record {
   events = x.events;
   standing = x.standing;
   happened = x.happened;
@@ -462,6 +485,7 @@ is_served state finds answers before after o reads writes more others x needed =
   heard = x.heard;
   told = λ k. less_told _ _ (unsent_at o k) (x.told k);
   unfinished = λ k. is_unfinished (connection_at after k) (unsent_at o k) (sent_to k x.events) (bytes_of k x.wrote) (needed k) (x.told k);
+  present = λ none k. may_stay (remaining k) (connection_at after k) (unsent_at o k) (sent_to k x.events) (bytes_of k x.wrote) (present none k) (needed k) (x.told k);
   kept = x.kept;
 }
 

@@ -1,5 +1,6 @@
 pub mod Kept
 pub mod Going
 pub mod Needed
+pub mod Present
 pub mod Rounds
 pub mod Serving

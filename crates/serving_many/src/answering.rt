@@ -8,8 +8,10 @@ ghost use Rattle.network.specs.Outboxes.{unsent_at, memory_of, size_at, most_of,
 ghost use Rattle.network.specs.Readiness.{has_bytes, OthersDue};
 ghost use Rattle.serving_many.specs.Going.{Keeps, state_of};
 ghost use Rattle.serving_many.specs.Needed.{AllNeeded, AllNeededBut};
+ghost use Rattle.serving_many.specs.Present.{AllPresent};
 
 use crate::ending::{cut_off, part_or_await};
+use crate::feeding::feed;
 use crate::observers::Observer;
 use connections::{Handler, Sessions};
 use network::{Fault, Network, Outbox};
@@ -33,6 +35,8 @@ fn has_reply<H: Handler, N: Network, O: Observer>(
     ensures due { OthersDue id (N.due network.old) (N.due network.new) }
     ensures needed { AllNeededBut id (connection_at sessions.old) (unsent_at outbox.old)
         → AllNeeded (connection_at sessions.new) (unsent_at outbox.new) }
+    ensures present { AllPresent (N.client network.old) (unsent_at outbox.old)
+        → AllPresent (N.client network.new) (unsent_at outbox.new) }
 {
     match outbox.unsent(id) {
         None => false,
@@ -66,9 +70,11 @@ fn answer_piece<H: Handler, N: Network, O: Observer>(
     ensures due { OthersDue id (N.due network.old) (N.due network.new) }
     ensures needed { AllNeededBut id (connection_at sessions.old) (unsent_at outbox.old)
         → AllNeeded (connection_at sessions.new) (unsent_at outbox.new) }
+    ensures present { AllPresent (N.client network.old) (unsent_at outbox.old)
+        → AllPresent (N.client network.new) (unsent_at outbox.new) }
 {
     let mut out = outbox.lend(id);
-    match sessions.feed_into(outbox.alloc(), id, piece, &mut out) {
+    match feed(sessions, outbox, network, id, piece, &mut out) {
         Ok(()) => {
             outbox.fill(id, out.into_bytes(), sessions.held_len(id));
             has_reply(sessions, outbox, network, observer, id)
@@ -98,6 +104,8 @@ fn answer_end<H: Handler, N: Network, O: Observer>(
     ensures due { OthersDue id (N.due network.old) (N.due network.new) }
     ensures needed { AllNeededBut id (connection_at sessions.old) (unsent_at outbox.old)
         → AllNeeded (connection_at sessions.new) (unsent_at outbox.new) }
+    ensures present { AllPresent (N.client network.old) (unsent_at outbox.old)
+        → AllPresent (N.client network.new) (unsent_at outbox.new) }
 {
     match sessions.end(outbox.alloc(), id) {
         Ok(words) => {
@@ -132,6 +140,8 @@ pub fn receive<H: Handler, N: Network, O: Observer>(
     ensures due { OthersDue id (N.due network.old) (N.due network.new) }
     ensures needed { AllNeededBut id (connection_at sessions.old) (unsent_at outbox.old)
         → AllNeeded (connection_at sessions.new) (unsent_at outbox.new) }
+    ensures present { AllPresent (N.client network.old) (unsent_at outbox.old)
+        → AllPresent (N.client network.new) (unsent_at outbox.new) }
 {
     match network.read(id, buffer) {
         Ok(None) => false,

@@ -7,6 +7,7 @@ ghost use Rattle.network.specs.Outboxes.{unsent_at, OthersStay};
 ghost use Rattle.network.specs.Readiness.{has_bytes, OthersDue};
 ghost use Rattle.serving_many.specs.Going.{Keeps, state_of};
 ghost use Rattle.serving_many.specs.Needed.{AllNeeded, AllNeededBut};
+ghost use Rattle.serving_many.specs.Present.{AllPresent, AllPresentBut};
 
 use crate::observers::Observer;
 use connections::{Handler, Sessions};
@@ -31,6 +32,8 @@ pub fn cut_off<H: Handler, N: Network, O: Observer>(
     ensures due { OthersDue id (N.due network.old) (N.due network.new) }
     ensures needed { AllNeededBut id (connection_at sessions.old) (unsent_at outbox.old)
         → AllNeeded (connection_at sessions.new) (unsent_at outbox.new) }
+    ensures present { AllPresentBut id (N.client network.old) (unsent_at outbox.old)
+        → AllPresent (N.client network.new) (unsent_at outbox.new) }
 {
     let was_open = outbox.end(id);
     let _ = sessions.end(outbox.alloc(), id);
@@ -62,6 +65,8 @@ pub fn part_or_await<H: Handler, N: Network, O: Observer>(
     ensures due { OthersDue id (N.due network.old) (N.due network.new) }
     ensures needed { AllNeededBut id (connection_at sessions.old) (unsent_at outbox.old)
         → AllNeeded (connection_at sessions.new) (unsent_at outbox.new) }
+    ensures present { AllPresent (N.client network.old) (unsent_at outbox.old)
+        → AllPresent (N.client network.new) (unsent_at outbox.new) }
 {
     if sessions.is_closed(id) {
         cut_off(sessions, outbox, network, observer, id, None);

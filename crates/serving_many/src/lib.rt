@@ -3,6 +3,7 @@
 
 mod answering;
 mod ending;
+mod feeding;
 mod meeting;
 mod observers;
 mod sending;

@@ -8,12 +8,13 @@ ghost use Rattle.network.specs.Readiness.{has_bytes, IsAmong, AllDue, OthersDue}
 ghost use Rattle.serving_many.specs.Rounds.{IsDueBut};
 ghost use Rattle.serving_many.specs.Going.{Keeps, state_of};
 ghost use Rattle.serving_many.specs.Needed.{AllNeeded, AllNeededBut};
+ghost use Rattle.serving_many.specs.Present.{AllPresent, AllPresentBut, ArePresentAt};
 
 use crate::answering::receive;
 use crate::ending::cut_off;
 use crate::observers::Observer;
 use connections::{Handler, Sessions};
-use network::{Fault, Network, Occasion, Outbox};
+use network::{Client, Fault, Network, Occasion, Outbox};
 use std::alloc::Global;
 
 /// How many bytes a read is given room for.
@@ -57,6 +58,9 @@ fn open<H: Handler, N: Network, O: Observer>(
     ensures due { OthersDue id (N.due network.old) (N.due network.new) }
     ensures needed { AllNeededBut id (connection_at sessions.old) (unsent_at outbox.old)
         → AllNeeded (connection_at sessions.new) (unsent_at outbox.new) }
+    ensures present { N.client network.old id ≡ Client.Present
+        → AllPresentBut id (N.client network.old) (unsent_at outbox.old)
+        → AllPresent (N.client network.new) (unsent_at outbox.new) }
 {
     match outbox.open(id) {
         Err(fault) => cut_off(sessions, outbox, network, observer, id, Some(fault)),
@@ -99,6 +103,8 @@ fn go_on<H: Handler, N: Network, O: Observer>(
     ensures due { OthersDue id (N.due network.old) (N.due network.new) }
     ensures needed { AllNeededBut id (connection_at sessions.old) (unsent_at outbox.old)
         → AllNeeded (connection_at sessions.new) (unsent_at outbox.new) }
+    ensures present { AllPresent (N.client network.old) (unsent_at outbox.old)
+        → AllPresent (N.client network.new) (unsent_at outbox.new) }
 {
     if !outbox.may_grow(id) {
         network.later(id);
@@ -125,6 +131,8 @@ fn take_turn<H: Handler, N: Network, O: Observer>(
     ensures stay { OthersStay id outbox.old outbox.new }
     ensures due { OthersDue id (N.due network.old) (N.due network.new) }
     ensures needed { AllNeeded (connection_at sessions.new) (unsent_at outbox.new) }
+    ensures present { AllPresent (N.client network.old) (unsent_at outbox.old)
+        → AllPresent (N.client network.new) (unsent_at outbox.new) }
 {
     match outbox.unsent(id) {
         None => false,
@@ -151,6 +159,8 @@ fn wait_for<H: Handler, N: Network, O: Observer>(
     ensures due { OthersDue id (N.due network.old) (N.due network.new) }
     ensures needed { AllNeeded (connection_at sessions.old) (unsent_at outbox.old)
         → AllNeeded (connection_at sessions.new) (unsent_at outbox.new) }
+    ensures present { AllPresent (N.client network.old) (unsent_at outbox.old)
+        → AllPresent (N.client network.new) (unsent_at outbox.new) }
 {
     match waiting.push(id) {
         Ok(()) => {}
@@ -171,6 +181,8 @@ pub fn meet<H: Handler, N: Network, O: Observer>(
     occasion: Occasion,
 )
     requires opens { (k : ℕ) (d : Bool) → occasion ≡ Occasion.Opens k → N.due network.old d k }
+    requires comes { (k : ℕ) → occasion ≡ Occasion.Opens k
+        → N.client network.old k ≡ Client.Present }
     requires needed { AllNeeded (connection_at sessions.old) (unsent_at outbox.old) }
     ensures kept { Keeps H.state H.finds H.answers
         (state_of sessions.old outbox.old (N.reads network.old) (N.writes network.old))
@@ -179,6 +191,8 @@ pub fn meet<H: Handler, N: Network, O: Observer>(
         (unsent_at outbox.old) (N.due network.old) round.old.waiting.items
         → AllDue (unsent_at outbox.new) (N.due network.new) round.new.waiting.items }
     ensures needed { AllNeeded (connection_at sessions.new) (unsent_at outbox.new) }
+    ensures present { ArePresentAt occasion (N.client network.old) (unsent_at outbox.old)
+        → AllPresent (N.client network.new) (unsent_at outbox.new) }
 {
     match occasion {
         Occasion::Over => {}

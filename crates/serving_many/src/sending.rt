@@ -8,6 +8,7 @@ ghost use Rattle.network.specs.Outboxes.{unsent_at, OthersStay};
 ghost use Rattle.network.specs.Readiness.{has_bytes, AllDue, OthersDue};
 ghost use Rattle.serving_many.specs.Going.{Keeps, state_of};
 ghost use Rattle.serving_many.specs.Needed.{AllNeeded, AllNeededBut};
+ghost use Rattle.serving_many.specs.Present.{AllPresent};
 
 use crate::ending::{cut_off, part_or_await};
 use crate::observers::Observer;
@@ -36,6 +37,8 @@ fn await_turn<H: Handler, N: Network, O: Observer>(
     ensures due { OthersDue id (N.due network.old) (N.due network.new) }
     ensures needed { AllNeededBut id (connection_at sessions.old) (unsent_at outbox.old)
         → AllNeeded (connection_at sessions.new) (unsent_at outbox.new) }
+    ensures present { AllPresent (N.client network.old) (unsent_at outbox.old)
+        → AllPresent (N.client network.new) (unsent_at outbox.new) }
 {
     match outbox.unsent(id) {
         Some([]) => part_or_await(sessions, outbox, network, observer, id),
@@ -62,6 +65,8 @@ fn send<H: Handler, N: Network, O: Observer>(
     ensures due { OthersDue id (N.due network.old) (N.due network.new) }
     ensures needed { AllNeeded (connection_at sessions.old) (unsent_at outbox.old)
         → AllNeeded (connection_at sessions.new) (unsent_at outbox.new) }
+    ensures present { AllPresent (N.client network.old) (unsent_at outbox.old)
+        → AllPresent (N.client network.new) (unsent_at outbox.new) }
 {
     let Some(bytes) = outbox.unsent(id) else {
         return;
@@ -103,6 +108,8 @@ fn send_all<H: Handler, N: Network, O: Observer>(
         → AllDue (unsent_at outbox.new) (N.due network.new) [] }
     ensures needed { AllNeeded (connection_at sessions.old) (unsent_at outbox.old)
         → AllNeeded (connection_at sessions.new) (unsent_at outbox.new) }
+    ensures present { AllPresent (N.client network.old) (unsent_at outbox.old)
+        → AllPresent (N.client network.new) (unsent_at outbox.new) }
 {
     for id in ids {
         send(sessions, outbox, network, observer, *id);
@@ -131,6 +138,8 @@ pub fn end_round<H: Handler, N: Network, O: Observer>(
     ensures keeps { OnErr result H.keeps }
     ensures needed { AllNeeded (connection_at sessions.old) (unsent_at outbox.old)
         → AllNeeded (connection_at sessions.new) (unsent_at outbox.new) }
+    ensures present { AllPresent (N.client network.old) (unsent_at outbox.old)
+        → AllPresent (N.client network.new) (unsent_at outbox.new) }
 {
     match sessions.settle() {
         Err(unsettled) => Err(Outage::Unsettled(unsettled)),

@@ -34,8 +34,8 @@ pub fn serve_all<H: Handler, N: Network, O: Observer>(
 ) -> Result<(), Outage>
     requires { (k : ℕ) → connection_at sessions.old k ≡ None }
     ensures served { IsServed H.state H.finds H.answers sessions.old
-        (N.reads network.old) (N.writes network.old)
-        sessions.new (N.reads network.new) (N.writes network.new) }
+        (N.reads network.old) (N.writes network.old) (N.client network.old)
+        sessions.new (N.reads network.new) (N.writes network.new) (N.client network.new) }
     ensures durable { OnOk result
         (FindsOnly H.finds (handler_of sessions.new) (H.state (handler_of sessions.new))) }
     ensures keeps { (why : Unsettled) → result ≡ Err (Outage.Unsettled why) → H.keeps }

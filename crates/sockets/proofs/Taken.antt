@@ -1,14 +1,29 @@
 -- What holds again once a connection that was taken out of the queue was seen to.
-use Rattle.std.proofs.Common.{◌≡◌, ℕ, Bool, true, false, Some, None, Option, option_map, refl, sym, ◌∙◌, ap, subst}
+use Rattle.std.specs.Prelude.{IfSome}
+use Rattle.std.proofs.Common.{◌≡◌, ◌≢◌, ℕ, Bool, true, false, not, Some, None, Option, option_map, refl, sym, ◌∙◌, ap, subst}
 use Rattle.sockets.specs.declared.socket.Socket.{Socket}
+use Rattle.sockets.specs.declared.supply.Supply.TheVariants.{Drained}
 use Rattle.sockets.specs.declared.table.Table.{Table}
-use Rattle.sockets.specs.Socket.{is_open, is_due, as_told}
-use Rattle.sockets.specs.Table.{socket_at, OthersStay, IsDue, IsOpen, StaysDue, StaysOpen}
+use Rattle.network.specs.Clients.{is_absent}
+use Rattle.network.specs.declared.clients.Client.{Client}
+use Rattle.network.specs.declared.clients.Client.TheVariants.{Absent, Present, Failed}
+use Rattle.sockets.specs.Socket.{client_in, is_open, is_due, is_queued, as_told, as_queued}
+use Rattle.sockets.specs.Table.{socket_at, OthersStay, client_at, IsDue, StaysDue, KeepsClients}
 use Rattle.sockets.proofs.Queues.{same, same_is, apart_from_same}
 
-told_stays_open : (o : Option Socket) → is_open (option_map as_told o) ≡ is_open o
-told_stays_open None = refl
-told_stays_open (Some s) = refl
+told_keeps_client : (o : Option Socket) → client_in (option_map as_told o) ≡ client_in o
+told_keeps_client None = refl
+told_keeps_client (Some s) = refl
+
+-- what isn't open has no client
+pub absent_where_closed : (o : Option Socket) → is_open o ≡ false → client_in o ≡ Absent
+absent_where_closed None e = refl
+absent_where_closed (Some s) e = by s.status.client e
+  where
+    by : (c : Client) → not (is_absent c) ≡ false → c ≡ Absent
+    by Absent e = refl
+    by Present e = cc
+    by Failed e = cc
 
 -- who was due is due, where the one that was taken out is
 pub due_again : (t u v : Table) (id : ℕ) → OthersStay id t u → StaysDue u v → ((d : Bool) → IsDue v d id) → StaysDue t v
@@ -18,12 +33,33 @@ due_again t u v id others stays own k d was = by (same k id) refl
     by true e = subst (λ j. IsDue v d j) (sym (same_is k id e)) (own d)
     by false e = stays k d (ap (is_due d) (others k (apart_from_same k id e)) ∙ was)
 
--- who was open is open
-pub open_again : (t u v : Table) (id : ℕ) → OthersStay id t u → socket_at u id ≡ option_map as_told (socket_at t id) → StaysOpen u v → StaysOpen t v
-open_again t u v id others told stays k was = stays k (by (same k id) refl)
+pub closed_alike : (o p : Option Socket) → is_open o ≡ false → is_open p ≡ false → client_in p ≡ client_in o
+closed_alike o p e f = absent_where_closed p f ∙ sym (absent_where_closed o e)
+
+-- who is put into the queue keeps its client
+pub queued_keeps : (t u : Table) (id : ℕ) → OthersStay id t u → socket_at u id ≡ option_map as_queued (socket_at t id) → KeepsClients t u
+queued_keeps t u id others queued k = by (same k id) refl
   where
-    by : (b : Bool) → same k id ≡ b → IsOpen u k
+    keeps : (o : Option Socket) → client_in (option_map as_queued o) ≡ client_in o
+    keeps None = refl
+    keeps (Some s) = refl
+
+    by : (b : Bool) → same k id ≡ b → client_at u k ≡ client_at t k
     by true e =
-        let taken : is_open (socket_at u id) ≡ is_open (socket_at t id) = ap is_open told ∙ told_stays_open (socket_at t id) in
-        subst (λ j. is_open (socket_at u j) ≡ is_open (socket_at t j)) (sym (same_is k id e)) taken ∙ was
-    by false e = ap is_open (others k (apart_from_same k id e)) ∙ was
+        let own : client_at u id ≡ client_at t id = ap client_in queued ∙ keeps (socket_at t id) in
+        subst (λ j. client_at u j ≡ client_at t j) (sym (same_is k id e)) own
+    by false e = ap client_in (others k (apart_from_same k id e))
+
+pub queued_where_undrained : (o p : Option Socket) → p ≡ option_map as_queued o → IfSome o (λ s. s.status.supply ≢ Drained → is_queued p ≡ true)
+queued_where_undrained None p e = tt
+queued_where_undrained (Some s) p e = λ ne. ap is_queued e
+
+-- each client is as it was
+pub kept_again : (t u v : Table) (id : ℕ) → OthersStay id t u → socket_at u id ≡ option_map as_told (socket_at t id) → KeepsClients u v → KeepsClients t v
+kept_again t u v id others told keeps k = keeps k ∙ by (same k id) refl
+  where
+    by : (b : Bool) → same k id ≡ b → client_at u k ≡ client_at t k
+    by true e =
+        let taken : client_at u id ≡ client_at t id = ap client_in told ∙ told_keeps_client (socket_at t id) in
+        subst (λ j. client_at u j ≡ client_at t j) (sym (same_is k id e)) taken
+    by false e = ap client_in (others k (apart_from_same k id e))

@@ -1,12 +1,20 @@
 -- What a socket says of its connection.
 use Rattle.std.specs.Prelude.{Bool, true, false, not, ◌||◌, Option, Some, None}
+use Rattle.network.specs.Clients.{is_absent}
+use Rattle.network.specs.declared.clients.Client.{Client}
+use Rattle.network.specs.declared.clients.Client.TheVariants.{Absent}
 use Rattle.sockets.specs.declared.socket.Socket.{Socket}
 use Rattle.sockets.specs.declared.status.Status.{Status}
+
+-- the client of the connection; one whose connection is over was let go
+abbrev pub client_in : Option Socket → Client
+client_in None = Absent
+client_in (Some s) = s.status.client
 
 -- there is a socket, and the connection isn't over
 abbrev pub is_open : Option Socket → Bool
 is_open None = false
-is_open (Some s) = not s.status.is_parting
+is_open (Some s) = not (is_absent s.status.client)
 
 -- .. and it stands in the queue of those that are told next
 abbrev pub is_queued : Option Socket → Bool
@@ -28,7 +36,7 @@ waits true s = s.waits_to_write || s.is_put_off
 -- that isn't open
 abbrev pub is_due : Bool → Option Socket → Bool
 is_due d None = true
-is_due d (Some s) = s.is_queued || (s.status.is_parting || waits d s.status)
+is_due d (Some s) = s.is_queued || (is_absent s.status.client || waits d s.status)
 
 -- ---- what changes a socket
 -- another thing is known of it

@@ -2,27 +2,31 @@
 use Rattle.std.specs.Prelude.{◌≡◌, ◌≢◌, ℕ, Bool, true, Option, Some}
 use Rattle.std.specs.BTreeMap.{get}
 use Rattle.std.specs.Ordering.{nat_cmp}
+use Rattle.network.specs.declared.clients.Client.{Client}
 use Rattle.sockets.specs.declared.socket.Socket.{Socket}
 use Rattle.sockets.specs.declared.table.Table.{Table}
-use Rattle.sockets.specs.Socket.{is_open, is_due}
+use Rattle.sockets.specs.Socket.{client_in, is_due}
 
 abbrev pub socket_at : Table → ℕ → Option Socket
 socket_at t id = get nat_cmp t.sockets id
 
--- the connection with this number is open
-abbrev pub IsOpen : Table → ℕ → Type 0
-IsOpen t k = is_open (socket_at t k) ≡ true
+abbrev pub client_at : Table → ℕ → Client
+client_at t k = client_in (socket_at t k)
 
--- .. will be told ready, once it can be read, or (`true`) written; or isn't open
+-- the connection with this number will be told ready, once it can be read, or (`true`) written; or isn't open
 abbrev pub IsDue : Table → Bool → ℕ → Type 0
 IsDue t d k = is_due d (socket_at t k) ≡ true
 
 abbrev pub OthersStay : ℕ → Table → Table → Type 0
 OthersStay id old new = (k : ℕ) → k ≢ id → socket_at new k ≡ socket_at old k
 
--- what is open stays open
-abbrev pub StaysOpen : Table → Table → Type 0
-StaysOpen old new = (k : ℕ) → IsOpen old k → IsOpen new k
+-- every client is as it was
+abbrev pub KeepsClients : Table → Table → Type 0
+KeepsClients old new = (k : ℕ) → client_at new k ≡ client_at old k
+
+-- .. but for this one
+abbrev pub KeepsClientsBut : Option ℕ → Table → Table → Type 0
+KeepsClientsBut but old new = (k : ℕ) → but ≢ Some k → client_at new k ≡ client_at old k
 
 -- what is due stays due
 abbrev pub StaysDue : Table → Table → Type 0

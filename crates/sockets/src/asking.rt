@@ -1,7 +1,7 @@
 //! What the system tells.
 
 ghost use Rattle.std.specs.Prelude.{◌≡◌};
-ghost use Rattle.sockets.specs.Table.{StaysDue, StaysOpen};
+ghost use Rattle.sockets.specs.Table.{StaysDue, KeepsClients};
 
 use crate::sockets::{INPUT, LISTENER, QUIET, Sockets, TICK};
 use crate::table::Table;
@@ -27,7 +27,7 @@ fn interrupts(event: &Event) -> bool {
 /// Has each connection of which the system told something be told ready.
 fn hear(events: &Events, table: &mut Table) -> News
     ensures due { StaysDue table.old table.new }
-    ensures opened { StaysOpen table.old table.new }
+    ensures clients { KeepsClients table.old table.new }
     ensures count { table.new.count ≡ table.old.count }
 {
     let mut news = News {
@@ -62,7 +62,7 @@ impl<C: Clock> Sockets<'_, C> {
 
     /// How long the system may let it wait.
     fn patience(&self) -> Duration {
-        if self.is_all_at_rest() {
+        if self.is_all_at_rest() && self.giving_way == 0 {
             Duration::from_millis(QUIET)
         } else if self.table.queue_len() > 0 || self.may_come() {
             Duration::from_millis(0)
@@ -75,7 +75,7 @@ impl<C: Clock> Sockets<'_, C> {
     pub(crate) fn ask(&mut self) -> io::Result<()>
         ensures moves { MovesNothing self.old self.new }
         ensures due { StaysDue self.old.table self.new.table }
-        ensures opened { StaysOpen self.old.table self.new.table }
+        ensures clients { KeepsClients self.old.table self.new.table }
         ensures count { self.new.table.count ≡ self.old.table.count }
     {
         let patience = self.patience();
@@ -88,8 +88,10 @@ impl<C: Clock> Sockets<'_, C> {
             self.listener = None;
         }
         self.left = self.table.queue_len();
-        self.is_quiet = was_at_rest && self.left == self.resting;
+        self.is_idle = was_at_rest && self.left == self.resting;
+        self.is_quiet = self.is_idle && self.giving_way == 0;
         self.resting = 0;
+        self.giving_way = 0;
         Ok(())
     }
 }

@@ -1,8 +1,9 @@
 //! What happens to the sockets of a table.
 
 ghost use Rattle.std.specs.Prelude.{◌≡◌, ◌≢◌, ℕ, Bool, true, false, IfSome};
+ghost use Rattle.network.specs.Clients.{failed};
 ghost use Rattle.sockets.specs.Socket.{is_queued, is_open};
-ghost use Rattle.sockets.specs.Table.{socket_at, OthersStay, IsDue, StaysDue, StaysOpen};
+ghost use Rattle.sockets.specs.Table.{socket_at, client_at, OthersStay, IsDue, StaysDue, KeepsClients};
 
 use crate::rest::Rest;
 use crate::status::Status;
@@ -15,40 +16,33 @@ impl Table {
     /// amid a request, unless a write follows.
     pub(crate) fn was_read(&mut self, id: u64, until: Option<Instant>, is_short: bool)
         ensures due { StaysDue self.old self.new }
-        ensures opened { StaysOpen self.old self.new }
+        ensures clients { KeepsClients self.old self.new }
         ensures count { self.new.count ≡ self.old.count }
     {
-        if let Some(status) = self.status(id) {
-            let read = Status {
-                idle: until,
-                supply: status.supply.read(is_short),
-                is_amid: true,
-                ..status
-            };
-            self.set(id, read);
+        if let Some(socket) = self.sockets.get_mut(&id) {
+            socket.status.idle = until;
+            socket.status.supply = socket.status.supply.read(is_short);
+            socket.status.is_amid = true;
         }
     }
 
     /// Some was written on a connection, which may be idle until then. It isn't amid a request.
     pub(crate) fn was_written(&mut self, id: u64, until: Option<Instant>)
         ensures due { StaysDue self.old self.new }
-        ensures opened { StaysOpen self.old self.new }
+        ensures clients { KeepsClients self.old self.new }
         ensures count { self.new.count ≡ self.old.count }
     {
-        if let Some(status) = self.status(id) {
-            let written = Status {
-                idle: until,
-                is_amid: false,
-                ..status
-            };
-            self.set(id, written);
+        if let Some(socket) = self.sockets.get_mut(&id) {
+            socket.status.idle = until;
+            socket.status.is_amid = false;
+            socket.status.gives_way = false;
         }
     }
 
     /// A connection may be idle until then.
     pub(crate) fn renew(&mut self, id: u64, until: Option<Instant>)
         ensures due { StaysDue self.old self.new }
-        ensures opened { StaysOpen self.old self.new }
+        ensures clients { KeepsClients self.old self.new }
         ensures count { self.new.count ≡ self.old.count }
     {
         if let Some(status) = self.status(id) {
@@ -62,10 +56,25 @@ impl Table {
         }
     }
 
+    /// A connection gives way.
+    pub(crate) fn give_way(&mut self, id: u64)
+        ensures due { StaysDue self.old self.new }
+        ensures clients { KeepsClients self.old self.new }
+        ensures count { self.new.count ≡ self.old.count }
+    {
+        if let Some(status) = self.status(id) {
+            let gives_way = Status {
+                gives_way: true,
+                ..status
+            };
+            self.set(id, gives_way);
+        }
+    }
+
     /// A connection rests so from now on, if it does.
     pub(crate) fn set_rest(&mut self, id: u64, rest: Option<Rest>)
         ensures due { StaysDue self.old self.new }
-        ensures opened { StaysOpen self.old self.new }
+        ensures clients { KeepsClients self.old self.new }
         ensures count { self.new.count ≡ self.old.count }
     {
         if let Some(status) = self.status(id) {
@@ -77,7 +86,7 @@ impl Table {
     pub(crate) fn wait_to_read(&mut self, id: u64)
         ensures own { IsDue self.new false id }
         ensures due { StaysDue self.old self.new }
-        ensures opened { StaysOpen self.old self.new }
+        ensures clients { KeepsClients self.old self.new }
         ensures count { self.new.count ≡ self.old.count }
     {
         if let Some(status) = self.status(id) {
@@ -93,13 +102,14 @@ impl Table {
     pub(crate) fn wait_to_write(&mut self, id: u64)
         ensures own { IsDue self.new true id }
         ensures due { StaysDue self.old self.new }
-        ensures opened { StaysOpen self.old self.new }
+        ensures clients { KeepsClients self.old self.new }
         ensures count { self.new.count ≡ self.old.count }
     {
         if let Some(status) = self.status(id) {
             let waits = Status {
                 waits_to_write: true,
                 is_amid: false,
+                gives_way: false,
                 ..status
             };
             self.set(id, waits);
@@ -110,15 +120,11 @@ impl Table {
     pub(crate) fn put_off(&mut self, id: u64)
         ensures own { (d : Bool) → IsDue self.new d id }
         ensures due { StaysDue self.old self.new }
-        ensures opened { StaysOpen self.old self.new }
+        ensures clients { KeepsClients self.old self.new }
         ensures count { self.new.count ≡ self.old.count }
     {
-        if let Some(status) = self.status(id) {
-            let waits = Status {
-                is_put_off: true,
-                ..status
-            };
-            self.set(id, waits);
+        if let Some(socket) = self.sockets.get_mut(&id) {
+            socket.status.is_put_off = true;
         }
     }
 
@@ -126,7 +132,7 @@ impl Table {
     pub(crate) fn call(&mut self, id: u64)
         ensures own { (d : Bool) → IsDue self.new d id }
         ensures due { StaysDue self.old self.new }
-        ensures opened { StaysOpen self.old self.new }
+        ensures clients { KeepsClients self.old self.new }
         ensures count { self.new.count ≡ self.old.count }
     {
         self.queue(id);
@@ -139,17 +145,32 @@ impl Table {
         ensures undrained { IfSome (socket_at self.new id)
             (λ s. s.status.supply ≢ Supply.Drained) }
         ensures due { StaysDue self.old self.new }
-        ensures opened { StaysOpen self.old self.new }
+        ensures clients { KeepsClients self.old self.new }
         ensures count { self.new.count ≡ self.old.count }
     {
-        if let Some(status) = self.status(id) {
-            let woken = Status {
-                supply: status.supply.told(interrupts),
-                ..status
-            };
-            self.set(id, woken);
+        if let Some(socket) = self.sockets.get_mut(&id) {
+            socket.status.supply = socket.status.supply.told(interrupts);
         }
         self.queue(id);
+    }
+
+    /// Whether all that had come on a connection was read; then it waits to be read.
+    fn waits_where_drained(&mut self, id: u64) -> bool
+        ensures own { result ≡ true → IsDue self.new false id }
+        ensures drained { result ≡ true → IfSome (socket_at self.old id)
+            (λ s. s.status.supply ≡ Supply.Drained) }
+        ensures same { result ≡ false → socket_at self.new id ≡ socket_at self.old id }
+        ensures due { StaysDue self.old self.new }
+        ensures clients { KeepsClients self.old self.new }
+        ensures count { self.new.count ≡ self.old.count }
+    {
+        match self.sockets.get_mut(&id) {
+            Some(socket) if socket.status.supply.is_drained() => {
+                socket.status.waits_to_read = true;
+                true
+            }
+            _ => false,
+        }
     }
 
     /// A connection is to be told ready once it can be read: after those that are, unless all that had come was read.
@@ -158,15 +179,24 @@ impl Table {
         ensures next { IfSome (socket_at self.old id) (λ s. s.status.supply ≢ Supply.Drained
             → is_queued (socket_at self.new id) ≡ true) }
         ensures due { StaysDue self.old self.new }
-        ensures opened { StaysOpen self.old self.new }
+        ensures clients { KeepsClients self.old self.new }
+        ensures count { self.new.count ≡ self.old.count }
+    {
+        if !self.waits_where_drained(id) {
+            self.queue(id);
+        }
+    }
+
+    /// A read or a write of a connection failed, or it took too long.
+    pub(crate) fn fail(&mut self, id: u64)
+        ensures client { client_at self.new id ≡ failed (client_at self.old id) }
+        ensures due { StaysDue self.old self.new }
+        ensures others { OthersStay id self.old self.new }
         ensures count { self.new.count ≡ self.old.count }
     {
         if let Some(status) = self.status(id) {
-            if status.supply.is_drained() {
-                self.wait_to_read(id);
-            } else {
-                self.queue(id);
-            }
+            let client = status.client.failed();
+            self.set(id, Status { client, ..status });
         }
     }
 

@@ -2,10 +2,11 @@
 
 ghost use Rattle.std.specs.Prelude.{◌≡◌, false};
 ghost use Rattle.sockets.specs.Socket.{is_open, is_queued};
-ghost use Rattle.sockets.specs.Table.{socket_at, StaysDue, StaysOpen, OthersStay};
+ghost use Rattle.sockets.specs.Table.{socket_at, client_at, StaysDue, KeepsClients, OthersStay};
 
 use crate::limits::MOST_READS;
 use crate::sockets::Sockets;
+use network::Client;
 use std::io::{ErrorKind, Read};
 use std::net::Shutdown;
 use std::time::Clock;
@@ -26,11 +27,12 @@ impl<C: Clock> Sockets<'_, C> {
 
     /// Parts with a client: what is sent ends, and what still comes is let go for a short while. One that isn't open is let
     /// be.
+    #[tactic(auto, using(crate::proofs::Taken::absent_where_closed))]
     pub(crate) fn part(&mut self, id: u64)
         ensures moves { MovesNothing self.old self.new }
         ensures due { StaysDue self.old.table self.new.table }
         ensures others { OthersStay id self.old.table self.new.table }
-        ensures over { is_open (socket_at self.new.table id) ≡ false }
+        ensures client { client_at self.new.table id ≡ Client.Absent }
         ensures count { self.new.table.count ≡ self.old.table.count }
     {
         if !self.table.is_open(id) {
@@ -50,12 +52,13 @@ impl<C: Clock> Sockets<'_, C> {
     }
 
     /// Closes the socket of a connection that is over. A client may be accepted in its place.
+    #[tactic(auto, using(crate::proofs::Taken::absent_where_closed))]
     pub(crate) fn release(&mut self, id: u64)
         requires over { is_open (socket_at self.old.table id) ≡ false }
         requires unqueued { is_queued (socket_at self.old.table id) ≡ false }
         ensures moves { MovesNothing self.old self.new }
         ensures due { StaysDue self.old.table self.new.table }
-        ensures opened { StaysOpen self.old.table self.new.table }
+        ensures clients { KeepsClients self.old.table self.new.table }
         ensures count { self.new.table.count ≡ self.old.table.count }
     {
         self.table.remove(id);
@@ -81,12 +84,13 @@ impl<C: Clock> Sockets<'_, C> {
     }
 
     /// Lets go some of what still comes on a connection that is over, and ends it once nothing comes.
+    #[tactic(auto, using(crate::proofs::Taken::closed_alike))]
     pub(crate) fn drain(&mut self, id: u64)
         requires over { is_open (socket_at self.old.table id) ≡ false }
         requires unqueued { is_queued (socket_at self.old.table id) ≡ false }
         ensures moves { MovesNothing self.old self.new }
         ensures due { StaysDue self.old.table self.new.table }
-        ensures opened { StaysOpen self.old.table self.new.table }
+        ensures clients { KeepsClients self.old.table self.new.table }
         ensures count { self.new.table.count ≡ self.old.table.count }
     {
         let Some(status) = self.table.status(id) else {

@@ -5,7 +5,8 @@ ghost use Rattle.std.specs.Io.{ReadsAtMost, WritesAtMost};
 ghost use Rattle.network.specs.Readiness.{OthersDue};
 ghost use Rattle.network.specs.Transcripts.{moves_of};
 ghost use Rattle.sockets.specs.Socket.{is_queued};
-ghost use Rattle.sockets.specs.Table.{socket_at, IsDue, StaysDue, StaysOpen};
+ghost use Rattle.network.specs.Clients.{failed, AllAreSame};
+ghost use Rattle.sockets.specs.Table.{socket_at, client_at, OthersStay, IsDue, StaysDue, KeepsClients};
 
 use crate::sockets::Sockets;
 use crate::supply::Supply;
@@ -18,12 +19,12 @@ impl<C: Clock> Sockets<'_, C> {
     fn read_some(&self, id: u64, buffer: &mut [u8]) -> io::Result<usize>
         ensures { ReadsAtMost result buffer.new }
     {
-        match self.table.stream(id) {
-            Some(stream) if self.table.is_open(id) => {
+        match self.table.open_stream(id) {
+            Some(stream) => {
                 let mut stream = stream;
                 stream.read(buffer)
             }
-            _ => Err(io::Error::from(ErrorKind::NotConnected)),
+            None => Err(io::Error::from(ErrorKind::NotConnected)),
         }
     }
 
@@ -35,7 +36,7 @@ impl<C: Clock> Sockets<'_, C> {
         ensures writes { self.new.writes ≡ self.old.writes }
         ensures waits { result ≡ None → IsDue self.new.table false id }
         ensures due { StaysDue self.old.table self.new.table }
-        ensures opened { StaysOpen self.old.table self.new.table }
+        ensures clients { KeepsClients self.old.table self.new.table }
         ensures count { self.new.table.count ≡ self.old.table.count }
     {
         if self.ends() {
@@ -50,13 +51,28 @@ impl<C: Clock> Sockets<'_, C> {
     fn write_some(&self, id: u64, bytes: &[u8]) -> io::Result<usize>
         ensures { WritesAtMost result bytes.now }
     {
-        match self.table.stream(id) {
-            Some(stream) if self.table.is_open(id) => {
+        match self.table.open_stream(id) {
+            Some(stream) => {
                 let mut stream = stream;
                 stream.write(bytes)
             }
-            _ => Err(io::Error::from(ErrorKind::NotConnected)),
+            None => Err(io::Error::from(ErrorKind::NotConnected)),
         }
+    }
+}
+
+impl<C> Sockets<'_, C> {
+    ghost use Rattle.sockets.specs.Sockets.{MovesNothing};
+
+    /// A read or a write failed.
+    fn fail(&mut self, id: u64) -> Broken
+        ensures client { client_at self.new.table id ≡ failed (client_at self.old.table id) }
+        ensures moves { MovesNothing self.old self.new }
+        ensures due { StaysDue self.old.table self.new.table }
+        ensures others { OthersStay id self.old.table self.new.table }
+    {
+        self.table.fail(id);
+        Broken
     }
 }
 
@@ -66,6 +82,8 @@ impl<C: Clock> Network for Sockets<'_, C> {
     ghost writes = { λ s. moves_of s.writes };
 
     ghost due = { λ s d k. IsDue s.table d k };
+
+    ghost client = { λ s k. client_at s.table k };
 
     fn next(&mut self) -> Option<Occasion> {
         self.happens()
@@ -87,15 +105,16 @@ impl<C: Clock> Network for Sockets<'_, C> {
                 Ok(Some(count))
             }
             Err(error) if error.kind() == ErrorKind::WouldBlock => Ok(self.wait_to_read(id)),
-            Err(_) => Err(Broken),
+            Err(_) => Err(self.fail(id)),
         }
     }
 
     fn write(&mut self, id: u64, bytes: &[u8]) -> Result<Option<usize>, Broken> {
         match self.write_some(id, bytes) {
-            Ok(0) => Err(Broken),
+            Ok(0) => Err(self.fail(id)),
             Ok(count) => {
                 let until = self.idle_until();
+                self.rest_behind_end(id);
                 self.table.was_written(id, until);
                 self.writes = self.writes.moved(id, &bytes[..count]);
                 Ok(Some(count))
@@ -104,7 +123,7 @@ impl<C: Clock> Network for Sockets<'_, C> {
                 self.table.wait_to_write(id);
                 Ok(None)
             }
-            Err(_) => Err(Broken),
+            Err(_) => Err(self.fail(id)),
         }
     }
 
@@ -118,6 +137,8 @@ impl<C: Clock> Network for Sockets<'_, C> {
         ensures due { IsDue self.new.table false id }
         ensures others { OthersDue id
             (λ d k. IsDue self.old.table d k) (λ d k. IsDue self.new.table d k) }
+        ensures clients { AllAreSame
+            (λ k. client_at self.old.table k) (λ k. client_at self.new.table k) }
         ensures next { IfSome (socket_at self.old.table id)
             (λ s. s.status.supply ≢ Supply.Drained
             → is_queued (socket_at self.new.table id) ≡ true) }
@@ -127,6 +148,11 @@ impl<C: Clock> Network for Sockets<'_, C> {
 
     fn later(&mut self, id: u64) {
         self.table.put_off(id);
+    }
+
+    fn give_way(&mut self, id: u64) {
+        self.is_long = true;
+        self.table.give_way(id);
     }
 
     fn close(&mut self, id: u64) {

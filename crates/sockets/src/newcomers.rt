@@ -1,11 +1,13 @@
 //! Clients that come.
 
 ghost use Rattle.std.specs.Prelude.{◌≡◌, ◌+◌, Bool, IfOk, IfSome, IfNone, OnErr};
-ghost use Rattle.sockets.specs.Table.{IsOpen, IsDue, StaysDue, StaysOpen};
+ghost use Rattle.network.specs.Clients.{OthersAreSame};
+ghost use Rattle.sockets.specs.Table.{client_at, IsDue, StaysDue, KeepsClients, KeepsClientsBut};
 
 use crate::sockets::{INPUT, Sockets};
 use crate::status::Status;
 use mio::{Interest, Token};
+use network::Client;
 use std::io::{self, ErrorKind};
 use std::time::Clock;
 
@@ -16,10 +18,12 @@ impl<C: Clock> Sockets<'_, C> {
     fn accept(&mut self) -> io::Result<u64>
         ensures moves { MovesNothing self.old self.new }
         ensures due { StaysDue self.old.table self.new.table }
-        ensures opened { StaysOpen self.old.table self.new.table }
+        ensures others { IfOk result (λ id.
+            OthersAreSame id (client_at self.old.table) (client_at self.new.table)) }
+        ensures clients { OnErr result (KeepsClients self.old.table self.new.table) }
         ensures number { IfOk result (λ id. (id ≡ self.old.table.count)
             × (self.new.table.count ≡ id + 1)) }
-        ensures opens { IfOk result (λ id. IsOpen self.new.table id) }
+        ensures comes { IfOk result (λ id. client_at self.new.table id ≡ Client.Present) }
         ensures told { IfOk result (λ id. (d : Bool) → IsDue self.new.table d id) }
         ensures count { OnErr result (self.new.table.count ≡ self.old.table.count) }
     {
@@ -43,10 +47,10 @@ impl<C: Clock> Sockets<'_, C> {
     pub(crate) fn newcomer(&mut self) -> Option<u64>
         ensures moves { MovesNothing self.old self.new }
         ensures due { StaysDue self.old.table self.new.table }
-        ensures opened { StaysOpen self.old.table self.new.table }
+        ensures clients { KeepsClientsBut result self.old.table self.new.table }
         ensures number { IfSome result (λ id. (id ≡ self.old.table.count)
             × (self.new.table.count ≡ id + 1)) }
-        ensures opens { IfSome result (λ id. IsOpen self.new.table id) }
+        ensures comes { IfSome result (λ id. client_at self.new.table id ≡ Client.Present) }
         ensures told { IfSome result (λ id. (d : Bool) → IsDue self.new.table d id) }
         ensures count { IfNone result (self.new.table.count ≡ self.old.table.count) }
     {

@@ -18,7 +18,7 @@ impl Socket {
     /// for the client to say more.
     pub(crate) fn needs_a_look(&self, now: Instant, ends: bool) -> bool {
         let status = &self.status;
-        let is_idle = status.waits_to_read && !self.is_queued && !status.is_parting;
+        let is_idle = status.waits_to_read && !self.is_queued && !status.client.is_absent();
         status.is_put_off || status.is_late(now) || ends && is_idle
     }
 }

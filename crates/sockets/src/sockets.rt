@@ -44,11 +44,19 @@ pub struct Sockets<'r, C> {
     pub(crate) left: usize,
     /// How many of the queue rest, of those that were looked at since the system was asked.
     pub(crate) resting: usize,
+    /// How many of these gave way.
+    pub(crate) giving_way: usize,
+    /// While some rested, nobody else was ready.
+    pub(crate) is_idle: bool,
     /// While some rested, nobody else was ready for as long as the system was asked to wait for.
     pub(crate) is_quiet: bool,
     /// How often a connection took a turn behind another's.
     pub(crate) changes: u64,
     pub(crate) turn: Turn,
+    /// A connection gave way in this round.
+    pub(crate) is_long: bool,
+    /// When the end of this round began, where a connection gave way.
+    pub(crate) end: Option<Instant>,
     pub(crate) now: Instant,
     /// When all connections are looked at again, and from which number on.
     pub(crate) look: Option<Instant>,
@@ -97,12 +105,16 @@ impl<'r, C: Clock + Net> Sockets<'r, C> {
             table: Table::new(alloc),
             left: 0,
             resting: 0,
+            giving_way: 0,
+            is_idle: false,
             is_quiet: false,
             changes: 0,
             turn: Turn {
                 id: LISTENER,
                 start: None,
             },
+            is_long: false,
+            end: None,
             now,
             look: now.checked_add(Duration::from_millis(TICK)),
             look_from: 0,

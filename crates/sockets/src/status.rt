@@ -1,9 +1,10 @@
 //! What is known of a connection on a socket.
 
-ghost use Rattle.std.specs.Prelude.{◌≡◌, true, false};
+ghost use Rattle.std.specs.Prelude.{◌≡◌, false};
 
 use crate::rest::Rest;
 use crate::supply::Supply;
+use network::Client;
 use std::time::Instant;
 
 /// What is known of a connection.
@@ -16,7 +17,9 @@ pub struct Status {
     pub supply: Supply,
     /// It is amid a request: it was read, and no write was tried since.
     pub is_amid: bool,
-    /// Its rest behind a turn that took long.
+    /// It gave way, and no write was tried since.
+    pub gives_way: bool,
+    /// Its rest behind what took long.
     pub rest: Option<Rest>,
     /// It has to be read again only once something comes: its last read would have waited, or took all that had come. It
     /// wasn't told ready since.
@@ -25,8 +28,8 @@ pub struct Status {
     pub waits_to_write: bool,
     /// It is to be told ready after a while.
     pub is_put_off: bool,
-    /// It is over: what still comes is read and let go.
-    pub is_parting: bool,
+    /// Its client. Where it is absent, the connection is over: what still comes is read and let go.
+    pub client: Client,
     /// How many reads are left then.
     pub reads_left: u32,
 }
@@ -34,36 +37,38 @@ pub struct Status {
 impl Status {
     /// That of a new connection.
     pub(crate) fn new(idle: Option<Instant>, whole: Option<Instant>) -> Status
-        ensures { result.is_parting ≡ false }
+        ensures { result.client ≡ Client.Present }
     {
         Status {
             idle,
             whole,
             supply: Supply::Unknown,
             is_amid: false,
+            gives_way: false,
             rest: None,
             waits_to_read: false,
             waits_to_write: false,
             is_put_off: false,
-            is_parting: false,
+            client: Client::Present,
             reads_left: 0,
         }
     }
 
     /// That of a connection that is over.
     pub(crate) fn parting(until: Option<Instant>, reads_left: u32) -> Status
-        ensures { result.is_parting ≡ true }
+        ensures { result.client ≡ Client.Absent }
     {
         Status {
             idle: until,
             whole: until,
             supply: Supply::Unknown,
             is_amid: false,
+            gives_way: false,
             rest: None,
             waits_to_read: false,
             waits_to_write: false,
             is_put_off: false,
-            is_parting: true,
+            client: Client::Absent,
             reads_left,
         }
     }

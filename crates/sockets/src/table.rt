@@ -8,10 +8,10 @@ ghost use Rattle.std.specs.VecDeque.{deque_capacity};
 ghost use Rattle.std.proofs.Props.{props};
 ghost use Rattle.sockets.specs.Socket.{is_queued, is_open, is_unqueued, with_status, as_queued, as_told};
 
-use crate::rest::Rest;
 use crate::socket::Socket;
 use crate::status::Status;
 use mio::net::TcpStream;
+use network::Client;
 use std::alloc::{AllocError, Global};
 use std::collections::{BTreeMap, VecDeque};
 use std::time::Instant;
@@ -20,7 +20,7 @@ use std::time::Instant;
 /// next. A socket stands in the queue once at most, and there is room in it for all of them.
 #[derive(Drop)]
 pub struct Table {
-    sockets: BTreeMap<u64, Socket>,
+    pub(crate) sockets: BTreeMap<u64, Socket>,
     queue: VecDeque<u64>,
     count: u64,
     ghost distinct: { IsDistinct (eq_by_cmp nat_cmp) queue.items } by { Prim.hlevel props },
@@ -31,7 +31,7 @@ pub struct Table {
 }
 
 impl Table {
-    ghost use Rattle.sockets.specs.Table.{socket_at, OthersStay, IsDue, StaysDue, StaysDueBut, StaysOpen};
+    ghost use Rattle.sockets.specs.Table.{socket_at, client_at, OthersStay, IsDue, StaysDue, StaysDueBut};
 
     /// No socket. This takes no memory.
     pub(crate) fn new(alloc: Global) -> Table
@@ -79,7 +79,7 @@ impl Table {
         ensures { result ≡ is_open (socket_at self.now id) }
     {
         match self.sockets.get(&id) {
-            Some(socket) => !socket.status.is_parting,
+            Some(socket) => !socket.status.client.is_absent(),
             None => false,
         }
     }
@@ -94,19 +94,11 @@ impl Table {
         }
     }
 
-    /// Whether a connection is amid a request.
-    pub(crate) fn is_amid(&self, id: u64) -> bool {
+    /// Whether a connection gave way, and no write was tried since.
+    pub(crate) fn gives_way(&self, id: u64) -> bool {
         match self.sockets.get(&id) {
-            Some(socket) => socket.status.is_amid,
+            Some(socket) => socket.status.gives_way,
             None => false,
-        }
-    }
-
-    /// The rest of a connection that is amid a request.
-    pub(crate) fn rest(&self, id: u64) -> Option<Rest> {
-        match self.sockets.get(&id) {
-            Some(socket) if socket.status.is_amid => socket.status.rest,
-            _ => None,
         }
     }
 
@@ -115,6 +107,14 @@ impl Table {
         match self.sockets.get(&id) {
             Some(socket) => Some(&socket.stream),
             None => None,
+        }
+    }
+
+    /// The socket of an open connection.
+    pub(crate) fn open_stream(&self, id: u64) -> Option<&TcpStream> {
+        match self.sockets.get(&id) {
+            Some(socket) if !socket.status.client.is_absent() => Some(&socket.stream),
+            _ => None,
         }
     }
 
@@ -143,9 +143,9 @@ impl Table {
     /// number stays free.
     pub(crate) fn add(&mut self, stream: TcpStream, status: Status) -> Result<(), AllocError>
         requires room { btree_map_len self.old.sockets + 1 ≤ deque_capacity self.old.queue }
-        requires new { status.is_parting ≡ false }
+        requires new { status.client ≡ Client.Present }
         ensures count { OnOk result (self.new.count ≡ self.old.count + 1) }
-        ensures opened { OnOk result (is_open (socket_at self.new self.old.count) ≡ true) }
+        ensures comes { OnOk result (client_at self.new self.old.count ≡ Client.Present) }
         ensures due { (d : Bool) → IsDue self.new d self.old.count }
         ensures others { OthersStay self.old.count self.old self.new }
         ensures free { OnErr result (socket_at self.new self.old.count ≡ None) }

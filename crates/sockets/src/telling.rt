@@ -1,11 +1,12 @@
 //! What happens on many connections, one after the other.
 
-ghost use Rattle.std.specs.Prelude.{◌≡◌, ◌≢◌, ℕ, Bool, false, Some};
+ghost use Rattle.std.specs.Prelude.{◌≡◌, ◌≢◌, ℕ, Bool, true, false, Some, IfSome};
 ghost use Rattle.sockets.specs.Socket.{is_queued};
-ghost use Rattle.sockets.specs.Table.{socket_at, IsOpen, IsDue, StaysDue, StaysDueBut, StaysOpen};
+ghost use Rattle.network.specs.Clients.{failed};
+ghost use Rattle.sockets.specs.Table.{socket_at, client_at, IsDue, StaysDue, StaysDueBut, KeepsClients, KeepsClientsBut};
 
 use crate::sockets::{Sockets, TICK};
-use network::Occasion;
+use network::{Client, Occasion};
 use std::time::{Clock, Duration};
 
 impl<C: Clock> Sockets<'_, C> {
@@ -19,8 +20,13 @@ impl<C: Clock> Sockets<'_, C> {
             → IsDue self.old.table d k → IsDue self.new.table d k }
         ensures told { (k : ℕ) (d : Bool) → result ≡ Some (Occasion.Opens k)
             → IsDue self.new.table d k }
-        ensures opens { (k : ℕ) → result ≡ Some (Occasion.Opens k) → IsOpen self.new.table k }
-        ensures opened { StaysOpen self.old.table self.new.table }
+        ensures comes { (k : ℕ) → result ≡ Some (Occasion.Opens k)
+            → client_at self.new.table k ≡ Client.Present }
+        ensures late { (k : ℕ) → result ≡ Some (Occasion.Late k)
+            → client_at self.new.table k ≡ failed (client_at self.old.table k) }
+        ensures clients { (k : ℕ) → result ≢ Some (Occasion.Opens k)
+            → result ≢ Some (Occasion.Late k)
+            → client_at self.new.table k ≡ client_at self.old.table k }
         ensures number { (k : ℕ) → result ≡ Some (Occasion.Opens k) → k ≡ self.old.table.count }
         ensures count { self.new.table.count ≡ count_after result self.old.table.count }
     {
@@ -29,7 +35,6 @@ impl<C: Clock> Sockets<'_, C> {
             return Some(Occasion::Opens(id));
         }
         if let Some(id) = self.ready() {
-            self.begin_turn(id);
             return Some(Occasion::Ready(id));
         }
         if let Some(id) = self.late() {
@@ -38,27 +43,32 @@ impl<C: Clock> Sockets<'_, C> {
         if self.ends() && self.table.len() == 0 {
             return Some(Occasion::Over);
         }
+        self.begin_end();
         None
     }
 
-    /// Whether a connection that was taken out of the queue takes a turn now. Else it rests on; or it is over, and some of
-    /// what still comes is let go.
+    /// Whether a connection that was taken out of the queue takes a turn now, which begins. Else it rests on; or it is over,
+    /// and some of what still comes is let go.
     fn takes_turn(&mut self, id: u64) -> bool
         requires { is_queued (socket_at self.old.table id) ≡ false }
         ensures moves { MovesNothing self.old self.new }
         ensures own { result ≡ false → (d : Bool) → IsDue self.new.table d id }
         ensures due { StaysDue self.old.table self.new.table }
-        ensures opened { StaysOpen self.old.table self.new.table }
+        ensures clients { KeepsClients self.old.table self.new.table }
         ensures count { self.new.table.count ≡ self.old.table.count }
     {
-        if !self.table.is_open(id) {
+        let Some(status) = self.table.status(id) else {
+            return false;
+        };
+        if status.client.is_absent() {
             self.drain(id);
             return false;
         }
-        if self.is_resting(id) {
+        if self.is_resting(id, &status) {
             self.put_back(id);
             return false;
         }
+        self.begin_turn(id, status.is_amid);
         true
     }
 
@@ -66,7 +76,7 @@ impl<C: Clock> Sockets<'_, C> {
     fn ready(&mut self) -> Option<u64>
         ensures moves { MovesNothing self.old self.new }
         ensures due { StaysDueBut result self.old.table self.new.table }
-        ensures opened { StaysOpen self.old.table self.new.table }
+        ensures clients { KeepsClients self.old.table self.new.table }
         ensures count { self.new.table.count ≡ self.old.table.count }
     {
         for _ in 0..self.left {
@@ -87,19 +97,23 @@ impl<C: Clock> Sockets<'_, C> {
     fn is_over(&mut self, id: u64) -> bool
         ensures moves { MovesNothing self.old self.new }
         ensures due { StaysDue self.old.table self.new.table }
-        ensures opened { StaysOpen self.old.table self.new.table }
+        ensures late { result ≡ true
+            → client_at self.new.table id ≡ failed (client_at self.old.table id) }
+        ensures in_time { result ≡ false → KeepsClients self.old.table self.new.table }
+        ensures clients { KeepsClientsBut (Some id) self.old.table self.new.table }
         ensures count { self.new.table.count ≡ self.old.table.count }
     {
         let Some(status) = self.table.status(id) else {
             return false;
         };
-        if status.is_parting {
+        if status.client.is_absent() {
             if !self.table.is_queued(id) {
                 self.release(id);
             }
             return false;
         }
         if status.is_late(self.now) {
+            self.table.fail(id);
             return true;
         }
         self.table.call(id);
@@ -118,7 +132,9 @@ impl<C: Clock> Sockets<'_, C> {
     fn late(&mut self) -> Option<u64>
         ensures moves { MovesNothing self.old self.new }
         ensures due { StaysDue self.old.table self.new.table }
-        ensures opened { StaysOpen self.old.table self.new.table }
+        ensures late { IfSome result (λ id.
+            client_at self.new.table id ≡ failed (client_at self.old.table id)) }
+        ensures clients { KeepsClientsBut result self.old.table self.new.table }
         ensures count { self.new.table.count ≡ self.old.table.count }
     {
         if !self.is_time_to_look() {

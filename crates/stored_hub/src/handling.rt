@@ -26,6 +26,7 @@ impl<D: DocumentStore> Handler for StoredHub<D> {
         let reply = self.hub.apply(alloc, key, request);
         if is_change(&reply) {
             self.is_dirty = true;
+            self.changes = self.changes.wrapping_add(1);
             if self.behind.is_none() {
                 match write_change(alloc, &mut self.store, &self.hub, key, &reply) {
                     Ok(()) => {}
@@ -54,6 +55,10 @@ impl<D: DocumentStore> Handler for StoredHub<D> {
                 Err(why)
             }
         }
+    }
+
+    fn changes(&self) -> u64 {
+        self.changes
     }
 }
 

@@ -20,6 +20,8 @@ pub struct StoredHub<D: DocumentStore> {
     pub(crate) store: D,
     // Whether a change may have been written since the last commit.
     pub(crate) is_dirty: bool,
+    // How many changes were granted, modulo 2^64.
+    pub(crate) changes: u64,
     // Why a change couldn't be written or committed, where one couldn't.
     pub(crate) behind: Option<Unsettled>,
     ghost distinct: { HaveDistinctDigests (hub_view hub) },

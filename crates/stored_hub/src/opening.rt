@@ -49,6 +49,7 @@ pub fn open<D: DocumentStore + Drop>(
             hub,
             store,
             is_dirty: true,
+            changes: 0,
             behind: None,
         }),
         Err(refusal) => Err((refusal, store)),

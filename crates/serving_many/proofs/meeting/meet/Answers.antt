@@ -14,3 +14,6 @@ returns-then-take_turn-clause-due g c old k p now =
     (λ ne. ⊎_elim (λ d. inl (e.due k (has_bytes p) ne (c.take_turn.ensures.due k (has_bytes p) ne d))) (λ m. inr (e.waiting k m))
     (old k p (λ same. ne (sym (same_number c.in-Ready.id k (sym c.in-Ready.is ∙ same)))) (sym (c.take_turn.ensures.stay k ne) ∙ sym (e.stay k ne) ∙ now)))
     (cases_eq k c.in-Ready.id)
+
+pub returns-in-Late-clause-needed : goal.returns-in-Late-clause-needed
+returns-in-Late-clause-needed g c = c.cut_off.ensures.needed (λ k ne. c.requires.needed k)

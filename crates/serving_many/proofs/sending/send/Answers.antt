@@ -1,5 +1,8 @@
-use Rattle.std.proofs.Common.{refl, sym}
+use Rattle.std.proofs.Common.{refl, sym, ap, ◌∙◌}
 use Rattle.serving_many.proofs.Among.{no_some}
+use Rattle.serving_many.specs.Present.{client_of}
+use Rattle.serving_many.proofs.Needed.{needed_elsewhere}
+use Rattle.serving_many.proofs.Present.{present_on}
 use Rattle.serving_many.proofs.Turns.{wrote_some, wrote_nothing}
 use Rattle.serving_many.proofs.sending.send.Goals as goal
 
@@ -17,3 +20,21 @@ pub returns-in-Ok-Some-eq0-clause-kept : goal.returns-in-Ok-Some-eq0-clause-kept
 returns-in-Ok-Some-eq0-clause-kept g c s reads writes x =
     c.cut_off.ensures.kept s reads writes
     (wrote_nothing g.H.Handler.state g.H.Handler.finds g.H.Handler.answers c.args.id _ _ refl (λ k ne. refl) (λ k ne. refl) refl refl refl c.write.ensures.reads (rw (c.in-Ok-Some-eq0.field-0-is, c.in-Ok-Some-eq0.field-0-0-test) at c.in-Ok-Some-eq0.ensures.told) s reads writes x)
+
+pub returns-then-is_empty-clause-needed : goal.returns-then-is_empty-clause-needed
+returns-then-is_empty-clause-needed g c x = c.part_or_await.ensures.needed (λ k ne. x k)
+
+pub returns-in-Ok-Some-eq0-clause-needed : goal.returns-in-Ok-Some-eq0-clause-needed
+returns-in-Ok-Some-eq0-clause-needed g c x = c.cut_off.ensures.needed (λ k ne. x k)
+
+pub returns-in-Ok-Some-clause-needed : goal.returns-in-Ok-Some-clause-needed
+returns-in-Ok-Some-clause-needed g c x = c.await_turn.ensures.needed (needed_elsewhere _ _ _ _ c.args.id (λ k ne. refl) c.advance.ensures.others (λ k ne. x k))
+
+pub returns-in-Ok-Some-clause-present : goal.returns-in-Ok-Some-clause-present
+returns-in-Ok-Some-clause-present g c x =
+    let was = sym c.in-Some.ensures in
+    c.await_turn.ensures.present
+    (present_on _ _ _ _ c.args.id ((rw c.in-Ok-Some.field-0-is at c.in-Ok-Some.ensures.client) ∙ x c.args.id ∙ ap client_of was ∙ sym (ap client_of (c.advance.ensures.some _ was))) c.write.ensures.clients c.advance.ensures.others (λ k ne. x k))
+
+pub returns-in-Err-clause-needed : goal.returns-in-Err-clause-needed
+returns-in-Err-clause-needed g c x = c.cut_off-in-Err.ensures.needed (λ k ne. x k)

@@ -11,6 +11,7 @@ loop-id-preserved g c = record {
   handler = c.send.ensures.handler ∙ c.loop-id.invariant.handler;
   due = λ old. due_next _ _ _ _ _ c.args.ids.now c.loop-id.id-index (omega (arith, c.loop-id-test.true)) refl c.send.ensures.stay c.send.ensures.due c.send.ensures.own (c.loop-id.invariant.due old);
   needed = λ x. c.send.ensures.needed (c.loop-id.invariant.needed x);
+  present = λ x. c.send.ensures.present (c.loop-id.invariant.present x);
 }
 
 pub returns-clause-due : goal.returns-clause-due

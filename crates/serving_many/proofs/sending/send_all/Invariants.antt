@@ -4,6 +4,7 @@ use Rattle.network.specs.Outboxes.{unsent_at}
 use Rattle.network.specs.Readiness.{AllDue}
 use Rattle.serving_many.specs.Going.{Keeps, state_of}
 use Rattle.serving_many.specs.Needed.{AllNeeded}
+use Rattle.serving_many.specs.Present.{AllPresent}
 use Rattle.serving_many.proofs.sending.send_all.Given as goal
 
 abbrev pub invariant-loop-id : goal.invariant-loop-id
@@ -13,4 +14,5 @@ invariant-loop-id g l = record {
   handler : handler_of l.sessions ≡ handler_of l.fn.sessions;
   due : (AllDue (unsent_at l.fn.outbox) (g.N.Network.due l.fn.network) l.ids → AllDue (unsent_at l.outbox) (g.N.Network.due l.network) (drop l.id-index l.ids));
   needed : (AllNeeded (connection_at l.fn.sessions) (unsent_at l.fn.outbox) → AllNeeded (connection_at l.sessions) (unsent_at l.outbox));
+  present : (AllPresent (g.N.Network.client l.fn.network) (unsent_at l.fn.outbox) → AllPresent (g.N.Network.client l.network) (unsent_at l.outbox));
 }

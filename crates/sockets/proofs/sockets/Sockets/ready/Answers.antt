@@ -1,5 +1,5 @@
 use Rattle.std.proofs.Common.{◌∙◌}
-use Rattle.sockets.proofs.Taken.{due_again, open_again}
+use Rattle.sockets.proofs.Taken.{due_again, kept_again}
 use Rattle.sockets.proofs.sockets.Sockets.ready.Goals as goal
 
 pub loop-preserved : goal.loop-preserved
@@ -10,6 +10,10 @@ loop-preserved g c =
     record {
       moves = (turn.moves.0 ∙ before.moves.0, turn.moves.1 ∙ before.moves.1);
       due = λ k d was. due_again c.loop.self.table c.pop.new.self c.takes_turn.new.self.table c.in-Some.id taken.others turn.due (turn.own c.if-takes_turn.false) k d (before.due k d was);
-      opened = λ k was. open_again c.loop.self.table c.pop.new.self c.takes_turn.new.self.table c.in-Some.id taken.others taken.told turn.opened k (before.opened k was);
+      clients = λ k. kept_again c.loop.self.table c.pop.new.self c.takes_turn.new.self.table c.in-Some.id taken.others taken.told turn.clients k ∙ before.clients k;
       count = turn.count ∙ taken.count ∙ before.count;
     }
+
+pub returns-then-takes_turn-clause-clients : goal.returns-then-takes_turn-clause-clients
+returns-then-takes_turn-clause-clients g c k =
+    kept_again c.loop.self.table c.pop.new.self c.takes_turn.new.self.table c.in-Some.id c.in-Some.ensures.others c.in-Some.ensures.told c.takes_turn.ensures.clients k ∙ c.loop.invariant.clients k

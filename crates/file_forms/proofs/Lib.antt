@@ -1,4 +1,15 @@
 mod Accounted
+mod Buffered
 mod Checked
 mod Counted
+mod Ended
+mod Gathers
+mod Going
+mod Places
+mod ReadLines
+mod Rooted
 mod Shown
+mod Telling
+mod Troubles
+mod Turns
+mod Unknown

@@ -1,9 +1,15 @@
 pub mod Accounts
 pub mod Bundles
 pub mod Checks
+pub mod Gathered
 pub mod Judged
+pub mod NextLines
 pub mod Printed
 pub mod RefusalLines
 pub mod Refusals
+pub mod Roots
 pub mod Scans
+pub mod Stages
+pub mod Subjects
 pub mod Tellings
+pub mod Told

@@ -1,28 +1,50 @@
 -- What is told of a trouble.
-use Rattle.std.specs.Prelude.{◌≡◌, ◌⊎◌, ◌++◌, [], ℕ, Option, Some, None, IfSome, codes, option_map, string_bytes}
+use Rattle.std.specs.Prelude.{◌≡◌, ◌⊎◌, ◌++◌, ℕ, Option, Some, None, IfSome, codes, option_map, string_bytes}
 use Rattle.definitions.specs.Faults.{Fault}
 use Rattle.definitions.specs.Values.{Text}
 use Rattle.faults.specs.View.{fault_view}
+use Rattle.faults.specs.declared.Fault as code
 use Rattle.file_forms.specs.RefusalLines.{refusal_line}
+use Rattle.file_forms.specs.declared.trouble.Refusal.{Refusal}
 use Rattle.file_forms.specs.declared.trouble.Trouble.{Trouble}
-use Rattle.file_forms.specs.declared.trouble.Trouble.TheVariants.{CannotRead, Refused, CannotWrite, Told}
+use Rattle.file_forms.specs.declared.trouble.Trouble.TheVariants.{CannotRead, Refused, CannotWrite}
 
--- the file that a trouble names
-abbrev pub path_of : Trouble → Option Text
-path_of (CannotRead path) = Some (string_bytes path)
-path_of (Refused refusal) = option_map (λ p. string_bytes p) refusal.path
-path_of (CannotWrite path) = Some (string_bytes path)
-path_of Told = None
+abbrev pub path_of : Refusal → Option Text
+path_of refusal = option_map (λ p. string_bytes p) refusal.path
 
--- and the line in it
-abbrev pub line_of : Trouble → Option ℕ
-line_of (Refused refusal) = refusal.line
-line_of _ = None
+-- memory ran out, for no file by its name
+abbrev pub MeansNoRoom : Trouble → Type 0
+MeansNoRoom (Refused refusal) = (refusal.fault ≡ code.Fault.NoRoom) × (path_of refusal ≡ None) × (refusal.line ≡ None)
+MeansNoRoom _ = ⊥
 
--- a trouble names no other file and no other line than these
-pub record Concerns (path : Text) (line : Option ℕ) (trouble : Trouble) : Type 0 where
-  pub file : IfSome (path_of trouble) (λ p. p ≡ path)
-  pub at : IfSome (line_of trouble) (λ n. line ≡ Some n)
+-- memory ran out, for this file if one is named
+pub record IsNoRoom (path : Text) (refusal : Refusal) : Type 0 where
+  pub fault : refusal.fault ≡ code.Fault.NoRoom
+  pub file : IfSome (path_of refusal) (λ p. p ≡ path)
+  pub line : refusal.line ≡ None
+
+-- the file or folder can't be read, or memory ran out
+abbrev pub IsUnread : Text → Trouble → Type 0
+IsUnread path (CannotRead p) = string_bytes p ≡ path
+IsUnread path (Refused refusal) = IsNoRoom path refusal
+IsUnread path (CannotWrite p) = ⊥
+
+-- the file can't be written, or memory ran out
+abbrev pub IsUnwritten : Text → Trouble → Type 0
+IsUnwritten path (CannotWrite p) = string_bytes p ≡ path
+IsUnwritten path (Refused refusal) = IsNoRoom path refusal
+IsUnwritten path (CannotRead p) = ⊥
+
+-- the file, or its line, is refused with the fault
+pub record IsRefusedFor (path : Text) (line : Option ℕ) (fault : code.Fault) (refusal : Refusal) : Type 0 where
+  pub file : path_of refusal ≡ Some path
+  pub at : refusal.line ≡ line
+  pub fault_is : refusal.fault ≡ fault
+
+-- .. or memory ran out for its path
+abbrev pub IsRefusal : Text → Option ℕ → code.Fault → Trouble → Type 0
+IsRefusal path line fault (Refused refusal) = IsRefusedFor path line fault refusal ⊎ IsNoRoom path refusal
+IsRefusal path line fault _ = ⊥
 
 -- the line of a refusal, and below it another, which begins with two spaces
 pub record IsRefusalText (path : Option Text) (line : Option ℕ) (fault : Fault) (told : Text) : Type 0 where
@@ -32,9 +54,8 @@ pub record IsRefusalText (path : Option Text) (line : Option ℕ) (fault : Fault
 -- the lines that tell a trouble
 abbrev pub IsLineOf : Trouble → Text → Type 0
 IsLineOf (CannotRead path) told = told ≡ codes "cannot read " ++ string_bytes path ++ codes "\n"
-IsLineOf (Refused refusal) told = IsRefusalText (option_map (λ p. string_bytes p) refusal.path) refusal.line (fault_view refusal.fault) told
+IsLineOf (Refused refusal) told = IsRefusalText (path_of refusal) refusal.line (fault_view refusal.fault) told
 IsLineOf (CannotWrite path) told = told ≡ codes "cannot write " ++ string_bytes path ++ codes "\n"
-IsLineOf Told told = told ≡ []
 
 -- its lines, or that memory ran out
 abbrev pub IsTold : Trouble → Text → Type 0

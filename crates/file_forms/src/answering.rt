@@ -1,16 +1,12 @@
 //! The answer for one instance.
 
-ghost use Rattle.std.specs.Prelude.{◌≡◌, ◌++◌, ◌∷◌, [], List, IfOk, string_bytes};
-ghost use Rattle.definition_laws.specs.Reaching.{HaveDistinctResources};
-ghost use Rattle.definitions.specs.Reach.{reach};
-ghost use Rattle.definitions.specs.Schemas.{Document};
-ghost use Rattle.linker.specs.LinkedDocuments.{linked_documents, linked_uri};
-ghost use Rattle.file_checks.specs.FileJudgements.{judgement_over};
-ghost use Rattle.file_checks.specs.FileSources.{checker_linked};
-ghost use Rattle.evaluator.specs.Reports.{is_valid, report_text};
+ghost use Rattle.std.specs.Prelude.{◌≡◌, ◌++◌, ◌∷◌, [], IfErr, IfOk, string_bytes};
 ghost use Rattle.definitions.specs.Bytes.{line_feed};
+ghost use Rattle.evaluator.specs.Reports.{is_valid, report_text};
+ghost use Rattle.file_checks.specs.FileSources.{checker_linked};
+ghost use Rattle.file_forms.specs.Judged.{ByLinked, IsVerdict};
+ghost use Rattle.file_forms.specs.Printed.{IsPrinted, verdict_by};
 ghost use Rattle.plain_reports.specs.JsonLines.{json_line_text};
-ghost use Rattle.file_forms.specs.Printed.{IsAnswer, IsPrinted, verdict_by};
 
 use command_line::Format;
 use evaluator::Report;
@@ -34,13 +30,8 @@ pub(crate) fn answer(
     checker: &mut Checker<'_>,
     instance: Instance<'_>,
 ) -> Result<(Verdict, String), Fault>
-    ensures told { (G : List Document) → HaveDistinctResources G
-        → linked_documents (checker_linked checker.old)
-        ≡ reach G (linked_uri (checker_linked checker.old))
-        → IfOk result (λ answer. IsAnswer
-        (judgement_over G (linked_uri (checker_linked checker.old)) instance.entry.text.now)
-        printing.format printing.quiet instance.entry.path.now instance.entry.line
-        answer.0 (string_bytes answer.1)) }
+    ensures judged { ByLinked (checker_linked checker.old) printing (λ judge.
+        IsVerdict judge instance.entry.path.now instance.entry.line instance.entry.text.now result) }
     ensures same { checker_linked checker.new ≡ checker_linked checker.old }
 {
     let report = checker.check(instance.text)?;
@@ -48,8 +39,25 @@ pub(crate) fn answer(
     Ok((verdict_of(&report), text))
 }
 
-/// What is printed of an instance of which this is the report.
+/// What is printed of an instance of which this is the report. The only error is want of memory, since report and instance
+/// are texts that were read.
 fn answer_text(
+    alloc: Global,
+    printing: Printing,
+    instance: Instance<'_>,
+    report: &Report,
+) -> Result<String, Fault>
+    ensures ok { IfOk result (λ s. IsPrinted printing.format printing.quiet instance.entry.path.now
+        instance.entry.line (is_valid report.now, report_text report.now) (string_bytes s)) }
+    ensures err { IfErr result (λ f. f ≡ Fault.NoRoom) }
+{
+    match printed(alloc, printing, instance, report) {
+        Ok(text) => Ok(text),
+        Err(_) => Err(Fault::NoRoom),
+    }
+}
+
+fn printed(
     alloc: Global,
     printing: Printing,
     instance: Instance<'_>,

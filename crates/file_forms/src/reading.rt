@@ -1,7 +1,7 @@
 //! Reading files.
 
-ghost use Rattle.std.specs.Prelude.{◌≡◌, None, IfOk, IfErr, IfSome};
-ghost use Rattle.file_forms.specs.Refusals.{Concerns};
+ghost use Rattle.std.specs.Prelude.{◌≡◌, IfOk, IfErr, IfSome};
+ghost use Rattle.file_forms.specs.Refusals.{IsUnread};
 
 use crate::trouble::Trouble;
 use file_checks::Fault;
@@ -10,7 +10,7 @@ use std::io::{self, ErrorKind, Read};
 
 /// That what has this name cannot be read. Want of memory is a refusal of it.
 pub(crate) fn unread(alloc: Global, error: &io::Error, name: &str) -> Trouble
-    ensures { Concerns name.now None result }
+    ensures { IsUnread name.now result }
 {
     match error.kind() {
         ErrorKind::OutOfMemory => Trouble::refused(alloc, name, None, &[], Fault::NoRoom),
@@ -22,7 +22,7 @@ pub(crate) fn unread(alloc: Global, error: &io::Error, name: &str) -> Trouble
 pub(crate) fn whole<I: Read>(alloc: Global, reader: &mut I, name: &str) -> Result<Vec<u8>, Trouble>
     ensures ok { IfOk result (λ bytes.
         IfSome (I.remaining reader.old) (λ left. bytes.items ≡ left)) }
-    ensures err { IfErr result (Concerns name.now None) }
+    ensures err { IfErr result (IsUnread name.now) }
 {
     let mut bytes = Vec::new(alloc);
     match reader.read_to_end(&mut bytes) {

@@ -1,12 +1,16 @@
 //! A run over instances.
 
-ghost use Rattle.std.specs.Prelude.{◌≡◌, ◌∷◌, [], Err, IfOk, IfErr, max};
+ghost use Rattle.std.specs.Prelude.{◌≡◌, ◌∷◌, [], Err, max};
+ghost use Rattle.definitions.specs.Values.{Text};
 ghost use Rattle.file_checks.specs.FileSources.{checker_linked};
 ghost use Rattle.file_checks.specs.Tallies.{status_of};
-ghost use Rattle.file_forms.specs.Accounts.{Accounts, IsAccount, verdict_status};
-ghost use Rattle.file_forms.specs.Judged.{IsJudged, account_of};
-ghost use Rattle.file_forms.specs.Refusals.{Concerns};
+ghost use Rattle.file_forms.specs.Accounts.{verdict_status};
+ghost use Rattle.file_forms.specs.Judged.{ByLinked, IsAnswerOf};
+ghost use Rattle.file_forms.specs.Refusals.{IsUnread};
+ghost use Rattle.file_forms.specs.Stages.{GoesOver, stage_of};
+ghost use Rattle.file_forms.specs.Subjects.{Are, instance_at, unread};
 ghost use Rattle.file_forms.specs.Tellings.{IsToldOf, state_of};
+ghost use Rattle.linker.specs.declared.linked.Linked.{Linked};
 
 use crate::answering::{Printing, answer};
 use crate::console::Console;
@@ -45,13 +49,12 @@ impl Run {
         checker: &mut Checker<'_>,
         instance: Instance<'_>,
     )
-        ensures accounts { Accounts
-            (IsAccount (IsJudged (checker_linked checker.old) self.old.printing))
-            ((instance.entry.path.now, instance.entry.line) ∷ [])
-            (state_of (C.printed console.old) (C.told console.old) self.old.tally)
-            (state_of (C.printed console.new) (C.told console.new) self.new.tally) }
-        ensures linked { checker_linked checker.new ≡ checker_linked checker.old }
-        ensures printing { self.new.printing ≡ self.old.printing }
+        ensures { GoesOver (Are (instance_at instance.entry.path.now instance.entry.line
+            instance.entry.text.now ∷ []))
+            (stage_of self.old (checker_linked checker.old) (C.printed console.old)
+            (C.told console.old))
+            (stage_of self.new (checker_linked checker.new) (C.printed console.new)
+            (C.told console.new)) }
     {
         let answered = self.answer(checker, instance);
         self.tell(console, &answered);
@@ -63,9 +66,9 @@ impl Run {
         checker: &mut Checker<'_>,
         instance: Instance<'_>,
     ) -> Result<(Verdict, String), Trouble>
-        ensures ok { IfOk result (λ answer. IsJudged (checker_linked checker.old) self.now.printing
-            (account_of instance.entry answer)) }
-        ensures err { IfErr result (Concerns instance.entry.path.now instance.entry.line) }
+        ensures judged { ByLinked (checker_linked checker.old) self.now.printing (λ judge.
+            IsAnswerOf judge instance.entry.path.now instance.entry.line instance.entry.text.now
+            result) }
         ensures linked { checker_linked checker.new ≡ checker_linked checker.old }
     {
         match answer(self.alloc, self.printing, checker, instance) {
@@ -107,8 +110,8 @@ impl Run {
         self.tally.add(verdict);
     }
 
-    /// Tells the trouble, and counts it.
-    pub(crate) fn refuse<C: Console>(&mut self, console: &mut C, trouble: &Trouble)
+    // Tells the trouble, and counts it.
+    fn refuse<C: Console>(&mut self, console: &mut C, trouble: &Trouble)
         ensures told { IsToldOf (Err trouble.now)
             (state_of (C.printed console.old) (C.told console.old) self.old.tally)
             (state_of (C.printed console.new) (C.told console.new) self.new.tally) }
@@ -118,12 +121,12 @@ impl Run {
         self.count(Verdict::Refused);
     }
 
-    /// Tells a trouble that ends something, and counts it.
-    pub(crate) fn refuse_owned<C: Console>(&mut self, console: &mut C, trouble: Trouble)
-        ensures told { IsToldOf (Err trouble)
-            (state_of (C.printed console.old) (C.told console.old) self.old.tally)
-            (state_of (C.printed console.new) (C.told console.new) self.new.tally) }
-        ensures printing { self.new.printing ≡ self.old.printing }
+    /// Tells that the file or folder can't be read, and counts it.
+    pub(crate) fn refuse_unread<C: Console>(&mut self, console: &mut C, trouble: Trouble)
+        ensures { (path : Text) → (linked : Linked) → IsUnread path trouble → GoesOver
+            (Are (unread path ∷ []))
+            (stage_of self.old linked (C.printed console.old) (C.told console.old))
+            (stage_of self.new linked (C.printed console.new) (C.told console.new)) }
     {
         self.refuse(console, &trouble);
     }

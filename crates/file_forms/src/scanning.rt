@@ -63,7 +63,7 @@ fn scanned<F: Folders, C: Console>(
             path,
         )?;
     }
-    if !gathered.add_all(alloc, files, console, &scanning.documents.paths)? {
+    if !gathered.add_all(alloc, files, console, &scanning.documents.paths) {
         tally.add(Verdict::Refused);
     }
     for schema in &schemas {
@@ -104,12 +104,12 @@ fn add_schemas<F: Folders, C: Console>(
     path: &str,
 ) -> Result<(), Trouble> {
     let found = files.files_of(alloc, path, JSON)?;
-    for trouble in &found.troubles {
-        console.tell(trouble);
+    for folder in &found.unread {
+        console.tell(&Trouble::cannot_read(alloc, folder.as_str()));
         tally.add(Verdict::Refused);
     }
     for file in &found.files {
-        match gathered.add(alloc, files, file.as_str(), None) {
+        match gathered.add(alloc, files, file.as_str()) {
             Ok(None) => {}
             Ok(Some(document)) => schemas.push(SchemaFile {
                 path: String::from_str(alloc, file.as_str())?,

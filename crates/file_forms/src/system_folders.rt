@@ -1,8 +1,5 @@
 //! The files and folders of the file system.
 
-ghost use Rattle.std.specs.Prelude.{◌≡◌, None, IfErr};
-ghost use Rattle.file_forms.specs.Refusals.{Concerns};
-
 use crate::folders::{Folders, Found};
 use crate::trouble::Trouble;
 use crate::{reading, walking};
@@ -29,7 +26,7 @@ impl<R: Files + Env + AllocGlobal + Clone + Drop> Folders for SystemFolders<'_, 
     fn files_of(&self, alloc: Global, path: &str, endings: &[&str]) -> Result<Found, Trouble> {
         match walking::files_of(self.rt, path, endings) {
             Ok(found) => Ok(found),
-            Err(_) => Err(Trouble::no_room()),
+            Err(error) => Err(reading::unread(alloc, &error, path)),
         }
     }
 

@@ -16,8 +16,6 @@ pub enum Trouble {
     Refused(Refusal),
     /// The file cannot be written.
     CannotWrite(String),
-    /// It was told already.
-    Told,
 }
 
 /// A refusal.
@@ -56,13 +54,12 @@ impl<T: Drop> From<AllocFailed<T>> for Trouble {
 }
 
 impl Trouble {
-    ghost use Rattle.std.specs.Prelude.{◌≡◌, None, IfOk, string_bytes};
-    ghost use Rattle.file_forms.specs.Refusals.{Concerns, IsLineOf, line_of, path_of};
+    ghost use Rattle.std.specs.Prelude.{IfOk, string_bytes};
+    ghost use Rattle.file_forms.specs.Refusals.{IsLineOf, IsRefusal, IsUnread, IsUnwritten, MeansNoRoom};
 
     /// That memory ran out.
     pub(crate) fn no_room() -> Trouble
-        ensures path { path_of result ≡ None }
-        ensures line { line_of result ≡ None }
+        ensures { MeansNoRoom result }
     {
         Trouble::Refused(Refusal {
             path: None,
@@ -80,7 +77,7 @@ impl Trouble {
         text: &[u8],
         fault: Fault,
     ) -> Trouble
-        ensures { Concerns path.now line result }
+        ensures { IsRefusal path.now line fault result }
     {
         let position = position_of(alloc, text, &fault);
         match String::from_str(alloc, path) {
@@ -96,7 +93,7 @@ impl Trouble {
 
     /// That what has this name cannot be read.
     pub(crate) fn cannot_read(alloc: Global, name: &str) -> Trouble
-        ensures { Concerns name.now None result }
+        ensures { IsUnread name.now result }
     {
         match String::from_str(alloc, name) {
             Ok(name) => Trouble::CannotRead(name),
@@ -106,7 +103,7 @@ impl Trouble {
 
     /// That the file at this path cannot be written.
     pub(crate) fn cannot_write(alloc: Global, path: &str) -> Trouble
-        ensures { Concerns path.now None result }
+        ensures { IsUnwritten path.now result }
     {
         match String::from_str(alloc, path) {
             Ok(path) => Trouble::CannotWrite(path),
@@ -122,7 +119,6 @@ impl Trouble {
             Trouble::CannotRead(path) => format!(in alloc; "cannot read {path}\n"),
             Trouble::CannotWrite(path) => format!(in alloc; "cannot write {path}\n"),
             Trouble::Refused(refusal) => refusal.lines(alloc),
-            Trouble::Told => Ok(String::new(alloc)),
         }
     }
 }

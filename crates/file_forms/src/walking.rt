@@ -1,8 +1,7 @@
 //! The files below a folder.
 
 use crate::folders::Found;
-use crate::reading::unread;
-use std::alloc::{AllocError, Global};
+use std::io::ErrorKind;
 use std::rt::Files;
 use std::{fs, io};
 
@@ -19,11 +18,11 @@ pub(crate) fn files_of<R: Files + AllocGlobal + Clone + Drop>(
     rt: &R,
     path: &str,
     endings: &[&str],
-) -> Result<Found, AllocError> {
+) -> io::Result<Found> {
     let alloc = rt.alloc();
     let mut found = Found {
         files: Vec::new(alloc),
-        troubles: Vec::new(alloc),
+        unread: Vec::new(alloc),
     };
     if is_folder(rt, path) {
         walk(rt, path, endings, &mut found)?;
@@ -34,7 +33,8 @@ pub(crate) fn files_of<R: Files + AllocGlobal + Clone + Drop>(
     Ok(found)
 }
 
-fn is_folder<R: Files>(rt: &R, path: &str) -> bool {
+/// Whether a folder is at this path, or a symbolic link to one.
+pub fn is_folder<R: Files>(rt: &R, path: &str) -> bool {
     match fs::metadata(rt, path) {
         Ok(metadata) => metadata.is_dir(),
         Err(_) => false,
@@ -47,7 +47,7 @@ fn walk<R: Files + AllocGlobal + Clone + Drop>(
     folder: &str,
     endings: &[&str],
     found: &mut Found,
-) -> Result<(), AllocError> {
+) -> io::Result<()> {
     let alloc = rt.alloc();
     let mut folders = Vec::new(alloc);
     folders.push(String::from_str(alloc, folder)?)?;
@@ -56,7 +56,10 @@ fn walk<R: Files + AllocGlobal + Clone + Drop>(
             break;
         };
         if let Err(error) = read_folder(rt, folder.as_str(), endings, &mut folders, found) {
-            found.troubles.push(unread(alloc, &error, folder.as_str()))?;
+            if error.kind() == ErrorKind::OutOfMemory {
+                return Err(error);
+            }
+            found.unread.push(folder)?;
         }
     }
     Ok(())

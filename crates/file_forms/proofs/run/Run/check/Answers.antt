@@ -1,10 +1,12 @@
 use Rattle.file_checks.specs.FileSources.{checker_linked}
-use Rattle.file_forms.specs.Judged.{IsJudged}
-use Rattle.file_forms.proofs.Accounted.{accounted}
+use Rattle.file_forms.proofs.Accounted.{checked}
+use Rattle.file_forms.proofs.Going.{goes}
 use Rattle.file_forms.proofs.run.Run.check.Goals as goal
 
-pub returns-clause-accounts : goal.returns-clause-accounts
-returns-clause-accounts g c =
+pub returns : goal.returns
+returns g c =
     let instance = c.args.instance in
-    accounted (IsJudged (checker_linked c.args.checker.now) c.args.self.now.printing) instance.path.now instance.line instance.text.now c.answer-answered.result _ _
-    c.answer-answered.ensures.ok c.answer-answered.ensures.err c.tell.ensures.told
+    goes _ _ _
+    (checked (checker_linked c.args.checker.now) c.args.self.now.printing instance.path.now instance.line instance.text.now c.answer-answered.result _ _
+    c.answer-answered.ensures.judged c.tell.ensures.told)
+    c.answer-answered.ensures.linked c.tell.ensures.printing

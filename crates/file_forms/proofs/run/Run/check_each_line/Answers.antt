@@ -1,27 +1,27 @@
-use Rattle.std.proofs.Common.{◌∙◌, refl}
-use Rattle.file_forms.specs.Accounts.{IsAccount}
 use Rattle.file_checks.specs.FileSources.{checker_linked}
-use Rattle.file_forms.specs.Judged.{IsJudged}
-use Rattle.file_forms.proofs.Accounted.{judged_then, none_of, refused_some, some_joined}
+use Rattle.file_forms.proofs.Going.{go_on, so, stays}
+use Rattle.file_forms.proofs.ReadLines.{all_read, cut_off, none_read, one_more_read}
 use Rattle.file_forms.proofs.run.Run.check_each_line.Goals as goal
 
 pub loop-index-init : goal.loop-index-init
-loop-index-init g c = record {
-  accounts = none_of (IsAccount (IsJudged (checker_linked c.args.checker.now) c.args.self.now.printing)) _;
-  linked = refl;
-  printing = refl;
-}
+loop-index-init g c = stays _ _ (none_read c.args.path.now _)
 
 pub loop-index-preserved : goal.loop-index-preserved
 loop-index-preserved g c =
-    let before = c.loop-index.invariant in
-    record {
-      accounts = judged_then _ _ _ _ _ _ _ before.linked before.printing before.accounts (record { names = _; accounts = c.check_line.ensures.accounts });
-      linked = c.check_line.ensures.linked ∙ before.linked;
-      printing = c.check_line.ensures.printing ∙ before.printing;
-    }
+    go_on _ _ _ _ _ _
+    (λ xs ys read more. one_more_read c.args.path.now _ _ _ c.loop-index.index c.in-Ok-true.field-0 _ _ xs ys read c.in-Ok-true.field-0-test c.in-Ok-true.ensures.ok c.as_slice.ensures.value more)
+    c.loop-index.invariant c.check_line.ensures
 
-pub returns-in-Err-clause-accounts : goal.returns-in-Err-clause-accounts
-returns-in-Err-clause-accounts g c =
-    let is_answer = IsJudged (checker_linked c.args.checker.now) c.args.self.now.printing in
-    some_joined (IsAccount is_answer) _ _ _ c.loop-index.invariant.accounts (refused_some is_answer _ _ _ c.refuse_owned.ensures.told)
+pub returns-in-Ok-false : goal.returns-in-Ok-false
+returns-in-Ok-false g c =
+    so _ _ _ _ (λ xs read. all_read c.args.path.now _ _ _ c.loop-index.index c.in-Ok-false.field-0 _ xs read c.in-Ok-false.field-0-test c.in-Ok-false.ensures.ok) c.loop-index.invariant
+
+pub returns-in-Err : goal.returns-in-Err
+returns-in-Err g c =
+    go_on _ _ _ _ _ _ (λ xs ys read e. cut_off c.args.path.now _ _ c.loop-index.index xs ys read e) c.loop-index.invariant
+    (c.refuse_unread.ensures c.args.path.now (checker_linked c.loop-index.checker) c.in-Err.ensures.err)
+
+pub returns : goal.returns
+returns g c =
+    go_on _ _ _ _ _ _ (λ xs ys read e. cut_off c.args.path.now _ _ c.loop-index.index xs ys read e) c.loop-index.invariant
+    (c.refuse_unread-2.ensures c.args.path.now (checker_linked c.loop-index.checker) c.cannot_read.ensures)

@@ -1,14 +1,10 @@
-use Rattle.std.proofs.Common.{◌≡◌}
 use Rattle.file_checks.specs.FileSources.{checker_linked}
-use Rattle.file_forms.specs.Judged.{AreJudged}
-use Rattle.file_forms.specs.Tellings.{state_of}
+use Rattle.file_forms.specs.Stages.{GoesOver, stage_of}
+use Rattle.file_forms.proofs.ReadLines.{AreRead}
 use Rattle.file_forms.proofs.run.Run.check_each_line.Given as goal
 
 abbrev pub invariant-loop-index : goal.invariant-loop-index
-invariant-loop-index g l = record {
-  accounts : AreJudged (checker_linked l.fn.checker) l.fn.self.printing
-      (state_of (g.C.Console.printed l.fn.console) (g.C.Console.told l.fn.console) l.fn.self.tally)
-      (state_of (g.C.Console.printed l.console) (g.C.Console.told l.console) l.self.tally);
-  linked : checker_linked l.checker ≡ checker_linked l.fn.checker;
-  printing : l.self.printing ≡ l.fn.self.printing;
-}
+invariant-loop-index g l =
+    GoesOver (AreRead l.path (g.B.Read.remaining l.fn.reader) (g.B.Read.remaining l.reader) l.index)
+    (stage_of l.fn.self (checker_linked l.fn.checker) (g.C.Console.printed l.fn.console) (g.C.Console.told l.fn.console))
+    (stage_of l.self (checker_linked l.checker) (g.C.Console.printed l.console) (g.C.Console.told l.console))

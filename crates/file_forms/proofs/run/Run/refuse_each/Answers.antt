@@ -1,13 +1,20 @@
-use Rattle.std.proofs.Common.{◌∙◌, refl}
-use Rattle.file_forms.specs.Accounts.{IsRefused}
-use Rattle.file_forms.proofs.Accounted.{none_of, refused_alone, some_joined}
+use Rattle.std.proofs.Common.{map, refl}
+use Rattle.std.proofs.lemmas.List.{take_all}
+use Rattle.file_forms.specs.Subjects.{Are, unread}
+use Rattle.file_forms.proofs.Going.{along, go_on, stays, texts, unread_more}
 use Rattle.file_forms.proofs.run.Run.refuse_each.Goals as goal
 
-pub loop-trouble-init : goal.loop-trouble-init
-loop-trouble-init g c = record { accounts = none_of IsRefused _; printing = refl }
+pub loop-folder-init : goal.loop-folder-init
+loop-folder-init g c = λ linked. stays _ _ refl
 
-pub loop-trouble-preserved : goal.loop-trouble-preserved
-loop-trouble-preserved g c = record {
-  accounts = some_joined IsRefused _ _ _ c.loop-trouble.invariant.accounts (refused_alone _ _ _ c.refuse.ensures.told);
-  printing = c.refuse.ensures.printing ∙ c.loop-trouble.invariant.printing;
-}
+pub loop-folder-preserved : goal.loop-folder-preserved
+loop-folder-preserved g c = λ linked.
+    go_on _ _ _ _ _ _
+    (λ xs ys are more.
+    unread_more c.args.folders.now c.loop-folder.folder-index c.folder-item.result c.as_str.result.now xs ys c.loop-folder-test.true c.folder-item.is c.as_str.ensures.value are more)
+    (c.loop-folder.invariant linked)
+    (c.refuse_unread.ensures c.as_str.result.now linked c.cannot_read-trouble.ensures)
+
+pub returns : goal.returns
+returns g c = λ linked.
+    along (λ fs. Are (map unread (texts fs))) _ _ _ _ (take_all c.loop-folder.folder-index c.args.folders.now c.loop-folder-test.false) (c.loop-folder.invariant linked)

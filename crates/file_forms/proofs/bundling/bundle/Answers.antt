@@ -1,0 +1,19 @@
+use Rattle.std.proofs.Common.{◌∙◌}
+use Rattle.command_line.specs.Calls.{bundling_view}
+use Rattle.file_forms.proofs.Ended.{ends_bundled, ends_unlinked, ends_unrooted}
+use Rattle.file_forms.proofs.bundling.bundle.Goals as goal
+
+pub returns-in-Ok-Some : goal.returns-in-Ok-Some
+returns-in-Ok-Some g c =
+    ends_bundled (g.F.Folders.holds c.args.files.now) (g.F.Folders.lists c.args.files.now) (g.F.Folders.runs_in c.args.files.now) (g.F.Folders.has_written c.args.files.now)
+    (bundling_view c.args.bundling.now) c.in-Ok-Some.field-0 c.in-Ok-Some.linked _ _ _ _ _ c.in-Ok-Some.field-0-is c.in-Ok-Some.ensures.ok c.linked_schema.ensures.printed c.bundle_linked.ensures
+
+pub returns-in-Ok-None : goal.returns-in-Ok-None
+returns-in-Ok-None g c =
+    ends_unlinked (g.F.Folders.holds c.args.files.now) (g.F.Folders.lists c.args.files.now) (g.F.Folders.runs_in c.args.files.now) (g.F.Folders.has_written c.args.files.now)
+    (bundling_view c.args.bundling.now) c.in-Ok-None.field-0 _ _ _ _ c.in-Ok-None.field-0-is c.in-Ok-None.ensures.ok c.linked_schema.ensures.printed
+
+pub returns-in-Err : goal.returns-in-Err
+returns-in-Err g c =
+    ends_unrooted (g.F.Folders.holds c.args.files.now) (g.F.Folders.lists c.args.files.now) (g.F.Folders.runs_in c.args.files.now) (g.F.Folders.has_written c.args.files.now)
+    (bundling_view c.args.bundling.now) c.in-Err.trouble _ _ _ _ _ c.in-Err.ensures.err c.in-Err.ensures.untold (c.tell.ensures.printed ∙ c.linked_schema.ensures.printed) c.tell.ensures.told

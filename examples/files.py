@@ -73,6 +73,16 @@ def each_cause_is_told(program):
     )
 
 
+def a_folder_alone_is_checked(program):
+    with tempfile.TemporaryDirectory() as folder:
+        (Path(folder) / "schema.json").write_text('{"type":"string"}')
+        (Path(folder) / "in").mkdir()
+        (Path(folder) / "in" / "a.json").write_text('"a"')
+        (Path(folder) / "in" / "b.json").write_text('1')
+        wanted = 'in/b.json:1:1: (root): 1 is of another type than the schema allows\n    by /type\n    at urn:schemareg:root#/type\n'
+        return wrong((wanted, "1 valid, 1 invalid, 0 refused\n", 1), ended(program, ["check", "schema.json", "in"], folder=folder))
+
+
 def quiet_prints_only_what_is_wrong(program):
     return wrong(("", "", 0), ended(program, ["check", "--quiet", *ORDERS, "shop/orders/1-good.json"])) or wrong(
         (CURRENCY, "", 1), ended(program, ["check", "--quiet", *ORDERS, "shop/orders/1-good.json", "shop/orders/2-currency.json"])
@@ -264,6 +274,7 @@ def no_format_but_three(program):
 TRIALS = {
     "of several instances the wrong ones are told, by line and column": one_of_many_is_told,
     "a folder's instances are checked in the order of their paths, and each cause is told": each_cause_is_told,
+    "a folder with no other word is checked so, too": a_folder_alone_is_checked,
     "--quiet prints only what is wrong": quiet_prints_only_what_is_wrong,
     "--format json prints a line for each instance": json_has_a_line_for_each,
     "--format github prints annotations": github_has_annotations,

@@ -1,3 +1,4 @@
+mod Carried
 pub mod Mistakes
 pub mod Judged
 pub mod Listened

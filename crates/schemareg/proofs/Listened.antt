@@ -1,5 +1,5 @@
 -- How a call ends whose registries serve, whatever is read.
-use Rattle.std.proofs.Common.{◌≡◌, ℕ, List, true, Option, Some, Result, Ok, Err, ap, refl, subst, inl, inr, arith}
+use Rattle.std.proofs.Common.{◌≡◌, ℕ, List, [], true, Option, Some, Result, Ok, Err, ap, refl, inl, inr, arith}
 use Rattle.std.specs.Prelude.{Bool, IfOk}
 use Rattle.std.specs.List.{list_any}
 use Rattle.definitions.specs.Values.{Text}
@@ -80,5 +80,5 @@ pub stopped_service : (unreadable : Text → Bool) (start : Start) (address : Op
 stopped_service unreadable start address stop reading order = record { reading = reading; order = order; status = tt }
 
 -- ---- connections side by side
-pub served_so : (serves : Serving) (reads writes more others : List Moved) (r end : Result (Unit {0}) Outage) → r ≡ end → serves reads writes r more others → AreServedSo serves end
-served_so serves reads writes more others r end same h = (reads, writes, more, others, subst (λ e. serves reads writes e more others) same h)
+pub served_so : (serves : Serving) (reads writes more others : List Moved) (r end : Result (Unit {0}) Outage) → reads ≡ [] → writes ≡ [] → r ≡ end → serves reads writes r more others → AreServedSo serves end
+served_so serves reads writes more others r end none unwritten same h = (more, others, rw (none, unwritten, same) at h)

@@ -133,7 +133,7 @@ kept_on before finds fewer reads writes more others among x = record {
 -- where an opening found the registries alone
 found_so : {D : Type 0} (recovers : D → List Row → Type 0) (store : D) (ls : List KeyedRegistry) (end : Result (Unit {0}) Outage) → FindsThese recovers store ls
     → AreServedSo (ServesFound recovers store ls) end → AreServedSo (ServesKept recovers ls) end
-found_so recovers store ls end found x = (x.0, x.1, x.2, x.3, x.4 found)
+found_so recovers store ls end found x = (x.0, x.1, x.2 found)
 
 pub found_many : {D : Type 0} (recovers : D → List Row → Type 0) (store : D) (ls : List KeyedRegistry) (address : Text) (path : Option Text) (result : Result ℕ Stop)
     → FindsThese recovers store ls → EndsListening address path (AreServedSo (ServesFound recovers store ls)) result

@@ -106,12 +106,13 @@ abbrev pub EndsServing : Text → ℕ → Server → Result ℕ Stop → Type 0
 EndsServing address count server result = EndsStarted (λ ks r. EndsListening address None (ServeInTurn ks count) r) server result
 
 -- ---- connections side by side
--- what is read and written of them, up to this end
+-- what is read and written of them, from what was and up to this end
 abbrev pub Serving : Type 1
 Serving = List Moved → List Moved → Result (Unit {0}) Outage → List Moved → List Moved → Type 0
 
+-- .. where nothing was read or written yet
 abbrev pub AreServedSo : Serving → Result (Unit {0}) Outage → Type 0
-AreServedSo serves end = (reads : List Moved) × (writes : List Moved) × (more : List Moved) × (others : List Moved) × serves reads writes end more others
+AreServedSo serves end = (reads : List Moved) × (writes : List Moved) × serves [] [] end reads writes
 
 -- .. by these registries, each tenant as if it were alone
 abbrev pub ServesAlone : List KeyedRegistry → Serving

@@ -1,6 +1,7 @@
 //! The files that are read, and the file of a log.
-ghost use Rattle.std.specs.Prelude.{◌≡◌, Bool, false, Option, None, IfOk, IfErr, IfSome, OnOk};
+ghost use Rattle.std.specs.Prelude.{◌≡◌, Bool, true, false, Option, None, IfOk, IfErr, IfSome, OnOk};
 ghost use Rattle.definitions.specs.Values.{Text};
+ghost use Rattle.schemareg.specs.Folders.{may_be_folder};
 ghost use Rattle.schemareg.specs.Stops.{IsUnread};
 
 use crate::reading;
@@ -25,6 +26,11 @@ pub trait Texts {
             IfSome (text_at self.now path.now) (λ text. bytes.items ≡ text)) }
         ensures readable { OnOk result (is_unreadable self.now path.now ≡ false) }
         ensures err { IfErr result (IsUnread path.now) };
+
+    /// Whether a folder is at `path`.
+    fn is_folder(&self, path: &str) -> bool
+        ensures { result ≡ true
+            → may_be_folder (text_at self.now) (is_unreadable self.now) path.now ≡ true };
 }
 
 /// Files to whose ends is written, by their paths.
@@ -47,6 +53,10 @@ pub struct FileSystem<'r, R> {
 impl<R: Files> Texts for FileSystem<'_, R> {
     fn whole<'a>(&self, alloc: Global, path: &'a str) -> Result<Vec<u8>, Stop<'a>> {
         reading::file(alloc, self.rt, path)
+    }
+
+    fn is_folder(&self, path: &str) -> bool {
+        file_forms::is_folder(self.rt, path)
     }
 }
 

@@ -3,6 +3,7 @@
 
 mod checking;
 mod files;
+mod folders;
 mod forms;
 mod log;
 mod printing;

@@ -6,17 +6,19 @@ ghost use Rattle.command_line.specs.Calls.{Asked, Means, call_view, faults_of, s
 ghost use Rattle.command_line.specs.Forms.{Asks};
 ghost use Rattle.schemareg.specs.Answers.{EndsBy, EndsWith, OnCheck};
 ghost use Rattle.schemareg.specs.Endings.{EndsReading, EndsService, ReadsInOrder, address_of, files_in, is_service, names_of};
+ghost use Rattle.schemareg.specs.Folders.{CarriedOut, may_be_folder};
 ghost use Rattle.schemareg.specs.Services.{EndsRun, EndsServing, EndsServingMany, OnRun, OnStart, RunsWith};
 ghost use Rattle.schemareg.specs.Stops.{AreMistakes, IsFoundIn, StopsBy, is_error, status_of};
 ghost use Rattle.schemareg.specs.Stored.{EndsAsked, EndsStoredMany, EndsStoredRun, EndsStoredServing, RunsStoredWith};
 
 use crate::files::{FileSystem, Logs, Texts};
+use crate::folders::Named;
 use crate::forms::Forms;
 use crate::service::InTurn;
 use crate::side_by_side::Service;
 use crate::stop::Stop;
 use crate::stores::Stores;
-use crate::{checking, printing, reading, service, side_by_side, stored};
+use crate::{checking, folders, printing, reading, service, side_by_side, stored};
 use clap::error::ErrorKind;
 use command_line::{Call, Setup};
 use serving::{ByteReader, ByteWriter, Recorded};
@@ -76,7 +78,9 @@ where
     ensures alone { (call : Asked) → Means (map S.text words.now) call → exit_status result ≡ 0
         → EndsAsked F.Store.recovers (F.text_at files.now) call (Ok 0) }
     ensures unread { (call : Asked) → Means (map S.text words.now) call
-        → list_any (F.is_unreadable files.now) (files_in call) ≡ true → exit_status result ≡ 2 }
+        → CarriedOut (may_be_folder (F.text_at files.now) (F.is_unreadable files.now)) call
+        (λ c. list_any (F.is_unreadable files.now) (files_in c) ≡ true
+        → exit_status result ≡ 2) }
     ensures served { (call : Asked) → Means (map S.text words.now) call
         → is_service call ≡ true → (exit_status result ≡ 0) ⊎ (exit_status result ≡ 2) }
     ensures requests { (kind : ErrorKind) → Asks (map S.text words.now) kind
@@ -137,9 +141,11 @@ where
     ensures requests { (kind : ErrorKind) → Asks (map S.text words.now) kind
         → StopsBy kind result }
     ensures reading { (call : Asked) → Means (map S.text words.now) call
-        → EndsReading (names_of call) (address_of call) result }
+        → CarriedOut (may_be_folder (F.text_at files.now) (F.is_unreadable files.now)) call
+        (λ c. EndsReading (names_of c) (address_of c) result) }
     ensures order { (call : Asked) → Means (map S.text words.now) call
-        → ReadsInOrder (F.is_unreadable files.now) (files_in call) result }
+        → CarriedOut (may_be_folder (F.text_at files.now) (F.is_unreadable files.now)) call
+        (λ c. ReadsInOrder (F.is_unreadable files.now) (files_in c) result) }
     ensures found { IsFoundIn (faults_of (map S.text words.now)) result }
     ensures status { IfOk result (λ status. status ≤ 1) }
 {
@@ -168,10 +174,10 @@ where
         (λ path server. EndsStoredRun path F.Store.recovers server (I.reads input.old)
         (O.writes out.old) result (I.reads input.new) (O.writes out.new)) }
     ensures alone { EndsAsked F.Store.recovers (F.text_at files.now) (call_view call.entry) result }
-    ensures order { ReadsInOrder (F.is_unreadable files.now) (files_in (call_view call.entry))
-        result }
-    ensures reading { EndsReading (names_of (call_view call.entry))
-        (address_of (call_view call.entry)) result }
+    ensures order { CarriedOut (may_be_folder (F.text_at files.now) (F.is_unreadable files.now))
+        (call_view call.entry) (λ c. ReadsInOrder (F.is_unreadable files.now) (files_in c) result) }
+    ensures reading { CarriedOut (may_be_folder (F.text_at files.now) (F.is_unreadable files.now))
+        (call_view call.entry) (λ c. EndsReading (names_of c) (address_of c) result) }
     ensures served { is_service (call_view call.entry) ≡ true → IfOk result (λ status. status ≡ 0) }
 {
     match call {
@@ -180,7 +186,14 @@ where
             uri,
             schema,
             instance,
-        } => checking::check_files(alloc, files, uri, schema, instance, out),
+        } => {
+            let named = Named {
+                uri,
+                schema,
+                instance,
+            };
+            folders::check(alloc, files, named, input, out, errors)
+        }
         Call::CheckMany { checks } => files.check_many(&checks, input, out, errors),
         Call::Bundle { bundling } => files.bundle(&bundling, out, errors),
         Call::Scan { scanning } => files.scan(&scanning, out, errors),

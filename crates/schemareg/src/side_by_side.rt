@@ -1,10 +1,11 @@
 //! The form that serves connections side by side.
-ghost use Rattle.std.specs.Prelude.{◌≡◌, Some, IfErr, IfOk, is_some};
+ghost use Rattle.std.specs.Prelude.{◌≡◌, [], Some, IfErr, IfOk, is_some};
 ghost use Rattle.definitions.specs.Values.{Text};
 ghost use Rattle.command_line.specs.Calls.{setup_view};
 ghost use Rattle.schemareg.specs.Endings.{EndsListening, EndsService};
 ghost use Rattle.schemareg.specs.Services.{AreServedSo, EndsServingMany, OnServer, path_view};
 ghost use Rattle.schemareg.specs.Stops.{IsUnopened};
+ghost use Rattle.sockets.specs.Sockets.{reads_of, writes_of};
 
 use crate::files::{Logs, Texts};
 use crate::log::{Counts, Log, Watch, write_line};
@@ -71,13 +72,15 @@ fn open_log<'a, F: Logs>(files: &F, logging: Logging<'a>) -> Result<Option<F::Lo
     }
 }
 
-/// Sockets at the address.
+/// Sockets at the address, of which nothing is read or written yet.
 fn open_sockets<'a, 'r, N: Net + Clock>(
     alloc: Global,
     net: &'r N,
     service: Service<'a>,
 ) -> Result<Sockets<'r, N>, Stop<'a>>
-    ensures { IfErr result (IsUnopened service.entry.listen.now) }
+    ensures reads { IfOk result (λ sockets. reads_of sockets ≡ []) }
+    ensures writes { IfOk result (λ sockets. writes_of sockets ≡ []) }
+    ensures err { IfErr result (IsUnopened service.entry.listen.now) }
 {
     let count = match count_of(service.limits.connections) {
         Ok(count) => count,

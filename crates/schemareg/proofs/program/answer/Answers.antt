@@ -1,10 +1,12 @@
-use Rattle.std.proofs.Common.{◌∙◌, Ok, Err, map, subst, sym}
+use Rattle.std.proofs.Common.{◌≡◌, ◌∙◌, true, Ok, Err, map, subst, sym}
+use Rattle.std.specs.List.{list_any}
 use Rattle.std.specs.Process.{exit_status}
 use Rattle.command_line.specs.Calls.{faults_of}
 use Rattle.schemareg.specs.Answers.{EndsBy, EndsWith}
-use Rattle.schemareg.specs.Endings.{address_of, names_of}
+use Rattle.schemareg.specs.Endings.{EndsReading, ReadsInOrder, address_of, files_in, names_of}
 use Rattle.schemareg.specs.Services.{EndsRun, RunsWith}
 use Rattle.schemareg.specs.Stored.{EndsAsked, EndsStoredRun, RunsStoredWith}
+use Rattle.schemareg.proofs.Carried.{by_carried_out, carried_out}
 use Rattle.schemareg.proofs.Ended.{ended_with, on_checks, on_runs, run_ended, run_stopped, stopped_with, told_with}
 use Rattle.schemareg.proofs.EndedStored.{not_stopped, stored_ended, stored_stopped}
 use Rattle.schemareg.proofs.Mistakes.{mistaken}
@@ -42,8 +44,16 @@ returns-in-Ok-clause-alone g c = λ call m zero.
 
 pub returns-in-Err-clause-alone : goal.returns-in-Err-clause-alone
 returns-in-Err-clause-alone g c = λ call m zero.
-    not_stopped (names_of call) (address_of call) c.in-Err.stop (exit_status c.from-in-Err.result) _ (c.in-Err.ensures.reading call m)
-    (λ error. c.from-in-Err.ensures ∙ (c.explain.ensures.error error).0) zero
+    by_carried_out _ call (λ x. EndsReading (names_of x) (address_of x) (Err c.in-Err.stop)) _
+    (λ x reading. not_stopped (names_of x) (address_of x) c.in-Err.stop (exit_status c.from-in-Err.result) _ reading
+    (λ error. c.from-in-Err.ensures ∙ (c.explain.ensures.error error).0) zero)
+    (c.in-Err.ensures.reading call m)
+
+pub returns-in-Ok-clause-unread : goal.returns-in-Ok-clause-unread
+returns-in-Ok-clause-unread g c = λ call m.
+    let unreadable = g.F.Texts.is_unreadable c.args.files.now in
+    carried_out _ call (λ x. ReadsInOrder unreadable (files_in x) (Ok c.in-Ok.status))
+    (λ x. list_any unreadable (files_in x) ≡ true → exit_status c.from.result ≡ 2) (λ x h some. absurd (h some)) (c.in-Ok.ensures.order call m)
 
 pub returns-in-Err-clause-calls : goal.returns-in-Err-clause-calls
 returns-in-Err-clause-calls g c = λ call m.

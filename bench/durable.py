@@ -44,6 +44,19 @@ end
 {done}
 """
 
+SLOWER_BY = 1_000
+
+SLOW_SYNCS = """
+#include <sys/syscall.h>
+#include <unistd.h>
+
+static int slow(long call, int file) {{ usleep({slower_by}); return (int)syscall(call, file); }}
+
+int fsync(int file) {{ return slow(SYS_fsync, file); }}
+
+int fdatasync(int file) {{ return slow(SYS_fdatasync, file); }}
+"""
+
 SCHEMA = "CREATE TABLE document (tenant TEXT NOT NULL, uri TEXT NOT NULL, text TEXT NOT NULL, PRIMARY KEY (tenant, uri)) WITHOUT ROWID;"
 
 
@@ -81,6 +94,26 @@ def shell_rate(seconds):
         if took >= seconds:
             return count / took
         count *= 4
+
+
+@contextmanager
+def slow_syncs():
+    """What is started meanwhile takes a millisecond longer for each sync, as a disk does that has no memory of its own."""
+    with tempfile.TemporaryDirectory(prefix="schemareg-") as folder:
+        source, library = Path(folder) / "slow.c", Path(folder) / "slow.so"
+        source.write_text(SLOW_SYNCS.format(slower_by=SLOWER_BY))
+        subprocess.run(["cc", "-O2", "-shared", "-fPIC", "-D_GNU_SOURCE", "-o", library, source], check=True)
+        os.environ["LD_PRELOAD"] = str(library)
+        try:
+            yield
+        finally:
+            del os.environ["LD_PRELOAD"]
+
+
+def slow_puts_table(service):
+    needs("cc")
+    with slow_syncs():
+        return puts_table(service)
 
 
 def puts_table(service):
@@ -197,6 +230,7 @@ def size_table(service):
 
 DURABLE_TABLES = {
     "durable, puts": puts_table,
+    "durable, slow syncs": slow_puts_table,
     "durable, reads": reads_table,
     "durable, opening": opening_table,
     "durable, size": size_table,

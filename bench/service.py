@@ -22,6 +22,7 @@ where valgrind is installed. Each table is measured for at least S seconds a fig
         many, memory            resident memory before any connection, and by 1,000 idle ones
     durable ..  `serve --store`, on a disk of TMPDIR:
         durable, puts           puts of 1 KB by 1, 10, 50 and 200 connections, without a store, and by SQLite's shell
+        durable, slow syncs     the same where each sync takes a millisecond longer; needs cc
         durable, reads          validations by 49 connections beside one that puts, with a store and without
         durable, opening        10,000 documents of 2 KB: put by batches, and opened
         durable, size           the file of 100,000 documents of 1 KB

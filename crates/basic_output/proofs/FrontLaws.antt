@@ -4,7 +4,7 @@ use Rattle.std.proofs.Math.ListN.{get_or-append}
 use Rattle.std.proofs.Math.Nat.{eq-or-lt_of_le}
 use Rattle.std.proofs.Math.Seq.{drop-append_seam, get_or-append_seam, take-append_seam, take-length, take-suc}
 use Rattle.std.proofs.lemmas.List.{append_cancel_left, drop-map, drop_all, get_or-take, get_or_default, length-append, length-drop, length-map, length-take, map-append, take-append-drop, take-append-le, take-take}
-use Rattle.std.specs.Prelude.{if◌then◌else◌, IfSome, None, Option, Some}
+use Rattle.std.specs.Prelude.{if◌then◌else◌}
 use Rattle.std.specs.List.{list_all, slice_index}
 use Rattle.definitions.specs.Values.{Text}
 use Rattle.locations.specs.Steps.{token, tokens}
@@ -87,11 +87,6 @@ pushed_texts false {n} {t} {starts} {from} {xs} new more is are = subst (AreText
 pub cut_texts : {n : Notation} {t : Text} {starts : List ℕ} {from : ℕ} {xs : List Step} (ys : List Step) (j : ℕ) → ys ≡ take j xs → j ≤ length xs → length starts ≤ j → AreTexts n t starts from xs → AreTexts n t starts from ys
 cut_texts {n} {t} {starts} {from} {xs} ys j is less within are =
     moved n t starts from xs ys (omega (arith, within, less, ap length is, length-take j xs)) (ap (take (length starts)) is ∙ take-take (length starts) j xs within) are
-
--- what follows where a value is there of which both hold
-pub both_of : {X : Type 0} (o : Option X) {P Q R : X → Type 0} → IfSome o P → IfSome o Q → ((x : X) → P x → Q x → R x) → IfSome o R
-both_of None h g f = tt
-both_of (Some x) h g f = f x h g
 
 -- ---- fewer texts
 pub fewer_texts : (n : Notation) (t cut : Text) (starts left : List ℕ) (from : ℕ) (xs : List Step) (k start : ℕ) → k < length starts → start ≡ get_or starts k start → cut ≡ take start t → left ≡ take k starts

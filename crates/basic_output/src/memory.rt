@@ -34,6 +34,15 @@ impl PointerMemory {
             pointer: StepTexts::new(alloc),
         }
     }
+
+    /// That of a text, unless it is too large to be kept.
+    pub(crate) fn keeping(pointer: StepTexts) -> PointerMemory {
+        if is_kept(pointer.room()) {
+            PointerMemory { pointer }
+        } else {
+            PointerMemory::new(pointer.allocator())
+        }
+    }
 }
 
 /// The memory that the text of an origin is written in, to be kept for the next one: what a text of at most 1,048,576 bytes was
@@ -48,6 +57,15 @@ impl OriginMemory {
     pub fn new(alloc: Global) -> OriginMemory {
         OriginMemory {
             text: String::new(alloc),
+        }
+    }
+
+    /// That of a text, unless it is too large to be kept.
+    pub(crate) fn keeping(text: String) -> OriginMemory {
+        if is_kept(text.capacity()) {
+            OriginMemory { text }
+        } else {
+            OriginMemory::new(*text.allocator())
         }
     }
 }

@@ -8,7 +8,7 @@ ghost use Rattle.definitions.specs.Pointers.{fragment_text};
 ghost use Rattle.locations.specs.Steps.{tokens};
 ghost use Rattle.basic_output.specs.Pieces.{IsHead, head_text};
 
-use crate::memory::{OriginMemory, is_kept};
+use crate::memory::OriginMemory;
 use crate::unit_text::{TextBuffer, are_unescaped, push_escaped};
 use locations::{Step, push_fragment};
 use std::alloc::{AllocError, Global};
@@ -84,8 +84,8 @@ impl<'a> Origin<'a> {
     pub fn into_memory(self) -> OriginMemory {
         let Origin { steps, head, .. } = self;
         match head {
-            Some(text) if is_kept(text.capacity()) => OriginMemory { text },
-            _ => OriginMemory::new(*steps.allocator()),
+            Some(text) => OriginMemory::keeping(text),
+            None => OriginMemory::new(*steps.allocator()),
         }
     }
 

@@ -101,7 +101,7 @@ fn written(alloc: Global, notation: Notation, steps: &[Step<'_>]) -> Result<Step
     ensures { IfOk result (λ t. buffer_text t.text ≡ kept_text notation (tokens steps.now)) }
 {
     let mut texts = StepTexts::new(alloc);
-    texts.write(&mut String::new(alloc), notation, steps)?;
+    texts.write(notation, steps)?;
     Ok(texts)
 }
 

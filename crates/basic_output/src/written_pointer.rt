@@ -1,16 +1,14 @@
 //! A pointer that steps come to and go from, and its texts.
 #![tactic(auto, unfolding(crate::specs::PointerViews::pointer_view))]
 
-ghost use Rattle.std.specs.Prelude.{◌≡◌, ◌≤◌, ◌-◌, ◌∷◌, ◌++◌, [], List, true, drop, length, take, IfOk, IfSome};
-ghost use Rattle.std.proofs.Props.{props};
+ghost use Rattle.std.specs.Prelude.{◌≡◌, ◌-◌, ◌∷◌, ◌++◌, [], true, drop, length, take, IfSome};
 ghost use Rattle.locations.specs.Steps.{token, tokens};
-ghost use Rattle.locations.specs.declared.step.Step.{Step};
 ghost use Rattle.basic_output.specs.Buffers.{buffer_text};
 ghost use Rattle.basic_output.specs.Notations.{kept_text};
 ghost use Rattle.basic_output.specs.StepTexts.{AreStepTexts};
 ghost use Rattle.basic_output.specs.declared.unit_text.step_texts.Notation.TheVariants as notation;
 
-use crate::memory::{PointerMemory, is_kept};
+use crate::memory::PointerMemory;
 use crate::unit_text::{Notation, StepTexts};
 use locations::Step;
 use std::alloc::{AllocError, Global};
@@ -24,17 +22,14 @@ pub struct WrittenPointer<'a> {
     steps: Vec<Step<'a>>,
     // As a pointer.
     pointer: StepTexts,
-    // As a fragment, where some of its steps weren't plain. It stands apart, since few pointers have such steps, and all are moved.
-    fragment: Option<Box<StepTexts>>,
-    // Where a name is written first that isn't plain, whatever stands there.
-    memory: String,
+    // As a fragment, where some of its steps aren't plain.
+    fragment: StepTexts,
     ghost is_pointer: { AreStepTexts notation.Pointer pointer steps.items },
-    ghost is_fragment: { IfSome fragment
-        (λ f. AreStepTexts notation.Fragment f.value steps.items) } by { Prim.hlevel props },
+    ghost is_fragment: { AreStepTexts notation.Fragment fragment steps.items },
 }
 
 impl<'a> WrittenPointer<'a> {
-    ghost use Rattle.std.specs.Prelude.{if◌then◌else◌, is_ok};
+    ghost use Rattle.std.specs.Prelude.{◌≤◌, if◌then◌else◌, is_ok};
     ghost use Rattle.definitions.specs.Pointers.{Pointer};
     ghost use Rattle.definitions.specs.Values.{Text};
     ghost use Rattle.basic_output.specs.PointerViews.{onward_pointer, pointer_view};
@@ -56,20 +51,15 @@ impl<'a> WrittenPointer<'a> {
         WrittenPointer {
             steps: Vec::new(alloc),
             pointer,
-            fragment: None,
-            memory: String::new(alloc),
+            fragment: StepTexts::new(alloc),
         }
     }
 
     /// The memory that it was written in, for the next pointer. Where the text took more than 1,048,576 bytes, all of it is
     /// given back.
     pub fn into_memory(self) -> PointerMemory {
-        let WrittenPointer { steps, pointer, .. } = self;
-        if is_kept(pointer.room()) {
-            PointerMemory { pointer }
-        } else {
-            PointerMemory::new(*steps.allocator())
-        }
+        let WrittenPointer { pointer, .. } = self;
+        PointerMemory::keeping(pointer)
     }
 
     /// How many steps there are.
@@ -124,8 +114,7 @@ impl<'a> WrittenPointer<'a> {
         if self.is_written() {
             return Ok(());
         }
-        self.pointer
-            .write(&mut self.memory, Notation::Pointer, &self.steps)
+        self.pointer.write(Notation::Pointer, &self.steps)
     }
 
     /// The same, and the last steps, so many, as a fragment, where they aren't written in the same way there. The only error is
@@ -145,23 +134,20 @@ impl<'a> WrittenPointer<'a> {
     fn write_fragment(&mut self) -> Result<(), AllocError>
         ensures { pointer_view self.new ≡ pointer_view self.old }
     {
-        let alloc = *self.steps.allocator();
-        let mut fragment = fragment_in(alloc, self.fragment.take())?;
-        let written = fragment.write(&mut self.memory, Notation::Fragment, &self.steps);
-        self.fragment = Some(fragment);
-        written
+        if self.fragment.len() == self.steps.len() {
+            return Ok(());
+        }
+        self.fragment.write(Notation::Fragment, &self.steps)
     }
 
     // The texts of so many steps at most stay.
     fn unwrite(&mut self, len: usize)
         ensures steps { self.new.steps ≡ self.old.steps }
         ensures pointer { length self.new.pointer.starts.items ≤ len }
-        ensures fragment { IfSome self.new.fragment (λ f. length f.value.starts.items ≤ len) }
+        ensures fragment { length self.new.fragment.starts.items ≤ len }
     {
         self.pointer.truncate(len);
-        if let Some(fragment) = &mut self.fragment {
-            fragment.truncate(len);
-        }
+        self.fragment.truncate(len);
     }
 
     // How many steps lead to where the last ones begin, so many.
@@ -201,11 +187,9 @@ impl<'a> WrittenPointer<'a> {
     {
         let inward = self.inward(onward);
         if self.pointer.are_plain_from(inward) {
-            return self.pointer.behind(inward, self.steps.len());
-        }
-        match &self.fragment {
-            Some(fragment) => fragment.behind(inward, self.steps.len()),
-            None => None,
+            self.pointer.behind(inward, self.steps.len())
+        } else {
+            self.fragment.behind(inward, self.steps.len())
         }
     }
 
@@ -214,20 +198,5 @@ impl<'a> WrittenPointer<'a> {
         ensures { tokens result.now ≡ onward_pointer self.now onward }
     {
         &self.steps()[self.inward(onward)..]
-    }
-}
-
-// The texts as a fragment, or in a new box those of no steps. The only error is want of memory.
-fn fragment_in(
-    alloc: Global,
-    fragment: Option<Box<StepTexts>>,
-) -> Result<Box<StepTexts>, AllocError>
-    ensures { (ss : List Step)
-        → IfSome fragment (λ f. AreStepTexts notation.Fragment f.value ss)
-        → IfOk result (λ f. AreStepTexts notation.Fragment f.value ss) }
-{
-    match fragment {
-        Some(fragment) => Ok(fragment),
-        None => Ok(Box::new(alloc, StepTexts::new(alloc))?),
     }
 }

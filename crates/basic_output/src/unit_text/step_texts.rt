@@ -44,6 +44,8 @@ pub(crate) struct StepTexts {
     text: TextBuffer,
     // Where the text of each step starts.
     starts: Vec<usize>,
+    // Where a name is written first that isn't plain, whatever stands there.
+    memory: String,
     // From this step on all are plain: they are written in the same way in a pointer and in its fragment.
     plain_from: usize,
 }
@@ -58,6 +60,7 @@ impl StepTexts {
         StepTexts {
             text: TextBuffer::new(alloc),
             starts: Vec::new(alloc),
+            memory: String::new(alloc),
             plain_from: 0,
         }
     }
@@ -71,9 +74,14 @@ impl StepTexts {
         self.plain_from = 0;
     }
 
+    /// Where they take memory from.
+    pub(crate) fn allocator(&self) -> Global {
+        self.text.allocator()
+    }
+
     /// How many bytes there are in all.
     pub(crate) fn room(&self) -> usize {
-        self.text.room()
+        self.text.room().saturating_add(self.memory.capacity())
     }
 
     /// How many steps are written.
@@ -97,40 +105,34 @@ impl StepTexts {
         self.plain_from <= len
     }
 
-    /// Writes the steps that are missing. A name that isn't plain is written in the memory first, whatever that has in it. The only
-    /// error is want of memory, and then none is written.
+    /// Writes the steps that are missing. The only error is want of memory, and then none is written.
     #[inline(never)]
-    pub(crate) fn write(
-        &mut self,
-        memory: &mut String,
-        notation: Notation,
-        steps: &[Step<'_>],
-    ) -> Result<(), AllocError>
+    pub(crate) fn write(&mut self, notation: Notation, steps: &[Step<'_>]) -> Result<(), AllocError>
         requires { AreStepTexts notation self.old steps.now }
         ensures texts { AreStepTexts notation self.new steps.now }
         ensures all { OnOk result (length self.new.starts.items ≡ length steps.now) }
     {
         while self.starts.len() < steps.len() {
             let written = self.starts.len();
-            self.push(memory, notation, steps[written])?;
+            self.push(notation, steps[written])?;
         }
         Ok(())
     }
 
     // Writes one step more.
-    fn push(
-        &mut self,
-        memory: &mut String,
-        notation: Notation,
-        step: Step<'_>,
-    ) -> Result<(), AllocError>
+    fn push(&mut self, notation: Notation, step: Step<'_>) -> Result<(), AllocError>
         ensures texts { (ss : List Step) → length self.old.starts.items < length ss
             → step.entry ≡ get_or ss (length self.old.starts.items) step.entry
             → AreStepTexts notation self.old ss → AreStepTexts notation self.new ss }
         ensures one { OnOk result
             (length self.new.starts.items ≡ length self.old.starts.items + 1) }
     {
-        let StepTexts { text, starts, .. } = self;
+        let StepTexts {
+            text,
+            starts,
+            memory,
+            ..
+        } = self;
         match push_next(text, starts, memory, notation, step) {
             Ok(true) => Ok(()),
             Ok(false) => {

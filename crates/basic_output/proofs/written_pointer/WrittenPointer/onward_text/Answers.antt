@@ -1,9 +1,8 @@
-use Rattle.std.proofs.Common.{◌≡◌, IfSome, length, ap, subst, sym, ◌∙◌}
+use Rattle.std.proofs.Common.{◌≡◌, length, ap, ◌∙◌}
 use Rattle.std.proofs.lemmas.Option.{IfSome_then}
 use Rattle.basic_output.specs.Buffers.{buffer_text}
 use Rattle.basic_output.specs.Notations.{kept_text}
 use Rattle.basic_output.specs.PointerViews.{pointer_view}
-use Rattle.basic_output.specs.StepTexts.{AreStepTexts}
 use Rattle.basic_output.specs.declared.unit_text.step_texts.Notation.TheVariants as notation
 use Rattle.basic_output.proofs.FrontLaws.{plain_onward}
 use Rattle.basic_output.proofs.written_pointer.WrittenPointer.onward_text.Goals as goal
@@ -18,17 +17,9 @@ returns-then-are_plain_from c =
     ∙ plain_onward (buffer_text p.pointer.text) p.pointer.starts.items p.pointer.plain_from p.steps.items c.inward-inward.result p.is_pointer (is.0 ∙ count) (c.are_plain_from.ensures c.if-are_plain_from.true)
     ∙ ap (kept_text notation.Fragment) c.inward-inward.ensures.onward)
 
-pub behind-requires-in-Some : goal.behind-requires-in-Some
-behind-requires-in-Some c =
-    let p = c.args.self.now in
-    let ss = p.steps.items in
-    (notation.Fragment, (ss, subst (λ t. AreStepTexts notation.Fragment t ss) (sym c.deref.ensures) (subst (λ o. IfSome o (λ f. AreStepTexts notation.Fragment f.value ss)) c.in-Some.is p.is_fragment)))
-
-pub returns-in-Some : goal.returns-in-Some
+pub returns-else-are_plain_from : goal.returns-else-are_plain_from
 unfolding pointer_view
-returns-in-Some c =
+returns-else-are_plain_from c =
     let p = c.args.self.now in
-    let ss = p.steps.items in
-    let are : AreStepTexts notation.Fragment c.deref.result.now ss = subst (λ t. AreStepTexts notation.Fragment t ss) (sym c.deref.ensures) (subst (λ o. IfSome o (λ f. AreStepTexts notation.Fragment f.value ss)) c.in-Some.is p.is_fragment) in
-    let count : c.len-in-Some.result ≡ length ss = c.len-in-Some.ensures ∙ p.steps.ok.0 in
-    IfSome_then c.behind-in-Some.result c.behind-in-Some.ensures (λ t is. is.1 notation.Fragment ss are count ∙ ap (kept_text notation.Fragment) c.inward-inward.ensures.onward)
+    let count : c.len-else-are_plain_from.result ≡ length p.steps.items = c.len-else-are_plain_from.ensures ∙ p.steps.ok.0 in
+    IfSome_then c.behind-else-are_plain_from.result c.behind-else-are_plain_from.ensures (λ t is. is.1 notation.Fragment p.steps.items p.is_fragment count ∙ ap (kept_text notation.Fragment) c.inward-inward.ensures.onward)

@@ -1,5 +1,4 @@
 use Rattle.std.proofs.Common.{◌∷◌, [], is_ok}
-use Rattle.std.proofs.lemmas.Option.{IfSome_then}
 use Rattle.basic_output.proofs.FrontLaws.{pushed_texts}
 use Rattle.basic_output.proofs.written_pointer.WrittenPointer.push.Goals as goal
 
@@ -10,5 +9,5 @@ invariant_of-self c =
     let more = c.args.step ∷ [] in
     record {
       is_pointer = pushed_texts (is_ok c.push.result) new more c.push.ensures.items p.is_pointer;
-      is_fragment = IfSome_then p.fragment p.is_fragment (λ f are. pushed_texts (is_ok c.push.result) new more c.push.ensures.items are);
+      is_fragment = pushed_texts (is_ok c.push.result) new more c.push.ensures.items p.is_fragment;
     }

@@ -2,7 +2,7 @@ use Rattle.std.proofs.Common.{◌≤◌, length, take, sym, ap, ◌∙◌, arith
 use Rattle.std.proofs.lemmas.List.{take-map}
 use Rattle.locations.specs.Steps.{token, tokens}
 use Rattle.basic_output.specs.PointerViews.{pointer_view}
-use Rattle.basic_output.proofs.FrontLaws.{both_of, cut_texts}
+use Rattle.basic_output.proofs.FrontLaws.{cut_texts}
 use Rattle.basic_output.proofs.written_pointer.WrittenPointer.truncate.Goals as goal
 
 pub invariant_of-self : goal.invariant_of-self
@@ -13,7 +13,7 @@ invariant_of-self c =
     let is = c.truncate.ensures.items in
     record {
       is_pointer = cut_texts c.truncate.new.self.items j is within c.unwrite.ensures.pointer p.is_pointer;
-      is_fragment = both_of p.fragment c.unwrite.ensures.fragment p.is_fragment (λ f fewer are. cut_texts c.truncate.new.self.items j is within fewer are);
+      is_fragment = cut_texts c.truncate.new.self.items j is within c.unwrite.ensures.fragment p.is_fragment;
     }
 
 pub returns-then-len : goal.returns-then-len

@@ -5,3 +5,4 @@ mod Kept
 mod Changes
 mod Turns
 mod Among
+mod Steps

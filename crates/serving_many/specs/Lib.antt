@@ -3,4 +3,5 @@ pub mod Going
 pub mod Needed
 pub mod Present
 pub mod Rounds
+pub mod Steps
 pub mod Serving

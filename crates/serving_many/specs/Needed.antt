@@ -1,5 +1,5 @@
 -- Which connections stand open.
-use Rattle.std.specs.Prelude.{◌≡◌, ◌≢◌, ℕ, [], ◌∷◌, false, Option, Some, None}
+use Rattle.std.specs.Prelude.{◌≡◌, ℕ, [], ◌∷◌, false, Option, Some, None}
 use Rattle.definitions.specs.Values.{Text}
 use Rattle.http_definitions.specs.Connections.{Connection}
 use Rattle.connections.specs.Connected.{is_closed_at}
@@ -12,7 +12,3 @@ IsNeeded c (Some (b ∷ bytes)) = Unit {0}
 
 abbrev pub AllNeeded : (ℕ → Option Connection) → (ℕ → Option Text) → Type 0
 AllNeeded connection unsent = (k : ℕ) → IsNeeded (connection k) (unsent k)
-
--- each but this one
-abbrev pub AllNeededBut : ℕ → (ℕ → Option Connection) → (ℕ → Option Text) → Type 0
-AllNeededBut id connection unsent = (k : ℕ) → k ≢ id → IsNeeded (connection k) (unsent k)

@@ -16,10 +16,6 @@ client_of None = Absent
 abbrev pub AllPresent : (ℕ → Client) → (ℕ → Option Text) → Type 0
 AllPresent client unsent = (k : ℕ) → client k ≡ client_of (unsent k)
 
--- .. but for this one
-abbrev pub AllPresentBut : ℕ → (ℕ → Client) → (ℕ → Option Text) → Type 0
-AllPresentBut id client unsent = (k : ℕ) → k ≢ id → client k ≡ client_of (unsent k)
-
 -- .. but for the one that opens or is late
 abbrev pub ArePresentAt : Occasion → (ℕ → Client) → (ℕ → Option Text) → Type 0
 ArePresentAt occasion client unsent =

@@ -4,14 +4,13 @@ ghost use Rattle.std.specs.Prelude.{◌≡◌, ◌≢◌, ◌≤◌, ◌+◌, �
 ghost use Rattle.definitions.specs.Values.{Text};
 ghost use Rattle.connections.specs.Connected.{connection_at, is_closed_at};
 ghost use Rattle.network.specs.Traffic.{Moved};
-ghost use Rattle.network.specs.Outboxes.{unsent_at, memory_of, size_at, most_of, OthersStay};
-ghost use Rattle.network.specs.Readiness.{has_bytes, OthersDue};
-ghost use Rattle.serving_many.specs.Going.{Keeps, state_of};
-ghost use Rattle.serving_many.specs.Needed.{AllNeeded, AllNeededBut};
-ghost use Rattle.serving_many.specs.Present.{AllPresent};
+ghost use Rattle.network.specs.Outboxes.{unsent_at, memory_of, size_at, most_of};
+ghost use Rattle.network.specs.Readiness.{has_bytes};
+ghost use Rattle.serving_many.specs.Needed.{IsNeeded};
+ghost use Rattle.serving_many.specs.Present.{client_of};
+ghost use Rattle.serving_many.specs.Steps.{Step, StepFrom};
 
 use crate::ending::{cut_off, part_or_await};
-use crate::feeding::feed;
 use crate::observers::Observer;
 use connections::{Handler, Sessions};
 use network::{Fault, Network, Outbox};
@@ -26,17 +25,13 @@ fn has_reply<H: Handler, N: Network, O: Observer>(
     id: u64,
 ) -> bool
     requires { unsent_at outbox.old id ≢ None }
-    ensures kept { Keeps H.state H.finds H.answers
-        (state_of sessions.old outbox.old (N.reads network.old) (N.writes network.old))
-        (state_of sessions.new outbox.new (N.reads network.new) (N.writes network.new)) }
+    ensures step { Step H.Handler N.Network id
+        sessions.old outbox.old network.old sessions.new outbox.new network.new }
     ensures own { result ≡ false → (bytes : Text) → unsent_at outbox.new id ≡ Some bytes
         → N.due network.new (has_bytes bytes) id }
-    ensures stay { OthersStay id outbox.old outbox.new }
-    ensures due { OthersDue id (N.due network.old) (N.due network.new) }
-    ensures needed { AllNeededBut id (connection_at sessions.old) (unsent_at outbox.old)
-        → AllNeeded (connection_at sessions.new) (unsent_at outbox.new) }
-    ensures present { AllPresent (N.client network.old) (unsent_at outbox.old)
-        → AllPresent (N.client network.new) (unsent_at outbox.new) }
+    ensures needed { IsNeeded (connection_at sessions.new id) (unsent_at outbox.new id) }
+    ensures present { N.client network.old id ≡ client_of (unsent_at outbox.old id)
+        → N.client network.new id ≡ client_of (unsent_at outbox.new id) }
 {
     match outbox.unsent(id) {
         None => false,
@@ -59,22 +54,18 @@ fn answer_piece<H: Handler, N: Network, O: Observer>(
 ) -> bool
     requires silent { unsent_at outbox.old id ≡ Some [] }
     requires open { is_closed_at (connection_at sessions.old id) ≡ false }
-    ensures kept { (before : List Moved)
+    ensures step { (before : List Moved)
         → N.reads network.old ≡ before ++ ((id, piece.now) ∷ [])
-        → Keeps H.state H.finds H.answers
-        (state_of sessions.old outbox.old before (N.writes network.old))
-        (state_of sessions.new outbox.new (N.reads network.new) (N.writes network.new)) }
+        → StepFrom H.Handler N.Network id before
+        sessions.old outbox.old network.old sessions.new outbox.new network.new }
     ensures own { result ≡ false → (bytes : Text) → unsent_at outbox.new id ≡ Some bytes
         → N.due network.new (has_bytes bytes) id }
-    ensures stay { OthersStay id outbox.old outbox.new }
-    ensures due { OthersDue id (N.due network.old) (N.due network.new) }
-    ensures needed { AllNeededBut id (connection_at sessions.old) (unsent_at outbox.old)
-        → AllNeeded (connection_at sessions.new) (unsent_at outbox.new) }
-    ensures present { AllPresent (N.client network.old) (unsent_at outbox.old)
-        → AllPresent (N.client network.new) (unsent_at outbox.new) }
+    ensures needed { IsNeeded (connection_at sessions.new id) (unsent_at outbox.new id) }
+    ensures present { N.client network.old id ≡ client_of (unsent_at outbox.old id)
+        → N.client network.new id ≡ client_of (unsent_at outbox.new id) }
 {
     let mut out = outbox.lend(id);
-    match feed(sessions, outbox, network, id, piece, &mut out) {
+    match sessions.feed_into(outbox.alloc(), id, piece, &mut out) {
         Ok(()) => {
             outbox.fill(id, out.into_bytes(), sessions.held_len(id));
             has_reply(sessions, outbox, network, observer, id)
@@ -95,17 +86,13 @@ fn answer_end<H: Handler, N: Network, O: Observer>(
     id: u64,
 ) -> bool
     requires silent { unsent_at outbox.old id ≡ Some [] }
-    ensures kept { Keeps H.state H.finds H.answers
-        (state_of sessions.old outbox.old (N.reads network.old) (N.writes network.old))
-        (state_of sessions.new outbox.new (N.reads network.new) (N.writes network.new)) }
+    ensures step { Step H.Handler N.Network id
+        sessions.old outbox.old network.old sessions.new outbox.new network.new }
     ensures own { result ≡ false → (bytes : Text) → unsent_at outbox.new id ≡ Some bytes
         → N.due network.new (has_bytes bytes) id }
-    ensures stay { OthersStay id outbox.old outbox.new }
-    ensures due { OthersDue id (N.due network.old) (N.due network.new) }
-    ensures needed { AllNeededBut id (connection_at sessions.old) (unsent_at outbox.old)
-        → AllNeeded (connection_at sessions.new) (unsent_at outbox.new) }
-    ensures present { AllPresent (N.client network.old) (unsent_at outbox.old)
-        → AllPresent (N.client network.new) (unsent_at outbox.new) }
+    ensures needed { IsNeeded (connection_at sessions.new id) (unsent_at outbox.new id) }
+    ensures present { N.client network.old id ≡ client_of (unsent_at outbox.old id)
+        → N.client network.new id ≡ client_of (unsent_at outbox.new id) }
 {
     match sessions.end(outbox.alloc(), id) {
         Ok(words) => {
@@ -119,7 +106,8 @@ fn answer_end<H: Handler, N: Network, O: Observer>(
     }
 }
 
-/// Reads a piece of a connection that has nothing to be sent, and answers it. Whether something is to be sent.
+/// Reads a piece of a connection that has nothing to be sent, and answers it. Where that granted changes, it gives way.
+/// Whether something is to be sent.
 pub fn receive<H: Handler, N: Network, O: Observer>(
     sessions: &mut Sessions<H>,
     outbox: &mut Outbox,
@@ -131,22 +119,25 @@ pub fn receive<H: Handler, N: Network, O: Observer>(
     requires silent { unsent_at outbox.old id ≡ Some [] }
     requires open { is_closed_at (connection_at sessions.old id) ≡ false }
     requires room { memory_of outbox.old ≤ size_at outbox.old id + most_of outbox.old }
-    ensures kept { Keeps H.state H.finds H.answers
-        (state_of sessions.old outbox.old (N.reads network.old) (N.writes network.old))
-        (state_of sessions.new outbox.new (N.reads network.new) (N.writes network.new)) }
+    ensures step { Step H.Handler N.Network id
+        sessions.old outbox.old network.old sessions.new outbox.new network.new }
     ensures own { result ≡ false → (bytes : Text) → unsent_at outbox.new id ≡ Some bytes
         → N.due network.new (has_bytes bytes) id }
-    ensures stay { OthersStay id outbox.old outbox.new }
-    ensures due { OthersDue id (N.due network.old) (N.due network.new) }
-    ensures needed { AllNeededBut id (connection_at sessions.old) (unsent_at outbox.old)
-        → AllNeeded (connection_at sessions.new) (unsent_at outbox.new) }
-    ensures present { AllPresent (N.client network.old) (unsent_at outbox.old)
-        → AllPresent (N.client network.new) (unsent_at outbox.new) }
+    ensures needed { IsNeeded (connection_at sessions.new id) (unsent_at outbox.new id) }
+    ensures present { N.client network.old id ≡ client_of (unsent_at outbox.old id)
+        → N.client network.new id ≡ client_of (unsent_at outbox.new id) }
 {
     match network.read(id, buffer) {
         Ok(None) => false,
         Ok(Some(0)) => answer_end(sessions, outbox, network, observer, id),
-        Ok(Some(count)) => answer_piece(sessions, outbox, network, observer, id, &buffer[..count]),
+        Ok(Some(count)) => {
+            let changes = sessions.changes();
+            let replies = answer_piece(sessions, outbox, network, observer, id, &buffer[..count]);
+            if sessions.changes() != changes {
+                network.give_way(id);
+            }
+            replies
+        }
         Err(_) => {
             let fault = Some(Fault::ReadFailed);
             cut_off(sessions, outbox, network, observer, id, fault);

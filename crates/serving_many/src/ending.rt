@@ -3,15 +3,15 @@
 ghost use Rattle.std.specs.Prelude.{◌≡◌, [], false, Some, None};
 ghost use Rattle.definitions.specs.Values.{Text};
 ghost use Rattle.connections.specs.Connected.{handler_of, connection_at, is_closed_at};
-ghost use Rattle.network.specs.Outboxes.{unsent_at, OthersStay};
-ghost use Rattle.network.specs.Readiness.{has_bytes, OthersDue};
-ghost use Rattle.serving_many.specs.Going.{Keeps, state_of};
-ghost use Rattle.serving_many.specs.Needed.{AllNeeded, AllNeededBut};
-ghost use Rattle.serving_many.specs.Present.{AllPresent, AllPresentBut};
+ghost use Rattle.network.specs.Outboxes.{unsent_at};
+ghost use Rattle.network.specs.Readiness.{has_bytes};
+ghost use Rattle.serving_many.specs.Needed.{IsNeeded};
+ghost use Rattle.serving_many.specs.Present.{client_of};
+ghost use Rattle.serving_many.specs.Steps.{Step};
 
 use crate::observers::Observer;
 use connections::{Handler, Sessions};
-use network::{Fault, Network, Outbox};
+use network::{Client, Fault, Network, Outbox};
 
 /// Ends a connection at once: what it holds and what was still to be sent is dropped. One that isn't open is let be.
 pub fn cut_off<H: Handler, N: Network, O: Observer>(
@@ -22,18 +22,12 @@ pub fn cut_off<H: Handler, N: Network, O: Observer>(
     id: u64,
     fault: Option<Fault>,
 )
-    ensures kept { Keeps H.state H.finds H.answers
-        (state_of sessions.old outbox.old (N.reads network.old) (N.writes network.old))
-        (state_of sessions.new outbox.new (N.reads network.new) (N.writes network.new)) }
+    ensures step { Step H.Handler N.Network id
+        sessions.old outbox.old network.old sessions.new outbox.new network.new }
     ensures handler { handler_of sessions.new ≡ handler_of sessions.old }
     ensures gone { connection_at sessions.new id ≡ None }
     ensures none { unsent_at outbox.new id ≡ None }
-    ensures stay { OthersStay id outbox.old outbox.new }
-    ensures due { OthersDue id (N.due network.old) (N.due network.new) }
-    ensures needed { AllNeededBut id (connection_at sessions.old) (unsent_at outbox.old)
-        → AllNeeded (connection_at sessions.new) (unsent_at outbox.new) }
-    ensures present { AllPresentBut id (N.client network.old) (unsent_at outbox.old)
-        → AllPresent (N.client network.new) (unsent_at outbox.new) }
+    ensures client { N.client network.new id ≡ Client.Absent }
 {
     let was_open = outbox.end(id);
     let _ = sessions.end(outbox.alloc(), id);
@@ -53,20 +47,16 @@ pub fn part_or_await<H: Handler, N: Network, O: Observer>(
     id: u64,
 )
     requires { unsent_at outbox.old id ≡ Some [] }
-    ensures kept { Keeps H.state H.finds H.answers
-        (state_of sessions.old outbox.old (N.reads network.old) (N.writes network.old))
-        (state_of sessions.new outbox.new (N.reads network.new) (N.writes network.new)) }
+    ensures step { Step H.Handler N.Network id
+        sessions.old outbox.old network.old sessions.new outbox.new network.new }
     ensures handler { handler_of sessions.new ≡ handler_of sessions.old }
     ensures open { is_closed_at (connection_at sessions.old id) ≡ false
         → unsent_at outbox.new id ≡ Some [] }
     ensures own { (bytes : Text) → unsent_at outbox.new id ≡ Some bytes
         → N.due network.new (has_bytes bytes) id }
-    ensures stay { OthersStay id outbox.old outbox.new }
-    ensures due { OthersDue id (N.due network.old) (N.due network.new) }
-    ensures needed { AllNeededBut id (connection_at sessions.old) (unsent_at outbox.old)
-        → AllNeeded (connection_at sessions.new) (unsent_at outbox.new) }
-    ensures present { AllPresent (N.client network.old) (unsent_at outbox.old)
-        → AllPresent (N.client network.new) (unsent_at outbox.new) }
+    ensures needed { IsNeeded (connection_at sessions.new id) (unsent_at outbox.new id) }
+    ensures present { N.client network.old id ≡ client_of (unsent_at outbox.old id)
+        → N.client network.new id ≡ client_of (unsent_at outbox.new id) }
 {
     if sessions.is_closed(id) {
         cut_off(sessions, outbox, network, observer, id, None);

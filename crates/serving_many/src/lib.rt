@@ -3,7 +3,6 @@
 
 mod answering;
 mod ending;
-mod feeding;
 mod meeting;
 mod observers;
 mod sending;

@@ -3,12 +3,13 @@
 ghost use Rattle.std.specs.Prelude.{◌≡◌, ◌≢◌, ◌⊎◌, ℕ, Bool, Some, None, [], false};
 ghost use Rattle.definitions.specs.Values.{Text};
 ghost use Rattle.connections.specs.Connected.{connection_at, is_closed_at};
-ghost use Rattle.network.specs.Outboxes.{unsent_at, OthersStay};
-ghost use Rattle.network.specs.Readiness.{has_bytes, IsAmong, AllDue, OthersDue};
+ghost use Rattle.network.specs.Outboxes.{unsent_at};
+ghost use Rattle.network.specs.Readiness.{has_bytes, IsAmong, AllDue};
 ghost use Rattle.serving_many.specs.Rounds.{IsDueBut};
 ghost use Rattle.serving_many.specs.Going.{Keeps, state_of};
-ghost use Rattle.serving_many.specs.Needed.{AllNeeded, AllNeededBut};
-ghost use Rattle.serving_many.specs.Present.{AllPresent, AllPresentBut, ArePresentAt};
+ghost use Rattle.serving_many.specs.Needed.{IsNeeded, AllNeeded};
+ghost use Rattle.serving_many.specs.Present.{client_of, AllPresent, ArePresentAt};
+ghost use Rattle.serving_many.specs.Steps.{Step};
 
 use crate::answering::receive;
 use crate::ending::cut_off;
@@ -49,18 +50,13 @@ fn open<H: Handler, N: Network, O: Observer>(
     observer: &mut O,
     id: u64,
 )
-    ensures kept { Keeps H.state H.finds H.answers
-        (state_of sessions.old outbox.old (N.reads network.old) (N.writes network.old))
-        (state_of sessions.new outbox.new (N.reads network.new) (N.writes network.new)) }
+    ensures step { Step H.Handler N.Network id
+        sessions.old outbox.old network.old sessions.new outbox.new network.new }
     ensures own { ((d : Bool) → N.due network.old d id) → (bytes : Text)
         → unsent_at outbox.new id ≡ Some bytes → N.due network.new (has_bytes bytes) id }
-    ensures stay { OthersStay id outbox.old outbox.new }
-    ensures due { OthersDue id (N.due network.old) (N.due network.new) }
-    ensures needed { AllNeededBut id (connection_at sessions.old) (unsent_at outbox.old)
-        → AllNeeded (connection_at sessions.new) (unsent_at outbox.new) }
+    ensures needed { IsNeeded (connection_at sessions.new id) (unsent_at outbox.new id) }
     ensures present { N.client network.old id ≡ Client.Present
-        → AllPresentBut id (N.client network.old) (unsent_at outbox.old)
-        → AllPresent (N.client network.new) (unsent_at outbox.new) }
+        → N.client network.new id ≡ client_of (unsent_at outbox.new id) }
 {
     match outbox.open(id) {
         Err(fault) => cut_off(sessions, outbox, network, observer, id, Some(fault)),
@@ -94,17 +90,13 @@ fn go_on<H: Handler, N: Network, O: Observer>(
 ) -> bool
     requires silent { unsent_at outbox.old id ≡ Some [] }
     requires open { is_closed_at (connection_at sessions.old id) ≡ false }
-    ensures kept { Keeps H.state H.finds H.answers
-        (state_of sessions.old outbox.old (N.reads network.old) (N.writes network.old))
-        (state_of sessions.new outbox.new (N.reads network.new) (N.writes network.new)) }
+    ensures step { Step H.Handler N.Network id
+        sessions.old outbox.old network.old sessions.new outbox.new network.new }
     ensures own { result ≡ false → (bytes : Text) → unsent_at outbox.new id ≡ Some bytes
         → N.due network.new (has_bytes bytes) id }
-    ensures stay { OthersStay id outbox.old outbox.new }
-    ensures due { OthersDue id (N.due network.old) (N.due network.new) }
-    ensures needed { AllNeededBut id (connection_at sessions.old) (unsent_at outbox.old)
-        → AllNeeded (connection_at sessions.new) (unsent_at outbox.new) }
-    ensures present { AllPresent (N.client network.old) (unsent_at outbox.old)
-        → AllPresent (N.client network.new) (unsent_at outbox.new) }
+    ensures needed { IsNeeded (connection_at sessions.new id) (unsent_at outbox.new id) }
+    ensures present { N.client network.old id ≡ client_of (unsent_at outbox.old id)
+        → N.client network.new id ≡ client_of (unsent_at outbox.new id) }
 {
     if !outbox.may_grow(id) {
         network.later(id);
@@ -122,17 +114,14 @@ fn take_turn<H: Handler, N: Network, O: Observer>(
     id: u64,
     buffer: &mut [u8],
 ) -> bool
-    requires { AllNeeded (connection_at sessions.old) (unsent_at outbox.old) }
-    ensures kept { Keeps H.state H.finds H.answers
-        (state_of sessions.old outbox.old (N.reads network.old) (N.writes network.old))
-        (state_of sessions.new outbox.new (N.reads network.new) (N.writes network.new)) }
+    requires { IsNeeded (connection_at sessions.old id) (unsent_at outbox.old id) }
+    ensures step { Step H.Handler N.Network id
+        sessions.old outbox.old network.old sessions.new outbox.new network.new }
     ensures own { result ≡ false → (bytes : Text) → unsent_at outbox.new id ≡ Some bytes
         → N.due network.new (has_bytes bytes) id }
-    ensures stay { OthersStay id outbox.old outbox.new }
-    ensures due { OthersDue id (N.due network.old) (N.due network.new) }
-    ensures needed { AllNeeded (connection_at sessions.new) (unsent_at outbox.new) }
-    ensures present { AllPresent (N.client network.old) (unsent_at outbox.old)
-        → AllPresent (N.client network.new) (unsent_at outbox.new) }
+    ensures needed { IsNeeded (connection_at sessions.new id) (unsent_at outbox.new id) }
+    ensures present { N.client network.old id ≡ client_of (unsent_at outbox.old id)
+        → N.client network.new id ≡ client_of (unsent_at outbox.new id) }
 {
     match outbox.unsent(id) {
         None => false,
@@ -150,17 +139,14 @@ fn wait_for<H: Handler, N: Network, O: Observer>(
     waiting: &mut Vec<u64>,
     id: u64,
 )
-    ensures kept { Keeps H.state H.finds H.answers
-        (state_of sessions.old outbox.old (N.reads network.old) (N.writes network.old))
-        (state_of sessions.new outbox.new (N.reads network.new) (N.writes network.new)) }
+    ensures step { Step H.Handler N.Network id
+        sessions.old outbox.old network.old sessions.new outbox.new network.new }
     ensures noted { IsAmong id waiting.new.items ⊎ (unsent_at outbox.new id ≡ None) }
     ensures waiting { (k : ℕ) → IsAmong k waiting.old.items → IsAmong k waiting.new.items }
-    ensures stay { OthersStay id outbox.old outbox.new }
-    ensures due { OthersDue id (N.due network.old) (N.due network.new) }
-    ensures needed { AllNeeded (connection_at sessions.old) (unsent_at outbox.old)
-        → AllNeeded (connection_at sessions.new) (unsent_at outbox.new) }
-    ensures present { AllPresent (N.client network.old) (unsent_at outbox.old)
-        → AllPresent (N.client network.new) (unsent_at outbox.new) }
+    ensures needed { IsNeeded (connection_at sessions.old id) (unsent_at outbox.old id)
+        → IsNeeded (connection_at sessions.new id) (unsent_at outbox.new id) }
+    ensures present { N.client network.old id ≡ client_of (unsent_at outbox.old id)
+        → N.client network.new id ≡ client_of (unsent_at outbox.new id) }
 {
     match waiting.push(id) {
         Ok(()) => {}

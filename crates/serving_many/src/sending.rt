@@ -4,11 +4,12 @@ ghost use Rattle.std.specs.Prelude.{◌≡◌, ◌≢◌, [], true, Some, None, 
 ghost use Rattle.definitions.specs.Values.{Text};
 ghost use Rattle.connections.specs.Connected.{handler_of, connection_at};
 ghost use Rattle.connections.specs.Found.{FindsOnly};
-ghost use Rattle.network.specs.Outboxes.{unsent_at, OthersStay};
-ghost use Rattle.network.specs.Readiness.{has_bytes, AllDue, OthersDue};
+ghost use Rattle.network.specs.Outboxes.{unsent_at};
+ghost use Rattle.network.specs.Readiness.{has_bytes, AllDue};
 ghost use Rattle.serving_many.specs.Going.{Keeps, state_of};
-ghost use Rattle.serving_many.specs.Needed.{AllNeeded, AllNeededBut};
-ghost use Rattle.serving_many.specs.Present.{AllPresent};
+ghost use Rattle.serving_many.specs.Needed.{IsNeeded, AllNeeded};
+ghost use Rattle.serving_many.specs.Present.{client_of, AllPresent};
+ghost use Rattle.serving_many.specs.Steps.{Step};
 
 use crate::ending::{cut_off, part_or_await};
 use crate::observers::Observer;
@@ -25,20 +26,16 @@ fn await_turn<H: Handler, N: Network, O: Observer>(
     id: u64,
 )
     requires { unsent_at outbox.old id ≢ None }
-    ensures kept { Keeps H.state H.finds H.answers
-        (state_of sessions.old outbox.old (N.reads network.old) (N.writes network.old))
-        (state_of sessions.new outbox.new (N.reads network.new) (N.writes network.new)) }
+    ensures step { Step H.Handler N.Network id
+        sessions.old outbox.old network.old sessions.new outbox.new network.new }
     ensures handler { handler_of sessions.new ≡ handler_of sessions.old }
     ensures rest { (bytes : Text) → has_bytes bytes ≡ true
         → unsent_at outbox.old id ≡ Some bytes → unsent_at outbox.new id ≡ Some bytes }
     ensures own { (bytes : Text) → unsent_at outbox.new id ≡ Some bytes
         → N.due network.new (has_bytes bytes) id }
-    ensures stay { OthersStay id outbox.old outbox.new }
-    ensures due { OthersDue id (N.due network.old) (N.due network.new) }
-    ensures needed { AllNeededBut id (connection_at sessions.old) (unsent_at outbox.old)
-        → AllNeeded (connection_at sessions.new) (unsent_at outbox.new) }
-    ensures present { AllPresent (N.client network.old) (unsent_at outbox.old)
-        → AllPresent (N.client network.new) (unsent_at outbox.new) }
+    ensures needed { IsNeeded (connection_at sessions.new id) (unsent_at outbox.new id) }
+    ensures present { N.client network.old id ≡ client_of (unsent_at outbox.old id)
+        → N.client network.new id ≡ client_of (unsent_at outbox.new id) }
 {
     match outbox.unsent(id) {
         Some([]) => part_or_await(sessions, outbox, network, observer, id),
@@ -55,18 +52,15 @@ fn send<H: Handler, N: Network, O: Observer>(
     id: u64,
 )
     requires { FindsOnly H.finds (handler_of sessions.old) (H.state (handler_of sessions.old)) }
-    ensures kept { Keeps H.state H.finds H.answers
-        (state_of sessions.old outbox.old (N.reads network.old) (N.writes network.old))
-        (state_of sessions.new outbox.new (N.reads network.new) (N.writes network.new)) }
+    ensures step { Step H.Handler N.Network id
+        sessions.old outbox.old network.old sessions.new outbox.new network.new }
     ensures handler { handler_of sessions.new ≡ handler_of sessions.old }
     ensures own { (bytes : Text) → unsent_at outbox.new id ≡ Some bytes
         → N.due network.new (has_bytes bytes) id }
-    ensures stay { OthersStay id outbox.old outbox.new }
-    ensures due { OthersDue id (N.due network.old) (N.due network.new) }
-    ensures needed { AllNeeded (connection_at sessions.old) (unsent_at outbox.old)
-        → AllNeeded (connection_at sessions.new) (unsent_at outbox.new) }
-    ensures present { AllPresent (N.client network.old) (unsent_at outbox.old)
-        → AllPresent (N.client network.new) (unsent_at outbox.new) }
+    ensures needed { IsNeeded (connection_at sessions.old id) (unsent_at outbox.old id)
+        → IsNeeded (connection_at sessions.new id) (unsent_at outbox.new id) }
+    ensures present { N.client network.old id ≡ client_of (unsent_at outbox.old id)
+        → N.client network.new id ≡ client_of (unsent_at outbox.new id) }
 {
     let Some(bytes) = outbox.unsent(id) else {
         return;

@@ -8,6 +8,3 @@ returns-in-Ok-clause-noted g c = inl (subst (IsAmong c.args.id) (sym c.in-Ok.ens
 
 pub returns-in-Ok-clause-waiting : goal.returns-in-Ok-clause-waiting
 returns-in-Ok-clause-waiting g c k m = subst (IsAmong k) (sym c.in-Ok.ensures.items) (among_on k c.args.waiting.now.items (c.args.id ∷ []) m)
-
-pub returns-in-Err-clause-needed : goal.returns-in-Err-clause-needed
-returns-in-Err-clause-needed g c x = c.cut_off.ensures.needed (λ k ne. x k)

@@ -1,14 +1,15 @@
 -- What holds again once a connection that was taken out of the queue was seen to.
 use Rattle.std.specs.Prelude.{IfSome}
 use Rattle.std.proofs.Common.{◌≡◌, ◌≢◌, ℕ, Bool, true, false, not, Some, None, Option, option_map, refl, sym, ◌∙◌, ap, subst}
+use Rattle.sockets.specs.declared.rest.Rest.{Rest}
 use Rattle.sockets.specs.declared.socket.Socket.{Socket}
 use Rattle.sockets.specs.declared.supply.Supply.TheVariants.{Drained}
 use Rattle.sockets.specs.declared.table.Table.{Table}
 use Rattle.network.specs.Clients.{is_absent}
 use Rattle.network.specs.declared.clients.Client.{Client}
 use Rattle.network.specs.declared.clients.Client.TheVariants.{Absent, Present, Failed}
-use Rattle.sockets.specs.Socket.{client_in, is_open, is_due, is_queued, as_told, as_queued}
-use Rattle.sockets.specs.Table.{socket_at, OthersStay, client_at, IsDue, StaysDue, KeepsClients}
+use Rattle.sockets.specs.Socket.{client_in, is_open, is_due, is_queued, rest_in, with_rest, as_told, as_queued}
+use Rattle.sockets.specs.Table.{socket_at, OthersStay, OnlyRests, client_at, IsDue, StaysDue, KeepsClients}
 use Rattle.sockets.proofs.Queues.{same, same_is, apart_from_same}
 
 told_keeps_client : (o : Option Socket) → client_in (option_map as_told o) ≡ client_in o
@@ -53,6 +54,21 @@ queued_keeps t u id others queued k = by (same k id) refl
 pub queued_where_undrained : (o p : Option Socket) → p ≡ option_map as_queued o → IfSome o (λ s. s.status.supply ≢ Drained → is_queued p ≡ true)
 queued_where_undrained None p e = tt
 queued_where_undrained (Some s) p e = λ ne. ap is_queued e
+
+-- a connection of which another rest is known
+pub rests_only : (t u : Table) (id : ℕ) (r : Option Rest) → socket_at u id ≡ option_map (with_rest r) (socket_at t id) → OthersStay id t u → OnlyRests id t u
+rests_only t u id r own others = record {
+  own = ap (λ o. option_map (with_rest None) o) own ∙ again (socket_at t id);
+  others = others;
+}
+  where
+    again : (o : Option Socket) → option_map (with_rest None) (option_map (with_rest r) o) ≡ option_map (with_rest None) o
+    again None = refl
+    again (Some s) = refl
+
+pub no_rest : (o p : Option Socket) → p ≡ option_map (with_rest None) o → rest_in p ≡ None
+no_rest None p e = ap rest_in e
+no_rest (Some s) p e = ap rest_in e
 
 -- each client is as it was
 pub kept_again : (t u v : Table) (id : ℕ) → OthersStay id t u → socket_at u id ≡ option_map as_told (socket_at t id) → KeepsClients u v → KeepsClients t v

@@ -1,5 +1,6 @@
 pub mod Interruptions
 pub mod Numbers
+pub mod Rest
 pub mod Socket
 pub mod Sockets
 pub mod Table

@@ -3,6 +3,7 @@ use Rattle.std.specs.Prelude.{Bool, true, false, not, ◌||◌, Option, Some, No
 use Rattle.network.specs.Clients.{is_absent}
 use Rattle.network.specs.declared.clients.Client.{Client}
 use Rattle.network.specs.declared.clients.Client.TheVariants.{Absent}
+use Rattle.sockets.specs.declared.rest.Rest.{Rest}
 use Rattle.sockets.specs.declared.socket.Socket.{Socket}
 use Rattle.sockets.specs.declared.status.Status.{Status}
 
@@ -26,6 +27,16 @@ abbrev pub is_unqueued : Option Socket → Bool
 is_unqueued None = false
 is_unqueued (Some s) = not s.is_queued
 
+-- .. it gave way, and no write was tried since
+abbrev pub gives_way_in : Option Socket → Bool
+gives_way_in None = false
+gives_way_in (Some s) = s.status.gives_way
+
+-- .. and its rest
+abbrev pub rest_in : Option Socket → Option Rest
+rest_in None = None
+rest_in (Some s) = s.status.rest
+
 -- its last read, or (`true`) its last write, would have waited, and it wasn't told ready since; or it
 -- is put off
 abbrev pub waits : Bool → Status → Bool
@@ -42,6 +53,14 @@ is_due d (Some s) = s.is_queued || (is_absent s.status.client || waits d s.statu
 -- another thing is known of it
 abbrev pub with_status : Status → Socket → Socket
 with_status status s = record { stream = s.stream; status = status; is_queued = s.is_queued }
+
+-- it rests so, if it does
+abbrev pub with_rest : Option Rest → Socket → Socket
+with_rest rest s = record { stream = s.stream; status = record s.status { rest = rest }; is_queued = s.is_queued }
+
+-- it gives way
+abbrev pub as_giving_way : Socket → Socket
+as_giving_way s = record { stream = s.stream; status = record s.status { gives_way = true }; is_queued = s.is_queued }
 
 -- it is put into the queue
 abbrev pub as_queued : Socket → Socket

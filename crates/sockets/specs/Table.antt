@@ -1,11 +1,11 @@
 -- Sockets by their numbers.
-use Rattle.std.specs.Prelude.{◌≡◌, ◌≢◌, ℕ, Bool, true, Option, Some}
+use Rattle.std.specs.Prelude.{◌≡◌, ◌≢◌, ℕ, Bool, true, Option, Some, None, option_map}
 use Rattle.std.specs.BTreeMap.{get}
 use Rattle.std.specs.Ordering.{nat_cmp}
 use Rattle.network.specs.declared.clients.Client.{Client}
 use Rattle.sockets.specs.declared.socket.Socket.{Socket}
 use Rattle.sockets.specs.declared.table.Table.{Table}
-use Rattle.sockets.specs.Socket.{client_in, is_due}
+use Rattle.sockets.specs.Socket.{client_in, is_due, with_rest}
 
 abbrev pub socket_at : Table → ℕ → Option Socket
 socket_at t id = get nat_cmp t.sockets id
@@ -19,6 +19,12 @@ IsDue t d k = is_due d (socket_at t k) ≡ true
 
 abbrev pub OthersStay : ℕ → Table → Table → Type 0
 OthersStay id old new = (k : ℕ) → k ≢ id → socket_at new k ≡ socket_at old k
+
+-- another rest of this connection is known at most: its socket and all else that is known of it are as they were, and so
+-- is every other one
+pub record OnlyRests (id : ℕ) (old new : Table) : Type 0 where
+  pub own : option_map (with_rest None) (socket_at new id) ≡ option_map (with_rest None) (socket_at old id)
+  pub others : OthersStay id old new
 
 -- every client is as it was
 abbrev pub KeepsClients : Table → Table → Type 0

@@ -3,6 +3,7 @@
 ghost use Rattle.std.specs.Prelude.{◌≡◌};
 ghost use Rattle.sockets.specs.Table.{StaysDue, KeepsClients};
 
+use crate::rest::{Lull, Resting};
 use crate::sockets::{INPUT, LISTENER, QUIET, Sockets, TICK};
 use crate::table::Table;
 use mio::Events;
@@ -57,17 +58,28 @@ impl<C: Clock> Sockets<'_, C> {
 
     /// Whether some connections rest, and nobody else is ready.
     fn is_all_at_rest(&self) -> bool {
-        self.resting > 0 && self.table.queue_len() == self.resting && !self.may_come()
+        self.resting.count > 0 && self.table.queue_len() == self.resting.count && !self.may_come()
     }
 
     /// How long the system may let it wait.
     fn patience(&self) -> Duration {
-        if self.is_all_at_rest() && self.giving_way == 0 {
+        if self.is_all_at_rest() && self.resting.giving_way == 0 {
             Duration::from_millis(QUIET)
         } else if self.table.queue_len() > 0 || self.may_come() {
             Duration::from_millis(0)
         } else {
             Duration::from_millis(TICK)
+        }
+    }
+
+    /// Whether anybody else was ready, where all that were rested when the system was asked.
+    fn lull(&self, was_at_rest: bool) -> Lull {
+        if !was_at_rest || self.left != self.resting.count {
+            Lull::Busy
+        } else if self.resting.giving_way > 0 {
+            Lull::Idle
+        } else {
+            Lull::Quiet
         }
     }
 
@@ -88,10 +100,8 @@ impl<C: Clock> Sockets<'_, C> {
             self.listener = None;
         }
         self.left = self.table.queue_len();
-        self.is_idle = was_at_rest && self.left == self.resting;
-        self.is_quiet = self.is_idle && self.giving_way == 0;
-        self.resting = 0;
-        self.giving_way = 0;
+        self.lull = self.lull(was_at_rest);
+        self.resting = Resting::none();
         Ok(())
     }
 }

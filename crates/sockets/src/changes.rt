@@ -1,8 +1,8 @@
 //! What happens to the sockets of a table.
 
-ghost use Rattle.std.specs.Prelude.{◌≡◌, ◌≢◌, ℕ, Bool, true, false, IfSome};
+ghost use Rattle.std.specs.Prelude.{◌≡◌, ◌≢◌, ℕ, Bool, true, false, IfSome, option_map};
 ghost use Rattle.network.specs.Clients.{failed};
-ghost use Rattle.sockets.specs.Socket.{is_queued, is_open};
+ghost use Rattle.sockets.specs.Socket.{is_queued, is_open, with_rest, as_giving_way};
 ghost use Rattle.sockets.specs.Table.{socket_at, client_at, OthersStay, IsDue, StaysDue, KeepsClients};
 
 use crate::rest::Rest;
@@ -29,6 +29,7 @@ impl Table {
     /// Some was written on a connection, which may be idle until then. It isn't amid a request.
     pub(crate) fn was_written(&mut self, id: u64, until: Option<Instant>)
         ensures due { StaysDue self.old self.new }
+        ensures others { OthersStay id self.old self.new }
         ensures clients { KeepsClients self.old self.new }
         ensures count { self.new.count ≡ self.old.count }
     {
@@ -42,6 +43,7 @@ impl Table {
     /// A connection may be idle until then.
     pub(crate) fn renew(&mut self, id: u64, until: Option<Instant>)
         ensures due { StaysDue self.old self.new }
+        ensures others { OthersStay id self.old self.new }
         ensures clients { KeepsClients self.old self.new }
         ensures count { self.new.count ≡ self.old.count }
     {
@@ -58,27 +60,28 @@ impl Table {
 
     /// A connection gives way.
     pub(crate) fn give_way(&mut self, id: u64)
+        ensures own { socket_at self.new id ≡ option_map as_giving_way (socket_at self.old id) }
+        ensures others { OthersStay id self.old self.new }
         ensures due { StaysDue self.old self.new }
         ensures clients { KeepsClients self.old self.new }
         ensures count { self.new.count ≡ self.old.count }
     {
-        if let Some(status) = self.status(id) {
-            let gives_way = Status {
-                gives_way: true,
-                ..status
-            };
-            self.set(id, gives_way);
+        if let Some(socket) = self.sockets.get_mut(&id) {
+            socket.status.gives_way = true;
         }
     }
 
     /// A connection rests so from now on, if it does.
     pub(crate) fn set_rest(&mut self, id: u64, rest: Option<Rest>)
+        ensures own { socket_at self.new id
+            ≡ option_map (with_rest rest) (socket_at self.old id) }
+        ensures others { OthersStay id self.old self.new }
         ensures due { StaysDue self.old self.new }
         ensures clients { KeepsClients self.old self.new }
         ensures count { self.new.count ≡ self.old.count }
     {
-        if let Some(status) = self.status(id) {
-            self.set(id, Status { rest, ..status });
+        if let Some(socket) = self.sockets.get_mut(&id) {
+            socket.status.rest = rest;
         }
     }
 
@@ -102,6 +105,7 @@ impl Table {
     pub(crate) fn wait_to_write(&mut self, id: u64)
         ensures own { IsDue self.new true id }
         ensures due { StaysDue self.old self.new }
+        ensures others { OthersStay id self.old self.new }
         ensures clients { KeepsClients self.old self.new }
         ensures count { self.new.count ≡ self.old.count }
     {
@@ -132,6 +136,7 @@ impl Table {
     pub(crate) fn call(&mut self, id: u64)
         ensures own { (d : Bool) → IsDue self.new d id }
         ensures due { StaysDue self.old self.new }
+        ensures others { OthersStay id self.old self.new }
         ensures clients { KeepsClients self.old self.new }
         ensures count { self.new.count ≡ self.old.count }
     {

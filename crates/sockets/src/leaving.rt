@@ -58,6 +58,7 @@ impl<C: Clock> Sockets<'_, C> {
         requires unqueued { is_queued (socket_at self.old.table id) ≡ false }
         ensures moves { MovesNothing self.old self.new }
         ensures due { StaysDue self.old.table self.new.table }
+        ensures others { OthersStay id self.old.table self.new.table }
         ensures clients { KeepsClients self.old.table self.new.table }
         ensures count { self.new.table.count ≡ self.old.table.count }
     {
@@ -90,6 +91,7 @@ impl<C: Clock> Sockets<'_, C> {
         requires unqueued { is_queued (socket_at self.old.table id) ≡ false }
         ensures moves { MovesNothing self.old self.new }
         ensures due { StaysDue self.old.table self.new.table }
+        ensures others { OthersStay id self.old.table self.new.table }
         ensures clients { KeepsClients self.old.table self.new.table }
         ensures count { self.new.table.count ≡ self.old.table.count }
     {

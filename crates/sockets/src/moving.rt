@@ -1,11 +1,12 @@
 //! Bytes that are read and written on many connections.
 
-ghost use Rattle.std.specs.Prelude.{◌≡◌, ◌≢◌, ◌++◌, ◌∷◌, [], true, false, None, IfSome};
+ghost use Rattle.std.specs.Prelude.{◌≡◌, ◌≢◌, ◌≤◌, ◌++◌, ◌∷◌, [], true, false, None, Ok, IfOk, IfSome, length, option_map};
 ghost use Rattle.std.specs.Io.{ReadsAtMost, WritesAtMost};
 ghost use Rattle.network.specs.Readiness.{OthersDue};
+ghost use Rattle.network.specs.Traffic.{moved_of};
 ghost use Rattle.network.specs.Transcripts.{moves_of};
-ghost use Rattle.sockets.specs.Socket.{is_queued};
-ghost use Rattle.network.specs.Clients.{failed, AllAreSame};
+ghost use Rattle.sockets.specs.Socket.{is_queued, as_giving_way};
+ghost use Rattle.network.specs.Clients.{failed, client_behind, AllAreSame, OthersAreSame};
 ghost use Rattle.sockets.specs.Table.{socket_at, client_at, OthersStay, IsDue, StaysDue, KeepsClients};
 
 use crate::sockets::Sockets;
@@ -109,7 +110,20 @@ impl<C: Clock> Network for Sockets<'_, C> {
         }
     }
 
-    fn write(&mut self, id: u64, bytes: &[u8]) -> Result<Option<usize>, Broken> {
+    fn write(&mut self, id: u64, bytes: &[u8]) -> Result<Option<usize>, Broken>
+        ensures fits { IfOk result (λ n. IfSome n (λ count. count ≤ length bytes.now)) }
+        ensures told { moves_of self.new.writes
+            ≡ moves_of self.old.writes ++ moved_of id result bytes.now }
+        ensures reads { moves_of self.new.reads ≡ moves_of self.old.reads }
+        ensures waits { result ≡ Ok None → IsDue self.new.table true id }
+        ensures others { OthersDue id
+            (λ d k. IsDue self.old.table d k) (λ d k. IsDue self.new.table d k) }
+        ensures client { client_at self.new.table id
+            ≡ client_behind result (client_at self.old.table id) }
+        ensures clients { OthersAreSame id
+            (λ k. client_at self.old.table k) (λ k. client_at self.new.table k) }
+        ensures stay { OthersStay id self.old.table self.new.table }
+    {
         match self.write_some(id, bytes) {
             Ok(0) => Err(self.fail(id)),
             Ok(count) => {
@@ -150,7 +164,16 @@ impl<C: Clock> Network for Sockets<'_, C> {
         self.table.put_off(id);
     }
 
-    fn give_way(&mut self, id: u64) {
+    fn give_way(&mut self, id: u64)
+        ensures reads { moves_of self.new.reads ≡ moves_of self.old.reads }
+        ensures writes { moves_of self.new.writes ≡ moves_of self.old.writes }
+        ensures due { StaysDue self.old.table self.new.table }
+        ensures clients { AllAreSame
+            (λ k. client_at self.old.table k) (λ k. client_at self.new.table k) }
+        ensures own { socket_at self.new.table id
+            ≡ option_map as_giving_way (socket_at self.old.table id) }
+        ensures stay { OthersStay id self.old.table self.new.table }
+    {
         self.is_long = true;
         self.table.give_way(id);
     }

@@ -3,6 +3,7 @@
 ghost use Rattle.std.specs.Prelude.{◌≡◌, [], IfOk};
 
 use crate::limits::Limits;
+use crate::rest::{Lull, Resting};
 use crate::table::Table;
 use crate::turns::Turn;
 use mio::net::TcpListener;
@@ -43,13 +44,8 @@ pub struct Sockets<'r, C> {
     /// How many of the queue are told before the system is asked again.
     pub(crate) left: usize,
     /// How many of the queue rest, of those that were looked at since the system was asked.
-    pub(crate) resting: usize,
-    /// How many of these gave way.
-    pub(crate) giving_way: usize,
-    /// While some rested, nobody else was ready.
-    pub(crate) is_idle: bool,
-    /// While some rested, nobody else was ready for as long as the system was asked to wait for.
-    pub(crate) is_quiet: bool,
+    pub(crate) resting: Resting,
+    pub(crate) lull: Lull,
     /// How often a connection took a turn behind another's.
     pub(crate) changes: u64,
     pub(crate) turn: Turn,
@@ -104,10 +100,8 @@ impl<'r, C: Clock + Net> Sockets<'r, C> {
             events: Events::with_capacity(alloc, MOST_EVENTS)?,
             table: Table::new(alloc),
             left: 0,
-            resting: 0,
-            giving_way: 0,
-            is_idle: false,
-            is_quiet: false,
+            resting: Resting::none(),
+            lull: Lull::Busy,
             changes: 0,
             turn: Turn {
                 id: LISTENER,

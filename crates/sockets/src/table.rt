@@ -6,7 +6,7 @@ ghost use Rattle.std.specs.Ordering.{nat_cmp, eq_by_cmp};
 ghost use Rattle.std.specs.BTreeMap.{get, btree_map_len};
 ghost use Rattle.std.specs.VecDeque.{deque_capacity};
 ghost use Rattle.std.proofs.Props.{props};
-ghost use Rattle.sockets.specs.Socket.{is_queued, is_open, is_unqueued, with_status, as_queued, as_told};
+ghost use Rattle.sockets.specs.Socket.{is_queued, is_open, is_unqueued, gives_way_in, with_status, as_queued, as_told};
 
 use crate::socket::Socket;
 use crate::status::Status;
@@ -95,7 +95,9 @@ impl Table {
     }
 
     /// Whether a connection gave way, and no write was tried since.
-    pub(crate) fn gives_way(&self, id: u64) -> bool {
+    pub(crate) fn gives_way(&self, id: u64) -> bool
+        ensures { result ≡ gives_way_in (socket_at self.now id) }
+    {
         match self.sockets.get(&id) {
             Some(socket) => socket.status.gives_way,
             None => false,

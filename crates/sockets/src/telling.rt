@@ -3,7 +3,7 @@
 ghost use Rattle.std.specs.Prelude.{◌≡◌, ◌≢◌, ℕ, Bool, true, false, Some, IfSome};
 ghost use Rattle.sockets.specs.Socket.{is_queued};
 ghost use Rattle.network.specs.Clients.{failed};
-ghost use Rattle.sockets.specs.Table.{socket_at, client_at, IsDue, StaysDue, StaysDueBut, KeepsClients, KeepsClientsBut};
+ghost use Rattle.sockets.specs.Table.{socket_at, client_at, OthersStay, IsDue, StaysDue, StaysDueBut, KeepsClients, KeepsClientsBut};
 
 use crate::sockets::{Sockets, TICK};
 use network::{Client, Occasion};
@@ -53,6 +53,8 @@ impl<C: Clock> Sockets<'_, C> {
         requires { is_queued (socket_at self.old.table id) ≡ false }
         ensures moves { MovesNothing self.old self.new }
         ensures own { result ≡ false → (d : Bool) → IsDue self.new.table d id }
+        ensures turn { result ≡ true → self.new.turn.id ≡ id }
+        ensures others { OthersStay id self.old.table self.new.table }
         ensures due { StaysDue self.old.table self.new.table }
         ensures clients { KeepsClients self.old.table self.new.table }
         ensures count { self.new.table.count ≡ self.old.table.count }
@@ -76,6 +78,7 @@ impl<C: Clock> Sockets<'_, C> {
     fn ready(&mut self) -> Option<u64>
         ensures moves { MovesNothing self.old self.new }
         ensures due { StaysDueBut result self.old.table self.new.table }
+        ensures turn { IfSome result (λ id. self.new.turn.id ≡ id) }
         ensures clients { KeepsClients self.old.table self.new.table }
         ensures count { self.new.table.count ≡ self.old.table.count }
     {

@@ -1,12 +1,13 @@
 //! The turns of connections, and which of them rest.
 
-ghost use Rattle.std.specs.Prelude.{◌≡◌, Bool};
-ghost use Rattle.sockets.specs.Table.{IsDue, StaysDue, KeepsClients};
+ghost use Rattle.std.specs.Prelude.{◌≡◌, ◌||◌, Bool, true, false, Some, None, IfSome, is_some};
+ghost use Rattle.sockets.specs.Socket.{gives_way_in, rest_in};
+ghost use Rattle.sockets.specs.Table.{socket_at, OthersStay, OnlyRests, IsDue, StaysDue, KeepsClients};
 
-use crate::rest::{Rest, rest_behind, rest_behind_end};
+use crate::rest::Rest;
 use crate::sockets::Sockets;
 use crate::status::Status;
-use std::time::{Clock, Duration, Instant};
+use std::time::{Clock, Instant};
 
 /// The last turn of a connection that was told ready.
 #[derive(Clone, Copy, Debug)]
@@ -23,6 +24,7 @@ impl<C: Clock> Sockets<'_, C> {
     pub(crate) fn begin_turn(&mut self, id: u64, is_amid: bool)
         ensures moves { MovesNothing self.old self.new }
         ensures table { self.new.table ≡ self.old.table }
+        ensures turn { self.new.turn.id ≡ id }
     {
         if self.turn.id != id {
             self.changes = self.changes.wrapping_add(1);
@@ -35,26 +37,12 @@ impl<C: Clock> Sockets<'_, C> {
         self.turn = Turn { id, start };
     }
 
-    /// A connection rests for so long from now on.
-    fn rest(&mut self, id: u64, now: Instant, time: Duration, gives_way: bool)
-        ensures moves { MovesNothing self.old self.new }
-        ensures due { StaysDue self.old.table self.new.table }
-        ensures clients { KeepsClients self.old.table self.new.table }
-        ensures count { self.new.table.count ≡ self.old.table.count }
-    {
-        if let Some(until) = now.checked_add(time) {
-            let rest = Rest {
-                until,
-                changes: self.changes,
-                gives_way,
-            };
-            self.table.set_rest(id, Some(rest));
-        }
-    }
-
     /// Ends the turn that goes on, if one does. Where it took long, its connection rests from now on.
+    #[tactic(auto, using(crate::proofs::Taken::rests_only))]
     pub(crate) fn end_turn(&mut self)
         ensures moves { MovesNothing self.old self.new }
+        ensures rests { OnlyRests self.old.turn.id self.old.table self.new.table }
+        ensures none { self.old.turn.start ≡ None → self.new.table ≡ self.old.table }
         ensures due { StaysDue self.old.table self.new.table }
         ensures clients { KeepsClients self.old.table self.new.table }
         ensures count { self.new.table.count ≡ self.old.table.count }
@@ -65,10 +53,10 @@ impl<C: Clock> Sockets<'_, C> {
         let Ok(now) = Instant::now(self.clock) else {
             return;
         };
-        let Some(rest) = rest_behind(now.duration_since(start)) else {
-            return;
-        };
-        self.rest(self.turn.id, now, rest, false);
+        let took = now.duration_since(start);
+        if let Some(rest) = Rest::behind_turn(now, took, self.changes) {
+            self.table.set_rest(self.turn.id, Some(rest));
+        }
     }
 
     /// The end of a round begins. Its time is taken only where a connection gave way.
@@ -85,8 +73,12 @@ impl<C: Clock> Sockets<'_, C> {
     }
 
     /// A connection is written to: where it gave way, it rests from now on.
+    #[tactic(auto, using(crate::proofs::Taken::rests_only))]
     pub(crate) fn rest_behind_end(&mut self, id: u64)
         ensures moves { MovesNothing self.old self.new }
+        ensures rests { OnlyRests id self.old.table self.new.table }
+        ensures none { gives_way_in (socket_at self.old.table id) ≡ false
+            → self.new.table ≡ self.old.table }
         ensures due { StaysDue self.old.table self.new.table }
         ensures clients { KeepsClients self.old.table self.new.table }
         ensures count { self.new.table.count ≡ self.old.table.count }
@@ -100,42 +92,29 @@ impl<C: Clock> Sockets<'_, C> {
         let Ok(now) = Instant::now(self.clock) else {
             return;
         };
-        let rest = rest_behind_end(now.duration_since(start));
-        self.rest(id, now, rest, true);
-    }
-
-    /// Whether a rest goes on: its time isn't over, others had a turn since, and they ask on.
-    fn goes_on(&self, rest: Rest) -> bool {
-        let is_alone = if rest.gives_way {
-            self.is_idle
-        } else {
-            self.is_quiet
-        };
-        self.now < rest.until && self.changes != rest.changes && !is_alone
-    }
-
-    /// Counts one that rests on.
-    fn note_rest(&mut self, rest: Rest)
-        ensures moves { MovesNothing self.old self.new }
-        ensures table { self.new.table ≡ self.old.table }
-    {
-        self.resting = self.resting.saturating_add(1);
-        if rest.gives_way {
-            self.giving_way = self.giving_way.saturating_add(1);
+        let took = now.duration_since(start);
+        if let Some(rest) = Rest::behind_end(now, took, self.changes) {
+            self.table.set_rest(id, Some(rest));
         }
     }
 
     /// Whether a connection that was taken out of the queue rests on, which is counted then. A rest that doesn't go on is over.
+    #[tactic(auto, using(crate::proofs::Taken::rests_only, crate::proofs::Taken::no_rest))]
     pub(crate) fn is_resting(&mut self, id: u64, status: &Status) -> bool
         ensures moves { MovesNothing self.old self.new }
+        ensures rests { OnlyRests id self.old.table self.new.table }
+        ensures on { result ≡ true → is_some status.now.rest ≡ true }
+        ensures over { result ≡ false → IfSome status.now.rest (λ rest.
+            (status.now.is_amid || rest.gives_way) ≡ true
+            → rest_in (socket_at self.new.table id) ≡ None) }
         ensures due { StaysDue self.old.table self.new.table }
         ensures clients { KeepsClients self.old.table self.new.table }
         ensures count { self.new.table.count ≡ self.old.table.count }
     {
         match status.rest {
             Some(rest) if status.is_amid || rest.gives_way => {
-                if self.goes_on(rest) {
-                    self.note_rest(rest);
+                if rest.goes_on(self.now, self.changes, self.lull) {
+                    self.resting.note(rest);
                     return true;
                 }
                 self.table.set_rest(id, None);
@@ -149,6 +128,7 @@ impl<C: Clock> Sockets<'_, C> {
     pub(crate) fn put_back(&mut self, id: u64)
         ensures own { (d : Bool) → IsDue self.new.table d id }
         ensures moves { MovesNothing self.old self.new }
+        ensures others { OthersStay id self.old.table self.new.table }
         ensures due { StaysDue self.old.table self.new.table }
         ensures clients { KeepsClients self.old.table self.new.table }
         ensures count { self.new.table.count ≡ self.old.table.count }

@@ -59,6 +59,60 @@ const APART: &[(&str, &str, &str)] = &[
     ("k1", "bundle https://ex.org/t", "14 NotFound"),
 ];
 
+// A validation sees each change of what its schema reaches, and none of another tenant's.
+const CHANGES: &[(&str, &str, &str)] = &[
+    (
+        "k1",
+        r#"put https://ex.org/s {"$ref":"t"}"#,
+        "stored https://ex.org/s",
+    ),
+    (
+        "k1",
+        r#"put https://ex.org/t {"type":"integer"}"#,
+        "stored https://ex.org/t",
+    ),
+    ("k1", "validate https://ex.org/s 5", VALID),
+    ("k1", "validate https://ex.org/s 5", VALID),
+    (
+        "k2",
+        r#"put https://ex.org/t {"$ref":"u"}"#,
+        "stored https://ex.org/t",
+    ),
+    ("k1", "validate https://ex.org/s 5", VALID),
+    (
+        "k1",
+        r#"put https://ex.org/t {"$ref":"u"}"#,
+        "replaced https://ex.org/t",
+    ),
+    (
+        "k1",
+        "validate https://ex.org/s 5",
+        "15 Unresolved https://ex.org/u",
+    ),
+    (
+        "k1",
+        r#"put https://ex.org/u {"type":"integer"}"#,
+        "stored https://ex.org/u",
+    ),
+    ("k1", "validate https://ex.org/s 5", VALID),
+    ("k2", "delete https://ex.org/t", "deleted https://ex.org/t"),
+    ("k1", "validate https://ex.org/s 5", VALID),
+    ("k1", "delete https://ex.org/t", "deleted https://ex.org/t"),
+    (
+        "k1",
+        "validate https://ex.org/s 5",
+        "15 Unresolved https://ex.org/t",
+    ),
+    (
+        "k1",
+        r#"put https://ex.org/t {"type":"integer"}"#,
+        "stored https://ex.org/t",
+    ),
+    ("k1", "validate https://ex.org/s 5", VALID),
+    ("k1", "put https://ex.org/t [1", "1 BadJson"),
+    ("k1", "validate https://ex.org/s 5", VALID),
+];
+
 const TALKS: &[Talk] = &[
     (
         "one uri means each tenant's own document",
@@ -73,6 +127,13 @@ const TALKS: &[Talk] = &[
         None,
         &[256],
         APART,
+    ),
+    (
+        "a validation sees each change of what it reaches",
+        TWO_TENANTS,
+        None,
+        &[1, 2, 4096],
+        CHANGES,
     ),
     ("no calls have no replies", TWO_TENANTS, None, &[256], &[]),
 ];

@@ -6,8 +6,8 @@ mod KeptRegistries
 mod SentTexts
 mod ServedBundles
 mod Refusals
-mod SecondAnswers
 mod LinkedReplies
+mod KeptLinks
 mod NamedDocuments
 mod ValidationReplies
 mod BundleReplies

@@ -1,5 +1,5 @@
 -- The position of a tenant's registry, and what is answered there.
-use Rattle.std.proofs.Common.{◌≡◌, ℕ, suc, ◌+◌, ◌<◌, List, [], ◌∷◌, length, Bool, true, false, cond, Option, Some, None, is_some, refl, sym, ap, ◌∙◌, inl, inr, arith, set, get_or, subst, map, string_bytes}
+use Rattle.std.proofs.Common.{◌≡◌, ℕ, zero, suc, ◌+◌, ◌<◌, List, [], ◌∷◌, length, Bool, true, false, cond, Option, Some, None, is_some, refl, sym, ap, ◌∙◌, inl, inr, arith, set, get_or, subst, map, string_bytes}
 use Rattle.std.specs.Prelude.{MatchOption}
 use Rattle.definitions.specs.Faults.{unknown_tenant}
 use Rattle.definitions.specs.Patterns.{regular_search}
@@ -113,3 +113,15 @@ module _ (ks ls : List meaning.KeyedRegistry) (key : Text) (q : Request) (r : Re
   pub refused_stay : IsCallAnswer regular_search ks (key, q) r ls → IsRefused r → ls ≡ ks
   refused_stay (inl s) is = stays_by (registry_of ks key) refl s.0 s.1 is
   refused_stay (inr s) is = s.2
+
+-- asked once more, where nothing that is seen was changed in between
+pub answered_again : (ks ms ns ls : List meaning.KeyedRegistry) (key : Text) (q : Request) (first r : Reply) → IsRefused first
+    → IsCallAnswer regular_search ks (key, q) first ms → ns ≡ ms → IsCallAnswer regular_search ns (key, q) r ls → IsCallAnswer regular_search ks (key, q) r ls
+answered_again ks ms ns ls key q first r is before same after =
+    subst (λ xs. IsCallAnswer regular_search xs (key, q) r ls) (same ∙ refused_stay ks ms key q first before is) after
+
+-- ---- what is seen of the registries, where one is replaced by one that is seen as it
+pub same_views : (ks : List KeyedRegistry) (p : ℕ) (old k : KeyedRegistry) → keyed_view k ≡ keyed_view (get_or ks p old) → map keyed_view (set ks p k) ≡ map keyed_view ks
+same_views [] p old k e = refl
+same_views (l ∷ ks) zero old k e = ap (λ v. v ∷ map keyed_view ks) e
+same_views (l ∷ ks) (suc p) old k e = ap (λ vs. keyed_view l ∷ vs) (same_views ks p old k e)

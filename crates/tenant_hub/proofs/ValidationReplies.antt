@@ -1,5 +1,5 @@
 -- What a validation replies, by what its parts answer.
-use Rattle.std.proofs.Common.{◌≡◌, List, Bool, None, Some, Result, Ok, Err, refl, sym, ap, ◌∙◌, inl}
+use Rattle.std.proofs.Common.{◌≡◌, ◌≢◌, List, Bool, Some, Result, Ok, Err, IfOk, IfErr, String, Global, string_bytes, refl, sym, ap, ◌∙◌, inl}
 use Rattle.definitions.specs.Answers.{answer, output_text}
 use Rattle.definitions.specs.Applied.{Outcome}
 use Rattle.definitions.specs.Faults.{Fault}
@@ -11,17 +11,32 @@ use Rattle.definitions.specs.Runs.{IsAnswer}
 use Rattle.definitions.specs.Schemas.{Document}
 use Rattle.definitions.specs.Values.{Text, Value}
 use Rattle.evaluator.specs.Reports.{report_or_fault}
+use Rattle.faults.specs.View.{fault_view}
+use Rattle.faults.specs.declared.Fault as code
 use Rattle.linker.specs.LinkFaults.{link_fault}
-use Rattle.tenant_hub.specs.SourceReplies.{validation_over}
+use Rattle.linker.specs.LinkedDocuments.{linked_documents}
+use Rattle.linker.specs.declared.linked.Linked.{Linked}
+use Rattle.tenant_hub.specs.KeptLinks.{IsLinkOf}
+use Rattle.tenant_hub.specs.SourceReplies.{reply_by, validation_over}
 use Rattle.tenant_hub.proofs.LinkedReplies.{links, links_not}
 
 -- ---- what is evaluated
 both_same : {X Y : Type 0} {x y : X} → ◌≡◌ {A = Result X Y} (Ok x) (Ok y) → x ≡ y
 both_same e = cc
 
-shown : (o : Result Outcome Fault) (valid : Bool) (t : Text) → report_or_fault o ≡ Ok (valid, t) → outcome_reply o ≡ validated t
+pub shown : (o : Result Outcome Fault) (valid : Bool) (t : Text) → report_or_fault o ≡ Ok (valid, t) → outcome_reply o ≡ validated t
 shown (Ok o) valid t e = let pairs : ◌≡◌ {A = Bool × Text} (o.valid, output_text o) (valid, t) = both_same e in ap (λ (p : Bool × Text). validated p.1) pairs
 shown (Err f) valid t e = cc
+
+-- what is said of one reply is said of another that is the same
+pub replied : {E : Type 0} {a b : Reply} (o : Result (String Global) E) → a ≡ b → IfOk o (λ t. b ≡ validated (string_bytes t)) → IfOk o (λ t. a ≡ validated (string_bytes t))
+replied (Ok t) same is = same ∙ is
+replied (Err f) same is = tt
+
+pub refused_as : {T : Type 0} {a b : Reply} (o : Result T code.Fault) → a ≡ b → IfErr o (λ f. f ≢ code.Fault.NoRoom → b ≡ refused (fault_view f))
+    → IfErr o (λ f. f ≢ code.Fault.NoRoom → a ≡ refused (fault_view f))
+refused_as (Ok t) same is = tt
+refused_as (Err f) same is = λ other. same ∙ is other
 
 -- ---- one validation, by its four parts
 module _ (ds : List Document) (base : Result Text Fault) (body : Result Value Fault) where
@@ -40,18 +55,10 @@ module _ (ds : List Document) (base : Result Text Fault) (body : Result Value Fa
   pub unlinked : (b : Text) (x : Value) (f : Fault) → base ≡ Ok b → body ≡ Ok x → link_fault (reach ds b) ≡ Some f → validation_over ds base body ≡ refused f
   unlinked b x f e h none = both b x e h ∙ links_not (reach ds b) f (outcome_reply (answer has_match (reach ds b) b x)) none
 
-  pub evaluated : (b : Text) (x : Value) (reached : List Document) (uri : Text) (valid : Bool) (t : Text) → base ≡ Ok b → body ≡ Ok x → link_fault (reach ds b) ≡ None
-      → reached ≡ reach ds b → uri ≡ b → report_or_fault (answer has_match reached uri x) ≡ Ok (valid, t) → validation_over ds base body ≡ validated t
-  evaluated b x reached uri valid t e h none r u says =
-      both b x e h ∙ links (reach ds b) (outcome_reply (answer has_match (reach ds b) b x)) none
-      ∙ shown (answer has_match (reach ds b) b x) valid t (
-      ap (λ rs. report_or_fault (answer has_match rs b x)) (sym r) ∙ ap (λ k. report_or_fault (answer has_match reached k x)) (sym u) ∙ says)
-
-  pub unevaluated : (b : Text) (x : Value) (reached : List Document) (uri : Text) (f : Fault) → base ≡ Ok b → body ≡ Ok x → link_fault (reach ds b) ≡ None
-      → reached ≡ reach ds b → uri ≡ b → answer has_match reached uri x ≡ Err f → validation_over ds base body ≡ refused f
-  unevaluated b x reached uri f e h none r u says =
-      both b x e h ∙ links (reach ds b) (outcome_reply (answer has_match (reach ds b) b x)) none
-      ∙ ap outcome_reply (ap (λ rs. answer has_match rs b x) (sym r) ∙ ap (λ k. answer has_match reached k x) (sym u) ∙ says)
+  pub by_link : (b : Text) (x : Value) (l : Linked) → base ≡ Ok b → body ≡ Ok x → IsLinkOf ds b l → validation_over ds base body ≡ reply_by l x
+  by_link b x l e h is =
+      both b x e h ∙ links (reach ds b) (outcome_reply (answer has_match (reach ds b) b x)) is.1.1
+      ∙ ap (λ rs. outcome_reply (answer has_match rs b x)) (sym is.1.0) ∙ ap (λ k. outcome_reply (answer has_match (linked_documents l) k x)) (sym is.0)
 
 -- ---- as a step
 step_over : (g : Registry) (base : Result Text Fault) (v : Result Value Fault)

@@ -1,13 +1,15 @@
 //! What a tenant is answered by its own registry.
 
-ghost use Rattle.std.specs.Prelude.{◌≡◌, ◌↔◌, true, IsTrue, option_map, string_bytes};
+ghost use Rattle.std.specs.Prelude.{◌≡◌, ◌↔◌, true, IfOk, IsTrue, option_map, string_bytes};
 ghost use Rattle.std.specs.List.{list_all};
 ghost use Rattle.definitions.specs.Patterns.{regular_search};
+ghost use Rattle.definitions.specs.Registries.{documents_seen};
 ghost use Rattle.definitions.specs.Runs.{IsAnswer};
 ghost use Rattle.definitions.specs.Values.{same_text};
 ghost use Rattle.linker.specs.ListedDocuments.{listed_documents};
 ghost use Rattle.requests.specs.Views.{request_view, reply_view};
 ghost use Rattle.tenants_file.specs.Tenants.{tenant_view};
+ghost use Rattle.tenant_hub.specs.KeptLinks.{AreLinksOf};
 ghost use Rattle.tenant_hub.specs.RegisteredDocuments.{is_registered};
 ghost use Rattle.tenant_documents.specs.Registries.{registry_view};
 ghost use Rattle.tenant_documents.specs.StoredTexts.{stored_texts};
@@ -15,26 +17,34 @@ ghost use Rattle.tenant_hub.specs.KeyedRegistries.{keyed_view, new_registry, pos
 
 use crate::bundling::bundle_reply;
 use crate::keyed_registry::KeyedRegistry;
+use crate::links::Links;
 use crate::validating::validation_reply;
 use crate::workspace::Workspace;
 use linker::ListSource;
 use requests::{Fault, Reply, Request};
-use std::alloc::Global;
+use std::alloc::{AllocError, Global};
 use std::rc::Rc;
 use tenant_documents::Registry;
 use tenants_file::Tenant;
 
 impl KeyedRegistry {
-    // The registry of a tenant before its first request.
-    pub(crate) fn new(alloc: Global, tenant: Tenant, library: Rc<ListSource>) -> KeyedRegistry
+    // The registry of a tenant before its first request, whose links may reach so many documents.
+    pub(crate) fn new(
+        alloc: Global,
+        tenant: Tenant,
+        library: Rc<ListSource>,
+        most_linked: usize,
+    ) -> Result<KeyedRegistry, AllocError>
         requires { list_all is_registered (listed_documents library.value) ≡ true }
-        ensures { keyed_view result
-            ≡ new_registry (listed_documents library.value) (tenant_view tenant) }
+        ensures { IfOk result (λ k. keyed_view k
+            ≡ new_registry (listed_documents library.value) (tenant_view tenant)) }
     {
-        KeyedRegistry {
+        let links = Links::new(alloc, most_linked)?;
+        Ok(KeyedRegistry {
             key: tenant.key,
             registry: Registry::new(library, tenant.documents, tenant.bytes, alloc),
-        }
+            links,
+        })
     }
 
     // Answers one request of the tenant.
@@ -48,7 +58,20 @@ impl KeyedRegistry {
         ensures answer { IsAnswer regular_search (registry_view self.old.registry)
             (request_view request.now) (reply_view result) (registry_view self.new.registry) }
     {
-        answer_of(&mut self.registry, alloc, workspace, request)
+        answer_once(
+            &mut self.registry,
+            &mut self.links,
+            alloc,
+            workspace,
+            request,
+        )
+    }
+
+    // Lets its links go.
+    pub(crate) fn unlink(&mut self)
+        ensures { keyed_view self.new ≡ keyed_view self.old }
+    {
+        self.links.clear();
     }
 
     // The base and the compact text of the document with this canonical URI.
@@ -66,25 +89,6 @@ impl KeyedRegistry {
     }
 }
 
-// Where memory runs out, what is kept for speed alone is given back and the request is answered once more.
-fn answer_of(
-    registry: &mut Registry,
-    alloc: Global,
-    workspace: &mut Workspace,
-    request: &Request,
-) -> Reply
-    ensures { IsAnswer regular_search (registry_view registry.old)
-        (request_view request.now) (reply_view result) (registry_view registry.new) }
-{
-    let reply = answer_once(registry, alloc, workspace, request);
-    if lacks_room(&reply) {
-        workspace.clear(alloc);
-        answer_once(registry, alloc, workspace, request)
-    } else {
-        reply
-    }
-}
-
 // Whether memory ran out.
 pub(crate) fn lacks_room(reply: &Reply) -> bool
     ensures { IsTrue result ↔ reply.now ≡ Reply.Refused Fault.NoRoom }
@@ -94,24 +98,32 @@ pub(crate) fn lacks_room(reply: &Reply) -> bool
 
 fn answer_once(
     registry: &mut Registry,
+    links: &mut Links,
     alloc: Global,
     workspace: &mut Workspace,
     request: &Request,
 ) -> Reply
-    ensures { IsAnswer regular_search (registry_view registry.old)
+    requires { AreLinksOf (documents_seen (registry_view registry.old)) links.old }
+    ensures answer { IsAnswer regular_search (registry_view registry.old)
         (request_view request.now) (reply_view result) (registry_view registry.new) }
+    ensures linked { AreLinksOf (documents_seen (registry_view registry.new)) links.new }
 {
     match request {
         Request::Put(uri, body) => {
+            links.clear();
             registry.put(alloc, &mut workspace.cache, uri.as_str(), body.as_slice())
         }
-        Request::Delete(uri) => registry.delete(alloc, uri.as_str()),
+        Request::Delete(uri) => {
+            links.clear();
+            registry.delete(alloc, uri.as_str())
+        }
         Request::Validate(uri, body) => {
             let mut source = registry.source(&mut workspace.cache);
             validation_reply(
                 alloc,
                 &mut workspace.scratch,
                 &mut workspace.evaluation,
+                links,
                 &mut source,
                 uri.as_str(),
                 body.as_slice(),
@@ -121,7 +133,10 @@ fn answer_once(
             let mut source = registry.source(&mut workspace.cache);
             bundle_reply(alloc, &mut source, uri.as_str())
         }
-        Request::Batch(body) => registry.put_all(alloc, &mut workspace.cache, body.as_slice()),
+        Request::Batch(body) => {
+            links.clear();
+            registry.put_all(alloc, &mut workspace.cache, body.as_slice())
+        }
     }
 }
 

@@ -22,7 +22,7 @@ ghost use Rattle.tenant_hub.specs.RefusedServers.{IsRefusedServer};
 ghost use Rattle.tenant_hub.specs.RegisteredDocuments.{is_registered};
 ghost use Rattle.tenant_hub.specs.ServedBundles.{AnswersAlone};
 
-use crate::answering::position_of;
+use crate::answering::{lacks_room, position_of};
 use crate::keyed_registry::KeyedRegistry;
 use crate::workspace::Workspace;
 use definition_laws::{
@@ -115,10 +115,7 @@ impl Hub {
         ensures alone { AnswersAlone (hub_view self.old)
             (key.now, request_view request.now) (reply_view result) }
     {
-        match position_of(&self.registries, key) {
-            Some(position) => self.registries[position].answer(alloc, &mut self.workspace, request),
-            None => Reply::Refused(Fault::UnknownTenant),
-        }
+        self.answer(alloc, key, request)
     }
 
     /// Answers requests of many tenants in turn, each with its tenant's key.
@@ -193,6 +190,42 @@ impl Hub {
         position_of(&self.registries, key)
     }
 
+    // Where memory runs out, what is kept for speed alone is given back and the request is answered once more.
+    fn answer(&mut self, alloc: Global, key: &str, request: &Request) -> Reply
+        ensures { IsCallAnswer regular_search (hub_view self.old)
+            (key.now, request_view request.now) (reply_view result) (hub_view self.new) }
+    {
+        let reply = self.answer_once(alloc, key, request);
+        if lacks_room(&reply) {
+            self.give_back(alloc);
+            self.answer_once(alloc, key, request)
+        } else {
+            reply
+        }
+    }
+
+    fn answer_once(&mut self, alloc: Global, key: &str, request: &Request) -> Reply
+        ensures { IsCallAnswer regular_search (hub_view self.old)
+            (key.now, request_view request.now) (reply_view result) (hub_view self.new) }
+    {
+        match position_of(&self.registries, key) {
+            Some(position) => self.registries[position].answer(alloc, &mut self.workspace, request),
+            None => Reply::Refused(Fault::UnknownTenant),
+        }
+    }
+
+    // Gives back the memory that is kept for speed alone, of every tenant.
+    fn give_back(&mut self, alloc: Global)
+        ensures { hub_view self.new ≡ hub_view self.old }
+    {
+        self.workspace.clear(alloc);
+        let mut place = 0;
+        while place < self.registries.len() {
+            self.registries[place].unlink();
+            place += 1;
+        }
+    }
+
     fn replies_of(
         &mut self,
         alloc: Global,
@@ -230,7 +263,9 @@ fn over_library(
     ensures cache { IfOk result (λ h. cache_capacity h ≡ capacity) }
 {
     let library = Rc::new(alloc, library)?;
-    let registries = new_registries(alloc, tenants, &library)?;
+    // Together they may reach as many documents as the cache keeps.
+    let most_linked = capacity.checked_div(tenants.len()).unwrap_or(0);
+    let registries = new_registries(alloc, tenants, &library, most_linked)?;
     let workspace = Workspace::new(alloc, capacity)?;
     Ok(Hub {
         registries,
@@ -242,6 +277,7 @@ fn new_registries(
     alloc: Global,
     tenants: Vec<Tenant>,
     library: &Rc<ListSource>,
+    most_linked: usize,
 ) -> Result<Vec<KeyedRegistry>, Fault>
     requires { list_all is_registered (listed_documents library.now.value) ≡ true }
     ensures ok { IfOk result (λ rs. map keyed_view rs.items
@@ -251,7 +287,8 @@ fn new_registries(
 {
     let mut registries = Vec::with_capacity(alloc, tenants.len())?;
     for tenant in tenants {
-        registries.push(KeyedRegistry::new(alloc, tenant, library.clone()?))?;
+        let library = library.clone()?;
+        registries.push(KeyedRegistry::new(alloc, tenant, library, most_linked)?)?;
     }
     Ok(registries)
 }

@@ -6,6 +6,7 @@ mod array_lengths;
 mod bundling;
 mod hub;
 mod keyed_registry;
+mod links;
 mod restoring;
 mod validating;
 mod workspace;

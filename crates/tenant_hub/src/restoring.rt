@@ -30,6 +30,7 @@ impl KeyedRegistry {
         ensures restored { IsPutBack (registry_view self.old.registry) base.now text.now
             (reply_view result) (registry_view self.new.registry) }
     {
+        self.links.clear();
         restore_into(&mut self.registry, alloc, workspace, base, text)
     }
 }

@@ -6,18 +6,22 @@ ghost use Rattle.definitions.specs.Registries.{Registry, body_value, documents_s
 ghost use Rattle.definitions.specs.Resolution.{base_form};
 ghost use Rattle.definitions.specs.Runs.{IsAnswer};
 ghost use Rattle.faults.specs.View.{fault_view};
+ghost use Rattle.json_doc.specs.Docs.{value};
 ghost use Rattle.requests.specs.Views.{reply_view};
-ghost use Rattle.tenant_hub.specs.SourceReplies.{validation_over};
+ghost use Rattle.tenant_hub.specs.KeptLinks.{AreLinksOf};
+ghost use Rattle.tenant_hub.specs.SourceReplies.{reply_by, validation_over};
 
+use crate::links::Links;
 use evaluator::{EvaluationMemory, evaluate_with};
-use json_doc::Scratch;
-use linker::{Source, link};
+use json_doc::{Doc, Scratch};
+use linker::{Linked, Source, link};
 use requests::{Fault, Reply};
 use std::alloc::Global;
 use tenants_file::read_body_with;
 use uri_ref::base_form;
 
-// The basic output for the instance that the bytes spell, by the resource of the URI among the source's documents.
+// The basic output for the instance that the bytes spell, by the resource of the URI among the source's documents, of which
+// the links are.
 //
 // The first of these faults is answered: `BadUri`, `TooLarge`, `BadJson`, `BadNumber`, `NotFound`, `Unresolved`, `Costly`,
 // `Loop`, `Deep`. `NoRoom` may take the place of any answer. The source keeps the documents that it had.
@@ -25,15 +29,18 @@ pub(crate) fn validation_reply<S: Source>(
     alloc: Global,
     scratch: &mut Scratch,
     memory: &mut EvaluationMemory,
+    links: &mut Links,
     source: &mut S,
     uri: &str,
     body: &[u8],
 ) -> Reply
+    requires { AreLinksOf (S.documents source.old) links.old }
     ensures answer { (g : Registry) → documents_seen g ≡ S.documents source.old
         → IsAnswer regular_search g (validate uri.now body.now) (reply_view result) g }
+    ensures linked { AreLinksOf (S.documents source.old) links.new }
     ensures same { S.documents source.new ≡ S.documents source.old }
 {
-    match output_text(alloc, scratch, memory, source, uri, body) {
+    match output_text(alloc, scratch, memory, links, source, uri, body) {
         Ok(text) => Reply::Output(text),
         Err(fault) => Reply::Refused(fault),
     }
@@ -43,19 +50,43 @@ fn output_text<S: Source>(
     alloc: Global,
     scratch: &mut Scratch,
     memory: &mut EvaluationMemory,
+    links: &mut Links,
     source: &mut S,
     uri: &str,
     body: &[u8],
 ) -> Result<String, Fault>
+    requires { AreLinksOf (S.documents source.old) links.old }
     ensures ok { IfOk result (λ t. validation_over (S.documents source.old)
         (base_form uri.now) (body_value body.now) ≡ validated (string_bytes t)) }
     ensures err { IfErr result (λ f. f ≢ Fault.NoRoom → validation_over (S.documents source.old)
         (base_form uri.now) (body_value body.now) ≡ refused (fault_view f)) }
+    ensures linked { AreLinksOf (S.documents source.old) links.new }
     ensures same { S.documents source.new ≡ S.documents source.old }
 {
     let base = base_form(alloc, uri)?;
     let instance = read_body_with(alloc, scratch, body)?;
+    links.promote(base.as_str());
+    if let Some(linked) = links.get(base.as_str()) {
+        return text_by(alloc, linked, &instance, memory);
+    }
     let linked = link(alloc, source, base.as_str())?;
-    let report = evaluate_with(alloc, &linked, &instance, memory)?;
+    let text = text_by(alloc, &linked, &instance, memory)?;
+    links.keep(base, linked);
+    Ok(text)
+}
+
+// The basic output of the instance by what was linked.
+fn text_by(
+    alloc: Global,
+    linked: &Linked,
+    instance: &Doc,
+    memory: &mut EvaluationMemory,
+) -> Result<String, Fault>
+    ensures ok { IfOk result (λ t. reply_by linked.now (value instance.now)
+        ≡ validated (string_bytes t)) }
+    ensures err { IfErr result (λ f. f ≢ Fault.NoRoom
+        → reply_by linked.now (value instance.now) ≡ refused (fault_view f)) }
+{
+    let report = evaluate_with(alloc, linked, instance, memory)?;
     Ok(report.into_text())
 }

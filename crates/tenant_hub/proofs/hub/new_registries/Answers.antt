@@ -13,9 +13,9 @@ loop-tenant-preserved c =
     record {
       all = append_assoc l.yielded (c.in-Some.tenant ∷ []) _ ∙ rw (← step) l.invariant.all;
       made =
-          ap (map keyed_view) c.in_ok-push.ensures.items ∙ map-append keyed_view l.registries.items (c.new.result ∷ [])
+          ap (map keyed_view) c.in_ok-push.ensures.items ∙ map-append keyed_view l.registries.items (c.in_ok-new.field-0 ∷ [])
           ∙ ap₂ (λ ks k. ks ++ k ∷ []) l.invariant.made
-          (c.new.ensures ∙ ap (λ s. new_registry (listed_documents s) (tenant_view c.in-Some.tenant)) c.in_ok-clone.ensures.cases) ∙ sym (map-append (λ t. new_registry (listed_documents c.args.library.now.value) (tenant_view t)) l.yielded (c.in-Some.tenant ∷ []));
+          (c.in_ok-new.ensures ∙ ap (λ s. new_registry (listed_documents s) (tenant_view c.in-Some.tenant)) c.in_ok-library.ensures.cases) ∙ sym (map-append (λ t. new_registry (listed_documents c.args.library.now.value) (tenant_view t)) l.yielded (c.in-Some.tenant ∷ []));
       left =
           let was = l.invariant.left in
           let gone = c.in-Some.ensures.steps.1 in

@@ -8,6 +8,7 @@ use Rattle.tenant_hub.proofs.keyed_registry.KeyedRegistry.answer.Goals as goal
 pub invariant_of-self : goal.invariant_of-self
 invariant_of-self c = record {
   registered =
-      still_registered (registry_view c.args.self.now.registry) (registry_view c.answer_of.new.registry) (request_view c.args.request.now) (reply_view c.answer_of.result)
-      (registry_kept c.args.self.now.registry) (puts_text c.args.request.now) c.args.self.now.registered c.answer_of.ensures;
+      still_registered (registry_view c.args.self.now.registry) (registry_view c.answer_once.new.registry) (request_view c.args.request.now) (reply_view c.answer_once.result)
+      (registry_kept c.args.self.now.registry) (puts_text c.args.request.now) c.args.self.now.registered c.answer_once.ensures.answer;
+  linked = c.answer_once.ensures.linked;
 }

@@ -9,4 +9,5 @@ invariant_of-self c = record {
   registered =
       restored_registered (registry_view c.args.self.now.registry) (registry_view c.restore_into.new.registry) c.args.base.now c.args.text.now (reply_view c.restore_into.result)
       (is_utf8-from_IsUtf8 c.args.base.now c.utf8.base) c.args.self.now.registered c.restore_into.ensures;
+  linked = c.clear.ensures _;
 }

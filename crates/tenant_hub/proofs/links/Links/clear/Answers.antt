@@ -1,0 +1,6 @@
+use Rattle.std.proofs.Common.{ap}
+use Rattle.tenant_hub.proofs.KeptLinks.{none_kept}
+use Rattle.tenant_hub.proofs.links.Links.clear.Goals as goal
+
+pub returns : goal.returns
+returns c = λ ds. none_kept ds _ (ap (λ l. l.entries) c.clear.ensures)

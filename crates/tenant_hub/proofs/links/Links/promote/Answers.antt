@@ -1,0 +1,7 @@
+use Rattle.lru.proofs.CallerLemmas.{Contains-promoted}
+use Rattle.tenant_hub.specs.KeptLinks.{AreLinksOf}
+use Rattle.tenant_hub.proofs.links.Links.promote.Goals as goal
+
+pub returns : goal.returns
+unfolding AreLinksOf
+returns c = λ ds links. rw c.promote.ensures.entries (λ e among. links e (Contains-promoted _ _ e among))

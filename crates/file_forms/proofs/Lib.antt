@@ -8,7 +8,6 @@ mod Going
 mod Places
 mod ReadLines
 mod Rooted
-mod Shown
 mod Telling
 mod Troubles
 mod Turns

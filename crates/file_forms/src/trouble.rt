@@ -111,8 +111,8 @@ impl Trouble {
         }
     }
 
-    /// Its lines: what went wrong, and below a refusal a sentence of what would mend it.
-    pub(crate) fn lines(&self, alloc: Global) -> Result<String, AllocError>
+    /// Its lines: what went wrong, and below a refusal a sentence of what would mend it. The only error is want of memory.
+    pub fn lines(&self, alloc: Global) -> Result<String, AllocError>
         ensures { IfOk result (λ s. IsLineOf self.now (string_bytes s)) }
     {
         match self {

@@ -1,4 +1,5 @@
 mod Carried
+mod Formed
 pub mod Mistakes
 pub mod Judged
 pub mod Listened
@@ -6,3 +7,4 @@ pub mod Ended
 pub mod EndedStored
 pub mod Alone
 pub mod Restored
+mod Written

@@ -1,5 +1,5 @@
 -- A check of what may be a folder.
-use Rattle.std.specs.Prelude.{◌≡◌, ◌⊎◌, ◌∷◌, [], ◌&&◌, Bool, true, false, not, Option, Some, None, is_none}
+use Rattle.std.specs.Prelude.{◌≡◌, ◌⊎◌, ◌∷◌, [], ◌&&◌, Bool, true, false, not, Option, Some, None, if◌then◌else◌, is_none}
 use Rattle.command_line.specs.Calls.{Asked}
 use Rattle.command_line.specs.Calls as call
 use Rattle.command_line.specs.declared.call.Format.TheVariants.{Text as ForPeople}
@@ -8,6 +8,10 @@ use Rattle.definitions.specs.Values.{Text}
 -- neither is it known what a file there holds, nor that it can't be read
 abbrev pub may_be_folder : (Text → Option Text) → (Text → Bool) → Text → Bool
 may_be_folder files unreadable path = is_none (files path) && not (unreadable path)
+
+-- whether a folder is there, if that is known
+abbrev pub is_folder_in : (Text → Option Text) → (Text → Bool) → (Text → Option Bool) → Text → Option Bool
+is_folder_in files unreadable folders path = if may_be_folder files unreadable path then folders path else Some false
 
 -- the check of a folder's files by the schema under the URI
 abbrev pub folder_check : Text → Text → Text → Asked
@@ -21,8 +25,14 @@ folder_check uri schema folder = call.check_many (record {
   quiet = false;
 })
 
--- this holds of the call as it is carried out: a check of what may be a folder maybe as that of the folder's files
-abbrev pub CarriedOut : (Text → Bool) → Asked → (Asked → Type 0) → Type 0
-CarriedOut may_be_folder (call.check uri schema instance) P =
-    P (call.check uri schema instance) ⊎ ((may_be_folder instance ≡ true) × P (folder_check uri schema instance))
-CarriedOut may_be_folder asked P = P asked
+-- of a file the first, of a folder the second, and one of both where it isn't known which is there
+abbrev pub ByFolder : Option Bool → Type 0 → Type 0 → Type 0
+ByFolder (Some false) OfFile OfFolder = OfFile
+ByFolder (Some true) OfFile OfFolder = OfFolder
+ByFolder None OfFile OfFolder = OfFile ⊎ OfFolder
+
+-- this holds of the call as it is carried out: a check whose instance is a folder as that of the folder's files
+abbrev pub CarriedOut : (Text → Option Bool) → Asked → (Asked → Type 0) → Type 0
+CarriedOut is_folder (call.check uri schema instance) P =
+    ByFolder (is_folder instance) (P (call.check uri schema instance)) (P (folder_check uri schema instance))
+CarriedOut is_folder asked P = P asked

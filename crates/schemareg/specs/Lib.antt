@@ -2,6 +2,8 @@ pub mod StoreStops
 pub mod Stops
 pub mod Endings
 pub mod Folders
+pub mod Outputs
+pub mod Forms
 pub mod Answers
 pub mod Services
 pub mod Stored

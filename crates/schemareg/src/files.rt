@@ -13,12 +13,14 @@ use std::rt::Files;
 
 /// Files, by their paths.
 ///
-/// Contracts see what the file at a path holds by `text_at`, where it is known, and by `is_unreadable` which files are known
-/// not to be read.
+/// Contracts see what the file at a path holds by `text_at`, where it is known, by `is_unreadable` which files are known not to
+/// be read, and by `folder_at` whether a folder is at a path, where it is known.
 pub trait Texts {
     ghost text_at: { Self → Text → Option Text } = { λ _ _. None };
 
     ghost is_unreadable: { Self → Text → Bool } = { λ _ _. false };
+
+    ghost folder_at: { Self → Text → Option Bool } = { λ _ _. None };
 
     /// All bytes of the file at `path`.
     fn whole<'a>(&self, alloc: Global, path: &'a str) -> Result<Vec<u8>, Stop<'a>>
@@ -29,8 +31,9 @@ pub trait Texts {
 
     /// Whether a folder is at `path`.
     fn is_folder(&self, path: &str) -> bool
-        ensures { result ≡ true
-            → may_be_folder (text_at self.now) (is_unreadable self.now) path.now ≡ true };
+        ensures maybe { result ≡ true
+            → may_be_folder (text_at self.now) (is_unreadable self.now) path.now ≡ true }
+        ensures known { IfSome (folder_at self.now path.now) (λ is_folder. result ≡ is_folder) };
 }
 
 /// Files to whose ends is written, by their paths.
@@ -42,7 +45,7 @@ pub trait Logs {
         ensures { IfErr result (λ stop. stop ≡ Stop.CannotLog path.entry) };
 }
 
-/// The files of the file system. It isn't known what these hold, or which of them can't be read.
+/// The files of the file system. It isn't known what these hold, which of them can't be read, or where folders are.
 #[derive(Drop)]
 pub struct FileSystem<'r, R> {
     pub rt: &'r R,

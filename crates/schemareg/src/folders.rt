@@ -3,17 +3,20 @@ ghost use Rattle.std.specs.Prelude.{◌≡◌, [], None, IfOk, IfSome};
 ghost use Rattle.command_line.specs.Calls.{Asked, check, check_many, checks_view};
 ghost use Rattle.schemareg.specs.Answers.{EndsBy, check_of_texts};
 ghost use Rattle.schemareg.specs.Endings.{EndsReading, ReadsInOrder, address_of, files_in, names_of};
-ghost use Rattle.schemareg.specs.Folders.{CarriedOut, folder_check, may_be_folder};
+ghost use Rattle.schemareg.specs.Folders.{CarriedOut, folder_check, is_folder_in};
+ghost use Rattle.schemareg.specs.Forms.{EndsFormIfRoom, OnForm};
 
 use crate::checking;
 use crate::files::Texts;
 use crate::forms::Forms;
 use crate::stop::Stop;
+use crate::terminal::Terminal;
 use command_line::{Checks, Documents, Format};
 use faults::Fault;
 use serving::ByteWriter;
 use std::alloc::{AllocError, Global};
 use std::io::{Read, Write};
+use std::time::Clock;
 
 /// What a check names: the URI that the schema stands under, the schema's file, and a file or a folder.
 #[derive(Clone, Copy, Debug)]
@@ -24,50 +27,58 @@ pub struct Named<'a> {
 }
 
 /// Answers the check of the file; or of each file of the folder, as with other words.
-pub fn check<'a, F: Texts + Forms, I: Read, O: Write + ByteWriter, E: Write>(
+pub fn check<'a, F: Texts + Forms, C: Clock, I: Read, O: Write + ByteWriter, E: Write>(
     alloc: Global,
     files: &F,
     named: Named<'a>,
     input: &mut I,
-    out: &mut O,
-    errors: &mut E,
+    console: &mut Terminal<'_, C, O, E>,
 ) -> Result<u8, Stop<'a>>
     ensures ends { IfSome (F.text_at files.now named.entry.schema.now) (λ s.
         IfSome (F.text_at files.now named.entry.instance.now) (λ i.
-        EndsBy (check_of_texts named.entry.uri.now s i)
-        (O.writes out.old) result (O.writes out.new))) }
-    ensures reading { CarriedOut (may_be_folder (F.text_at files.now) (F.is_unreadable files.now))
+        EndsBy (check_of_texts named.entry.uri.now s i) (O.writes console.old.output.stream) result
+        (O.writes console.new.output.stream))) }
+    ensures reading { CarriedOut (is_folder_in (F.text_at files.now) (F.is_unreadable files.now)
+        (F.folder_at files.now))
         (check named.entry.uri.now named.entry.schema.now named.entry.instance.now)
         (λ call. EndsReading (names_of call) (address_of call) result) }
-    ensures order { CarriedOut (may_be_folder (F.text_at files.now) (F.is_unreadable files.now))
+    ensures order { CarriedOut (is_folder_in (F.text_at files.now) (F.is_unreadable files.now)
+        (F.folder_at files.now))
         (check named.entry.uri.now named.entry.schema.now named.entry.instance.now)
-        (λ call. ReadsInOrder (F.is_unreadable files.now) (files_in call) result) }
+        (λ call. ReadsInOrder (F.is_unreadable files.now) (files_in call) result
+        × OnForm (F.disk files.now) (I.remaining input.old) (I.remaining input.new) call (λ Ends.
+        EndsFormIfRoom Ends (O.writes console.old.output.stream) result
+        (O.writes console.new.output.stream))) }
 {
     if files.is_folder(named.instance) {
-        check_folder(alloc, files, named, input, out, errors)
+        check_folder(alloc, files, named, input, console)
     } else {
         let Named {
             uri,
             schema,
             instance,
         } = named;
+        let out = &mut console.output.stream;
         checking::check_files(alloc, files, uri, schema, instance, out)
     }
 }
 
 /// Checks each file of the folder.
-fn check_folder<'a, F: Forms, I: Read, O: Write, E: Write>(
+fn check_folder<'a, F: Forms, C: Clock, I: Read, O: ByteWriter, E: Write>(
     alloc: Global,
     files: &F,
     named: Named<'a>,
     input: &mut I,
-    out: &mut O,
-    errors: &mut E,
+    console: &mut Terminal<'_, C, O, E>,
 ) -> Result<u8, Stop<'a>>
     ensures reading { EndsReading [] None result }
+    ensures form { OnForm (F.disk files.now) (I.remaining input.old) (I.remaining input.new)
+        (folder_check named.entry.uri.now named.entry.schema.now named.entry.instance.now) (λ Ends.
+        EndsFormIfRoom Ends (O.writes console.old.output.stream) result
+        (O.writes console.new.output.stream)) }
 {
     match folder_checks(alloc, named) {
-        Ok(checks) => files.check_many(&checks, input, out, errors),
+        Ok(checks) => files.check_many(&checks, input, console),
         Err(_) => Err(Stop::Refused(Fault::NoRoom)),
     }
 }

@@ -1,48 +1,64 @@
 //! The forms that judge files and folders.
-ghost use Rattle.std.specs.Prelude.{◌≡◌, [], None, IfOk};
+ghost use Rattle.std.specs.Prelude.{[], None};
+ghost use Rattle.command_line.specs.Calls.{bundling_view, checks_view};
+ghost use Rattle.file_forms.specs.Bundles.{EndsBundle};
+ghost use Rattle.file_forms.specs.Checks.{EndsChecks};
 ghost use Rattle.schemareg.specs.Endings.{EndsReading};
+ghost use Rattle.schemareg.specs.Forms.{Disk, EndsForm, EndsScan, unknown_disk};
 
 use crate::files::FileSystem;
 use crate::stop::Stop;
+use crate::terminal::Terminal;
 use command_line::{Bundling, Checks, Scanning};
-use file_forms::{SystemFolders, Terminal, wants_colours};
+use file_forms::{SystemFolders, wants_colours};
+use serving::ByteWriter;
 use std::alloc::Global;
 use std::io::{Read, Write};
 use std::rt::{Env, Files};
 use std::time::Clock;
 
 /// What carries out the forms that judge files and folders. Each tells what goes wrong itself, and then stops.
+///
+/// Contracts see the files and folders by `disk`.
 pub trait Forms {
+    ghost disk: { Self → Disk } = { λ _. unknown_disk };
+
     /// Whether standard error is a terminal.
     fn is_terminal(&self) -> bool;
 
     /// Checks several instances.
-    fn check_many<'a, I: Read, O: Write, E: Write>(
+    fn check_many<'a, C: Clock, I: Read, O: ByteWriter, E: Write>(
         &self,
         checks: &Checks<'_>,
         input: &mut I,
-        out: &mut O,
-        errors: &mut E,
+        console: &mut Terminal<'_, C, O, E>,
     ) -> Result<u8, Stop<'a>>
-        ensures reading { EndsReading [] None result };
+        ensures reading { EndsReading [] None result }
+        ensures ends { EndsForm (EndsChecks (disk self.now).holds (disk self.now).lists
+            (disk self.now).runs_in (checks_view checks.now)
+            (I.remaining input.old) (I.remaining input.new))
+            (O.writes console.old.output.stream) result (O.writes console.new.output.stream) };
 
     /// Writes a bundle.
-    fn bundle<'a, O: Write, E: Write>(
+    fn bundle<'a, C: Clock, O: ByteWriter, E: Write>(
         &self,
         bundling: &Bundling<'_>,
-        out: &mut O,
-        errors: &mut E,
+        console: &mut Terminal<'_, C, O, E>,
     ) -> Result<u8, Stop<'a>>
-        ensures reading { EndsReading [] None result };
+        ensures reading { EndsReading [] None result }
+        ensures ends { EndsForm (EndsBundle (disk self.now).holds (disk self.now).lists
+            (disk self.now).runs_in (disk self.now).has_written (bundling_view bundling.now))
+            (O.writes console.old.output.stream) result (O.writes console.new.output.stream) };
 
     /// Scans schemas.
-    fn scan<'a, O: Write, E: Write>(
+    fn scan<'a, C: Clock, O: ByteWriter, E: Write>(
         &self,
         scanning: &Scanning<'_>,
-        out: &mut O,
-        errors: &mut E,
+        console: &mut Terminal<'_, C, O, E>,
     ) -> Result<u8, Stop<'a>>
-        ensures reading { EndsReading [] None result };
+        ensures reading { EndsReading [] None result }
+        ensures ends { EndsForm EndsScan
+            (O.writes console.old.output.stream) result (O.writes console.new.output.stream) };
 }
 
 impl<R: Files + Env + AllocGlobal + Clock + Clone + Drop> Forms for FileSystem<'_, R> {
@@ -50,56 +66,41 @@ impl<R: Files + Env + AllocGlobal + Clock + Clone + Drop> Forms for FileSystem<'
         self.terminal
     }
 
-    fn check_many<'a, I: Read, O: Write, E: Write>(
+    fn check_many<'a, C: Clock, I: Read, O: ByteWriter, E: Write>(
         &self,
         checks: &Checks<'_>,
         input: &mut I,
-        out: &mut O,
-        errors: &mut E,
+        console: &mut Terminal<'_, C, O, E>,
     ) -> Result<u8, Stop<'a>> {
         let alloc = self.rt.alloc();
         let files = SystemFolders::new(self.rt);
         let colours = self.terminal && wants_colours(self.rt);
-        let mut console = Terminal::new(alloc, self.rt, out, errors, self.terminal, checks.quiet);
-        let status = file_forms::check_many(alloc, &files, input, &mut console, checks, colours);
-        status_or_told(console.finish(status))
+        console.begin(checks.quiet);
+        let status = file_forms::check_many(alloc, &files, input, console, checks, colours);
+        console.end(status)
     }
 
-    fn bundle<'a, O: Write, E: Write>(
+    fn bundle<'a, C: Clock, O: ByteWriter, E: Write>(
         &self,
         bundling: &Bundling<'_>,
-        out: &mut O,
-        errors: &mut E,
+        console: &mut Terminal<'_, C, O, E>,
     ) -> Result<u8, Stop<'a>> {
         let alloc = self.rt.alloc();
         let files = SystemFolders::new(self.rt);
-        let mut console = Terminal::new(alloc, self.rt, out, errors, self.terminal, true);
-        let status = file_forms::bundle(alloc, &files, &mut console, bundling);
-        status_or_told(console.finish(status))
+        console.begin(true);
+        let status = file_forms::bundle(alloc, &files, console, bundling);
+        console.end(status)
     }
 
-    fn scan<'a, O: Write, E: Write>(
+    fn scan<'a, C: Clock, O: ByteWriter, E: Write>(
         &self,
         scanning: &Scanning<'_>,
-        out: &mut O,
-        errors: &mut E,
+        console: &mut Terminal<'_, C, O, E>,
     ) -> Result<u8, Stop<'a>> {
         let alloc = self.rt.alloc();
         let files = SystemFolders::new(self.rt);
-        let mut console = Terminal::new(alloc, self.rt, out, errors, self.terminal, scanning.quiet);
-        let status = file_forms::scan(alloc, &files, &mut console, scanning);
-        status_or_told(console.finish(status))
-    }
-}
-
-// The status of a form, or that it told what went wrong.
-fn status_or_told<'a>(status: u8) -> Result<u8, Stop<'a>>
-    ensures reading { EndsReading [] None result }
-    ensures same { IfOk result (λ s. s ≡ status) }
-{
-    if status <= 1 {
-        Ok(status)
-    } else {
-        Err(Stop::Told)
+        console.begin(scanning.quiet);
+        let status = file_forms::scan(alloc, &files, console, scanning);
+        console.end(status)
     }
 }

@@ -6,8 +6,10 @@ mod files;
 mod folders;
 mod forms;
 mod log;
+mod output;
 mod printing;
 mod program;
+mod progress;
 mod reading;
 mod registries;
 mod service;
@@ -16,7 +18,9 @@ mod stop;
 mod store_stop;
 mod stored;
 mod stores;
+mod terminal;
 
+use crate::terminal::Terminal;
 use serving::Recorded;
 use std::io::{self, IsTerminal};
 use std::process::ExitCode;
@@ -24,7 +28,8 @@ use std::process::ExitCode;
 fn main(rt: HostRuntime) -> ExitCode {
     let (out, errors) = (rt.stdout(), rt.stderr());
     let terminal = errors.is_terminal();
-    let mut out = Recorded::new(io::writer(&out));
-    let mut errors = Recorded::new(io::writer(&errors));
-    program::run(&rt, &mut out, &mut errors, terminal)
+    let out = Recorded::new(io::writer(&out));
+    let errors = Recorded::new(io::writer(&errors));
+    let mut console = Terminal::new(rt.alloc(), &rt, out, errors, terminal);
+    program::run(&rt, &mut console, terminal)
 }

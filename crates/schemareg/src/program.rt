@@ -6,7 +6,8 @@ ghost use Rattle.command_line.specs.Calls.{Asked, Means, call_view, faults_of, s
 ghost use Rattle.command_line.specs.Forms.{Asks};
 ghost use Rattle.schemareg.specs.Answers.{EndsBy, EndsWith, OnCheck};
 ghost use Rattle.schemareg.specs.Endings.{EndsReading, EndsService, ReadsInOrder, address_of, files_in, is_service, names_of};
-ghost use Rattle.schemareg.specs.Folders.{CarriedOut, may_be_folder};
+ghost use Rattle.schemareg.specs.Folders.{CarriedOut, is_folder_in};
+ghost use Rattle.schemareg.specs.Forms.{EndsFormIfRoom, EndsFormWithIfRoom, OnForm};
 ghost use Rattle.schemareg.specs.Services.{EndsRun, EndsServing, EndsServingMany, OnRun, OnStart, RunsWith};
 ghost use Rattle.schemareg.specs.Stops.{AreMistakes, IsFoundIn, StopsBy, is_error, status_of};
 ghost use Rattle.schemareg.specs.Stored.{EndsAsked, EndsStoredMany, EndsStoredRun, EndsStoredServing, RunsStoredWith};
@@ -18,6 +19,7 @@ use crate::service::InTurn;
 use crate::side_by_side::Service;
 use crate::stop::Stop;
 use crate::stores::Stores;
+use crate::terminal::Terminal;
 use crate::{checking, folders, printing, reading, service, side_by_side, stored};
 use clap::error::ErrorKind;
 use command_line::{Call, Setup};
@@ -30,7 +32,11 @@ use std::process::ExitCode;
 use std::time::Clock;
 
 /// Runs the program on its words, and gives its status. `terminal` says whether standard error is a terminal.
-pub fn run<O, E>(rt: &HostRuntime, out: &mut O, errors: &mut E, terminal: bool) -> ExitCode
+pub fn run<O, E>(
+    rt: &HostRuntime,
+    console: &mut Terminal<'_, HostRuntime, O, E>,
+    terminal: bool,
+) -> ExitCode
 where
     O: Write + ByteWriter,
     E: Write + ByteWriter,
@@ -44,10 +50,9 @@ where
             &files,
             rt,
             &mut Recorded::new(rt.reader()),
-            out,
-            errors,
+            console,
         ),
-        Err(stop) => ExitCode::from(printing::explain(out, errors, &stop)),
+        Err(stop) => ExitCode::from(tell(console, &stop)),
     }
 }
 
@@ -58,8 +63,7 @@ fn answer<S: AsStr, F: Texts + Logs + Forms + Stores, N, I, O, E>(
     files: &F,
     net: &N,
     input: &mut I,
-    out: &mut O,
-    errors: &mut E,
+    console: &mut Terminal<'_, N, O, E>,
 ) -> ExitCode
 where
     N: Net<Listener = TcpListener, Stream = TcpStream> + Clock,
@@ -68,19 +72,24 @@ where
     E: Write + ByteWriter,
     ensures calls { (call : Asked) → Means (map S.text words.now) call
         → OnCheck (F.text_at files.now) (I.remaining input.old) call
-        (λ check. EndsWith check (O.writes out.old) (exit_status result) (O.writes out.new)) }
+        (λ check. EndsWith check (O.writes console.old.output.stream) (exit_status result)
+        (O.writes console.new.output.stream)) }
     ensures ran { (call : Asked) → Means (map S.text words.now) call
         → OnRun (F.text_at files.now) call
-        (λ server. RunsWith server (I.reads input.old) (O.writes out.old) (exit_status result)
-        (I.reads input.new) (O.writes out.new))
+        (λ server. RunsWith server (I.reads input.old) (O.writes console.old.output.stream)
+        (exit_status result) (I.reads input.new) (O.writes console.new.output.stream))
         (λ path server. RunsStoredWith path F.Store.recovers server (I.reads input.old)
-        (O.writes out.old) (exit_status result) (I.reads input.new) (O.writes out.new)) }
+        (O.writes console.old.output.stream) (exit_status result) (I.reads input.new)
+        (O.writes console.new.output.stream)) }
     ensures alone { (call : Asked) → Means (map S.text words.now) call → exit_status result ≡ 0
         → EndsAsked F.Store.recovers (F.text_at files.now) call (Ok 0) }
     ensures unread { (call : Asked) → Means (map S.text words.now) call
-        → CarriedOut (may_be_folder (F.text_at files.now) (F.is_unreadable files.now)) call
-        (λ c. list_any (F.is_unreadable files.now) (files_in c) ≡ true
-        → exit_status result ≡ 2) }
+        → CarriedOut (is_folder_in (F.text_at files.now) (F.is_unreadable files.now)
+        (F.folder_at files.now)) call
+        (λ c. (list_any (F.is_unreadable files.now) (files_in c) ≡ true → exit_status result ≡ 2)
+        × OnForm (F.disk files.now) (I.remaining input.old) (I.remaining input.new) c (λ Ends.
+        EndsFormWithIfRoom Ends (O.writes console.old.output.stream) (exit_status result)
+        (O.writes console.new.output.stream))) }
     ensures served { (call : Asked) → Means (map S.text words.now) call
         → is_service call ≡ true → (exit_status result ≡ 0) ⊎ (exit_status result ≡ 2) }
     ensures requests { (kind : ErrorKind) → Asks (map S.text words.now) kind
@@ -89,27 +98,39 @@ where
         → exit_status result ≡ 2 }
     ensures status { exit_status result ≤ 2 }
 {
-    match obey(alloc, words, files, net, input, out, errors) {
+    match obey(alloc, words, files, net, input, console) {
         Ok(status) => ExitCode::from(status),
-        Err(stop) => ExitCode::from(explain(files, out, errors, &stop)),
+        Err(stop) => ExitCode::from(explain(files, console, &stop)),
     }
 }
 
 /// Prints why there is no report, and at a terminal what would mend it, and gives the status.
-fn explain<F: Forms, O: Write, E: Write + ByteWriter>(
+fn explain<F: Forms, C: Clock, O: Write, E: Write + ByteWriter>(
     files: &F,
-    out: &mut O,
-    errors: &mut E,
+    console: &mut Terminal<'_, C, O, E>,
     stop: &Stop<'_>,
 ) -> u8
-    ensures error { is_error stop.now ≡ true → (result ≡ 2) × (out.new ≡ out.old) }
+    ensures error { is_error stop.now ≡ true
+        → (result ≡ 2) × (console.new.output.stream ≡ console.old.output.stream) }
     ensures status { (result ≡ status_of stop.now) ⊎ (result ≡ 2) }
 {
-    let status = printing::explain(out, errors, stop);
+    let status = tell(console, stop);
     if files.is_terminal() {
-        printing::sentence(errors, stop);
+        printing::sentence(&mut console.errors, stop);
     }
     status
+}
+
+/// Prints why there is no report, and gives the status.
+fn tell<C: Clock, O: Write, E: Write + ByteWriter>(
+    console: &mut Terminal<'_, C, O, E>,
+    stop: &Stop<'_>,
+) -> u8
+    ensures error { is_error stop.now ≡ true
+        → (result ≡ 2) × (console.new.output.stream ≡ console.old.output.stream) }
+    ensures status { (result ≡ status_of stop.now) ⊎ (result ≡ 2) }
+{
+    printing::explain(&mut console.output.stream, &mut console.errors, stop)
 }
 
 /// Carries out the call that the words spell, and gives the status.
@@ -119,21 +140,22 @@ fn obey<'a, S: AsStr, F: Texts + Logs + Forms + Stores, N, I, O: Write + ByteWri
     files: &F,
     net: &N,
     input: &mut I,
-    out: &mut O,
-    errors: &mut E,
+    console: &mut Terminal<'_, N, O, E>,
 ) -> Result<u8, Stop<'a>>
 where
     N: Net<Listener = TcpListener, Stream = TcpStream> + Clock,
     I: Read + ByteReader,
     ensures calls { (call : Asked) → Means (map S.text words.now) call
         → OnCheck (F.text_at files.now) (I.remaining input.old) call
-        (λ check. EndsBy check (O.writes out.old) result (O.writes out.new)) }
+        (λ check. EndsBy check (O.writes console.old.output.stream) result
+        (O.writes console.new.output.stream)) }
     ensures ran { (call : Asked) → Means (map S.text words.now) call
         → OnRun (F.text_at files.now) call
-        (λ server. EndsRun server (I.reads input.old) (O.writes out.old) result
-        (I.reads input.new) (O.writes out.new))
+        (λ server. EndsRun server (I.reads input.old) (O.writes console.old.output.stream) result
+        (I.reads input.new) (O.writes console.new.output.stream))
         (λ path server. EndsStoredRun path F.Store.recovers server (I.reads input.old)
-        (O.writes out.old) result (I.reads input.new) (O.writes out.new)) }
+        (O.writes console.old.output.stream) result (I.reads input.new)
+        (O.writes console.new.output.stream)) }
     ensures alone { (call : Asked) → Means (map S.text words.now) call
         → EndsAsked F.Store.recovers (F.text_at files.now) call result }
     ensures served { (call : Asked) → Means (map S.text words.now) call
@@ -141,16 +163,21 @@ where
     ensures requests { (kind : ErrorKind) → Asks (map S.text words.now) kind
         → StopsBy kind result }
     ensures reading { (call : Asked) → Means (map S.text words.now) call
-        → CarriedOut (may_be_folder (F.text_at files.now) (F.is_unreadable files.now)) call
+        → CarriedOut (is_folder_in (F.text_at files.now) (F.is_unreadable files.now)
+        (F.folder_at files.now)) call
         (λ c. EndsReading (names_of c) (address_of c) result) }
     ensures order { (call : Asked) → Means (map S.text words.now) call
-        → CarriedOut (may_be_folder (F.text_at files.now) (F.is_unreadable files.now)) call
-        (λ c. ReadsInOrder (F.is_unreadable files.now) (files_in c) result) }
+        → CarriedOut (is_folder_in (F.text_at files.now) (F.is_unreadable files.now)
+        (F.folder_at files.now)) call
+        (λ c. ReadsInOrder (F.is_unreadable files.now) (files_in c) result
+        × OnForm (F.disk files.now) (I.remaining input.old) (I.remaining input.new) c (λ Ends.
+        EndsFormIfRoom Ends (O.writes console.old.output.stream) result
+        (O.writes console.new.output.stream))) }
     ensures found { IsFoundIn (faults_of (map S.text words.now)) result }
     ensures status { IfOk result (λ status. status ≤ 1) }
 {
     let call = command_line::read(alloc, words)?;
-    carry_out(alloc, call, files, net, input, out, errors)
+    carry_out(alloc, call, files, net, input, console)
 }
 
 /// Carries out the call, and gives the status.
@@ -160,28 +187,34 @@ fn carry_out<'a, F: Texts + Logs + Forms + Stores, N, I, O: Write + ByteWriter, 
     files: &F,
     net: &N,
     input: &mut I,
-    out: &mut O,
-    errors: &mut E,
+    console: &mut Terminal<'_, N, O, E>,
 ) -> Result<u8, Stop<'a>>
 where
     N: Net<Listener = TcpListener, Stream = TcpStream> + Clock,
     I: Read + ByteReader,
     ensures ends { OnCheck (F.text_at files.now) (I.remaining input.old) (call_view call.entry)
-        (λ check. EndsBy check (O.writes out.old) result (O.writes out.new)) }
+        (λ check. EndsBy check (O.writes console.old.output.stream) result
+        (O.writes console.new.output.stream)) }
     ensures ran { OnRun (F.text_at files.now) (call_view call.entry)
-        (λ server. EndsRun server (I.reads input.old) (O.writes out.old) result
-        (I.reads input.new) (O.writes out.new))
+        (λ server. EndsRun server (I.reads input.old) (O.writes console.old.output.stream) result
+        (I.reads input.new) (O.writes console.new.output.stream))
         (λ path server. EndsStoredRun path F.Store.recovers server (I.reads input.old)
-        (O.writes out.old) result (I.reads input.new) (O.writes out.new)) }
+        (O.writes console.old.output.stream) result (I.reads input.new)
+        (O.writes console.new.output.stream)) }
     ensures alone { EndsAsked F.Store.recovers (F.text_at files.now) (call_view call.entry) result }
-    ensures order { CarriedOut (may_be_folder (F.text_at files.now) (F.is_unreadable files.now))
-        (call_view call.entry) (λ c. ReadsInOrder (F.is_unreadable files.now) (files_in c) result) }
-    ensures reading { CarriedOut (may_be_folder (F.text_at files.now) (F.is_unreadable files.now))
-        (call_view call.entry) (λ c. EndsReading (names_of c) (address_of c) result) }
+    ensures order { CarriedOut (is_folder_in (F.text_at files.now) (F.is_unreadable files.now)
+        (F.folder_at files.now)) (call_view call.entry)
+        (λ c. ReadsInOrder (F.is_unreadable files.now) (files_in c) result
+        × OnForm (F.disk files.now) (I.remaining input.old) (I.remaining input.new) c (λ Ends.
+        EndsFormIfRoom Ends (O.writes console.old.output.stream) result
+        (O.writes console.new.output.stream))) }
+    ensures reading { CarriedOut (is_folder_in (F.text_at files.now) (F.is_unreadable files.now)
+        (F.folder_at files.now)) (call_view call.entry)
+        (λ c. EndsReading (names_of c) (address_of c) result) }
     ensures served { is_service (call_view call.entry) ≡ true → IfOk result (λ status. status ≡ 0) }
 {
     match call {
-        Call::Input => checking::check_input(alloc, input, out),
+        Call::Input => checking::check_input(alloc, input, &mut console.output.stream),
         Call::Check {
             uri,
             schema,
@@ -192,19 +225,21 @@ where
                 schema,
                 instance,
             };
-            folders::check(alloc, files, named, input, out, errors)
+            folders::check(alloc, files, named, input, console)
         }
-        Call::CheckMany { checks } => files.check_many(&checks, input, out, errors),
-        Call::Bundle { bundling } => files.bundle(&bundling, out, errors),
-        Call::Scan { scanning } => files.scan(&scanning, out, errors),
-        Call::Run { setup } => run_connection(alloc, files, setup, input, out),
+        Call::CheckMany { checks } => files.check_many(&checks, input, console),
+        Call::Bundle { bundling } => files.bundle(&bundling, console),
+        Call::Scan { scanning } => files.scan(&scanning, console),
+        Call::Run { setup } => {
+            run_connection(alloc, files, setup, input, &mut console.output.stream)
+        }
         Call::Serve {
             setup,
             listen,
             accept,
         } => {
             let turns = InTurn { listen, accept };
-            serve_in_turn(alloc, net, files, setup, turns, errors)
+            serve_in_turn(alloc, net, files, setup, turns, &mut console.errors)
         }
         Call::ServeMany {
             setup,
@@ -217,7 +252,7 @@ where
                 limits,
                 logging,
             };
-            serve_side_by_side(alloc, net, files, setup, service, errors)
+            serve_side_by_side(alloc, net, files, setup, service, &mut console.errors)
         }
     }
 }

@@ -14,7 +14,7 @@ const STEPS: u64 = 64;
 
 /// How many are done, and since when.
 #[derive(Drop)]
-pub(crate) struct Progress<'a, C: Clock> {
+pub struct Progress<'a, C: Clock> {
     clock: &'a C,
     // Whether anything is told.
     tells: bool,
@@ -26,25 +26,33 @@ pub(crate) struct Progress<'a, C: Clock> {
 }
 
 impl<'a, C: Clock> Progress<'a, C> {
-    /// From now on. Nothing is told unless `tells`.
-    pub(crate) fn new(clock: &'a C, tells: bool) -> Progress<'a, C> {
-        let begun = if tells {
-            Instant::now(clock).ok()
-        } else {
-            None
-        };
+    /// Of nothing yet.
+    pub fn new(clock: &'a C) -> Progress<'a, C> {
         Progress {
             clock,
-            tells,
-            begun,
+            tells: false,
+            begun: None,
             told: None,
             done: 0,
             shown: false,
         }
     }
 
+    /// From now on. Nothing is told unless `tells`.
+    pub fn begin(&mut self, tells: bool) {
+        self.tells = tells;
+        self.begun = if tells {
+            Instant::now(self.clock).ok()
+        } else {
+            None
+        };
+        self.told = None;
+        self.done = 0;
+        self.shown = false;
+    }
+
     /// One more is done, of so many, if that is known.
-    pub(crate) fn step<E: Write>(&mut self, alloc: Global, total: Option<usize>, errors: &mut E) {
+    pub fn step<E: Write>(&mut self, alloc: Global, total: Option<usize>, errors: &mut E) {
         self.done = self.done.saturating_add(1);
         if !self.tells || self.done % STEPS != 0 {
             return;
@@ -70,7 +78,7 @@ impl<'a, C: Clock> Progress<'a, C> {
     }
 
     /// Takes the line away, if it is there.
-    pub(crate) fn clear<E: Write>(&mut self, errors: &mut E) {
+    pub fn clear<E: Write>(&mut self, errors: &mut E) {
         if self.shown {
             self.shown = false;
             let _ = errors.write_all(b"\r\x1b[K");

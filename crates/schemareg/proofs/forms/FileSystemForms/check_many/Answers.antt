@@ -1,0 +1,12 @@
+use Rattle.std.proofs.Common.{string_bytes}
+use Rattle.file_forms.specs.Checks.{state_with}
+use Rattle.schemareg.specs.Outputs.{bytes_in, given_text}
+use Rattle.schemareg.proofs.Formed.{form_shown}
+use Rattle.schemareg.proofs.forms.FileSystemForms.check_many.Goals as goal
+
+pub returns-clause-ends : goal.returns-clause-ends
+returns-clause-ends g c =
+    let console = c.check_many-status.new.console in
+    let printed = given_text (g.O.ByteWriter.writes console.output.stream) console.output.lost (string_bytes console.output.pending) in
+    form_shown _ _ _ _ _ (state_with printed (bytes_in console.told) c.check_many-status.result) _ c.begin.ensures.printed c.begin.ensures.told c.check_many-status.ensures
+    c.end.ensures.shown

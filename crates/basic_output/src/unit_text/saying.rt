@@ -109,12 +109,30 @@ impl Saying {
     fn write(&mut self, says: Says<'_, '_>) -> Result<(), AllocError>
         ensures { OnOk result (string_bytes self.new.text ≡ text (says_value says.entry)) }
     {
+        match says {
+            Says::True => write_text(&mut self.text, "true"),
+            _ => self.write_value(says),
+        }
+    }
+
+    // Writes the value's text by the writer of `json`.
+    fn write_value(&mut self, says: Says<'_, '_>) -> Result<(), AllocError>
+        ensures { OnOk result (string_bytes self.new.text ≡ text (says_value says.entry)) }
+    {
         let alloc = *self.text.allocator();
         let mut out = writer_over(&mut self.text);
         write_says(alloc, says, &mut out)?;
         self.text = written_by(out);
         Ok(())
     }
+}
+
+// Writes the text in place of what stands there.
+fn write_text(out: &mut String, text: &str) -> Result<(), AllocError>
+    ensures { OnOk result (string_bytes out.new ≡ text.now) }
+{
+    out.clear();
+    out.push_str(text)
 }
 
 // What a unit says, where it is a string that stands as it is, or no names.

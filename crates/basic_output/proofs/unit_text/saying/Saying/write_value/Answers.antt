@@ -4,7 +4,7 @@ use Rattle.serde_json.proofs.Texts.{print-outline}
 use Rattle.definitions.specs.Texts.{data_of}
 use Rattle.json_doc.specs.Tokens.{value_tokens}
 use Rattle.basic_output.specs.Sayings.{says_value}
-use Rattle.basic_output.proofs.unit_text.saying.Saying.write.Goals as goal
+use Rattle.basic_output.proofs.unit_text.saying.Saying.write_value.Goals as goal
 
 pub returns : goal.returns
 returns c =

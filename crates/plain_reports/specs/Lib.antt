@@ -1,5 +1,6 @@
 pub mod ErrorUnits
 pub mod Escapes
 pub mod JsonLines
+pub mod Shown
 pub mod Told
 pub mod UnitViews

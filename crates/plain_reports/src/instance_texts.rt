@@ -14,11 +14,12 @@ pub(crate) struct InstanceText<'a> {
     positions: Positions<'a>,
 }
 
-/// A value in an instance's text: where it begins, and how it begins.
+/// A value in an instance's text: where it begins, how it begins, and what a schema asks for instead, where that is told.
 #[derive(Drop)]
 pub(crate) struct Found {
     pub(crate) position: Position,
     pub(crate) value: String,
+    pub(crate) wanted: Option<String>,
 }
 
 impl<'a> InstanceText<'a> {
@@ -46,6 +47,13 @@ impl<'a> InstanceText<'a> {
         Ok(Found {
             position: self.positions.at(start),
             value: shortened(alloc, value)?,
+            wanted: None,
         })
+    }
+
+    /// The value at a location, as it was read; none where there is none. The only error is want of memory.
+    pub(crate) fn value_at(&self, alloc: Global, location: &str) -> Result<Option<&Doc>, Fault> {
+        let pointer = Pointer::parse(alloc, location)?;
+        Ok(pointer.find(&self.doc))
     }
 }

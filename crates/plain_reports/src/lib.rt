@@ -9,11 +9,15 @@ mod json_lines;
 mod lines;
 mod sentences;
 mod shortening;
+mod shown;
 mod units;
+mod wanted;
 
 pub use causes::causes_of;
 pub use instance::{Instance, Style};
 pub use json_doc::Fault;
 pub use json_lines::json_line;
 pub use lines::error_lines;
+pub use shown::shown_text;
 pub use units::{ErrorUnit, error_units};
+pub use wanted::Schemas;

@@ -12,19 +12,22 @@ use crate::github::{push_message, push_property};
 use crate::instance::{Instance, Style};
 use crate::instance_texts::{Found, InstanceText};
 use crate::sentences::predicate;
-use crate::shortening::push_shown;
+use crate::shown::push_shown;
 use crate::units::{ErrorUnit, error_units};
+use crate::wanted::{Schemas, wanted};
 use json::Scratch;
 use json_doc::{Fault, read};
 use std::alloc::{AllocError, Global};
 use text_places::Places;
 
 /// What is wrong with an instance, of whose Basic output this is the text: for each cause, in the output's order, where the
-/// value stands, what is wrong with it, and where the keyword stands, on lines of its own. A valid instance has none.
+/// value stands, what is wrong with it, and where the keyword stands, on lines of its own. A valid instance has none. What a
+/// keyword asks for is told by its value in the schemas.
 ///
 /// BadJson and BadNumber where the output or the instance is no text that is read; the only other error is want of memory.
-pub fn error_lines(
+pub fn error_lines<S: Schemas>(
     alloc: Global,
+    schemas: &S,
     instance: Instance<'_>,
     output: &str,
     style: Style,
@@ -35,12 +38,13 @@ pub fn error_lines(
     let output = read(alloc, output.as_bytes())?;
     let units = error_units(alloc, &output)?;
     let causes = causes_of(alloc, units.as_slice())?;
-    tell(alloc, instance, causes.as_slice(), style)
+    tell(alloc, schemas, instance, causes.as_slice(), style)
 }
 
 // What is told of the causes.
-fn tell(
+fn tell<S: Schemas>(
     alloc: Global,
+    schemas: &S,
     instance: Instance<'_>,
     causes: &[ErrorUnit<'_>],
     style: Style,
@@ -57,11 +61,12 @@ fn tell(
     let mut scratch = Scratch::new(alloc);
     let places = Places::of(alloc, text, &mut scratch)?;
     let mut text = InstanceText::of(text, doc, places);
-    tell_each(alloc, instance, &mut text, causes, style)
+    tell_each(alloc, schemas, instance, &mut text, causes, style)
 }
 
-fn tell_each(
+fn tell_each<S: Schemas>(
     alloc: Global,
+    schemas: &S,
     instance: Instance<'_>,
     text: &mut InstanceText<'_>,
     causes: &[ErrorUnit<'_>],
@@ -71,11 +76,23 @@ fn tell_each(
 {
     let mut lines = String::new(alloc);
     for cause in causes {
-        let found = text.find(alloc, cause.instance_location)?;
+        let found = found_for(alloc, schemas, text, cause)?;
         let told = told_cause(alloc, instance, cause, &found, style)?;
         lines.push_str(told.as_str())?;
     }
     Ok(lines)
+}
+
+// The value that the cause is of, and what is asked for instead.
+fn found_for<S: Schemas>(
+    alloc: Global,
+    schemas: &S,
+    text: &mut InstanceText<'_>,
+    cause: &ErrorUnit<'_>,
+) -> Result<Found, Fault> {
+    let mut found = text.find(alloc, cause.instance_location)?;
+    found.wanted = wanted(alloc, schemas, text, cause)?;
+    Ok(found)
 }
 
 // What is told of one cause, to the end of its last line.
@@ -131,7 +148,7 @@ fn push_place(
     colours: bool,
 ) -> Result<(), AllocError> {
     push_colour(lines, "\u{1b}[1m", colours)?;
-    lines.push_str(path)?;
+    push_shown(lines, path)?;
     let place = format!(in alloc; ":{line}:{}:", found.position.column)?;
     lines.push_str(place.as_str())?;
     push_colour(lines, "\u{1b}[0m", colours)?;
@@ -146,7 +163,7 @@ fn push_colour(lines: &mut String, colour: &str, colours: bool) -> Result<(), Al
     }
 }
 
-// `/instance/location: VALUE is ..`
+// `/instance/location: VALUE is ..`, and `: ` and what is wanted
 fn push_sentence(
     lines: &mut String,
     cause: &ErrorUnit<'_>,
@@ -160,7 +177,18 @@ fn push_sentence(
     lines.push_str(": ")?;
     lines.push_str(found.value.as_str())?;
     lines.push_str(" ")?;
-    lines.push_str(predicate(cause.error))
+    lines.push_str(predicate(cause.error))?;
+    push_wanted(lines, &found.wanted)
+}
+
+fn push_wanted(lines: &mut String, wanted: &Option<String>) -> Result<(), AllocError> {
+    match wanted {
+        Some(wanted) => {
+            lines.push_str(": ")?;
+            lines.push_str(wanted.as_str())
+        }
+        None => Ok(()),
+    }
 }
 
 fn push_locations(

@@ -2,14 +2,17 @@
 
 use keywords::Keyword;
 
-/// What a value is or does where the keyword of this error isn't met; the error is that of a unit, as `type is not met`.
+/// The keyword that isn't met, by the error of its unit, as `type is not met`; none where the error is another, or no keyword
+/// has the name.
+pub(crate) fn unmet(error: &str) -> Option<Keyword> {
+    Keyword::named(error.strip_suffix(" is not met")?)
+}
+
+/// What a value is or does where the keyword of this error isn't met.
 pub(crate) fn predicate(error: &str) -> &'static str {
-    let Some(name) = error.strip_suffix(" is not met") else {
-        return "is not allowed here";
-    };
-    match Keyword::named(name) {
+    match unmet(error) {
         Some(keyword) => predicate_of(keyword),
-        None => "is not allowed by the schema",
+        None => "is not allowed here",
     }
 }
 

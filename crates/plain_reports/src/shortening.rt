@@ -2,6 +2,7 @@
 
 ghost use Rattle.std.specs.Prelude.{◌≤◌, IfOk, string_len};
 
+use crate::shown::shown;
 use std::alloc::{AllocError, Global};
 
 // How many characters of a value are shown.
@@ -32,21 +33,4 @@ pub(crate) fn shortened(alloc: Global, text: &str) -> Result<String, AllocError>
 
 fn is_break(character: char) -> bool {
     matches!(character, '\n' | '\r' | '\t')
-}
-
-/// The character, or what is shown in place of one that a terminal might obey.
-pub(crate) fn shown(character: char) -> char {
-    if character.is_control() {
-        '\u{fffd}'
-    } else {
-        character
-    }
-}
-
-/// Appends the text without characters that a terminal might obey.
-pub(crate) fn push_shown(out: &mut String, text: &str) -> Result<(), AllocError> {
-    for character in text.chars() {
-        out.push(shown(character))?;
-    }
-    Ok(())
 }

@@ -1,7 +1,8 @@
 //! What is told of an instance that was judged.
 
 use crate::expectations::expect_told;
-use plain_reports::{Fault, Instance, Style, error_lines, json_line};
+use json_doc::{Doc, read};
+use plain_reports::{Fault, Instance, Schemas, Style, error_lines, json_line, shown_text};
 use std::alloc::Global;
 use std::process::Abort;
 
@@ -12,13 +13,31 @@ const OUTPUT: &str =
 const TEXT: &str =
     "{\n  \"lines\": [\n    { \"price\": \"twelve\" }\n  ],\n  \"note\": [\n    1,\n    2\n  ]\n}\n";
 
+// The value of each keyword, wherever it stands.
+struct OneValue(Option<Doc>);
+
+impl Schemas for OneValue {
+    fn keyword_value(&self, _alloc: Global, _location: &str) -> Option<&Doc> {
+        self.0.as_ref()
+    }
+}
+
 fn told(alloc: Global, line: Option<usize>, style: Style) -> Result<String, Fault> {
+    told_by(alloc, &OneValue(None), line, style)
+}
+
+fn told_by(
+    alloc: Global,
+    schemas: &OneValue,
+    line: Option<usize>,
+    style: Style,
+) -> Result<String, Fault> {
     let instance = Instance {
         path: "orders/7,a.json",
         line,
         text: TEXT.as_bytes(),
     };
-    Ok(error_lines(alloc, instance, OUTPUT, style)?)
+    Ok(error_lines(alloc, schemas, instance, OUTPUT, style)?)
 }
 
 const CAUSES: &str =
@@ -84,4 +103,41 @@ fn lines_of_json_begin_with_the_instance(rt: HostRuntime) {
         wanted,
         "a line of JSON",
     );
+}
+
+// With `["lines","id"]` as the value of each keyword.
+const WANTED: &str =
+    "orders/7,a.json:1:1: (root): {\"lines\": [{ \"price\": \"twelve\" }],\"note\": [1,2]} lacks a member that is required: \"id\"
+    by /required
+    at https://ex.org/order#/required
+orders/7,a.json:3:16: /lines/0/price: \"twelve\" is of another type than the schema allows: [\"lines\",\"id\"]
+    by /properties/lines/items/$ref/properties/price/type
+    at https://ex.org/line#/properties/price/type
+orders/7,a.json:5:11: /note: [1,2] is not allowed here
+    by /additionalProperties
+    at https://ex.org/order#/additionalProperties
+";
+
+fn told_with_values(alloc: Global) -> Result<String, Fault> {
+    let schemas = OneValue(Some(read(alloc, br#"["lines","id"]"#)?));
+    told_by(alloc, &schemas, None, Style::Text { colours: false })
+}
+
+#[test]
+fn what_is_wanted_is_told(rt: HostRuntime) {
+    let found = told_with_values(rt.alloc());
+    expect_told(&rt, rt.alloc(), found, WANTED, "what is wanted");
+}
+
+#[test]
+fn a_terminal_obeys_nothing_that_is_shown(rt: HostRuntime) {
+    let text = "a\u{1b}[1m\u{7f}\u{9b}\n\u{202a}\u{202e}\u{2066}\u{2069} \u{2065}é\u{200d}";
+    let wanted =
+        "a\u{fffd}[1m\u{fffd}\u{fffd}\u{fffd}\u{fffd}\u{fffd}\u{fffd}\u{fffd} \u{2065}é\u{200d}";
+    let found = shown(rt.alloc(), text);
+    expect_told(&rt, rt.alloc(), found, wanted, "what is shown");
+}
+
+fn shown(alloc: Global, text: &str) -> Result<String, Fault> {
+    Ok(shown_text(alloc, text)?)
 }

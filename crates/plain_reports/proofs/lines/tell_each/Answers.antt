@@ -6,7 +6,7 @@ use Rattle.plain_reports.proofs.Parts.{with_one_more}
 use Rattle.plain_reports.proofs.lines.tell_each.Goals as goal
 
 pub loop-cause-preserved : goal.loop-cause-preserved
-loop-cause-preserved c =
+loop-cause-preserved g c =
     let i = c.loop-cause.invariant in
     let told = string_bytes c.in_ok-told.told in
     let text = string_bytes c.loop-cause.lines in (

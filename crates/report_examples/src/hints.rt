@@ -7,7 +7,7 @@ use std::alloc::Global;
 use std::process::Abort;
 
 fn found(alloc: Global, schema: &str) -> Result<Findings, Fault> {
-    Ok(look_over(alloc, &read(alloc, schema.as_bytes())?)?)
+    Ok(look_over(alloc, &read(alloc, schema.as_bytes())?, false)?)
 }
 
 // A schema, and its warnings with `; ` between them.
@@ -54,10 +54,9 @@ const WARNINGS: &[(&str, &str)] = &[
         r#"{"definitions":{"a~b":{"nto":{}}}}"#,
         "/definitions: definitions is $defs by now, and nothing here refers into it; /definitions/a~0b/nto: nto is no keyword; did you mean not?",
     ),
-    (
-        "{\"definitions\":{\"a\":{}},\"items\":{\"$ref\":\"#/definitions/a\"}}",
-        "",
-    ),
+    // What has a name can be referred to.
+    (r#"{"definitions":{"a":{"$anchor":"a"}}}"#, ""),
+    (r#"{"definitions":{"a":{"$id":"https://ex.org/a"}}}"#, ""),
 ];
 
 fn push_hint(alloc: Global, text: &mut String, hint: &Hint) -> Result<(), Fault> {
@@ -87,6 +86,16 @@ fn schemas_have_their_warnings(rt: HostRuntime) {
     for row in WARNINGS {
         expect_warnings(&rt, rt.alloc(), row);
     }
+}
+
+fn count_referred(alloc: Global) -> Result<usize, Fault> {
+    let schema = read(alloc, br#"{"definitions":{"a":{}}}"#)?;
+    Ok(look_over(alloc, &schema, true)?.hints.len())
+}
+
+#[test]
+fn definitions_that_are_referred_to_are_passed_over(rt: HostRuntime) {
+    assert_eq!(rt; count_referred(rt.alloc()), Ok(0));
 }
 
 fn push_anchor(alloc: Global, text: &mut String, anchor: &Anchor) -> Result<(), Fault> {

@@ -9,7 +9,7 @@ ghost use Rattle.schema_hints.specs.SchemaPlaces.{IsSchemaAt, extended};
 use crate::hint::{Anchor, Hint, Warning};
 use crate::names::{looked_like, successor};
 use crate::schemas::{SchemaPlace, extended, schemas_in};
-use json_doc::{Doc, Fault};
+use json_doc::{Doc, Fault, Members};
 use std::alloc::{AllocError, Global};
 
 /// What was found in a schema document.
@@ -22,13 +22,14 @@ pub struct Findings {
 }
 
 /// What is found in the schemas of a document, and not in the values of `enum`, `const`, `default` and the like. A document
-/// that is no object has no schemas. The only error is want of memory.
-pub fn look_over(alloc: Global, document: &Doc) -> Result<Findings, Fault>
+/// that is no object has no schemas. `is_referred` says whether a reference leads into its `definitions`. The only error is
+/// want of memory.
+pub fn look_over(alloc: Global, document: &Doc, is_referred: bool) -> Result<Findings, Fault>
     ensures ok { IfOk result (λ f. AreOfSchemas (value document.now) f.hints.items) }
     ensures err { IfErr result (λ f. f ≡ Fault.NoRoom) }
 {
     let schemas = schemas_in(alloc, document)?;
-    let refers = refers_to_definitions(schemas.as_slice());
+    let refers = is_referred || has_named_definitions(schemas.as_slice());
     let mut found = Findings {
         hints: Vec::new(alloc),
         anchors: Vec::new(alloc),
@@ -39,29 +40,19 @@ pub fn look_over(alloc: Global, document: &Doc) -> Result<Findings, Fault>
     Ok(found)
 }
 
-// Whether some reference leads into `definitions`.
-fn refers_to_definitions(schemas: &[SchemaPlace<'_>]) -> bool {
-    for place in schemas {
-        for (name, member) in place.members.iter() {
-            if is_reference_to_definitions(name, member) {
-                return true;
-            }
-        }
-    }
-    false
+// Whether a schema below `definitions` has a name of its own, by which it can be referred to.
+fn has_named_definitions(schemas: &[SchemaPlace<'_>]) -> bool {
+    schemas.iter().any(|place| place.location.contains("/definitions/") && has_name(place.members))
 }
 
-fn is_reference_to_definitions(name: &str, member: &Doc) -> bool {
-    match member.as_str() {
-        Some(reference) => {
-            (name == "$ref" || name == "$dynamicRef") && reference.contains("/definitions/")
-        }
-        None => false,
-    }
+fn has_name(members: &Members) -> bool {
+    ["$id", "$anchor", "$dynamicAnchor"]
+        .iter()
+        .any(|name| members.get(*name).is_some())
 }
 
 impl Findings {
-    // What is found in one schema; `refers` is whether some reference leads into `definitions`.
+    // What is found in one schema; `refers` is whether something may lead into `definitions`.
     fn note_schema(
         &mut self,
         alloc: Global,
@@ -137,7 +128,7 @@ fn hint_at(alloc: Global, location: &str, name: &str, warning: Warning) -> Resul
     })
 }
 
-// What is told of a member of a schema; `refers` is whether some reference leads into `definitions`.
+// What is told of a member of a schema; `refers` is whether something may lead into `definitions`.
 fn warning_of(
     alloc: Global,
     name: &str,

@@ -9,7 +9,7 @@ pub enum Warning {
     LooksLike(&'static str),
     /// The name is a keyword of older drafts, which 2020-12 doesn't look at; this stands in its place now.
     Older(&'static str),
-    /// `definitions`, which is `$defs` by now, and into which nothing in the document refers.
+    /// `definitions`, which is `$defs` by now, and into which nothing that is known refers.
     UnusedDefinitions,
     /// `format` annotates, and asserts nothing.
     Format,

@@ -39,6 +39,13 @@ impl<'a> Checker<'a> {
         }
     }
 
+    /// What was linked.
+    pub fn linked(&self) -> &'a Linked
+        ensures { result.now ≡ checker_linked self.now }
+    {
+        self.linked
+    }
+
     /// What the resource's root says of the instance that the text spells: the evaluation over all documents that it was
     /// linked among, and none but these.
     ///

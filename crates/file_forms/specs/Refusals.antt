@@ -1,5 +1,6 @@
 -- What is told of a trouble.
-use Rattle.std.specs.Prelude.{◌≡◌, ◌⊎◌, ◌++◌, ℕ, Option, Some, None, IfSome, codes, option_map, string_bytes}
+use Rattle.std.specs.Prelude.{◌≡◌, ◌⊎◌, ◌++◌, ◌∷◌, [], ℕ, Option, Some, None, IfSome, codes, option_map, string_bytes}
+use Rattle.definitions.specs.Bytes.{line_feed}
 use Rattle.definitions.specs.Faults.{Fault}
 use Rattle.definitions.specs.Values.{Text}
 use Rattle.faults.specs.View.{fault_view}
@@ -8,6 +9,7 @@ use Rattle.file_forms.specs.RefusalLines.{refusal_line}
 use Rattle.file_forms.specs.declared.trouble.Refusal.{Refusal}
 use Rattle.file_forms.specs.declared.trouble.Trouble.{Trouble}
 use Rattle.file_forms.specs.declared.trouble.Trouble.TheVariants.{CannotRead, Refused, CannotWrite}
+use Rattle.plain_reports.specs.Shown.{shown_text}
 
 abbrev pub path_of : Refusal → Option Text
 path_of refusal = option_map (λ p. string_bytes p) refusal.path
@@ -46,16 +48,16 @@ abbrev pub IsRefusal : Text → Option ℕ → code.Fault → Trouble → Type 0
 IsRefusal path line fault (Refused refusal) = IsRefusedFor path line fault refusal ⊎ IsNoRoom path refusal
 IsRefusal path line fault _ = ⊥
 
--- the line of a refusal, and below it another, which begins with two spaces
+-- the line of a refusal, as it is shown, and below it another, which begins with two spaces
 pub record IsRefusalText (path : Option Text) (line : Option ℕ) (fault : Fault) (told : Text) : Type 0 where
   pub below : Text
-  pub lines : told ≡ refusal_line path line fault ++ codes "\n  " ++ below
+  pub lines : told ≡ shown_text (refusal_line path line fault) ++ codes "\n  " ++ below
 
--- the lines that tell a trouble
+-- the lines that tell a trouble, as they are shown
 abbrev pub IsLineOf : Trouble → Text → Type 0
-IsLineOf (CannotRead path) told = told ≡ codes "cannot read " ++ string_bytes path ++ codes "\n"
+IsLineOf (CannotRead path) told = told ≡ codes "cannot read " ++ shown_text (string_bytes path) ++ line_feed ∷ []
 IsLineOf (Refused refusal) told = IsRefusalText (path_of refusal) refusal.line (fault_view refusal.fault) told
-IsLineOf (CannotWrite path) told = told ≡ codes "cannot write " ++ string_bytes path ++ codes "\n"
+IsLineOf (CannotWrite path) told = told ≡ codes "cannot write " ++ shown_text (string_bytes path) ++ line_feed ∷ []
 
 -- its lines, or that memory ran out
 abbrev pub IsTold : Trouble → Text → Type 0

@@ -8,6 +8,7 @@ ghost use Rattle.file_forms.specs.Judged.{ByLinked, IsVerdict};
 ghost use Rattle.file_forms.specs.Printed.{IsPrinted, verdict_by};
 ghost use Rattle.plain_reports.specs.JsonLines.{json_line_text};
 
+use crate::linked_schemas::LinkedSchemas;
 use command_line::Format;
 use evaluator::Report;
 use file_checks::{Checker, Fault, Verdict};
@@ -35,7 +36,8 @@ pub(crate) fn answer(
     ensures same { checker_linked checker.new ≡ checker_linked checker.old }
 {
     let report = checker.check(instance.text)?;
-    let text = answer_text(alloc, printing, instance, &report)?;
+    let schemas = LinkedSchemas(checker.linked());
+    let text = answer_text(alloc, printing, schemas, instance, &report)?;
     Ok((verdict_of(&report), text))
 }
 
@@ -44,6 +46,7 @@ pub(crate) fn answer(
 fn answer_text(
     alloc: Global,
     printing: Printing,
+    schemas: LinkedSchemas<'_>,
     instance: Instance<'_>,
     report: &Report,
 ) -> Result<String, Fault>
@@ -51,7 +54,7 @@ fn answer_text(
         instance.entry.line (is_valid report.now, report_text report.now) (string_bytes s)) }
     ensures err { IfErr result (λ f. f ≡ Fault.NoRoom) }
 {
-    match printed(alloc, printing, instance, report) {
+    match printed(alloc, printing, schemas, instance, report) {
         Ok(text) => Ok(text),
         Err(_) => Err(Fault::NoRoom),
     }
@@ -60,6 +63,7 @@ fn answer_text(
 fn printed(
     alloc: Global,
     printing: Printing,
+    schemas: LinkedSchemas<'_>,
     instance: Instance<'_>,
     report: &Report,
 ) -> Result<String, Fault>
@@ -72,9 +76,15 @@ fn printed(
         _ if report.valid() => Ok(String::new(alloc)),
         Format::Text => {
             let colours = printing.colours;
-            error_lines(alloc, instance, report.text(), Style::Text { colours })
+            error_lines(
+                alloc,
+                &schemas,
+                instance,
+                report.text(),
+                Style::Text { colours },
+            )
         }
-        Format::Github => error_lines(alloc, instance, report.text(), Style::Github),
+        Format::Github => error_lines(alloc, &schemas, instance, report.text(), Style::Github),
     }
 }
 

@@ -3,26 +3,29 @@
 ghost use Rattle.std.specs.Prelude.{◌≡◌, ◌≢◌, ◌⊎◌, None, Some, true, IfErr, IfOk, codes, map, option_map, string_bytes, unwrap_or};
 ghost use Rattle.file_forms.specs.Gathered.{FileIsGathered, FilesAreGathered, IsAdded, IsAddedAt, IsBegun, IsFileTrouble, IsGathered, IsLibraryTrouble, IsPathTrouble, IsUnplaced, PathIsGathered, PathsAreGathered};
 ghost use Rattle.file_forms.specs.Gathered.{IsLibrary, IsNoPlace, IsUnreadFolder, LiesAt};
-ghost use Rattle.file_forms.specs.Refusals.{IsUnread};
+ghost use Rattle.file_forms.specs.Refusals.{IsUnread, MeansNoRoom};
 ghost use Rattle.file_forms.specs.Told.{ToldUnless};
 ghost use Rattle.file_checks.specs.FileSources.{file_documents};
 ghost use Rattle.schema_scan.specs.CompiledDocuments.{compiled_view};
 
 use crate::console::Console;
 use crate::folders::{Folders, Found};
+use crate::schema_file::SchemaFile;
 use crate::trouble::Trouble;
 use crate::walking::JSON;
 use file_checks::{Fault, FileDocuments, absolute_path, file_uri};
 use schema_scan::Compiled;
-use std::alloc::Global;
+use std::alloc::{AllocError, Global};
 use std::collections::BTreeSet;
 use std::rc::Rc;
 use uri_ref::base_form;
 
-/// Documents, and where those of files lie.
+/// Documents, and the files that have them.
 #[derive(Drop)]
 pub(crate) struct Gathered {
     pub(crate) documents: FileDocuments,
+    // All but those of the library, in the order in which they were added.
+    pub(crate) files: Vec<SchemaFile>,
     // The folder that the program runs in.
     folder: String,
     // The URIs of the files that were read, so that none is read twice.
@@ -50,6 +53,7 @@ impl Gathered {
         match files.current(alloc) {
             Ok(folder) => Ok(Gathered {
                 documents,
+                files: Vec::new(alloc),
                 folder,
                 places: BTreeSet::new(alloc),
             }),
@@ -146,9 +150,37 @@ impl Gathered {
             Err(_) => return Err(Trouble::no_room()),
         }
         match added {
-            Ok(document) => Ok(document),
+            Ok(document) => self.noted(alloc, path, document),
             Err(fault) => Err(Trouble::refused(alloc, path, None, text.as_slice(), fault)),
         }
+    }
+
+    // The document, once it is noted that the file has it.
+    fn noted(
+        &mut self,
+        alloc: Global,
+        path: &str,
+        document: Rc<Compiled>,
+    ) -> Result<Rc<Compiled>, Trouble>
+        ensures ok { IfOk result (λ d. compiled_view d.value ≡ compiled_view document.value) }
+        ensures err { IfErr result MeansNoRoom }
+        ensures gathered { gathering_of self.new ≡ gathering_of self.old }
+        ensures folder { folder_of self.new ≡ folder_of self.old }
+    {
+        match self.note(alloc, path, &document) {
+            Ok(()) => Ok(document),
+            Err(_) => Err(Trouble::no_room()),
+        }
+    }
+
+    fn note(&mut self, alloc: Global, path: &str, document: &Rc<Compiled>) -> Result<(), AllocError>
+        ensures gathered { gathering_of self.new ≡ gathering_of self.old }
+        ensures folder { folder_of self.new ≡ folder_of self.old }
+    {
+        let path = String::from_str(alloc, path)?;
+        let document = document.clone()?;
+        self.files.push(SchemaFile { path, document })?;
+        Ok(())
     }
 
     /// Adds the documents of these files and folders, and tells of each that cannot be. Whether all were added.

@@ -7,10 +7,11 @@ ghost use Rattle.file_forms.specs.Roots.{given_view, IsLinkedSchema, IsRoot, IsR
 use crate::console::Console;
 use crate::folders::Folders;
 use crate::gathering::Gathered;
+use crate::schema_file::{SchemaFile, path_with_reference};
 use crate::trouble::Trouble;
 use checks::DEFAULT_URI;
 use command_line::Documents;
-use file_checks::FileDocuments;
+use file_checks::{Fault, FileDocuments};
 use linker::Linked;
 use schema_scan::{Compiled, canonical};
 use std::alloc::Global;
@@ -29,6 +30,8 @@ pub(crate) struct Given<'a> {
 pub(crate) struct Root {
     pub(crate) documents: FileDocuments,
     pub(crate) schema: Rc<Compiled>,
+    // Those of the documents that files have.
+    files: Vec<SchemaFile>,
 }
 
 /// The schema of the file, among the documents that are given. Each document of a path that is refused is told, and then
@@ -62,6 +65,7 @@ pub(crate) fn gather<F: Folders, C: Console>(
     Ok(Some(Root {
         documents: gathered.documents,
         schema,
+        files: gathered.files,
     }))
 }
 
@@ -121,7 +125,20 @@ impl Root {
         };
         match self.documents.link(alloc, uri.as_str()) {
             Ok(linked) => Ok(linked),
-            Err(fault) => Err(Trouble::refused(alloc, path, None, &[], fault)),
+            Err(fault) => {
+                let origin = self.origin_of(alloc, &fault);
+                Err(Trouble::refused(alloc, path, None, &[], fault).with_origin(origin))
+            }
+        }
+    }
+
+    // The path of the file in which the reference stands that isn't resolved.
+    fn origin_of(&self, alloc: Global, fault: &Fault) -> Option<String> {
+        match fault {
+            Fault::Unresolved(reference) => {
+                path_with_reference(alloc, self.files.as_slice(), reference.as_str())
+            }
+            _ => None,
         }
     }
 }

@@ -8,21 +8,25 @@ ghost use Rattle.file_forms.specs.Scans.{verdict_among, verdict_where};
 use crate::console::Console;
 use crate::folders::Folders;
 use crate::gathering::Gathered;
+use crate::schema_file::{SchemaFile, has_resource_in, with_referred_definitions};
 use crate::trouble::Trouble;
 use crate::walking::JSON;
 use command_line::Scanning;
 use file_checks::{FileDocuments, Tally, Verdict};
+use plain_reports::shown_text;
 use schema_hints::{Anchor, Hint, look_over};
-use schema_scan::{Compiled, canonical};
+use schema_scan::canonical;
 use std::alloc::{AllocError, Global};
-use std::rc::Rc;
+use std::collections::BTreeSet;
 use text_places::{Position, position_of_location};
 
-/// A schema of a file.
-#[derive(Drop)]
-struct SchemaFile {
-    path: String,
-    document: Rc<Compiled>,
+/// What schemas are scanned among, and how each is told.
+#[derive(Clone, Copy)]
+struct Telling<'a> {
+    documents: &'a FileDocuments,
+    // The URIs of resources into whose `definitions` some reference leads.
+    referred: &'a BTreeSet<String>,
+    quiet: bool,
 }
 
 /// Scans schemas, and gives the status: 0, or 1 where a reference leads nowhere, or 2 where a file is refused.
@@ -51,30 +55,18 @@ fn scanned<F: Folders, C: Console>(
 ) -> Result<Tally, Trouble> {
     let mut gathered = Gathered::new(alloc, files, scanning.documents.library)?;
     let mut tally = Tally::new();
-    let mut schemas = Vec::new(alloc);
-    for path in &scanning.schemas {
-        add_schemas(
-            alloc,
-            files,
-            console,
-            &mut gathered,
-            &mut tally,
-            &mut schemas,
-            path,
-        )?;
-    }
-    if !gathered.add_all(alloc, files, console, &scanning.documents.paths) {
-        tally.add(Verdict::Refused);
-    }
-    for schema in &schemas {
-        let verdict = tell_schema(
-            alloc,
-            files,
-            console,
-            &gathered.documents,
-            schema,
-            scanning.quiet,
-        )?;
+    let (schemas, others) = (&scanning.schemas, &scanning.documents.paths);
+    add_all(alloc, files, console, &mut gathered, &mut tally, schemas)?;
+    let count = gathered.files.len();
+    add_all(alloc, files, console, &mut gathered, &mut tally, others)?;
+    let referred = with_referred_definitions(alloc, gathered.files.as_slice())?;
+    let telling = Telling {
+        documents: &gathered.documents,
+        referred: &referred,
+        quiet: scanning.quiet,
+    };
+    for schema in gathered.files.iter().take(count) {
+        let verdict = tell_schema(alloc, files, console, &telling, schema)?;
         tally.add(verdict);
     }
     let line = sum_of(alloc, &tally)?;
@@ -93,6 +85,21 @@ fn sum_of(alloc: Global, tally: &Tally) -> Result<String, AllocError> {
     )
 }
 
+/// Adds the schemas of these files and folders, and tells of each that is refused.
+fn add_all<F: Folders, C: Console>(
+    alloc: Global,
+    files: &F,
+    console: &mut C,
+    gathered: &mut Gathered,
+    tally: &mut Tally,
+    paths: &[&str],
+) -> Result<(), Trouble> {
+    for path in paths {
+        add_schemas(alloc, files, console, gathered, tally, path)?;
+    }
+    Ok(())
+}
+
 /// Adds the schemas of the file or the folder, and tells of each that is refused.
 fn add_schemas<F: Folders, C: Console>(
     alloc: Global,
@@ -100,7 +107,6 @@ fn add_schemas<F: Folders, C: Console>(
     console: &mut C,
     gathered: &mut Gathered,
     tally: &mut Tally,
-    schemas: &mut Vec<SchemaFile>,
     path: &str,
 ) -> Result<(), Trouble> {
     let found = files.files_of(alloc, path, JSON)?;
@@ -109,16 +115,9 @@ fn add_schemas<F: Folders, C: Console>(
         tally.add(Verdict::Refused);
     }
     for file in &found.files {
-        match gathered.add(alloc, files, file.as_str()) {
-            Ok(None) => {}
-            Ok(Some(document)) => schemas.push(SchemaFile {
-                path: String::from_str(alloc, file.as_str())?,
-                document,
-            })?,
-            Err(trouble) => {
-                console.tell(&trouble);
-                tally.add(Verdict::Refused);
-            }
+        if let Err(trouble) = gathered.add(alloc, files, file.as_str()) {
+            console.tell(&trouble);
+            tally.add(Verdict::Refused);
         }
     }
     Ok(())
@@ -129,19 +128,21 @@ fn tell_schema<F: Folders, C: Console>(
     alloc: Global,
     files: &F,
     console: &mut C,
-    documents: &FileDocuments,
+    telling: &Telling<'_>,
     schema: &SchemaFile,
-    quiet: bool,
 ) -> Result<Verdict, Trouble>
-    ensures { IfOk result (λ verdict. verdict
-        ≡ verdict_among (file_documents documents.now) (compiled_view schema.now.document.value)) }
+    ensures { IfOk result (λ verdict. verdict ≡ verdict_among
+        (file_documents telling.now.documents.now) (compiled_view schema.now.document.value)) }
 {
-    let dangling = documents.dangling_references(alloc, &schema.document)?;
+    let dangling = telling
+        .documents
+        .dangling_references(alloc, &schema.document)?;
     let dangles = dangling_text(alloc, schema.path.as_str(), &dangling)?;
-    if quiet {
+    if telling.quiet {
         console.print(dangles.as_str());
     } else {
-        let found = look_over(alloc, schema.document.document())?;
+        let is_referred = has_resource_in(&schema.document, telling.referred);
+        let found = look_over(alloc, schema.document.document(), is_referred)?;
         let text = holdings(alloc, schema, &found.anchors)?;
         console.print(text.as_str());
         console.print(dangles.as_str());
@@ -181,21 +182,27 @@ fn warn<F: Folders, C: Console>(
 /// The file's path, and below it its URI, its other resources and its anchors.
 fn holdings(alloc: Global, schema: &SchemaFile, anchors: &[Anchor]) -> Result<String, Trouble> {
     let uri = canonical(&schema.document);
-    let mut text = format!(in alloc; "{}\n  uri {uri}\n", schema.path)?;
+    let mut text = shown_line(alloc, schema.path.as_str())?;
+    push_shown_line(alloc, &mut text, format!(in alloc; "  uri {uri}")?.as_str())?;
     for resource in schema.document.resource_uris() {
         if resource.as_str() != uri {
-            let line = format!(in alloc; "  resource {resource}\n")?;
-            text.push_str(line.as_str())?;
+            let line = format!(in alloc; "  resource {resource}")?;
+            push_shown_line(alloc, &mut text, line.as_str())?;
         }
     }
-    for anchor in anchors {
-        let line = anchor_line(alloc, anchor)?;
-        text.push_str(line.as_str())?;
-    }
+    push_anchors(alloc, &mut text, anchors)?;
     Ok(text)
 }
 
-fn anchor_line(alloc: Global, anchor: &Anchor) -> Result<String, Trouble> {
+fn push_anchors(alloc: Global, text: &mut String, anchors: &[Anchor]) -> Result<(), AllocError> {
+    for anchor in anchors {
+        let line = anchor_line(alloc, anchor)?;
+        push_shown_line(alloc, text, line.as_str())?;
+    }
+    Ok(())
+}
+
+fn anchor_line(alloc: Global, anchor: &Anchor) -> Result<String, AllocError> {
     let Anchor {
         location,
         name,
@@ -206,7 +213,7 @@ fn anchor_line(alloc: Global, anchor: &Anchor) -> Result<String, Trouble> {
     } else {
         "anchor"
     };
-    Ok(format!(in alloc; "  {kind} {name} at {location}\n")?)
+    format!(in alloc; "  {kind} {name} at {location}")
 }
 
 /// A line for each reference that leads nowhere, each once.
@@ -215,8 +222,8 @@ fn dangling_text(alloc: Global, path: &str, dangling: &[&str]) -> Result<String,
     let mut before = "";
     for reference in dangling {
         if *reference != before {
-            let line = format!(in alloc; "{path}: no schema is at {reference}\n")?;
-            text.push_str(line.as_str())?;
+            let line = format!(in alloc; "{path}: no schema is at {reference}")?;
+            push_shown_line(alloc, &mut text, line.as_str())?;
         }
         before = reference;
     }
@@ -225,10 +232,22 @@ fn dangling_text(alloc: Global, path: &str, dangling: &[&str]) -> Result<String,
 
 /// `PATH:LINE:COLUMN: warning: ..`.
 fn warning(alloc: Global, path: &str, text: &[u8], hint: &Hint) -> Result<String, Trouble> {
-    match position_of_location(alloc, text, hint.location.as_str())? {
+    let line = match position_of_location(alloc, text, hint.location.as_str())? {
         Some(Position { line, column }) => {
-            Ok(format!(in alloc; "{path}:{line}:{column}: warning: {hint}\n")?)
+            format!(in alloc; "{path}:{line}:{column}: warning: {hint}")?
         }
-        None => Ok(format!(in alloc; "{path}: warning: {hint}\n")?),
-    }
+        None => format!(in alloc; "{path}: warning: {hint}")?,
+    };
+    Ok(shown_line(alloc, line.as_str())?)
+}
+
+/// The text as it is shown, as a line.
+fn shown_line(alloc: Global, text: &str) -> Result<String, AllocError> {
+    let mut line = shown_text(alloc, text)?;
+    line.push_str("\n")?;
+    Ok(line)
+}
+
+fn push_shown_line(alloc: Global, out: &mut String, text: &str) -> Result<(), AllocError> {
+    out.push_str(shown_line(alloc, text)?.as_str())
 }

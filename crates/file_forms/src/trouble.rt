@@ -1,9 +1,10 @@
 //! What goes wrong with a file.
 
 use crate::position::position_of;
-use crate::trouble_lines::refused_line;
+use crate::trouble_lines::{path_line, refused_line};
 use fault_sentences::sentence_of;
 use file_checks::Fault;
+use plain_reports::shown_text;
 use std::alloc::{AllocError, AllocFailed, Global};
 use text_places::Position;
 
@@ -28,6 +29,8 @@ pub struct Refusal {
     pub fault: Fault,
     /// Where in the file, where that is known.
     pub position: Option<Position>,
+    /// The file that has what is refused, where that is known and may be another.
+    pub origin: Option<String>,
 }
 
 impl From<Fault> for Trouble {
@@ -37,6 +40,7 @@ impl From<Fault> for Trouble {
             line: None,
             fault,
             position: None,
+            origin: None,
         })
     }
 }
@@ -54,7 +58,9 @@ impl<T: Drop> From<AllocFailed<T>> for Trouble {
 }
 
 impl Trouble {
-    ghost use Rattle.std.specs.Prelude.{IfOk, string_bytes};
+    ghost use Rattle.std.specs.Prelude.{ℕ, IfOk, Option, string_bytes};
+    ghost use Rattle.definitions.specs.Values.{Text};
+    ghost use Rattle.faults.specs.declared.Fault.{Fault};
     ghost use Rattle.file_forms.specs.Refusals.{IsLineOf, IsRefusal, IsUnread, IsUnwritten, MeansNoRoom};
 
     /// That memory ran out.
@@ -66,6 +72,7 @@ impl Trouble {
             line: None,
             fault: Fault::NoRoom,
             position: None,
+            origin: None,
         })
     }
 
@@ -86,8 +93,23 @@ impl Trouble {
                 line,
                 fault,
                 position,
+                origin: None,
             }),
             Err(_) => Trouble::no_room(),
+        }
+    }
+
+    /// The same refusal, of what this file has.
+    pub(crate) fn with_origin(self, origin: Option<String>) -> Trouble
+        ensures { (path : Text) (line : Option ℕ) (fault : Fault) → IsRefusal path line fault self
+            → IsRefusal path line fault result }
+    {
+        match self {
+            Trouble::Refused(mut refusal) => {
+                refusal.origin = origin;
+                Trouble::Refused(refusal)
+            }
+            other => other,
         }
     }
 
@@ -111,13 +133,14 @@ impl Trouble {
         }
     }
 
-    /// Its lines: what went wrong, and below a refusal a sentence of what would mend it. The only error is want of memory.
+    /// Its lines, as a terminal shows them: what went wrong, and below a refusal a sentence of what would mend it. The only
+    /// error is want of memory.
     pub fn lines(&self, alloc: Global) -> Result<String, AllocError>
         ensures { IfOk result (λ s. IsLineOf self.now (string_bytes s)) }
     {
         match self {
-            Trouble::CannotRead(path) => format!(in alloc; "cannot read {path}\n"),
-            Trouble::CannotWrite(path) => format!(in alloc; "cannot write {path}\n"),
+            Trouble::CannotRead(path) => path_line(alloc, "cannot read ", path.as_str()),
+            Trouble::CannotWrite(path) => path_line(alloc, "cannot write ", path.as_str()),
             Trouble::Refused(refusal) => refusal.lines(alloc),
         }
     }
@@ -128,6 +151,7 @@ impl Refusal {
     ghost use Rattle.faults.specs.View.{fault_view};
     ghost use Rattle.file_forms.specs.Refusals.{IsRefusalText};
     ghost use Rattle.file_forms.specs.RefusalLines.{refusal_line};
+    ghost use Rattle.plain_reports.specs.Shown.{shown_text};
 
     /// `refused: PATH:LINE: 3 BadJson`, and below it `  PATH:LINE:COLUMN: ` and a sentence.
     fn lines(&self, alloc: Global) -> Result<String, AllocError>
@@ -135,10 +159,12 @@ impl Refusal {
             (option_map (λ p. string_bytes p) self.now.path)
             self.now.line (fault_view self.now.fault) (string_bytes s)) }
     {
-        let mut lines = self.first_line(alloc)?;
-        let below = self.second_line(alloc)?;
+        let first = self.first_line(alloc)?;
+        let second = self.second_line(alloc)?;
+        let mut lines = shown_text(alloc, first.as_str())?;
         lines.push_str("\n  ")?;
-        lines.push_str(below.as_str())?;
+        lines.push_str(shown_text(alloc, second.as_str())?.as_str())?;
+        lines.push_str("\n")?;
         Ok(lines)
     }
 
@@ -156,11 +182,12 @@ impl Refusal {
 
     fn second_line(&self, alloc: Global) -> Result<String, AllocError> {
         let sentence = sentence_of(&self.fault);
-        match (&self.path, self.place()) {
-            (Some(path), Some((line, column))) => {
-                format!(in alloc; "{path}:{line}:{column}: {sentence}\n")
+        match (&self.path, self.place(), &self.origin) {
+            (Some(path), Some((line, column)), _) => {
+                format!(in alloc; "{path}:{line}:{column}: {sentence}")
             }
-            _ => format!(in alloc; "{sentence}\n"),
+            (_, _, Some(origin)) => format!(in alloc; "{origin}: {sentence}"),
+            _ => String::from_str(alloc, sentence),
         }
     }
 

@@ -1,11 +1,23 @@
-//! The first line of a refusal.
+//! The first lines of troubles.
 
-ghost use Rattle.std.specs.Prelude.{◌≡◌, Some, IfOk, string_bytes};
+ghost use Rattle.std.specs.Prelude.{◌≡◌, ◌++◌, ◌∷◌, [], Some, IfOk, string_bytes};
+ghost use Rattle.definitions.specs.Bytes.{line_feed};
 ghost use Rattle.faults.specs.View.{fault_view, printed_text};
 ghost use Rattle.file_forms.specs.RefusalLines.{line_text, refusal_line};
+ghost use Rattle.plain_reports.specs.Shown.{shown_text};
 
 use file_checks::Fault;
+use plain_reports::shown_text;
 use std::alloc::{AllocError, Global};
+
+/// A line of what is told and a path, as it is shown.
+pub(crate) fn path_line(alloc: Global, told: &str, path: &str) -> Result<String, AllocError>
+    ensures { IfOk result (λ s. string_bytes s
+        ≡ told.now ++ shown_text path.now ++ line_feed ∷ []) }
+{
+    let path = shown_text(alloc, path)?;
+    format!(in alloc; "{told}{path}\n")
+}
 
 /// `refused: PATH: 3 BadJson`, or `refused: PATH:LINE: 3 BadJson`.
 pub(crate) fn refused_line(

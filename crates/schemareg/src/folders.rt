@@ -26,13 +26,15 @@ pub struct Named<'a> {
     pub instance: &'a str,
 }
 
-/// Answers the check of the file; or of each file of the folder, as with other words.
+/// Answers the check of the file; or of each file of the folder, as with other words. Where a text is refused, `place` tells
+/// where, if that is known.
 pub fn check<'a, F: Texts + Forms, C: Clock, I: Read, O: Write + ByteWriter, E: Write>(
     alloc: Global,
     files: &F,
     named: Named<'a>,
     input: &mut I,
     console: &mut Terminal<'_, C, O, E>,
+    place: &mut Option<String>,
 ) -> Result<u8, Stop<'a>>
     ensures ends { IfSome (F.text_at files.now named.entry.schema.now) (λ s.
         IfSome (F.text_at files.now named.entry.instance.now) (λ i.
@@ -59,7 +61,7 @@ pub fn check<'a, F: Texts + Forms, C: Clock, I: Read, O: Write + ByteWriter, E: 
             instance,
         } = named;
         let out = &mut console.output.stream;
-        checking::check_files(alloc, files, uri, schema, instance, out)
+        checking::check_files(alloc, files, uri, schema, instance, out, place)
     }
 }
 

@@ -110,9 +110,13 @@ fn complain<E: ByteWriter>(errors: &mut E)
     let _ = write_all(errors, UNWRITTEN.as_bytes());
 }
 
-/// Tells a person at a terminal what would mend a refusal.
-pub fn sentence<E: Write>(errors: &mut E, stop: &Stop<'_>) {
+/// Tells a person at a terminal what would mend a refusal, and at which place, if it is known.
+pub fn sentence<E: Write>(errors: &mut E, stop: &Stop<'_>, place: Option<&str>) {
     if let Stop::Refused(fault) = stop {
-        let _ = writeln!(errors, "  {}", Sentence(fault));
+        let sentence = Sentence(fault);
+        let _ = match place {
+            Some(place) => writeln!(errors, "  {place}: {sentence}"),
+            None => writeln!(errors, "  {sentence}"),
+        };
     }
 }

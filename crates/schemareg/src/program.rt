@@ -98,17 +98,19 @@ where
         → exit_status result ≡ 2 }
     ensures status { exit_status result ≤ 2 }
 {
-    match obey(alloc, words, files, net, input, console) {
+    let mut place = None;
+    match obey(alloc, words, files, net, input, console, &mut place) {
         Ok(status) => ExitCode::from(status),
-        Err(stop) => ExitCode::from(explain(files, console, &stop)),
+        Err(stop) => ExitCode::from(explain(files, console, &stop, place.as_deref())),
     }
 }
 
-/// Prints why there is no report, and at a terminal what would mend it, and gives the status.
+/// Prints why there is no report, and at a terminal what would mend it and where, and gives the status.
 fn explain<F: Forms, C: Clock, O: Write, E: Write + ByteWriter>(
     files: &F,
     console: &mut Terminal<'_, C, O, E>,
     stop: &Stop<'_>,
+    place: Option<&str>,
 ) -> u8
     ensures error { is_error stop.now ≡ true
         → (result ≡ 2) × (console.new.output.stream ≡ console.old.output.stream) }
@@ -116,7 +118,7 @@ fn explain<F: Forms, C: Clock, O: Write, E: Write + ByteWriter>(
 {
     let status = tell(console, stop);
     if files.is_terminal() {
-        printing::sentence(&mut console.errors, stop);
+        printing::sentence(&mut console.errors, stop, place);
     }
     status
 }
@@ -133,7 +135,8 @@ fn tell<C: Clock, O: Write, E: Write + ByteWriter>(
     printing::explain(&mut console.output.stream, &mut console.errors, stop)
 }
 
-/// Carries out the call that the words spell, and gives the status.
+/// Carries out the call that the words spell, and gives the status. Where a text is refused, `place` tells where, if that is
+/// known.
 fn obey<'a, S: AsStr, F: Texts + Logs + Forms + Stores, N, I, O: Write + ByteWriter, E: Write>(
     alloc: Global,
     words: &'a [S],
@@ -141,6 +144,7 @@ fn obey<'a, S: AsStr, F: Texts + Logs + Forms + Stores, N, I, O: Write + ByteWri
     net: &N,
     input: &mut I,
     console: &mut Terminal<'_, N, O, E>,
+    place: &mut Option<String>,
 ) -> Result<u8, Stop<'a>>
 where
     N: Net<Listener = TcpListener, Stream = TcpStream> + Clock,
@@ -177,10 +181,10 @@ where
     ensures status { IfOk result (λ status. status ≤ 1) }
 {
     let call = command_line::read(alloc, words)?;
-    carry_out(alloc, call, files, net, input, console)
+    carry_out(alloc, call, files, net, input, console, place)
 }
 
-/// Carries out the call, and gives the status.
+/// Carries out the call, as [`obey`] does.
 fn carry_out<'a, F: Texts + Logs + Forms + Stores, N, I, O: Write + ByteWriter, E: Write>(
     alloc: Global,
     call: Call<'a>,
@@ -188,6 +192,7 @@ fn carry_out<'a, F: Texts + Logs + Forms + Stores, N, I, O: Write + ByteWriter, 
     net: &N,
     input: &mut I,
     console: &mut Terminal<'_, N, O, E>,
+    place: &mut Option<String>,
 ) -> Result<u8, Stop<'a>>
 where
     N: Net<Listener = TcpListener, Stream = TcpStream> + Clock,
@@ -214,7 +219,7 @@ where
     ensures served { is_service (call_view call.entry) ≡ true → IfOk result (λ status. status ≡ 0) }
 {
     match call {
-        Call::Input => checking::check_input(alloc, input, &mut console.output.stream),
+        Call::Input => checking::check_input(alloc, input, &mut console.output.stream, place),
         Call::Check {
             uri,
             schema,
@@ -225,7 +230,7 @@ where
                 schema,
                 instance,
             };
-            folders::check(alloc, files, named, input, console)
+            folders::check(alloc, files, named, input, console, place)
         }
         Call::CheckMany { checks } => files.check_many(&checks, input, console),
         Call::Bundle { bundling } => files.bundle(&bundling, console),

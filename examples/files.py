@@ -5,6 +5,7 @@ these files by the rules of JSON Schema 2020-12, and stands here or is worked ou
 
 import json
 import os
+import pty
 import resource
 import subprocess
 import tempfile
@@ -38,8 +39,9 @@ def place(path, text):
     return f"{path}:{before.count(chr(10)) + 1}:{len(before) - before.rfind(chr(10))}"
 
 
+LISTED = json.dumps(json.loads((SHOP / "schemas/shared/currency.json").read_text())["enum"], separators=(",", ":"))
 CURRENCY = (
-    f'{place("shop/orders/2-currency.json", chr(34) + "DOLLAR")}: /total/currency: "DOLLAR" is none of the values that the schema lists\n'
+    f'{place("shop/orders/2-currency.json", chr(34) + "DOLLAR")}: /total/currency: "DOLLAR" is none of the values that the schema lists: {LISTED}\n'
     "    by /properties/total/$ref/properties/currency/$ref/enum\n"
     f"    at {SHARED}/currency#/enum\n"
 )
@@ -73,13 +75,27 @@ def each_cause_is_told(program):
     )
 
 
+def what_is_wanted_is_told(program):
+    schema = {"required": ["id", "a b", "n"], "properties": {"n": {"maximum": 7}, "t": {"pattern": "^a"}}, "maxProperties": 9}
+    with tempfile.TemporaryDirectory() as folder:
+        (Path(folder) / "s.json").write_text(json.dumps({"$ref": "#/$defs/a~1b%25", "$defs": {"a/b%": schema}}))
+        (Path(folder) / "i.json").write_text('{"n":8,"t":"b"}')
+        out, errors, status = ended(program, ["check", "--format", "text", "--quiet", "s.json", "i.json"], folder=folder)
+        return wrong(("", 1), (errors, status)) or starts(
+            out,
+            'i.json:1:1: (root): {"n":8,"t":"b"} lacks a member that is required: "id", "a b"',
+            "i.json:1:6: /n: 8 is above the maximum: 7",
+            'i.json:1:12: /t: "b" doesn\'t match the pattern: "^a"',
+        )
+
+
 def a_folder_alone_is_checked(program):
     with tempfile.TemporaryDirectory() as folder:
         (Path(folder) / "schema.json").write_text('{"type":"string"}')
         (Path(folder) / "in").mkdir()
         (Path(folder) / "in" / "a.json").write_text('"a"')
         (Path(folder) / "in" / "b.json").write_text('1')
-        wanted = 'in/b.json:1:1: (root): 1 is of another type than the schema allows\n    by /type\n    at urn:schemareg:root#/type\n'
+        wanted = 'in/b.json:1:1: (root): 1 is of another type than the schema allows: "string"\n    by /type\n    at urn:schemareg:root#/type\n'
         return wrong((wanted, "1 valid, 1 invalid, 0 refused\n", 1), ended(program, ["check", "schema.json", "in"], folder=folder))
 
 
@@ -149,6 +165,16 @@ def without_its_documents_a_schema_is_refused(program):
     return wrong(("", 2), (out, status)) or (None if errors.startswith("refused: shop/schemas/order.json: ") and "Unresolved" in errors else errors)
 
 
+def unresolved_references_are_told_with_their_file(program):
+    with tempfile.TemporaryDirectory() as folder:
+        base = Path(folder)
+        (base / "main.json").write_text('{"$ref":"middle.json"}')
+        (base / "middle.json").write_text('{"items":{"$ref":"last.json"}}')
+        out, errors, status = ended(program, ["check", "--with", "middle.json", "main.json", "main.json"], folder=folder)
+        missing = (base / "last.json").as_uri()
+        return wrong(("", 2), (out, status)) or starts(errors, f"refused: main.json: 15 Unresolved {missing}", "  middle.json: A reference names no schema")
+
+
 def two_documents_with_one_uri_are_refused(program):
     with tempfile.TemporaryDirectory() as folder:
         for name in ("a.json", "b.json"):
@@ -169,6 +195,20 @@ def names_are_escaped(program):
         out, errors, status = ended(program, ["check", "--quiet", "--with", ".", "main.json", "../i.json"], folder=base)
         uri = (base / "other one.json").as_uri()
         return wrong(("", 1), (errors, status)) or starts(out, "../i.json:1:1: (root): 5 is of another type", "    by /$ref/type", f"    at {uri}#/type")
+
+
+def terminals_obey_no_name(program):
+    with tempfile.TemporaryDirectory() as folder:
+        (Path(folder) / "schema.json").write_text('{"type":"string"}')
+        (Path(folder) / "a\x1b[31m\u202e.json").write_text("1")
+        (Path(folder) / "b\x1b[31m.json").write_text("{")
+        out, errors, status = ended(program, ["check", "schema.json", "a\x1b[31m\u202e.json", "b\x1b[31m.json", "c\x1b[31m.json"], folder=folder)
+        return (
+            (None if status == 2 else f"status: wanted 2, got {status}")
+            or (f"got {out!r} and {errors!r}" if "\x1b" in out + errors or "\u202e" in out + errors else None)
+            or starts(out, "a\ufffd[31m\ufffd.json:1:1: (root): 1 is of another type")
+            or starts(errors, "refused: b\ufffd[31m.json: 1 BadJson", "  b\ufffd[31m.json:1:2: ", "cannot read c\ufffd[31m.json")
+        )
 
 
 def library_gives_documents(program):
@@ -266,6 +306,61 @@ def scans_warn_of_misspelt_names(program):
         )
 
 
+def scans_count_each_refusal(program):
+    with tempfile.TemporaryDirectory() as folder:
+        for name in ("a.json", "b.json", "c.json"):
+            (Path(folder) / name).write_text("1")
+        (Path(folder) / "s.json").write_text("{}")
+        out, errors, status = ended(program, ["scan", "--with", ".", "s.json"], folder=folder)
+        return (None if status == 2 else f"status: wanted 2, got {status}") or starts(
+            errors, "refused: ./a.json: 6", "refused: ./b.json: 6", "refused: ./c.json: 6", "1 in order, 0 with references that lead nowhere, 3 refused"
+        )
+
+
+def scans_know_references_of_other_files(program):
+    with tempfile.TemporaryDirectory() as folder:
+        (Path(folder) / "old.json").write_text('{"definitions":{"a":{"type":"string"}}}')
+        (Path(folder) / "new.json").write_text('{"$ref":"old.json#/definitions/a"}')
+        alone = ended(program, ["scan", "old.json"], folder=folder)
+        if alone[2] != 0 or "/definitions: definitions is $defs by now" not in alone[0]:
+            return f"alone: got {alone!r}"
+        for words in (["scan", "."], ["scan", "--with", "new.json", "old.json"]):
+            out, errors, status = ended(program, words, folder=folder)
+            if status != 0 or "warning" in out:
+                return f"{words}: got {out!r}, {errors!r}, {status}"
+        return None
+
+
+def told_at_a_terminal(program, words, given, folder):
+    """Standard error, where that is a terminal."""
+    ours, theirs = pty.openpty()
+    try:
+        subprocess.run([program, *words], input=given, stdout=subprocess.DEVNULL, stderr=theirs, timeout=SECONDS, cwd=folder)
+        return os.read(ours, 65_536).decode().replace("\r\n", "\n")
+    finally:
+        os.close(ours)
+        os.close(theirs)
+
+
+def places_are_told_at_a_terminal(program):
+    with tempfile.TemporaryDirectory() as folder:
+        files = {"schema.json": '{"type":\n "text"}', "good.json": "{}", "broken.json": '{"a":\n  ,}', "i.json": "[1,\n 1.5]"}
+        for name, text in files.items():
+            (Path(folder) / name).write_text(text)
+        rows = [
+            (["check", "schema.json", "i.json"], b"", "refused: 8 BadKeyword /type\n  schema.json:2:2: The keyword"),
+            (["check", "broken.json", "i.json"], b"", "refused: 1 BadJson\n  broken.json:2:3: The text is no JSON"),
+            (["check", "good.json", "i.json"], b"", "refused: 2 BadNumber\n  i.json:2:2: A number"),
+            ([], b'{"schema":{},\n', "refused: 1 BadJson\n  -:"),
+            (["check", "good.json", "nowhere.json"], b"", "cannot read nowhere.json\n"),
+        ]
+        for words, given, wanted in rows:
+            errors = told_at_a_terminal(program, words, given, folder)
+            if not errors.startswith(wanted):
+                return f"{words}: wanted {wanted!r}, got {errors!r}"
+        return None
+
+
 def no_format_but_three(program):
     out, errors, status = ended(program, ["check", "--format", "xml", "a", "b"])
     return wrong(("", 2), (out, status)) or (None if errors.startswith("error: invalid value 'xml' for '--format <FORMAT>'\n") else errors)
@@ -274,6 +369,7 @@ def no_format_but_three(program):
 TRIALS = {
     "of several instances the wrong ones are told, by line and column": one_of_many_is_told,
     "a folder's instances are checked in the order of their paths, and each cause is told": each_cause_is_told,
+    "what a keyword asks for is told, wherever its schema stands": what_is_wanted_is_told,
     "a folder with no other word is checked so, too": a_folder_alone_is_checked,
     "--quiet prints only what is wrong": quiet_prints_only_what_is_wrong,
     "--format json prints a line for each instance": json_has_a_line_for_each,
@@ -283,8 +379,10 @@ TRIALS = {
     "- is an instance on standard input": standard_input_is_an_instance,
     "a refusal stops no other instance": refusals_stop_no_other,
     "a schema without what it refers to is refused by name": without_its_documents_a_schema_is_refused,
+    "a reference that leads nowhere is told with the file that has it": unresolved_references_are_told_with_their_file,
     "two documents with one URI are refused by name": two_documents_with_one_uri_are_refused,
     "a file without $id stands under its file: URI, with escapes": names_are_escaped,
+    "a terminal obeys no file's name": terminals_obey_no_name,
     "--library gives documents": library_gives_documents,
     "a folder that can't be read is told": unreadable_folders_are_told,
     "each document that is refused is told, and then nothing is checked": unreadable_documents_are_told,
@@ -293,6 +391,9 @@ TRIALS = {
     "scan tells URIs and anchors, and warns of formats": scans_tell_what_a_schema_holds,
     "scan tells references that lead nowhere": scans_tell_what_leads_nowhere,
     "scan warns of misspelt names and older keywords": scans_warn_of_misspelt_names,
+    "scan counts each document that is refused": scans_count_each_refusal,
+    "scan passes over definitions that another file refers to": scans_know_references_of_other_files,
+    "the form of one instance tells the place at a terminal": places_are_told_at_a_terminal,
     "there is no fourth format": no_format_but_three,
 }
 

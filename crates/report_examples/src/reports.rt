@@ -14,6 +14,7 @@ const TEXT: &str =
     "{\n  \"lines\": [\n    { \"price\": \"twelve\" }\n  ],\n  \"note\": [\n    1,\n    2\n  ]\n}\n";
 
 // The value of each keyword, wherever it stands.
+#[derive(Drop)]
 struct OneValue(Option<Doc>);
 
 impl Schemas for OneValue {

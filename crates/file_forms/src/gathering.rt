@@ -3,7 +3,7 @@
 ghost use Rattle.std.specs.Prelude.{◌≡◌, ◌≢◌, ◌⊎◌, None, Some, true, IfErr, IfOk, codes, map, option_map, string_bytes, unwrap_or};
 ghost use Rattle.file_forms.specs.Gathered.{FileIsGathered, FilesAreGathered, IsAdded, IsAddedAt, IsBegun, IsFileTrouble, IsGathered, IsLibraryTrouble, IsPathTrouble, IsUnplaced, PathIsGathered, PathsAreGathered};
 ghost use Rattle.file_forms.specs.Gathered.{IsLibrary, IsNoPlace, IsUnreadFolder, LiesAt};
-ghost use Rattle.file_forms.specs.Refusals.{IsUnread, MeansNoRoom};
+ghost use Rattle.file_forms.specs.Refusals.{IsUnread};
 ghost use Rattle.file_forms.specs.Told.{ToldUnless};
 ghost use Rattle.file_checks.specs.FileSources.{file_documents};
 ghost use Rattle.schema_scan.specs.CompiledDocuments.{compiled_view};
@@ -149,30 +149,17 @@ impl Gathered {
             Ok(_) => {}
             Err(_) => return Err(Trouble::no_room()),
         }
-        match added {
-            Ok(document) => self.noted(alloc, path, document),
-            Err(fault) => Err(Trouble::refused(alloc, path, None, text.as_slice(), fault)),
-        }
-    }
-
-    // The document, once it is noted that the file has it.
-    fn noted(
-        &mut self,
-        alloc: Global,
-        path: &str,
-        document: Rc<Compiled>,
-    ) -> Result<Rc<Compiled>, Trouble>
-        ensures ok { IfOk result (λ d. compiled_view d.value ≡ compiled_view document.value) }
-        ensures err { IfErr result MeansNoRoom }
-        ensures gathered { gathering_of self.new ≡ gathering_of self.old }
-        ensures folder { folder_of self.new ≡ folder_of self.old }
-    {
+        let document = match added {
+            Ok(document) => document,
+            Err(fault) => return Err(Trouble::refused(alloc, path, None, text.as_slice(), fault)),
+        };
         match self.note(alloc, path, &document) {
             Ok(()) => Ok(document),
             Err(_) => Err(Trouble::no_room()),
         }
     }
 
+    // Notes that the file has the document.
     fn note(&mut self, alloc: Global, path: &str, document: &Rc<Compiled>) -> Result<(), AllocError>
         ensures gathered { gathering_of self.new ≡ gathering_of self.old }
         ensures folder { folder_of self.new ≡ folder_of self.old }

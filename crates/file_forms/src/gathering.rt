@@ -24,12 +24,12 @@ use uri_ref::base_form;
 #[derive(Drop)]
 pub(crate) struct Gathered {
     pub(crate) documents: FileDocuments,
-    // All but those of the library, in the order in which they were added.
-    pub(crate) files: Vec<SchemaFile>,
     // The folder that the program runs in.
     folder: String,
     // The URIs of the files that were read, so that none is read twice.
     places: BTreeSet<String>,
+    // Those that have the documents, without the library's, in the order in which they were added.
+    pub(crate) files: Vec<SchemaFile>,
 }
 
 impl Gathered {
@@ -53,9 +53,9 @@ impl Gathered {
         match files.current(alloc) {
             Ok(folder) => Ok(Gathered {
                 documents,
-                files: Vec::new(alloc),
                 folder,
                 places: BTreeSet::new(alloc),
+                files: Vec::new(alloc),
             }),
             Err(trouble) => Err(trouble),
         }

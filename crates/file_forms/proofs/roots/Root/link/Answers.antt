@@ -1,4 +1,4 @@
-use Rattle.std.proofs.Common.{◌∙◌, ap}
+use Rattle.std.proofs.Common.{◌∙◌, None, ap}
 use Rattle.schema_scan.specs.CompiledDocuments.{compiled_view}
 use Rattle.file_forms.proofs.Rooted.{is_linked_from, is_unlinked_from, no_room_unlinked}
 use Rattle.file_forms.proofs.roots.Root.link.Goals as goal
@@ -13,5 +13,6 @@ returns-in-Ok-link-clause-ok c =
 
 pub returns-clause-err : goal.returns-clause-err
 returns-clause-err c =
-    is_unlinked_from c.args.self.now c.args.path.now c.in-Err.fault c.refused.result c.as_str.result.now c.canonical.result.now c.refused.ensures c.in-Err.ensures.err
+    is_unlinked_from c.args.self.now c.args.path.now c.in-Err.fault c.with_origin.result c.as_str.result.now c.canonical.result.now
+    (c.with_origin.ensures c.args.path.now None c.in-Err.fault c.refused.ensures) c.in-Err.ensures.err
     (c.as_str.ensures.value ∙ c.in-Ok.ensures.ok) (c.canonical.ensures ∙ ap (λ d. (compiled_view d).canonical) c.deref.ensures)

@@ -2,7 +2,7 @@
 
 ghost use Rattle.std.specs.Prelude.{◌≡◌, [], ⊤};
 ghost use Rattle.network.specs.Scenes.{client_at};
-ghost use Rattle.network.specs.Transcripts.{moves_of};
+ghost use Rattle.network.specs.Transcripts.{moves_of, ids_of};
 
 use crate::networks::{Broken, Network, Occasion};
 use crate::outbox::Outbox;
@@ -18,6 +18,7 @@ pub struct MemoryNetwork<'a> {
     scene: Scene<'a>,
     reads: Transcript,
     writes: Transcript,
+    ways: Transcript,
 }
 
 impl<'a> MemoryNetwork<'a> {
@@ -32,6 +33,7 @@ impl<'a> MemoryNetwork<'a> {
             scene: Scene::new(alloc, script),
             reads: Transcript::new(),
             writes: Transcript::new(),
+            ways: Transcript::new(),
         }
     }
 
@@ -59,6 +61,8 @@ impl Network for MemoryNetwork<'_> {
     ghost due = { λ s d k. ⊤ };
 
     ghost client = { λ s k. client_at s.scene k };
+
+    ghost gave_way = { λ s. ids_of s.ways };
 
     fn next(&mut self) -> Option<Occasion> {
         self.scene.next()
@@ -103,7 +107,9 @@ impl Network for MemoryNetwork<'_> {
         self.scene.later(id);
     }
 
-    fn give_way(&mut self, _id: u64) {}
+    fn give_way(&mut self, id: u64) {
+        self.ways = self.ways.named(id);
+    }
 
     fn close(&mut self, id: u64) {
         self.scene.close(id);

@@ -1,6 +1,6 @@
 //! What tells which of many connections are ready, and moves their bytes.
 
-ghost use Rattle.std.specs.Prelude.{◌≡◌, ◌≢◌, ◌≤◌, ◌++◌, [], ℕ, Bool, true, false, Some, None, Ok, List, IfOk, IfSome, OnOk, length};
+ghost use Rattle.std.specs.Prelude.{◌≡◌, ◌≢◌, ◌≤◌, ◌++◌, ◌∷◌, [], ℕ, Bool, true, false, Some, None, Ok, List, IfOk, IfSome, OnOk, length};
 ghost use Rattle.network.specs.Traffic.{Moved, moved_of};
 ghost use Rattle.network.specs.Readiness.{has_bytes, AllDue, OthersDue};
 ghost use Rattle.network.specs.Clients.{failed, client_behind, AllAreSame, OthersAreSame};
@@ -29,7 +29,7 @@ pub enum Occasion {
 /// Many connections, told apart by numbers.
 ///
 /// Contracts know what each read and each write moved, and on which connection; which connections are due: those that will
-/// be told ready, of which one that is told ready is due no longer; and which have a client.
+/// be told ready, of which one that is told ready is due no longer; which have a client; and which gave way.
 pub trait Network {
     ghost use Rattle.network.specs.declared.clients.Client.{Client};
 
@@ -45,10 +45,14 @@ pub trait Network {
     /// Whether the connection has a client.
     ghost client: { Self → ℕ → Client };
 
+    /// Which connections gave way up to now, in order.
+    ghost gave_way: { Self → List ℕ };
+
     /// What happened next; none where no more is known.
     fn next(&mut self) -> Option<Occasion>
         ensures reads { reads self.new ≡ reads self.old }
         ensures writes { writes self.new ≡ writes self.old }
+        ensures gave_way { gave_way self.new ≡ gave_way self.old }
         ensures due { (k : ℕ) (d : Bool) → result ≢ Some (Occasion.Ready k)
             → due self.old d k → due self.new d k }
         ensures opened { (k : ℕ) (d : Bool) → result ≡ Some (Occasion.Opens k)
@@ -66,6 +70,7 @@ pub trait Network {
         requires { AllDue (unsent_at outbox.now) (due self.old) [] }
         ensures reads { reads self.new ≡ reads self.old }
         ensures writes { writes self.new ≡ writes self.old }
+        ensures gave_way { gave_way self.new ≡ gave_way self.old }
         ensures due { OnOk result ((k : ℕ) (d : Bool) → due self.old d k → due self.new d k) }
         ensures clients { AllAreSame (client self.old) (client self.new) };
 
@@ -75,6 +80,7 @@ pub trait Network {
         ensures fits { IfOk result (λ n. IfSome n (λ count. count ≤ length buffer.new)) }
         ensures told { reads self.new ≡ reads self.old ++ moved_of id result buffer.new }
         ensures writes { writes self.new ≡ writes self.old }
+        ensures gave_way { gave_way self.new ≡ gave_way self.old }
         ensures waits { result ≡ Ok None → due self.new false id }
         ensures others { OthersDue id (due self.old) (due self.new) }
         ensures client { client self.new id ≡ client_behind result (client self.old id) }
@@ -87,6 +93,7 @@ pub trait Network {
         ensures fits { IfOk result (λ n. IfSome n (λ count. count ≤ length bytes.now)) }
         ensures told { writes self.new ≡ writes self.old ++ moved_of id result bytes.now }
         ensures reads { reads self.new ≡ reads self.old }
+        ensures gave_way { gave_way self.new ≡ gave_way self.old }
         ensures waits { result ≡ Ok None → due self.new true id }
         ensures others { OthersDue id (due self.old) (due self.new) }
         ensures client { client self.new id ≡ client_behind result (client self.old id) }
@@ -96,6 +103,7 @@ pub trait Network {
     fn again(&mut self, id: u64)
         ensures reads { reads self.new ≡ reads self.old }
         ensures writes { writes self.new ≡ writes self.old }
+        ensures gave_way { gave_way self.new ≡ gave_way self.old }
         ensures due { (d : Bool) → due self.new d id }
         ensures others { OthersDue id (due self.old) (due self.new) }
         ensures clients { AllAreSame (client self.old) (client self.new) };
@@ -104,6 +112,7 @@ pub trait Network {
     fn await_more(&mut self, id: u64)
         ensures reads { reads self.new ≡ reads self.old }
         ensures writes { writes self.new ≡ writes self.old }
+        ensures gave_way { gave_way self.new ≡ gave_way self.old }
         ensures due { due self.new false id }
         ensures others { OthersDue id (due self.old) (due self.new) }
         ensures clients { AllAreSame (client self.old) (client self.new) };
@@ -112,6 +121,7 @@ pub trait Network {
     fn later(&mut self, id: u64)
         ensures reads { reads self.new ≡ reads self.old }
         ensures writes { writes self.new ≡ writes self.old }
+        ensures gave_way { gave_way self.new ≡ gave_way self.old }
         ensures due { (d : Bool) → due self.new d id }
         ensures others { OthersDue id (due self.old) (due self.new) }
         ensures clients { AllAreSame (client self.old) (client self.new) };
@@ -121,6 +131,7 @@ pub trait Network {
     fn give_way(&mut self, id: u64)
         ensures reads { reads self.new ≡ reads self.old }
         ensures writes { writes self.new ≡ writes self.old }
+        ensures gave_way { gave_way self.new ≡ gave_way self.old ++ id ∷ [] }
         ensures due { (k : ℕ) (d : Bool) → due self.old d k → due self.new d k }
         ensures clients { AllAreSame (client self.old) (client self.new) };
 
@@ -128,6 +139,7 @@ pub trait Network {
     fn close(&mut self, id: u64)
         ensures reads { reads self.new ≡ reads self.old }
         ensures writes { writes self.new ≡ writes self.old }
+        ensures gave_way { gave_way self.new ≡ gave_way self.old }
         ensures others { OthersDue id (due self.old) (due self.new) }
         ensures client { client self.new id ≡ Client.Absent }
         ensures clients { OthersAreSame id (client self.old) (client self.new) };

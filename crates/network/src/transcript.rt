@@ -29,7 +29,7 @@ pub enum Note<'a> {
 
 impl Transcript {
     ghost use Rattle.network.specs.Notes.{call_in};
-    ghost use Rattle.network.specs.Transcripts.{moves_of, transfers_of};
+    ghost use Rattle.network.specs.Transcripts.{moves_of, ids_of, transfers_of};
 
     /// No call.
     pub fn new() -> Transcript
@@ -51,6 +51,13 @@ impl Transcript {
         ensures transfers { transfers_of result ≡ transfers_of self.now ++ (Some bytes.now ∷ []) }
     {
         self.then(&Note::Moved(id, bytes))
+    }
+
+    /// One more, which told something of the connection and moved no bytes.
+    pub fn named(&self, id: u64) -> Transcript
+        ensures { ids_of result ≡ ids_of self.now ++ (id ∷ []) }
+    {
+        self.moved(id, &[])
     }
 
     /// One more, which failed.

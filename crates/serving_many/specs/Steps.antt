@@ -1,5 +1,5 @@
 -- What the loop does on one connection.
-use Rattle.std.specs.Prelude.{◌≡◌, ◌≢◌, ℕ, List}
+use Rattle.std.specs.Prelude.{◌≡◌, ◌≢◌, ◌⊎◌, ℕ, List, [], ◌∷◌, ◌++◌}
 use Rattle.connections.specs.Connected.{connection_at}
 use Rattle.connections.specs.declared.handlers.Handler as handler
 use Rattle.connections.specs.declared.sessions.Sessions.{Sessions}
@@ -22,3 +22,7 @@ pub record StepFrom {H N : Type 0} (h : handler.Ghosts H) (n : network.Ghosts N)
 
 abbrev pub Step : {H N : Type 0} → handler.Ghosts H → network.Ghosts N → ℕ → Sessions H → Outbox → N → Sessions H → Outbox → N → Type 0
 Step h n id sessions outbox net sessions_then outbox_then net_then = StepFrom h n id (n.reads net) sessions outbox net sessions_then outbox_then net_then
+
+-- this connection gives way, or nobody does
+abbrev pub MayGiveWay : ℕ → List ℕ → List ℕ → Type 0
+MayGiveWay id before after = (after ≡ before ++ id ∷ []) ⊎ (after ≡ before)

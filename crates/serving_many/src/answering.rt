@@ -8,7 +8,7 @@ ghost use Rattle.network.specs.Outboxes.{unsent_at, memory_of, size_at, most_of}
 ghost use Rattle.network.specs.Readiness.{has_bytes};
 ghost use Rattle.serving_many.specs.Needed.{IsNeeded};
 ghost use Rattle.serving_many.specs.Present.{client_of};
-ghost use Rattle.serving_many.specs.Steps.{Step, StepFrom};
+ghost use Rattle.serving_many.specs.Steps.{Step, StepFrom, MayGiveWay};
 
 use crate::ending::{cut_off, part_or_await};
 use crate::observers::Observer;
@@ -27,6 +27,7 @@ fn has_reply<H: Handler, N: Network, O: Observer>(
     requires { unsent_at outbox.old id ≢ None }
     ensures step { Step H.Handler N.Network id
         sessions.old outbox.old network.old sessions.new outbox.new network.new }
+    ensures way { N.gave_way network.new ≡ N.gave_way network.old }
     ensures own { result ≡ false → (bytes : Text) → unsent_at outbox.new id ≡ Some bytes
         → N.due network.new (has_bytes bytes) id }
     ensures needed { IsNeeded (connection_at sessions.new id) (unsent_at outbox.new id) }
@@ -58,6 +59,7 @@ fn answer_piece<H: Handler, N: Network, O: Observer>(
         → N.reads network.old ≡ before ++ ((id, piece.now) ∷ [])
         → StepFrom H.Handler N.Network id before
         sessions.old outbox.old network.old sessions.new outbox.new network.new }
+    ensures way { N.gave_way network.new ≡ N.gave_way network.old }
     ensures own { result ≡ false → (bytes : Text) → unsent_at outbox.new id ≡ Some bytes
         → N.due network.new (has_bytes bytes) id }
     ensures needed { IsNeeded (connection_at sessions.new id) (unsent_at outbox.new id) }
@@ -88,6 +90,7 @@ fn answer_end<H: Handler, N: Network, O: Observer>(
     requires silent { unsent_at outbox.old id ≡ Some [] }
     ensures step { Step H.Handler N.Network id
         sessions.old outbox.old network.old sessions.new outbox.new network.new }
+    ensures way { N.gave_way network.new ≡ N.gave_way network.old }
     ensures own { result ≡ false → (bytes : Text) → unsent_at outbox.new id ≡ Some bytes
         → N.due network.new (has_bytes bytes) id }
     ensures needed { IsNeeded (connection_at sessions.new id) (unsent_at outbox.new id) }
@@ -121,6 +124,7 @@ pub fn receive<H: Handler, N: Network, O: Observer>(
     requires room { memory_of outbox.old ≤ size_at outbox.old id + most_of outbox.old }
     ensures step { Step H.Handler N.Network id
         sessions.old outbox.old network.old sessions.new outbox.new network.new }
+    ensures way { MayGiveWay id (N.gave_way network.old) (N.gave_way network.new) }
     ensures own { result ≡ false → (bytes : Text) → unsent_at outbox.new id ≡ Some bytes
         → N.due network.new (has_bytes bytes) id }
     ensures needed { IsNeeded (connection_at sessions.new id) (unsent_at outbox.new id) }

@@ -25,6 +25,7 @@ pub fn cut_off<H: Handler, N: Network, O: Observer>(
     ensures step { Step H.Handler N.Network id
         sessions.old outbox.old network.old sessions.new outbox.new network.new }
     ensures handler { handler_of sessions.new ≡ handler_of sessions.old }
+    ensures way { N.gave_way network.new ≡ N.gave_way network.old }
     ensures gone { connection_at sessions.new id ≡ None }
     ensures none { unsent_at outbox.new id ≡ None }
     ensures client { N.client network.new id ≡ Client.Absent }
@@ -50,6 +51,7 @@ pub fn part_or_await<H: Handler, N: Network, O: Observer>(
     ensures step { Step H.Handler N.Network id
         sessions.old outbox.old network.old sessions.new outbox.new network.new }
     ensures handler { handler_of sessions.new ≡ handler_of sessions.old }
+    ensures way { N.gave_way network.new ≡ N.gave_way network.old }
     ensures open { is_closed_at (connection_at sessions.old id) ≡ false
         → unsent_at outbox.new id ≡ Some [] }
     ensures own { (bytes : Text) → unsent_at outbox.new id ≡ Some bytes

@@ -5,11 +5,11 @@ ghost use Rattle.definitions.specs.Values.{Text};
 ghost use Rattle.connections.specs.Connected.{connection_at, is_closed_at};
 ghost use Rattle.network.specs.Outboxes.{unsent_at};
 ghost use Rattle.network.specs.Readiness.{has_bytes, IsAmong, AllDue};
-ghost use Rattle.serving_many.specs.Rounds.{IsDueBut};
+ghost use Rattle.serving_many.specs.Rounds.{IsDueBut, MayGiveWayAt};
 ghost use Rattle.serving_many.specs.Going.{Keeps, state_of};
 ghost use Rattle.serving_many.specs.Needed.{IsNeeded, AllNeeded};
 ghost use Rattle.serving_many.specs.Present.{client_of, AllPresent, ArePresentAt};
-ghost use Rattle.serving_many.specs.Steps.{Step};
+ghost use Rattle.serving_many.specs.Steps.{Step, MayGiveWay};
 
 use crate::answering::receive;
 use crate::ending::cut_off;
@@ -52,6 +52,7 @@ fn open<H: Handler, N: Network, O: Observer>(
 )
     ensures step { Step H.Handler N.Network id
         sessions.old outbox.old network.old sessions.new outbox.new network.new }
+    ensures way { N.gave_way network.new ≡ N.gave_way network.old }
     ensures own { ((d : Bool) → N.due network.old d id) → (bytes : Text)
         → unsent_at outbox.new id ≡ Some bytes → N.due network.new (has_bytes bytes) id }
     ensures needed { IsNeeded (connection_at sessions.new id) (unsent_at outbox.new id) }
@@ -92,6 +93,7 @@ fn go_on<H: Handler, N: Network, O: Observer>(
     requires open { is_closed_at (connection_at sessions.old id) ≡ false }
     ensures step { Step H.Handler N.Network id
         sessions.old outbox.old network.old sessions.new outbox.new network.new }
+    ensures way { MayGiveWay id (N.gave_way network.old) (N.gave_way network.new) }
     ensures own { result ≡ false → (bytes : Text) → unsent_at outbox.new id ≡ Some bytes
         → N.due network.new (has_bytes bytes) id }
     ensures needed { IsNeeded (connection_at sessions.new id) (unsent_at outbox.new id) }
@@ -117,6 +119,7 @@ fn take_turn<H: Handler, N: Network, O: Observer>(
     requires { IsNeeded (connection_at sessions.old id) (unsent_at outbox.old id) }
     ensures step { Step H.Handler N.Network id
         sessions.old outbox.old network.old sessions.new outbox.new network.new }
+    ensures way { MayGiveWay id (N.gave_way network.old) (N.gave_way network.new) }
     ensures own { result ≡ false → (bytes : Text) → unsent_at outbox.new id ≡ Some bytes
         → N.due network.new (has_bytes bytes) id }
     ensures needed { IsNeeded (connection_at sessions.new id) (unsent_at outbox.new id) }
@@ -141,6 +144,7 @@ fn wait_for<H: Handler, N: Network, O: Observer>(
 )
     ensures step { Step H.Handler N.Network id
         sessions.old outbox.old network.old sessions.new outbox.new network.new }
+    ensures way { N.gave_way network.new ≡ N.gave_way network.old }
     ensures noted { IsAmong id waiting.new.items ⊎ (unsent_at outbox.new id ≡ None) }
     ensures waiting { (k : ℕ) → IsAmong k waiting.old.items → IsAmong k waiting.new.items }
     ensures needed { IsNeeded (connection_at sessions.old id) (unsent_at outbox.old id)
@@ -179,6 +183,7 @@ pub fn meet<H: Handler, N: Network, O: Observer>(
     ensures needed { AllNeeded (connection_at sessions.new) (unsent_at outbox.new) }
     ensures present { ArePresentAt occasion (N.client network.old) (unsent_at outbox.old)
         → AllPresent (N.client network.new) (unsent_at outbox.new) }
+    ensures way { MayGiveWayAt occasion (N.gave_way network.old) (N.gave_way network.new) }
 {
     match occasion {
         Occasion::Over => {}

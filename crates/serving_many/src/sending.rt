@@ -29,6 +29,7 @@ fn await_turn<H: Handler, N: Network, O: Observer>(
     ensures step { Step H.Handler N.Network id
         sessions.old outbox.old network.old sessions.new outbox.new network.new }
     ensures handler { handler_of sessions.new ≡ handler_of sessions.old }
+    ensures way { N.gave_way network.new ≡ N.gave_way network.old }
     ensures rest { (bytes : Text) → has_bytes bytes ≡ true
         → unsent_at outbox.old id ≡ Some bytes → unsent_at outbox.new id ≡ Some bytes }
     ensures own { (bytes : Text) → unsent_at outbox.new id ≡ Some bytes
@@ -55,6 +56,7 @@ fn send<H: Handler, N: Network, O: Observer>(
     ensures step { Step H.Handler N.Network id
         sessions.old outbox.old network.old sessions.new outbox.new network.new }
     ensures handler { handler_of sessions.new ≡ handler_of sessions.old }
+    ensures way { N.gave_way network.new ≡ N.gave_way network.old }
     ensures own { (bytes : Text) → unsent_at outbox.new id ≡ Some bytes
         → N.due network.new (has_bytes bytes) id }
     ensures needed { IsNeeded (connection_at sessions.old id) (unsent_at outbox.old id)
@@ -98,6 +100,7 @@ fn send_all<H: Handler, N: Network, O: Observer>(
         (state_of sessions.old outbox.old (N.reads network.old) (N.writes network.old))
         (state_of sessions.new outbox.new (N.reads network.new) (N.writes network.new)) }
     ensures handler { handler_of sessions.new ≡ handler_of sessions.old }
+    ensures way { N.gave_way network.new ≡ N.gave_way network.old }
     ensures due { AllDue (unsent_at outbox.old) (N.due network.old) ids.now
         → AllDue (unsent_at outbox.new) (N.due network.new) [] }
     ensures needed { AllNeeded (connection_at sessions.old) (unsent_at outbox.old)
@@ -127,6 +130,7 @@ pub fn end_round<H: Handler, N: Network, O: Observer>(
         → AllDue (unsent_at outbox.new) (N.due network.new) []) }
     ensures sent { OnOk result (waiting.new.items ≡ []) }
     ensures untold { OnErr result (N.writes network.new ≡ N.writes network.old) }
+    ensures way { N.gave_way network.new ≡ N.gave_way network.old }
     ensures durable { OnOk result
         (FindsOnly H.finds (handler_of sessions.new) (H.state (handler_of sessions.new))) }
     ensures keeps { OnErr result H.keeps }

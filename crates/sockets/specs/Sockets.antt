@@ -10,6 +10,6 @@ reads_of s = moves_of s.reads
 abbrev pub writes_of : {C : Type 0} → Sockets C → List Moved
 writes_of s = moves_of s.writes
 
--- nothing is moved
+-- nothing is moved, and nobody gives way
 abbrev pub MovesNothing : {C : Type 0} → Sockets C → Sockets C → Type 0
-MovesNothing old new = (new.reads ≡ old.reads) × (new.writes ≡ old.writes)
+MovesNothing old new = (new.reads ≡ old.reads) × (new.writes ≡ old.writes) × (new.ways ≡ old.ways)

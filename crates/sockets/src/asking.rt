@@ -3,8 +3,8 @@
 ghost use Rattle.std.specs.Prelude.{◌≡◌};
 ghost use Rattle.sockets.specs.Table.{StaysDue, KeepsClients};
 
-use crate::rest::{Lull, Resting};
-use crate::sockets::{INPUT, LISTENER, QUIET, Sockets, TICK};
+use crate::rest::Resting;
+use crate::sockets::{INPUT, LISTENER, Sockets, TICK};
 use crate::table::Table;
 use mio::Events;
 use mio::event::Event;
@@ -61,25 +61,16 @@ impl<C: Clock> Sockets<'_, C> {
         self.resting.count > 0 && self.table.queue_len() == self.resting.count && !self.may_come()
     }
 
-    /// How long the system may let it wait.
+    /// How long the system may let it wait. Where nobody else is ready, until the first rest ends for that.
     fn patience(&self) -> Duration {
-        if self.is_all_at_rest() && self.resting.giving_way == 0 {
-            Duration::from_millis(QUIET)
-        } else if self.table.queue_len() > 0 || self.may_come() {
-            Duration::from_millis(0)
-        } else {
-            Duration::from_millis(TICK)
-        }
-    }
-
-    /// Whether anybody else was ready, where all that were rested when the system was asked.
-    fn lull(&self, was_at_rest: bool) -> Lull {
-        if !was_at_rest || self.left != self.resting.count {
-            Lull::Busy
-        } else if self.resting.giving_way > 0 {
-            Lull::Idle
-        } else {
-            Lull::Quiet
+        let tick = Duration::from_millis(TICK);
+        match self.quiet_since {
+            Some(since) if self.is_all_at_rest() => {
+                let quiet = self.now.duration_since(since);
+                self.resting.lull.saturating_sub(quiet).min(tick)
+            }
+            _ if self.table.queue_len() > 0 || self.may_come() => Duration::ZERO,
+            _ => tick,
         }
     }
 
@@ -91,7 +82,6 @@ impl<C: Clock> Sockets<'_, C> {
         ensures count { self.new.table.count ≡ self.old.table.count }
     {
         let patience = self.patience();
-        let was_at_rest = self.is_all_at_rest();
         self.poll.poll(&mut self.events, Some(patience))?;
         self.now = Instant::now(self.clock)?;
         let news = hear(&self.events, &mut self.table);
@@ -100,7 +90,11 @@ impl<C: Clock> Sockets<'_, C> {
             self.listener = None;
         }
         self.left = self.table.queue_len();
-        self.lull = self.lull(was_at_rest);
+        self.quiet_since = if self.is_all_at_rest() {
+            self.quiet_since.or(Some(self.now))
+        } else {
+            None
+        };
         self.resting = Resting::none();
         Ok(())
     }

@@ -4,7 +4,7 @@ ghost use Rattle.std.specs.Prelude.{◌≡◌, ◌≢◌, ◌≤◌, ◌++◌, �
 ghost use Rattle.std.specs.Io.{ReadsAtMost, WritesAtMost};
 ghost use Rattle.network.specs.Readiness.{OthersDue};
 ghost use Rattle.network.specs.Traffic.{moved_of};
-ghost use Rattle.network.specs.Transcripts.{moves_of};
+ghost use Rattle.network.specs.Transcripts.{moves_of, ids_of};
 ghost use Rattle.sockets.specs.Socket.{is_queued, as_giving_way};
 ghost use Rattle.network.specs.Clients.{failed, client_behind, AllAreSame, OthersAreSame};
 ghost use Rattle.sockets.specs.Table.{socket_at, client_at, OthersStay, IsDue, StaysDue, KeepsClients};
@@ -35,6 +35,7 @@ impl<C: Clock> Sockets<'_, C> {
         ensures some { IfSome result (λ n. (n ≡ 0)
             × (moves_of self.new.reads ≡ moves_of self.old.reads ++ (id, []) ∷ [])) }
         ensures writes { self.new.writes ≡ self.old.writes }
+        ensures ways { self.new.ways ≡ self.old.ways }
         ensures waits { result ≡ None → IsDue self.new.table false id }
         ensures due { StaysDue self.old.table self.new.table }
         ensures clients { KeepsClients self.old.table self.new.table }
@@ -86,6 +87,8 @@ impl<C: Clock> Network for Sockets<'_, C> {
 
     ghost client = { λ s k. client_at s.table k };
 
+    ghost gave_way = { λ s. ids_of s.ways };
+
     fn next(&mut self) -> Option<Occasion> {
         self.happens()
     }
@@ -115,6 +118,7 @@ impl<C: Clock> Network for Sockets<'_, C> {
         ensures told { moves_of self.new.writes
             ≡ moves_of self.old.writes ++ moved_of id result bytes.now }
         ensures reads { moves_of self.new.reads ≡ moves_of self.old.reads }
+        ensures gave_way { ids_of self.new.ways ≡ ids_of self.old.ways }
         ensures waits { result ≡ Ok None → IsDue self.new.table true id }
         ensures others { OthersDue id
             (λ d k. IsDue self.old.table d k) (λ d k. IsDue self.new.table d k) }
@@ -148,6 +152,7 @@ impl<C: Clock> Network for Sockets<'_, C> {
     fn await_more(&mut self, id: u64)
         ensures reads { moves_of self.new.reads ≡ moves_of self.old.reads }
         ensures writes { moves_of self.new.writes ≡ moves_of self.old.writes }
+        ensures gave_way { ids_of self.new.ways ≡ ids_of self.old.ways }
         ensures due { IsDue self.new.table false id }
         ensures others { OthersDue id
             (λ d k. IsDue self.old.table d k) (λ d k. IsDue self.new.table d k) }
@@ -167,6 +172,7 @@ impl<C: Clock> Network for Sockets<'_, C> {
     fn give_way(&mut self, id: u64)
         ensures reads { moves_of self.new.reads ≡ moves_of self.old.reads }
         ensures writes { moves_of self.new.writes ≡ moves_of self.old.writes }
+        ensures gave_way { ids_of self.new.ways ≡ ids_of self.old.ways ++ id ∷ [] }
         ensures due { StaysDue self.old.table self.new.table }
         ensures clients { AllAreSame
             (λ k. client_at self.old.table k) (λ k. client_at self.new.table k) }
@@ -176,6 +182,7 @@ impl<C: Clock> Network for Sockets<'_, C> {
     {
         self.is_long = true;
         self.table.give_way(id);
+        self.ways = self.ways.named(id);
     }
 
     fn close(&mut self, id: u64) {

@@ -1,12 +1,12 @@
 //! Rests behind what took long.
 
-ghost use Rattle.std.specs.Prelude.{◌≡◌, ◌≢◌, ◌<◌, ◌≤◌, ◌*◌, ◌↔◌, None, IfSome, IsSome, true, false, min};
+ghost use Rattle.std.specs.Prelude.{◌≡◌, ◌≢◌, ◌<◌, ◌≤◌, ◌*◌, ◌/◌, ◌-◌, ◌↔◌, None, IfSome, IsSome, IsTrue, true, false, min, max};
 ghost use Rattle.std.specs.Duration.{as_nanos};
 ghost use Rattle.std.specs.Time.{instant_nanos};
 
 use std::time::{Duration, Instant};
 
-/// How long a turn takes at most that no rest follows, in milliseconds.
+/// How long a turn takes at most that no rest follows, and the shortest lull that ends a rest behind one, in milliseconds.
 const SHORT: u64 = 1;
 
 /// How many times as long as its turn a connection rests.
@@ -15,28 +15,22 @@ const TIMES: u32 = 200;
 /// How long a connection rests at most, in milliseconds.
 const LONGEST: u64 = 10_000;
 
+/// How many times as long as the lull that ends its rest a turn takes.
+const TIMES_OF_LULL: u32 = 10;
+
 /// How many times as long as the end of its round a connection rests that gave way.
 const TIMES_OF_END: u32 = 20;
 
 /// How long it rests at most, in milliseconds.
 const LONGEST_OF_END: u64 = 100;
 
-/// Whether anybody else was ready when the system was asked last, while some rested.
-#[derive(Clone, Copy, Debug)]
-pub enum Lull {
-    /// Others were, or nobody rested.
-    Busy,
-    /// Nobody else was.
-    Idle,
-    /// Nobody else was for as long as the system was asked to wait for.
-    Quiet,
-}
-
 /// The rest of a connection behind a turn of its own, or an end of a round for its sake, that took long.
 #[derive(Clone, Copy, Debug)]
 pub struct Rest {
     /// When it is over.
     until: Instant,
+    /// It is over too where nobody else was ready for so long.
+    lull: Duration,
     /// How often another connection than the one before had taken a turn when it began.
     changes: u64,
     /// It gave way: it rests before its next request. Else it rests amid a request.
@@ -44,17 +38,19 @@ pub struct Rest {
 }
 
 impl Rest {
-    ghost use Rattle.sockets.specs.Rest.{Begins, is_alone};
+    ghost use Rattle.sockets.specs.Rest.{Begins};
 
     /// That behind a turn that took so long, from now on. Behind a short one there is none.
     pub(crate) fn behind_turn(now: Instant, took: Duration, changes: u64) -> Option<Rest>
         ensures short { as_nanos took ≤ 1_000_000 → result ≡ None }
         ensures some { IfSome result (λ rest.
-            Begins rest now (min (as_nanos took * 200) 10_000_000_000) changes false) }
+            Begins rest now (min (as_nanos took * 200) 10_000_000_000)
+            (max (as_nanos took / 10) 1_000_000) changes false) }
     {
         let time = rest_behind(took)?;
         Some(Rest {
             until: now.checked_add(time)?,
+            lull: lull_behind(took),
             changes,
             gives_way: false,
         })
@@ -63,37 +59,44 @@ impl Rest {
     /// That of a connection that gave way, behind an end of a round that took so long, from now on.
     pub(crate) fn behind_end(now: Instant, took: Duration, changes: u64) -> Option<Rest>
         ensures { IfSome result (λ rest.
-            Begins rest now (min (as_nanos took * 20) 100_000_000) changes true) }
+            Begins rest now (min (as_nanos took * 20) 100_000_000) 0 changes true) }
     {
         Some(Rest {
             until: now.checked_add(rest_behind_end(took))?,
+            lull: Duration::ZERO,
             changes,
             gives_way: true,
         })
     }
 
-    /// Whether it goes on: its time isn't over, others had a turn since, and they ask on.
-    pub(crate) fn goes_on(&self, now: Instant, changes: u64, lull: Lull) -> bool
-        ensures over { result ≡ true → instant_nanos now < instant_nanos self.now.until }
-        ensures others { result ≡ true → changes ≢ self.now.changes }
-        ensures alone { result ≡ true → is_alone self.now.gives_way lull ≡ false }
+    /// Whether others ask on: where nobody else was ready from `quiet_since` on, that is shorter than its lull.
+    fn others_ask(&self, now: Instant, quiet_since: Option<Instant>) -> bool
+        ensures { IsTrue result ↔ IfSome quiet_since (λ since.
+            instant_nanos now - instant_nanos since < as_nanos self.now.lull) }
     {
-        let is_alone = match lull {
-            Lull::Busy => false,
-            Lull::Idle => self.gives_way,
-            Lull::Quiet => true,
-        };
+        match quiet_since {
+            Some(since) => now.duration_since(since) < self.lull,
+            None => true,
+        }
+    }
+
+    /// Whether it goes on: its time isn't over, others had a turn since, and they ask on.
+    pub(crate) fn goes_on(&self, now: Instant, changes: u64, quiet_since: Option<Instant>) -> bool
+        ensures { IsTrue result ↔ ((instant_nanos now < instant_nanos self.now.until)
+            × (changes ≢ self.now.changes) × IfSome quiet_since (λ since.
+            instant_nanos now - instant_nanos since < as_nanos self.now.lull)) }
+    {
         let left = self.until.duration_since(now);
-        left > Duration::from_millis(0) && changes != self.changes && !is_alone
+        left > Duration::ZERO && changes != self.changes && self.others_ask(now, quiet_since)
     }
 }
 
-/// How many connections rest, of those that were looked at since the system was asked.
+/// The connections that rest, of those that were looked at since the system was asked.
 #[derive(Clone, Copy, Debug)]
 pub struct Resting {
     pub count: usize,
-    /// How many of these gave way.
-    pub giving_way: usize,
+    /// The shortest lull that ends the rest of one.
+    pub lull: Duration,
 }
 
 impl Resting {
@@ -101,16 +104,14 @@ impl Resting {
     pub(crate) fn none() -> Resting {
         Resting {
             count: 0,
-            giving_way: 0,
+            lull: Duration::MAX,
         }
     }
 
     /// Counts one more.
     pub(crate) fn note(&mut self, rest: Rest) {
         self.count = self.count.saturating_add(1);
-        if rest.gives_way {
-            self.giving_way = self.giving_way.saturating_add(1);
-        }
+        self.lull = self.lull.min(rest.lull);
     }
 }
 
@@ -126,6 +127,15 @@ fn rest_behind(took: Duration) -> Option<Duration>
     }
     let times = took.saturating_mul(TIMES);
     Some(times.min(Duration::from_millis(LONGEST)))
+}
+
+/// How long nobody else is ready where that ends the rest behind a turn that took so long: a tenth as long, a millisecond
+/// at least.
+fn lull_behind(took: Duration) -> Duration
+    ensures { as_nanos result ≡ max (as_nanos took / 10) 1_000_000 }
+{
+    let part = took / TIMES_OF_LULL;
+    part.max(Duration::from_millis(SHORT))
 }
 
 /// How long a connection rests that gave way, where the end of its round took so long: twenty times as long, 100

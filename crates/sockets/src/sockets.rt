@@ -3,7 +3,7 @@
 ghost use Rattle.std.specs.Prelude.{◌≡◌, [], IfOk};
 
 use crate::limits::Limits;
-use crate::rest::{Lull, Resting};
+use crate::rest::Resting;
 use crate::table::Table;
 use crate::turns::Turn;
 use mio::net::TcpListener;
@@ -23,9 +23,6 @@ pub(crate) const INPUT: u64 = u64::MAX - 1;
 /// How often all connections are looked at, in milliseconds.
 pub(crate) const TICK: u64 = 500;
 
-/// How long nobody else is ready when those that rest are told ready all the same, in milliseconds.
-pub(crate) const QUIET: u64 = 1;
-
 /// How many events the system tells at once.
 const MOST_EVENTS: usize = 1024;
 
@@ -43,9 +40,10 @@ pub struct Sockets<'r, C> {
     pub(crate) table: Table,
     /// How many of the queue are told before the system is asked again.
     pub(crate) left: usize,
-    /// How many of the queue rest, of those that were looked at since the system was asked.
+    /// Those of the queue that rest.
     pub(crate) resting: Resting,
-    pub(crate) lull: Lull,
+    /// From when on nobody else was ready, as long as some rest.
+    pub(crate) quiet_since: Option<Instant>,
     /// How often a connection took a turn behind another's.
     pub(crate) changes: u64,
     pub(crate) turn: Turn,
@@ -63,6 +61,7 @@ pub struct Sockets<'r, C> {
     pub(crate) is_short: bool,
     pub(crate) reads: Transcript,
     pub(crate) writes: Transcript,
+    pub(crate) ways: Transcript,
 }
 
 impl<'r, C: Clock + Net> Sockets<'r, C> {
@@ -101,7 +100,7 @@ impl<'r, C: Clock + Net> Sockets<'r, C> {
             table: Table::new(alloc),
             left: 0,
             resting: Resting::none(),
-            lull: Lull::Busy,
+            quiet_since: None,
             changes: 0,
             turn: Turn {
                 id: LISTENER,
@@ -116,6 +115,7 @@ impl<'r, C: Clock + Net> Sockets<'r, C> {
             is_short: false,
             reads: Transcript::new(),
             writes: Transcript::new(),
+            ways: Transcript::new(),
         })
     }
 }

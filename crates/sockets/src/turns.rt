@@ -113,7 +113,7 @@ impl<C: Clock> Sockets<'_, C> {
     {
         match status.rest {
             Some(rest) if status.is_amid || rest.gives_way => {
-                if rest.goes_on(self.now, self.changes, self.lull) {
+                if rest.goes_on(self.now, self.changes, self.quiet_since) {
                     self.resting.note(rest);
                     return true;
                 }

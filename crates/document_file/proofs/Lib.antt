@@ -1,5 +1,6 @@
 mod Commits
 mod Found
+mod Members
 mod Puts
 mod Refusals
 mod Rows

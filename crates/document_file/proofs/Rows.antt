@@ -7,12 +7,13 @@ use Rattle.std.specs.Cmp.Derive.{then_next}
 use Rattle.std.specs.Cmp.Lexicographic.{slice_cmp}
 use Rattle.std.specs.Ordering.{match_ordering, nat_cmp, ordering_reverse, ordering_then}
 use Rattle.std.specs.Str.{bytes_eq}
+use Rattle.std.proofs.lemmas.Bool.{and_parts}
 use Rattle.std.proofs.lemmas.Cmp.{nat_list_cmp_total}
 use Rattle.std.proofs.lemmas.Map.Text.{is_eq-slice_cmp}
-use Rattle.definitions.specs.Values.{Text}
+use Rattle.definitions.specs.Values.{same_text, Text}
 use Rattle.lemmas.proofs.Texts.{same_text_is}
-use Rattle.stored_rows.proofs.RowOrder.{row_order}
-use Rattle.stored_rows.specs.Rows.{is_row_at, row_cmp, with_row, without_row, Ascend, Row}
+use Rattle.stored_rows.proofs.RowOrder.{one_row, row_order, rows_tie}
+use Rattle.stored_rows.specs.Rows.{is_row_at, row_cmp, with_row, without_row, Ascend, HasNoRow, Row}
 use Rattle.sqlite_value.specs.declared.value.Value.{Value}
 use Rattle.sqlite_value.specs.declared.value.Value.TheVariants as value
 use Rattle.sqlite_value.specs.Order.{bytes, column, value_cmp, Row as Entry}
@@ -20,7 +21,8 @@ use Rattle.sqlite_value.specs.Keys.{entry_cmp, plain, prefix_cmp}
 use Rattle.sqlite_value.proofs.KeyLemmas.{first_key-plain}
 use Rattle.sqlite_value.proofs.OrderLemmas.{then-Equal, value_cmp-Text}
 use Rattle.sqlite_trees.specs.Tree.{insert_entry}
-use Rattle.document_file.specs.Entries.{base_value, entry_of, has_key, key_of, with_entry, without_key}
+use Rattle.document_file.specs.Entries.{base_value, entry_of, has_key, key_of, with_entry, without_key, HaveOneAt}
+use Rattle.document_file.proofs.Members.{from_map}
 
 abbrev key : Row → Entry
 key r = key_of r.tenant r.uri
@@ -101,6 +103,26 @@ delete_is_delete tenant uri (s ∷ ss) = rw (at_is tenant uri s) (go (is_row_at 
         → cond (not b) (entry_of s ∷ without_key (key_of tenant uri) (map entry_of ss)) (without_key (key_of tenant uri) (map entry_of ss)) ≡ map entry_of (cond (not b) (s ∷ without_row tenant uri ss) (without_row tenant uri ss))
     go true more = more
     go false more = ap (λ l. entry_of s ∷ l) more
+
+-- ---- one row at most has a tenant and a URI
+own_parts : (tenant uri : Text) (s : Row) → has_key (key_of tenant uri) (entry_of s) ≡ true → (tenant ≡ s.tenant) × (uri ≡ s.uri)
+own_parts tenant uri s h =
+    let both = and_parts (same_text tenant s.tenant) (same_text uri s.uri) (sym (at_is tenant uri s) ∙ h) in
+    (same_text_is tenant s.tenant both.0, same_text_is uri s.uri both.1)
+
+pub one_entry : (tenant uri : Text) (rs : List Row) → Ascend rs → HaveOneAt (key_of tenant uri) (map entry_of rs)
+one_entry tenant uri rs up a b c d h k =
+    let r = from_map entry_of rs a c in
+    let s = from_map entry_of rs b d in
+    let p = own_parts tenant uri r.0 (ap (has_key (key_of tenant uri)) r.1.1 ∙ h) in
+    let q = own_parts tenant uri s.0 (ap (has_key (key_of tenant uri)) s.1.1 ∙ k) in
+    let same : r.0 ≡ s.0 = one_row rs r.0 s.0 up r.1.0 s.1.0 (rows_tie r.0 s.0 (sym p.0 ∙ q.0) (sym p.1 ∙ q.1)) in
+    sym r.1.1 ∙ ap entry_of same ∙ s.1.1
+
+-- ---- a row that is new
+pub insert_is_put : (r : Row) (rs : List Row) → Ascend rs → HasNoRow r.tenant r.uri rs → insert_entry plain (entry_of r) (map entry_of rs) ≡ map entry_of (with_row r rs)
+insert_is_put r rs up none =
+    ap (insert_entry plain (entry_of r)) (sym (delete_is_delete r.tenant r.uri rs ∙ ap (map entry_of) none)) ∙ put_is_put r rs up
 
 -- ---- the same entries are those of the same rows
 abbrev base_in : Text → Value → Text

@@ -1,5 +1,7 @@
 -- The entries with a key stand where a seek for it leads.
-use Rattle.std.proofs.Common.{Some, ◌≡◌, Bool, true, false, not, List, [], ◌∷◌, refl, sym, ap, ◌∙◌, Ordering, Less, Equal, Greater, is_lt, is_gt, is_eq, true≢false}
+use Rattle.std.proofs.Common.{if◌then◌else◌, get_or, Contains, Some, ◌≡◌, Bool, true, false, not, List, [], ◌∷◌, refl, sym, subst, ap, ◌∙◌, Ordering, Less, Equal, Greater, is_lt, is_gt, is_eq, true≢false}
+use Rattle.std.proofs.lemmas.Cmp.{tied_itself}
+use Rattle.std.specs.Cmp.{both_ways}
 use Rattle.std.specs.List.{AllByRecursion}
 use Rattle.std.specs.Ordering.{ordering_reverse}
 use Rattle.sqlite_value.specs.Order.{Row}
@@ -9,10 +11,11 @@ use Rattle.sqlite_value.proofs.KeyLemmas.{entry_cmp_total}
 use Rattle.sqlite_trees.specs.Tree.{from_key, order_of, remove_entry, sought, IsIndex}
 use Rattle.sqlite_trees.specs.View.{with_cursor, View}
 use Rattle.sqlite_trees.specs.declared.store.Direction.TheVariants.{Forward}
-use Rattle.sqlite_trees.proofs.ListLemmas.{filter-filter, filter_all, all_weaker}
+use Rattle.sqlite_trees.proofs.ListLemmas.{filter_all, filter_same, all_weaker}
 use Rattle.sqlite_trees.proofs.TreeLemmas.{IsSortedTree, prefix_cmp_follows, sorted_index}
-use Rattle.document_file.specs.Entries.{has_key, without_key}
+use Rattle.document_file.specs.Entries.{has_key, without_key, HaveOneAt}
 use Rattle.document_file.specs.Tables.{HasTable}
+use Rattle.document_file.proofs.Members.{is_first, is_later}
 
 neither : (o : Ordering) → (is_lt o ≡ true → ⊥) → (is_gt o ≡ true → ⊥) → is_eq o ≡ true
 neither Less lt gt = absurd (lt refl)
@@ -58,12 +61,28 @@ same_key key e x h k =
     (λ below. tied_not_below _ h ((prefix_cmp_follows plain key e x back).0 below))
     (λ over. tied_not_above _ h ((prefix_cmp_follows plain key x e (ap is_gt tie)).1 over))
 
-unless : (b c : Bool) → (b ≡ true → c ≡ true) → not c ≡ true → not b ≡ true
-unless true c h k = absurd (true≢false (sym k ∙ ap not (h refl)))
-unless false c h k = refl
+-- ---- an entry that a seek leads to
+from_there : (o : Order) (key e : Row) (es left : List Row) → from_key o key es ≡ e ∷ left → Contains es e
+from_there o key e [] left h = absurd (cc)
+from_there o key e (x ∷ xs) left h = go (is_lt (prefix_cmp o x key)) h (from_there o key e xs left)
+  where
+    go : (b : Bool) → (if b then from_key o key xs else x ∷ xs) ≡ e ∷ left → (from_key o key xs ≡ e ∷ left → Contains xs e) → Contains (x ∷ xs) e
+    go true h more = is_later x e xs (more h)
+    go false h more = subst (Contains (x ∷ xs)) (ap (λ (l : List Row). get_or l 0 []) h) (is_first x xs)
 
-pub removes : (key e : Row) (es : List Row) → has_key key e ≡ true → without_key key (remove_entry plain e es) ≡ without_key key es
-removes key e es h = filter-filter _ _ (λ x. unless _ _ (same_key key e x h)) es
+-- those that equal it are those with its key, where it alone has the key
+alike : (key e : Row) (es : List Row) → has_key key e ≡ true → ((x : Row) → Contains es x → has_key key x ≡ true → x ≡ e)
+    → AllByRecursion (λ x. not (is_eq (entry_cmp plain x e)) ≡ not (has_key key x)) es
+alike key e [] has one = tt
+alike key e (x ∷ xs) has one = (
+  ap not (both_ways (is_eq (entry_cmp plain x e)) (has_key key x) (same_key key e x has)
+      (λ h. ap (λ y. is_eq (entry_cmp plain y e)) (one x (is_first x xs) h) ∙ ap is_eq (tied_itself (entry_cmp_total plain) e))),
+  alike key e xs has (λ y c. one y (is_later x y xs c)),
+)
+
+pub drops : (key e : Row) (es left : List Row) → from_key plain key es ≡ e ∷ left → has_key key e ≡ true → HaveOneAt key es
+    → remove_entry plain e es ≡ without_key key es
+drops key e es left h has one = filter_same _ _ es (alike key e es has (λ x c k. one x e c (from_there plain key e es left h) k has))
 
 -- none has the key, where the first that isn't below it hasn't
 abbrev pub IsApart : Row → List Row → Type 0

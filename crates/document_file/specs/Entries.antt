@@ -1,5 +1,5 @@
 -- A document's row as an entry of the table that sqlite3 reads.
-use Rattle.std.specs.Prelude.{if◌then◌else◌, Bool, List, [], filter, not, ◌∷◌}
+use Rattle.std.specs.Prelude.{if◌then◌else◌, Bool, Contains, List, [], filter, not, true, ◌∷◌, ◌≡◌}
 use Rattle.std.specs.Ordering.{is_eq}
 use Rattle.definitions.specs.Values.{same_text, Text}
 use Rattle.stored_rows.specs.Rows.{Row}
@@ -23,6 +23,11 @@ key_of tenant uri = value.Text tenant ∷ value.Text uri ∷ []
 
 abbrev pub has_key : Entry → Entry → Bool
 has_key key entry = is_eq (prefix_cmp plain entry key)
+
+-- one of the entries at most has this key
+abbrev pub HaveOneAt : Entry → List Entry → Type 0
+HaveOneAt key entries =
+    (a b : Entry) → Contains entries a → Contains entries b → has_key key a ≡ true → has_key key b ≡ true → a ≡ b
 
 -- the entries but for those with this key
 abbrev pub without_key : Entry → List Entry → List Entry

@@ -7,7 +7,7 @@ ghost use Rattle.document_file.specs.Tables.{HoldsRows, MayFind};
 
 use crate::checkpoints::Checkpoint;
 use crate::entries::entry_row;
-use crate::tables::{CURSOR, TABLE, delete_row, has_table, put_row};
+use crate::tables::{CURSOR, TABLE, delete_row, has_table, insert_row, put_row};
 use sqlite_trees::error::StoreError;
 use sqlite_trees::store::{Direction, Reopen, Store};
 use sqlite_value::row::Row;
@@ -97,6 +97,14 @@ impl<S: Checkpoint> DocumentStore for DocumentFile<S> {
     fn put(&mut self, row: RowRef<'_>) -> Result<(), StoreFault> {
         self.is_reading = false;
         match put_row(&mut self.store, self.alloc, row) {
+            Ok(()) => Ok(()),
+            Err(error) => Err(fault_of(error)),
+        }
+    }
+
+    fn insert(&mut self, row: RowRef<'_>) -> Result<(), StoreFault> {
+        self.is_reading = false;
+        match insert_row(&mut self.store, self.alloc, row) {
             Ok(()) => Ok(()),
             Err(error) => Err(fault_of(error)),
         }

@@ -1,9 +1,11 @@
 //! The table of documents in a store of trees.
 
 ghost use Rattle.std.specs.Prelude.{◌≡◌, ◌↔◌, false, IsTrue, OnOk};
+ghost use Rattle.sqlite_value.specs.Keys.{plain};
+ghost use Rattle.sqlite_trees.specs.Tree.{insert_entry};
 ghost use Rattle.sqlite_trees.specs.View.{IsClean, IsQuiet};
 ghost use Rattle.stored_rows.specs.RowViews.{row_ref_view};
-ghost use Rattle.document_file.specs.Entries.{entry_of, key_of, with_entry, without_key};
+ghost use Rattle.document_file.specs.Entries.{HaveOneAt, entry_of, key_of, with_entry, without_key};
 ghost use Rattle.document_file.specs.Tables.{HasTable};
 
 use crate::entries::{key_entry, row_entry};
@@ -30,36 +32,54 @@ pub(crate) fn has_table<S: Store>(store: &S) -> bool
     }
 }
 
-/// Drops each entry with this key.
+/// Drops the entry with this key, where there is one.
 fn clear<S: Store>(store: &mut S, alloc: Global, key: &Row) -> Result<(), StoreError>
     requires { HasTable (S.view store.old) }
     ensures ok { OnOk result (IsClean (S.view store.new)
+        → HaveOneAt key.now ((S.view store.old).trees 0)
         → (S.view store.new).trees 0 ≡ without_key key.now ((S.view store.old).trees 0)) }
     ensures sound { OnOk result (IsClean (S.view store.new) → (S.view store.old).is_broken ≡ false) }
     ensures table { HasTable (S.view store.new) }
     ensures quiet { IsQuiet S.view S.faults S.recovers S.is_shielded store.old store.new }
 {
     let mut found = Row::new(alloc);
-    'again: for _ in 0..u64::MAX {
-        store.seek(CURSOR, TABLE, key, Direction::Forward)?;
-        if !store.next(CURSOR, &mut found)? {
-            return Ok(());
-        }
-        if !found.cmp_prefix(Order::PLAIN, key).is_eq() {
-            return Ok(());
-        }
-        store.remove(TABLE, &found)?;
+    store.seek(CURSOR, TABLE, key, Direction::Forward)?;
+    if !store.next(CURSOR, &mut found)? {
+        return Ok(());
     }
-    Err(StoreError::OutOfMemory)
+    if !found.cmp_prefix(Order::PLAIN, key).is_eq() {
+        return Ok(());
+    }
+    store.remove(TABLE, &found)
 }
 
-/// Puts the document in the place of those with its tenant and URI.
+/// Puts the document, where no other has its tenant and URI.
+pub(crate) fn insert_row<S: Store>(
+    store: &mut S,
+    alloc: Global,
+    row: RowRef<'_>,
+) -> Result<(), StoreError>
+    ensures ok { OnOk result (IsClean (S.view store.new)
+        → (S.view store.new).trees 0
+        ≡ insert_entry plain (entry_of (row_ref_view row.entry)) ((S.view store.old).trees 0)) }
+    ensures sound { OnOk result (IsClean (S.view store.new) → (S.view store.old).is_broken ≡ false) }
+    ensures quiet { IsQuiet S.view S.faults S.recovers S.is_shielded store.old store.new }
+{
+    if !has_table(store) {
+        return Err(StoreError::Corrupt);
+    }
+    let entry = row_entry(alloc, row)?;
+    store.insert(TABLE, &entry)
+}
+
+/// Puts the document in the place of the one with its tenant and URI.
 pub(crate) fn put_row<S: Store>(
     store: &mut S,
     alloc: Global,
     row: RowRef<'_>,
 ) -> Result<(), StoreError>
     ensures ok { OnOk result (IsClean (S.view store.new)
+        → HaveOneAt (key_of row.entry.tenant.now row.entry.uri.now) ((S.view store.old).trees 0)
         → (S.view store.new).trees 0
         ≡ with_entry (key_of row.entry.tenant.now row.entry.uri.now)
         (entry_of (row_ref_view row.entry)) ((S.view store.old).trees 0)) }
@@ -83,6 +103,7 @@ pub(crate) fn delete_row<S: Store>(
     uri: &str,
 ) -> Result<(), StoreError>
     ensures ok { OnOk result (IsClean (S.view store.new)
+        → HaveOneAt (key_of tenant.now uri.now) ((S.view store.old).trees 0)
         → (S.view store.new).trees 0
         ≡ without_key (key_of tenant.now uri.now) ((S.view store.old).trees 0)) }
     ensures sound { OnOk result (IsClean (S.view store.new) → (S.view store.old).is_broken ≡ false) }

@@ -3,6 +3,7 @@ pub mod RegistryRows
 pub mod KeyedRegistries
 pub mod ChangedRows
 pub mod AnsweredRows
+pub mod NewRows
 pub mod RestoredRows
 pub mod PutBackDocuments
 pub mod RowsPutBack

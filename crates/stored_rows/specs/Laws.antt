@@ -7,7 +7,7 @@ use Rattle.definitions.specs.Values.{Text}
 use Rattle.definition_laws.specs.Keeping.{HaveBaseForms, HaveBodyValues}
 use Rattle.definition_laws.specs.Services.{AreAllKept}
 use Rattle.stored_rows.specs.Restoring.{HaveDistinctDigests, Restores, emptied}
-use Rattle.stored_rows.specs.Rows.{Ascend, Row, digest, rows_after, rows_of}
+use Rattle.stored_rows.specs.Rows.{Ascend, NewHasNoRow, Row, digest, rows_after, rows_of}
 
 -- every tenant's own documents are values of bodies, under base forms of URIs
 abbrev pub HaveOwnBodies : List KeyedRegistry → Type 0
@@ -32,6 +32,12 @@ abbrev pub CallsChangeRows : Type 0
 CallsChangeRows =
     (search : Search) (ks ls : List KeyedRegistry) (key : Text) (q : Request) (r : Reply) → HaveDistinctDigests ks
     → AreAllKept search ks → IsCallAnswer search ks (key, q) r ls → rows_of ls ≡ rows_after key ls r (rows_of ks)
+
+-- a document that is new to the tenant's registry is new to the rows
+abbrev pub NewDocumentsHaveNoRow : Type 0
+NewDocumentsHaveNoRow =
+    (search : Search) (ks ls : List KeyedRegistry) (key : Text) (q : Request) (r : Reply) → HaveDistinctDigests ks
+    → AreAllKept search ks → IsCallAnswer search ks (key, q) r ls → NewHasNoRow key r (rows_of ks)
 
 -- keys, quotas and the library stay
 abbrev pub CallsKeepWhatIsEmptied : Type 0

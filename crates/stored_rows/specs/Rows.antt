@@ -1,5 +1,5 @@
 -- Documents as rows: one row for each document of each tenant.
-use Rattle.std.specs.Prelude.{Bool, List, None, Option, Some, filter, not, option_and_then, ◌∷◌, ◌&&◌, []}
+use Rattle.std.specs.Prelude.{Bool, List, None, Option, Some, filter, not, false, option_and_then, ◌∷◌, ◌&&◌, ◌≡◌, [], ⊤}
 use Rattle.std.specs.Cmp.Lexicographic.{slice_cmp}
 use Rattle.std.specs.List.Sorted.{IsStrictlySortedBy}
 use Rattle.std.specs.declared.cmp.Ordering.{Ordering}
@@ -41,6 +41,10 @@ is_row_at tenant uri r = same_text tenant r.tenant && same_text uri r.uri
 abbrev pub without_row : Text → Text → List Row → List Row
 without_row tenant uri = filter (λ r. not (is_row_at tenant uri r))
 
+-- none of them has this tenant and this URI
+abbrev pub HasNoRow : Text → Text → List Row → Type 0
+HasNoRow tenant uri rows = without_row tenant uri rows ≡ rows
+
 -- ---- of documents
 -- SHA-256 (FIPS 180-4) in lower-case hexadecimal, 64 characters: no key stands in a row
 unfoldable pub digest : Text → Text
@@ -79,3 +83,8 @@ rows_after key ks (stored uri there) rows = with_document key (document_at ks ke
 rows_after key ks (stored_all us) rows = with_each key ks us rows
 rows_after key ks (deleted uri) rows = without_row (digest key) uri rows
 rows_after key ks _ rows = rows
+
+-- a document that this reply to the tenant with this key calls new has no row among these
+abbrev pub NewHasNoRow : Text → Reply → List Row → Type 0
+NewHasNoRow key (stored uri false) rows = HasNoRow (digest key) uri rows
+NewHasNoRow key _ rows = ⊤

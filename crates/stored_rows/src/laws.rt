@@ -1,6 +1,6 @@
 //! That rows stand for registries.
 
-ghost use Rattle.stored_rows.specs.Laws.{RowsGiveRegistriesBack, RowsGiveOneResult, CallsChangeRows, CallsKeepWhatIsEmptied, DigestsHaveOneLength, EmptiedRegistriesHaveTheDigests, RestoredRowsAreStored, RestoringKeepsWhatIsEmptied, RowsAscend};
+ghost use Rattle.stored_rows.specs.Laws.{RowsGiveRegistriesBack, RowsGiveOneResult, CallsChangeRows, CallsKeepWhatIsEmptied, DigestsHaveOneLength, EmptiedRegistriesHaveTheDigests, NewDocumentsHaveNoRow, RestoredRowsAreStored, RestoringKeepsWhatIsEmptied, RowsAscend};
 
 /// The rows of all tenants' documents, put back into the same registries without documents, give the registries. Quotas,
 /// the library and keys are the same, and the keys have distinct digests.
@@ -17,6 +17,11 @@ pub fn rows_give_one_result()
 /// or only read changes no row.
 pub fn calls_change_rows()
     ensures { CallsChangeRows }
+{}
+
+/// A document that a reply calls new has no row before.
+pub fn new_documents_have_no_row()
+    ensures { NewDocumentsHaveNoRow }
 {}
 
 /// No request changes a key, a quota or the library.

@@ -1,7 +1,7 @@
 //! What keeps documents beyond the process.
 
 ghost use Rattle.std.specs.Prelude.{◌≡◌, ◌⊎◌, ◌++◌, ◌∷◌, [], List, None, Some, IfOk, OnOk};
-ghost use Rattle.stored_rows.specs.Rows.{Row, Ascend, with_row, without_row};
+ghost use Rattle.stored_rows.specs.Rows.{Row, Ascend, HasNoRow, with_row, without_row};
 ghost use Rattle.stored_rows.specs.RowViews.{row_view, row_ref_view};
 ghost use Rattle.stored_rows.specs.declared.rows.DocumentRow.{DocumentRow};
 
@@ -12,8 +12,8 @@ use std::alloc::Global;
 /// What keeps documents beyond the process, as rows in byte order of their tenants and URIs.
 ///
 /// What is put and deleted is seen at once, and is kept from the next commit on: an opening after a crash finds the rows of
-/// the last commit that was answered, or of one that was going on. After a failed put, delete or commit nothing is promised
-/// of the rows that the store has, and all the same of those that an opening finds.
+/// the last commit that was answered, or of one that was going on. After a failed put, insert, delete or commit nothing is
+/// promised of the rows that the store has, and all the same of those that an opening finds.
 pub trait DocumentStore {
     /// These are its rows now.
     ghost holds: { Self → List Row → Type 0 };
@@ -42,6 +42,14 @@ pub trait DocumentStore {
     /// Puts a row at its place, instead of the one with its tenant and URI.
     fn put(&mut self, row: RowRef<'_>) -> Result<(), StoreFault>
         ensures ok { OnOk result ((rs : List Row) → Ascend rs → holds self.old rs
+            → holds self.new (with_row (row_ref_view row.entry) rs)) }
+        ensures recovers { (rs : List Row) → recovers self.new rs → recovers self.old rs };
+
+    /// Puts a row at its place, where none has its tenant and URI. Where one has, nothing is promised of the rows that the
+    /// store has, and all the same of those that an opening finds.
+    fn insert(&mut self, row: RowRef<'_>) -> Result<(), StoreFault>
+        ensures ok { OnOk result ((rs : List Row) → Ascend rs
+            → HasNoRow row.entry.tenant.now row.entry.uri.now rs → holds self.old rs
             → holds self.new (with_row (row_ref_view row.entry) rs)) }
         ensures recovers { (rs : List Row) → recovers self.new rs → recovers self.old rs };
 

@@ -11,20 +11,21 @@ use Rattle.stored_rows.specs.Laws.{HaveOwnBodies}
 use Rattle.stored_rows.specs.Restoring.{HaveDistinctDigests, Restores, emptied}
 use Rattle.stored_rows.specs.Rows.{Row, rows_of, rows_after}
 use Rattle.stored_rows.proofs.AnsweredRows.{calls_change_rows}
+use Rattle.stored_rows.proofs.NewRows.{new_documents_have_no_row}
 use Rattle.stored_rows.proofs.KeyedRegistries.{distinct_by_emptied, emptied_digests}
 use Rattle.stored_rows.proofs.RegistryRows.{rows_ascend}
 use Rattle.stored_rows.proofs.RestoredRows.{calls_keep, one_result}
 use Rattle.stored_rows.proofs.RowsPutBack.{rows_give_back}
-use Rattle.stored_hub.specs.Storing.{IsStored, WritesInto, RecoversNoMore, Finds, is_change}
+use Rattle.stored_hub.specs.Storing.{IsStored, WritesReply, RecoversNoMore, Finds, is_change}
 
 -- ---- one call
 module _ {D : Type 0} (holds : D → List Row → Type 0) where
   pub stored_after : (before after : D) (was now : Option Unsettled) (ks ls : List KeyedRegistry) (key : Text) (q : Request) (r : Reply) → HaveDistinctDigests ks
       → AreAllKept regular_search ks → IsCallAnswer regular_search ks (key, q) r ls → (now ≡ None → was ≡ None)
-      → (now ≡ None → WritesInto holds before (rows_after key ls r) after) → IsStored holds before was ks → IsStored holds after now ls
+      → (now ≡ None → WritesReply holds before key ls r after) → IsStored holds before was ks → IsStored holds after now ls
   stored_after before after was now ks ls key q r distinct kept answer back writes held up =
       subst (holds after) (sym (calls_change_rows regular_search ks ls key q r distinct kept answer))
-      (writes up (rows_of ks) (rows_ascend ks) (held (back up)))
+      (writes up (rows_of ks) (rows_ascend ks) (new_documents_have_no_row regular_search ks ls key q r distinct kept answer) (held (back up)))
 
 pub distinct_after : (ks ls : List KeyedRegistry) (key : Text) (q : Request) (r : Reply) → HaveDistinctDigests ks → IsCallAnswer regular_search ks (key, q) r ls
     → HaveDistinctDigests ls

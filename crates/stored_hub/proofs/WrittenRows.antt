@@ -2,7 +2,7 @@
 use Rattle.std.proofs.Common.{◌≡◌, Bool, List, [], ◌∷◌, ◌++◌, Option, Some, None, Result, Ok, Err, OnOk, option_map, refl, sym, ap, ◌∙◌, subst}
 use Rattle.std.specs.Prelude.{option_and_then}
 use Rattle.definitions.specs.Documents.{document_of}
-use Rattle.definitions.specs.Registries.{Registry}
+use Rattle.definitions.specs.Registries.{Registry, stored_all}
 use Rattle.definitions.specs.Schemas.{Document}
 use Rattle.definitions.specs.Services.{KeyedRegistry, registry_of}
 use Rattle.definitions.specs.Texts.{text}
@@ -10,9 +10,9 @@ use Rattle.definitions.specs.Values.{Text, same_text}
 use Rattle.lemmas.proofs.SomeValues.{some_same}
 use Rattle.lemmas.proofs.Texts.{same_text_is}
 use Rattle.definition_laws.proofs.Membership.{found_there}
-use Rattle.stored_rows.specs.Rows.{Row, Ascend, digest, document_at, with_document, with_each, with_row, row_of}
+use Rattle.stored_rows.specs.Rows.{Row, Ascend, HasNoRow, digest, document_at, with_document, with_each, with_row, row_of}
 use Rattle.stored_rows.proofs.RowOrder.{ascend_with}
-use Rattle.stored_hub.specs.Storing.{WritesInto}
+use Rattle.stored_hub.specs.Storing.{WritesInto, WritesNew, WritesReply}
 use Rattle.tenant_documents.specs.StoredTexts.{stored_texts}
 use Rattle.tenant_hub.specs.PutBack.{stored_texts_of}
 
@@ -107,3 +107,17 @@ pub document_written : {D T E : Type 0} (holds : D → List Row → Type 0) (bef
 document_written holds before after (Ok x) ks key tenant uri base txt same told put =
     λ rows up held. subst (holds after) (sym (row_there ks key tenant uri base txt rows same told)) (put rows up held)
 document_written holds before after (Err e) ks key tenant uri base txt same told put = tt
+
+pub new_written : {D T E : Type 0} (holds : D → List Row → Type 0) (before after : D) (r : Result T E) (ks : List KeyedRegistry) (key tenant uri base txt : Text)
+    → tenant ≡ digest key → stored_texts_of ks key uri ≡ Some (base, txt)
+    → OnOk r ((rows : List Row) → Ascend rows → HasNoRow tenant uri rows → holds before rows → holds after (with_row (row_with tenant uri base txt) rows))
+    → OnOk r (WritesNew holds before tenant uri (with_document key (document_at ks key uri)) after)
+new_written holds before after (Ok x) ks key tenant uri base txt same told put =
+    λ rows up none held. subst (holds after) (sym (row_there ks key tenant uri base txt rows same told)) (put rows up none held)
+new_written holds before after (Err e) ks key tenant uri base txt same told put = tt
+
+-- ---- what the reply to a batch says
+pub all_written : {D T E : Type 0} (holds : D → List Row → Type 0) (before after : D) (r : Result T E) (key : Text) (ks : List KeyedRegistry) (us : List (Text × Bool))
+    → OnOk r (WritesInto holds before (with_each key ks us) after) → OnOk r (WritesReply holds before key ks (stored_all us) after)
+all_written holds before after (Ok x) key ks us put = λ rows up none held. put rows up held
+all_written holds before after (Err e) key ks us put = tt

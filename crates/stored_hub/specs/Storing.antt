@@ -5,8 +5,9 @@ use Rattle.connections.specs.declared.handlers.Unsettled.{Unsettled}
 use Rattle.definitions.specs.Patterns.{regular_search}
 use Rattle.definitions.specs.Registries.{Reply, stored, deleted, stored_all}
 use Rattle.definitions.specs.Services.{KeyedRegistry}
+use Rattle.definitions.specs.Values.{Text}
 use Rattle.stored_rows.specs.Restoring.{Restores, emptied}
-use Rattle.stored_rows.specs.Rows.{Ascend, Row, rows_of}
+use Rattle.stored_rows.specs.Rows.{Ascend, HasNoRow, NewHasNoRow, Row, rows_after, rows_of}
 
 -- unless it is behind, the store has the rows of the registries
 abbrev pub IsStored : {D : Type 0} → (D → List Row → Type 0) → D → Option Unsettled → List KeyedRegistry → Type 0
@@ -34,6 +35,16 @@ is_change _ = false
 -- the rows that the store has are changed so
 abbrev pub WritesInto : {D : Type 0} → (D → List Row → Type 0) → D → (List Row → List Row) → D → Type 0
 WritesInto {D} holds before change after = (rs : List Row) → Ascend rs → holds before rs → holds after (change rs)
+
+-- .. where none of them has this tenant and this URI
+abbrev pub WritesNew : {D : Type 0} → (D → List Row → Type 0) → D → Text → Text → (List Row → List Row) → D → Type 0
+WritesNew {D} holds before tenant uri change after =
+    (rs : List Row) → Ascend rs → HasNoRow tenant uri rs → holds before rs → holds after (change rs)
+
+-- .. as the reply to the tenant with this key says, where none of them is a new document's
+abbrev pub WritesReply : {D : Type 0} → (D → List Row → Type 0) → D → Text → List KeyedRegistry → Reply → D → Type 0
+WritesReply {D} holds before key ks r after =
+    (rs : List Row) → Ascend rs → NewHasNoRow key r rs → holds before rs → holds after (rows_after key ks r rs)
 
 -- an opening may find no rows that it couldn't have found before
 abbrev pub RecoversNoMore : {D : Type 0} → (D → List Row → Type 0) → D → D → Type 0

@@ -55,3 +55,15 @@ pub(crate) fn key_of<'a>(keys: &'a [DigestedKey], tenant: &str) -> Option<(usize
     }
     None
 }
+
+// The digest of this key, where it is one of these.
+pub(crate) fn tenant_of<'a>(keys: &'a [DigestedKey], key: &str) -> Option<&'a str>
+    ensures { IfSome result (λ tenant. tenant.now ≡ digest key.now) }
+{
+    for digested in keys {
+        if key == digested.key.as_str() {
+            return Some(digested.tenant.as_str());
+        }
+    }
+    None
+}

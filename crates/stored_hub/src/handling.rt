@@ -28,7 +28,7 @@ impl<D: DocumentStore> Handler for StoredHub<D> {
             self.is_dirty = true;
             self.changes = self.changes.wrapping_add(1);
             if self.behind.is_none() {
-                match write_change(alloc, &mut self.store, &self.hub, key, &reply) {
+                match write_change(alloc, &mut self.store, &self.hub, &self.keys, key, &reply) {
                     Ok(()) => {}
                     Err(fault) => self.behind = Some(unsettled(fault)),
                 }

@@ -6,6 +6,7 @@ ghost use Rattle.stored_rows.specs.Restoring.{HaveDistinctDigests};
 ghost use Rattle.stored_hub.specs.Storing.{Finds, IsSettled, IsSettled-prop, IsStored};
 ghost use Rattle.tenant_hub.specs.Hubs.{hub_view};
 
+use crate::digested_key::DigestedKey;
 use connections::Unsettled;
 use stored_rows::DocumentStore;
 use tenant_hub::Hub;
@@ -18,6 +19,8 @@ use tenant_hub::Hub;
 pub struct StoredHub<D: DocumentStore> {
     pub(crate) hub: Hub,
     pub(crate) store: D,
+    // The tenants' keys, with the digests that stand in the rows.
+    pub(crate) keys: Vec<DigestedKey>,
     // Whether a change may have been written since the last commit.
     pub(crate) is_dirty: bool,
     // How many changes were granted, modulo 2^64.

@@ -48,6 +48,7 @@ pub fn open<D: DocumentStore + Drop>(
         Ok(()) => Ok(StoredHub {
             hub,
             store,
+            keys,
             is_dirty: true,
             changes: 0,
             behind: None,

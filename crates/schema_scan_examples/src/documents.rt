@@ -18,46 +18,55 @@ fn canonical_uri(alloc: Global, base: &str, document: &str) -> Result<String, Fa
     Ok(String::from_str(alloc, canonical(&document))?)
 }
 
-// A base, a document, and its canonical URI or the fault.
-const DOCUMENTS: &[(&str, &str, &str)] = &[
-    ("https://ex.org/a/c/x", "{}", "https://ex.org/a/c/x"),
+// Why, a base, a document, and its canonical URI or the fault.
+const DOCUMENTS: &[(&str, &str, &str, &str)] = &[
     (
+        "without an `$id` the canonical URI is the base (Core 9.1.1)",
+        "https://ex.org/a/c/x",
+        "{}",
+        "https://ex.org/a/c/x",
+    ),
+    (
+        "a relative `$id` is resolved against the base (Core 8.2.1)",
         "https://ex.org/a/c/x",
         r#"{"$id":"../b"}"#,
         "https://ex.org/a/b",
     ),
     (
+        "an empty fragment is dropped (Core 8.2.1)",
         "https://ex.org/a/c/x",
         r#"{"$id":"y#"}"#,
         "https://ex.org/a/c/y",
     ),
-    ("https://ex.org/s", r#"{"pattern":"(?=a)"}"#, "5 BadPattern"),
     (
+        "look-around is no part of the grammar (PROFILE.md)",
+        "https://ex.org/s",
+        r#"{"pattern":"(?=a)"}"#,
+        "5 BadPattern",
+    ),
+    (
+        "a name under `patternProperties` is a pattern, deep below, too",
         "https://ex.org/s",
         r#"{"properties":{"a":{"patternProperties":{"(":true}}}}"#,
         "5 BadPattern",
     ),
     (
+        "a pattern below is built as one at the root is",
         "https://ex.org/s",
         r#"{"properties":{"p":{"pattern":"(?=a)"}}}"#,
         "5 BadPattern",
     ),
     (
+        "a good pattern at the root hides no bad one below",
         "https://ex.org/s",
         r#"{"pattern":"a","properties":{"p":{"pattern":"(?=a)"}}}"#,
         "5 BadPattern",
     ),
 ];
 
-fn expect_document(rt: &impl Abort, alloc: Global, row: &(&str, &str, &str)) {
-    let (base, document, wanted) = *row;
-    expect_told(
-        rt,
-        alloc,
-        canonical_uri(alloc, base, document),
-        wanted,
-        document,
-    );
+fn expect_document(rt: &impl Abort, alloc: Global, row: &(&str, &str, &str, &str)) {
+    let (why, base, document, wanted) = *row;
+    expect_told(rt, alloc, canonical_uri(alloc, base, document), wanted, why);
 }
 
 #[test]
@@ -83,43 +92,134 @@ const INNER: &str = "https://ex.org/in/e";
 
 // A resource and a fragment, and the resource of the schema that is found and how many steps lead to it; no resource where
 // none is found.
-const TARGETS: &[(&str, &str, &str, usize)] = &[
-    (OUTER, "", OUTER, 0),
-    (INNER, "", INNER, 0),
-    (OUTER, "n", OUTER, 2),
-    (INNER, "n", INNER, 0),
-    (INNER, "d", INNER, 2),
-    (OUTER, "d", "", 0),
-    (OUTER, "/$defs/f", OUTER, 2),
-    (OUTER, "/$defs/e/allOf/1", INNER, 2),
-    (INNER, "/allOf/1", INNER, 2),
-    (INNER, "/allOf/01", "", 0),
-    (INNER, "/allOf/2", "", 0),
-    (OUTER, "/$defs", "", 0),
-    (OUTER, "/$defs/f/const", "", 0),
-    (OUTER, "/enum/0", "", 0),
-    ("https://ex.org/no", "", "", 0),
+struct Target {
+    why: &'static str,
+    uri: &'static str,
+    fragment: &'static str,
+    resource: &'static str,
+    steps: usize,
+}
+
+const TARGETS: &[Target] = &[
+    Target {
+        why: "an empty fragment names the root of the resource",
+        uri: OUTER,
+        fragment: "",
+        resource: OUTER,
+        steps: 0,
+    },
+    Target {
+        why: "an empty fragment names an embedded resource's root, too",
+        uri: INNER,
+        fragment: "",
+        resource: INNER,
+        steps: 0,
+    },
+    Target {
+        why: "an anchor belongs to the resource around it (Core 8.2.2)",
+        uri: OUTER,
+        fragment: "n",
+        resource: OUTER,
+        steps: 2,
+    },
+    Target {
+        why: "an embedded resource has its own anchor of this name (Core 8.2.2)",
+        uri: INNER,
+        fragment: "n",
+        resource: INNER,
+        steps: 0,
+    },
+    Target {
+        why: "a dynamic anchor is a plain name, too (Core 8.2.2)",
+        uri: INNER,
+        fragment: "d",
+        resource: INNER,
+        steps: 2,
+    },
+    Target {
+        why: "the dynamic anchor stands in the embedded resource alone",
+        uri: OUTER,
+        fragment: "d",
+        resource: "",
+        steps: 0,
+    },
+    Target {
+        why: "a pointer leads to a schema in `$defs` (Core 8.2.4)",
+        uri: OUTER,
+        fragment: "/$defs/f",
+        resource: OUTER,
+        steps: 2,
+    },
+    Target {
+        why: "a pointer may lead into an embedded resource (Core 9.2.1)",
+        uri: OUTER,
+        fragment: "/$defs/e/allOf/1",
+        resource: INNER,
+        steps: 2,
+    },
+    Target {
+        why: "a pointer begins at the embedded resource's own root (Core 9.2.1)",
+        uri: INNER,
+        fragment: "/allOf/1",
+        resource: INNER,
+        steps: 2,
+    },
+    Target {
+        why: "an index has no zero before it (RFC 6901, 4)",
+        uri: INNER,
+        fragment: "/allOf/01",
+        resource: "",
+        steps: 0,
+    },
+    Target {
+        why: "a list of two has no index 2",
+        uri: INNER,
+        fragment: "/allOf/2",
+        resource: "",
+        steps: 0,
+    },
+    Target {
+        why: "`$defs` holds schemas and is none (Core 8.2.4)",
+        uri: OUTER,
+        fragment: "/$defs",
+        resource: "",
+        steps: 0,
+    },
+    Target {
+        why: "the value of `const` is no schema (Validation 6.1.3)",
+        uri: OUTER,
+        fragment: "/$defs/f/const",
+        resource: "",
+        steps: 0,
+    },
+    Target {
+        why: "an element of `enum` is no schema (Validation 6.1.2)",
+        uri: OUTER,
+        fragment: "/enum/0",
+        resource: "",
+        steps: 0,
+    },
+    Target {
+        why: "no resource of the document has this URI",
+        uri: "https://ex.org/no",
+        fragment: "",
+        resource: "",
+        steps: 0,
+    },
 ];
 
-// Whether the fragment names a schema of this resource, so many steps from its root; no schema for no resource.
-fn names(
-    alloc: Global,
-    uri: &str,
-    fragment: &str,
-    resource: &str,
-    steps: usize,
-) -> Result<bool, Fault> {
+// Whether the fragment names a schema of the row's resource, so many steps from its root; no schema for no resource.
+fn names(alloc: Global, row: &Target) -> Result<bool, Fault> {
     let document = compiled(alloc, OUTER, DOCUMENT)?;
-    let kind = fragment_kind(alloc, Some(fragment))?;
-    match document.target(alloc, uri, &kind)? {
-        Some(located) => Ok(located.resource == resource && located.steps.len() == steps),
-        None => Ok(resource.is_empty()),
+    let kind = fragment_kind(alloc, Some(row.fragment))?;
+    match document.target(alloc, row.uri, &kind)? {
+        Some(located) => Ok(located.resource == row.resource && located.steps.len() == row.steps),
+        None => Ok(row.resource.is_empty()),
     }
 }
 
-fn expect_named(rt: &impl Abort, alloc: Global, row: &(&str, &str, &str, usize)) {
-    let (uri, fragment, resource, steps) = *row;
-    expect_holds(rt, names(alloc, uri, fragment, resource, steps), fragment);
+fn expect_named(rt: &impl Abort, alloc: Global, row: &Target) {
+    expect_holds(rt, names(alloc, row), row.why);
 }
 
 #[test]

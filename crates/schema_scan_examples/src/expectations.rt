@@ -1,4 +1,4 @@
-//! What tests expect of an outcome: where it is otherwise, the test ends and names the row.
+//! What tests expect of an outcome: where it is otherwise, the test ends and says why it should be so.
 
 use schema_scan::Fault;
 use std::alloc::{AllocError, Global};
@@ -17,18 +17,18 @@ pub fn expect_told(
     alloc: Global,
     outcome: Result<String, Fault>,
     wanted: &str,
-    row: &str,
+    why: &str,
 ) {
     match told(alloc, outcome) {
-        Ok(text) => assert_eq!(rt; text.as_str(), wanted, "{row}"),
-        Err(_) => panic!(rt; "{row}: no room"),
+        Ok(text) => assert_eq!(rt; text.as_str(), wanted, "{why}"),
+        Err(_) => panic!(rt; "{why}: no room"),
     }
 }
 
 /// Expects that something holds.
-pub fn expect_holds(rt: &impl Abort, outcome: Result<bool, Fault>, row: &str) {
+pub fn expect_holds(rt: &impl Abort, outcome: Result<bool, Fault>, why: &str) {
     match outcome {
-        Ok(holds) => assert!(rt; holds, "{row}"),
-        Err(fault) => panic!(rt; "{row}: {fault}"),
+        Ok(holds) => assert!(rt; holds, "{why}"),
+        Err(fault) => panic!(rt; "{why}: {fault}"),
     }
 }

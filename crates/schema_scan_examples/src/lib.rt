@@ -3,25 +3,23 @@
 #![tactic(auto)]
 
 #[cfg(test)]
+mod distinct_texts;
+#[cfg(test)]
 mod documents;
 #[cfg(test)]
 mod expectations;
 #[cfg(test)]
 mod fragments;
 #[cfg(test)]
-mod numbers_of_texts;
-#[cfg(test)]
-mod pattern_machines;
+mod pattern_limits;
 #[cfg(test)]
 mod pattern_matches;
 #[cfg(test)]
 mod pattern_refusals;
 #[cfg(test)]
-mod pattern_room;
-#[cfg(test)]
 mod pattern_sizes;
 #[cfg(test)]
-mod pattern_tables;
+mod patterns_of_documents;
 #[cfg(test)]
 mod pointers;
 #[cfg(test)]
@@ -30,5 +28,7 @@ mod resolution;
 mod resources;
 #[cfg(test)]
 mod scans;
+#[cfg(test)]
+mod searches_of_many_states;
 #[cfg(test)]
 mod shapes;

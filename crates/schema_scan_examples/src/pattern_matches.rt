@@ -5,14 +5,20 @@ use patterns::{Fault, Pattern};
 use std::alloc::Global;
 use std::process::Abort;
 
-// A pattern, and whether it matches in each of the texts.
-const PATTERNS: &[(&str, &[(&str, bool)])] = &[
+// Why, a pattern, and whether it matches in each of the texts.
+const PATTERNS: &[(&str, &str, &[(&str, bool)])] = &[
     (
+        "a pattern isn't anchored: it matches anywhere (Validation 6.3.3)",
         "a+",
         &[("xaay", true), ("xy", false), ("", false), ("10", false)],
     ),
-    (r"^\d+$", &[("xaay", false), ("10", true), ("", false)]),
     (
+        "`^` and `$` bind the digits to both ends of the text",
+        r"^\d+$",
+        &[("xaay", false), ("10", true), ("", false)],
+    ),
+    (
+        "nothing stands before the four digits, nor behind the last two",
         r"^\d{4}-\d{2}-\d{2}$",
         &[
             ("2026-11-22", true),
@@ -20,16 +26,48 @@ const PATTERNS: &[(&str, &[(&str, bool)])] = &[
             ("2026-11-221", false),
         ],
     ),
-    ("", &[("", true), ("x", true)]),
-    ("^$", &[("", true), ("x", false)]),
-    ("^.$", &[("é", true), ("🐲", true)]),
-    ("^..$", &[("🐲", false)]),
-    ("^[α-ω]+$", &[("λογος", true), ("λόγος", false)]),
-    (r"^\p{L}+$", &[("Straße", true), ("Straße 1", false)]),
-    (r"^[\w.-]{1,255}$", &[("Łódź_1.txt", true)]),
-    ("b+", &[("abbc", true)]),
-    // In an empty text, within words, at an end of a line, in what isn't ASCII.
     (
+        "an empty pattern matches at the start of every text",
+        "",
+        &[("", true), ("x", true)],
+    ),
+    (
+        "nothing stands between the start and the end",
+        "^$",
+        &[("", true), ("x", false)],
+    ),
+    (
+        "`.` is a character, however many bytes it has in UTF-8",
+        "^.$",
+        &[("é", true), ("🐲", true)],
+    ),
+    (
+        "a character beyond 16 bits is one, not two",
+        "^..$",
+        &[("🐲", false)],
+    ),
+    (
+        "a class goes by code points: `ό` comes behind `ω`",
+        "^[α-ω]+$",
+        &[("λογος", true), ("λόγος", false)],
+    ),
+    (
+        r"`\p{L}` has the letters of all scripts, no space, no digit",
+        r"^\p{L}+$",
+        &[("Straße", true), ("Straße 1", false)],
+    ),
+    (
+        r"`\w` has letters and digits of all scripts, and `_`",
+        r"^[\w.-]{1,255}$",
+        &[("Łódź_1.txt", true)],
+    ),
+    (
+        "a match begins and ends within the text",
+        "b+",
+        &[("abbc", true)],
+    ),
+    (
+        "each text has an end, also an empty one",
         "$",
         &[
             ("", true),
@@ -40,6 +78,7 @@ const PATTERNS: &[(&str, &[(&str, bool)])] = &[
         ],
     ),
     (
+        "`^` and `$` are those of the text, not of a line",
         "^$",
         &[
             ("", true),
@@ -50,6 +89,7 @@ const PATTERNS: &[(&str, &[(&str, bool)])] = &[
         ],
     ),
     (
+        "with `(?m)` each line has a start, also the second",
         "(?m)^b",
         &[
             ("", false),
@@ -60,6 +100,7 @@ const PATTERNS: &[(&str, &[(&str, bool)])] = &[
         ],
     ),
     (
+        "no word ends between `a` and `é`, nor in an empty text",
         r"\B",
         &[
             ("", true),
@@ -70,6 +111,7 @@ const PATTERNS: &[(&str, &[(&str, bool)])] = &[
         ],
     ),
     (
+        "a word begins with `b`, behind a space or a line feed",
         r"\bb",
         &[
             ("", false),
@@ -80,6 +122,7 @@ const PATTERNS: &[(&str, &[(&str, bool)])] = &[
         ],
     ),
     (
+        "nothing is an alternative to `é`, so any end will do",
         "(é|)$",
         &[
             ("", true),
@@ -90,6 +133,7 @@ const PATTERNS: &[(&str, &[(&str, bool)])] = &[
         ],
     ),
     (
+        "`é` is the last character of one text alone",
         "é$",
         &[
             ("", false),
@@ -100,6 +144,7 @@ const PATTERNS: &[(&str, &[(&str, bool)])] = &[
         ],
     ),
     (
+        "`.` is any character but the end of a line",
         "^.$",
         &[
             ("", false),
@@ -110,6 +155,7 @@ const PATTERNS: &[(&str, &[(&str, bool)])] = &[
         ],
     ),
     (
+        "a class takes all but `a`, also the end of a line",
         "[^a]",
         &[
             ("", false),
@@ -140,9 +186,9 @@ fn matches_as_told(alloc: Global, source: &str, texts: &[(&str, bool)]) -> Resul
     )
 }
 
-fn expect_matches(rt: &impl Abort, alloc: Global, row: &(&str, &[(&str, bool)])) {
-    let (source, texts) = *row;
-    expect_holds(rt, matches_as_told(alloc, source, texts), source);
+fn expect_matches(rt: &impl Abort, alloc: Global, row: &(&str, &str, &[(&str, bool)])) {
+    let (why, source, texts) = *row;
+    expect_holds(rt, matches_as_told(alloc, source, texts), why);
 }
 
 #[test]

@@ -38,57 +38,134 @@ pub const RESOURCES: &str = r##"{
     "enum": [{"$ref": "not/one"}]
 }"##;
 
-// A document, a fragment, and what it leads to from the root of the document; nothing from values that are no schemas.
-const TARGETS: &[(&str, &str, &str)] = &[
-    (r#"{"not":true}"#, "/not", "https://ex.org/a/base#/not true"),
+// Why, a document, a fragment, and what it leads to from the root of the document; nothing for no schema.
+const TARGETS: &[(&str, &str, &str, &str)] = &[
     (
+        "the value of `not` is a schema (Core 10.2.1.4)",
+        r#"{"not":true}"#,
+        "/not",
+        "https://ex.org/a/base#/not true",
+    ),
+    (
+        "the value of `items` is a schema (Core 10.3.1.2)",
         r#"{"items":true}"#,
         "/items",
         "https://ex.org/a/base#/items true",
     ),
     (
+        "`~1` in a pointer is a `/` of the name (RFC 6901, 4)",
         r#"{"$defs":{"a/b":true}}"#,
         "/$defs/a~1b",
         "https://ex.org/a/base#/$defs/a~1b true",
     ),
     (
+        "each element of `allOf` is a schema (Core 10.2.1.1)",
         r#"{"allOf":[false,true]}"#,
         "/allOf/1",
         "https://ex.org/a/base#/allOf/1 true",
     ),
     (
+        "the first element of a list has the index 0 (RFC 6901, 4)",
         r#"{"allOf":[false,true]}"#,
         "/allOf/0",
         "https://ex.org/a/base#/allOf/0 false",
     ),
     (
+        "a pointer leads on below an element of `allOf`",
         r#"{"allOf":[false,{"if":true}]}"#,
         "/allOf/1/if",
         "https://ex.org/a/base#/allOf/1/if true",
     ),
-    (r#"{"const":true}"#, "/const", ""),
-    (r#"{"x":true}"#, "/x", ""),
-    (r#"{"$defs":{"a":true}}"#, "/$defs", ""),
-    (r#"{"$defs":{"a":true}}"#, "/$defs/b", ""),
-    (r#"{"$defs":{"a":true}}"#, "/$defs/a/not", ""),
-    (r#"{"$defs":{"a/b":true}}"#, "/$defs/a~1b/c/d", ""),
-    (r#"{"allOf":[true,true]}"#, "/allOf", ""),
-    (r#"{"allOf":[true,true]}"#, "/allOf/2", ""),
-    (r#"{"allOf":[true,true]}"#, "/allOf/01", ""),
-    (r#"{"allOf":[true,true]}"#, "/allOf/+1", ""),
-    (r#"{"allOf":[false,true]}"#, "/allOf/1/if", ""),
     (
+        "the value of `const` is no schema (Validation 6.1.3)",
+        r#"{"const":true}"#,
+        "/const",
+        "",
+    ),
+    (
+        "a name that is no keyword holds no schema",
+        r#"{"x":true}"#,
+        "/x",
+        "",
+    ),
+    (
+        "`$defs` holds schemas and is none (Core 8.2.4)",
+        r#"{"$defs":{"a":true}}"#,
+        "/$defs",
+        "",
+    ),
+    (
+        "no member of `$defs` has this name",
+        r#"{"$defs":{"a":true}}"#,
+        "/$defs/b",
+        "",
+    ),
+    (
+        "a boolean schema has no schema below it (Core 4.3.2)",
+        r#"{"$defs":{"a":true}}"#,
+        "/$defs/a/not",
+        "",
+    ),
+    (
+        "nothing stands two steps below a boolean schema, either (Core 4.3.2)",
+        r#"{"$defs":{"a/b":true}}"#,
+        "/$defs/a~1b/c/d",
+        "",
+    ),
+    (
+        "`allOf` holds schemas and is none (Core 10.2.1.1)",
+        r#"{"allOf":[true,true]}"#,
+        "/allOf",
+        "",
+    ),
+    (
+        "a list of two has no index 2",
+        r#"{"allOf":[true,true]}"#,
+        "/allOf/2",
+        "",
+    ),
+    (
+        "an index has no zero before it (RFC 6901, 4)",
+        r#"{"allOf":[true,true]}"#,
+        "/allOf/01",
+        "",
+    ),
+    (
+        "an index has no sign (RFC 6901, 4)",
+        r#"{"allOf":[true,true]}"#,
+        "/allOf/+1",
+        "",
+    ),
+    (
+        "the element is a boolean schema, and has no `if`",
+        r#"{"allOf":[false,true]}"#,
+        "/allOf/1/if",
+        "",
+    ),
+    (
+        "the schema at the pointer's end opens a resource of its own (Core 8.2.1)",
         r#"{"$defs":{"d":{"$id":"c#"}}}"#,
         "/$defs/d",
         r##"https://ex.org/a/c# {"$id":"c#"}"##,
     ),
-    ("{}", "", "https://ex.org/a/base# {}"),
     (
+        "an empty fragment is the root of the resource",
+        "{}",
+        "",
+        "https://ex.org/a/base# {}",
+    ),
+    (
+        "the root's anchor, not the embedded resource's of one name (Core 8.2.2)",
         RESOURCES,
         "x",
         r##"https://ex.org/a/base#/allOf/1 {"$anchor":"x","$dynamicRef":"#y"}"##,
     ),
-    (RESOURCES, "z", ""),
+    (
+        "an anchor within `const` is a value, and names nothing",
+        RESOURCES,
+        "z",
+        "",
+    ),
 ];
 
 fn pointed(alloc: Global, document: &str, fragment: &str) -> Result<String, Fault> {
@@ -97,15 +174,9 @@ fn pointed(alloc: Global, document: &str, fragment: &str) -> Result<String, Faul
     shown(alloc, document.target(alloc, BASE, &kind)?)
 }
 
-fn expect_target(rt: &impl Abort, alloc: Global, row: &(&str, &str, &str)) {
-    let (document, fragment, wanted) = *row;
-    expect_told(
-        rt,
-        alloc,
-        pointed(alloc, document, fragment),
-        wanted,
-        fragment,
-    );
+fn expect_target(rt: &impl Abort, alloc: Global, row: &(&str, &str, &str, &str)) {
+    let (why, document, fragment, wanted) = *row;
+    expect_told(rt, alloc, pointed(alloc, document, fragment), wanted, why);
 }
 
 #[test]

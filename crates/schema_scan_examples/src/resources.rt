@@ -33,29 +33,46 @@ fn keeps_base(alloc: Global, base: &str, document: &str) -> Result<bool, Fault> 
     Ok(compiled(alloc, base, document)?.base() == base)
 }
 
-// A base, a document, the URIs of its resources, and its references.
-const GATHERED: &[(&str, &str, &str, &str)] = &[
-    (
-        BASE,
-        RESOURCES,
-        " https://ex.org/a/base https://ex.org/b/inner https://ex.org/b/deep",
-        " https://ex.org/b/deep https://ex.org/a/base#y",
-    ),
-    (
-        OTHER,
-        DOCUMENT,
-        " https://ex.org/s https://ex.org/in/e",
-        " https://ex.org/s#/$defs/f https://ex.org/in/e#n https://ex.org/in/e#d",
-    ),
-    (BASE, "{}", " https://ex.org/a/base", ""),
+// A document under this base, the URIs of its resources, and its references.
+struct Gathered {
+    why: &'static str,
+    base: &'static str,
+    document: &'static str,
+    uris: &'static str,
+    references: &'static str,
+}
+
+const GATHERED: &[Gathered] = &[
+    Gathered {
+        why: "each `$id` and reference is resolved by its resource (Core 8.2.1, 8.2.3)",
+        base: BASE,
+        document: RESOURCES,
+        uris: " https://ex.org/a/base https://ex.org/b/inner https://ex.org/b/deep",
+        references: " https://ex.org/b/deep https://ex.org/a/base#y",
+    },
+    Gathered {
+        why: "values of `const` and `enum` have no references (Validation 6.1.2, 6.1.3)",
+        base: OTHER,
+        document: DOCUMENT,
+        uris: " https://ex.org/s https://ex.org/in/e",
+        references: " https://ex.org/s#/$defs/f https://ex.org/in/e#n https://ex.org/in/e#d",
+    },
+    Gathered {
+        why: "an empty schema is one resource, and refers to nothing",
+        base: BASE,
+        document: "{}",
+        uris: " https://ex.org/a/base",
+        references: "",
+    },
 ];
 
-fn expect_gathered(rt: &impl Abort, alloc: Global, row: &(&str, &str, &str, &str)) {
-    let (base, document, wanted, wanted_references) = *row;
-    expect_holds(rt, keeps_base(alloc, base, document), base);
-    expect_told(rt, alloc, uris(alloc, base, document), wanted, base);
+fn expect_gathered(rt: &impl Abort, alloc: Global, row: &Gathered) {
+    let (base, document) = (row.base, row.document);
+    expect_holds(rt, keeps_base(alloc, base, document), row.why);
+    let uris = uris(alloc, base, document);
+    expect_told(rt, alloc, uris, row.uris, row.why);
     let references = references(alloc, base, document);
-    expect_told(rt, alloc, references, wanted_references, base);
+    expect_told(rt, alloc, references, row.references, row.why);
 }
 
 #[test]
@@ -65,23 +82,54 @@ fn uris_and_references_are_gathered(rt: HostRuntime) {
     }
 }
 
-// A base, a document, and the root of the resource with this URI; nothing where it opens none.
-const ROOTS: &[(&str, &str, &str, &str)] = &[
-    (
-        BASE,
-        RESOURCES,
-        "https://ex.org/b/deep",
-        r#"https://ex.org/b/deep# {"$anchor":"x","$id":"deep"}"#,
-    ),
-    (BASE, RESOURCES, "https://ex.org/a/deep", ""),
-    (
-        OTHER,
-        DOCUMENT,
-        "https://ex.org/in/e",
-        r##"https://ex.org/in/e# {"$anchor":"n","$id":"in/e","allOf":[{"type":"null"},{"$dynamicAnchor":"d","$ref":"#n"}]}"##,
-    ),
-    (OTHER, DOCUMENT, "https://ex.org/no", ""),
-    (BASE, "{}", BASE, "https://ex.org/a/base# {}"),
+const EMBEDDED_ROOT: &str =
+    r##"https://ex.org/in/e# {"$anchor":"n","$id":"in/e","allOf":[{"type":"null"},{"$dynamicAnchor":"d","$ref":"#n"}]}"##;
+
+// A document under this base, and the root of the resource with this URI; nothing where it opens none.
+struct ResourceRoot {
+    why: &'static str,
+    base: &'static str,
+    document: &'static str,
+    uri: &'static str,
+    wanted: &'static str,
+}
+
+const ROOTS: &[ResourceRoot] = &[
+    ResourceRoot {
+        why: "`deep` is resolved against `../b/inner#` around it (Core 8.2.1)",
+        base: BASE,
+        document: RESOURCES,
+        uri: "https://ex.org/b/deep",
+        wanted: r#"https://ex.org/b/deep# {"$anchor":"x","$id":"deep"}"#,
+    },
+    ResourceRoot {
+        why: "`deep` is not resolved against the document's base (Core 8.2.1)",
+        base: BASE,
+        document: RESOURCES,
+        uri: "https://ex.org/a/deep",
+        wanted: "",
+    },
+    ResourceRoot {
+        why: "an embedded resource's root is the schema with its `$id`",
+        base: OTHER,
+        document: DOCUMENT,
+        uri: "https://ex.org/in/e",
+        wanted: EMBEDDED_ROOT,
+    },
+    ResourceRoot {
+        why: "an `$id` within `const` opens no resource (Validation 6.1.3)",
+        base: OTHER,
+        document: DOCUMENT,
+        uri: "https://ex.org/no",
+        wanted: "",
+    },
+    ResourceRoot {
+        why: "without an `$id` the base is the root's URI (Core 9.1.1)",
+        base: BASE,
+        document: "{}",
+        uri: BASE,
+        wanted: "https://ex.org/a/base# {}",
+    },
 ];
 
 fn root(alloc: Global, base: &str, document: &str, uri: &str) -> Result<String, Fault> {
@@ -100,11 +148,13 @@ fn opens_as(
     Ok((document.resource_uri(uri) == Some(uri)) == wanted)
 }
 
-fn expect_root(rt: &impl Abort, alloc: Global, row: &(&str, &str, &str, &str)) {
-    let (base, document, uri, wanted) = *row;
-    let is_there = !wanted.is_empty();
-    expect_holds(rt, opens_as(alloc, base, document, uri, is_there), uri);
-    expect_told(rt, alloc, root(alloc, base, document, uri), wanted, uri);
+fn expect_root(rt: &impl Abort, alloc: Global, row: &ResourceRoot) {
+    let (base, document, uri) = (row.base, row.document, row.uri);
+    let is_there = !row.wanted.is_empty();
+    let opens = opens_as(alloc, base, document, uri, is_there);
+    expect_holds(rt, opens, row.why);
+    let found = root(alloc, base, document, uri);
+    expect_told(rt, alloc, found, row.wanted, row.why);
 }
 
 #[test]
@@ -114,26 +164,65 @@ fn roots_are_found_by_uri(rt: HostRuntime) {
     }
 }
 
-// A base, a document, a resource, a name, and what the name names there dynamically; nothing for no dynamic anchor.
-const DYNAMIC: &[(&str, &str, &str, &str, &str)] = &[
-    (
-        OTHER,
-        DOCUMENT,
-        "https://ex.org/in/e",
-        "d",
-        r##"https://ex.org/in/e#/allOf/1 {"$dynamicAnchor":"d","$ref":"#n"}"##,
-    ),
-    (OTHER, DOCUMENT, "https://ex.org/in/e", "n", ""),
-    (OTHER, DOCUMENT, OTHER, "d", ""),
-    (
-        BASE,
-        RESOURCES,
-        "https://ex.org/b/inner",
-        "y",
-        r#"https://ex.org/b/inner#/items {"$dynamicAnchor":"y","$ref":"deep"}"#,
-    ),
-    (BASE, RESOURCES, BASE, "x", ""),
-    (BASE, "{}", BASE, "x", ""),
+// A document under this base, a resource, a name, and what the name names there dynamically; nothing for no dynamic anchor.
+struct DynamicAnchor {
+    why: &'static str,
+    base: &'static str,
+    document: &'static str,
+    uri: &'static str,
+    name: &'static str,
+    wanted: &'static str,
+}
+
+const DYNAMIC: &[DynamicAnchor] = &[
+    DynamicAnchor {
+        why: "the resource has a dynamic anchor of this name (Core 8.2.2)",
+        base: OTHER,
+        document: DOCUMENT,
+        uri: "https://ex.org/in/e",
+        name: "d",
+        wanted: r##"https://ex.org/in/e#/allOf/1 {"$dynamicAnchor":"d","$ref":"#n"}"##,
+    },
+    DynamicAnchor {
+        why: "a plain anchor is no dynamic one (Core 8.2.2)",
+        base: OTHER,
+        document: DOCUMENT,
+        uri: "https://ex.org/in/e",
+        name: "n",
+        wanted: "",
+    },
+    DynamicAnchor {
+        why: "the anchor is the embedded resource's, not that of the one around",
+        base: OTHER,
+        document: DOCUMENT,
+        uri: OTHER,
+        name: "d",
+        wanted: "",
+    },
+    DynamicAnchor {
+        why: "the anchor below `items` is the inner resource's (Core 8.2.2)",
+        base: BASE,
+        document: RESOURCES,
+        uri: "https://ex.org/b/inner",
+        name: "y",
+        wanted: r#"https://ex.org/b/inner#/items {"$dynamicAnchor":"y","$ref":"deep"}"#,
+    },
+    DynamicAnchor {
+        why: "the root's plain anchor `x` is no dynamic one (Core 8.2.2)",
+        base: BASE,
+        document: RESOURCES,
+        uri: BASE,
+        name: "x",
+        wanted: "",
+    },
+    DynamicAnchor {
+        why: "an empty schema has no anchor at all",
+        base: BASE,
+        document: "{}",
+        uri: BASE,
+        name: "x",
+        wanted: "",
+    },
 ];
 
 fn anchored(
@@ -147,15 +236,9 @@ fn anchored(
     shown(alloc, document.dynamically_anchored(alloc, uri, name)?)
 }
 
-fn expect_anchored(rt: &impl Abort, alloc: Global, row: &(&str, &str, &str, &str, &str)) {
-    let (base, document, uri, name, wanted) = *row;
-    expect_told(
-        rt,
-        alloc,
-        anchored(alloc, base, document, uri, name),
-        wanted,
-        name,
-    );
+fn expect_anchored(rt: &impl Abort, alloc: Global, row: &DynamicAnchor) {
+    let found = anchored(alloc, row.base, row.document, row.uri, row.name);
+    expect_told(rt, alloc, found, row.wanted, row.why);
 }
 
 #[test]

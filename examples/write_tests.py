@@ -3,15 +3,17 @@
 
     python3 examples/write_tests.py
 
+A file `why` has a line for each instance of a use: its path without `.json`, a colon, and which rule decides its answer.
 Run it after an example was added or changed. `run.py` says where the tests are behind.
 """
 
+import sys
 from pathlib import Path
 
 FOLDER = Path(__file__).resolve().parent
 SOURCES = FOLDER.parent / "crates" / "checks_examples" / "src"
 WIDTH = 100
-NARROW = 60
+LONG = 60
 WRITTEN = "written by `examples/write_tests.py`"
 
 
@@ -51,38 +53,65 @@ def instances(leaf):
     return [file for file in sorted(leaf.glob("*.json")) if file.name != "schema.json"]
 
 
-def table(name, columns, rows):
-    """A constant with a row for each use, in the layout of `rt fmt`."""
-    kind = f"&[({', '.join(['&str'] * columns)})]"
-    head = f"const {name}: {kind} = &["
+def reasons(folder):
+    """Why each instance of a use has its answer, by its path below the use without `.json`."""
+    lines = (folder / "why").read_text(encoding="utf-8").splitlines()
+    return dict(line.split(": ", 1) for line in lines)
+
+
+def named(constants, name, text):
+    """The text as a cell of a table: a long one stands above it, under this name."""
+    if "\n" not in text and len(text) <= LONG:
+        return literal(text)
+    constants += [constant(name, text), ""]
+    return name
+
+
+def checks_table(rows):
+    """A constant with a record for each check of two files, in the layout of `rt fmt`."""
+    head = "const FILES: &[FileCheck] = &["
+    names = ["why", "uri", "schema", "instance", "wanted"]
+    records = [[f"{name}: {part}," for name, part in zip(names, row)] for row in rows]
+    if len(records) == 1:
+        return [f"{head}FileCheck {{", *(f"    {field}" for field in records[0]), "}];", ""]
+    lines = [head]
+    for record in records:
+        lines += ["    FileCheck {", *(f"        {field}" for field in record), "    },"]
+    return [*lines, "];", ""]
+
+
+def inputs_table(rows):
+    """A constant with a row for each input, in the layout of `rt fmt`."""
+    head = "const INPUTS: &[(&str, &str, &str)] = &["
     if len(rows) == 1:
         return [f"{head}(", *(f"    {part}," for part in rows[0]), ")];", ""]
     lines = [head]
     for row in rows:
-        inner = ", ".join(row)
-        if "\n" not in inner and len(inner) <= NARROW:
-            lines.append(f"    ({inner}),")
-        else:
-            lines += ["    (", *(f"        {part}," for part in row), "    ),"]
+        lines += ["    (", *(f"        {part}," for part in row), "    ),"]
     return [*lines, "];", ""]
 
 
 def uses(folder):
     """The constants of one use, its rows of files and its rows of inputs."""
-    constants, files, inputs = [], [], []
+    constants, files, inputs, why = [], [], [], reasons(folder)
     for leaf in leaves(folder):
         within = str(leaf.relative_to(folder))
+        prefix = "" if within == "." else rust_name(within).upper() + "_"
         schema = leaf / "schema.json"
         if schema.exists():
-            name = "SCHEMA" if within == "." else rust_name(within).upper()
+            name = prefix.removesuffix("_") or "SCHEMA"
             constants += [constant(name, text_of(schema)), ""]
         for instance in instances(leaf):
-            texts = [literal(text_of(instance)), literal(text_of(instance.with_suffix(".answer")))]
+            path = str(instance.relative_to(folder).with_suffix(""))
+            if path not in why:
+                sys.exit(f"{folder / 'why'} has no line for {path}")
+            own = prefix + rust_name(instance.stem).upper()
+            texts = [named(constants, own, text_of(instance)), named(constants, own + "_ANSWER", text_of(instance.with_suffix(".answer")))]
             if not schema.exists():
-                inputs.append(texts)
+                inputs.append([literal(why[path]), *texts])
                 continue
             uri = leaf / "uri"
-            files.append([literal(text_of(uri)) if uri.exists() else "DEFAULT_URI", name, *texts])
+            files.append([literal(why[path]), literal(text_of(uri)) if uri.exists() else "DEFAULT_URI", name, *texts])
     return constants, files, inputs
 
 
@@ -95,16 +124,16 @@ def test(name, call):
 def module(folder):
     """The source of the tests of one use."""
     constants, files, inputs = uses(folder)
-    helpers = ["expect_files"] * bool(files) + ["expect_standard_input"] * bool(inputs)
+    helpers = ["FileCheck", "expect_files"] * bool(files) + ["expect_standard_input"] * bool(inputs)
     imported = helpers[0] if len(helpers) == 1 else "{" + ", ".join(helpers) + "}"
     lines = [f"//! The examples in `examples/{folder.name}`, {WRITTEN}.", "", f"use crate::answers::{imported};"]
-    lines += ["use checks::DEFAULT_URI;"] * any(row[0] == "DEFAULT_URI" for row in files)
+    lines += ["use checks::DEFAULT_URI;"] * any(row[1] == "DEFAULT_URI" for row in files)
     lines += ["", *constants]
     if files:
-        lines += ["// URI, schema, instance and answer.", *table("FILES", 4, files)]
+        lines += checks_table(files)
         lines += test("FILES", "expect_files")
     if inputs:
-        lines += ["// Input and answer.", *table("INPUTS", 2, inputs)]
+        lines += ["// Why, input and answer.", *inputs_table(inputs)]
         lines += test("INPUTS", "expect_standard_input")
     return "\n".join(lines)
 

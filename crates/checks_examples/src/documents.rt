@@ -76,21 +76,16 @@ pub fn answer(
 }
 
 /// Documents, the URI that is asked for, an instance, and the answer.
-pub type Answer = (
-    &'static [(&'static str, &'static str)],
-    &'static str,
-    &'static str,
-    &'static str,
-);
+pub struct Evaluation {
+    pub why: &'static str,
+    pub documents: &'static [(&'static str, &'static str)],
+    pub uri: &'static str,
+    pub instance: &'static str,
+    pub wanted: &'static str,
+}
 
 /// Expects this answer.
-pub fn expect_answer(rt: &impl Abort, alloc: Global, row: &Answer) {
-    let (documents, uri, instance, wanted) = *row;
-    expect_told(
-        rt,
-        alloc,
-        answer(alloc, documents, uri, instance),
-        wanted,
-        instance,
-    );
+pub fn expect_answer(rt: &impl Abort, alloc: Global, row: &Evaluation) {
+    let found = answer(alloc, row.documents, row.uri, row.instance);
+    expect_told(rt, alloc, found, row.wanted, row.why);
 }

@@ -48,5 +48,9 @@ fn is_each_reported(alloc: Global) -> Result<bool, Fault> {
 
 #[test]
 fn each_element_is_reported(rt: HostRuntime) {
-    expect_holds(&rt, is_each_reported(rt.alloc()), "10,000 elements");
+    expect_holds(
+        &rt,
+        is_each_reported(rt.alloc()),
+        "each of 10,000 elements that fail has its unit (OUTPUT.md)",
+    );
 }

@@ -7,13 +7,11 @@ mod answers;
 #[cfg(test)]
 mod bounds;
 #[cfg(test)]
-mod contexts;
-#[cfg(test)]
 mod documents;
 #[cfg(test)]
 mod examples;
 #[cfg(test)]
-mod kept_memory;
+mod keyword_outputs;
 #[cfg(test)]
 mod large_reports;
 #[cfg(test)]
@@ -37,9 +35,13 @@ mod references;
 #[cfg(test)]
 mod refusals;
 #[cfg(test)]
+mod running_applications;
+#[cfg(test)]
 mod several_documents;
 #[cfg(test)]
 mod subjects;
+#[cfg(test)]
+mod successive_evaluations;
 #[cfg(test)]
 mod texts;
 #[cfg(test)]

@@ -13,7 +13,7 @@ fn push_definition(
     form: &[&str],
     number: u32,
 ) -> Result<(), Fault> {
-    text.push_str(format!(in alloc; "\"d{number}\":")?.as_str())?;
+    text.push_str(format!(in alloc; r#""d{number}":"#)?.as_str())?;
     let reference = format!(in alloc; "#/$defs/d{}", number.saturating_add(1))?;
     for (index, piece) in form.iter().enumerate() {
         if index > 0 {
@@ -33,11 +33,11 @@ fn chained(
     count: u32,
     last: &str,
 ) -> Result<String, Fault> {
-    let mut text = format!(in alloc; "{{{member},\"$defs\":{{")?;
+    let mut text = format!(in alloc; r#"{{{member},"$defs":{{"#)?;
     for number in 1..count {
         push_definition(alloc, &mut text, form, number)?;
     }
-    text.push_str(format!(in alloc; "\"d{count}\":{last}}}}}")?.as_str())?;
+    text.push_str(format!(in alloc; r#""d{count}":{last}}}}}"#)?.as_str())?;
     Ok(text)
 }
 
@@ -51,49 +51,92 @@ const LISTED: &[&str] = &[r#"{"allOf":[{"$ref":""#, r#""},{"$ref":""#, r#""}]}"#
 
 const EMPTY_REPORT: &str = r#"{"annotations":[],"valid":true}"#;
 
-// The first member, the form, how many definitions, the last one, and the answer: applications nest a thousand deep, and
-// there are a hundred thousand of them. A loop comes before what nests too deep, and what costs too much before both.
-type Chain = (
-    &'static str,
-    &'static [&'static str],
-    u32,
-    &'static str,
-    &'static str,
-);
+const FIRST_AND_LOOP: &str = r##""$ref":"#/$defs/d1","$dynamicRef":"#""##;
+
+// The first member, the form, how many definitions, the last one, and the answer.
+struct Chain {
+    why: &'static str,
+    member: &'static str,
+    form: &'static [&'static str],
+    count: u32,
+    last: &'static str,
+    wanted: &'static str,
+}
 
 const CHAINS: &[Chain] = &[
-    (FIRST, ONE, 999, "{}", EMPTY_REPORT),
-    (FIRST, ONE, 1000, "{}", "18 Deep"),
-    (
-        r##""$ref":"#/$defs/d1","$dynamicRef":"#""##,
-        ONE,
-        1000,
-        "{}",
-        "17 Loop",
-    ),
-    (FIRST, BOTH, 16, "{}", EMPTY_REPORT),
-    (FIRST, BOTH, 17, "{}", "16 Costly"),
-    (FIRST, BOTH, 16, r##"{"$ref":"#"}"##, "17 Loop"),
-    (FIRST, BOTH, 17, r##"{"$ref":"#"}"##, "16 Costly"),
-    (FIRST, LISTED, 20, "{}", "16 Costly"),
+    Chain {
+        why: "with the root 1,000 applications nest, which is the limit (LIMITS.md)",
+        member: FIRST,
+        form: ONE,
+        count: 999,
+        last: "{}",
+        wanted: EMPTY_REPORT,
+    },
+    Chain {
+        why: "with the root 1,001 applications would nest (LIMITS.md)",
+        member: FIRST,
+        form: ONE,
+        count: 1000,
+        last: "{}",
+        wanted: "18 Deep",
+    },
+    Chain {
+        why: "a loop comes before what nests too deep (DECISIONS.md)",
+        member: FIRST_AND_LOOP,
+        form: ONE,
+        count: 1000,
+        last: "{}",
+        wanted: "17 Loop",
+    },
+    Chain {
+        why: "65,536 applications are within 100,000 (LIMITS.md)",
+        member: FIRST,
+        form: BOTH,
+        count: 16,
+        last: "{}",
+        wanted: EMPTY_REPORT,
+    },
+    Chain {
+        why: "131,072 applications are over 100,000 (LIMITS.md)",
+        member: FIRST,
+        form: BOTH,
+        count: 17,
+        last: "{}",
+        wanted: "16 Costly",
+    },
+    Chain {
+        why: "98,304 applications are within 100,000, so the loop is told (LIMITS.md)",
+        member: FIRST,
+        form: BOTH,
+        count: 16,
+        last: r##"{"$ref":"#"}"##,
+        wanted: "17 Loop",
+    },
+    Chain {
+        why: "what is too costly comes before a loop (DECISIONS.md)",
+        member: FIRST,
+        form: BOTH,
+        count: 17,
+        last: r##"{"$ref":"#"}"##,
+        wanted: "16 Costly",
+    },
+    Chain {
+        why: "`allOf` and the references within it count, over 100,000 in all (LIMITS.md)",
+        member: FIRST,
+        form: LISTED,
+        count: 20,
+        last: "{}",
+        wanted: "16 Costly",
+    },
 ];
 
-fn chain_answer(
-    alloc: Global,
-    member: &str,
-    form: &[&str],
-    count: u32,
-    last: &str,
-    instance: &str,
-) -> Result<String, Fault> {
-    let schema = chained(alloc, member, form, count, last)?;
-    answer(alloc, URI, schema.as_str(), instance)
+fn chain_answer(alloc: Global, row: &Chain) -> Result<String, Fault> {
+    let schema = chained(alloc, row.member, row.form, row.count, row.last)?;
+    answer(alloc, URI, schema.as_str(), "1")
 }
 
 fn expect_chain(rt: &impl Abort, alloc: Global, row: &Chain) {
-    let (member, form, count, last, wanted) = *row;
-    let found = chain_answer(alloc, member, form, count, last, "1");
-    expect_told(rt, alloc, found, wanted, last);
+    expect_told(rt, alloc, chain_answer(alloc, row), row.wanted, row.why);
 }
 
 #[test]
@@ -103,28 +146,47 @@ fn applications_are_limited(rt: HostRuntime) {
     }
 }
 
-// The schema, how many elements, and the beginning of the answer: each element is an application.
-const ELEMENTS: &[(&str, u32, &str)] = &[
-    (r#"{"items":true}"#, 99_999, r#"{"annotations":["#),
-    (r#"{"items":true}"#, 100_000, "16 Costly"),
-    (r#"{"items":{"minimum":0}}"#, 99_999, r#"{"annotations":["#),
-    (r#"{"items":{"minimum":0}}"#, 100_000, "16 Costly"),
-    (r#"{"items":{"minimum":1}}"#, 100_000, "16 Costly"),
+// Why, the schema, how many elements, and the beginning of the answer.
+const ELEMENTS: &[(&str, &str, u32, &str)] = &[
+    (
+        "the root and 99,999 elements are just 100,000 applications (LIMITS.md)",
+        r#"{"items":true}"#,
+        99_999,
+        r#"{"annotations":["#,
+    ),
+    (
+        "the root and 100,000 elements are one too many (LIMITS.md)",
+        r#"{"items":true}"#,
+        100_000,
+        "16 Costly",
+    ),
+    (
+        "an element whose schema has a keyword counts once, too (LIMITS.md)",
+        r#"{"items":{"minimum":0}}"#,
+        99_999,
+        r#"{"annotations":["#,
+    ),
+    (
+        "with a keyword, too, one element more is too many (LIMITS.md)",
+        r#"{"items":{"minimum":0}}"#,
+        100_000,
+        "16 Costly",
+    ),
+    (
+        "what is too costly is told in place of errors (LIMITS.md)",
+        r#"{"items":{"minimum":1}}"#,
+        100_000,
+        "16 Costly",
+    ),
 ];
 
 fn zeros_answer(alloc: Global, schema: &str, count: u32) -> Result<String, Fault> {
     answer(alloc, URI, schema, zeros(alloc, count)?.as_str())
 }
 
-fn expect_elements(rt: &impl Abort, alloc: Global, row: &(&str, u32, &str)) {
-    let (schema, count, wanted) = *row;
-    expect_beginning(
-        rt,
-        alloc,
-        zeros_answer(alloc, schema, count),
-        wanted,
-        schema,
-    );
+fn expect_elements(rt: &impl Abort, alloc: Global, row: &(&str, &str, u32, &str)) {
+    let (why, schema, count, wanted) = *row;
+    expect_beginning(rt, alloc, zeros_answer(alloc, schema, count), wanted, why);
 }
 
 #[test]
@@ -134,15 +196,29 @@ fn each_element_is_an_application(rt: HostRuntime) {
     }
 }
 
-// How many definitions, each with a reference to the next one, and the beginning of the answer: what an element of the instance
-// is checked by nests one deeper than the last of them.
-const DEEPEST_ELEMENTS: &[(u32, &str)] = &[(998, r#"{"annotations":["#), (999, "18 Deep")];
+// Why, how many definitions, each with a reference to the next one, and the beginning of the answer.
+const DEEPEST_ELEMENTS: &[(&str, u32, &str)] = &[
+    (
+        "an element's schema is the 1,000th that nests (LIMITS.md)",
+        998,
+        r#"{"annotations":["#,
+    ),
+    (
+        "an element's schema would be the 1,001st that nests (LIMITS.md)",
+        999,
+        "18 Deep",
+    ),
+];
 
-fn expect_deepest(rt: &impl Abort, alloc: Global, row: &(u32, &str)) {
-    let (count, wanted) = *row;
+fn element_answer(alloc: Global, count: u32) -> Result<String, Fault> {
     let last = r#"{"items":{"type":"integer"}}"#;
-    let found = chain_answer(alloc, FIRST, ONE, count, last, "[1]");
-    expect_beginning(rt, alloc, found, wanted, "an element");
+    let schema = chained(alloc, FIRST, ONE, count, last)?;
+    answer(alloc, URI, schema.as_str(), "[1]")
+}
+
+fn expect_deepest(rt: &impl Abort, alloc: Global, row: &(&str, u32, &str)) {
+    let (why, count, wanted) = *row;
+    expect_beginning(rt, alloc, element_answer(alloc, count), wanted, why);
 }
 
 #[test]

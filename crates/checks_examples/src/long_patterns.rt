@@ -12,7 +12,7 @@ const BEGINNING: &str =
 fn patterns(alloc: Global, count: usize) -> Result<String, Fault> {
     let mut schemas = String::new(alloc);
     for number in 0..count {
-        let schema = format!(in alloc; ",{{\"pattern\":\"^{BEGINNING}-{number}$\"}}")?;
+        let schema = format!(in alloc; r#",{{"pattern":"^{BEGINNING}-{number}$"}}"#)?;
         schemas.push_str(schema.as_str())?;
     }
     Ok(schemas)
@@ -20,9 +20,9 @@ fn patterns(alloc: Global, count: usize) -> Result<String, Fault> {
 
 // The texts of as many numbers, of which the first is this one.
 fn texts(alloc: Global, first: usize, count: usize) -> Result<String, Fault> {
-    let mut texts = format!(in alloc; ",\"{BEGINNING}-{first}\"")?;
+    let mut texts = format!(in alloc; r#","{BEGINNING}-{first}""#)?;
     for number in 1..count {
-        texts.push_str(format!(in alloc; ",\"{BEGINNING}-{number}\"")?.as_str())?;
+        texts.push_str(format!(in alloc; r#","{BEGINNING}-{number}""#)?.as_str())?;
     }
     Ok(texts)
 }
@@ -30,7 +30,7 @@ fn texts(alloc: Global, first: usize, count: usize) -> Result<String, Fault> {
 // The answer to 130 texts and once more as many, of which the first is that of this number, by 130 patterns in two turns.
 fn two_turns(alloc: Global, first: usize) -> Result<String, Fault> {
     let turn = patterns(alloc, 130)?;
-    let schema = format!(in alloc; "{{\"prefixItems\":[true{turn}{turn}]}}")?;
+    let schema = format!(in alloc; r#"{{"prefixItems":[true{turn}{turn}]}}"#)?;
     let texts_of_their_own = texts(alloc, 0, 130)?;
     let others = texts(alloc, first, 130)?;
     let instance = format!(in alloc; "[0{texts_of_their_own}{others}]")?;
@@ -46,6 +46,18 @@ const FIRST_FAILS: &str =
 #[test]
 fn long_patterns_are_searched_for_again(rt: HostRuntime) {
     let alloc = rt.alloc();
-    expect_told(&rt, alloc, two_turns(alloc, 0), ALL_MATCH, "0");
-    expect_told(&rt, alloc, two_turns(alloc, 64), FIRST_FAILS, "64");
+    expect_told(
+        &rt,
+        alloc,
+        two_turns(alloc, 0),
+        ALL_MATCH,
+        "in the second turn each pattern matches its own text again",
+    );
+    expect_told(
+        &rt,
+        alloc,
+        two_turns(alloc, 64),
+        FIRST_FAILS,
+        "in the second turn the first pattern asks for 0, not for 64",
+    );
 }

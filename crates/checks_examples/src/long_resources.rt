@@ -35,11 +35,11 @@ fn rows(alloc: Global, last: &str) -> Result<String, Fault> {
 // The answer to these rows.
 fn answer_to(alloc: Global, id: &str, last: &str) -> Result<String, Fault> {
     let opens = format!(in alloc;
-        "\"allOf\":[{{\"$id\":\"{id}\",\"$ref\":\"#/$defs/p\",\"$defs\":{{\"p\":{{\"pattern\":"
+        r##""allOf":[{{"$id":"{id}","$ref":"#/$defs/p","$defs":{{"p":{{"pattern":"##
     )?;
-    let one = format!(in alloc; "{{{opens}\"a\"}}}}}}]}}")?;
+    let one = format!(in alloc; r#"{{{opens}"a"}}}}}}]}}"#)?;
     let two = format!(in alloc;
-        "{{{opens}\"b\"}}}}}}],\"$defs\":{{\"o\":{{\"$id\":\"c/\",{opens}\"c\"}}}}}}]}}}}}}"
+        r#"{{{opens}"b"}}}}}}],"$defs":{{"o":{{"$id":"c/",{opens}"c"}}}}}}]}}}}}}"#
     )?;
     let documents = [
         ("https://ex.org/m", MAIN),
@@ -56,13 +56,11 @@ fn failing(alloc: Global, place: usize, around: &str, opened: &str) -> Result<St
     let row = "https://ex.org/m#/items";
     let path = format!(in alloc; "/items/prefixItems/{place}/$ref")?;
     let above = format!(in alloc;
-        "{{\"errors\":[{{\"absoluteKeywordLocation\":\"{row}\",\"error\":\"items is not met\",\"instanceLocation\":\"\",\"keywordLocation\":\"/items\"}},{{\"absoluteKeywordLocation\":\"{row}/prefixItems\",\"error\":\"prefixItems is not met\",\"instanceLocation\":\"/200\",\"keywordLocation\":\"/items/prefixItems\"}},{{\"absoluteKeywordLocation\":\"https://ex.org/m#{path}\",\"error\":\"$ref is not met\""
+        r#"{{"errors":[{{"absoluteKeywordLocation":"{row}","error":"items is not met","instanceLocation":"","keywordLocation":"/items"}},{{"absoluteKeywordLocation":"{row}/prefixItems","error":"prefixItems is not met","instanceLocation":"/200","keywordLocation":"/items/prefixItems"}},{{"absoluteKeywordLocation":"https://ex.org/m#{path}","error":"$ref is not met""#
     )?;
-    let at = format!(in alloc;
-        "\"instanceLocation\":\"/200/{place}\",\"keywordLocation\":\"{path}"
-    )?;
+    let at = format!(in alloc; r#""instanceLocation":"/200/{place}","keywordLocation":"{path}"#)?;
     Ok(format!(in alloc;
-        "{above},{at}\"}},{{\"absoluteKeywordLocation\":\"{around}#/allOf\",\"error\":\"allOf is not met\",{at}/allOf\"}},{{\"absoluteKeywordLocation\":\"{opened}#/$ref\",\"error\":\"$ref is not met\",{at}/allOf/0/$ref\"}},{{\"absoluteKeywordLocation\":\"{opened}#/$defs/p/pattern\",\"error\":\"pattern is not met\",{at}/allOf/0/$ref/pattern\"}}],\"valid\":false}}"
+        r#"{above},{at}"}},{{"absoluteKeywordLocation":"{around}#/allOf","error":"allOf is not met",{at}/allOf"}},{{"absoluteKeywordLocation":"{opened}#/$ref","error":"$ref is not met",{at}/allOf/0/$ref"}},{{"absoluteKeywordLocation":"{opened}#/$defs/p/pattern","error":"pattern is not met",{at}/allOf/0/$ref/pattern"}}],"valid":false}}"#
     )?)
 }
 
@@ -77,39 +75,58 @@ fn failing_long(alloc: Global, place: usize, around: &str, base: &str) -> Result
 }
 
 // The last row, the place of the letter that fails, the URI of the resource around, and the base of the long one.
-const FAILING: &[(&str, usize, &str, &str)] = &[
-    (r#"["b"]"#, 0, "https://ex.org/a/one", "https://ex.org/a/"),
-    (
-        r#"["a","c"]"#,
-        1,
-        "https://ex.org/b/two",
-        "https://ex.org/b/",
-    ),
-    (
-        r#"["a","b","a"]"#,
-        2,
-        "https://ex.org/b/c/",
-        "https://ex.org/b/c/",
-    ),
+struct FailingLetter {
+    why: &'static str,
+    last: &'static str,
+    place: usize,
+    around: &'static str,
+    base: &'static str,
+}
+
+const FAILING: &[FailingLetter] = &[
+    FailingLetter {
+        why: "the resource below `a/one` asks for `a` (Core 8.2.1)",
+        last: r#"["b"]"#,
+        place: 0,
+        around: "https://ex.org/a/one",
+        base: "https://ex.org/a/",
+    },
+    FailingLetter {
+        why: "the resource below `b/two` asks for `b` (Core 8.2.1)",
+        last: r#"["a","c"]"#,
+        place: 1,
+        around: "https://ex.org/b/two",
+        base: "https://ex.org/b/",
+    },
+    FailingLetter {
+        why: "the resource below `c/` within `b/two` asks for `c` (Core 8.2.1)",
+        last: r#"["a","b","a"]"#,
+        place: 2,
+        around: "https://ex.org/b/c/",
+        base: "https://ex.org/b/c/",
+    },
 ];
 
-fn expect_failing(rt: &impl Abort, alloc: Global, row: &(&str, usize, &str, &str)) {
-    let (last, place, around, base) = *row;
-    let wanted = failing_long(alloc, place, around, base);
-    expect_same(rt, answer_to_long(alloc, last), wanted, last);
+fn expect_failing(rt: &impl Abort, alloc: Global, row: &FailingLetter) {
+    let wanted = failing_long(alloc, row.place, row.around, row.base);
+    expect_same(rt, answer_to_long(alloc, row.last), wanted, row.why);
 }
 
 fn is_valid(alloc: Global, last: &str) -> Result<bool, Fault> {
     Ok(
         answer_to_long(alloc, last)?
             .as_str()
-            .ends_with("\"valid\":true}"),
+            .ends_with(r#""valid":true}"#),
     )
 }
 
 #[test]
 fn an_identifier_opens_the_resource_of_its_base(rt: HostRuntime) {
-    expect_holds(&rt, is_valid(rt.alloc(), r#"["a"]"#), "a");
+    expect_holds(
+        &rt,
+        is_valid(rt.alloc(), r#"["a"]"#),
+        "each resource asks for its own letter, and gets it",
+    );
     for row in FAILING {
         expect_failing(&rt, rt.alloc(), row);
     }

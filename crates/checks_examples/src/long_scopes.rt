@@ -30,7 +30,7 @@ fn rows(alloc: Global, last: &str) -> Result<String, Fault> {
 // A resource of the URI that ends with this letter, which its dynamic anchor asks for, and with this keyword.
 fn resource(alloc: Global, uri: &str, letter: &str, keyword: &str) -> Result<String, Fault> {
     Ok(format!(in alloc;
-        "\"{letter}\":{{\"$id\":\"{uri}{letter}\",{keyword},\"$defs\":{{\"n\":{{\"$dynamicAnchor\":\"n\",\"const\":\"{letter}\"}}}}}}"
+        r#""{letter}":{{"$id":"{uri}{letter}",{keyword},"$defs":{{"n":{{"$dynamicAnchor":"n","const":"{letter}"}}}}}}"#
     )?)
 }
 
@@ -40,10 +40,10 @@ fn answer_to(alloc: Global, uri: &str, last: &str) -> Result<String, Fault> {
     let dynamic = r##""$dynamicRef":"#n""##;
     let one = resource(alloc, uri, "a", dynamic)?;
     let two = resource(alloc, uri, "b", dynamic)?;
-    let other = format!(in alloc; "\"$ref\":\"{uri}a\"")?;
+    let other = format!(in alloc; r#""$ref":"{uri}a""#)?;
     let three = resource(alloc, uri, "c", other.as_str())?;
     let schema = format!(in alloc;
-        "{{\"items\":{{\"prefixItems\":[{{\"$ref\":\"{uri}a\"}},{{\"$ref\":\"{uri}b\"}},{{\"$ref\":\"{uri}c\"}}]}},\"$defs\":{{{one},{two},{three}}}}}"
+        r#"{{"items":{{"prefixItems":[{{"$ref":"{uri}a"}},{{"$ref":"{uri}b"}},{{"$ref":"{uri}c"}}]}},"$defs":{{{one},{two},{three}}}}}"#
     )?;
     let documents = [("https://ex.org/m", schema.as_str())];
     let instance = rows(alloc, last)?;
@@ -54,7 +54,7 @@ fn answer_to(alloc: Global, uri: &str, last: &str) -> Result<String, Fault> {
 fn failing(alloc: Global, place: usize, below: &str) -> Result<String, Fault> {
     let row = "https://ex.org/m#/items";
     Ok(format!(in alloc;
-        "{{\"errors\":[{{\"absoluteKeywordLocation\":\"{row}\",\"error\":\"items is not met\",\"instanceLocation\":\"\",\"keywordLocation\":\"/items\"}},{{\"absoluteKeywordLocation\":\"{row}/prefixItems\",\"error\":\"prefixItems is not met\",\"instanceLocation\":\"/300\",\"keywordLocation\":\"/items/prefixItems\"}},{{\"absoluteKeywordLocation\":\"{row}/prefixItems/{place}/$ref\",\"error\":\"$ref is not met\",\"instanceLocation\":\"/300/{place}\",\"keywordLocation\":\"/items/prefixItems/{place}/$ref\"}}{below}],\"valid\":false}}"
+        r#"{{"errors":[{{"absoluteKeywordLocation":"{row}","error":"items is not met","instanceLocation":"","keywordLocation":"/items"}},{{"absoluteKeywordLocation":"{row}/prefixItems","error":"prefixItems is not met","instanceLocation":"/300","keywordLocation":"/items/prefixItems"}},{{"absoluteKeywordLocation":"{row}/prefixItems/{place}/$ref","error":"$ref is not met","instanceLocation":"/300/{place}","keywordLocation":"/items/prefixItems/{place}/$ref"}}{below}],"valid":false}}"#
     )?)
 }
 
@@ -67,7 +67,7 @@ fn unit(
     path: &str,
 ) -> Result<String, Fault> {
     Ok(format!(in alloc;
-        ",{{\"absoluteKeywordLocation\":\"{absolute}/{keyword}\",\"error\":\"{keyword} is not met\",\"instanceLocation\":\"/300/{place}\",\"keywordLocation\":\"/items/prefixItems/{place}/$ref{path}/{keyword}\"}}"
+        r#",{{"absoluteKeywordLocation":"{absolute}/{keyword}","error":"{keyword} is not met","instanceLocation":"/300/{place}","keywordLocation":"/items/prefixItems/{place}/$ref{path}/{keyword}"}}"#
     )?)
 }
 
@@ -79,7 +79,7 @@ fn is_valid(alloc: Global, last: &str) -> Result<bool, Fault> {
     Ok(
         answer_to_long(alloc, last)?
             .as_str()
-            .ends_with("\"valid\":true}"),
+            .ends_with(r#""valid":true}"#),
     )
 }
 
@@ -108,9 +108,23 @@ fn third_fails(alloc: Global) -> Result<String, Fault> {
 #[test]
 fn the_outermost_resource_of_the_scope_is_asked(rt: HostRuntime) {
     let alloc = rt.alloc();
-    expect_holds(&rt, is_valid(alloc, r#"["a"]"#), "a");
+    expect_holds(
+        &rt,
+        is_valid(alloc, r#"["a"]"#),
+        "each letter is the outermost anchor's (Core 8.2.3.2)",
+    );
     let second = answer_to_long(alloc, r#"["a","a"]"#);
-    expect_same(&rt, second, second_fails(alloc), "a, a");
+    expect_same(
+        &rt,
+        second,
+        second_fails(alloc),
+        "the second resource's own anchor asks for `b`",
+    );
     let third = answer_to_long(alloc, r#"["a","b","a"]"#);
-    expect_same(&rt, third, third_fails(alloc), "a, b, a");
+    expect_same(
+        &rt,
+        third,
+        third_fails(alloc),
+        "the third resource's anchor is outside the first one's, and asks for `c`",
+    );
 }

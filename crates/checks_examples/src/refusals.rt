@@ -1,67 +1,160 @@
 //! What is refused, and by which fault.
 
-/// Schemas that are refused, and one whose two anchors of one name stand in two resources.
-pub const SCHEMAS: &[(&str, &str, &str)] = &[
-    (r#"{"not":5}"#, r#"1"#, r#"8 BadKeyword /not"#),
+use crate::answers::FileCheck;
+
+/// Why, a schema, an instance, and the answer: schemas that are refused, and one that isn't.
+pub const SCHEMAS: &[(&str, &str, &str, &str)] = &[
     (
+        "the value of `not` is a schema (Core 10.2.1.4)",
+        r#"{"not":5}"#,
+        "1",
+        "8 BadKeyword /not",
+    ),
+    (
+        "the keywords of a schema come before those of the schemas below",
         r#"{"$defs":{"d":{"type":"int"}},"allOf":[]}"#,
-        r#"1"#,
-        r#"8 BadKeyword /allOf"#,
+        "1",
+        "8 BadKeyword /allOf",
     ),
     (
+        "`int` is no name of a type (Validation 6.1.1)",
         r#"{"$defs":{"d":{"type":"int"}}}"#,
-        r#"1"#,
-        r#"8 BadKeyword /$defs/d/type"#,
+        "1",
+        "8 BadKeyword /$defs/d/type",
     ),
-    (r#"[]"#, r#"1"#, r#"6 NotObject"#),
-    (r#"{"$id":"a#b"}"#, r#"1"#, r#"9 BadId"#),
-    (r#"{"$anchor":"1"}"#, r#"1"#, r#"10 BadAnchor"#),
-    (r#"{"$schema":"x:y"}"#, r#"1"#, r#"11 Dialect"#),
     (
+        "a document is an object (PROFILE.md)",
+        "[]",
+        "1",
+        "6 NotObject",
+    ),
+    (
+        "an `$id` has no fragment but an empty one (Core 8.2.1)",
+        r#"{"$id":"a#b"}"#,
+        "1",
+        "9 BadId",
+    ),
+    (
+        "the name of an anchor doesn't begin with a digit (Core 8.2.2)",
+        r#"{"$anchor":"1"}"#,
+        "1",
+        "10 BadAnchor",
+    ),
+    (
+        "the dialect is that of 2020-12 alone (PROFILE.md)",
+        r#"{"$schema":"x:y"}"#,
+        "1",
+        "11 Dialect",
+    ),
+    (
+        "an embedded `$id` opens the document's own URI once more (PROFILE.md)",
         r#"{"$defs":{"d":{"$id":"s"}}}"#,
-        r#"1"#,
-        r#"12 DuplicateUri"#,
+        "1",
+        "12 DuplicateUri",
     ),
     (
+        "a boolean schema before it hides no repeated URI",
         r#"{"allOf":[true],"$defs":{"d":{"$id":"s"}}}"#,
-        r#"1"#,
-        r#"12 DuplicateUri"#,
+        "1",
+        "12 DuplicateUri",
     ),
-    (r#"{"allOf":[]}"#, r#"1"#, r#"8 BadKeyword /allOf"#),
     (
+        "the list of `allOf` isn't empty (Core 10.2.1.1)",
+        r#"{"allOf":[]}"#,
+        "1",
+        "8 BadKeyword /allOf",
+    ),
+    (
+        "a name under both keywords of one resource is two anchors (Core 8.2.2)",
         r#"{"$anchor":"n","$defs":{"d":{"$dynamicAnchor":"n"}}}"#,
-        r#"1"#,
-        r#"13 DuplicateAnchor"#,
+        "1",
+        "13 DuplicateAnchor",
     ),
     (
+        "one name in two resources is two anchors (Core 8.2.2)",
         r#"{"$anchor":"n","$defs":{"d":{"$dynamicAnchor":"n","$id":"e"}}}"#,
-        r#"1"#,
+        "1",
         r#"{"annotations":[],"valid":true}"#,
     ),
 ];
 
 /// The faults of a URI come before those of the schema, and these before those of the instance.
-pub const ORDER: &[(&str, &str, &str, &str)] = &[
-    ("https://ex.org/s", "[]", "1.0", "6 NotObject"),
-    ("https://ex.org/s", "{}", "1.0", "2 BadNumber"),
-    (
-        "https://ex.org/s",
-        r#"{"type":"int"}"#,
-        "[",
-        "8 BadKeyword /type",
-    ),
-    ("x:/.//a", "[", "[", "25 BadUri"),
-    ("s", "[", "[", "25 BadUri"),
-    ("https://ex.org/a#", "[", "[", "25 BadUri"),
+pub const ORDER: &[FileCheck] = &[
+    FileCheck {
+        why: "the schema is no object, which comes before the instance's number",
+        uri: "https://ex.org/s",
+        schema: "[]",
+        instance: "1.0",
+        wanted: "6 NotObject",
+    },
+    FileCheck {
+        why: "`1.0` isn't written as a whole number (DECISIONS.md)",
+        uri: "https://ex.org/s",
+        schema: "{}",
+        instance: "1.0",
+        wanted: "2 BadNumber",
+    },
+    FileCheck {
+        why: "a keyword's fault comes before the instance's broken JSON",
+        uri: "https://ex.org/s",
+        schema: r#"{"type":"int"}"#,
+        instance: "[",
+        wanted: "8 BadKeyword /type",
+    },
+    FileCheck {
+        why: "the URI comes first: its path becomes `//a`, without an authority (PROFILE.md)",
+        uri: "x:/.//a",
+        schema: "[",
+        instance: "[",
+        wanted: "25 BadUri",
+    },
+    FileCheck {
+        why: "the URI comes first: it has no scheme (PROFILE.md)",
+        uri: "s",
+        schema: "[",
+        instance: "[",
+        wanted: "25 BadUri",
+    },
+    FileCheck {
+        why: "the URI comes first: it has a fragment (PROFILE.md)",
+        uri: "https://ex.org/a#",
+        schema: "[",
+        instance: "[",
+        wanted: "25 BadUri",
+    },
 ];
 
-/// One text that holds both.
-pub const INPUTS: &[(&str, &str)] = &[
-    (r#"{"schema":{}}"#, "41 BadInput"),
-    (r#"{"instance":1,"schema":{},"uri":5}"#, "41 BadInput"),
-    ("[]", "41 BadInput"),
-    ("[1", "1 BadJson"),
-    (r#"{"instance":1.5}"#, "2 BadNumber"),
-    (r#"{"instance":1,"schema":[],"uri":"s"}"#, "25 BadUri"),
-    (r#"{"schema":[],"uri":"s"}"#, "41 BadInput"),
+/// Why, one text that holds both, and the fault.
+pub const INPUTS: &[(&str, &str, &str)] = &[
+    (
+        "an input has an `instance` (PROFILE.md)",
+        r#"{"schema":{}}"#,
+        "41 BadInput",
+    ),
+    (
+        "an input's `uri` is a text (PROFILE.md)",
+        r#"{"instance":1,"schema":{},"uri":5}"#,
+        "41 BadInput",
+    ),
+    ("an input is an object (PROFILE.md)", "[]", "41 BadInput"),
+    (
+        "a list that doesn't end is no JSON (RFC 8259, 5)",
+        "[1",
+        "1 BadJson",
+    ),
+    (
+        "a number that isn't whole comes before the missing schema",
+        r#"{"instance":1.5}"#,
+        "2 BadNumber",
+    ),
+    (
+        "a `uri` without a scheme comes before the schema's fault",
+        r#"{"instance":1,"schema":[],"uri":"s"}"#,
+        "25 BadUri",
+    ),
+    (
+        "a missing `instance` comes before the fault of the `uri`",
+        r#"{"schema":[],"uri":"s"}"#,
+        "41 BadInput",
+    ),
 ];

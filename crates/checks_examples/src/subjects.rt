@@ -39,9 +39,13 @@ fn is_name_a_string(alloc: Global) -> Result<bool, Fault> {
 
 #[test]
 fn subjects_are_strings_arrays_or_objects(rt: HostRuntime) {
-    expect_holds(&rt, is_array(rt.alloc()), "an array");
-    expect_holds(&rt, is_object(rt.alloc()), "an object");
-    expect_holds(&rt, is_name_a_string(rt.alloc()), "a name of an object");
+    expect_holds(&rt, is_array(rt.alloc()), "an array has elements alone");
+    expect_holds(&rt, is_object(rt.alloc()), "an object has members alone");
+    expect_holds(
+        &rt,
+        is_name_a_string(rt.alloc()),
+        "a name is judged as a string (Core 10.3.2.4)",
+    );
 }
 
 fn first_name(doc: &Doc) -> Option<Name<'_>> {
@@ -78,7 +82,11 @@ fn names_b_and_a(alloc: Global) -> Result<bool, Fault> {
 
 #[test]
 fn pattern_properties_names_each_member_once(rt: HostRuntime) {
-    expect_holds(&rt, names_b_and_a(rt.alloc()), "b, a, b");
+    expect_holds(
+        &rt,
+        names_b_and_a(rt.alloc()),
+        "a name that two patterns match is annotated once",
+    );
 }
 
 // The first name of each of the objects.
@@ -111,5 +119,9 @@ fn says_largest_index(alloc: Global) -> Result<bool, Fault> {
 
 #[test]
 fn prefix_items_annotates_with_the_largest_index(rt: HostRuntime) {
-    expect_holds(&rt, says_largest_index(rt.alloc()), "three elements");
+    expect_holds(
+        &rt,
+        says_largest_index(rt.alloc()),
+        "the annotation is the largest index (Core 10.3.1.1)",
+    );
 }

@@ -1,4 +1,4 @@
-//! Checks of texts, and what tests expect of an outcome: where it is otherwise, the test ends and names the row.
+//! Checks of texts, and what tests expect of an outcome: where it is otherwise, the test ends and says why it should be so.
 
 use checks::{Fault, check_bytes, check_input};
 use std::alloc::{AllocError, Global};
@@ -30,11 +30,11 @@ pub fn expect_told(
     alloc: Global,
     outcome: Result<String, Fault>,
     wanted: &str,
-    row: &str,
+    why: &str,
 ) {
     match told(alloc, outcome) {
-        Ok(text) => assert_eq!(rt; text.as_str(), wanted, "{row}"),
-        Err(_) => panic!(rt; "{row}: no room"),
+        Ok(text) => assert_eq!(rt; text.as_str(), wanted, "{why}"),
+        Err(_) => panic!(rt; "{why}: no room"),
     }
 }
 
@@ -44,11 +44,11 @@ pub fn expect_beginning(
     alloc: Global,
     outcome: Result<String, Fault>,
     wanted: &str,
-    row: &str,
+    why: &str,
 ) {
     match told(alloc, outcome) {
-        Ok(text) => assert!(rt; text.as_str().starts_with(wanted), "{row}"),
-        Err(_) => panic!(rt; "{row}: no room"),
+        Ok(text) => assert!(rt; text.as_str().starts_with(wanted), "{why}"),
+        Err(_) => panic!(rt; "{why}: no room"),
     }
 }
 
@@ -57,18 +57,18 @@ pub fn expect_same(
     rt: &impl Abort,
     outcome: Result<String, Fault>,
     wanted: Result<String, Fault>,
-    row: &str,
+    why: &str,
 ) {
     match (outcome, wanted) {
-        (Ok(text), Ok(wanted)) => assert!(rt; text.as_str() == wanted.as_str(), "{row}"),
-        _ => panic!(rt; "{row}: refused"),
+        (Ok(text), Ok(wanted)) => assert!(rt; text.as_str() == wanted.as_str(), "{why}"),
+        _ => panic!(rt; "{why}: refused"),
     }
 }
 
 /// Expects that something holds.
-pub fn expect_holds(rt: &impl Abort, outcome: Result<bool, Fault>, row: &str) {
+pub fn expect_holds(rt: &impl Abort, outcome: Result<bool, Fault>, why: &str) {
     match outcome {
-        Ok(holds) => assert!(rt; holds, "{row}"),
-        Err(fault) => panic!(rt; "{row}: {fault}"),
+        Ok(holds) => assert!(rt; holds, "{why}"),
+        Err(fault) => panic!(rt; "{why}: {fault}"),
     }
 }

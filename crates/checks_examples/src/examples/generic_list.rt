@@ -1,6 +1,6 @@
 //! The examples in `examples/generic-list`, written by `examples/write_tests.py`.
 
-use crate::answers::expect_files;
+use crate::answers::{FileCheck, expect_files};
 use checks::DEFAULT_URI;
 
 const SCHEMA: &str = r##"{
@@ -29,20 +29,27 @@ const SCHEMA: &str = r##"{
   }
 }"##;
 
-// URI, schema, instance and answer.
-const FILES: &[(&str, &str, &str, &str)] = &[
-    (
-        DEFAULT_URI,
-        SCHEMA,
-        r#"{ "items": ["2024-02-29", "2025-01-01"] }"#,
-        r#"{"annotations":[{"absoluteKeywordLocation":"https://example.com/list-of-t#/properties","annotation":["items"],"instanceLocation":"","keywordLocation":"/$ref/properties"},{"absoluteKeywordLocation":"https://example.com/list-of-t#/properties/items/items","annotation":true,"instanceLocation":"/items","keywordLocation":"/$ref/properties/items/items"}],"valid":true}"#,
-    ),
-    (
-        DEFAULT_URI,
-        SCHEMA,
-        r#"{ "items": ["2024-02-29", "tomorrow"] }"#,
-        r#"{"errors":[{"absoluteKeywordLocation":"https://example.com/list-of-dates#/$ref","error":"$ref is not met","instanceLocation":"","keywordLocation":"/$ref"},{"absoluteKeywordLocation":"https://example.com/list-of-t#/properties","error":"properties is not met","instanceLocation":"","keywordLocation":"/$ref/properties"},{"absoluteKeywordLocation":"https://example.com/list-of-t#/properties/items/items","error":"items is not met","instanceLocation":"/items","keywordLocation":"/$ref/properties/items/items"},{"absoluteKeywordLocation":"https://example.com/list-of-t#/properties/items/items/$dynamicRef","error":"$dynamicRef is not met","instanceLocation":"/items/1","keywordLocation":"/$ref/properties/items/items/$dynamicRef"},{"absoluteKeywordLocation":"https://example.com/list-of-dates#/$defs/date/pattern","error":"pattern is not met","instanceLocation":"/items/1","keywordLocation":"/$ref/properties/items/items/$dynamicRef/pattern"}],"valid":false}"#,
-    ),
+const DATES_ANSWER: &str =
+    r#"{"annotations":[{"absoluteKeywordLocation":"https://example.com/list-of-t#/properties","annotation":["items"],"instanceLocation":"","keywordLocation":"/$ref/properties"},{"absoluteKeywordLocation":"https://example.com/list-of-t#/properties/items/items","annotation":true,"instanceLocation":"/items","keywordLocation":"/$ref/properties/items/items"}],"valid":true}"#;
+
+const NO_DATE_ANSWER: &str =
+    r#"{"errors":[{"absoluteKeywordLocation":"https://example.com/list-of-dates#/$ref","error":"$ref is not met","instanceLocation":"","keywordLocation":"/$ref"},{"absoluteKeywordLocation":"https://example.com/list-of-t#/properties","error":"properties is not met","instanceLocation":"","keywordLocation":"/$ref/properties"},{"absoluteKeywordLocation":"https://example.com/list-of-t#/properties/items/items","error":"items is not met","instanceLocation":"/items","keywordLocation":"/$ref/properties/items/items"},{"absoluteKeywordLocation":"https://example.com/list-of-t#/properties/items/items/$dynamicRef","error":"$dynamicRef is not met","instanceLocation":"/items/1","keywordLocation":"/$ref/properties/items/items/$dynamicRef"},{"absoluteKeywordLocation":"https://example.com/list-of-dates#/$defs/date/pattern","error":"pattern is not met","instanceLocation":"/items/1","keywordLocation":"/$ref/properties/items/items/$dynamicRef/pattern"}],"valid":false}"#;
+
+const FILES: &[FileCheck] = &[
+    FileCheck {
+        why: "`$dynamicRef` finds the outermost anchor, that of dates (Core 8.2.3.2)",
+        uri: DEFAULT_URI,
+        schema: SCHEMA,
+        instance: r#"{ "items": ["2024-02-29", "2025-01-01"] }"#,
+        wanted: DATES_ANSWER,
+    },
+    FileCheck {
+        why: "the outermost anchor asks for a date, not for anything (Core 8.2.3.2)",
+        uri: DEFAULT_URI,
+        schema: SCHEMA,
+        instance: r#"{ "items": ["2024-02-29", "tomorrow"] }"#,
+        wanted: NO_DATE_ANSWER,
+    },
 ];
 
 #[test]

@@ -1,6 +1,6 @@
 //! The examples in `examples/refusals`, written by `examples/write_tests.py`.
 
-use crate::answers::{expect_files, expect_standard_input};
+use crate::answers::{FileCheck, expect_files, expect_standard_input};
 use checks::DEFAULT_URI;
 
 const BAD_ANCHOR: &str = r#"{
@@ -12,6 +12,11 @@ const BAD_ANCHOR: &str = r#"{
 const BAD_ID: &str = r#"{
   "$id": "https://example.com/person#adult",
   "type": "object"
+}"#;
+
+const BAD_INPUT_INPUT: &str = r#"{
+  "schema": { "type": "object" },
+  "data": {}
 }"#;
 
 const BAD_JSON: &str = r#"{
@@ -86,6 +91,9 @@ const DEEP: &str = r##"{
   }
 }"##;
 
+const DEEP_INSTANCE: &str =
+    r#"{"inner":{"inner":{"inner":{"inner":{"inner":{"inner":{"inner":{"inner":{"inner":{"inner":{"inner":{"inner":{"inner":{"inner":{"inner":{"inner":{"inner":{"inner":{"inner":{"inner":{"inner":{"inner":{"inner":{"inner":{"inner":{"inner":{"inner":{"inner":{"inner":{"inner":{"inner":{"inner":{"inner":{"inner":{"inner":{"inner":{"inner":{"inner":{"inner":{"inner":{"inner":{"inner":{"inner":{"inner":{"inner":{"inner":{"inner":{"inner":{"inner":{"inner":{"inner":{"inner":{"inner":{"inner":{"inner":{"inner":{"inner":{"inner":{"inner":{"inner":{"inner":{"inner":{"inner":{"inner":{"inner":{"inner":{"inner":{"inner":{"inner":{"inner":{"inner":{"inner":{"inner":{"inner":{"inner":{"inner":{"inner":{"inner":{"inner":{"inner":{"inner":{"inner":{"inner":{"inner":{"inner":{"inner":{"inner":{"inner":{"inner":{"inner":{"inner":{"inner":{"inner":{"inner":{"inner":{"inner":{"inner":{"inner":{"inner":{"inner":{"inner":{"inner":{"inner":{"inner":{"inner":{"inner":{"inner":{"inner":{"inner":{"inner":{"inner":{"inner":{"inner":{"inner":{"inner":{"inner":{"inner":{"inner":{"inner":{"inner":{"inner":{"inner":{"inner":{"inner":{"inner":{"inner":{}}}}}}}}}}}}}}}}}}}}}}}}}}}}}}}}}}}}}}}}}}}}}}}}}}}}}}}}}}}}}}}}}}}}}}}}}}}}}}}}}}}}}}}}}}}}}}}}}}}}}}}}}}}}}}}}}}}}}}}}}}}}}}}"#;
+
 const DIALECT: &str = r#"{
   "$schema": "http://json-schema.org/draft-07/schema#",
   "type": "object"
@@ -128,71 +136,133 @@ const UNRESOLVED: &str = r#"{
   }
 }"#;
 
-// URI, schema, instance and answer.
-const FILES: &[(&str, &str, &str, &str)] = &[
-    (DEFAULT_URI, BAD_ANCHOR, "{}", "refused: 10 BadAnchor"),
-    (DEFAULT_URI, BAD_ID, "{}", "refused: 9 BadId"),
-    (
-        DEFAULT_URI,
-        BAD_JSON,
-        r#"{ "name": "Ada" }"#,
-        "refused: 1 BadJson",
-    ),
-    (
-        DEFAULT_URI,
-        BAD_JSON_IN_INSTANCE,
-        "{ 'name': 'Ada' }",
-        "refused: 1 BadJson",
-    ),
-    (
-        DEFAULT_URI,
-        BAD_KEYWORD,
-        r#"{ "age": 36 }"#,
-        "refused: 8 BadKeyword /properties/age/type",
-    ),
-    (
-        DEFAULT_URI,
-        BAD_NUMBER,
-        r#"{ "share": 1 }"#,
-        "refused: 2 BadNumber",
-    ),
-    (
-        DEFAULT_URI,
-        BAD_NUMBER_IN_INSTANCE,
-        r#"{ "price": 9.99 }"#,
-        "refused: 2 BadNumber",
-    ),
-    (
-        DEFAULT_URI,
-        BAD_PATTERN,
-        r#"{ "password": "correct horse 1" }"#,
-        "refused: 5 BadPattern",
-    ),
-    ("person.json", BAD_URI, "{}", "refused: 25 BadUri"),
-    (DEFAULT_URI, COSTLY, "{}", "refused: 16 Costly"),
-    (
-        DEFAULT_URI,
-        DEEP,
-        r#"{"inner":{"inner":{"inner":{"inner":{"inner":{"inner":{"inner":{"inner":{"inner":{"inner":{"inner":{"inner":{"inner":{"inner":{"inner":{"inner":{"inner":{"inner":{"inner":{"inner":{"inner":{"inner":{"inner":{"inner":{"inner":{"inner":{"inner":{"inner":{"inner":{"inner":{"inner":{"inner":{"inner":{"inner":{"inner":{"inner":{"inner":{"inner":{"inner":{"inner":{"inner":{"inner":{"inner":{"inner":{"inner":{"inner":{"inner":{"inner":{"inner":{"inner":{"inner":{"inner":{"inner":{"inner":{"inner":{"inner":{"inner":{"inner":{"inner":{"inner":{"inner":{"inner":{"inner":{"inner":{"inner":{"inner":{"inner":{"inner":{"inner":{"inner":{"inner":{"inner":{"inner":{"inner":{"inner":{"inner":{"inner":{"inner":{"inner":{"inner":{"inner":{"inner":{"inner":{"inner":{"inner":{"inner":{"inner":{"inner":{"inner":{"inner":{"inner":{"inner":{"inner":{"inner":{"inner":{"inner":{"inner":{"inner":{"inner":{"inner":{"inner":{"inner":{"inner":{"inner":{"inner":{"inner":{"inner":{"inner":{"inner":{"inner":{"inner":{"inner":{"inner":{"inner":{"inner":{"inner":{"inner":{"inner":{"inner":{"inner":{"inner":{"inner":{"inner":{"inner":{"inner":{"inner":{}}}}}}}}}}}}}}}}}}}}}}}}}}}}}}}}}}}}}}}}}}}}}}}}}}}}}}}}}}}}}}}}}}}}}}}}}}}}}}}}}}}}}}}}}}}}}}}}}}}}}}}}}}}}}}}}}}}}}}}}}}}}}}}"#,
-        "refused: 18 Deep",
-    ),
-    (DEFAULT_URI, DIALECT, "{}", "refused: 11 Dialect"),
-    (
-        DEFAULT_URI,
-        DUPLICATE_ANCHOR,
-        "{}",
-        "refused: 13 DuplicateAnchor",
-    ),
-    (DEFAULT_URI, DUPLICATE_URI, "{}", "refused: 12 DuplicateUri"),
-    (DEFAULT_URI, LOOP, "{}", "refused: 17 Loop"),
-    (DEFAULT_URI, NOT_OBJECT, "null", "refused: 6 NotObject"),
-    (DEFAULT_URI, TOO_NESTED, "[]", "refused: 7 TooNested"),
-    (
-        DEFAULT_URI,
-        UNRESOLVED,
-        "{}",
-        "refused: 15 Unresolved https://example.com/address#town",
-    ),
+const FILES: &[FileCheck] = &[
+    FileCheck {
+        why: "the name of an anchor doesn't begin with a digit (Core 8.2.2)",
+        uri: DEFAULT_URI,
+        schema: BAD_ANCHOR,
+        instance: "{}",
+        wanted: "refused: 10 BadAnchor",
+    },
+    FileCheck {
+        why: "an `$id` has no fragment but an empty one (Core 8.2.1)",
+        uri: DEFAULT_URI,
+        schema: BAD_ID,
+        instance: "{}",
+        wanted: "refused: 9 BadId",
+    },
+    FileCheck {
+        why: "no comma stands behind the last member (RFC 8259, 4)",
+        uri: DEFAULT_URI,
+        schema: BAD_JSON,
+        instance: r#"{ "name": "Ada" }"#,
+        wanted: "refused: 1 BadJson",
+    },
+    FileCheck {
+        why: "strings stand in double quotes (RFC 8259, 7)",
+        uri: DEFAULT_URI,
+        schema: BAD_JSON_IN_INSTANCE,
+        instance: "{ 'name': 'Ada' }",
+        wanted: "refused: 1 BadJson",
+    },
+    FileCheck {
+        why: "`int` is no name of a type (Validation 6.1.1)",
+        uri: DEFAULT_URI,
+        schema: BAD_KEYWORD,
+        instance: r#"{ "age": 36 }"#,
+        wanted: "refused: 8 BadKeyword /properties/age/type",
+    },
+    FileCheck {
+        why: "0.5 in a schema is no whole number (PROFILE.md)",
+        uri: DEFAULT_URI,
+        schema: BAD_NUMBER,
+        instance: r#"{ "share": 1 }"#,
+        wanted: "refused: 2 BadNumber",
+    },
+    FileCheck {
+        why: "9.99 in an instance is no whole number (PROFILE.md)",
+        uri: DEFAULT_URI,
+        schema: BAD_NUMBER_IN_INSTANCE,
+        instance: r#"{ "price": 9.99 }"#,
+        wanted: "refused: 2 BadNumber",
+    },
+    FileCheck {
+        why: "look-around is no part of the grammar (PROFILE.md)",
+        uri: DEFAULT_URI,
+        schema: BAD_PATTERN,
+        instance: r#"{ "password": "correct horse 1" }"#,
+        wanted: "refused: 5 BadPattern",
+    },
+    FileCheck {
+        why: "`person.json` has no scheme (PROFILE.md)",
+        uri: "person.json",
+        schema: BAD_URI,
+        instance: "{}",
+        wanted: "refused: 25 BadUri",
+    },
+    FileCheck {
+        why: "131,070 applications are over 100,000 (LIMITS.md)",
+        uri: DEFAULT_URI,
+        schema: COSTLY,
+        instance: "{}",
+        wanted: "refused: 16 Costly",
+    },
+    FileCheck {
+        why: "more than 1,000 applications nest (LIMITS.md)",
+        uri: DEFAULT_URI,
+        schema: DEEP,
+        instance: DEEP_INSTANCE,
+        wanted: "refused: 18 Deep",
+    },
+    FileCheck {
+        why: "the dialect is that of 2020-12 alone (PROFILE.md)",
+        uri: DEFAULT_URI,
+        schema: DIALECT,
+        instance: "{}",
+        wanted: "refused: 11 Dialect",
+    },
+    FileCheck {
+        why: "a name under both keywords of one resource is two anchors (Core 8.2.2)",
+        uri: DEFAULT_URI,
+        schema: DUPLICATE_ANCHOR,
+        instance: "{}",
+        wanted: "refused: 13 DuplicateAnchor",
+    },
+    FileCheck {
+        why: "a relative `$id` and a full one open one URI (Core 8.2.1)",
+        uri: DEFAULT_URI,
+        schema: DUPLICATE_URI,
+        instance: "{}",
+        wanted: "refused: 12 DuplicateUri",
+    },
+    FileCheck {
+        why: "two schemas that name each other don't end (Core 9.4.1)",
+        uri: DEFAULT_URI,
+        schema: LOOP,
+        instance: "{}",
+        wanted: "refused: 17 Loop",
+    },
+    FileCheck {
+        why: "a document is an object, though `true` is a schema (PROFILE.md)",
+        uri: DEFAULT_URI,
+        schema: NOT_OBJECT,
+        instance: "null",
+        wanted: "refused: 6 NotObject",
+    },
+    FileCheck {
+        why: "the schema nests deeper than 120 (LIMITS.md)",
+        uri: DEFAULT_URI,
+        schema: TOO_NESTED,
+        instance: "[]",
+        wanted: "refused: 7 TooNested",
+    },
+    FileCheck {
+        why: "of two references that lead nowhere the lesser is told (PROFILE.md)",
+        uri: DEFAULT_URI,
+        schema: UNRESOLVED,
+        instance: "{}",
+        wanted: "refused: 15 Unresolved https://example.com/address#town",
+    },
 ];
 
 #[test]
@@ -202,12 +272,10 @@ fn files_have_their_answers(rt: HostRuntime) {
     }
 }
 
-// Input and answer.
-const INPUTS: &[(&str, &str)] = &[(
-    r#"{
-  "schema": { "type": "object" },
-  "data": {}
-}"#,
+// Why, input and answer.
+const INPUTS: &[(&str, &str, &str)] = &[(
+    "an input has an `instance`, under this name (PROFILE.md)",
+    BAD_INPUT_INPUT,
     "refused: 41 BadInput",
 )];
 

@@ -2,21 +2,19 @@
 
 use crate::answers::expect_standard_input;
 
-// Input and answer.
-const INPUTS: &[(&str, &str)] = &[
-    (
-        r#"{
+const INPUT: &str = r#"{
   "schema": {
     "type": "object",
     "required": ["name"],
     "properties": { "name": { "type": "string" } }
   },
   "instance": { "nmae": "Ada" }
-}"#,
-        r#"{"errors":[{"absoluteKeywordLocation":"urn:schemareg:root#/required","error":"required is not met","instanceLocation":"","keywordLocation":"/required"}],"valid":false}"#,
-    ),
-    (
-        r#"{
+}"#;
+
+const INPUT_ANSWER: &str =
+    r#"{"errors":[{"absoluteKeywordLocation":"urn:schemareg:root#/required","error":"required is not met","instanceLocation":"","keywordLocation":"/required"}],"valid":false}"#;
+
+const WITH_URI: &str = r#"{
   "uri": "https://example.com/person",
   "schema": {
     "type": "object",
@@ -24,8 +22,22 @@ const INPUTS: &[(&str, &str)] = &[
     "properties": { "name": { "type": "string" } }
   },
   "instance": { "name": "Ada" }
-}"#,
-        r#"{"annotations":[{"absoluteKeywordLocation":"https://example.com/person#/properties","annotation":["name"],"instanceLocation":"","keywordLocation":"/properties"}],"valid":true}"#,
+}"#;
+
+const WITH_URI_ANSWER: &str =
+    r#"{"annotations":[{"absoluteKeywordLocation":"https://example.com/person#/properties","annotation":["name"],"instanceLocation":"","keywordLocation":"/properties"}],"valid":true}"#;
+
+// Why, input and answer.
+const INPUTS: &[(&str, &str, &str)] = &[
+    (
+        "`name` is required, and `nmae` is another name (Validation 6.5.3)",
+        INPUT,
+        INPUT_ANSWER,
+    ),
+    (
+        "the schema stands under the `uri` of the input (Core 9.1.1)",
+        WITH_URI,
+        WITH_URI_ANSWER,
     ),
 ];
 

@@ -44,5 +44,9 @@ fn knows_what_is_running(alloc: Global) -> Result<bool, Fault> {
 
 #[test]
 fn knows_what_is_being_applied_and_where(rt: HostRuntime) {
-    expect_holds(&rt, knows_what_is_running(rt.alloc()), "one keyword");
+    expect_holds(
+        &rt,
+        knows_what_is_running(rt.alloc()),
+        "an object is being applied but for while its keyword is",
+    );
 }

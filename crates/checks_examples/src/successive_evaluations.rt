@@ -1,4 +1,4 @@
-//! Evaluations one after the other in memory that is kept.
+//! Evaluations one after the other in the same memory: none depends on those before it.
 
 use crate::documents::listed;
 use crate::texts::{expect_holds, expect_told};
@@ -28,13 +28,33 @@ const MET: &str =
 const LACKING: &str =
     r##"{"errors":[{"absoluteKeywordLocation":"https://ex.org/item#/required","error":"required is not met","instanceLocation":"","keywordLocation":"/required"}],"valid":false}"##;
 
-// Instances, each evaluated in what the one before it left, and the answers.
-const ANSWERS: &[(&str, &str)] = &[
-    (r#"{"name":"lamp","size":{"width":0}}"#, UNMET),
-    (r#"{"name":"lamp","size":{"width":2}}"#, MET),
-    ("{}", LACKING),
-    (r#"{"name":"lamp","size":{"width":2}}"#, MET),
-    (r#"{"name":"lamp","size":{"width":0}}"#, UNMET),
+// Why, an instance, which is evaluated in what the one before it left, and the answer.
+const ANSWERS: &[(&str, &str, &str)] = &[
+    (
+        "0 is below the minimum that `$ref` leads to",
+        r#"{"name":"lamp","size":{"width":0}}"#,
+        UNMET,
+    ),
+    (
+        "2 meets the minimum, and no error is left of the instance before",
+        r#"{"name":"lamp","size":{"width":2}}"#,
+        MET,
+    ),
+    (
+        "`name` is required, and no annotation is left of the instance before",
+        "{}",
+        LACKING,
+    ),
+    (
+        "2 meets the minimum as it did before",
+        r#"{"name":"lamp","size":{"width":2}}"#,
+        MET,
+    ),
+    (
+        "0 is below the minimum as it was at first",
+        r#"{"name":"lamp","size":{"width":0}}"#,
+        UNMET,
+    ),
 ];
 
 fn linked(alloc: Global, documents: &[(&str, &str)], uri: &str) -> Result<Linked, Fault> {
@@ -55,13 +75,8 @@ fn kept_answer(
 fn expect_kept_answers(rt: &impl Abort, alloc: Global, linked: &Linked) {
     let mut memory = EvaluationMemory::new(alloc);
     for row in ANSWERS {
-        expect_told(
-            rt,
-            alloc,
-            kept_answer(alloc, linked, &mut memory, row.0),
-            row.1,
-            row.0,
-        );
+        let found = kept_answer(alloc, linked, &mut memory, row.1);
+        expect_told(rt, alloc, found, row.2, row.0);
     }
 }
 
@@ -76,7 +91,7 @@ fn no_answer_depends_on_what_is_kept(rt: HostRuntime) {
 fn instances(alloc: Global) -> Result<Vec<Doc>, Fault> {
     let mut instances = Vec::new(alloc);
     for row in ANSWERS {
-        instances.push(read(alloc, row.0.as_bytes())?)?;
+        instances.push(read(alloc, row.1.as_bytes())?)?;
     }
     Ok(instances)
 }
@@ -85,29 +100,38 @@ fn text_of(outcome: Result<Report, Fault>) -> Result<String, Fault> {
     Ok(outcome?.into_text())
 }
 
-fn are_answered_by<'a>(evaluator: &mut Evaluator<'a>, instances: &'a [Doc]) -> Result<bool, Fault> {
+fn expect_each_answer<'a>(
+    rt: &impl Abort,
+    alloc: Global,
+    evaluator: &mut Evaluator<'a>,
+    instances: &'a [Doc],
+) {
     for (instance, row) in instances.iter().zip(ANSWERS.iter()) {
-        if text_of(evaluator.evaluate(instance))?.as_str() != row.1 {
-            return Ok(false);
-        }
+        let found = text_of(evaluator.evaluate(instance));
+        expect_told(rt, alloc, found, row.2, row.0);
     }
-    Ok(true)
 }
 
-fn are_answered_by_one(alloc: Global, linked: &Linked) -> Result<bool, Fault> {
-    let instances = instances(alloc)?;
-    let mut evaluator = Evaluator::new(alloc, linked)?;
-    are_answered_by(&mut evaluator, &instances)
+fn expect_answers<'a>(rt: &impl Abort, alloc: Global, linked: &'a Linked, instances: &'a [Doc]) {
+    match Evaluator::new(alloc, linked) {
+        Ok(mut evaluator) => expect_each_answer(rt, alloc, &mut evaluator, instances),
+        Err(_) => panic!(rt; "no room"),
+    }
 }
 
-fn one_evaluator_answers(alloc: Global) -> Result<bool, Fault> {
-    let linked = linked(alloc, ITEM, "https://ex.org/item")?;
-    are_answered_by_one(alloc, &linked)
+fn expect_answers_of(rt: &impl Abort, alloc: Global, linked: &Linked) {
+    match instances(alloc) {
+        Ok(instances) => expect_answers(rt, alloc, linked, &instances),
+        Err(fault) => panic!(rt; "{fault}"),
+    }
 }
 
 #[test]
 fn one_evaluator_answers_each_instance(rt: HostRuntime) {
-    expect_holds(&rt, one_evaluator_answers(rt.alloc()), "five instances");
+    match linked(rt.alloc(), ITEM, "https://ex.org/item") {
+        Ok(linked) => expect_answers_of(&rt, rt.alloc(), &linked),
+        Err(fault) => panic!(rt; "{fault}"),
+    }
 }
 
 // What is under `again` is applied where it is being applied; each element is one application.
@@ -121,25 +145,65 @@ const EMPTY_REPORT: &str = r#"{"annotations":[],"valid":true}"#;
 const ALL_MET: &str =
     r##"{"annotations":[{"absoluteKeywordLocation":"https://ex.org/halting#/items","annotation":true,"instanceLocation":"","keywordLocation":"/items"}],"valid":true}"##;
 
-// Instances, each of that many twos or, of none, a text; and the answers.
-const TURNS: &[(usize, &str, &str)] = &[
-    (1, "", ALL_MET),
-    (0, r#"{"again":1}"#, "17 Loop"),
-    (2, "", ALL_MET),
-    (100_000, "", "16 Costly"),
-    (1, "", ALL_MET),
-    (100_000, "", "16 Costly"),
-    (100_000, "", "16 Costly"),
-    (0, r#"{"again":1}"#, "17 Loop"),
-    (0, r#"{"again":1}"#, "17 Loop"),
-    (0, "1", EMPTY_REPORT),
-    (99_999, "", ALL_MET),
+// Why, an instance of that many twos or, of none, a text, and the answer.
+const TURNS: &[(&str, usize, &str, &str)] = &[
+    ("2 meets the minimum of each element", 1, "", ALL_MET),
+    (
+        "`again` is applied where it is being applied (Core 9.4.1)",
+        0,
+        r#"{"again":1}"#,
+        "17 Loop",
+    ),
+    ("no loop is left of the instance before", 2, "", ALL_MET),
+    (
+        "100,000 elements and the root are over 100,000 applications (LIMITS.md)",
+        100_000,
+        "",
+        "16 Costly",
+    ),
+    ("no count is left of the instance before", 1, "", ALL_MET),
+    (
+        "after a valid instance 100,000 elements are too many as before",
+        100_000,
+        "",
+        "16 Costly",
+    ),
+    (
+        "right behind it 100,000 elements are too many once more",
+        100_000,
+        "",
+        "16 Costly",
+    ),
+    (
+        "a loop is told behind what was too costly",
+        0,
+        r#"{"again":1}"#,
+        "17 Loop",
+    ),
+    (
+        "a loop is told behind a loop",
+        0,
+        r#"{"again":1}"#,
+        "17 Loop",
+    ),
+    (
+        "a number has neither members nor elements to judge",
+        0,
+        "1",
+        EMPTY_REPORT,
+    ),
+    (
+        "99,999 elements and the root are just 100,000 applications (LIMITS.md)",
+        99_999,
+        "",
+        ALL_MET,
+    ),
 ];
 
 fn turns(alloc: Global) -> Result<Vec<Doc>, Fault> {
     let mut instances = Vec::new(alloc);
     for row in TURNS {
-        instances.push(turn(alloc, row.0, row.1)?)?;
+        instances.push(turn(alloc, row.1, row.2)?)?;
     }
     Ok(instances)
 }
@@ -152,7 +216,7 @@ fn expect_each_turn<'a>(
 ) {
     for (instance, row) in instances.iter().zip(TURNS.iter()) {
         let found = text_of(evaluator.evaluate(instance));
-        expect_told(rt, alloc, found, row.2, row.1);
+        expect_told(rt, alloc, found, row.3, row.0);
     }
 }
 
@@ -214,7 +278,7 @@ fn expect_as_new(rt: &impl Abort, alloc: Global, linked: &Linked) {
         expect_holds(
             rt,
             is_as_new(alloc, linked, &mut memory, *length),
-            "a length",
+            "what was evaluated before changes no answer",
         );
     }
 }

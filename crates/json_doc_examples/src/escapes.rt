@@ -6,65 +6,174 @@ use keywords::Keyword;
 use std::alloc::Global;
 use std::process::Abort;
 
-/// A name, its token as a fragment, and its token in a string of JSON.
-const NAMES: &[(&str, &str, &str)] = &[
-    ("a\"b", "a%22b", r#"a\"b"#),
-    ("\"", "%22", r#"\""#),
-    ("a\\b", "a%5Cb", r#"a\\b"#),
-    (r#"\d{2}\"#, "%5Cd%7B2%7D%5C", r#"\\d{2}\\"#),
-    ("\u{0}", "%00", r#"\u0000"#),
-    ("\u{8}\u{c}", "%08%0C", r#"\b\f"#),
-    ("\t\n\r", "%09%0A%0D", r#"\t\n\r"#),
-    ("\u{b}x\u{1f}", "%0Bx%1F", r#"\u000bx\u001f"#),
+/// Why a name is escaped so, the name, its token as a fragment, and its token in a string of JSON.
+type Row = (&'static str, &'static str, &'static str, &'static str);
+
+const NAMES: &[Row] = &[
     (
+        "a quotation mark is escaped in a string, and encoded in a fragment",
+        r#"a"b"#,
+        "a%22b",
+        r#"a\"b"#,
+    ),
+    ("an escape may be the whole token", r#"""#, "%22", r#"\""#),
+    (
+        "a backslash is escaped in a string, and encoded in a fragment",
+        r#"a\b"#,
+        "a%5Cb",
+        r#"a\\b"#,
+    ),
+    (
+        "braces stand in a string as they are, but in no fragment",
+        r#"\d{2}\"#,
+        "%5Cd%7B2%7D%5C",
+        r#"\\d{2}\\"#,
+    ),
+    (
+        "NUL is a control as others are",
+        "\u{0}",
+        "%00",
+        r#"\u0000"#,
+    ),
+    (
+        "backspace and form feed have short escapes (RFC 8259, 7)",
+        "\u{8}\u{c}",
+        "%08%0C",
+        r#"\b\f"#,
+    ),
+    (
+        "tab, line feed and carriage return have short escapes (RFC 8259, 7)",
+        "\t\n\r",
+        "%09%0A%0D",
+        r#"\t\n\r"#,
+    ),
+    (
+        "a control without a short escape has four hexadecimal digits (RFC 8259, 7)",
+        "\u{b}x\u{1f}",
+        "%0Bx%1F",
+        r#"\u000bx\u001f"#,
+    ),
+    (
+        "none from 1 to 7 has a short escape",
         "\u{1}\u{2}\u{3}\u{4}\u{5}\u{6}\u{7}",
         "%01%02%03%04%05%06%07",
         r#"\u0001\u0002\u0003\u0004\u0005\u0006\u0007"#,
     ),
     (
+        "none from 14 to 22 has a short escape",
         "\u{e}\u{f}\u{10}\u{11}\u{12}\u{13}\u{14}\u{15}\u{16}",
         "%0E%0F%10%11%12%13%14%15%16",
         r#"\u000e\u000f\u0010\u0011\u0012\u0013\u0014\u0015\u0016"#,
     ),
     (
+        "none from 23 to 30 has a short escape",
         "\u{17}\u{18}\u{19}\u{1a}\u{1b}\u{1c}\u{1d}\u{1e}",
         "%17%18%19%1A%1B%1C%1D%1E",
         r#"\u0017\u0018\u0019\u001a\u001b\u001c\u001d\u001e"#,
     ),
-    ("\u{7f}", "%7F", "\u{7f}"),
-    ("a/b", "a~1b", "a~1b"),
-    ("~", "~0", "~0"),
-    ("~1/0", "~01~10", "~01~10"),
-    ("100%", "100%25", "100%"),
-    ("%22", "%2522", "%22"),
-    ("^a b#", "%5Ea%20b%23", "^a b#"),
-    ("é", "%C3%A9", "é"),
-    ("数", "%E6%95%B0", "数"),
-    ("𝕏", "%F0%9D%95%8F", "𝕏"),
-    ("𝕏\"/\\~é", "%F0%9D%95%8F%22~1%5C~0%C3%A9", r#"𝕏\"~1\\~0é"#),
     (
-        "a name of more than thirty-two bytes \\",
+        "DEL needs no escape in a string (RFC 8259, 7)",
+        "\u{7f}",
+        "%7F",
+        "\u{7f}",
+    ),
+    (
+        "a slash in a token is `~1` (RFC 6901, 3)",
+        "a/b",
+        "a~1b",
+        "a~1b",
+    ),
+    ("a tilde in a token is `~0` (RFC 6901, 3)", "~", "~0", "~0"),
+    (
+        "each tilde and slash is escaped, whatever stands beside it",
+        "~1/0",
+        "~01~10",
+        "~01~10",
+    ),
+    (
+        "a percent sign stands in a fragment encoded alone (RFC 3986, 2.4)",
+        "100%",
+        "100%25",
+        "100%",
+    ),
+    (
+        "a name that looks encoded is encoded all the same",
+        "%22",
+        "%2522",
+        "%22",
+    ),
+    (
+        "carets, blanks and number signs stand in no fragment (RFC 3986, 3.5)",
+        "^a b#",
+        "%5Ea%20b%23",
+        "^a b#",
+    ),
+    (
+        "a character of two bytes is encoded byte by byte (RFC 3986, 2.5)",
+        "é",
+        "%C3%A9",
+        "é",
+    ),
+    (
+        "a character of three bytes is encoded byte by byte (RFC 3986, 2.5)",
+        "数",
+        "%E6%95%B0",
+        "数",
+    ),
+    (
+        "a character of four bytes is encoded byte by byte (RFC 3986, 2.5)",
+        "𝕏",
+        "%F0%9D%95%8F",
+        "𝕏",
+    ),
+    (
+        "each character is escaped by its own rule, beside whichever it stands",
+        r#"𝕏"/\~é"#,
+        "%F0%9D%95%8F%22~1%5C~0%C3%A9",
+        r#"𝕏\"~1\\~0é"#,
+    ),
+    (
+        "a name of any length is escaped up to its end",
+        r#"a name of more than thirty-two bytes \"#,
         "a%20name%20of%20more%20than%20thirty-two%20bytes%20%5C",
         r#"a name of more than thirty-two bytes \\"#,
     ),
-    ("abc\"", "abc%22", r#"abc\""#),
-    ("\\bcde", "%5Cbcde", r#"\\bcde"#),
     (
-        "abcdefghijklmno\"",
+        "the last of four bytes is escaped as others are",
+        r#"abc""#,
+        "abc%22",
+        r#"abc\""#,
+    ),
+    (
+        "the first of five bytes is escaped as others are",
+        r#"\bcde"#,
+        "%5Cbcde",
+        r#"\\bcde"#,
+    ),
+    (
+        "the last of sixteen bytes is escaped as others are",
+        r#"abcdefghijklmno""#,
         "abcdefghijklmno%22",
         r#"abcdefghijklmno\""#,
     ),
     (
+        "the first of seventeen bytes is escaped as others are",
         "\tbcdefghijklmnopq",
         "%09bcdefghijklmnopq",
         r#"\tbcdefghijklmnopq"#,
     ),
     (
-        "abcdefghijklmnop\\",
+        "the last of seventeen bytes is escaped as others are",
+        r#"abcdefghijklmnop\"#,
         "abcdefghijklmnop%5C",
         r#"abcdefghijklmnop\\"#,
     ),
-    ("plain", "plain", "plain"),
+    (
+        "letters need no escape (RFC 3986, 2.3)",
+        "plain",
+        "plain",
+        "plain",
+    ),
 ];
 
 /// Where the name stands among the steps: at the first one, in the middle, at the last one, and at two.
@@ -218,23 +327,18 @@ fn wanted_at(
 fn expect_escaped_at(
     rt: &impl Abort,
     alloc: Global,
-    row: &(&str, &str, &str),
+    row: &Row,
     parts: &[bool; 3],
     place: &[bool; 3],
     written: Written,
 ) {
-    let (name, fragment, pointer) = *row;
+    let (why, name, fragment, pointer) = *row;
     let found = output_at(alloc, parts, place, name, written);
     let wanted = wanted_at(alloc, parts, place, fragment, pointer);
-    expect_same(rt, found, wanted, name);
+    expect_same(rt, found, wanted, why);
 }
 
-fn expect_escaped_in_parts(
-    rt: &impl Abort,
-    alloc: Global,
-    row: &(&str, &str, &str),
-    place: &[bool; 3],
-) {
+fn expect_escaped_in_parts(rt: &impl Abort, alloc: Global, row: &Row, place: &[bool; 3]) {
     for parts in PARTS {
         expect_escaped_at(rt, alloc, row, parts, place, Written::Nothing);
         expect_escaped_at(rt, alloc, row, parts, place, Written::Pointers);
@@ -242,7 +346,7 @@ fn expect_escaped_in_parts(
     }
 }
 
-fn expect_escaped(rt: &impl Abort, alloc: Global, row: &(&str, &str, &str)) {
+fn expect_escaped(rt: &impl Abort, alloc: Global, row: &Row) {
     for place in PLACES {
         expect_escaped_in_parts(rt, alloc, row, place);
     }
@@ -255,19 +359,32 @@ fn names_are_escaped_at_each_part(rt: HostRuntime) {
     }
 }
 
-/// A URI of a resource, as a program may give it, and the text of an output with an annotation at its root.
-const URIS: &[(&str, &str)] = &[
+const UNDER_A_URN: &str =
+    r#"{"annotations":[{"absoluteKeywordLocation":"urn:x#","annotation":true,"instanceLocation":"","keywordLocation":""}],"valid":true}"#;
+
+const UNDER_A_QUOTATION_MARK: &str =
+    r#"{"annotations":[{"absoluteKeywordLocation":"urn:\"x\\#","annotation":true,"instanceLocation":"","keywordLocation":""}],"valid":true}"#;
+
+const UNDER_A_TAB: &str =
+    r#"{"annotations":[{"absoluteKeywordLocation":"https://ex.org/a\tb/é#","annotation":true,"instanceLocation":"","keywordLocation":""}],"valid":true}"#;
+
+/// Why a resource's URI is written so, the URI, as a program may give it, and the text of an output with an annotation at
+/// its root.
+const URIS: &[(&str, &str, &str)] = &[
     (
+        "no character of the URI needs an escape",
         "urn:x",
-        r#"{"annotations":[{"absoluteKeywordLocation":"urn:x#","annotation":true,"instanceLocation":"","keywordLocation":""}],"valid":true}"#,
+        UNDER_A_URN,
     ),
     (
-        "urn:\"x\\",
-        r#"{"annotations":[{"absoluteKeywordLocation":"urn:\"x\\#","annotation":true,"instanceLocation":"","keywordLocation":""}],"valid":true}"#,
+        "quotation marks and backslashes are escaped (RFC 8259, 7)",
+        r#"urn:"x\"#,
+        UNDER_A_QUOTATION_MARK,
     ),
     (
+        "controls are escaped, and characters beyond ASCII are not",
         "https://ex.org/a\tb/é",
-        r#"{"annotations":[{"absoluteKeywordLocation":"https://ex.org/a\tb/é#","annotation":true,"instanceLocation":"","keywordLocation":""}],"valid":true}"#,
+        UNDER_A_TAB,
     ),
 ];
 
@@ -289,11 +406,11 @@ fn output_under_uri(alloc: Global, uri: &str) -> Result<String, Fault> {
     output_under(alloc, &Origin::new(alloc, uri, Vec::new(alloc))?)
 }
 
-fn expect_uri(rt: &impl Abort, alloc: Global, row: &(&str, &str)) {
-    let (uri, wanted) = *row;
-    expect_told(rt, alloc, output_under_uri(alloc, uri), wanted, uri);
+fn expect_uri(rt: &impl Abort, alloc: Global, row: &(&str, &str, &str)) {
+    let (why, uri, wanted) = *row;
+    expect_told(rt, alloc, output_under_uri(alloc, uri), wanted, why);
     let root = Origin::root(alloc, uri);
-    expect_told(rt, alloc, output_under(alloc, &root), wanted, uri);
+    expect_told(rt, alloc, output_under(alloc, &root), wanted, why);
 }
 
 #[test]

@@ -4,43 +4,71 @@ use crate::expectations::{expect_holds, expect_told};
 use json_doc::{Doc, Fault, copy, read, same, write};
 use keywords::Keyword;
 use std::alloc::Global;
+use std::process::Abort;
 
 const NAMES: &str = r#"{"$id":"a","Type":2,"title":3,"type":"string","typed":5}"#;
 
-const KEYWORDS: &[(&str, Option<Keyword>)] = &[
-    ("$id", Some(Keyword::Id)),
-    ("Type", None),
-    ("title", None),
-    ("type", Some(Keyword::Type)),
-    ("typed", None),
+// Why a name of `NAMES` is a keyword's or none's, the name, and the keyword.
+const KEYWORDS: &[(&str, &str, Option<Keyword>)] = &[
+    ("`$id` is a keyword (Core, 8.2.1)", "$id", Some(Keyword::Id)),
+    (
+        "names of keywords are told by the case of each letter",
+        "Type",
+        None,
+    ),
+    ("what annotates alone is no keyword here", "title", None),
+    (
+        "`type` is a keyword (Validation, 6.1.1)",
+        "type",
+        Some(Keyword::Type),
+    ),
+    (
+        "a name that goes on from a keyword's is another",
+        "typed",
+        None,
+    ),
 ];
 
-// Whether the names of the value say their keywords.
-fn says_keywords(doc: &Doc) -> bool {
+// Whether the value has a member of this name, which says its keyword.
+fn says_keyword(doc: &Doc, text: &str, keyword: Option<Keyword>) -> bool {
     let Some(members) = doc.as_dict() else {
         return false;
     };
-    let mut expected = KEYWORDS.iter();
     for (name, _) in members.iter().named() {
-        match expected.next() {
-            Some((text, keyword)) => {
-                if name.as_str() != *text || name.keyword() != *keyword {
-                    return false;
-                }
-            }
-            None => return false,
+        if name.as_str() == text {
+            return name.keyword() == keyword;
         }
     }
-    expected.next().is_none()
+    false
 }
 
-// Whether the value, a copy of it and a copy of that say their keywords, and are the same.
-fn copies_say_keywords(alloc: Global) -> Result<bool, Fault> {
+// Whether the name says its keyword in the value, in a copy of it and in a copy of that.
+fn copies_say_keyword(alloc: Global, text: &str, keyword: Option<Keyword>) -> Result<bool, Fault> {
     let doc = read(alloc, NAMES.as_bytes())?;
     let copied = copy(alloc, &doc)?;
     let again = copy(alloc, &copied)?;
-    let say = says_keywords(&doc) && says_keywords(&copied) && says_keywords(&again);
-    Ok(say && same(&copied, &doc) && same(&doc, &copied) && same(&again, &copied))
+    let are_said = says_keyword(&doc, text, keyword) && says_keyword(&copied, text, keyword);
+    Ok(are_said && says_keyword(&again, text, keyword))
+}
+
+fn expect_keyword(rt: &impl Abort, alloc: Global, row: &(&str, &str, Option<Keyword>)) {
+    let (why, text, keyword) = *row;
+    expect_holds(rt, copies_say_keyword(alloc, text, keyword), why);
+}
+
+#[test]
+fn names_say_their_keywords(rt: HostRuntime) {
+    for row in KEYWORDS {
+        expect_keyword(&rt, rt.alloc(), row);
+    }
+}
+
+// Whether a copy of the value and a copy of that are the same.
+fn are_copies_same(alloc: Global) -> Result<bool, Fault> {
+    let doc = read(alloc, NAMES.as_bytes())?;
+    let copied = copy(alloc, &doc)?;
+    let again = copy(alloc, &copied)?;
+    Ok(same(&copied, &doc) && same(&doc, &copied) && same(&again, &copied))
 }
 
 fn rewritten_copy(alloc: Global, text: &str) -> Result<String, Fault> {
@@ -49,9 +77,9 @@ fn rewritten_copy(alloc: Global, text: &str) -> Result<String, Fault> {
 }
 
 #[test]
-fn names_say_their_keywords(rt: HostRuntime) {
+fn copies_have_the_same_names(rt: HostRuntime) {
     let alloc = rt.alloc();
-    expect_holds(&rt, copies_say_keywords(alloc), "copies");
+    expect_holds(&rt, are_copies_same(alloc), "copies");
     expect_told(&rt, alloc, rewritten_copy(alloc, NAMES), NAMES, "a copy");
 }
 

@@ -11,68 +11,171 @@ const ALPHABET: &str = "abcdefghijklmnopqrstuvwxyz";
 // The longest that stands in the value itself.
 const SHORT: &str = "abcdefghijklmnopqrstuvwx";
 
-/// Lists of names and their texts. Most are much like the one before, or have its first name and its last.
-const LISTS: &[(&[&str], &str)] = &[
-    (&["a", "b", "c"], r#"["a","b","c"]"#),
-    (&["a", "b", "c"], r#"["a","b","c"]"#),
-    (&["a", "x", "c"], r#"["a","x","c"]"#),
-    (&["a", "b", "c"], r#"["a","b","c"]"#),
-    (&["a", "b", "d"], r#"["a","b","d"]"#),
-    (&["b", "b", "c"], r#"["b","b","c"]"#),
-    (&["a", "bx", "c"], r#"["a","bx","c"]"#),
-    (&["a", "", "c"], r#"["a","","c"]"#),
-    (&["a", "b"], r#"["a","b"]"#),
-    (&["a\",\"b"], r#"["a\",\"b"]"#),
-    (&["a", "b"], r#"["a","b"]"#),
-    (&["a\",\"b", "c"], r#"["a\",\"b","c"]"#),
-    (&["a", "b\",\"c"], r#"["a","b\",\"c"]"#),
-    (&["a", "b\\", "c"], r#"["a","b\\","c"]"#),
-    (&["a,b", "c"], r#"["a,b","c"]"#),
-    (&["a"], r#"["a"]"#),
-    (&[""], r#"[""]"#),
-    (&["", ""], r#"["",""]"#),
-    (&[], "[]"),
-    (&["", ""], r#"["",""]"#),
-    (&["a", "ä\"", ""], r#"["a","ä\"",""]"#),
-    (&["a", "ä", ""], r#"["a","ä",""]"#),
-    (&["length", "name"], r#"["length","name"]"#),
-    (&["lenght", "name"], r#"["lenght","name"]"#),
-    (&["length", "nine"], r#"["length","nine"]"#),
+const ALPHABETS_AROUND_AN_A: &str =
+    r#"["abcdefghijklmnopqrstuvwxyz","abcdefghijklmnopqrstuvwxyz","ä","abcdefghijklmnopqrstuvwxyz","abcdefghijklmnopqrstuvwxyz","abcdefghijklmnopqrstuvwxyz","abcdefghijklmnopqrstuvwxyz","abcdefghijklmnopqrstuvwxyz","abcdefghijklmnopqrstuvwxyz"]"#;
+
+const ALPHABETS_AROUND_AN_O: &str =
+    r#"["abcdefghijklmnopqrstuvwxyz","abcdefghijklmnopqrstuvwxyz","ö","abcdefghijklmnopqrstuvwxyz","abcdefghijklmnopqrstuvwxyz","abcdefghijklmnopqrstuvwxyz","abcdefghijklmnopqrstuvwxyz","abcdefghijklmnopqrstuvwxyz","abcdefghijklmnopqrstuvwxyz"]"#;
+
+const SHORT_NAMES_AROUND_Y: &str =
+    r#"["abcdefghijklmnopqrstuvwx","abcdefghijklmnopqrstuvwx","abcdefghijklmnopqrstuvwx","abcdefghijklmnopqrstuvwx","abcdefghijklmnopqrstuvwx","y","abcdefghijklmnopqrstuvwx","abcdefghijklmnopqrstuvwx","abcdefghijklmnopqrstuvwx","abcdefghijklmnopqrstuvwx","abcdefghijklmnopqrstuvwx"]"#;
+
+const SHORT_NAMES_AROUND_Z: &str =
+    r#"["abcdefghijklmnopqrstuvwx","abcdefghijklmnopqrstuvwx","abcdefghijklmnopqrstuvwx","abcdefghijklmnopqrstuvwx","abcdefghijklmnopqrstuvwx","z","abcdefghijklmnopqrstuvwx","abcdefghijklmnopqrstuvwx","abcdefghijklmnopqrstuvwx","abcdefghijklmnopqrstuvwx","abcdefghijklmnopqrstuvwx"]"#;
+
+/// Why a list has its text behind those above, its names, and the text.
+const LISTS: &[(&str, &[&str], &str)] = &[
     (
+        "names are strings, in the order in which they are given",
+        &["a", "b", "c"],
+        r#"["a","b","c"]"#,
+    ),
+    (
+        "a list that is said once more has the same text",
+        &["a", "b", "c"],
+        r#"["a","b","c"]"#,
+    ),
+    (
+        "a list is told by the names between its ends, too",
+        &["a", "x", "c"],
+        r#"["a","x","c"]"#,
+    ),
+    (
+        "a list that comes back behind another has its own text",
+        &["a", "b", "c"],
+        r#"["a","b","c"]"#,
+    ),
+    (
+        "a list is told by its last name, too",
+        &["a", "b", "d"],
+        r#"["a","b","d"]"#,
+    ),
+    (
+        "a list is told by its first name, too",
+        &["b", "b", "c"],
+        r#"["b","b","c"]"#,
+    ),
+    (
+        "a name that goes on from another is no such name",
+        &["a", "bx", "c"],
+        r#"["a","bx","c"]"#,
+    ),
+    (
+        "an empty name is written as an empty string",
+        &["a", "", "c"],
+        r#"["a","","c"]"#,
+    ),
+    (
+        "a list is told by how many names it has",
+        &["a", "b"],
+        r#"["a","b"]"#,
+    ),
+    (
+        "a quotation mark in a name ends no string (RFC 8259, 7)",
+        &[r#"a","b"#],
+        r#"["a\",\"b"]"#,
+    ),
+    (
+        "two names are not the one that holds their quotation marks",
+        &["a", "b"],
+        r#"["a","b"]"#,
+    ),
+    (
+        "a first name with quotation marks is one name",
+        &[r#"a","b"#, "c"],
+        r#"["a\",\"b","c"]"#,
+    ),
+    (
+        "a last name with quotation marks is one name",
+        &["a", r#"b","c"#],
+        r#"["a","b\",\"c"]"#,
+    ),
+    (
+        "a backslash in a name is escaped (RFC 8259, 7)",
+        &["a", r#"b\"#, "c"],
+        r#"["a","b\\","c"]"#,
+    ),
+    (
+        "a comma within a name parts no names",
+        &["a,b", "c"],
+        r#"["a,b","c"]"#,
+    ),
+    ("a list may have one name", &["a"], r#"["a"]"#),
+    ("the one name may be empty", &[""], r#"[""]"#),
+    ("two empty names are two strings", &["", ""], r#"["",""]"#),
+    ("no names are an empty array", &[], "[]"),
+    (
+        "names come back behind an empty array",
+        &["", ""],
+        r#"["",""]"#,
+    ),
+    (
+        "characters beyond ASCII stand beside an escape as they are",
+        &["a", r#"ä""#, ""],
+        r#"["a","ä\"",""]"#,
+    ),
+    (
+        "no escape is left of the list above",
+        &["a", "ä", ""],
+        r#"["a","ä",""]"#,
+    ),
+    (
+        "names of several letters are written whole",
+        &["length", "name"],
+        r#"["length","name"]"#,
+    ),
+    (
+        "names of the same letters in another order are others",
+        &["lenght", "name"],
+        r#"["lenght","name"]"#,
+    ),
+    (
+        "a last name of the same length and ends is another",
+        &["length", "nine"],
+        r#"["length","nine"]"#,
+    ),
+    (
+        "a blank in a name needs no escape",
         &["a", "a name of many words", "b"],
         r#"["a","a name of many words","b"]"#,
     ),
     (
+        "one letter in a long name makes it another",
         &["a", "a name of many wards", "b"],
         r#"["a","a name of many wards","b"]"#,
     ),
     (
+        "names are told by the case of their first letter",
         &["a", "A name of many words", "b"],
         r#"["a","A name of many words","b"]"#,
     ),
     (
+        "a list of more than 200 bytes is written whole",
         &[
             ALPHABET, ALPHABET, "ä", ALPHABET, ALPHABET, ALPHABET, ALPHABET, ALPHABET, ALPHABET,
         ],
-        r#"["abcdefghijklmnopqrstuvwxyz","abcdefghijklmnopqrstuvwxyz","ä","abcdefghijklmnopqrstuvwxyz","abcdefghijklmnopqrstuvwxyz","abcdefghijklmnopqrstuvwxyz","abcdefghijklmnopqrstuvwxyz","abcdefghijklmnopqrstuvwxyz","abcdefghijklmnopqrstuvwxyz"]"#,
+        ALPHABETS_AROUND_AN_A,
     ),
     (
+        "one byte in a list of more than 200 makes it another",
         &[
             ALPHABET, ALPHABET, "ö", ALPHABET, ALPHABET, ALPHABET, ALPHABET, ALPHABET, ALPHABET,
         ],
-        r#"["abcdefghijklmnopqrstuvwxyz","abcdefghijklmnopqrstuvwxyz","ö","abcdefghijklmnopqrstuvwxyz","abcdefghijklmnopqrstuvwxyz","abcdefghijklmnopqrstuvwxyz","abcdefghijklmnopqrstuvwxyz","abcdefghijklmnopqrstuvwxyz","abcdefghijklmnopqrstuvwxyz"]"#,
+        ALPHABETS_AROUND_AN_O,
     ),
     (
+        "a list of more than 256 bytes is written whole",
         &[
             SHORT, SHORT, SHORT, SHORT, SHORT, "y", SHORT, SHORT, SHORT, SHORT, SHORT,
         ],
-        r#"["abcdefghijklmnopqrstuvwx","abcdefghijklmnopqrstuvwx","abcdefghijklmnopqrstuvwx","abcdefghijklmnopqrstuvwx","abcdefghijklmnopqrstuvwx","y","abcdefghijklmnopqrstuvwx","abcdefghijklmnopqrstuvwx","abcdefghijklmnopqrstuvwx","abcdefghijklmnopqrstuvwx","abcdefghijklmnopqrstuvwx"]"#,
+        SHORT_NAMES_AROUND_Y,
     ),
     (
+        "one byte in a list of more than 256 makes it another",
         &[
             SHORT, SHORT, SHORT, SHORT, SHORT, "z", SHORT, SHORT, SHORT, SHORT, SHORT,
         ],
-        r#"["abcdefghijklmnopqrstuvwx","abcdefghijklmnopqrstuvwx","abcdefghijklmnopqrstuvwx","abcdefghijklmnopqrstuvwx","abcdefghijklmnopqrstuvwx","z","abcdefghijklmnopqrstuvwx","abcdefghijklmnopqrstuvwx","abcdefghijklmnopqrstuvwx","abcdefghijklmnopqrstuvwx","abcdefghijklmnopqrstuvwx"]"#,
+        SHORT_NAMES_AROUND_Z,
     ),
 ];
 
@@ -132,10 +235,10 @@ fn wanted_text(alloc: Global, list: &str) -> Result<String, Fault> {
     Ok(text)
 }
 
-fn expect_list(rt: &impl Abort, alloc: Global, units: &mut Units, row: &(&[&str], &str)) {
-    let (names, list) = *row;
+fn expect_list(rt: &impl Abort, alloc: Global, units: &mut Units, row: &(&str, &[&str], &str)) {
+    let (why, names, list) = *row;
     let found = list_text(alloc, units, names);
-    expect_same(rt, found, wanted_text(alloc, list), list);
+    expect_same(rt, found, wanted_text(alloc, list), why);
 }
 
 fn expect_lists(rt: &impl Abort, alloc: Global, units: &mut Units) {

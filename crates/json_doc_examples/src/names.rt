@@ -107,15 +107,20 @@ fn members_are_taken_in_order(rt: HostRuntime) {
     expect_holds(&rt, are_taken_in_order(rt.alloc()), "each name");
 }
 
-// A name that isn't there, and the first of those above it.
-const ABSENT: &[(&str, Option<&str>)] = &[
-    ("A", Some("Type")),
+// Why the first of `NAMES` above a name that isn't there is this one, the name, and the first above, if there is one.
+const ABSENT: &[(&str, &str, Option<&str>)] = &[
     (
+        "`A` comes behind the empty name and before `T`",
+        "A",
+        Some("Type"),
+    ),
+    (
+        "the last byte is less than in one of as many bytes",
         "abcdefghijklmnopqrstuvwxx",
         Some("abcdefghijklmnopqrstuvwxy"),
     ),
-    ("c", Some("type")),
-    ("ö", None),
+    ("`c` comes behind `b` and before `t`", "c", Some("type")),
+    ("`ö` comes behind `ä`, the last of all", "ö", None),
 ];
 
 fn is_not_taken(members: &Members, name: Name<'_>, first: Option<&str>) -> bool {
@@ -123,77 +128,80 @@ fn is_not_taken(members: &Members, name: Name<'_>, first: Option<&str>) -> bool 
     left.take_named(name).is_none() && is_first_left(&mut left, first)
 }
 
-fn are_not_taken(members: &Members, others: &Members) -> bool {
-    let mut first_above = ABSENT.iter();
-    for (name, _) in others.iter().named() {
-        let first = first_above.next().and_then(|(_, first)| *first);
-        if !is_not_taken(members, name, first) {
-            return false;
-        }
-    }
-    true
-}
-
-fn absent_names(alloc: Global) -> Result<Members, Fault> {
-    let mut absent = Members::new(alloc);
-    for row in ABSENT {
-        absent.insert(alloc, row.0, Doc::Null)?;
-    }
-    Ok(absent)
-}
-
-fn are_left_alone(alloc: Global) -> Result<bool, Fault> {
+// Whether no member of this name is taken, and this is the name of the first that is left then.
+fn is_left_alone(alloc: Global, name: &str, first: Option<&str>) -> Result<bool, Fault> {
     let doc = object(alloc, 0)?;
-    let absent = absent_names(alloc)?;
-    Ok(
-        doc.as_dict()
-            .is_some_and(|members| are_not_taken(members, &absent)),
-    )
+    let mut absent = Members::new(alloc);
+    absent.insert(alloc, name, Doc::Null)?;
+    Ok(match (doc.as_dict(), absent.iter().named().next()) {
+        (Some(members), Some((name, _))) => is_not_taken(members, name, first),
+        _ => false,
+    })
+}
+
+fn expect_left_alone(rt: &impl Abort, alloc: Global, row: &(&str, &str, Option<&str>)) {
+    let (why, name, first) = *row;
+    expect_holds(rt, is_left_alone(alloc, name, first), why);
 }
 
 #[test]
 fn what_is_not_there_is_not_taken(rt: HostRuntime) {
-    expect_holds(&rt, are_left_alone(rt.alloc()), "each name");
+    for row in ABSENT {
+        expect_left_alone(&rt, rt.alloc(), row);
+    }
 }
 
-// A text, of how many of the bytes it is, and the bytes.
-const PADDED: &[(&str, u32, &[u8; 24], bool)] = &[
-    (
-        "ab",
-        2,
-        b"ab\0\0\0\0\0\0\0\0\0\0\0\0\0\0\0\0\0\0\0\0\0\0",
-        true,
-    ),
-    (
-        "ab",
-        1,
-        b"ab\0\0\0\0\0\0\0\0\0\0\0\0\0\0\0\0\0\0\0\0\0\0",
-        false,
-    ),
-    (
-        "ac",
-        2,
-        b"ab\0\0\0\0\0\0\0\0\0\0\0\0\0\0\0\0\0\0\0\0\0\0",
-        false,
-    ),
-    (
-        "",
-        0,
-        b"\0\0\0\0\0\0\0\0\0\0\0\0\0\0\0\0\0\0\0\0\0\0\0\0",
-        true,
-    ),
-    (
-        "abcdefghijklmnopqrstuvwx",
-        24,
-        b"abcdefghijklmnopqrstuvwx",
-        true,
-    ),
+/// A text, and whether it is so many of these bytes.
+struct Padded {
+    why: &'static str,
+    text: &'static str,
+    len: u32,
+    bytes: &'static [u8; 24],
+    is_padded: bool,
+}
+
+const PADDED: &[Padded] = &[
+    Padded {
+        why: "the first two bytes are the text's, and zeros stand behind them",
+        text: "ab",
+        len: 2,
+        bytes: b"ab\0\0\0\0\0\0\0\0\0\0\0\0\0\0\0\0\0\0\0\0\0\0",
+        is_padded: true,
+    },
+    Padded {
+        why: "a text of two bytes isn't the first byte",
+        text: "ab",
+        len: 1,
+        bytes: b"ab\0\0\0\0\0\0\0\0\0\0\0\0\0\0\0\0\0\0\0\0\0\0",
+        is_padded: false,
+    },
+    Padded {
+        why: "the second byte is another",
+        text: "ac",
+        len: 2,
+        bytes: b"ab\0\0\0\0\0\0\0\0\0\0\0\0\0\0\0\0\0\0\0\0\0\0",
+        is_padded: false,
+    },
+    Padded {
+        why: "an empty text is none of the bytes",
+        text: "",
+        len: 0,
+        bytes: b"\0\0\0\0\0\0\0\0\0\0\0\0\0\0\0\0\0\0\0\0\0\0\0\0",
+        is_padded: true,
+    },
+    Padded {
+        why: "a text of 24 bytes needs no zeros behind it",
+        text: "abcdefghijklmnopqrstuvwx",
+        len: 24,
+        bytes: b"abcdefghijklmnopqrstuvwx",
+        is_padded: true,
+    },
 ];
 
-fn expect_padded(rt: &impl Abort, row: &(&str, u32, &[u8; 24], bool)) {
-    let (text, len, bytes, is_padded) = *row;
-    let found = ShortText::of(text).is_some_and(|short| short.is_padded(len, bytes));
-    assert_eq!(rt; found, is_padded, "{text}");
+fn expect_padded(rt: &impl Abort, row: &Padded) {
+    let (len, bytes) = (row.len, row.bytes);
+    let found = ShortText::of(row.text).is_some_and(|short| short.is_padded(len, bytes));
+    assert_eq!(rt; found, row.is_padded, "{}", row.why);
 }
 
 #[test]

@@ -107,15 +107,40 @@ fn writes_what_units_say(rt: HostRuntime) {
     expect_annotation(&rt, rt.alloc(), Says::Indexes(&[0, 2]), "[0,2]");
 }
 
-// A value, and its text as an annotation.
-const VALUES: &[(&str, &str)] = &[
-    (r#"{"b":[1,null],"a":"x"}"#, r#"{"a":"x","b":[1,null]}"#),
-    (r#""x/y""#, r#""x/y""#),
-    (r#""x\"y""#, r#""x\"y""#),
-    (r#""\\d{2}""#, r#""\\d{2}""#),
-    (r#""\u0001\t\n""#, r#""\u0001\t\n""#),
-    ("\"é 数 𝕏\"", "\"é 数 𝕏\""),
+// Why a value is written so, the value, and its text as an annotation.
+const VALUES: &[(&str, &str, &str)] = &[
     (
+        "members are written in byte order of their names",
+        r#"{"b":[1,null],"a":"x"}"#,
+        r#"{"a":"x","b":[1,null]}"#,
+    ),
+    (
+        "a slash within a string needs no escape (RFC 8259, 7)",
+        r#""x/y""#,
+        r#""x/y""#,
+    ),
+    (
+        "a quotation mark is escaped (RFC 8259, 7)",
+        r#""x\"y""#,
+        r#""x\"y""#,
+    ),
+    (
+        "a backslash is escaped (RFC 8259, 7)",
+        r#""\\d{2}""#,
+        r#""\\d{2}""#,
+    ),
+    (
+        "controls are escaped, by a short form where there is one",
+        r#""\u0001\t\n""#,
+        r#""\u0001\t\n""#,
+    ),
+    (
+        "characters beyond ASCII need no escape",
+        r#""é 数 𝕏""#,
+        r#""é 数 𝕏""#,
+    ),
+    (
+        "a long text is escaped up to its end",
         r#""a text of more than thirty-two bytes \\""#,
         r#""a text of more than thirty-two bytes \\""#,
     ),
@@ -126,13 +151,13 @@ fn value_annotation(alloc: Global, value: &str) -> Result<String, Fault> {
     annotation(alloc, Says::Value(&value))
 }
 
-fn expect_value(rt: &impl Abort, alloc: Global, row: &(&str, &str)) {
-    let (value, wanted) = *row;
+fn expect_value(rt: &impl Abort, alloc: Global, row: &(&str, &str, &str)) {
+    let (why, value, wanted) = *row;
     expect_same(
         rt,
         value_annotation(alloc, value),
         annotated(alloc, wanted),
-        value,
+        why,
     );
 }
 
@@ -251,28 +276,46 @@ fn error_at_shortened(alloc: Global, without: usize, onward: usize) -> Result<St
 }
 
 /// How many of four steps are taken away, how many of the others lead on from the origin, and the text of the output.
-const ENDS: &[(usize, usize, &str)] = &[
-    (
-        0,
-        2,
-        r#"{"errors":[{"absoluteKeywordLocation":"urn:x#/b/c","error":"no value is allowed","instanceLocation":"","keywordLocation":"/a/7/b/c"}],"valid":false}"#,
-    ),
-    (
-        1,
-        1,
-        r#"{"errors":[{"absoluteKeywordLocation":"urn:x#/b","error":"no value is allowed","instanceLocation":"","keywordLocation":"/a/7/b"}],"valid":false}"#,
-    ),
-    (
-        2,
-        2,
-        r#"{"errors":[{"absoluteKeywordLocation":"urn:x#/a/7","error":"no value is allowed","instanceLocation":"","keywordLocation":"/a/7"}],"valid":false}"#,
-    ),
+struct End {
+    why: &'static str,
+    without: usize,
+    onward: usize,
+    wanted: &'static str,
+}
+
+const AT_TWO_OF_FOUR: &str =
+    r#"{"errors":[{"absoluteKeywordLocation":"urn:x#/b/c","error":"no value is allowed","instanceLocation":"","keywordLocation":"/a/7/b/c"}],"valid":false}"#;
+
+const AT_ONE_OF_THREE: &str =
+    r#"{"errors":[{"absoluteKeywordLocation":"urn:x#/b","error":"no value is allowed","instanceLocation":"","keywordLocation":"/a/7/b"}],"valid":false}"#;
+
+const AT_BOTH_OF_TWO: &str =
+    r#"{"errors":[{"absoluteKeywordLocation":"urn:x#/a/7","error":"no value is allowed","instanceLocation":"","keywordLocation":"/a/7"}],"valid":false}"#;
+
+const ENDS: &[End] = &[
+    End {
+        why: "the absolute location has the steps behind the last reference alone",
+        without: 0,
+        onward: 2,
+        wanted: AT_TWO_OF_FOUR,
+    },
+    End {
+        why: "a step that is taken away stands in neither location",
+        without: 1,
+        onward: 1,
+        wanted: AT_ONE_OF_THREE,
+    },
+    End {
+        why: "without a reference both locations have the same steps",
+        without: 2,
+        onward: 2,
+        wanted: AT_BOTH_OF_TWO,
+    },
 ];
 
-fn expect_end(rt: &impl Abort, alloc: Global, row: &(usize, usize, &str)) {
-    let (without, onward, wanted) = *row;
-    let found = error_at_shortened(alloc, without, onward);
-    expect_told(rt, alloc, found, wanted, "shortened");
+fn expect_end(rt: &impl Abort, alloc: Global, row: &End) {
+    let found = error_at_shortened(alloc, row.without, row.onward);
+    expect_told(rt, alloc, found, row.wanted, row.why);
 }
 
 #[test]

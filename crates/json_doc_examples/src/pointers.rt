@@ -28,11 +28,23 @@ fn pushed_tokens_are_escaped(rt: HostRuntime) {
     expect_told(&rt, alloc, pushed(alloc), "/a~1b/m~0n/ä b", "three tokens");
 }
 
-// A pointer, and what it is written as, alone and as a fragment, or the fault.
-const POINTERS: &[(&str, &str)] = &[
-    ("/a~1b/m~0n/ä b", "/a~1b/m~0n/ä b#/a~1b/m~0n/%C3%A4%20b"),
-    ("/~2", "3 BadPointer"),
-    ("a", "3 BadPointer"),
+// Why a text is a pointer or none, the text, and what it is written as, alone and as a fragment, or the fault.
+const POINTERS: &[(&str, &str, &str)] = &[
+    (
+        "a fragment's characters beyond ASCII and blanks are percent-encoded (RFC 6901, 6)",
+        "/a~1b/m~0n/ä b",
+        "/a~1b/m~0n/ä b#/a~1b/m~0n/%C3%A4%20b",
+    ),
+    (
+        "a tilde begins `~0` or `~1` alone (RFC 6901, 3)",
+        "/~2",
+        "3 BadPointer",
+    ),
+    (
+        "a pointer that isn't empty begins with a slash (RFC 6901, 3)",
+        "a",
+        "3 BadPointer",
+    ),
 ];
 
 fn rewritten(alloc: Global, text: &str) -> Result<String, Fault> {
@@ -43,9 +55,9 @@ fn rewritten(alloc: Global, text: &str) -> Result<String, Fault> {
     Ok(text)
 }
 
-fn expect_rewritten(rt: &impl Abort, alloc: Global, row: &(&str, &str)) {
-    let (pointer, wanted) = *row;
-    expect_told(rt, alloc, rewritten(alloc, pointer), wanted, pointer);
+fn expect_rewritten(rt: &impl Abort, alloc: Global, row: &(&str, &str, &str)) {
+    let (why, pointer, wanted) = *row;
+    expect_told(rt, alloc, rewritten(alloc, pointer), wanted, why);
 }
 
 #[test]
@@ -55,13 +67,17 @@ fn pointers_are_read_and_written(rt: HostRuntime) {
     }
 }
 
-// A pointer, and the number that it finds in `[7,[8]]`.
-const FOUND: &[(&str, Option<u64>)] = &[
-    ("/0", Some(7)),
-    ("/1/0", Some(8)),
-    ("/00", None),
-    ("/-", None),
-    ("/2", None),
+// Why a pointer finds its number in `[7,[8]]` or none, the pointer, and the number.
+const FOUND: &[(&str, &str, Option<u64>)] = &[
+    ("elements are counted from 0 (RFC 6901, 4)", "/0", Some(7)),
+    ("each token goes one value deeper", "/1/0", Some(8)),
+    (
+        "an index begins with no zero but `0` (RFC 6901, 4)",
+        "/00",
+        None,
+    ),
+    ("`-` is behind the last element (RFC 6901, 4)", "/-", None),
+    ("an array of two has no third element", "/2", None),
 ];
 
 fn finds(alloc: Global, text: &str, wanted: Option<u64>) -> Result<bool, Fault> {
@@ -71,9 +87,9 @@ fn finds(alloc: Global, text: &str, wanted: Option<u64>) -> Result<bool, Fault> 
     Ok(number.and_then(|it| it.as_u64()) == wanted)
 }
 
-fn expect_found(rt: &impl Abort, alloc: Global, row: &(&str, Option<u64>)) {
-    let (text, wanted) = *row;
-    expect_holds(rt, finds(alloc, text, wanted), text);
+fn expect_found(rt: &impl Abort, alloc: Global, row: &(&str, &str, Option<u64>)) {
+    let (why, pointer, wanted) = *row;
+    expect_holds(rt, finds(alloc, pointer, wanted), why);
 }
 
 #[test]

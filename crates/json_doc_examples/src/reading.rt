@@ -10,38 +10,112 @@ fn rewritten(alloc: Global, text: &[u8]) -> Result<String, Fault> {
     write(alloc, &read(alloc, text)?)
 }
 
-// A text, and what it is written as, or the fault.
-const TEXTS: &[(&str, &str)] = &[
-    ("18446744073709551615", "18446744073709551615"),
-    ("-9223372036854775808", "-9223372036854775808"),
-    (r#"{"b":1, "a":[ ]}"#, r#"{"a":[],"b":1}"#),
-    (r#"{"a":1,"a":2}"#, r#"{"a":2}"#),
-    (r#"{"a":1.0,"a":2}"#, r#"{"a":2}"#),
-    (r#"{"c":1,"a":2,"b":[],"c":3}"#, r#"{"a":2,"b":[],"c":3}"#),
-    (r#"{"\u0061":1,"a":-2}"#, r#"{"a":-2}"#),
-    (r#"[null,true,"\u00e4\n\"/"]"#, "[null,true,\"ä\\n\\\"/\"]"),
-    // No whole numbers of 64 bits.
-    ("18446744073709551616", "2 BadNumber"),
-    ("1.0", "2 BadNumber"),
-    ("1e308", "2 BadNumber"),
-    ("-0", "2 BadNumber"),
-    (r#"[{"a":[1.5]}]"#, "2 BadNumber"),
-    // No JSON.
-    ("[1", "1 BadJson"),
-    ("[1.5", "1 BadJson"),
-    ("[1,]", "1 BadJson"),
-    ("[1}", "1 BadJson"),
-    (r#"{"a"}"#, "1 BadJson"),
-    ("{1:2}", "1 BadJson"),
-    ("1 2", "1 BadJson"),
-    ("01", "1 BadJson"),
-    ("1e400", "1 BadJson"),
-    ("", "1 BadJson"),
+// Why a text is read so or refused, the text, and what it is written as, or the fault.
+const TEXTS: &[(&str, &str, &str)] = &[
+    (
+        "2^64 - 1 is the largest whole number of 64 bits",
+        "18446744073709551615",
+        "18446744073709551615",
+    ),
+    (
+        "-2^63 is the smallest whole number of 64 bits",
+        "-9223372036854775808",
+        "-9223372036854775808",
+    ),
+    (
+        "members are written in byte order of their names, without blanks",
+        r#"{"b":1, "a":[ ]}"#,
+        r#"{"a":[],"b":1}"#,
+    ),
+    (
+        "of repeated names the last one's value counts",
+        r#"{"a":1,"a":2}"#,
+        r#"{"a":2}"#,
+    ),
+    (
+        "a number that a later repeated name replaced isn't judged",
+        r#"{"a":1.0,"a":2}"#,
+        r#"{"a":2}"#,
+    ),
+    (
+        "names may be repeated with others between them",
+        r#"{"c":1,"a":2,"b":[],"c":3}"#,
+        r#"{"a":2,"b":[],"c":3}"#,
+    ),
+    (
+        "an escaped name is the name that its characters spell (RFC 8259, 8.3)",
+        r#"{"\u0061":1,"a":-2}"#,
+        r#"{"a":-2}"#,
+    ),
+    (
+        "only quotation marks, backslashes and controls are written as escapes",
+        r#"[null,true,"\u00e4\n\"/"]"#,
+        r#"[null,true,"ä\n\"/"]"#,
+    ),
+    (
+        "2^64 has more than 64 bits",
+        "18446744073709551616",
+        "2 BadNumber",
+    ),
+    (
+        "a number with a fraction is refused, even where it is zero",
+        "1.0",
+        "2 BadNumber",
+    ),
+    (
+        "a number with an exponent is refused, even where it is whole",
+        "1e308",
+        "2 BadNumber",
+    ),
+    ("-0 is no whole number here", "-0", "2 BadNumber"),
+    (
+        "each number in a value is judged, however deep it stands",
+        r#"[{"a":[1.5]}]"#,
+        "2 BadNumber",
+    ),
+    (
+        "an array ends by a bracket (RFC 8259, 5)",
+        "[1",
+        "1 BadJson",
+    ),
+    (
+        "numbers are judged in a text that is JSON alone",
+        "[1.5",
+        "1 BadJson",
+    ),
+    (
+        "a value follows each comma (RFC 8259, 5)",
+        "[1,]",
+        "1 BadJson",
+    ),
+    ("a brace ends no array (RFC 8259, 5)", "[1}", "1 BadJson"),
+    (
+        "a name has a colon and a value behind it (RFC 8259, 4)",
+        r#"{"a"}"#,
+        "1 BadJson",
+    ),
+    ("a name is a string (RFC 8259, 4)", "{1:2}", "1 BadJson"),
+    (
+        "a text is one value alone (RFC 8259, 2)",
+        "1 2",
+        "1 BadJson",
+    ),
+    (
+        "a number begins with no zero (RFC 8259, 6)",
+        "01",
+        "1 BadJson",
+    ),
+    (
+        "`serde_json` reads no number that is too large for a float",
+        "1e400",
+        "1 BadJson",
+    ),
+    ("an empty text has no value (RFC 8259, 2)", "", "1 BadJson"),
 ];
 
-fn expect_rewritten(rt: &impl Abort, alloc: Global, row: &(&str, &str)) {
-    let (text, wanted) = *row;
-    expect_told(rt, alloc, rewritten(alloc, text.as_bytes()), wanted, text);
+fn expect_rewritten(rt: &impl Abort, alloc: Global, row: &(&str, &str, &str)) {
+    let (why, text, wanted) = *row;
+    expect_told(rt, alloc, rewritten(alloc, text.as_bytes()), wanted, why);
 }
 
 #[test]
@@ -56,7 +130,7 @@ fn texts_are_read_or_refused(rt: HostRuntime) {
         alloc,
         rewritten(alloc, no_utf8),
         "1 BadJson",
-        "no UTF-8",
+        "JSON is in UTF-8 (RFC 8259, 8.1)",
     );
 }
 

@@ -16,127 +16,204 @@ const TYPE: Step<'static> = Step::Keyword(Keyword::Type);
 
 const ENUM: Step<'static> = Step::Name("enum");
 
-/// Steps, their pointer as a fragment, and their pointer in a string of JSON.
-type Row = (&'static [Step<'static>], &'static str, &'static str);
+/// Why steps have their texts behind those above, the steps, their pointer as a fragment, and their pointer in a string of
+/// JSON.
+type Row = (
+    &'static str,
+    &'static [Step<'static>],
+    &'static str,
+    &'static str,
+);
 
 /// Most share steps with the next.
 const LOCATIONS: &[Row] = &[
-    (&[ALL], "/all", "/all"),
-    (&[ALL, Step::Index(0), ONE], "/all/0/one", "/all/0/one"),
-    (&[ALL, Step::Index(0), ONE], "/all/0/one", "/all/0/one"),
-    (&[ALL, Step::Index(0)], "/all/0", "/all/0"),
     (
+        "a step is a token behind a slash (RFC 6901, 3)",
+        &[ALL],
+        "/all",
+        "/all",
+    ),
+    (
+        "an index is its decimal digits (RFC 6901, 4)",
+        &[ALL, Step::Index(0), ONE],
+        "/all/0/one",
+        "/all/0/one",
+    ),
+    (
+        "a location that comes once more has the same text",
+        &[ALL, Step::Index(0), ONE],
+        "/all/0/one",
+        "/all/0/one",
+    ),
+    (
+        "a location may be the beginning of the one above",
+        &[ALL, Step::Index(0)],
+        "/all/0",
+        "/all/0",
+    ),
+    (
+        "a keyword is the token that its name is",
         &[ALL, Step::Index(0), ONE, TYPE],
         "/all/0/one/type",
         "/all/0/one/type",
     ),
     (
+        "a slash in a name is `~1` (RFC 6901, 3)",
         &[ALL, Step::Index(0), Step::Name("a/b"), TYPE],
         "/all/0/a~1b/type",
         "/all/0/a~1b/type",
     ),
     (
+        "nothing is left of the slash above",
         &[ALL, Step::Index(0), ONE, TYPE],
         "/all/0/one/type",
         "/all/0/one/type",
     ),
     (
+        "a tilde in a name is `~0` (RFC 6901, 3)",
         &[ALL, Step::Index(0), Step::Name("a~b"), TYPE],
         "/all/0/a~0b/type",
         "/all/0/a~0b/type",
     ),
     (
+        "nothing is left of the tilde above",
         &[ALL, Step::Index(0), ONE, TYPE],
         "/all/0/one/type",
         "/all/0/one/type",
     ),
     (
-        &[ALL, Step::Index(0), Step::Name("a\"b"), TYPE],
+        "a quotation mark is escaped in a string, and encoded in a fragment",
+        &[ALL, Step::Index(0), Step::Name(r#"a"b"#), TYPE],
         "/all/0/a%22b/type",
         r#"/all/0/a\"b/type"#,
     ),
     (
+        "nothing is left of the quotation mark above",
         &[ALL, Step::Index(0), ONE, TYPE],
         "/all/0/one/type",
         "/all/0/one/type",
     ),
     (
+        "a percent sign is encoded in a fragment alone (RFC 3986, 2.4)",
         &[ALL, Step::Index(0), Step::Name("a%b"), TYPE],
         "/all/0/a%25b/type",
         "/all/0/a%b/type",
     ),
     (
+        "nothing is left of the percent sign above",
         &[ALL, Step::Index(0), ONE, TYPE],
         "/all/0/one/type",
         "/all/0/one/type",
     ),
     (
+        "a blank is encoded in a fragment alone (RFC 3986, 3.5)",
         &[ALL, Step::Index(0), Step::Name("a b"), TYPE],
         "/all/0/a%20b/type",
         "/all/0/a b/type",
     ),
     (
+        "nothing is left of the blank above",
         &[ALL, Step::Index(0), ONE, TYPE],
         "/all/0/one/type",
         "/all/0/one/type",
     ),
     (
+        "a character beyond ASCII is encoded in a fragment alone (RFC 3986, 2.5)",
         &[ALL, Step::Index(0), Step::Name("ä"), TYPE],
         "/all/0/%C3%A4/type",
         "/all/0/ä/type",
     ),
     (
+        "nothing is left of the character beyond ASCII above",
         &[ALL, Step::Index(0), ONE, TYPE],
         "/all/0/one/type",
         "/all/0/one/type",
     ),
     (
-        &[ALL, Step::Index(0), Step::Name("a\\b"), TYPE],
+        "a backslash is escaped in a string, and encoded in a fragment",
+        &[ALL, Step::Index(0), Step::Name(r#"a\b"#), TYPE],
         "/all/0/a%5Cb/type",
         r#"/all/0/a\\b/type"#,
     ),
     (
+        "nothing is left of the backslash above",
         &[ALL, Step::Index(0), ONE, TYPE],
         "/all/0/one/type",
         "/all/0/one/type",
     ),
     (
+        "an empty name is an empty token (RFC 6901, 5)",
         &[ALL, Step::Index(0), Step::Name(""), TYPE],
         "/all/0//type",
         "/all/0//type",
     ),
     (
+        "nothing is left of the empty name above",
         &[ALL, Step::Index(0), ONE, TYPE],
         "/all/0/one/type",
         "/all/0/one/type",
     ),
     (
+        "the last step alone may be another",
         &[ALL, Step::Index(0), ONE, ENUM],
         "/all/0/one/enum",
         "/all/0/one/enum",
     ),
     (
+        "an index in the middle may be another",
         &[ALL, Step::Index(1), ONE, ENUM],
         "/all/1/one/enum",
         "/all/1/one/enum",
     ),
     (
+        "an index may go on from the one above",
         &[ALL, Step::Index(10), ONE, ENUM],
         "/all/10/one/enum",
         "/all/10/one/enum",
     ),
-    (&[ALL, Step::Name("10"), ONE], "/all/10/one", "/all/10/one"),
-    (&[], "", ""),
-    (&[ALL, Step::Index(10)], "/all/10", "/all/10"),
-    (&[Step::Name("al")], "/al", "/al"),
     (
+        "a name of digits has the token of that index",
+        &[ALL, Step::Name("10"), ONE],
+        "/all/10/one",
+        "/all/10/one",
+    ),
+    (
+        "the whole document's pointer is empty (RFC 6901, 5)",
+        &[],
+        "",
+        "",
+    ),
+    (
+        "steps come back behind the empty pointer",
+        &[ALL, Step::Index(10)],
+        "/all/10",
+        "/all/10",
+    ),
+    (
+        "a name may be the beginning of the one above",
+        &[Step::Name("al")],
+        "/al",
+        "/al",
+    ),
+    (
+        "a name may go on from the one above",
         &[Step::Name("alls"), Step::Index(10)],
         "/alls/10",
         "/alls/10",
     ),
-    (&[Step::Name("a b"), TYPE], "/a%20b/type", "/a b/type"),
-    (&[Step::Name("a b"), ENUM], "/a%20b/enum", "/a b/enum"),
-    (&[TYPE], "/type", "/type"),
+    (
+        "a first step's blank is encoded as well",
+        &[Step::Name("a b"), TYPE],
+        "/a%20b/type",
+        "/a b/type",
+    ),
+    (
+        "a first step's blank stays where the last step is another",
+        &[Step::Name("a b"), ENUM],
+        "/a%20b/enum",
+        "/a b/enum",
+    ),
+    ("a keyword may be the only step", &[TYPE], "/type", "/type"),
 ];
 
 /// Of a location with these steps.
@@ -167,14 +244,14 @@ fn output_at(alloc: Global, locations: &[Row]) -> Result<String, Fault> {
     let mut units = Units::new(alloc);
     let mut places = Places::new(alloc);
     for (row, instance) in locations.iter().zip(locations.iter().rev()) {
-        push_at(alloc, &mut units, &mut places, row.0, instance.0)?;
+        push_at(alloc, &mut units, &mut places, row.1, instance.1)?;
     }
     output_text(alloc, false, &units)
 }
 
 /// Appends the text of the error at this location, by the columns of the table.
 fn push_text(text: &mut String, row: &Row, instance_location: &str) -> Result<(), Fault> {
-    let (path, fragment, pointer) = *row;
+    let (_, path, fragment, pointer) = *row;
     if text.as_str().ends_with("}") {
         text.push_str(",")?;
     }
@@ -193,7 +270,7 @@ fn push_text(text: &mut String, row: &Row, instance_location: &str) -> Result<()
 fn wanted_at(alloc: Global, locations: &[Row]) -> Result<String, Fault> {
     let mut text = String::from_str(alloc, r#"{"errors":["#)?;
     for (row, instance) in locations.iter().zip(locations.iter().rev()) {
-        push_text(&mut text, row, instance.2)?;
+        push_text(&mut text, row, instance.3)?;
     }
     text.push_str(r#"],"valid":false}"#)?;
     Ok(text)
@@ -204,7 +281,7 @@ fn expect_locations(rt: &impl Abort, alloc: Global, rows: &[Row]) {
         rt,
         output_at(alloc, rows),
         wanted_at(alloc, rows),
-        "from some row on",
+        rows.first().map_or("", |row| row.0),
     );
 }
 

@@ -7,27 +7,67 @@ use std::cmp::Ordering;
 use std::process::Abort;
 use value_order::{compare, has_same, is_unique};
 
-// Each comes before the next, and the members of an object may stand in any order.
-const ASCENDING: &[(&str, &str)] = &[
-    ("null", "null"),
-    ("false", "false"),
-    ("true", "true"),
-    ("-2", "-2"),
-    ("-1", "-1"),
-    ("0", "0"),
-    ("10", "10"),
-    (r#""""#, r#""""#),
-    (r#""a""#, r#""a""#),
-    (r#""ab""#, r#""ab""#),
-    (r#""b""#, r#""b""#),
-    ("[]", "[]"),
-    ("[1,[]]", "[1,[]]"),
-    ("[2]", "[2]"),
-    ("{}", "{}"),
-    (r#"{"a":1}"#, r#"{"a":1}"#),
-    (r#"{"a":1,"b":0}"#, r#"{"b":0,"a":1}"#),
-    (r#"{"a":1,"b":2}"#, r#"{"b":2,"a":1}"#),
-    (r#"{"b":0}"#, r#"{"b":0}"#),
+// Why a value comes behind the one above, the value, and a text of the same value.
+const ASCENDING: &[(&str, &str, &str)] = &[
+    ("null's kind is the first", "null", "null"),
+    (
+        "booleans come behind null, and false first",
+        "false",
+        "false",
+    ),
+    ("true comes behind false", "true", "true"),
+    ("numbers come behind booleans", "-2", "-2"),
+    ("of two numbers below 0 the larger comes behind", "-1", "-1"),
+    ("0 comes behind all below it", "0", "0"),
+    ("numbers come in their order", "10", "10"),
+    (
+        "texts come behind numbers, and the empty one first",
+        r#""""#,
+        r#""""#,
+    ),
+    ("each text comes behind the empty one", r#""a""#, r#""a""#),
+    ("a text comes behind its beginning", r#""ab""#, r#""ab""#),
+    (
+        "the first bytes that differ decide of texts",
+        r#""b""#,
+        r#""b""#,
+    ),
+    (
+        "arrays come behind texts, and the empty one first",
+        "[]",
+        "[]",
+    ),
+    ("each array comes behind the empty one", "[1,[]]", "[1,[]]"),
+    (
+        "the first elements that differ decide, and no length",
+        "[2]",
+        "[2]",
+    ),
+    (
+        "objects come behind arrays, and the empty one first",
+        "{}",
+        "{}",
+    ),
+    (
+        "each object comes behind the empty one",
+        r#"{"a":1}"#,
+        r#"{"a":1}"#,
+    ),
+    (
+        "an object comes behind one of its first members",
+        r#"{"a":1,"b":0}"#,
+        r#"{"b":0,"a":1}"#,
+    ),
+    (
+        "under the same names the first values that differ decide",
+        r#"{"a":1,"b":2}"#,
+        r#"{"b":2,"a":1}"#,
+    ),
+    (
+        "the first names that differ decide before any value",
+        r#"{"b":0}"#,
+        r#"{"b":0}"#,
+    ),
 ];
 
 fn order(alloc: Global, text: &str, other: &str) -> Result<Ordering, Fault> {
@@ -40,34 +80,64 @@ fn stands_so(alloc: Global, text: &str, other: &str, wanted: Ordering) -> Result
     Ok(order(alloc, text, other)? == wanted)
 }
 
-fn expect_order(rt: &impl Abort, alloc: Global, index: usize, text: &str) {
+fn expect_order(rt: &impl Abort, alloc: Global, index: usize, row: &(&str, &str, &str)) {
+    let (why, text, _) = *row;
     for (other_index, other) in ASCENDING.iter().enumerate() {
         let wanted = index.cmp(&other_index);
-        expect_holds(rt, stands_so(alloc, text, other.1, wanted), text);
+        expect_holds(rt, stands_so(alloc, text, other.2, wanted), why);
     }
 }
 
 #[test]
 fn values_stand_by_kind_and_content(rt: HostRuntime) {
     for (index, row) in ASCENDING.iter().enumerate() {
-        expect_order(&rt, rt.alloc(), index, row.0);
+        expect_order(&rt, rt.alloc(), index, row);
     }
 }
 
-const LISTS: &[(&str, bool)] = &[
-    ("[]", true),
-    ("[1]", true),
-    (r#"[1,"1"]"#, true),
-    ("[false,0,null,\"\",[],{}]", true),
-    ("[[],{}]", true),
-    ("[[1],[1,2],[2]]", true),
-    (r#"[{"a":1},{"b":1},{"a":2}]"#, true),
-    ("[3,3]", false),
-    ("[3,1,2,3]", false),
-    (r#"[{"a":1,"b":2},{"b":2,"a":1}]"#, false),
-    (r#"[["a",[]],0,["a",[]]]"#, false),
-    (r#"{"a":1,"b":1}"#, true),
-    (r#""aa""#, true),
+// Why the elements of a value are unique or not, by the equality of Core, 4.2.2; the value, and whether they are.
+const LISTS: &[(&str, &str, bool)] = &[
+    ("no element stands twice in an empty array", "[]", true),
+    ("one element alone is no other's equal", "[1]", true),
+    ("a number is no string", r#"[1,"1"]"#, true),
+    (
+        "values of different kinds are never equal",
+        r#"[false,0,null,"",[],{}]"#,
+        true,
+    ),
+    ("an empty array is no empty object", "[[],{}]", true),
+    (
+        "arrays are equal by all their elements and their length",
+        "[[1],[1,2],[2]]",
+        true,
+    ),
+    (
+        "objects are equal by their names and their values",
+        r#"[{"a":1},{"b":1},{"a":2}]"#,
+        true,
+    ),
+    ("a number equals itself", "[3,3]", false),
+    (
+        "others may stand between two equal elements",
+        "[3,1,2,3]",
+        false,
+    ),
+    (
+        "the order of members doesn't count",
+        r#"[{"a":1,"b":2},{"b":2,"a":1}]"#,
+        false,
+    ),
+    (
+        "arrays are equal where all their elements are",
+        r#"[["a",[]],0,["a",[]]]"#,
+        false,
+    ),
+    (
+        "an object's values are no elements",
+        r#"{"a":1,"b":1}"#,
+        true,
+    ),
+    ("a string's characters are no elements", r#""aa""#, true),
 ];
 
 fn is_unique_as(alloc: Global, text: &str, wanted: bool) -> Result<bool, Fault> {
@@ -75,9 +145,9 @@ fn is_unique_as(alloc: Global, text: &str, wanted: bool) -> Result<bool, Fault> 
     Ok(is_unique(alloc, &doc)? == wanted)
 }
 
-fn expect_unique(rt: &impl Abort, alloc: Global, row: &(&str, bool)) {
-    let (text, wanted) = *row;
-    expect_holds(rt, is_unique_as(alloc, text, wanted), text);
+fn expect_unique(rt: &impl Abort, alloc: Global, row: &(&str, &str, bool)) {
+    let (why, text, wanted) = *row;
+    expect_holds(rt, is_unique_as(alloc, text, wanted), why);
 }
 
 #[test]

@@ -130,16 +130,25 @@ fn short_texts_stand_among_long_ones(rt: HostRuntime) {
     }
 }
 
-const NESTINGS: &[(&str, usize)] = &[("true", 0), ("[]", 1), (r#"{"a":[[null]]}"#, 3)];
+// Why a value nests so deep, the value, and how deep.
+const NESTINGS: &[(&str, &str, usize)] = &[
+    ("arrays and objects alone nest", "true", 0),
+    ("an array nests, though it be empty", "[]", 1),
+    (
+        "an object nests by one more than its deepest value",
+        r#"{"a":[[null]]}"#,
+        3,
+    ),
+];
 
 fn nests(alloc: Global, text: &str, depth: usize) -> Result<bool, Fault> {
     let doc = read(alloc, text.as_bytes())?;
     Ok(nesting(&doc) == depth)
 }
 
-fn expect_nesting(rt: &impl Abort, alloc: Global, row: &(&str, usize)) {
-    let (text, depth) = *row;
-    expect_holds(rt, nests(alloc, text, depth), text);
+fn expect_nesting(rt: &impl Abort, alloc: Global, row: &(&str, &str, usize)) {
+    let (why, text, depth) = *row;
+    expect_holds(rt, nests(alloc, text, depth), why);
 }
 
 #[test]
@@ -149,14 +158,57 @@ fn lists_and_objects_nest(rt: HostRuntime) {
     }
 }
 
-const PAIRS: &[(&str, &str, bool)] = &[
-    ("0", "1", false),
-    ("0", "false", false),
-    (r#""a""#, r#""b""#, false),
-    ("[null]", "[]", false),
-    (r#"{"a":null}"#, r#"{"b":null}"#, false),
-    (r#"{"a":null}"#, r#"{"a":null}"#, true),
-    (r#"{"a":["b"]}"#, r#"{"a":["b"]}"#, true),
+/// Two values that are equal or not, by Core, 4.2.2.
+struct Pair {
+    why: &'static str,
+    text: &'static str,
+    other: &'static str,
+    wanted: bool,
+}
+
+const PAIRS: &[Pair] = &[
+    Pair {
+        why: "numbers are equal by their value",
+        text: "0",
+        other: "1",
+        wanted: false,
+    },
+    Pair {
+        why: "a number is no boolean",
+        text: "0",
+        other: "false",
+        wanted: false,
+    },
+    Pair {
+        why: "strings are equal by their characters",
+        text: r#""a""#,
+        other: r#""b""#,
+        wanted: false,
+    },
+    Pair {
+        why: "equal arrays have as many elements",
+        text: "[null]",
+        other: "[]",
+        wanted: false,
+    },
+    Pair {
+        why: "equal objects have the same names",
+        text: r#"{"a":null}"#,
+        other: r#"{"b":null}"#,
+        wanted: false,
+    },
+    Pair {
+        why: "objects of the same names and equal values are equal",
+        text: r#"{"a":null}"#,
+        other: r#"{"a":null}"#,
+        wanted: true,
+    },
+    Pair {
+        why: "values within values are compared by the same rule",
+        text: r#"{"a":["b"]}"#,
+        other: r#"{"a":["b"]}"#,
+        wanted: true,
+    },
 ];
 
 fn are_same_as(alloc: Global, text: &str, other: &str, wanted: bool) -> Result<bool, Fault> {
@@ -166,9 +218,9 @@ fn are_same_as(alloc: Global, text: &str, other: &str, wanted: bool) -> Result<b
     Ok(same(&doc, &other) == wanted && same(&copied, &doc))
 }
 
-fn expect_pair(rt: &impl Abort, alloc: Global, row: &(&str, &str, bool)) {
-    let (text, other, wanted) = *row;
-    expect_holds(rt, are_same_as(alloc, text, other, wanted), text);
+fn expect_pair(rt: &impl Abort, alloc: Global, row: &Pair) {
+    let holds = are_same_as(alloc, row.text, row.other, row.wanted);
+    expect_holds(rt, holds, row.why);
 }
 
 #[test]

@@ -30,10 +30,12 @@ const MORE: &[RowRef<'static>] = &[
     },
 ];
 
-const BEFORE: &str = "t https://ex.org/s https://ex.org/s {}\n";
+const BEFORE: &str = r#"t https://ex.org/s https://ex.org/s {}
+"#;
 
-const AFTER: &str =
-    "t https://ex.org/a https://ex.org/b true\nt https://ex.org/s https://ex.org/s false\n";
+const AFTER: &str = r#"t https://ex.org/a https://ex.org/b true
+t https://ex.org/s https://ex.org/s false
+"#;
 
 /// What is found after a crash.
 #[derive(Clone, Copy, PartialEq)]

@@ -4,7 +4,7 @@
 #[cfg(test)]
 mod crashes;
 #[cfg(test)]
-mod kept_rows;
+mod rows_read_back;
 #[cfg(test)]
 mod stored_hubs;
 #[cfg(test)]

@@ -17,7 +17,7 @@ const SETTLED: &str = "https://ex.org/settled";
 
 const OPEN: &str = "https://ex.org/open";
 
-const TEXT: &str = "{\"const\":1}";
+const TEXT: &str = r#"{"const":1}"#;
 
 /// What an opening after a crash finds of two documents: the first was settled, the second was put behind it.
 #[derive(Clone, Copy, PartialEq)]

@@ -21,7 +21,7 @@ const CHANGES: &[(&str, &str, &str, &str)] = &[
         "b",
         "https://ex.org/s",
         "https://ex.org/x",
-        "{\"type\":\"string\"}",
+        r#"{"type":"string"}"#,
     ),
     ("b", "https://ex.org/s/t", "", "{}"),
     ("a", "https://ex.org/t", "https://ex.org/t", "{}"),
@@ -29,15 +29,54 @@ const CHANGES: &[(&str, &str, &str, &str)] = &[
     ("a", "https://ex.org/u", "", ""),
 ];
 
-const ROWS: &str = "a https://ex.org/s https://ex.org/s false\n\
-b https://ex.org/a https://ex.org/x true\n\
-b https://ex.org/s https://ex.org/x {\"type\":\"string\"}\n\
-b https://ex.org/s/t  {}\n";
+const ROWS: &str = r#"a https://ex.org/s https://ex.org/s false
+b https://ex.org/a https://ex.org/x true
+b https://ex.org/s https://ex.org/x {"type":"string"}
+b https://ex.org/s/t  {}
+"#;
 
 // The header of a log in SQLite's format, section 4.1: for pages of 1,024 bytes, with a count of checkpoints that only a
 // making writes, two salts and the checksum. Then the first bytes of a frame that isn't written.
 const BEGUN: &[u8] =
     b"7\x7f\x06\x82\x00-\xe2\x18\x00\x00\x04\x00\xff\xff\xff\xff\x01\x02\x03\x04\x05\x06\x07\x08\xd8\xd2\x05\x13\x98\xb4\xe2\xbc\x00\x00\x00\x00\x00\x00\x00\x00\x00";
+
+// The first page of a database whose first byte isn't written.
+const UNFINISHED: &[u8] = &[0; 1024];
+
+/// A log and a file, and whether they are no store.
+struct Opening {
+    why: &'static str,
+    log: &'static [u8],
+    db: &'static [u8],
+    is_foreign: bool,
+}
+
+const OPENINGS: &[Opening] = &[
+    Opening {
+        why: "an empty file is a new store (STORE.md)",
+        log: b"",
+        db: b"",
+        is_foreign: false,
+    },
+    Opening {
+        why: "a text begins with the bytes of no database (STORE.md)",
+        log: b"",
+        db: b"The names of all who were there.",
+        is_foreign: true,
+    },
+    Opening {
+        why: "a making that was cut off is taken for new (STORE.md)",
+        log: BEGUN,
+        db: UNFINISHED,
+        is_foreign: false,
+    },
+    Opening {
+        why: "a making is known by the log that was begun for it (STORE.md)",
+        log: b"",
+        db: UNFINISHED,
+        is_foreign: true,
+    },
+];
 
 fn change<D: DocumentStore>(
     store: &mut D,
@@ -96,23 +135,28 @@ fn is_foreign(alloc: Global, log: &[u8], db: &[u8]) -> Option<bool> {
     Some(open(alloc, files, 7).is_err_and(|fault| fault == OpenFault::Foreign))
 }
 
-fn expect_rows(rt: &impl Abort, rows: Option<(String, String)>) {
+fn expect_rows(rt: &impl Abort, rows: Option<(String, String)>, why: &str) {
     match rows {
         Some((rows, others)) => {
-            assert_eq!(rt; rows.as_str(), ROWS);
-            assert_eq!(rt; others.as_str(), ROWS);
+            assert_eq!(rt; rows.as_str(), ROWS, "{why}");
+            assert_eq!(rt; others.as_str(), ROWS, "{why}");
         }
-        None => panic!(rt; "refused"),
+        None => panic!(rt; "{why}: refused"),
+    }
+}
+
+fn expect_opening(rt: &impl Abort, alloc: Global, row: &Opening) {
+    if row.is_foreign {
+        let is_foreign = is_foreign(alloc, row.log, row.db);
+        assert!(rt; is_foreign == Some(true), "{}", row.why);
+    } else {
+        expect_rows(rt, read_back(alloc, row.log, row.db), row.why);
     }
 }
 
 #[test]
 fn reads_back_in_order(rt: HostRuntime) {
-    expect_rows(&rt, read_back(rt.alloc(), b"", b""));
-    // A text whose first bytes are those of no database.
-    let text = b"The names of all who were there.";
-    assert!(rt; is_foreign(rt.alloc(), b"", text) == Some(true));
-    // A making that was cut off: a page without its first byte, behind the log that was begun for it.
-    expect_rows(&rt, read_back(rt.alloc(), BEGUN, &[0; 1024]));
-    assert!(rt; is_foreign(rt.alloc(), b"", &[0; 1024]) == Some(true));
+    for row in OPENINGS {
+        expect_opening(&rt, rt.alloc(), row);
+    }
 }

@@ -91,7 +91,7 @@ const NAMES: &[Row] = &[
         "~01~10",
     ),
     (
-        "a percent sign stands in a fragment encoded alone (RFC 3986, 2.4)",
+        "a percent sign is encoded in a fragment alone (RFC 3986, 2.4)",
         "100%",
         "100%25",
         "100%",

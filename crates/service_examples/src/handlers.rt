@@ -18,7 +18,7 @@ fn reply_to(alloc: Global, request: &Request) -> Result<Reply, AllocError> {
     Ok(match request {
         Request::Put(_, _) => Reply::Stored(String::from_str(alloc, "https://ex.org/s")?, false),
         Request::Validate(_, _) => {
-            Reply::Output(String::from_str(alloc, "{\"annotations\":[],\"valid\":true}")?)
+            Reply::Output(String::from_str(alloc, r#"{"annotations":[],"valid":true}"#)?)
         }
         _ => Reply::Refused(Fault::NotFound),
     })

@@ -2,8 +2,8 @@
 
 use crate::sent_streams::{Step, expect_both, expect_steps, sent_in_two, sent_to_the_end};
 use crate::served_hubs::{
-    CLOSING, EXAMPLE, EXAMPLE_REPLIES, NOT_FOUND, OUTPUT, POST, PUT, PUT_FRONT, STORED,
-    hub_sessions, library_sessions, replies_to_front,
+    BATCH, BATCH_STORED, CLOSING, EXAMPLE, EXAMPLE_REPLIES, LAST_BAD_ROUTE, NOT_FOUND, OUTPUT,
+    POST, PUT, PUT_FRONT, STORED, UNKNOWN_TENANT, hub_sessions, library_sessions, replies_to_front,
 };
 use crate::texts::{expect_like, expect_same, filled};
 use connections::Sessions;
@@ -40,65 +40,114 @@ fn cut_off_after_each_byte(rt: HostRuntime) {
     }
 }
 
-// A stream, and what is sent for it and its end. A body has at most 1,048,576 bytes, and a batch at most 64 entries.
-const STREAMS: &[(&str, &str)] = &[
+const LAST_NOT_FOUND: &str =
+    "HTTP/1.1 404 Not Found\r\ncontent-type: application/json\r\ncontent-length: 30\r\nconnection: close\r\n\r\n{\"fault\":14,\"name\":\"NotFound\"}";
+
+const BAD_KEYWORD: &str =
+    "HTTP/1.1 400 Bad Request\r\ncontent-type: application/json\r\ncontent-length: 43\r\n\r\n{\"at\":\"/not\",\"fault\":8,\"name\":\"BadKeyword\"}";
+
+const BATCH_OF_AN_ARRAY: &str =
+    "POST /batch HTTP/1.1\r\nx-tenant-key: k1\r\ncontent-length: 87\r\n\r\n{\"put\":[{\"schema\":{},\"uri\":\"https://ex.org/a\"},{\"schema\":[],\"uri\":\"https://ex.org/b\"}]}";
+
+const SECOND_ENTRY_REFUSED: &str =
+    "HTTP/1.1 400 Bad Request\r\ncontent-type: application/json\r\ncontent-length: 40\r\n\r\n{\"entry\":1,\"fault\":6,\"name\":\"NotObject\"}";
+
+const BAD_ROUTE: &str =
+    "HTTP/1.1 404 Not Found\r\ncontent-type: application/json\r\ncontent-length: 30\r\n\r\n{\"fault\":36,\"name\":\"BadRoute\"}";
+
+const LONGEST_SCHEMA: &str =
+    "PUT /schemas?uri=https://ex.org/s HTTP/1.1\r\nx-tenant-key: k1\r\ncontent-length: 1048576\r\n\r\n{}«1048574* »";
+
+const LONGEST_INSTANCE: &str =
+    "PUT /schemas?uri=https://ex.org/s HTTP/1.1\r\nx-tenant-key: k1\r\ncontent-length: 2\r\n\r\n{}POST /validate?uri=https://ex.org/s HTTP/1.1\r\nx-tenant-key: k1\r\ncontent-length: 1048576\r\n\r\n\"«1048574*a»\"";
+
+const BATCH_OF_64: &str =
+    "POST /batch HTTP/1.1\r\nx-tenant-key: k1\r\ncontent-length: 2559\r\n\r\n{\"put\":[{\"schema\":{},\"uri\":\"https://ex.org/0\"}«63*,{\"schema\":{},\"uri\":\"https://ex.org/№\"}»]}";
+
+const ALL_64_STORED: &str =
+    "HTTP/1.1 201 Created\r\ncontent-type: application/json\r\ncontent-length: 2882\r\n\r\n{\"stored\":[{\"replaced\":false,\"uri\":\"https://ex.org/0\"}«63*,{\"replaced\":false,\"uri\":\"https://ex.org/№\"}»]}";
+
+// Why a stream is answered so, the stream, and what is sent for it and its end.
+const STREAMS: &[(&str, &str, &str)] = &[
     (
+        "a request of HTTP/1.0 is the last on its connection (HTTP.md)",
         "GET /bundle HTTP/1.0\r\n\r\nGET /bundle HTTP/1.0\r\n\r\n",
-        "HTTP/1.1 404 Not Found\r\ncontent-type: application/json\r\ncontent-length: 30\r\nconnection: close\r\n\r\n{\"fault\":36,\"name\":\"BadRoute\"}",
+        LAST_BAD_ROUTE,
     ),
-    ("TRACE / HTTP/1.1\r\n\r\n", CLOSING),
     (
+        "a method is PUT, DELETE, POST or GET (HTTP.md)",
+        "TRACE / HTTP/1.1\r\n\r\n",
+        CLOSING,
+    ),
+    (
+        "`content-length` stands once at most (HTTP.md)",
         "POST /validate?uri=a HTTP/1.1\r\ncontent-length: 1\r\ncontent-length: 1\r\n\r\nx",
         CLOSING,
     ),
-    ("POST /validate?uri=a HTTP/1.1\r\n\r\n", CLOSING),
     (
+        "a POST has to tell its body's length (HTTP.md)",
+        "POST /validate?uri=a HTTP/1.1\r\n\r\n",
+        CLOSING,
+    ),
+    (
+        "a body has 1,048,576 bytes at most (LIMITS.md)",
         "POST /validate?uri=a HTTP/1.1\r\ncontent-length: 1048577\r\n\r\n",
         CLOSING,
     ),
     (
+        "no `transfer-encoding` is taken (HTTP.md)",
         "GET /bundle?uri=a HTTP/1.1\r\ntransfer-encoding: chunked\r\n\r\n",
         CLOSING,
     ),
     (
+        "a request without a key is no tenant's (PROFILE.md, 24)",
         "GET /bundle?uri=a HTTP/1.1\r\n\r\n",
-        "HTTP/1.1 403 Forbidden\r\ncontent-type: application/json\r\ncontent-length: 35\r\n\r\n{\"fault\":24,\"name\":\"UnknownTenant\"}",
+        UNKNOWN_TENANT,
     ),
     (
+        "a header's name has letters of any case, and a DELETE's body is ignored",
         "DELETE /schemas?uri=https://ex.org/s HTTP/1.1\r\nX-Tenant-Key:  k1 \r\ncontent-length: 2\r\n\r\n{}\r\n",
         NOT_FOUND,
     ),
     (
+        "`close` has letters of any case, and others beside it (RFC 9110, 7.6.1)",
         "GET /bundle?uri=https%3A%2F%2Fex.org%2Fs HTTP/1.1\r\nx-tenant-key: k1\r\nconnection: keep-alive, Close\r\n\r\nTRACE",
-        "HTTP/1.1 404 Not Found\r\ncontent-type: application/json\r\ncontent-length: 30\r\nconnection: close\r\n\r\n{\"fault\":14,\"name\":\"NotFound\"}",
+        LAST_NOT_FOUND,
     ),
     (
+        "a fault is told with the pointer to its keyword (PROFILE.md, 8)",
         "PUT /schemas?uri=https://ex.org/s HTTP/1.1\r\nx-tenant-key: k1\r\ncontent-length: 9\r\n\r\n{\"not\":5}",
-        "HTTP/1.1 400 Bad Request\r\ncontent-type: application/json\r\ncontent-length: 43\r\n\r\n{\"at\":\"/not\",\"fault\":8,\"name\":\"BadKeyword\"}",
+        BAD_KEYWORD,
     ),
     (
-        "POST /batch HTTP/1.1\r\nx-tenant-key: k1\r\ncontent-length: 48\r\n\r\n{\"put\":[{\"schema\":{},\"uri\":\"https://ex.org/a\"}]}",
-        "HTTP/1.1 201 Created\r\ncontent-type: application/json\r\ncontent-length: 56\r\n\r\n{\"stored\":[{\"replaced\":false,\"uri\":\"https://ex.org/a\"}]}",
+        "a batch with a new document is answered by 201 (HTTP.md)",
+        BATCH,
+        BATCH_STORED,
     ),
     (
-        "POST /batch HTTP/1.1\r\nx-tenant-key: k1\r\ncontent-length: 87\r\n\r\n{\"put\":[{\"schema\":{},\"uri\":\"https://ex.org/a\"},{\"schema\":[],\"uri\":\"https://ex.org/b\"}]}",
-        "HTTP/1.1 400 Bad Request\r\ncontent-type: application/json\r\ncontent-length: 40\r\n\r\n{\"entry\":1,\"fault\":6,\"name\":\"NotObject\"}",
+        "the first entry that is refused is told, counted from 0 (HTTP.md)",
+        BATCH_OF_AN_ARRAY,
+        SECOND_ENTRY_REFUSED,
     ),
     (
+        "nothing follows `/batch` (HTTP.md)",
         "POST /batch?uri=x HTTP/1.1\r\nx-tenant-key: k1\r\ncontent-length: 2\r\n\r\n{}",
-        "HTTP/1.1 404 Not Found\r\ncontent-type: application/json\r\ncontent-length: 30\r\n\r\n{\"fault\":36,\"name\":\"BadRoute\"}",
+        BAD_ROUTE,
     ),
     (
-        "PUT /schemas?uri=https://ex.org/s HTTP/1.1\r\nx-tenant-key: k1\r\ncontent-length: 1048576\r\n\r\n{}«1048574* »",
+        "a schema of 1,048,576 bytes is the longest (LIMITS.md)",
+        LONGEST_SCHEMA,
         STORED,
     ),
     (
-        "PUT /schemas?uri=https://ex.org/s HTTP/1.1\r\nx-tenant-key: k1\r\ncontent-length: 2\r\n\r\n{}POST /validate?uri=https://ex.org/s HTTP/1.1\r\nx-tenant-key: k1\r\ncontent-length: 1048576\r\n\r\n\"«1048574*a»\"",
+        "an instance of 1,048,576 bytes is the longest (LIMITS.md)",
+        LONGEST_INSTANCE,
         EXAMPLE_REPLIES,
     ),
     (
-        "POST /batch HTTP/1.1\r\nx-tenant-key: k1\r\ncontent-length: 2559\r\n\r\n{\"put\":[{\"schema\":{},\"uri\":\"https://ex.org/0\"}«63*,{\"schema\":{},\"uri\":\"https://ex.org/№\"}»]}",
-        "HTTP/1.1 201 Created\r\ncontent-type: application/json\r\ncontent-length: 2882\r\n\r\n{\"stored\":[{\"replaced\":false,\"uri\":\"https://ex.org/0\"}«63*,{\"replaced\":false,\"uri\":\"https://ex.org/№\"}»]}",
+        "a batch of 64 entries is the largest (LIMITS.md)",
+        BATCH_OF_64,
+        ALL_64_STORED,
     ),
 ];
 
@@ -106,9 +155,9 @@ fn sent_for_filled(alloc: Global, stream: &str) -> Result<String, Fault> {
     sent_for(alloc, filled(alloc, stream)?.as_bytes())
 }
 
-fn expect_stream(rt: &impl Abort, alloc: Global, row: &(&str, &str)) {
-    let (stream, wanted) = *row;
-    expect_like(rt, alloc, sent_for_filled(alloc, stream), wanted, stream);
+fn expect_stream(rt: &impl Abort, alloc: Global, row: &(&str, &str, &str)) {
+    let (why, stream, wanted) = *row;
+    expect_like(rt, alloc, sent_for_filled(alloc, stream), wanted, why);
 }
 
 #[test]

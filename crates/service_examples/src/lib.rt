@@ -7,15 +7,17 @@ mod bundled_documents;
 #[cfg(test)]
 mod bundles;
 #[cfg(test)]
-mod cached_documents;
+mod document_facts;
+#[cfg(test)]
+mod documents_asked_again;
+#[cfg(test)]
+mod ended_connections;
 #[cfg(test)]
 mod handlers;
 #[cfg(test)]
 mod heads;
 #[cfg(test)]
 mod hub_connections;
-#[cfg(test)]
-mod kept_documents;
 #[cfg(test)]
 mod libraries;
 #[cfg(test)]

@@ -1,6 +1,6 @@
 //! Hubs over a fixed library, whose documents every tenant reaches and none owns.
 
-use crate::talks::{TWO_TENANTS, Talk, expect_talk, new_hub};
+use crate::talks::{TWO_TENANTS, Talk, VALID, expect_talk, new_hub};
 use crate::texts::expect_like;
 use std::alloc::Global;
 use std::process::Abort;
@@ -31,12 +31,20 @@ const OWNED: &[(&str, &str, &str)] = &[
         r#"batch {"put":[{"schema":{"$defs":{"e":{"$id":"lib"}}},"uri":"https://ex.org/t"}]}"#,
         "27 Taken https://ex.org/lib",
     ),
-    (
-        "k2",
-        "validate https://ex.org/lib 5",
-        r#"{"annotations":[],"valid":true}"#,
-    ),
+    ("k2", "validate https://ex.org/lib 5", VALID),
 ];
+
+const NO_INTEGER: &str =
+    r#"{"errors":[{"absoluteKeywordLocation":"https://ex.org/s#/$ref","error":"$ref is not met","instanceLocation":"","keywordLocation":"/$ref"},{"absoluteKeywordLocation":"https://ex.org/lib#/type","error":"type is not met","instanceLocation":"","keywordLocation":"/$ref/type"}],"valid":false}"#;
+
+const NO_STRING: &str =
+    r#"{"errors":[{"absoluteKeywordLocation":"https://ex.org/lib2#/$ref","error":"$ref is not met","instanceLocation":"","keywordLocation":"/$ref"},{"absoluteKeywordLocation":"https://ex.org/own#/type","error":"type is not met","instanceLocation":"","keywordLocation":"/$ref/type"}],"valid":false}"#;
+
+const BUNDLE_OF_LIB2: &str =
+    r#"{"$defs":{"https://ex.org/own":{"$id":"https://ex.org/own","type":"string"}},"$id":"https://ex.org/lib2","$ref":"own"}"#;
+
+const BUNDLE_OF_S: &str =
+    r#"{"$defs":{"https://ex.org/lib":{"$id":"https://ex.org/lib","type":"integer"}},"$id":"https://ex.org/s","$ref":"lib"}"#;
 
 const REACHED: &[(&str, &str, &str)] = &[
     (
@@ -49,49 +57,33 @@ const REACHED: &[(&str, &str, &str)] = &[
         r#"put https://ex.org/own {"type":"string"}"#,
         "stored https://ex.org/own",
     ),
-    (
-        "k1",
-        r#"validate https://ex.org/s "x""#,
-        r#"{"errors":[{"absoluteKeywordLocation":"https://ex.org/s#/$ref","error":"$ref is not met","instanceLocation":"","keywordLocation":"/$ref"},{"absoluteKeywordLocation":"https://ex.org/lib#/type","error":"type is not met","instanceLocation":"","keywordLocation":"/$ref/type"}],"valid":false}"#,
-    ),
-    (
-        "k1",
-        "validate https://ex.org/lib2 5",
-        r#"{"errors":[{"absoluteKeywordLocation":"https://ex.org/lib2#/$ref","error":"$ref is not met","instanceLocation":"","keywordLocation":"/$ref"},{"absoluteKeywordLocation":"https://ex.org/own#/type","error":"type is not met","instanceLocation":"","keywordLocation":"/$ref/type"}],"valid":false}"#,
-    ),
+    ("k1", r#"validate https://ex.org/s "x""#, NO_INTEGER),
+    ("k1", "validate https://ex.org/lib2 5", NO_STRING),
     (
         "k2",
         "validate https://ex.org/lib2 5",
         "15 Unresolved https://ex.org/own",
     ),
-    (
-        "k1",
-        "bundle https://ex.org/lib2",
-        r#"{"$defs":{"https://ex.org/own":{"$id":"https://ex.org/own","type":"string"}},"$id":"https://ex.org/lib2","$ref":"own"}"#,
-    ),
-    (
-        "k1",
-        "bundle https://ex.org/s",
-        r#"{"$defs":{"https://ex.org/lib":{"$id":"https://ex.org/lib","type":"integer"}},"$id":"https://ex.org/s","$ref":"lib"}"#,
-    ),
+    ("k1", "bundle https://ex.org/lib2", BUNDLE_OF_LIB2),
+    ("k1", "bundle https://ex.org/s", BUNDLE_OF_S),
     ("k1", "put https://ex.org/t {}", "28 QuotaDocuments"),
 ];
 
 const TALKS: &[Talk] = &[
-    (
-        "the library's documents stay",
-        TENANTS,
-        Some(LIBRARY),
-        &[256],
-        OWNED,
-    ),
-    (
-        "references run over both",
-        TENANTS,
-        Some(LIBRARY),
-        &[256],
-        REACHED,
-    ),
+    Talk {
+        why: "a library's documents are no tenant's to change (PROFILE.md, 34)",
+        tenants: TENANTS,
+        library: Some(LIBRARY),
+        capacities: &[256],
+        lines: OWNED,
+    },
+    Talk {
+        why: "references run from a tenant's documents into the library's and back",
+        tenants: TENANTS,
+        library: Some(LIBRARY),
+        capacities: &[256],
+        lines: REACHED,
+    },
 ];
 
 #[test]
@@ -101,37 +93,53 @@ fn hubs_over_a_library(rt: HostRuntime) {
     }
 }
 
-// A file of tenants, a library's batch, and what the hub is refused for.
-const REFUSED_LIBRARIES: &[(&str, &str, &str)] = &[
-    (TWO_TENANTS, "{", "1 BadJson"),
-    (TWO_TENANTS, "[0.5]", "2 BadNumber"),
-    (TWO_TENANTS, r#"{"put":[]}"#, "42 BadBatch"),
+// Why a library is refused, a file of tenants, the library's batch, and what the hub is refused for.
+const REFUSED_LIBRARIES: &[(&str, &str, &str, &str)] = &[
+    ("a library is JSON (HTTP.md)", TWO_TENANTS, "{", "1 BadJson"),
     (
+        "a library's numbers are whole numbers of 64 bits",
+        TWO_TENANTS,
+        "[0.5]",
+        "2 BadNumber",
+    ),
+    (
+        "a library is a batch of one entry at least (HTTP.md)",
+        TWO_TENANTS,
+        r#"{"put":[]}"#,
+        "42 BadBatch",
+    ),
+    (
+        "an entry's URI has a scheme (PROFILE.md, 25)",
         TWO_TENANTS,
         r#"{"put":[{"schema":{},"uri":"lib"}]}"#,
         "25 BadUri",
     ),
     (
+        "a document is an object (PROFILE.md, 6)",
         TWO_TENANTS,
         r#"{"put":[{"schema":[],"uri":"https://ex.org/lib"}]}"#,
         "6 NotObject",
     ),
     (
+        "a pattern is read by the grammar of `regex` (PROFILE.md, 5)",
         TWO_TENANTS,
         r#"{"put":[{"schema":{"pattern":"("},"uri":"https://ex.org/lib"}]}"#,
         "5 BadPattern",
     ),
     (
+        "without dot segments both entries have one URI (RFC 3986, 5.2.4)",
         TWO_TENANTS,
         r#"{"put":[{"schema":{},"uri":"https://ex.org/lib"},{"schema":{},"uri":"https://ex.org/./lib"}]}"#,
         "43 SameDocument https://ex.org/lib",
     ),
     (
+        "two documents open one URI (PROFILE.md, 27)",
         TWO_TENANTS,
         r#"{"put":[{"schema":{"$defs":{"e":{"$id":"b"}}},"uri":"https://ex.org/a"},{"schema":{},"uri":"https://ex.org/b"}]}"#,
         "27 Taken https://ex.org/b",
     ),
     (
+        "tenants are judged before the library",
         r#"{"tenants":[{"bytes":1,"documents":1,"key":"k1"},{"bytes":1,"documents":1,"key":"k1"}]}"#,
         "{",
         "22 DuplicateTenant",
@@ -144,9 +152,9 @@ fn refusal(alloc: Global, tenants: &str, library: &str) -> Result<String, Fault>
     Ok(String::new(alloc))
 }
 
-fn expect_refusal(rt: &impl Abort, alloc: Global, row: &(&str, &str, &str)) {
-    let (tenants, library, fault) = *row;
-    expect_like(rt, alloc, refusal(alloc, tenants, library), fault, library);
+fn expect_refusal(rt: &impl Abort, alloc: Global, row: &(&str, &str, &str, &str)) {
+    let (why, tenants, library, fault) = *row;
+    expect_like(rt, alloc, refusal(alloc, tenants, library), fault, why);
 }
 
 #[test]

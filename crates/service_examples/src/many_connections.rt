@@ -1,21 +1,13 @@
 //! Many connections side by side, whatever becomes ready and in whatever order.
 
 use crate::served_hubs::{
-    CLOSING, EXAMPLE, EXAMPLE_REPLIES, NOT_FOUND, OUTPUT, POST, PUT, PUT_FRONT, STORED,
+    EXAMPLE, EXAMPLE_REPLIES, LAST_BAD_ROUTE, NOT_FOUND, OUTPUT, POST, PUT, PUT_FRONT, STORED,
 };
-use crate::served_networks::{Outcome, expect_outcomes};
+use crate::served_networks::{ENOUGH, LAST, Outcome, Script, expect_script};
 use crate::texts::{filled, push_copies};
 use network::Happening::{self, *};
 use std::alloc::{AllocError, Global};
 use std::process::Abort;
-
-const ENOUGH: usize = 1_000_000;
-
-// A last request, and its reply.
-const LAST: &str = "GET /bundle HTTP/1.0\r\n\r\n";
-
-const LAST_REPLY: &str =
-    "HTTP/1.1 404 Not Found\r\ncontent-type: application/json\r\ncontent-length: 30\r\nconnection: close\r\n\r\n{\"fault\":36,\"name\":\"BadRoute\"}";
 
 fn push_byte<'a>(
     script: &mut Vec<Happening<'a>>,
@@ -56,16 +48,26 @@ fn taken_in_parts(alloc: Global, room: usize) -> Result<Vec<Happening<'static>>,
     Ok(script)
 }
 
-fn expect_of_script(
+fn expect_of_happenings(
     rt: &impl Abort,
     alloc: Global,
-    script: Result<Vec<Happening<'static>>, AllocError>,
+    why: &str,
+    happenings: Result<Vec<Happening<'static>>, AllocError>,
     outcomes: &[Outcome<'_>],
     told: &str,
 ) {
-    match script {
-        Ok(script) => expect_outcomes(rt, alloc, ENOUGH, &script, outcomes, told),
-        Err(_) => panic!(rt; "no room"),
+    match happenings {
+        Ok(happenings) => {
+            let script = Script {
+                why,
+                most_memory: ENOUGH,
+                happenings: &happenings,
+                outcomes,
+                told,
+            };
+            expect_script(rt, alloc, &script);
+        }
+        Err(_) => panic!(rt; "{why}: no room"),
     }
 }
 
@@ -73,37 +75,40 @@ fn expect_of_script(
 fn two_streams_in_turn_cut_after_each_byte(rt: HostRuntime) {
     let alloc = rt.alloc();
     let outcomes: &[Outcome] = &[(0, EXAMPLE_REPLIES, 0), (1, OUTPUT, 0)];
-    expect_of_script(&rt, alloc, cut_in_bytes(alloc, true), outcomes, "0+ 1+");
-    expect_of_script(&rt, alloc, cut_in_bytes(alloc, false), outcomes, "0+ 1+");
+    let why = "each byte belongs to its own connection's stream";
+    expect_of_happenings(
+        &rt,
+        alloc,
+        why,
+        cut_in_bytes(alloc, true),
+        outcomes,
+        "0+ 1+",
+    );
+    expect_of_happenings(
+        &rt,
+        alloc,
+        why,
+        cut_in_bytes(alloc, false),
+        outcomes,
+        "0+ 1+",
+    );
 }
 
 #[test]
 fn writes_that_take_a_part(rt: HostRuntime) {
     let alloc = rt.alloc();
     let outcomes: &[Outcome] = &[(0, EXAMPLE_REPLIES, 0)];
-    expect_of_script(&rt, alloc, taken_in_parts(alloc, 1), outcomes, "0+");
-    expect_of_script(&rt, alloc, taken_in_parts(alloc, 7), outcomes, "0+");
-    expect_of_script(&rt, alloc, taken_in_parts(alloc, 100), outcomes, "0+");
+    let why = "what a write doesn't take is written next";
+    expect_of_happenings(&rt, alloc, why, taken_in_parts(alloc, 1), outcomes, "0+");
+    expect_of_happenings(&rt, alloc, why, taken_in_parts(alloc, 7), outcomes, "0+");
+    expect_of_happenings(&rt, alloc, why, taken_in_parts(alloc, 100), outcomes, "0+");
 }
 
-// What all connections may keep, what happens, what becomes of them, and what is told.
-type Row = (
-    usize,
-    &'static [Happening<'static>],
-    &'static [Outcome<'static>],
-    &'static str,
-);
-
-fn expect_row(rt: &impl Abort, alloc: Global, row: &Row) {
-    let (most_memory, script, outcomes, told) = *row;
-    expect_outcomes(rt, alloc, most_memory, script, outcomes, told);
-}
-
-const WAITING_WRITES: &[Row] = &[
-    // A write that would wait goes on, and others meanwhile.
-    (
-        ENOUGH,
-        &[
+const WAITING_WRITES: &[Script<'static>] = &[
+    Script {
+        why: "a write that would wait goes on once it can, and others meanwhile",
+        most_memory: ENOUGH,
+        happenings: &[
             Opens(0),
             Opens(1),
             Takes(0, 0),
@@ -113,13 +118,13 @@ const WAITING_WRITES: &[Row] = &[
             Rests,
             Takes(0, ENOUGH),
         ],
-        &[(0, STORED, 0), (1, OUTPUT, 0)],
-        "0+ 1+",
-    ),
-    // A client that never reads isn't read any further, and others go on.
-    (
-        ENOUGH,
-        &[
+        outcomes: &[(0, STORED, 0), (1, OUTPUT, 0)],
+        told: "0+ 1+",
+    },
+    Script {
+        why: "a client that takes no replies isn't read any further, and others are (HTTP.md)",
+        most_memory: ENOUGH,
+        happenings: &[
             Opens(0),
             Takes(0, 0),
             Arrives(0, PUT),
@@ -132,13 +137,13 @@ const WAITING_WRITES: &[Row] = &[
             Rests,
             Arrives(1, PUT),
         ],
-        &[(0, "", 178), (1, "…", 0)],
-        "0+ 1+",
-    ),
-    // .. until it does.
-    (
-        ENOUGH,
-        &[
+        outcomes: &[(0, "", 178), (1, "…", 0)],
+        told: "0+ 1+",
+    },
+    Script {
+        why: "a client is read on once it takes its replies",
+        most_memory: ENOUGH,
+        happenings: &[
             Opens(0),
             Takes(0, 10),
             Arrives(0, PUT),
@@ -151,13 +156,13 @@ const WAITING_WRITES: &[Row] = &[
             Rests,
             Takes(0, ENOUGH),
         ],
-        &[(0, EXAMPLE_REPLIES, 0)],
-        "0+",
-    ),
-    // It takes too long.
-    (
-        ENOUGH,
-        &[
+        outcomes: &[(0, EXAMPLE_REPLIES, 0)],
+        told: "0+",
+    },
+    Script {
+        why: "a client that takes too long over its replies is let go (LIMITS.md)",
+        most_memory: ENOUGH,
+        happenings: &[
             Opens(0),
             Takes(0, 10),
             Arrives(0, PUT),
@@ -166,22 +171,23 @@ const WAITING_WRITES: &[Row] = &[
             Rests,
             Takes(0, ENOUGH),
         ],
-        &[(0, "HTTP/1.1 2", 0)],
-        "0+ 0-WriteFailed",
-    ),
+        outcomes: &[(0, "HTTP/1.1 2", 0)],
+        told: "0+ 0-WriteFailed",
+    },
 ];
 
 #[test]
 fn a_client_that_takes_no_replies_waits_alone(rt: HostRuntime) {
     for row in WAITING_WRITES {
-        expect_row(&rt, rt.alloc(), row);
+        expect_script(&rt, rt.alloc(), row);
     }
 }
 
-const SPURIOUS: &[Row] = &[
-    (
-        ENOUGH,
-        &[
+const SPURIOUS: &[Script<'static>] = &[
+    Script {
+        why: "a connection that is ready without a byte waits for one",
+        most_memory: ENOUGH,
+        happenings: &[
             Opens(0),
             Stirs(0),
             Stirs(0),
@@ -194,13 +200,13 @@ const SPURIOUS: &[Row] = &[
             Arrives(0, "}"),
             Stirs(0),
         ],
-        &[(0, STORED, 0)],
-        "0+",
-    ),
-    // Of one that has ended, and of one that never was.
-    (
-        ENOUGH,
-        &[
+        outcomes: &[(0, STORED, 0)],
+        told: "0+",
+    },
+    Script {
+        why: "nothing happens to who has ended, or who never came",
+        most_memory: ENOUGH,
+        happenings: &[
             Opens(0),
             Arrives(0, LAST),
             Rests,
@@ -212,13 +218,13 @@ const SPURIOUS: &[Row] = &[
             Opens(1),
             Arrives(1, POST),
         ],
-        &[(0, LAST_REPLY, 0), (1, OUTPUT, 0)],
-        "0+ 0- 1+",
-    ),
-    // A number that is given twice is nobody's.
-    (
-        ENOUGH,
-        &[
+        outcomes: &[(0, LAST_BAD_ROUTE, 0), (1, OUTPUT, 0)],
+        told: "0+ 0- 1+",
+    },
+    Script {
+        why: "a number isn't given twice, and each is above all before",
+        most_memory: ENOUGH,
+        happenings: &[
             Opens(3),
             Arrives(3, PUT_FRONT),
             Rests,
@@ -229,197 +235,23 @@ const SPURIOUS: &[Row] = &[
             Opens(2),
             Arrives(2, POST),
         ],
-        &[(3, "", 89), (2, "", 89)],
-        "3+ 3-IdInUse",
-    ),
+        outcomes: &[(3, "", 89), (2, "", 89)],
+        told: "3+ 3-IdInUse",
+    },
 ];
 
 #[test]
 fn readiness_that_tells_nothing(rt: HostRuntime) {
     for row in SPURIOUS {
-        expect_row(&rt, rt.alloc(), row);
+        expect_script(&rt, rt.alloc(), row);
     }
 }
 
-const ENDS: &[Row] = &[
-    // The stream ends behind a whole request, within one, behind nothing, and with bytes that are no request's.
-    (
-        ENOUGH,
-        &[Opens(0), Arrives(0, PUT), Ends(0)],
-        &[(0, STORED, 0)],
-        "0+ 0-",
-    ),
-    (
-        ENOUGH,
-        &[Opens(0), Arrives(0, PUT_FRONT), Ends(0)],
-        &[(0, CLOSING, 0)],
-        "0+ 0-",
-    ),
-    (ENOUGH, &[Opens(0), Ends(0)], &[(0, "", 0)], "0+ 0-"),
-    (
-        ENOUGH,
-        &[
-            Opens(0),
-            Arrives(0, "TRACE / HTTP/1.1\r\n\r\n"),
-            Rests,
-            Arrives(0, POST),
-        ],
-        &[(0, CLOSING, 89)],
-        "0+ 0-",
-    ),
-    // Its last words are taken in parts.
-    (
-        ENOUGH,
-        &[
-            Opens(0),
-            Takes(0, 1),
-            Arrives(0, PUT_FRONT),
-            Ends(0),
-            Rests,
-            Takes(0, 2),
-            Rests,
-            Takes(0, ENOUGH),
-        ],
-        &[(0, CLOSING, 0)],
-        "0+ 0-",
-    ),
-    // A last request: what comes behind it isn't answered.
-    (
-        ENOUGH,
-        &[Opens(0), Arrives(0, LAST), Arrives(0, POST)],
-        &[(0, LAST_REPLY, 89)],
-        "0+ 0-",
-    ),
-    // It ends in the round in which its reply is written, and one that ends its stream where it is told.
-    (
-        ENOUGH,
-        &[Opens(0), Arrives(0, LAST), Ceases],
-        &[(0, LAST_REPLY, 0)],
-        "0+ 0-",
-    ),
-    (
-        ENOUGH,
-        &[Opens(0), Arrives(0, PUT), Rests, Ends(0), Ceases],
-        &[(0, STORED, 0)],
-        "0+ 0-",
-    ),
-    // It is late, with nothing to be sent, and within a request.
-    (
-        ENOUGH,
-        &[Opens(0), Rests, Tires(0)],
-        &[(0, "", 0)],
-        "0+ 0-ReadFailed",
-    ),
-    (
-        ENOUGH,
-        &[Opens(0), Arrives(0, PUT_FRONT), Rests, Tires(0)],
-        &[(0, "", 0)],
-        "0+ 0-ReadFailed",
-    ),
-    // Its reads fail, and its writes.
-    (
-        ENOUGH,
-        &[
-            Opens(0),
-            Arrives(0, PUT_FRONT),
-            Rests,
-            Breaks(0),
-            Rests,
-            Opens(1),
-            Arrives(1, POST),
-        ],
-        &[(0, "", 0), (1, OUTPUT, 0)],
-        "0+ 0-ReadFailed 1+",
-    ),
-    (
-        ENOUGH,
-        &[
-            Opens(0),
-            Takes(0, 3),
-            Arrives(0, PUT),
-            Rests,
-            Breaks(0),
-            Rests,
-            Opens(1),
-            Arrives(1, POST),
-        ],
-        &[(0, "HTT", 0), (1, OUTPUT, 0)],
-        "0+ 0-WriteFailed 1+",
-    ),
-    // What comes on one that was late, or failed, isn't read any more.
-    (
-        ENOUGH,
-        &[Opens(0), Rests, Tires(0), Rests, Arrives(0, POST)],
-        &[(0, "", 89)],
-        "0+ 0-ReadFailed",
-    ),
-    (
-        ENOUGH,
-        &[Opens(0), Breaks(0), Rests, Arrives(0, POST)],
-        &[(0, "", 89)],
-        "0+ 0-ReadFailed",
-    ),
-    (
-        ENOUGH,
-        &[
-            Opens(0),
-            Takes(0, 3),
-            Arrives(0, PUT),
-            Rests,
-            Breaks(0),
-            Rests,
-            Arrives(0, POST),
-        ],
-        &[(0, "HTT", 89)],
-        "0+ 0-WriteFailed",
-    ),
-];
-
-#[test]
-fn each_end_is_that_of_one_connection(rt: HostRuntime) {
-    for row in ENDS {
-        expect_row(&rt, rt.alloc(), row);
-    }
-}
-
-const OVER: &[Row] = &[
-    // Bytes that aren't taken at the end are dropped; those of the last round are written.
-    (
-        ENOUGH,
-        &[Opens(0), Takes(0, 5), Arrives(0, PUT)],
-        &[(0, "HTTP/", 0)],
-        "0+",
-    ),
-    (
-        ENOUGH,
-        &[
-            Opens(0),
-            Opens(1),
-            Takes(1, 0),
-            Arrives(0, PUT),
-            Arrives(1, PUT),
-            Ceases,
-            Arrives(0, POST),
-        ],
-        &[(0, STORED, 89), (1, "", 0)],
-        "0+ 1+",
-    ),
-    (ENOUGH, &[], &[], ""),
-];
-
-#[test]
-fn the_end_with_bytes_to_be_sent(rt: HostRuntime) {
-    for row in OVER {
-        expect_row(&rt, rt.alloc(), row);
-    }
-}
-
-// A request of 100 bytes in all but for its last byte, and another.
-const MEMORY: &[Row] = &[
-    // While one keeps more than all may, others aren't read, and it may finish.
-    (
-        50,
-        &[
+const MEMORY: &[Script<'static>] = &[
+    Script {
+        why: "while one holds more than all may, no other is read (LIMITS.md)",
+        most_memory: 50,
+        happenings: &[
             Opens(0),
             Opens(1),
             Arrives(0, PUT_FRONT),
@@ -428,12 +260,13 @@ const MEMORY: &[Row] = &[
             Rests,
             Rests,
         ],
-        &[(0, "", 0), (1, "", 89)],
-        "0+ 1+",
-    ),
-    (
-        50,
-        &[
+        outcomes: &[(0, "", 0), (1, "", 89)],
+        told: "0+ 1+",
+    },
+    Script {
+        why: "the one that holds too much is read on, and then the others (LIMITS.md)",
+        most_memory: 50,
+        happenings: &[
             Opens(0),
             Opens(1),
             Arrives(0, PUT_FRONT),
@@ -444,13 +277,13 @@ const MEMORY: &[Row] = &[
             Rests,
             Rests,
         ],
-        &[(0, STORED, 0), (1, OUTPUT, 0)],
-        "0+ 1+",
-    ),
-    // Replies that aren't taken count too, until their client is let go.
-    (
-        50,
-        &[
+        outcomes: &[(0, STORED, 0), (1, OUTPUT, 0)],
+        told: "0+ 1+",
+    },
+    Script {
+        why: "replies that aren't taken are held until their client is let go",
+        most_memory: 50,
+        happenings: &[
             Opens(0),
             Opens(1),
             Takes(0, 0),
@@ -462,43 +295,48 @@ const MEMORY: &[Row] = &[
             Rests,
             Rests,
         ],
-        &[(0, "", 0), (1, OUTPUT, 0)],
-        "0+ 1+ 0-WriteFailed",
-    ),
-    // Nothing may be kept, and one alone is served.
-    (
-        0,
-        &[
+        outcomes: &[(0, "", 0), (1, OUTPUT, 0)],
+        told: "0+ 1+ 0-WriteFailed",
+    },
+    Script {
+        why: "where nothing may be held, one alone is read on (LIMITS.md)",
+        most_memory: 0,
+        happenings: &[
             Opens(0),
             Arrives(0, PUT_FRONT),
             Rests,
             Arrives(0, "}"),
             Arrives(0, POST),
         ],
-        &[(0, EXAMPLE_REPLIES, 0)],
-        "0+",
-    ),
+        outcomes: &[(0, EXAMPLE_REPLIES, 0)],
+        told: "0+",
+    },
 ];
 
 #[test]
 fn memory_that_all_may_take(rt: HostRuntime) {
     for row in MEMORY {
-        expect_row(&rt, rt.alloc(), row);
+        expect_script(&rt, rt.alloc(), row);
     }
 }
 
 fn expect_long<'x>(rt: &impl Abort, alloc: Global, body: &'x str, many: &'x str, replies: &'x str) {
-    let script = &[
-        Opens(0),
-        Opens(1),
-        Arrives(0, body),
-        Arrives(1, many),
-        Rests,
-        Ends(0),
-        Ends(1),
-    ];
-    let outcomes: &[Outcome] = &[(0, STORED, 0), (1, replies, 0)];
-    expect_outcomes(rt, alloc, ENOUGH, script, outcomes, "0+ 1+ 0- 1-");
+    let script = Script {
+        why: "a body may come in any number of pieces",
+        most_memory: ENOUGH,
+        happenings: &[
+            Opens(0),
+            Opens(1),
+            Arrives(0, body),
+            Arrives(1, many),
+            Rests,
+            Ends(0),
+            Ends(1),
+        ],
+        outcomes: &[(0, STORED, 0), (1, replies, 0)],
+        told: "0+ 1+ 0- 1-",
+    };
+    expect_script(rt, alloc, &script);
 }
 
 fn forty(alloc: Global, piece: &str) -> Result<String, AllocError> {

@@ -45,46 +45,170 @@ fn hub_refusal(
     Ok(String::new(alloc))
 }
 
-// How many tenants there are before those with these keys, the capacity, and the fault.
-const SERVERS: &[(usize, &[&str], usize, &str)] = &[
-    // The capacity is judged first.
-    (0, &[], 1, ""),
-    (0, &[], 4096, ""),
-    (0, &[], 4097, "21 BadCapacity"),
-    (0, &[], 0, "21 BadCapacity"),
-    (65, &[], 0, "21 BadCapacity"),
-    (64, &["k64"], 0, "21 BadCapacity"),
-    (64, &["k64"], 4097, "21 BadCapacity"),
-    // Tenants are counted before their keys are judged.
-    (64, &[], 256, ""),
-    (64, &[""], 256, "23 TooManyTenants"),
-    (63, &["~"], 4096, ""),
-    // Keys are judged before repeats.
-    (0, &["k1", "k1", "a b"], 256, "35 BadTenants"),
-    (0, &["k1", "k2", "k1"], 256, "22 DuplicateTenant"),
-    (0, &["k1", "K1", "k1 "], 256, "35 BadTenants"),
-    (0, &["!", "~", "k1", "K1"], 256, ""),
-    (2, &["a b"], 256, "35 BadTenants"),
-    (1, &["k0"], 1, "22 DuplicateTenant"),
-    // Keys have 64 characters at most.
-    (0, &["«64*k»"], 256, ""),
-    (0, &["«65*k»"], 256, "35 BadTenants"),
-    (0, &[""], 256, "35 BadTenants"),
-    (0, &["ä"], 256, "35 BadTenants"),
-    (0, &["\u{7f}"], 256, "35 BadTenants"),
+/// How many tenants there are before those with these keys, the capacity, and the fault.
+struct Server {
+    why: &'static str,
+    count: usize,
+    keys: &'static [&'static str],
+    capacity: usize,
+    fault: &'static str,
+}
+
+const SERVERS: &[Server] = &[
+    Server {
+        why: "one document is the least that a cache keeps (LIMITS.md)",
+        count: 0,
+        keys: &[],
+        capacity: 1,
+        fault: "",
+    },
+    Server {
+        why: "4,096 documents are the most that a cache keeps (LIMITS.md)",
+        count: 0,
+        keys: &[],
+        capacity: 4096,
+        fault: "",
+    },
+    Server {
+        why: "a cache doesn't keep 4,097 documents (LIMITS.md)",
+        count: 0,
+        keys: &[],
+        capacity: 4097,
+        fault: "21 BadCapacity",
+    },
+    Server {
+        why: "a cache keeps one document at least (LIMITS.md)",
+        count: 0,
+        keys: &[],
+        capacity: 0,
+        fault: "21 BadCapacity",
+    },
+    Server {
+        why: "the capacity is judged before tenants are counted",
+        count: 65,
+        keys: &[],
+        capacity: 0,
+        fault: "21 BadCapacity",
+    },
+    Server {
+        why: "the capacity is judged first, whatever the last key is",
+        count: 64,
+        keys: &["k64"],
+        capacity: 0,
+        fault: "21 BadCapacity",
+    },
+    Server {
+        why: "too large a capacity is told first as well",
+        count: 64,
+        keys: &["k64"],
+        capacity: 4097,
+        fault: "21 BadCapacity",
+    },
+    Server {
+        why: "64 tenants are the most (LIMITS.md)",
+        count: 64,
+        keys: &[],
+        capacity: 256,
+        fault: "",
+    },
+    Server {
+        why: "tenants are counted before their keys are judged",
+        count: 64,
+        keys: &[""],
+        capacity: 256,
+        fault: "23 TooManyTenants",
+    },
+    Server {
+        why: "`~` is the last of the characters of keys (HTTP.md)",
+        count: 63,
+        keys: &["~"],
+        capacity: 4096,
+        fault: "",
+    },
+    Server {
+        why: "keys are judged before they are compared",
+        count: 0,
+        keys: &["k1", "k1", "a b"],
+        capacity: 256,
+        fault: "35 BadTenants",
+    },
+    Server {
+        why: "keys are compared with all before",
+        count: 0,
+        keys: &["k1", "k2", "k1"],
+        capacity: 256,
+        fault: "22 DuplicateTenant",
+    },
+    Server {
+        why: "a blank behind a key is a character of it, and not visible",
+        count: 0,
+        keys: &["k1", "K1", "k1 "],
+        capacity: 256,
+        fault: "35 BadTenants",
+    },
+    Server {
+        why: "keys are told by the case of their letters",
+        count: 0,
+        keys: &["!", "~", "k1", "K1"],
+        capacity: 256,
+        fault: "",
+    },
+    Server {
+        why: "a blank within a key isn't visible (HTTP.md)",
+        count: 2,
+        keys: &["a b"],
+        capacity: 256,
+        fault: "35 BadTenants",
+    },
+    Server {
+        why: "a key is compared with the first of all, too",
+        count: 1,
+        keys: &["k0"],
+        capacity: 1,
+        fault: "22 DuplicateTenant",
+    },
+    Server {
+        why: "a key of 64 characters is the longest (HTTP.md)",
+        count: 0,
+        keys: &["«64*k»"],
+        capacity: 256,
+        fault: "",
+    },
+    Server {
+        why: "a key of 65 characters is too long (HTTP.md)",
+        count: 0,
+        keys: &["«65*k»"],
+        capacity: 256,
+        fault: "35 BadTenants",
+    },
+    Server {
+        why: "a key has one character at least (HTTP.md)",
+        count: 0,
+        keys: &[""],
+        capacity: 256,
+        fault: "35 BadTenants",
+    },
+    Server {
+        why: "a key's characters are of ASCII (HTTP.md)",
+        count: 0,
+        keys: &["ä"],
+        capacity: 256,
+        fault: "35 BadTenants",
+    },
+    Server {
+        why: "DEL is no visible character (HTTP.md)",
+        count: 0,
+        keys: &["\u{7f}"],
+        capacity: 256,
+        fault: "35 BadTenants",
+    },
 ];
 
-fn expect_server(rt: &impl Abort, alloc: Global, row: &(usize, &[&str], usize, &str)) {
-    let (count, keys, capacity, fault) = *row;
-    expect_like(
-        rt,
-        alloc,
-        refusal(alloc, count, keys, capacity),
-        fault,
-        "a server",
-    );
-    let found = hub_refusal(alloc, count, keys, capacity);
-    expect_like(rt, alloc, found, fault, "a hub");
+fn expect_server(rt: &impl Abort, alloc: Global, row: &Server) {
+    let found = refusal(alloc, row.count, row.keys, row.capacity);
+    expect_like(rt, alloc, found, row.fault, row.why);
+    let found = hub_refusal(alloc, row.count, row.keys, row.capacity);
+    expect_like(rt, alloc, found, row.fault, row.why);
 }
 
 #[test]

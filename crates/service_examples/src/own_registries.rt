@@ -73,18 +73,37 @@ const CACHE_OF_TWO: &[(&str, &str)] = &[
 
 const EMPTY_LIBRARY: &[(&str, &str)] = &[("say https://ex.org/lib", "14 NotFound")];
 
-// A library, a cache's capacity, the most documents of the registry, and what it is asked and answers.
-type Row = (
-    Option<&'static str>,
-    usize,
-    u32,
-    &'static [(&'static str, &'static str)],
-);
+/// A library, a cache's capacity, the most documents of the registry, and what it is asked and answers.
+struct Alone {
+    why: &'static str,
+    library: Option<&'static str>,
+    capacity: usize,
+    documents: u32,
+    lines: &'static [(&'static str, &'static str)],
+}
 
-const REGISTRIES: &[Row] = &[
-    (Some(LIBRARY), 1, 2, OVER_A_LIBRARY),
-    (None, 2, 3, CACHE_OF_TWO),
-    (None, 1, 2, EMPTY_LIBRARY),
+const REGISTRIES: &[Alone] = &[
+    Alone {
+        why: "a document refers into the library, and to no document that is gone",
+        library: Some(LIBRARY),
+        capacity: 1,
+        documents: 2,
+        lines: OVER_A_LIBRARY,
+    },
+    Alone {
+        why: "a cache of two documents keeps two at most (LIMITS.md)",
+        library: None,
+        capacity: 2,
+        documents: 3,
+        lines: CACHE_OF_TWO,
+    },
+    Alone {
+        why: "without a library its documents aren't there",
+        library: None,
+        capacity: 1,
+        documents: 2,
+        lines: EMPTY_LIBRARY,
+    },
 ];
 
 fn expect_line(
@@ -122,16 +141,15 @@ fn new_registry(alloc: Global, batch: Option<&str>, documents: u32) -> Result<Re
     Ok(Registry::new(library, documents, 100, alloc))
 }
 
-fn expect_registry(rt: &impl Abort, alloc: Global, row: &Row) {
-    let (batch, capacity, documents, lines) = *row;
+fn expect_registry(rt: &impl Abort, alloc: Global, row: &Alone) {
     match (
-        Cache::new(alloc, capacity),
-        new_registry(alloc, batch, documents),
+        Cache::new(alloc, row.capacity),
+        new_registry(alloc, row.library, row.documents),
     ) {
         (Ok(mut cache), Ok(mut registry)) => {
-            expect_lines(rt, alloc, &mut registry, &mut cache, lines);
+            expect_lines(rt, alloc, &mut registry, &mut cache, row.lines);
         }
-        _ => panic!(rt; "refused"),
+        _ => panic!(rt; "{}: refused", row.why),
     }
 }
 

@@ -2,32 +2,23 @@
 
 use crate::talks::{SMALL_TENANT, TWO_TENANTS, Talk, VALID, expect_talk};
 
+const NO_MATCH: &str =
+    r#"{"errors":[{"absoluteKeywordLocation":"https://ex.org/s#/pattern","error":"pattern is not met","instanceLocation":"","keywordLocation":"/pattern"}],"valid":false}"#;
+
 const REFUSED_PUT: &[(&str, &str, &str)] = &[
     (
         "k1",
         r#"put https://ex.org/s {"pattern":"a+"}"#,
         "stored https://ex.org/s",
     ),
-    (
-        "k1",
-        r#"validate https://ex.org/s "xaay""#,
-        r#"{"annotations":[],"valid":true}"#,
-    ),
+    ("k1", r#"validate https://ex.org/s "xaay""#, VALID),
     (
         "k1",
         r#"put https://ex.org/s {"pattern":"(?=a)"}"#,
         "5 BadPattern",
     ),
-    (
-        "k1",
-        r#"validate https://ex.org/s "xaay""#,
-        r#"{"annotations":[],"valid":true}"#,
-    ),
-    (
-        "k1",
-        r#"validate https://ex.org/s "xy""#,
-        r#"{"errors":[{"absoluteKeywordLocation":"https://ex.org/s#/pattern","error":"pattern is not met","instanceLocation":"","keywordLocation":"/pattern"}],"valid":false}"#,
-    ),
+    ("k1", r#"validate https://ex.org/s "xaay""#, VALID),
+    ("k1", r#"validate https://ex.org/s "xy""#, NO_MATCH),
 ];
 
 const TAKEN: &[(&str, &str, &str)] = &[
@@ -42,11 +33,7 @@ const TAKEN: &[(&str, &str, &str)] = &[
         r#"put https://ex.org/z {"$defs":{"e":{"$id":"w"}}}"#,
         "stored https://ex.org/z",
     ),
-    (
-        "k1",
-        "validate https://ex.org/w null",
-        r#"{"annotations":[],"valid":true}"#,
-    ),
+    ("k1", "validate https://ex.org/w null", VALID),
     ("k1", "put https://ex.org/w {}", "27 Taken https://ex.org/w"),
     (
         "k1",
@@ -83,11 +70,7 @@ const REFERENCES: &[(&str, &str, &str)] = &[
         "15 Unresolved https://ex.org/q",
     ),
     ("k1", "put https://ex.org/q {}", "stored https://ex.org/q"),
-    (
-        "k1",
-        "validate https://ex.org/s null",
-        r#"{"annotations":[],"valid":true}"#,
-    ),
+    ("k1", "validate https://ex.org/s null", VALID),
     ("k1", "delete https://ex.org/p", "deleted https://ex.org/p"),
     (
         "k1",
@@ -125,11 +108,7 @@ const URIS: &[(&str, &str, &str)] = &[
         "put https://ex.org/x/../a {}",
         "stored https://ex.org/a",
     ),
-    (
-        "k1",
-        "validate https://ex.org/./a null",
-        r#"{"annotations":[],"valid":true}"#,
-    ),
+    ("k1", "validate https://ex.org/./a null", VALID),
     (
         "k1",
         "bundle https://ex.org/y/../a",
@@ -146,11 +125,7 @@ const URIS: &[(&str, &str, &str)] = &[
         r#"put https://ex.org/a/c/x {"$id":"../b"}"#,
         "stored https://ex.org/a/b",
     ),
-    (
-        "k1",
-        "validate https://ex.org/a/b null",
-        r#"{"annotations":[],"valid":true}"#,
-    ),
+    ("k1", "validate https://ex.org/a/b null", VALID),
     ("k1", "validate https://ex.org/a/c/x null", "14 NotFound"),
     (
         "k1",
@@ -254,62 +229,62 @@ const LONG_BODIES: &[(&str, &str, &str)] = &[
 ];
 
 const TALKS: &[Talk] = &[
-    (
-        "a refused put leaves the old document",
-        TWO_TENANTS,
-        None,
-        &[256],
-        REFUSED_PUT,
-    ),
-    (
-        "a resource belongs to one document",
-        TWO_TENANTS,
-        None,
-        &[1, 2, 4096],
-        TAKEN,
-    ),
-    (
-        "each reference of a reached document has a target",
-        TWO_TENANTS,
-        None,
-        &[1],
-        REFERENCES,
-    ),
-    (
-        "quotas are judged on what is left",
-        SMALL_TENANT,
-        None,
-        &[256],
-        QUOTAS,
-    ),
-    (
-        "documents are named by their canonical uris",
-        TWO_TENANTS,
-        None,
-        &[256],
-        URIS,
-    ),
-    (
-        "documents with a fault are not stored",
-        TWO_TENANTS,
-        None,
-        &[256],
-        REFUSED_DOCUMENTS,
-    ),
-    (
-        "validations are refused by the first fault",
-        TWO_TENANTS,
-        None,
-        &[256],
-        REFUSED_VALIDATIONS,
-    ),
-    (
-        "bodies have 1048576 bytes at most",
-        TWO_TENANTS,
-        None,
-        &[1],
-        LONG_BODIES,
-    ),
+    Talk {
+        why: "a refused put leaves the old document",
+        tenants: TWO_TENANTS,
+        library: None,
+        capacities: &[256],
+        lines: REFUSED_PUT,
+    },
+    Talk {
+        why: "a resource belongs to one document",
+        tenants: TWO_TENANTS,
+        library: None,
+        capacities: &[1, 2, 4096],
+        lines: TAKEN,
+    },
+    Talk {
+        why: "each reference of a reached document has a target",
+        tenants: TWO_TENANTS,
+        library: None,
+        capacities: &[1],
+        lines: REFERENCES,
+    },
+    Talk {
+        why: "quotas are judged on what is left",
+        tenants: SMALL_TENANT,
+        library: None,
+        capacities: &[256],
+        lines: QUOTAS,
+    },
+    Talk {
+        why: "documents are named by their canonical URIs",
+        tenants: TWO_TENANTS,
+        library: None,
+        capacities: &[256],
+        lines: URIS,
+    },
+    Talk {
+        why: "documents with a fault are not stored",
+        tenants: TWO_TENANTS,
+        library: None,
+        capacities: &[256],
+        lines: REFUSED_DOCUMENTS,
+    },
+    Talk {
+        why: "validations are refused by the first fault",
+        tenants: TWO_TENANTS,
+        library: None,
+        capacities: &[256],
+        lines: REFUSED_VALIDATIONS,
+    },
+    Talk {
+        why: "bodies have 1,048,576 bytes at most (LIMITS.md)",
+        tenants: TWO_TENANTS,
+        library: None,
+        capacities: &[1],
+        lines: LONG_BODIES,
+    },
 ];
 
 #[test]

@@ -6,6 +6,9 @@ use std::alloc::Global;
 use std::process::Abort;
 use tenant_hub::{Fault, Hub};
 
+const BUNDLE_OF_ROOT: &str =
+    r#"{"$defs":{"https://ex.org/b":{"$id":"https://ex.org/b","type":"integer"}},"$id":"https://ex.org/root","properties":{"a":{"$ref":"b"}}}"#;
+
 const BUNDLES: &[(&str, &str, &str)] = &[
     ("k1", "put https://ex.org/s {}", "stored https://ex.org/s"),
     (
@@ -28,11 +31,7 @@ const BUNDLES: &[(&str, &str, &str)] = &[
         r#"put https://ex.org/b {"type":"integer"}"#,
         "stored https://ex.org/b",
     ),
-    (
-        "k1",
-        "bundle https://ex.org/root",
-        r#"{"$defs":{"https://ex.org/b":{"$id":"https://ex.org/b","type":"integer"}},"$id":"https://ex.org/root","properties":{"a":{"$ref":"b"}}}"#,
-    ),
+    ("k1", "bundle https://ex.org/root", BUNDLE_OF_ROOT),
     (
         "k1",
         r#"put https://ex.org/root {"$defs":{"https://ex.org/b":{}},"$ref":"b"}"#,
@@ -77,20 +76,20 @@ const NESTED: &[(&str, &str, &str)] = &[
 ];
 
 const TALKS: &[Talk] = &[
-    (
-        "bundles are replied or refused",
-        TWO_TENANTS,
-        None,
-        &[1],
-        BUNDLES,
-    ),
-    (
-        "replied bundles nest 120 deep at most",
-        TWO_TENANTS,
-        None,
-        &[1],
-        NESTED,
-    ),
+    Talk {
+        why: "a bundle is of a document whose references all lead somewhere",
+        tenants: TWO_TENANTS,
+        library: None,
+        capacities: &[1],
+        lines: BUNDLES,
+    },
+    Talk {
+        why: "a replied bundle nests 120 deep at most (LIMITS.md)",
+        tenants: TWO_TENANTS,
+        library: None,
+        capacities: &[1],
+        lines: NESTED,
+    },
 ];
 
 #[test]
@@ -100,61 +99,67 @@ fn bundles_are_replied_or_refused(rt: HostRuntime) {
     }
 }
 
-// What the first tenant puts, the canonical URI that it bundles, and instances that both ask of.
-type StandingAlone = (
-    &'static [&'static str],
-    &'static str,
-    &'static [&'static str],
-);
+/// What the first tenant puts, the canonical URI that it bundles, and instances that both ask of.
+struct StandingAlone {
+    why: &'static str,
+    puts: &'static [&'static str],
+    uri: &'static str,
+    instances: &'static [&'static str],
+}
 
 const STANDING_ALONE: &[StandingAlone] = &[
-    (
-        &[
+    StandingAlone {
+        why: "a document in `$defs` is found by its `$id` (Core, 9.3)",
+        puts: &[
             r#"put https://ex.org/root {"properties":{"a":{"$ref":"b"}}}"#,
             r#"put https://ex.org/b {"type":"integer"}"#,
         ],
-        "https://ex.org/root",
-        &[r#"{"a":"x"}"#, r#"{"a":1}"#, "null", "[1"],
-    ),
-    (
-        &[
+        uri: "https://ex.org/root",
+        instances: &[r#"{"a":"x"}"#, r#"{"a":1}"#, "null", "[1"],
+    },
+    StandingAlone {
+        why: "two documents may refer to one another",
+        puts: &[
             r#"put https://ex.org/root {"$ref":"b"}"#,
             r#"put https://ex.org/b {"$ref":"root"}"#,
         ],
-        "https://ex.org/root",
-        &["1", "{}"],
-    ),
-    (
-        &[
+        uri: "https://ex.org/root",
+        instances: &["1", "{}"],
+    },
+    StandingAlone {
+        why: "the outermost dynamic anchor is the root's (Core, 8.2.3.2)",
+        puts: &[
             r##"put https://example.com/tree {"$dynamicAnchor":"node","type":"object","properties":{"data":true,"children":{"type":"array","items":{"$dynamicRef":"#node"}}}}"##,
             r#"put https://example.com/strict-tree {"$dynamicAnchor":"node","$ref":"tree","unevaluatedProperties":false}"#,
         ],
-        "https://example.com/strict-tree",
-        &[
+        uri: "https://example.com/strict-tree",
+        instances: &[
             r#"{"children":[{"daat":1}]}"#,
             r#"{"data":1,"children":[{"data":2},{"children":[]}]}"#,
             "7",
         ],
-    ),
-    (
-        &[
+    },
+    StandingAlone {
+        why: "a `$dynamicRef` leads to a document in `$defs`, too",
+        puts: &[
             r##"put https://ex.org/root {"$dynamicRef":"d#n"}"##,
             r#"put https://ex.org/d {"$dynamicAnchor":"n","type":"null"}"#,
         ],
-        "https://ex.org/root",
-        &["1", "null"],
-    ),
-    (
-        &[
+        uri: "https://ex.org/root",
+        instances: &["1", "null"],
+    },
+    StandingAlone {
+        why: "references lead to resources and anchors within another document",
+        puts: &[
             r##"put https://ex.org/a/order {"$id":"https://ex.org/order","properties":{"by":{"$ref":"people/customer"},"to":{"$ref":"people/address#place"}}}"##,
             r#"put https://ex.org/people {"$defs":{"c":{"$id":"people/customer","required":["name"]},"a":{"$id":"people/address","$anchor":"place","properties":{"town":{"type":"string"}}}}}"#,
         ],
-        "https://ex.org/order",
-        &[
+        uri: "https://ex.org/order",
+        instances: &[
             r#"{"by":{},"to":{"town":1}}"#,
             r#"{"by":{"name":"x"},"to":{"town":"y"}}"#,
         ],
-    ),
+    },
 ];
 
 // Whether each is stored by the first tenant.
@@ -189,22 +194,26 @@ fn said(
 }
 
 // Both tenants are told the same of each instance.
-fn expect_said(rt: &impl Abort, alloc: Global, hub: &mut Hub, uri: &str, instances: &[&str]) {
-    for instance in instances {
-        let alone = said(alloc, hub, "k2", uri, instance);
-        expect_same(rt, alone, said(alloc, hub, "k1", uri, instance), instance);
+fn expect_said(rt: &impl Abort, alloc: Global, hub: &mut Hub, row: &StandingAlone) {
+    for instance in row.instances {
+        let alone = said(alloc, hub, "k2", row.uri, instance);
+        expect_same(
+            rt,
+            alone,
+            said(alloc, hub, "k1", row.uri, instance),
+            row.why,
+        );
     }
 }
 
 fn expect_alone(rt: &impl Abort, alloc: Global, row: &StandingAlone) {
-    let (puts, uri, instances) = *row;
     match new_hub(alloc, TWO_TENANTS, None, 2) {
         Ok(mut hub) => {
-            expect_holds(rt, are_put(alloc, &mut hub, puts), uri);
-            expect_holds(rt, is_bundle_put(alloc, &mut hub, uri), uri);
-            expect_said(rt, alloc, &mut hub, uri, instances);
+            expect_holds(rt, are_put(alloc, &mut hub, row.puts), row.why);
+            expect_holds(rt, is_bundle_put(alloc, &mut hub, row.uri), row.why);
+            expect_said(rt, alloc, &mut hub, row);
         }
-        Err(fault) => panic!(rt; "{fault}"),
+        Err(fault) => panic!(rt; "{}: {fault}", row.why),
     }
 }
 

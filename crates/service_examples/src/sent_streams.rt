@@ -92,6 +92,16 @@ pub fn expect_steps<H: Handler>(
     }
 }
 
+/// What is sent for these bytes on connection 1, which is new.
+pub fn sent_on_a_new_connection<H: Handler>(
+    alloc: Global,
+    sessions: &mut Sessions<H>,
+    bytes: &str,
+) -> Result<String, Fault> {
+    sessions.open(1)?;
+    stepped(alloc, sessions, "feed", 1, bytes)
+}
+
 /// What is sent for a stream on connection 1 and for its end. The id is free then.
 pub fn sent_to_the_end<H: Handler>(
     alloc: Global,

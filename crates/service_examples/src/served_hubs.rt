@@ -44,6 +44,22 @@ pub const NOT_FOUND: &str =
 pub const CLOSING: &str =
     "HTTP/1.1 400 Bad Request\r\ncontent-type: application/json\r\ncontent-length: 32\r\nconnection: close\r\n\r\n{\"fault\":37,\"name\":\"BadRequest\"}";
 
+/// What is sent to a last request that no route has.
+pub const LAST_BAD_ROUTE: &str =
+    "HTTP/1.1 404 Not Found\r\ncontent-type: application/json\r\ncontent-length: 30\r\nconnection: close\r\n\r\n{\"fault\":36,\"name\":\"BadRoute\"}";
+
+/// What is sent to a request without a tenant's key.
+pub const UNKNOWN_TENANT: &str =
+    "HTTP/1.1 403 Forbidden\r\ncontent-type: application/json\r\ncontent-length: 35\r\n\r\n{\"fault\":24,\"name\":\"UnknownTenant\"}";
+
+/// Stores a document by a batch.
+pub const BATCH: &str =
+    "POST /batch HTTP/1.1\r\nx-tenant-key: k1\r\ncontent-length: 48\r\n\r\n{\"put\":[{\"schema\":{},\"uri\":\"https://ex.org/a\"}]}";
+
+/// What is sent for the batch.
+pub const BATCH_STORED: &str =
+    "HTTP/1.1 201 Created\r\ncontent-type: application/json\r\ncontent-length: 56\r\n\r\n{\"stored\":[{\"replaced\":false,\"uri\":\"https://ex.org/a\"}]}";
+
 /// No connection yet, to a hub of the two tenants.
 pub fn hub_sessions(alloc: Global) -> Result<Sessions<HubHandler>, Fault> {
     let hub = hub_of(alloc, TENANTS.as_bytes(), 2)?;

@@ -40,6 +40,24 @@ impl Observer for Noting {
 /// What becomes of a connection: its number, what is written on it, and how many bytes that arrived aren't read.
 pub type Outcome<'a> = (u64, &'a str, usize);
 
+/// What happens, and what becomes of the connections.
+#[derive(Clone, Copy)]
+pub struct Script<'a> {
+    pub why: &'a str,
+    /// How many bytes all connections may keep.
+    pub most_memory: usize,
+    pub happenings: &'a [Happening<'a>],
+    pub outcomes: &'a [Outcome<'a>],
+    /// What is noted of those that were opened and have ended.
+    pub told: &'a str,
+}
+
+/// Memory that no script fills.
+pub const ENOUGH: usize = 1_000_000;
+
+/// A last request, which is replied to by [`LAST_BAD_ROUTE`](crate::served_hubs::LAST_BAD_ROUTE).
+pub const LAST: &str = "GET /bundle HTTP/1.0\r\n\r\n";
+
 fn new_noting(alloc: Global) -> Noting {
     Noting {
         alloc,
@@ -56,16 +74,11 @@ fn expect_outcome(
     alloc: Global,
     network: &MemoryNetwork<'_>,
     outcome: &Outcome<'_>,
+    why: &str,
 ) {
     let (id, wanted, unread) = *outcome;
-    expect_like(
-        rt,
-        alloc,
-        written(alloc, network, id),
-        wanted,
-        "what is written",
-    );
-    assert_eq!(rt; network.unread(id), unread, "unread of {id}");
+    expect_like(rt, alloc, written(alloc, network, id), wanted, why);
+    assert_eq!(rt; network.unread(id), unread, "{why}: unread of {id}");
 }
 
 fn mark_of_end(alloc: Global, id: u64) -> Result<String, AllocError> {
@@ -83,45 +96,37 @@ fn expect_let_go(rt: &impl Abort, alloc: Global, network: &MemoryNetwork<'_>, id
     }
 }
 
-fn expect_all(
+fn expect_outcomes(
     rt: &impl Abort,
     alloc: Global,
     network: &MemoryNetwork<'_>,
-    outcomes: &[Outcome<'_>],
-    told: &str,
+    script: &Script<'_>,
 ) {
-    for outcome in outcomes {
-        expect_outcome(rt, alloc, network, outcome);
-        expect_let_go(rt, alloc, network, outcome.0, told);
+    for outcome in script.outcomes {
+        expect_outcome(rt, alloc, network, outcome, script.why);
+        expect_let_go(rt, alloc, network, outcome.0, script.told);
     }
 }
 
-/// Expects these outcomes once the script is served. All connections may keep so many bytes; `told` is what is noted of
-/// those that were opened and have ended.
-pub fn expect_outcomes(
-    rt: &impl Abort,
-    alloc: Global,
-    most_memory: usize,
-    script: &[Happening<'_>],
-    outcomes: &[Outcome<'_>],
-    told: &str,
-) {
+/// Expects that the script is served so.
+pub fn expect_script(rt: &impl Abort, alloc: Global, script: &Script<'_>) {
     let mut sessions = sessions(alloc);
-    let mut network = MemoryNetwork::new(alloc, script);
+    let mut network = MemoryNetwork::new(alloc, script.happenings);
     let mut observer = new_noting(alloc);
     let served = serve_all(
         alloc,
         &mut sessions,
         &mut network,
         &mut observer,
-        most_memory,
+        script.most_memory,
     );
     assert!(rt;
-        served.is_ok() && observer.text.trim_end() == told,
-        "{told}: {}",
+        served.is_ok() && observer.text.trim_end() == script.told,
+        "{}: {}",
+        script.why,
         observer.text
     );
-    expect_all(rt, alloc, &network, outcomes, told);
+    expect_outcomes(rt, alloc, &network, script);
 }
 
 const UNSETTLED: &[Happening<'static>] = &[
@@ -141,7 +146,7 @@ fn nothing_of_a_round_that_is_unsettled_is_written(rt: HostRuntime) {
     let mut sessions = sessions_with_most(alloc, 1);
     let mut network = MemoryNetwork::new(alloc, UNSETTLED);
     let mut observer = new_noting(alloc);
-    let served = serve_all(alloc, &mut sessions, &mut network, &mut observer, 1_000_000);
+    let served = serve_all(alloc, &mut sessions, &mut network, &mut observer, ENOUGH);
     assert!(rt; served == Err(Outage::Unsettled(Unsettled::Failed)));
     assert!(rt; network.written(0) == STORED.as_bytes() && network.written(1).is_empty());
 }

@@ -114,28 +114,34 @@ const CHANGES: &[(&str, &str, &str)] = &[
 ];
 
 const TALKS: &[Talk] = &[
-    (
-        "one uri means each tenant's own document",
-        TWO_TENANTS,
-        None,
-        &[1, 2, 4096],
-        ONE_URI,
-    ),
-    (
-        "neither references nor quotas reach over",
-        ONE_DOCUMENT_EACH,
-        None,
-        &[256],
-        APART,
-    ),
-    (
-        "a validation sees each change of what it reaches",
-        TWO_TENANTS,
-        None,
-        &[1, 2, 4096],
-        CHANGES,
-    ),
-    ("no calls have no replies", TWO_TENANTS, None, &[256], &[]),
+    Talk {
+        why: "one URI means each tenant's own document",
+        tenants: TWO_TENANTS,
+        library: None,
+        capacities: &[1, 2, 4096],
+        lines: ONE_URI,
+    },
+    Talk {
+        why: "neither references nor quotas reach over to another tenant",
+        tenants: ONE_DOCUMENT_EACH,
+        library: None,
+        capacities: &[256],
+        lines: APART,
+    },
+    Talk {
+        why: "a validation sees each change of what it reaches",
+        tenants: TWO_TENANTS,
+        library: None,
+        capacities: &[1, 2, 4096],
+        lines: CHANGES,
+    },
+    Talk {
+        why: "no calls have no replies",
+        tenants: TWO_TENANTS,
+        library: None,
+        capacities: &[256],
+        lines: &[],
+    },
 ];
 
 #[test]

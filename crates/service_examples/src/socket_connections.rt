@@ -1,7 +1,7 @@
 //! Connections on real sockets of the loopback address. Each client connects and sends before the server accepts.
 
 use crate::handlers::{Counting, sessions};
-use crate::served_hubs::{OUTPUT, POST};
+use crate::served_hubs::{LAST_BAD_ROUTE, OUTPUT, POST};
 use crate::texts::filled;
 use connections::Sessions;
 use sockets::{Limits, bind, serve_connections};
@@ -74,18 +74,29 @@ const BOTH_ENDED: &[Client] = &[(POST, true, OUTPUT), (POST, true, OUTPUT)];
 
 const SILENT: &[Client] = &[(POST, false, OUTPUT), (POST, true, OUTPUT)];
 
-// The last reply is sent to a client that goes on.
 const GOING_ON: &[Client] = &[(
     "GET /other HTTP/1.0\r\n\r\n«50000* »",
     false,
-    "HTTP/1.1 404 Not Found\r\ncontent-type: application/json\r\ncontent-length: 30\r\nconnection: close\r\n\r\n{\"fault\":36,\"name\":\"BadRoute\"}",
+    LAST_BAD_ROUTE,
 )];
 
-// The clients of a server, and what is told of them.
-const SERVED: &[(&[Client], &str)] = &[
-    (BOTH_ENDED, ""),
-    (SILENT, "connection 1: ReadFailed\n"),
-    (GOING_ON, ""),
+// Why a server's clients are served so, the clients, and what is told of them.
+const SERVED: &[(&str, &[Client], &str)] = &[
+    (
+        "each client is served in turn, and its end is no fault",
+        BOTH_ENDED,
+        "",
+    ),
+    (
+        "a client that sends nothing in its time is let go, and told (LIMITS.md)",
+        SILENT,
+        "connection 1: ReadFailed\n",
+    ),
+    (
+        "a client that sends on behind its last reply is sent that reply",
+        GOING_ON,
+        "",
+    ),
 ];
 
 /// A client that has sent the bytes, once they are filled.
@@ -113,22 +124,22 @@ fn clients<R: Net<Listener = TcpListener, Stream = TcpStream> + AllocGlobal + Ab
     streams
 }
 
-fn expect_received<R: AllocGlobal + Abort>(rt: &R, mut stream: TcpStream, wanted: &str) {
-    assert_eq!(rt; received(rt, &mut stream).as_str(), wanted);
+fn expect_received<R: AllocGlobal + Abort>(rt: &R, mut stream: TcpStream, wanted: &str, why: &str) {
+    assert_eq!(rt; received(rt, &mut stream).as_str(), wanted, "{why}");
 }
 
 fn expect_served<R: Net<Listener = TcpListener, Stream = TcpStream> + AllocGlobal + Clock + Abort>(
     rt: &R,
-    row: &(&[Client], &str),
+    row: &(&str, &[Client], &str),
 ) {
-    let (rows, wanted) = *row;
+    let (why, rows, wanted) = *row;
     let (listener, address) = listen(rt);
     let mut streams = clients(rt, address, rows);
     let count = u32::try_from(rows.len()).expect(rt, "a few clients");
     let told = serve(rt, &listener, count);
-    assert_eq!(rt; told.as_str(), wanted);
+    assert_eq!(rt; told.as_str(), wanted, "{why}");
     for row in rows.iter().rev() {
-        expect_received(rt, streams.pop().expect(rt, "a client"), row.2);
+        expect_received(rt, streams.pop().expect(rt, "a client"), row.2, why);
     }
 }
 

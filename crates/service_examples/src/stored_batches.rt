@@ -1,6 +1,6 @@
 //! Batches that are stored, or not at all.
 
-use crate::talks::{SMALL_TENANT, TWO_TENANTS, Talk, expect_talk};
+use crate::talks::{SMALL_TENANT, TWO_TENANTS, Talk, VALID, expect_talk};
 
 const GIVEN_UP: &[(&str, &str, &str)] = &[
     (
@@ -24,11 +24,7 @@ const GIVEN_UP: &[(&str, &str, &str)] = &[
         r#"batch {"put":[{"schema":{},"uri":"https://ex.org/z"},{"schema":{},"uri":"https://ex.org/w"}]}"#,
         "replaced https://ex.org/z, stored https://ex.org/w",
     ),
-    (
-        "k1",
-        "validate https://ex.org/w null",
-        r#"{"annotations":[],"valid":true}"#,
-    ),
+    ("k1", "validate https://ex.org/w null", VALID),
 ];
 
 const REFUSED_ENTRIES: &[(&str, &str, &str)] = &[
@@ -104,34 +100,34 @@ const LENGTHS: &[(&str, &str, &str)] = &[
 ];
 
 const TALKS: &[Talk] = &[
-    (
-        "one entry takes what another gives up",
-        TWO_TENANTS,
-        None,
-        &[1],
-        GIVEN_UP,
-    ),
-    (
-        "a refused batch stores nothing",
-        TWO_TENANTS,
-        None,
-        &[256],
-        REFUSED_ENTRIES,
-    ),
-    (
-        "quotas are judged on all entries",
-        SMALL_TENANT,
-        None,
-        &[256],
-        QUOTAS,
-    ),
-    (
-        "a batch stores 64 documents at most",
-        TWO_TENANTS,
-        None,
-        &[256],
-        LENGTHS,
-    ),
+    Talk {
+        why: "one entry takes what another gives up",
+        tenants: TWO_TENANTS,
+        library: None,
+        capacities: &[1],
+        lines: GIVEN_UP,
+    },
+    Talk {
+        why: "a refused batch stores nothing",
+        tenants: TWO_TENANTS,
+        library: None,
+        capacities: &[256],
+        lines: REFUSED_ENTRIES,
+    },
+    Talk {
+        why: "quotas are judged on all entries",
+        tenants: SMALL_TENANT,
+        library: None,
+        capacities: &[256],
+        lines: QUOTAS,
+    },
+    Talk {
+        why: "a batch stores 64 documents at most (LIMITS.md)",
+        tenants: TWO_TENANTS,
+        library: None,
+        capacities: &[256],
+        lines: LENGTHS,
+    },
 ];
 
 #[test]

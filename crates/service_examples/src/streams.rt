@@ -1,49 +1,80 @@
 //! Streams of requests, however they are cut, and requests behind which a connection is closed.
 
 use crate::handlers::sessions;
-use crate::sent_streams::{Step, expect_both, expect_steps, sent_in_two, sent_to_the_end};
-use crate::served_hubs::{
-    CLOSING, EXAMPLE, EXAMPLE_REPLIES, OUTPUT, POST, STORED, replies_to_front,
+use crate::sent_streams::{
+    Step, expect_both, expect_steps, sent_in_two, sent_on_a_new_connection, sent_to_the_end,
 };
-use crate::texts::expect_same;
+use crate::served_hubs::{
+    CLOSING, EXAMPLE, EXAMPLE_REPLIES, LAST_BAD_ROUTE, OUTPUT, POST, STORED, UNKNOWN_TENANT,
+    replies_to_front,
+};
+use crate::texts::{expect_like, expect_same};
 use std::alloc::Global;
 use std::process::Abort;
 
-// Bytes on a new connection, what is sent for them, and whether it is closed then.
-type Stream = (&'static str, &'static str, bool);
+/// Bytes on a new connection, what is sent for them, and whether it is closed then.
+struct Stream {
+    why: &'static str,
+    bytes: &'static str,
+    wanted: &'static str,
+    is_closed: bool,
+}
 
 const STREAMS: &[Stream] = &[
-    (EXAMPLE, EXAMPLE_REPLIES, false),
-    ("TRACE / HTTP/1.1\r\n\r\n", CLOSING, true),
-    (
-        "POST /validate?uri=a HTTP/1.1\r\ncontent-length: 1\r\ncontent-length: 1\r\n\r\nx",
-        CLOSING,
-        true,
-    ),
-    ("POST /validate?uri=a HTTP/1.1\r\n\r\n", CLOSING, true),
-    (
-        "POST /validate?uri=a HTTP/1.1\r\ncontent-length: 1048577\r\n\r\n",
-        CLOSING,
-        true,
-    ),
-    (
-        "GET /bundle?uri=a HTTP/1.1\r\ntransfer-encoding: chunked\r\n\r\n",
-        CLOSING,
-        true,
-    ),
-    ("GET / HTTP/2.0\r\n\r\n", CLOSING, true),
-    // An old version makes a request the last one.
-    (
-        "GET /bundle HTTP/1.0\r\n\r\nPOST /validate?uri=https://ex.org/s HTTP/1.1\r\nx-tenant-key: k1\r\ncontent-length: 4\r\n\r\nnull",
-        "HTTP/1.1 404 Not Found\r\ncontent-type: application/json\r\ncontent-length: 30\r\nconnection: close\r\n\r\n{\"fault\":36,\"name\":\"BadRoute\"}",
-        true,
-    ),
-    // No key is no tenant's.
-    (
-        "DELETE /schemas?uri=a HTTP/1.1\r\n\r\n",
-        "HTTP/1.1 403 Forbidden\r\ncontent-type: application/json\r\ncontent-length: 35\r\n\r\n{\"fault\":24,\"name\":\"UnknownTenant\"}",
-        false,
-    ),
+    Stream {
+        why: "requests may follow one another, and are answered in their order (HTTP.md)",
+        bytes: EXAMPLE,
+        wanted: EXAMPLE_REPLIES,
+        is_closed: false,
+    },
+    Stream {
+        why: "a method is PUT, DELETE, POST or GET (HTTP.md)",
+        bytes: "TRACE / HTTP/1.1\r\n\r\n",
+        wanted: CLOSING,
+        is_closed: true,
+    },
+    Stream {
+        why: "`content-length` stands once at most (HTTP.md)",
+        bytes: "POST /validate?uri=a HTTP/1.1\r\ncontent-length: 1\r\ncontent-length: 1\r\n\r\nx",
+        wanted: CLOSING,
+        is_closed: true,
+    },
+    Stream {
+        why: "a POST has to tell its body's length (HTTP.md)",
+        bytes: "POST /validate?uri=a HTTP/1.1\r\n\r\n",
+        wanted: CLOSING,
+        is_closed: true,
+    },
+    Stream {
+        why: "a body has 1,048,576 bytes at most (LIMITS.md)",
+        bytes: "POST /validate?uri=a HTTP/1.1\r\ncontent-length: 1048577\r\n\r\n",
+        wanted: CLOSING,
+        is_closed: true,
+    },
+    Stream {
+        why: "no `transfer-encoding` is taken (HTTP.md)",
+        bytes: "GET /bundle?uri=a HTTP/1.1\r\ntransfer-encoding: chunked\r\n\r\n",
+        wanted: CLOSING,
+        is_closed: true,
+    },
+    Stream {
+        why: "a version is HTTP/1.1 or HTTP/1.0 (RFC 9112, 2.3)",
+        bytes: "GET / HTTP/2.0\r\n\r\n",
+        wanted: CLOSING,
+        is_closed: true,
+    },
+    Stream {
+        why: "behind a request of HTTP/1.0 none is answered (HTTP.md)",
+        bytes: "GET /bundle HTTP/1.0\r\n\r\nPOST /validate?uri=https://ex.org/s HTTP/1.1\r\nx-tenant-key: k1\r\ncontent-length: 4\r\n\r\nnull",
+        wanted: LAST_BAD_ROUTE,
+        is_closed: true,
+    },
+    Stream {
+        why: "a request without a key is no tenant's (PROFILE.md, 24)",
+        bytes: "DELETE /schemas?uri=a HTTP/1.1\r\n\r\n",
+        wanted: UNKNOWN_TENANT,
+        is_closed: false,
+    },
 ];
 
 // A closed connection answers nothing.
@@ -79,12 +110,10 @@ const BODY_IN_BYTES: &[Step] = &[
 ];
 
 fn expect_stream(rt: &impl Abort, alloc: Global, row: &Stream) {
-    let (stream, wanted, closed) = *row;
-    let steps = [
-        ("open", 1, "", "", false),
-        ("feed", 1, stream, wanted, closed),
-    ];
-    expect_steps(rt, alloc, &mut sessions(alloc), &steps);
+    let mut sessions = sessions(alloc);
+    let found = sent_on_a_new_connection(alloc, &mut sessions, row.bytes);
+    expect_like(rt, alloc, found, row.wanted, row.why);
+    assert_eq!(rt; sessions.is_closed(1), row.is_closed, "{}", row.why);
 }
 
 #[test]

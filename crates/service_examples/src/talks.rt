@@ -86,14 +86,15 @@ pub fn answered(alloc: Global, hub: &mut Hub, key: &str, text: &str) -> Result<S
 /// A line of a talk: a tenant's key, what it asks, and what it is told.
 pub type Line = (&'static str, &'static str, &'static str);
 
-/// A talk: its name, the tenants' file, the library, the capacities that it is held with, and its lines.
-pub type Talk = (
-    &'static str,
-    &'static str,
-    Option<&'static str>,
-    &'static [usize],
-    &'static [Line],
-);
+/// A talk with a hub of these tenants, over the library that the batch gives, if there is one.
+pub struct Talk {
+    pub why: &'static str,
+    pub tenants: &'static str,
+    pub library: Option<&'static str>,
+    /// The sizes of the cache that it is held with.
+    pub capacities: &'static [usize],
+    pub lines: &'static [Line],
+}
 
 fn expect_line(rt: &impl Abort, alloc: Global, hub: &mut Hub, line: &Line) {
     let (key, text, wanted) = *line;
@@ -152,23 +153,22 @@ fn expect_talk_with(
     capacity: usize,
     one_by_one: bool,
 ) {
-    let (name, tenants, library, _, lines) = *talk;
-    match new_hub(alloc, tenants, library, capacity) {
+    match new_hub(alloc, talk.tenants, talk.library, capacity) {
         Ok(mut hub) => {
             if one_by_one {
-                expect_lines(rt, alloc, &mut hub, lines);
+                expect_lines(rt, alloc, &mut hub, talk.lines);
             } else {
-                expect_by_one_call(rt, alloc, &mut hub, lines);
+                expect_by_one_call(rt, alloc, &mut hub, talk.lines);
             }
-            assert_eq!(rt; hub.cache_capacity(), capacity, "{name}");
+            assert_eq!(rt; hub.cache_capacity(), capacity, "{}", talk.why);
         }
-        Err(fault) => panic!(rt; "{name}: {fault}"),
+        Err(fault) => panic!(rt; "{}: {fault}", talk.why),
     }
 }
 
 /// Expects that the talk goes so, one by one and by one call, with each of its capacities.
 pub fn expect_talk(rt: &impl Abort, alloc: Global, talk: &Talk) {
-    for capacity in talk.3 {
+    for capacity in talk.capacities {
         expect_talk_with(rt, alloc, talk, *capacity, true);
         expect_talk_with(rt, alloc, talk, *capacity, false);
     }

@@ -43,111 +43,207 @@ fn read_as(alloc: Global, form: Form, text: &str) -> Result<String, Fault> {
     }
 }
 
-// A form, a text, and what it is read as, or the fault.
-const TEXTS: &[(Form, &str, &str)] = &[
-    // In the order of the file.
+// Why a text is read so or refused, its form, the text, and what it is read as, or the fault.
+const TEXTS: &[(&str, Form, &str, &str)] = &[
     (
+        "tenants stand in the file's order, and other members are ignored (HTTP.md)",
         Form::Tenants,
         r#"{"tenants":[{"bytes":1000000,"documents":100,"key":"k1"},
         {"key":"","note":null,"bytes":18446744073709551615,"documents":4294967295}],"note":1}"#,
         "'k1' 100 1000000;'' 4294967295 18446744073709551615;",
     ),
-    (Form::Tenants, r#"{"tenants":[]}"#, ""),
-    // One key twice is two tenants.
     (
+        "a file may have no tenant",
+        Form::Tenants,
+        r#"{"tenants":[]}"#,
+        "",
+    ),
+    (
+        "reading compares no keys: a new server does",
         Form::Tenants,
         r#"{"tenants":[{"bytes":1,"documents":1,"key":"k1"},{"bytes":1,"documents":1,"key":"k1"}]}"#,
         "'k1' 1 1;'k1' 1 1;",
     ),
-    // Another shape.
-    (Form::Tenants, "[]", "35 BadTenants"),
-    (Form::Tenants, "{}", "35 BadTenants"),
-    (Form::Tenants, r#"{"tenants":{}}"#, "35 BadTenants"),
-    (Form::Tenants, r#"{"tenants":[[]]}"#, "35 BadTenants"),
     (
+        "a file is an object (HTTP.md)",
+        Form::Tenants,
+        "[]",
+        "35 BadTenants",
+    ),
+    (
+        "a file has the member `tenants` (HTTP.md)",
+        Form::Tenants,
+        "{}",
+        "35 BadTenants",
+    ),
+    (
+        "`tenants` is an array (HTTP.md)",
+        Form::Tenants,
+        r#"{"tenants":{}}"#,
+        "35 BadTenants",
+    ),
+    (
+        "a tenant is an object (HTTP.md)",
+        Form::Tenants,
+        r#"{"tenants":[[]]}"#,
+        "35 BadTenants",
+    ),
+    (
+        "bytes are no number below 0",
         Form::Tenants,
         r#"{"tenants":[{"bytes":-1,"documents":100,"key":"k1"}]}"#,
         "35 BadTenants",
     ),
     (
+        "documents are no number below 0",
         Form::Tenants,
         r#"{"tenants":[{"bytes":1,"documents":-1,"key":"k1"}]}"#,
         "35 BadTenants",
     ),
     (
+        "documents are at most 2^32 - 1 (LIMITS.md)",
         Form::Tenants,
         r#"{"tenants":[{"bytes":1,"documents":4294967296,"key":"k1"}]}"#,
         "35 BadTenants",
     ),
     (
+        "a tenant has a key (HTTP.md)",
         Form::Tenants,
         r#"{"tenants":[{"bytes":1,"documents":100}]}"#,
         "35 BadTenants",
     ),
     (
+        "a key is a string (HTTP.md)",
         Form::Tenants,
         r#"{"tenants":[{"bytes":1,"documents":100,"key":1}]}"#,
         "35 BadTenants",
     ),
     (
+        "each tenant has its most documents (HTTP.md)",
         Form::Tenants,
         r#"{"tenants":[{"bytes":1,"documents":1,"key":"k1"},{"bytes":1,"key":"k2"}]}"#,
         "35 BadTenants",
     ),
-    // Texts are refused before their shape.
-    (Form::Tenants, "", "1 BadJson"),
-    (Form::Tenants, r#"{"tenants":[1}"#, "1 BadJson"),
-    (Form::Tenants, r#"{"tenants":1.0}"#, "2 BadNumber"),
-    (Form::Tenants, "[0.5]", "2 BadNumber"),
-    // A body has 1,048,576 bytes at most.
-    (Form::Body, "5«1048575* »", "5"),
-    (Form::Body, "5«1048576* »", "26 TooLarge"),
-    (Form::Body, "[1", "1 BadJson"),
-    (Form::Body, "[1.5]", "2 BadNumber"),
-    (Form::Body, "", "1 BadJson"),
-    // In the order of the batch.
     (
+        "an empty text is no JSON (RFC 8259, 2)",
+        Form::Tenants,
+        "",
+        "1 BadJson",
+    ),
+    (
+        "a text that is no JSON is refused before its shape",
+        Form::Tenants,
+        r#"{"tenants":[1}"#,
+        "1 BadJson",
+    ),
+    (
+        "numbers are judged before the shape",
+        Form::Tenants,
+        r#"{"tenants":1.0}"#,
+        "2 BadNumber",
+    ),
+    (
+        "numbers are judged in a file of any shape",
+        Form::Tenants,
+        "[0.5]",
+        "2 BadNumber",
+    ),
+    (
+        "a body of 1,048,576 bytes is the longest (LIMITS.md)",
+        Form::Body,
+        "5«1048575* »",
+        "5",
+    ),
+    (
+        "a body of 1,048,577 bytes is too long (LIMITS.md)",
+        Form::Body,
+        "5«1048576* »",
+        "26 TooLarge",
+    ),
+    ("a body is JSON (HTTP.md)", Form::Body, "[1", "1 BadJson"),
+    (
+        "a body's numbers are whole numbers of 64 bits (HTTP.md)",
+        Form::Body,
+        "[1.5]",
+        "2 BadNumber",
+    ),
+    (
+        "an empty body is no JSON (RFC 8259, 2)",
+        Form::Body,
+        "",
+        "1 BadJson",
+    ),
+    (
+        "entries stand in the batch's order, and other members are ignored",
         Form::Batch,
         r#"{"note":1,"put":[{"schema":{},"uri":"https://ex.org/a"},{"note":1,"schema":true,"uri":""}]}"#,
         "'https://ex.org/a' {};'' true;",
     ),
-    // A batch has 1 to 64 entries.
-    (Form::Batch, r#"{"put":[]}"#, "42 BadBatch"),
     (
+        "a batch has one entry at least (LIMITS.md)",
+        Form::Batch,
+        r#"{"put":[]}"#,
+        "42 BadBatch",
+    ),
+    (
+        "a batch of 64 entries is the largest (LIMITS.md)",
         Form::Batch,
         r#"{"put":[{"schema":{},"uri":"https://ex.org/a"}«63*,{"schema":{},"uri":"https://ex.org/a"}»]}"#,
         "«64*'https://ex.org/a' {};»",
     ),
     (
+        "a batch of 65 entries is too large (LIMITS.md)",
         Form::Batch,
         r#"{"put":[{"schema":{},"uri":"https://ex.org/a"}«64*,{"schema":{},"uri":"https://ex.org/a"}»]}"#,
         "42 BadBatch",
     ),
-    // Another shape.
-    (Form::Batch, "[]", "42 BadBatch"),
-    (Form::Batch, "{}", "42 BadBatch"),
-    (Form::Batch, r#"{"put":{}}"#, "42 BadBatch"),
-    (Form::Batch, r#"{"put":[{"schema":{}}]}"#, "42 BadBatch"),
     (
+        "a batch is an object (HTTP.md)",
+        Form::Batch,
+        "[]",
+        "42 BadBatch",
+    ),
+    (
+        "a batch has the member `put` (HTTP.md)",
+        Form::Batch,
+        "{}",
+        "42 BadBatch",
+    ),
+    (
+        "`put` is an array (HTTP.md)",
+        Form::Batch,
+        r#"{"put":{}}"#,
+        "42 BadBatch",
+    ),
+    (
+        "an entry has a URI (HTTP.md)",
+        Form::Batch,
+        r#"{"put":[{"schema":{}}]}"#,
+        "42 BadBatch",
+    ),
+    (
+        "an entry has a schema (HTTP.md)",
         Form::Batch,
         r#"{"put":[{"uri":"https://ex.org/a"}]}"#,
         "42 BadBatch",
     ),
     (
+        "an entry's URI is a string (HTTP.md)",
         Form::Batch,
         r#"{"put":[{"schema":{},"uri":1}]}"#,
         "42 BadBatch",
     ),
     (
+        "an entry is an object (HTTP.md)",
         Form::Batch,
         r#"{"put":[{"schema":{},"uri":"https://ex.org/a"},1]}"#,
         "42 BadBatch",
     ),
 ];
 
-fn expect_read(rt: &impl Abort, alloc: Global, row: &(Form, &str, &str)) {
-    let (form, text, wanted) = *row;
-    expect_like(rt, alloc, read_as(alloc, form, text), wanted, text);
+fn expect_read(rt: &impl Abort, alloc: Global, row: &(&str, Form, &str, &str)) {
+    let (why, form, text, wanted) = *row;
+    expect_like(rt, alloc, read_as(alloc, form, text), wanted, why);
 }
 
 #[test]

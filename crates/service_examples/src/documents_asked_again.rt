@@ -1,4 +1,5 @@
-//! Documents that are asked for, kept and pushed out, and how many a cache may keep.
+//! Documents that are asked for again and are compiled once, those that are pushed out and compiled anew, and how many may be
+//! kept.
 
 use crate::texts::{expect_like, filled};
 use json_doc::read;
@@ -95,22 +96,39 @@ const TOO_DEEP: &[Line] = &[
     (A, r#"{"const":«119*[»«119*]»}"#, "1, 1 kept"),
 ];
 
-// A capacity, what is asked and answered, and the canonical URIs of all documents that were answered, which outlive their
-// places in the cache.
-const CACHES: &[(usize, &[Line], &str)] = &[
-    (1, PUSHED_OUT, " https://ex.org/a https://ex.org/b"),
+// Why documents are answered so, a capacity, what is asked and answered, and the canonical URIs of all documents that were
+// answered, which outlive their places in the cache.
+const CACHES: &[(&str, usize, &[Line], &str)] = &[
     (
+        "a cache of one keeps the document that was asked for last",
+        1,
+        PUSHED_OUT,
+        " https://ex.org/a https://ex.org/b",
+    ),
+    (
+        "what was cleared is compiled anew",
         2,
         CLEARED,
         " https://ex.org/a https://ex.org/b https://ex.org/a",
     ),
-    (1, REFUSED, " https://ex.org/b"),
     (
+        "a document that is refused pushes out none",
+        1,
+        REFUSED,
+        " https://ex.org/b",
+    ),
+    (
+        "the document that was asked for longest ago goes (LIMITS.md)",
         2,
         LONGEST_AGO,
         " https://ex.org/a https://ex.org/a https://ex.org/b https://ex.org/a",
     ),
-    (4, TOO_DEEP, " https://ex.org/a"),
+    (
+        "a document nests 120 deep at most (LIMITS.md)",
+        4,
+        TOO_DEEP,
+        " https://ex.org/a",
+    ),
 ];
 
 fn expect_line(
@@ -124,25 +142,24 @@ fn expect_line(
     expect_like(rt, alloc, found, line.2, line.1);
 }
 
-fn expect_cache(rt: &impl Abort, alloc: Global, mut cache: Cache, lines: &[Line], uris: &str) {
+fn expect_cache(
+    rt: &impl Abort,
+    alloc: Global,
+    mut cache: Cache,
+    row: &(&str, usize, &[Line], &str),
+) {
+    let (why, _, lines, uris) = *row;
     let mut answers = Vec::new(alloc);
     for line in lines {
         expect_line(rt, alloc, &mut cache, &mut answers, line);
     }
-    expect_like(
-        rt,
-        alloc,
-        canonicals(alloc, &answers),
-        uris,
-        "canonical URIs",
-    );
+    expect_like(rt, alloc, canonicals(alloc, &answers), uris, why);
 }
 
-fn expect_new_cache(rt: &impl Abort, alloc: Global, row: &(usize, &[Line], &str)) {
-    let (capacity, lines, uris) = *row;
-    match Cache::new(alloc, capacity) {
-        Ok(cache) => expect_cache(rt, alloc, cache, lines, uris),
-        Err(fault) => panic!(rt; "{fault}"),
+fn expect_new_cache(rt: &impl Abort, alloc: Global, row: &(&str, usize, &[Line], &str)) {
+    match Cache::new(alloc, row.1) {
+        Ok(cache) => expect_cache(rt, alloc, cache, row),
+        Err(fault) => panic!(rt; "{}: {fault}", row.0),
     }
 }
 
@@ -153,14 +170,26 @@ fn documents_are_kept_and_pushed_out(rt: HostRuntime) {
     }
 }
 
-// A capacity, and how many documents a new cache keeps, or the fault.
-const CAPACITIES: &[(usize, &str)] = &[
-    (1, "0 kept"),
-    (256, "0 kept"),
-    (4096, "0 kept"),
-    (0, "21 BadCapacity"),
-    (4097, "21 BadCapacity"),
-    (usize::MAX, "21 BadCapacity"),
+// Why a cache may have a capacity or not, the capacity, and how many documents a new one keeps, or the fault.
+const CAPACITIES: &[(&str, usize, &str)] = &[
+    ("one document is the least (LIMITS.md)", 1, "0 kept"),
+    ("256 documents are usual (LIMITS.md)", 256, "0 kept"),
+    ("4,096 documents are the most (LIMITS.md)", 4096, "0 kept"),
+    (
+        "a cache keeps one document at least (LIMITS.md)",
+        0,
+        "21 BadCapacity",
+    ),
+    (
+        "a cache keeps 4,096 documents at most (LIMITS.md)",
+        4097,
+        "21 BadCapacity",
+    ),
+    (
+        "a cache keeps no more than 4,096, whatever is asked (LIMITS.md)",
+        usize::MAX,
+        "21 BadCapacity",
+    ),
 ];
 
 fn opened(alloc: Global, capacity: usize) -> Result<String, Fault> {
@@ -168,9 +197,9 @@ fn opened(alloc: Global, capacity: usize) -> Result<String, Fault> {
     Ok(format!(in alloc; "{} kept", cache.len())?)
 }
 
-fn expect_capacity(rt: &impl Abort, alloc: Global, row: &(usize, &str)) {
-    let (capacity, wanted) = *row;
-    expect_like(rt, alloc, opened(alloc, capacity), wanted, "a new cache");
+fn expect_capacity(rt: &impl Abort, alloc: Global, row: &(&str, usize, &str)) {
+    let (why, capacity, wanted) = *row;
+    expect_like(rt, alloc, opened(alloc, capacity), wanted, why);
 }
 
 #[test]

@@ -1,4 +1,4 @@
-//! Documents as a registry keeps them.
+//! What a registry knows of a document: its names, its length and its resources; and documents that it refuses.
 
 use crate::texts::expect_like;
 use json_doc::{Doc, read, write};
@@ -23,34 +23,56 @@ fn told(alloc: Global, cache: &mut Cache, text: &str) -> Result<String, Fault> {
     Ok(line)
 }
 
-// A document under `https://ex.org/s`, what is kept with it or the fault, and how many documents the cache keeps then.
-const DOCUMENTS: &[(&str, &str, usize)] = &[
-    ("[]", "6 NotObject", 0),
-    (r#"{"$id":"a#b"}"#, "9 BadId", 0),
-    (r#"{"pattern":"("}"#, "5 BadPattern", 0),
+// Why a document under `https://ex.org/s` is known so, the document, what is known of it or the fault, and how many
+// documents the cache keeps then.
+const DOCUMENTS: &[(&str, &str, &str, usize)] = &[
     (
+        "a document is an object (PROFILE.md, 6)",
+        "[]",
+        "6 NotObject",
+        0,
+    ),
+    (
+        "an `$id` has no fragment but an empty one (Core, 8.2.1)",
+        r#"{"$id":"a#b"}"#,
+        "9 BadId",
+        0,
+    ),
+    (
+        "a pattern is read by the grammar of `regex` (PROFILE.md, 5)",
+        r#"{"pattern":"("}"#,
+        "5 BadPattern",
+        0,
+    ),
+    (
+        "its `$id` and those within it are its URIs, and its base is none",
         r#"{ "$id": "t", "$defs": { "e": { "$id": "e" } } }"#,
         r#"https://ex.org/t 37 {"$defs":{"e":{"$id":"e"}},"$id":"t"} {"$defs":{"e":{"$id":"e"}},"$id":"t"} 2 held held not"#,
         1,
     ),
 ];
 
-fn expect_kept(rt: &impl Abort, alloc: Global, cache: &mut Cache, row: &(&str, &str, usize)) {
-    let (document, wanted, kept) = *row;
-    expect_like(rt, alloc, told(alloc, cache, document), wanted, document);
-    assert_eq!(rt; cache.len(), kept, "{document}");
+fn expect_known(
+    rt: &impl Abort,
+    alloc: Global,
+    cache: &mut Cache,
+    row: &(&str, &str, &str, usize),
+) {
+    let (why, document, wanted, kept) = *row;
+    expect_like(rt, alloc, told(alloc, cache, document), wanted, why);
+    assert_eq!(rt; cache.len(), kept, "{why}");
 }
 
-fn expect_all_kept(rt: &impl Abort, alloc: Global, mut cache: Cache) {
+fn expect_all_known(rt: &impl Abort, alloc: Global, mut cache: Cache) {
     for row in DOCUMENTS {
-        expect_kept(rt, alloc, &mut cache, row);
+        expect_known(rt, alloc, &mut cache, row);
     }
 }
 
 #[test]
-fn what_is_kept_with_a_document(rt: HostRuntime) {
+fn what_is_known_of_a_document(rt: HostRuntime) {
     match Cache::new(rt.alloc(), 1) {
-        Ok(cache) => expect_all_kept(&rt, rt.alloc(), cache),
+        Ok(cache) => expect_all_known(&rt, rt.alloc(), cache),
         Err(fault) => panic!(rt; "{fault}"),
     }
 }

@@ -45,12 +45,18 @@ pub trait Logs {
         ensures { IfErr result (λ stop. stop ≡ Stop.CannotLog path.entry) };
 }
 
+/// Which of the program's streams are terminals.
+#[derive(Clone, Copy, Debug)]
+pub struct Terminals {
+    pub output: bool,
+    pub errors: bool,
+}
+
 /// The files of the file system. It isn't known what these hold, which of them can't be read, or where folders are.
 #[derive(Drop)]
 pub struct FileSystem<'r, R> {
     pub rt: &'r R,
-    /// Whether standard error is a terminal.
-    pub terminal: bool,
+    pub terminals: Terminals,
 }
 
 impl<R: Files> Texts for FileSystem<'_, R> {

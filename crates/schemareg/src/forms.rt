@@ -6,7 +6,7 @@ ghost use Rattle.file_forms.specs.Checks.{EndsChecks};
 ghost use Rattle.schemareg.specs.Endings.{EndsReading};
 ghost use Rattle.schemareg.specs.Forms.{Disk, EndsForm, EndsScan, unknown_disk};
 
-use crate::files::FileSystem;
+use crate::files::{FileSystem, Terminals};
 use crate::stop::Stop;
 use crate::terminal::Terminal;
 use command_line::{Bundling, Checks, Scanning};
@@ -63,7 +63,7 @@ pub trait Forms {
 
 impl<R: Files + Env + AllocGlobal + Clock + Clone + Drop> Forms for FileSystem<'_, R> {
     fn is_terminal(&self) -> bool {
-        self.terminal
+        self.terminals.errors
     }
 
     fn check_many<'a, C: Clock, I: Read, O: ByteWriter, E: Write>(
@@ -74,7 +74,8 @@ impl<R: Files + Env + AllocGlobal + Clock + Clone + Drop> Forms for FileSystem<'
     ) -> Result<u8, Stop<'a>> {
         let alloc = self.rt.alloc();
         let files = SystemFolders::new(self.rt);
-        let colours = self.terminal && wants_colours(self.rt);
+        let Terminals { output, errors } = self.terminals;
+        let colours = output && errors && wants_colours(self.rt);
         console.begin(checks.quiet);
         let status = file_forms::check_many(alloc, &files, input, console, checks, colours);
         console.end(status)

@@ -20,6 +20,7 @@ mod stored;
 mod stores;
 mod terminal;
 
+use crate::files::Terminals;
 use crate::terminal::Terminal;
 use serving::Recorded;
 use std::io::{self, IsTerminal};
@@ -27,9 +28,12 @@ use std::process::ExitCode;
 
 fn main(rt: HostRuntime) -> ExitCode {
     let (out, errors) = (rt.stdout(), rt.stderr());
-    let terminal = errors.is_terminal();
+    let terminals = Terminals {
+        output: out.is_terminal(),
+        errors: errors.is_terminal(),
+    };
     let out = Recorded::new(io::writer(&out));
     let errors = Recorded::new(io::writer(&errors));
-    let mut console = Terminal::new(rt.alloc(), &rt, out, errors, terminal);
-    program::run(&rt, &mut console, terminal)
+    let mut console = Terminal::new(rt.alloc(), &rt, out, errors, terminals.errors);
+    program::run(&rt, &mut console, terminals)
 }

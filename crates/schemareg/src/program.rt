@@ -12,7 +12,7 @@ ghost use Rattle.schemareg.specs.Services.{EndsRun, EndsServing, EndsServingMany
 ghost use Rattle.schemareg.specs.Stops.{AreMistakes, IsFoundIn, StopsBy, is_error, status_of};
 ghost use Rattle.schemareg.specs.Stored.{EndsAsked, EndsStoredMany, EndsStoredRun, EndsStoredServing, RunsStoredWith};
 
-use crate::files::{FileSystem, Logs, Texts};
+use crate::files::{FileSystem, Logs, Terminals, Texts};
 use crate::folders::Named;
 use crate::forms::Forms;
 use crate::service::InTurn;
@@ -31,18 +31,18 @@ use std::net::{Net, TcpListener, TcpStream};
 use std::process::ExitCode;
 use std::time::Clock;
 
-/// Runs the program on its words, and gives its status. `terminal` says whether standard error is a terminal.
+/// Runs the program on its words, and gives its status.
 pub fn run<O, E>(
     rt: &HostRuntime,
     console: &mut Terminal<'_, HostRuntime, O, E>,
-    terminal: bool,
+    terminals: Terminals,
 ) -> ExitCode
 where
     O: Write + ByteWriter,
     E: Write + ByteWriter,
     ensures { exit_status result ≤ 2 }
 {
-    let files = FileSystem { rt, terminal };
+    let files = FileSystem { rt, terminals };
     match reading::words(rt) {
         Ok(words) => answer(
             rt.alloc(),

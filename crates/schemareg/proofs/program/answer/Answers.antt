@@ -12,8 +12,8 @@ use Rattle.schemareg.proofs.Formed.{ended_in_order, stopped_in_order}
 use Rattle.schemareg.proofs.Mistakes.{mistaken}
 use Rattle.schemareg.proofs.program.answer.Goals as goal
 
-pub returns-in-Err-clause-mistakes : goal.returns-in-Err-clause-mistakes
-returns-in-Err-clause-mistakes g c = λ m.
+pub returns-clause-mistakes : goal.returns-clause-mistakes
+returns-clause-mistakes g c = λ m.
     c.from-in-Err.ensures ∙ (c.explain.ensures.error (mistaken (faults_of (map g.S.AsStr.text c.args.words.now)) c.in-Err.stop m c.in-Err.ensures.found)).0
 
 pub returns-in-Ok-clause-calls : goal.returns-in-Ok-clause-calls
@@ -42,8 +42,8 @@ pub returns-in-Ok-clause-alone : goal.returns-in-Ok-clause-alone
 returns-in-Ok-clause-alone g c = λ call m zero.
     subst (λ n. EndsAsked g.F.Store.DocumentStore.recovers (g.F.Texts.text_at c.args.files.now) call (Ok n)) (sym c.from.ensures ∙ zero) (c.in-Ok.ensures.alone call m)
 
-pub returns-in-Err-clause-alone : goal.returns-in-Err-clause-alone
-returns-in-Err-clause-alone g c = λ call m zero.
+pub returns-clause-alone : goal.returns-clause-alone
+returns-clause-alone g c = λ call m zero.
     by_carried_out _ call (λ x. EndsReading (names_of x) (address_of x) (Err c.in-Err.stop)) _
     (λ x reading. not_stopped (names_of x) (address_of x) c.in-Err.stop (exit_status c.from-in-Err.result) _ reading
     (λ error. c.from-in-Err.ensures ∙ (c.explain.ensures.error error).0) zero)
@@ -54,15 +54,15 @@ returns-in-Ok-clause-unread g c = λ call m.
     ended_in_order _ (g.F.Texts.is_unreadable c.args.files.now) (g.F.Forms.disk c.args.files.now) _ _ (g.O.ByteWriter.writes c.args.console.now.output.stream)
     (g.O.ByteWriter.writes c.obey.new.console.output.stream) c.in-Ok.status (exit_status c.from.result) call c.from.ensures (c.in-Ok.ensures.order call m)
 
-pub returns-in-Err-clause-unread : goal.returns-in-Err-clause-unread
-returns-in-Err-clause-unread g c = λ call m.
+pub returns-clause-unread : goal.returns-clause-unread
+returns-clause-unread g c = λ call m.
     stopped_in_order _ (g.F.Texts.is_unreadable c.args.files.now) (g.F.Forms.disk c.args.files.now) _ _ (g.O.ByteWriter.writes c.args.console.now.output.stream)
     (g.O.ByteWriter.writes c.obey.new.console.output.stream) (g.O.ByteWriter.writes c.explain.new.console.output.stream) c.in-Err.stop (exit_status c.from-in-Err.result) call
     (told_with g.O.ByteWriter.writes c.in-Err.stop c.explain.result (exit_status c.from-in-Err.result) c.obey.new.console.output.stream c.explain.new.console.output.stream
     c.from-in-Err.ensures c.explain.ensures.error) (c.in-Err.ensures.order call m)
 
-pub returns-in-Err-clause-calls : goal.returns-in-Err-clause-calls
-returns-in-Err-clause-calls g c = λ call m.
+pub returns-clause-calls : goal.returns-clause-calls
+returns-clause-calls g c = λ call m.
     let before = g.O.ByteWriter.writes c.args.console.now.output.stream in
     let after = g.O.ByteWriter.writes c.obey.new.console.output.stream in
     let final = g.O.ByteWriter.writes c.explain.new.console.output.stream in
@@ -72,8 +72,8 @@ returns-in-Err-clause-calls g c = λ call m.
     (told_with g.O.ByteWriter.writes c.in-Err.stop c.explain.result (exit_status c.from-in-Err.result) c.obey.new.console.output.stream c.explain.new.console.output.stream c.from-in-Err.ensures c.explain.ensures.error))
     (c.in-Err.ensures.calls call m)
 
-pub returns-in-Err-clause-ran : goal.returns-in-Err-clause-ran
-returns-in-Err-clause-ran g c = λ call m.
+pub returns-clause-ran : goal.returns-clause-ran
+returns-clause-ran g c = λ call m.
     let reads = g.I.ByteReader.reads c.args.input.now in
     let writes = g.O.ByteWriter.writes c.args.console.now.output.stream in
     let more = g.I.ByteReader.reads c.obey.new.input in

@@ -75,7 +75,7 @@ impl Rest {
             instant_nanos now - instant_nanos since < as_nanos self.now.lull) }
     {
         match quiet_since {
-            Some(since) => now.duration_since(since) < self.lull,
+            Some(since) => now.duration_since(since).as_nanos() < self.lull.as_nanos(),
             None => true,
         }
     }

@@ -4,7 +4,7 @@ use crate::served_hubs::{CLOSING, LAST_BAD_ROUTE, OUTPUT, POST, PUT, PUT_FRONT, 
 use crate::served_networks::{ENOUGH, LAST, Script, expect_script};
 use network::Happening::*;
 
-const ENDS: &[Script<'static>] = &[
+const ENDS: &[Script<'static, 'static>] = &[
     Script {
         why: "a stream may end behind a whole request (HTTP.md)",
         most_memory: ENOUGH,
@@ -158,7 +158,7 @@ fn each_end_is_that_of_one_connection(rt: HostRuntime) {
     }
 }
 
-const OVER: &[Script<'static>] = &[
+const OVER: &[Script<'static, 'static>] = &[
     Script {
         why: "bytes that nobody takes at the end are dropped",
         most_memory: ENOUGH,

@@ -48,13 +48,13 @@ fn taken_in_parts(alloc: Global, room: usize) -> Result<Vec<Happening<'static>>,
     Ok(script)
 }
 
-fn expect_of_happenings(
+fn expect_of_happenings<'a>(
     rt: &impl Abort,
     alloc: Global,
-    why: &str,
+    why: &'a str,
     happenings: Result<Vec<Happening<'static>>, AllocError>,
-    outcomes: &[Outcome<'_>],
-    told: &str,
+    outcomes: &'a [Outcome<'a>],
+    told: &'a str,
 ) {
     match happenings {
         Ok(happenings) => {
@@ -104,7 +104,7 @@ fn writes_that_take_a_part(rt: HostRuntime) {
     expect_of_happenings(&rt, alloc, why, taken_in_parts(alloc, 100), outcomes, "0+");
 }
 
-const WAITING_WRITES: &[Script<'static>] = &[
+const WAITING_WRITES: &[Script<'static, 'static>] = &[
     Script {
         why: "a write that would wait goes on once it can, and others meanwhile",
         most_memory: ENOUGH,
@@ -183,7 +183,7 @@ fn a_client_that_takes_no_replies_waits_alone(rt: HostRuntime) {
     }
 }
 
-const SPURIOUS: &[Script<'static>] = &[
+const SPURIOUS: &[Script<'static, 'static>] = &[
     Script {
         why: "a connection that is ready without a byte waits for one",
         most_memory: ENOUGH,
@@ -247,7 +247,7 @@ fn readiness_that_tells_nothing(rt: HostRuntime) {
     }
 }
 
-const MEMORY: &[Script<'static>] = &[
+const MEMORY: &[Script<'static, 'static>] = &[
     Script {
         why: "while one holds more than all may, no other is read (LIMITS.md)",
         most_memory: 50,

@@ -42,11 +42,11 @@ pub type Outcome<'a> = (u64, &'a str, usize);
 
 /// What happens, and what becomes of the connections.
 #[derive(Clone, Copy)]
-pub struct Script<'a> {
+pub struct Script<'h, 'a> {
     pub why: &'a str,
     /// How many bytes all connections may keep.
     pub most_memory: usize,
-    pub happenings: &'a [Happening<'a>],
+    pub happenings: &'h [Happening<'h>],
     pub outcomes: &'a [Outcome<'a>],
     /// What is noted of those that were opened and have ended.
     pub told: &'a str,
@@ -100,7 +100,7 @@ fn expect_outcomes(
     rt: &impl Abort,
     alloc: Global,
     network: &MemoryNetwork<'_>,
-    script: &Script<'_>,
+    script: &Script<'_, '_>,
 ) {
     for outcome in script.outcomes {
         expect_outcome(rt, alloc, network, outcome, script.why);
@@ -109,7 +109,7 @@ fn expect_outcomes(
 }
 
 /// Expects that the script is served so.
-pub fn expect_script(rt: &impl Abort, alloc: Global, script: &Script<'_>) {
+pub fn expect_script(rt: &impl Abort, alloc: Global, script: &Script<'_, '_>) {
     let mut sessions = sessions(alloc);
     let mut network = MemoryNetwork::new(alloc, script.happenings);
     let mut observer = new_noting(alloc);

@@ -61,13 +61,19 @@ impl<C: Clock> Sockets<'_, C> {
         self.resting.count > 0 && self.table.queue_len() == self.resting.count && !self.may_come()
     }
 
-    /// How long the system may let it wait. Where nobody else is ready, until the first rest ends for that.
+    /// How long the system may let it wait. Where nobody else is ready, until the first rest ends for that: not at all for a
+    /// part of a millisecond, which the system makes a whole one.
     fn patience(&self) -> Duration {
         let tick = Duration::from_millis(TICK);
         match self.quiet_since {
             Some(since) if self.is_all_at_rest() => {
                 let quiet = self.now.duration_since(since);
-                self.resting.lull.saturating_sub(quiet).min(tick)
+                let left = self.resting.lull.saturating_sub(quiet).min(tick);
+                if left < Duration::from_millis(1) {
+                    Duration::ZERO
+                } else {
+                    left
+                }
             }
             _ if self.table.queue_len() > 0 || self.may_come() => Duration::ZERO,
             _ => tick,
@@ -90,6 +96,7 @@ impl<C: Clock> Sockets<'_, C> {
             self.listener = None;
         }
         self.left = self.table.queue_len();
+        self.turns = 0;
         self.quiet_since = if self.is_all_at_rest() {
             self.quiet_since.or(Some(self.now))
         } else {

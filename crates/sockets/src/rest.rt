@@ -58,12 +58,12 @@ impl Rest {
 
     /// That of a connection that gave way, behind an end of a round that took so long, from now on.
     pub(crate) fn behind_end(now: Instant, took: Duration, changes: u64) -> Option<Rest>
-        ensures { IfSome result (λ rest.
-            Begins rest now (min (as_nanos took * 20) 100_000_000) 0 changes true) }
+        ensures { IfSome result (λ rest. Begins rest now
+            (min (as_nanos took * 20) 100_000_000) (as_nanos took / 10) changes true) }
     {
         Some(Rest {
             until: now.checked_add(rest_behind_end(took))?,
-            lull: Duration::ZERO,
+            lull: took / TIMES_OF_LULL,
             changes,
             gives_way: true,
         })

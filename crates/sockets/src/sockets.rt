@@ -40,6 +40,8 @@ pub struct Sockets<'r, C> {
     pub(crate) table: Table,
     /// How many of the queue are told before the system is asked again.
     pub(crate) left: usize,
+    /// How many turns this round has had.
+    pub(crate) turns: usize,
     /// Those of the queue that rest.
     pub(crate) resting: Resting,
     /// From when on nobody else was ready, as long as some rest.
@@ -99,6 +101,7 @@ impl<'r, C: Clock + Net> Sockets<'r, C> {
             events: Events::with_capacity(alloc, MOST_EVENTS)?,
             table: Table::new(alloc),
             left: 0,
+            turns: 0,
             resting: Resting::none(),
             quiet_since: None,
             changes: 0,

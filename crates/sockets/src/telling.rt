@@ -9,6 +9,9 @@ use crate::sockets::{Sockets, TICK};
 use network::{Client, Occasion};
 use std::time::{Clock, Duration};
 
+/// How many turns a round has at most, unless a connection gave way in it.
+const MOST_TURNS: usize = 16;
+
 impl<C: Clock> Sockets<'_, C> {
     ghost use Rattle.sockets.specs.Sockets.{MovesNothing};
     ghost use Rattle.sockets.specs.Numbers.{count_after};
@@ -74,6 +77,15 @@ impl<C: Clock> Sockets<'_, C> {
         true
     }
 
+    /// How many of the queue are looked at yet in this round. Replies that wait for no sync don't wait for many turns.
+    fn left(&self) -> usize {
+        if self.turns >= MOST_TURNS && !self.is_long {
+            0
+        } else {
+            self.left
+        }
+    }
+
     /// The next of the queue that is to be told ready.
     fn ready(&mut self) -> Option<u64>
         ensures moves { MovesNothing self.old self.new }
@@ -82,12 +94,13 @@ impl<C: Clock> Sockets<'_, C> {
         ensures clients { KeepsClients self.old.table self.new.table }
         ensures count { self.new.table.count ≡ self.old.table.count }
     {
-        for _ in 0..self.left {
+        for _ in 0..self.left() {
             self.left = self.left.saturating_sub(1);
             match self.table.pop() {
                 None => return None,
                 Some(id) => {
                     if self.takes_turn(id) {
+                        self.turns = self.turns.saturating_add(1);
                         return Some(id);
                     }
                 }

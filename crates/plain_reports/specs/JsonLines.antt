@@ -7,6 +7,13 @@ abbrev pub line_member : Option ℕ → Text
 line_member None = []
 line_member (Some n) = codes ",\"line\":" ++ decimal n
 
+abbrev pub line_start : Text → Option ℕ → Text
+line_start path line = codes "{\"instance\":" ++ text (string path) ++ line_member line
+
 -- the output's text begins with a brace
 abbrev pub json_line_text : Text → Option ℕ → Text → Text
-json_line_text path line output = codes "{\"instance\":" ++ text (string path) ++ line_member line ++ codes "," ++ drop 1 output
+json_line_text path line output = line_start path line ++ codes "," ++ drop 1 output
+
+-- of an instance that is refused, with the reason
+abbrev pub json_refusal_text : Text → Option ℕ → Text → Text
+json_refusal_text path line why = line_start path line ++ codes ",\"refused\":" ++ text (string why) ++ codes "}"

@@ -1,3 +1,4 @@
+pub mod Commands
 pub mod ErrorUnits
 pub mod Escapes
 pub mod JsonLines

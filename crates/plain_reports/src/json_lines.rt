@@ -1,7 +1,7 @@
 //! One line of JSON for an instance.
 
 ghost use Rattle.std.specs.Prelude.{◌≡◌, ◌≢◌, IfOk, IfErr, string_bytes};
-ghost use Rattle.plain_reports.specs.JsonLines.{json_line_text, line_member};
+ghost use Rattle.plain_reports.specs.JsonLines.{json_line_text, json_refusal_text, line_member, line_start};
 
 use crate::instance::Instance;
 use json_doc::{Doc, Fault, write};
@@ -18,13 +18,41 @@ pub fn json_line(alloc: Global, instance: Instance<'_>, output: &str) -> Result<
     let Some(members) = output.strip_prefix('{') else {
         return Err(Fault::BadJson);
     };
-    let path = write(alloc, &Doc::string(alloc, instance.path)?)?;
-    let line = line_member(alloc, instance.line)?;
+    let mut text = line_start(alloc, instance.path, instance.line)?;
+    text.push_str(",")?;
+    text.push_str(members)?;
+    Ok(text)
+}
+
+/// One line of JSON, without a line feed, for an instance that is refused: an object with the instance's path as `instance`,
+/// its `line` where it has one, and why it is refused as `refused`. The only error is want of memory.
+pub fn json_refusal(
+    alloc: Global,
+    path: &str,
+    line: Option<usize>,
+    why: &str,
+) -> Result<String, Fault>
+    ensures ok { IfOk result (λ s. string_bytes s ≡ json_refusal_text path.now line why.now) }
+    ensures err { IfErr result (λ f. f ≡ Fault.NoRoom) }
+{
+    let mut text = line_start(alloc, path, line)?;
+    let why = write(alloc, &Doc::string(alloc, why)?)?;
+    text.push_str(",\"refused\":")?;
+    text.push_str(why.as_str())?;
+    text.push_str("}")?;
+    Ok(text)
+}
+
+// The path, and the line where there is one.
+fn line_start(alloc: Global, path: &str, line: Option<usize>) -> Result<String, Fault>
+    ensures ok { IfOk result (λ s. string_bytes s ≡ line_start path.now line) }
+    ensures err { IfErr result (λ f. f ≡ Fault.NoRoom) }
+{
+    let path = write(alloc, &Doc::string(alloc, path)?)?;
+    let line = line_member(alloc, line)?;
     let mut text = String::from_str(alloc, "{\"instance\":")?;
     text.push_str(path.as_str())?;
     text.push_str(line.as_str())?;
-    text.push_str(",")?;
-    text.push_str(members)?;
     Ok(text)
 }
 

@@ -14,9 +14,10 @@ mod units;
 mod wanted;
 
 pub use causes::causes_of;
+pub use github::refusal_command;
 pub use instance::{Instance, Style};
 pub use json_doc::Fault;
-pub use json_lines::json_line;
+pub use json_lines::{json_line, json_refusal};
 pub use lines::error_lines;
 pub use shown::shown_text;
 pub use units::{ErrorUnit, error_units};

@@ -2,7 +2,10 @@
 
 use crate::expectations::expect_told;
 use json_doc::{Doc, read};
-use plain_reports::{Fault, Instance, Schemas, Style, error_lines, json_line, shown_text};
+use plain_reports::{
+    Fault, Instance, Schemas, Style, error_lines, json_line, json_refusal, refusal_command,
+    shown_text,
+};
 use std::alloc::Global;
 use std::process::Abort;
 
@@ -104,6 +107,36 @@ fn lines_of_json_begin_with_the_instance(rt: HostRuntime) {
         wanted,
         "a line of JSON",
     );
+}
+
+#[test]
+fn lines_of_json_tell_why_an_instance_is_refused(rt: HostRuntime) {
+    let wanted =
+        "{\"instance\":\"a,\\\"b\\\".json\",\"line\":3,\"refused\":\"25 BadUri \\\"x\\\"\"}";
+    let found = json_refusal(rt.alloc(), "a,\"b\".json", Some(3), "25 BadUri \"x\"");
+    expect_told(&rt, rt.alloc(), found, wanted, "a refused line");
+}
+
+fn command(alloc: Global, line: Option<usize>, column: Option<usize>) -> Result<String, Fault> {
+    Ok(refusal_command(
+        alloc,
+        "a:b,c.json",
+        line,
+        column,
+        "1 BadJson, 5%",
+        "no:\n5%, JSON",
+    )?)
+}
+
+#[test]
+fn annotations_tell_why_an_instance_is_refused(rt: HostRuntime) {
+    let whole =
+        "::error file=a%3Ab%2Cc.json,line=4,col=2,title=1 BadJson%2C 5%25::no:%0A5%25, JSON\n";
+    let found = command(rt.alloc(), Some(4), Some(2));
+    expect_told(&rt, rt.alloc(), found, whole, "with its place");
+    let bare = "::error file=a%3Ab%2Cc.json,title=1 BadJson%2C 5%25::no:%0A5%25, JSON\n";
+    let found = command(rt.alloc(), None, None);
+    expect_told(&rt, rt.alloc(), found, bare, "without a place");
 }
 
 // With `["lines","id"]` as the value of each keyword.

@@ -259,20 +259,33 @@ def putting(server, document, pause):
         putter.result()
 
 
+def beside_puts(server, request, make, pause, seconds):
+    """What `wrk` told beside a connection that puts what is made, the part of the time that the server waited, and the times of puts."""
+    with putting(server, make(), pause) if make else nullcontext([]) as took:
+        asked, _, waited = each_request(server, request, ASKING, seconds)
+    return asked, waited, took
+
+
 def large_table(service):
+    """All rows are tried in turn, so that what else goes on in the machine is spread over them."""
     needs("wrk")
-    rows, held = [], True
+    tries = {name: [] for name, *_ in LARGE}
     with prepared(service) as (server, request):
-        for name, make, pause, is_marked in LARGE:
-            with putting(server, make(), pause) if make else nullcontext([]) as took:
-                asked, _, waited = each_request(server, request, ASKING, whole(3 * service.seconds))
-            holds = asked.p99 < MOST_LATENCY or not is_marked
-            held = held and holds
-            put = [str(len(took)), time_of(median(took))] if took else ["-", "-"]
-            mark = [f"p99 below {time_of(MOST_LATENCY)}", word(holds)] if is_marked else ["-", "-"]
-            latencies = [time_of(each) for each in (asked.median, asked.p99, asked.longest)]
-            rows.append([name, *put, f"{asked.rate:,.0f}", f"{waited:.0%}", *latencies, *mark])
-    head = ["One connection puts", "Puts", "A put", f"{ASKING} others, a second", "Waited", "p50", "p99", "Longest", "Mark", ""]
+        for _ in range(TRIES):
+            for name, make, pause, _ in LARGE:
+                tries[name].append(beside_puts(server, request, make, pause, whole(3 * service.seconds)))
+    rows, held = [], True
+    for name, _, _, is_marked in LARGE:
+        asked, waited, took = zip(*tries[name])
+        puts = [each for times in took for each in times]
+        last = median(each.p99 for each in asked)
+        held = held and (last < MOST_LATENCY or not is_marked)
+        put = [str(len(puts)), time_of(median(puts))] if puts else ["-", "-"]
+        mark = [f"p99 below {time_of(MOST_LATENCY)}", word(last < MOST_LATENCY)] if is_marked else ["-", "-"]
+        latencies = [time_of(median(each.median for each in asked)), time_of(last), time_of(max(each.longest for each in asked))]
+        each_p99 = " ".join(time_of(each.p99) for each in asked)
+        rows.append([name, *put, f"{median(each.rate for each in asked):,.0f}", f"{median(waited):.0%}", *latencies, each_p99, *mark])
+    head = ["One connection puts", "Puts", "A put", f"{ASKING} others, a second", "Waited", "p50", "p99", "Longest", "p99 of each try", "Mark", ""]
     print_table(head, rows)
     return held
 

@@ -90,7 +90,7 @@ class Soak:
         self.checks = {}
         self.lost = {}  # of connections that were reset while asked the tenants, by the server's numbers
         self.pool = ThreadPoolExecutor(2)
-        self.connections = self.compared = self.wrong = self.rounds = self.unknown = self.replies = self.closings = 0
+        self.connections = self.compared = self.wrong = self.rounds = self.unknown = self.unchosen = self.replies = self.closings = 0
         self.ends = dict.fromkeys(ENDS, 0)
         self.statuses = {}
         self.memory = []  # (seconds, KB)
@@ -221,12 +221,16 @@ class Soak:
             self.rested(client)
 
     def ended(self, client):
-        """The server has ended the connection."""
-        if client.wanted or client.rest or not client.ends_by_server:
-            raise OSError(f"the server ended a connection that is {client.end}: {len(client.wanted)} replies to come, "
-                          f"{client.rest[:80]!r}")
-        if client.end == "left idle" and time.monotonic() - client.sent < IDLE - 1:
-            self.note(f"a connection was ended as idle {time.monotonic() - client.sent:.1f} seconds after a byte was sent")
+        """The server has ended the connection: one that was left idle, or one that wasn't chosen for as long."""
+        quiet = time.monotonic() - client.sent
+        is_idle = not client.wanted and not client.is_last and quiet >= IDLE - 1
+        if client.wanted or client.rest or not (client.ends_by_server or is_idle):
+            raise OSError(f"the server ended a connection that is {client.end} {quiet:.1f} seconds after a byte was sent: "
+                          f"{len(client.wanted)} replies to come, {client.rest[:80]!r}")
+        if client.end == "left idle" and quiet < IDLE - 1:
+            self.note(f"a connection was ended as idle {quiet:.1f} seconds after a byte was sent")
+        if is_idle:
+            self.unchosen += 1
         self.leave(client)
 
     def replied(self, client, reply):
@@ -284,13 +288,13 @@ class Soak:
             self.asking.append(tenant)
 
     def taker(self):
-        """A connection that takes a turn. Those on which nothing moved for long are left idle from here on: the server might
+        """A connection that takes a turn. Those on which nothing was sent for long are left idle from here on: the server might
         end them before it reads what is asked."""
         while True:
             if not self.takers:
                 return None
             client = self.draw.choice(self.takers)
-            if not client.wanted and not client.out and time.monotonic() - client.moved > IDLE / 2:
+            if not client.wanted and not client.out and time.monotonic() - client.sent > IDLE / 2:
                 self.takers.remove(client)
                 client.is_last = True
                 self.leave_idle(client)
@@ -460,7 +464,7 @@ def soak(server, asked_tenants, seed, connections, seconds):
     flat, most = is_flat(it.memory, took)
     print(f"{took / 60:.1f} minutes, seed {seed}: {len(it.tenants)} tenants on {connections} connections at once, "
           f"{it.rounds:,} rounds, {it.connections:,} connections, {it.compared:,} replies compared, {it.wrong} wrong; "
-          f"{it.unknown:,} requests on connections that were reset")
+          f"{it.unknown:,} requests on connections that were reset; {it.unchosen:,} connections ended as idle that weren't chosen for long")
     print(f"ends: {', '.join(f'{end} {count:,}' for end, count in it.ends.items())}")
     print(f"statuses: {', '.join(f'{code} {count:,}' for code, count in sorted(it.statuses.items()))}")
     print(f"most resident memory of each third of the time behind the first minute, in KB: "

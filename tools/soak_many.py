@@ -90,7 +90,8 @@ class Soak:
         self.checks = {}
         self.lost = {}  # of connections that were reset while asked the tenants, by the server's numbers
         self.pool = ThreadPoolExecutor(2)
-        self.connections = self.compared = self.wrong = self.rounds = self.unknown = self.unchosen = self.replies = self.closings = 0
+        self.connections = self.compared = self.wrong = self.rounds = self.replies = self.closings = 0
+        self.unknown = self.unchosen = 0  # requests on connections that were reset; connections that weren't chosen for long
         self.ends = dict.fromkeys(ENDS, 0)
         self.statuses = {}
         self.memory = []  # (seconds, KB)
@@ -464,7 +465,8 @@ def soak(server, asked_tenants, seed, connections, seconds):
     flat, most = is_flat(it.memory, took)
     print(f"{took / 60:.1f} minutes, seed {seed}: {len(it.tenants)} tenants on {connections} connections at once, "
           f"{it.rounds:,} rounds, {it.connections:,} connections, {it.compared:,} replies compared, {it.wrong} wrong; "
-          f"{it.unknown:,} requests on connections that were reset; {it.unchosen:,} connections ended as idle that weren't chosen for long")
+          f"{it.unknown:,} requests on connections that were reset; "
+          f"{it.unchosen:,} connections ended as idle that weren't chosen for long")
     print(f"ends: {', '.join(f'{end} {count:,}' for end, count in it.ends.items())}")
     print(f"statuses: {', '.join(f'{code} {count:,}' for code, count in sorted(it.statuses.items()))}")
     print(f"most resident memory of each third of the time behind the first minute, in KB: "

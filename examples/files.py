@@ -129,6 +129,28 @@ def github_has_annotations(program):
     return wrong((f"::error file=shop/orders/2-currency.json,line={line},col={column},title=enum is not met::{told}\n", "", 1), got)
 
 
+def json_has_refused_instances(program):
+    out, errors, status = ended(program, ["check", "--format", "json", "--quiet", *ORDERS, "shop/broken", "shop/nowhere.json"])
+    wanted = '{"instance":"shop/broken/4-broken.json","refused":"1 BadJson"}\n{"instance":"shop/nowhere.json","refused":"cannot read"}\n'
+    return wrong((wanted, 2), (out, status)) or starts(errors, "refused: shop/broken/4-broken.json: 1 BadJson", "  shop/broken/4-broken.json:4:1: ")
+
+
+def json_has_refused_lines(program):
+    out, _, status = ended(program, ["check", "--format", "json", "--lines", *ORDERS, "shop/orders.ndjson"])
+    line = out.splitlines()[-1]
+    return wrong(('{"instance":"shop/orders.ndjson","line":4,"refused":"1 BadJson"}', 2), (line, status))
+
+
+def github_has_refused_instances(program):
+    out, errors, status = ended(program, ["check", "--format", "github", "--quiet", *ORDERS, "shop/broken", "shop/nowhere.json"])
+    told = errors.replace("\n  shop/broken", "%0A  shop/broken").splitlines()
+    wanted = (
+        f"::error file=shop/broken/4-broken.json,line=4,col=1,title=1 BadJson::{told[0]}\n"
+        f"::error file=shop/nowhere.json,title=cannot read::{told[1]}\n"
+    )
+    return wrong((wanted, 2), (out, status))
+
+
 def lines_are_instances(program):
     out, errors, status = ended(program, ["check", "--lines", *ORDERS, "shop/orders.ndjson"])
     second = (SHOP / "orders.ndjson").read_text().split("\n")[1]
@@ -374,6 +396,9 @@ TRIALS = {
     "--quiet prints only what is wrong": quiet_prints_only_what_is_wrong,
     "--format json prints a line for each instance": json_has_a_line_for_each,
     "--format github prints annotations": github_has_annotations,
+    "--format json has a line for each instance that is refused": json_has_refused_instances,
+    "--format json has the line of the file": json_has_refused_lines,
+    "--format github has an annotation for each instance that is refused": github_has_refused_instances,
     "--lines takes each line as an instance, and no blank one": lines_are_instances,
     "- with --lines has lines on standard input": standard_input_has_lines,
     "- is an instance on standard input": standard_input_is_an_instance,

@@ -1,5 +1,5 @@
 -- One account, none, and some after others.
-use Rattle.std.proofs.Common.{◌≡◌, ◌++◌, ◌∷◌, [], ◌∙◌, ℕ, List, Option, Result, Ok, Err, ap, refl, sym, max, map, String, Global, string_bytes, append_assoc, arith, inl, inr}
+use Rattle.std.proofs.Common.{◌≡◌, ◌++◌, ◌∷◌, [], ◌∙◌, ℕ, List, Option, None, Result, Ok, Err, ap, refl, sym, max, map, String, Global, string_bytes, append_assoc, arith, inl, inr}
 use Rattle.std.specs.List.{All, concat}
 use Rattle.std.proofs.lemmas.List.{append-nil, map-append}
 use Rattle.std.proofs.lemmas.List.Folds.{concat-append}
@@ -56,21 +56,21 @@ joined P ms ns r s t x y = record {
 
 -- ---- one instance
 pub checked : (linked : Linked) (printing : Printing) (path : Text) (line : Option ℕ) (text : Text) (r : Result (Verdict × String Global) Trouble) (s t : State)
-    → ByLinked linked printing (λ judge. IsAnswerOf judge path line text r) → IsToldOf r s t → Accounts (IsJudged linked printing) (instance_at path line text ∷ []) s t
+    → ByLinked linked printing (λ judge. IsAnswerOf judge path line text r) → IsToldOf printing.format path line r s t → Accounts (IsJudged linked printing) (instance_at path line text ∷ []) s t
 checked linked printing path line text (Ok answer) s t judged told =
     let account : Account = record { subject = instance_at path line text; verdict = answer.0; printed = string_bytes answer.1; told = [] } in
     one (IsJudged linked printing) account s t (λ documents among. inl (record { answer = judged documents among; untold = refl })) told.0 (told.1 ∙ sym (append-nil s.told)) told.2
 checked linked printing path line text (Err trouble) s t judged told =
-    let account : Account = record { subject = instance_at path line text; verdict = Refused; printed = []; told = told.1.lines } in
+    let account : Account = record { subject = instance_at path line text; verdict = Refused; printed = told.0.printed; told = told.1.lines } in
     one (IsJudged linked printing) account s t
     (λ documents among.
-    inr (record { fault = (judged documents among).fault; judged = (judged documents among).judged; trouble = trouble; is = (judged documents among).is; troubled = record { refused = refl; unprinted = refl; told = told.1.told } }))
-    (told.0 ∙ sym (append-nil s.printed)) told.1.behind told.2
+    inr (record { fault = (judged documents among).fault; judged = (judged documents among).judged; trouble = trouble; is = (judged documents among).is; troubled = record { refused = refl; printed = told.0.is; told = told.1.told } }))
+    told.0.behind told.1.behind told.2
 
 -- what can't be read
-pub unreadable : (linked : Linked) (printing : Printing) (path : Text) (trouble : Trouble) (s t : State) → IsUnread path trouble → IsToldOf (Err trouble) s t
+pub unreadable : (linked : Linked) (printing : Printing) (path : Text) (trouble : Trouble) (s t : State) → IsUnread path trouble → IsToldOf printing.format path None (Err trouble) s t
     → Accounts (IsJudged linked printing) (unread path ∷ []) s t
 unreadable linked printing path trouble s t is told =
-    let account : Account = record { subject = unread path; verdict = Refused; printed = []; told = told.1.lines } in
-    one (IsJudged linked printing) account s t (λ documents among. record { trouble = trouble; is = is; troubled = record { refused = refl; unprinted = refl; told = told.1.told } })
-    (told.0 ∙ sym (append-nil s.printed)) told.1.behind told.2
+    let account : Account = record { subject = unread path; verdict = Refused; printed = told.0.printed; told = told.1.lines } in
+    one (IsJudged linked printing) account s t (λ documents among. record { trouble = trouble; is = is; troubled = record { refused = refl; printed = told.0.is; told = told.1.told } })
+    told.0.behind told.1.behind told.2

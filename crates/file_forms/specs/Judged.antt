@@ -13,7 +13,7 @@ use Rattle.file_checks.specs.FileJudgements.{judgement_over}
 use Rattle.file_checks.specs.declared.tally.Verdict.{Verdict}
 use Rattle.file_checks.specs.declared.tally.Verdict.TheVariants.{Refused}
 use Rattle.file_forms.specs.Accounts.{Account, Accounts, State}
-use Rattle.file_forms.specs.Printed.{IsAnswer}
+use Rattle.file_forms.specs.Printed.{IsAnswer, IsPrintedRefusal}
 use Rattle.file_forms.specs.Refusals.{IsRefusal, IsTold, IsUnread}
 use Rattle.file_forms.specs.Subjects.{Subject}
 use Rattle.file_forms.specs.declared.answering.Printing.{Printing}
@@ -41,10 +41,10 @@ pub record IsAnswered (judge : Judge) (text : Text) (a : Account) : Type 0 where
   pub answer : IsAnswer (judgement_by judge text) judge.format judge.quiet a.subject.path a.subject.line a.verdict a.printed
   pub untold : a.told ≡ []
 
--- of a trouble, of which nothing is printed
-pub record IsTroubled (trouble : Trouble) (a : Account) : Type 0 where
+-- of a trouble
+pub record IsTroubled (form : Format) (trouble : Trouble) (a : Account) : Type 0 where
   pub refused : a.verdict ≡ Refused
-  pub unprinted : a.printed ≡ []
+  pub printed : IsPrintedRefusal form a.subject.path a.subject.line trouble a.printed
   pub told : IsTold trouble a.told
 
 -- of a refusal, with the judgement's fault
@@ -53,16 +53,16 @@ pub record IsRefused (judge : Judge) (text : Text) (a : Account) : Type 0 where
   pub judged : IsFaultOf (judgement_by judge text) fault
   pub trouble : Trouble
   pub is : IsRefusal a.subject.path a.subject.line fault trouble
-  pub troubled : IsTroubled trouble a
+  pub troubled : IsTroubled judge.format trouble a
 
 -- of what can't be read
-pub record IsUnreadable (a : Account) : Type 0 where
+pub record IsUnreadable (form : Format) (a : Account) : Type 0 where
   pub trouble : Trouble
   pub is : IsUnread a.subject.path trouble
-  pub troubled : IsTroubled trouble a
+  pub troubled : IsTroubled form trouble a
 
 abbrev pub IsAccountOf : Judge → Account → Option Text → Type 0
-IsAccountOf judge a None = IsUnreadable a
+IsAccountOf judge a None = IsUnreadable judge.format a
 IsAccountOf judge a (Some text) = IsAnswered judge text a ⊎ IsRefused judge text a
 
 abbrev pub IsAccount : Judge → Account → Type 0

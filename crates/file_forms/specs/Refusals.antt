@@ -3,7 +3,7 @@ use Rattle.std.specs.Prelude.{◌≡◌, ◌⊎◌, ◌++◌, ◌∷◌, [], ℕ
 use Rattle.definitions.specs.Bytes.{line_feed}
 use Rattle.definitions.specs.Faults.{Fault}
 use Rattle.definitions.specs.Values.{Text}
-use Rattle.faults.specs.View.{fault_view}
+use Rattle.faults.specs.View.{fault_view, printed_text}
 use Rattle.faults.specs.declared.Fault as code
 use Rattle.file_forms.specs.RefusalLines.{refusal_line}
 use Rattle.file_forms.specs.declared.trouble.Refusal.{Refusal}
@@ -58,6 +58,12 @@ abbrev pub IsLineOf : Trouble → Text → Type 0
 IsLineOf (CannotRead path) told = told ≡ codes "cannot read " ++ shown_text (string_bytes path) ++ line_feed ∷ []
 IsLineOf (Refused refusal) told = IsRefusalText (path_of refusal) refusal.line (fault_view refusal.fault) told
 IsLineOf (CannotWrite path) told = told ≡ codes "cannot write " ++ shown_text (string_bytes path) ++ line_feed ∷ []
+
+-- why, in a few words: `1 BadJson`
+abbrev pub reason_text : Trouble → Text
+reason_text (CannotRead path) = codes "cannot read"
+reason_text (Refused refusal) = printed_text (fault_view refusal.fault)
+reason_text (CannotWrite path) = codes "cannot write"
 
 -- its lines, or that memory ran out
 abbrev pub IsTold : Trouble → Text → Type 0

@@ -100,7 +100,7 @@ impl Run {
     {
         match files.files_of(self.alloc, path, endings(lines)) {
             Ok(found) => self.check_found(files, console, checker, &found, lines),
-            Err(trouble) => self.refuse_unread(console, trouble),
+            Err(trouble) => self.refuse_unread(console, path, trouble),
         }
     }
 
@@ -134,8 +134,8 @@ impl Run {
             (stage_of self.new linked (C.printed console.new) (C.told console.new)) }
     {
         for folder in folders {
-            let trouble = Trouble::cannot_read(self.alloc, folder.as_str());
-            self.refuse_unread(console, trouble);
+            let path = folder.as_str();
+            self.refuse_unread(console, path, Trouble::cannot_read(self.alloc, path));
         }
     }
 

@@ -14,6 +14,7 @@ mod lines;
 mod linked_schemas;
 mod position;
 mod reading;
+mod refusals;
 mod roots;
 mod run;
 mod scanning;

@@ -38,7 +38,7 @@ impl Run {
     {
         match files.open(self.alloc, path) {
             Ok(mut file) => self.check_lines(&mut file, console, checker, path),
-            Err(trouble) => self.refuse_unread(console, trouble),
+            Err(trouble) => self.refuse_unread(console, path, trouble),
         }
     }
 
@@ -59,7 +59,7 @@ impl Run {
         self.total = None;
         match BufReader::with_capacity(self.alloc, PIECE, reader) {
             Ok(mut reader) => self.check_each_line(&mut reader, console, checker, path),
-            Err(error) => self.refuse_unread(console, unread(self.alloc, &error, path)),
+            Err(error) => self.refuse_unread(console, path, unread(self.alloc, &error, path)),
         }
     }
 
@@ -82,12 +82,12 @@ impl Run {
                 Ok(true) => self.check_line(console, checker, path, index + 1, line.as_slice()),
                 Ok(false) => return,
                 Err(trouble) => {
-                    self.refuse_unread(console, trouble);
+                    self.refuse_unread(console, path, trouble);
                     return;
                 }
             }
         }
-        self.refuse_unread(console, Trouble::cannot_read(self.alloc, path));
+        self.refuse_unread(console, path, Trouble::cannot_read(self.alloc, path));
     }
 
     /// Checks the line, unless it is blank.

@@ -1,11 +1,11 @@
 //! A run over instances.
 
 ghost use Rattle.std.specs.Prelude.{◌≡◌, ◌∷◌, [], Err, max};
-ghost use Rattle.definitions.specs.Values.{Text};
 ghost use Rattle.file_checks.specs.FileSources.{checker_linked};
 ghost use Rattle.file_checks.specs.Tallies.{status_of};
 ghost use Rattle.file_forms.specs.Accounts.{verdict_status};
 ghost use Rattle.file_forms.specs.Judged.{ByLinked, IsAnswerOf};
+ghost use Rattle.file_forms.specs.Printed.{PrintsRefusal};
 ghost use Rattle.file_forms.specs.Refusals.{IsUnread};
 ghost use Rattle.file_forms.specs.Stages.{GoesOver, stage_of};
 ghost use Rattle.file_forms.specs.Subjects.{Are, instance_at, unread};
@@ -14,6 +14,7 @@ ghost use Rattle.linker.specs.declared.linked.Linked.{Linked};
 
 use crate::answering::{Printing, answer};
 use crate::console::Console;
+use crate::refusals::{no_room_text, refusal_text};
 use crate::trouble::Trouble;
 use file_checks::{Checker, Tally, Verdict};
 use plain_reports::Instance;
@@ -57,7 +58,7 @@ impl Run {
             (C.told console.new)) }
     {
         let answered = self.answer(checker, instance);
-        self.tell(console, &answered);
+        self.tell(console, instance, &answered);
     }
 
     // What came of the instance, and what is printed of it.
@@ -84,8 +85,14 @@ impl Run {
     }
 
     // Prints the answer, or tells the trouble.
-    fn tell<C: Console>(&mut self, console: &mut C, answered: &Result<(Verdict, String), Trouble>)
-        ensures told { IsToldOf answered.now
+    fn tell<C: Console>(
+        &mut self,
+        console: &mut C,
+        instance: Instance<'_>,
+        answered: &Result<(Verdict, String), Trouble>,
+    )
+        ensures told { IsToldOf self.old.printing.format instance.entry.path.now
+            instance.entry.line answered.now
             (state_of (C.printed console.old) (C.told console.old) self.old.tally)
             (state_of (C.printed console.new) (C.told console.new) self.new.tally) }
         ensures printing { self.new.printing ≡ self.old.printing }
@@ -95,7 +102,7 @@ impl Run {
                 console.print(text.as_str());
                 self.count(*verdict);
             }
-            Err(trouble) => self.refuse(console, trouble),
+            Err(trouble) => self.refuse(console, instance.path, instance.line, trouble),
         }
         console.step(self.total);
     }
@@ -110,25 +117,55 @@ impl Run {
         self.tally.add(verdict);
     }
 
-    // Tells the trouble, and counts it.
-    fn refuse<C: Console>(&mut self, console: &mut C, trouble: &Trouble)
-        ensures told { IsToldOf (Err trouble.now)
+    // Tells the trouble with what has this path and line, prints it where the format has it, and counts it.
+    fn refuse<C: Console>(
+        &mut self,
+        console: &mut C,
+        path: &str,
+        line: Option<usize>,
+        trouble: &Trouble,
+    )
+        ensures told { IsToldOf self.old.printing.format path.now line (Err trouble.now)
             (state_of (C.printed console.old) (C.told console.old) self.old.tally)
             (state_of (C.printed console.new) (C.told console.new) self.new.tally) }
         ensures printing { self.new.printing ≡ self.old.printing }
     {
         console.tell(trouble);
+        self.print_refusal(console, path, line, trouble);
         self.count(Verdict::Refused);
     }
 
+    fn print_refusal<C: Console>(
+        &self,
+        console: &mut C,
+        path: &str,
+        line: Option<usize>,
+        trouble: &Trouble,
+    )
+        ensures printed { PrintsRefusal self.now.printing.format path.now line trouble.now
+            (C.printed console.old) (C.printed console.new) }
+        ensures told { C.told console.new ≡ C.told console.old }
+    {
+        let format = self.printing.format;
+        match refusal_text(self.alloc, format, path, line, trouble) {
+            Ok(text) => console.print(text.as_str()),
+            Err(_) => console.print(no_room_text(format)),
+        }
+    }
+
     /// Tells that the file or folder can't be read, and counts it.
-    pub(crate) fn refuse_unread<C: Console>(&mut self, console: &mut C, trouble: Trouble)
-        ensures { (path : Text) → (linked : Linked) → IsUnread path trouble → GoesOver
-            (Are (unread path ∷ []))
+    pub(crate) fn refuse_unread<C: Console>(
+        &mut self,
+        console: &mut C,
+        path: &str,
+        trouble: Trouble,
+    )
+        ensures { (linked : Linked) → IsUnread path.now trouble → GoesOver
+            (Are (unread path.now ∷ []))
             (stage_of self.old linked (C.printed console.old) (C.told console.old))
             (stage_of self.new linked (C.printed console.new) (C.told console.new)) }
     {
-        self.refuse(console, &trouble);
+        self.refuse(console, path, None, &trouble);
     }
 
     /// Tells how many there were, unless memory lacks.

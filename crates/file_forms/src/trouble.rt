@@ -1,7 +1,7 @@
 //! What goes wrong with a file.
 
 use crate::position::position_of;
-use crate::trouble_lines::{path_line, refused_line};
+use crate::trouble_lines::{fault_text, path_line, refused_line};
 use fault_sentences::sentence_of;
 use file_checks::Fault;
 use plain_reports::shown_text;
@@ -58,10 +58,10 @@ impl<T: Drop> From<AllocFailed<T>> for Trouble {
 }
 
 impl Trouble {
-    ghost use Rattle.std.specs.Prelude.{ℕ, IfOk, Option, string_bytes};
+    ghost use Rattle.std.specs.Prelude.{◌≡◌, ℕ, IfOk, Option, string_bytes};
     ghost use Rattle.definitions.specs.Values.{Text};
     ghost use Rattle.faults.specs.declared.Fault.{Fault};
-    ghost use Rattle.file_forms.specs.Refusals.{IsLineOf, IsRefusal, IsUnread, IsUnwritten, MeansNoRoom};
+    ghost use Rattle.file_forms.specs.Refusals.{IsLineOf, IsRefusal, IsUnread, IsUnwritten, MeansNoRoom, reason_text};
 
     /// That memory ran out.
     pub(crate) fn no_room() -> Trouble
@@ -142,6 +142,25 @@ impl Trouble {
             Trouble::CannotRead(path) => path_line(alloc, "cannot read ", path.as_str()),
             Trouble::CannotWrite(path) => path_line(alloc, "cannot write ", path.as_str()),
             Trouble::Refused(refusal) => refusal.lines(alloc),
+        }
+    }
+
+    /// Why, in a few words: `1 BadJson`. The only error is want of memory.
+    pub(crate) fn reason(&self, alloc: Global) -> Result<String, AllocError>
+        ensures { IfOk result (λ s. string_bytes s ≡ reason_text self.now) }
+    {
+        match self {
+            Trouble::CannotRead(_) => String::from_str(alloc, "cannot read"),
+            Trouble::CannotWrite(_) => String::from_str(alloc, "cannot write"),
+            Trouble::Refused(refusal) => fault_text(alloc, &refusal.fault),
+        }
+    }
+
+    /// The line and the column in the file, as far as they are known.
+    pub(crate) fn place(&self) -> Option<(usize, usize)> {
+        match self {
+            Trouble::Refused(refusal) => refusal.place(),
+            _ => None,
         }
     }
 }

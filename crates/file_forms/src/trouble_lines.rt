@@ -48,7 +48,8 @@ fn line_text(alloc: Global, line: Option<usize>) -> Result<String, AllocError>
     }
 }
 
-fn fault_text(alloc: Global, fault: &Fault) -> Result<String, AllocError>
+/// `3 BadJson`.
+pub(crate) fn fault_text(alloc: Global, fault: &Fault) -> Result<String, AllocError>
     ensures { IfOk result (λ s. string_bytes s ≡ printed_text (fault_view fault.now)) }
 {
     format!(in alloc; "{fault}")

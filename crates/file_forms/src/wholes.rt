@@ -30,7 +30,7 @@ impl Run {
     {
         match files.read(self.alloc, path) {
             Ok(text) => self.check_text(console, checker, path, text.as_slice()),
-            Err(trouble) => self.refuse_unread(console, trouble),
+            Err(trouble) => self.refuse_unread(console, path, trouble),
         }
     }
 
@@ -50,7 +50,7 @@ impl Run {
     {
         match reading::whole(self.alloc, input, "-") {
             Ok(text) => self.check_text(console, checker, "-", text.as_slice()),
-            Err(trouble) => self.refuse_unread(console, trouble),
+            Err(trouble) => self.refuse_unread(console, "-", trouble),
         }
     }
 

@@ -19,9 +19,9 @@ returns-in-Ok-false g c =
 pub returns-in-Err : goal.returns-in-Err
 returns-in-Err g c =
     go_on _ _ _ _ _ _ (λ xs ys read e. cut_off c.args.path.now _ _ c.loop-index.index xs ys read e) c.loop-index.invariant
-    (c.refuse_unread.ensures c.args.path.now (checker_linked c.loop-index.checker) c.in-Err.ensures.err)
+    (c.refuse_unread.ensures (checker_linked c.loop-index.checker) c.in-Err.ensures.err)
 
 pub returns : goal.returns
 returns g c =
     go_on _ _ _ _ _ _ (λ xs ys read e. cut_off c.args.path.now _ _ c.loop-index.index xs ys read e) c.loop-index.invariant
-    (c.refuse_unread-2.ensures c.args.path.now (checker_linked c.loop-index.checker) c.cannot_read.ensures)
+    (c.refuse_unread-2.ensures (checker_linked c.loop-index.checker) c.cannot_read.ensures)

@@ -11,4 +11,4 @@ returns-in-Ok g c =
 
 pub returns-in-Err : goal.returns-in-Err
 returns-in-Err g c =
-    so _ _ _ _ (none_of_them c.args.path.now _) (c.refuse_unread.ensures c.args.path.now (checker_linked c.args.checker.now) c.unread.ensures)
+    so _ _ _ _ (none_of_them c.args.path.now _) (c.refuse_unread.ensures (checker_linked c.args.checker.now) c.unread.ensures)

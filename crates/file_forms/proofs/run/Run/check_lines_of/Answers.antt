@@ -9,4 +9,4 @@ returns-in-Ok g c = so _ _ _ _ (lines_of c.args.path.now (g.F.Folders.holds c.ar
 pub returns-in-Err : goal.returns-in-Err
 returns-in-Err g c =
     so _ _ _ _ (lines_of_none c.args.path.now (g.F.Folders.holds c.args.files.now c.args.path.now))
-    (c.refuse_unread.ensures c.args.path.now (checker_linked c.args.checker.now) c.in-Err.ensures.err)
+    (c.refuse_unread.ensures (checker_linked c.args.checker.now) c.in-Err.ensures.err)

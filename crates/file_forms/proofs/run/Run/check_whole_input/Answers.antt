@@ -14,4 +14,4 @@ returns-in-Ok g c =
 pub returns-in-Err : goal.returns-in-Err
 returns-in-Err g c =
     so _ _ _ _ (no_whole (codes "-") (λ text. IfSome (g.I.Read.remaining c.args.input.now) (λ left. text ≡ left)))
-    (c.refuse_unread.ensures (codes "-") (checker_linked c.args.checker.now) c.in-Err.ensures.err)
+    (c.refuse_unread.ensures (checker_linked c.args.checker.now) c.in-Err.ensures.err)

@@ -11,9 +11,9 @@ pub loop-folder-preserved : goal.loop-folder-preserved
 loop-folder-preserved g c = λ linked.
     go_on _ _ _ _ _ _
     (λ xs ys are more.
-    unread_more c.args.folders.now c.loop-folder.folder-index c.folder-item.result c.as_str.result.now xs ys c.loop-folder-test.true c.folder-item.is c.as_str.ensures.value are more)
+    unread_more c.args.folders.now c.loop-folder.folder-index c.folder-item.result c.as_str-path.result.now xs ys c.loop-folder-test.true c.folder-item.is c.as_str-path.ensures.value are more)
     (c.loop-folder.invariant linked)
-    (c.refuse_unread.ensures c.as_str.result.now linked c.cannot_read-trouble.ensures)
+    (c.refuse_unread.ensures linked c.cannot_read.ensures)
 
 pub returns : goal.returns
 returns g c = λ linked.

@@ -11,6 +11,11 @@ use mio::event::Event;
 use std::io;
 use std::time::{Clock, Duration, Instant};
 
+/// How many turns each round may have at least, and into how many rounds the turns of more connections are cut.
+const FEW_TURNS: usize = 16;
+
+const PARTS: usize = 8;
+
 /// What the system told beside which connections are ready.
 #[derive(Clone, Copy)]
 struct News {
@@ -23,6 +28,11 @@ struct News {
 /// Whether the system told of an end, of a failure or of urgent data, each of which ends a read early.
 fn interrupts(event: &Event) -> bool {
     event.is_read_closed() || event.is_error() || event.is_priority()
+}
+
+/// How many turns a round has in which no change waits for a sync, where so many connections may have one.
+fn most_turns(queued: usize) -> usize {
+    (queued / PARTS).max(FEW_TURNS)
 }
 
 /// Has each connection of which the system told something be told ready.
@@ -96,7 +106,8 @@ impl<C: Clock> Sockets<'_, C> {
             self.listener = None;
         }
         self.left = self.table.queue_len();
-        self.turns = 0;
+        self.turns = most_turns(self.left);
+        self.changes_before = self.changes;
         self.quiet_since = if self.is_all_at_rest() {
             self.quiet_since.or(Some(self.now))
         } else {

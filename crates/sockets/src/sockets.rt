@@ -40,7 +40,7 @@ pub struct Sockets<'r, C> {
     pub(crate) table: Table,
     /// How many of the queue are told before the system is asked again.
     pub(crate) left: usize,
-    /// How many turns this round has had.
+    /// How many turns this round has left, unless a connection gives way in it.
     pub(crate) turns: usize,
     /// Those of the queue that rest.
     pub(crate) resting: Resting,
@@ -48,6 +48,8 @@ pub struct Sockets<'r, C> {
     pub(crate) quiet_since: Option<Instant>,
     /// How often a connection took a turn behind another's.
     pub(crate) changes: u64,
+    /// The same when this round began.
+    pub(crate) changes_before: u64,
     pub(crate) turn: Turn,
     /// A connection gave way in this round.
     pub(crate) is_long: bool,
@@ -105,6 +107,7 @@ impl<'r, C: Clock + Net> Sockets<'r, C> {
             resting: Resting::none(),
             quiet_since: None,
             changes: 0,
+            changes_before: 0,
             turn: Turn {
                 id: LISTENER,
                 start: None,

@@ -9,9 +9,6 @@ use crate::sockets::{Sockets, TICK};
 use network::{Client, Occasion};
 use std::time::{Clock, Duration};
 
-/// How many turns a round has at most, unless a connection gave way in it.
-const MOST_TURNS: usize = 16;
-
 impl<C: Clock> Sockets<'_, C> {
     ghost use Rattle.sockets.specs.Sockets.{MovesNothing};
     ghost use Rattle.sockets.specs.Numbers.{count_after};
@@ -79,7 +76,7 @@ impl<C: Clock> Sockets<'_, C> {
 
     /// How many of the queue are looked at yet in this round. Replies that wait for no sync don't wait for many turns.
     fn left(&self) -> usize {
-        if self.turns >= MOST_TURNS && !self.is_long {
+        if self.turns == 0 && !self.is_long {
             0
         } else {
             self.left
@@ -100,7 +97,7 @@ impl<C: Clock> Sockets<'_, C> {
                 None => return None,
                 Some(id) => {
                     if self.takes_turn(id) {
-                        self.turns = self.turns.saturating_add(1);
+                        self.turns = self.turns.saturating_sub(1);
                         return Some(id);
                     }
                 }

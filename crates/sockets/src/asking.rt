@@ -11,11 +11,6 @@ use mio::event::Event;
 use std::io;
 use std::time::{Clock, Duration, Instant};
 
-/// How many turns each round may have at least, and into how many rounds the turns of more connections are cut.
-const FEW_TURNS: usize = 16;
-
-const PARTS: usize = 8;
-
 /// What the system told beside which connections are ready.
 #[derive(Clone, Copy)]
 struct News {
@@ -28,11 +23,6 @@ struct News {
 /// Whether the system told of an end, of a failure or of urgent data, each of which ends a read early.
 fn interrupts(event: &Event) -> bool {
     event.is_read_closed() || event.is_error() || event.is_priority()
-}
-
-/// How many turns a round has in which no change waits for a sync, where so many connections may have one.
-fn most_turns(queued: usize) -> usize {
-    (queued / PARTS).max(FEW_TURNS)
 }
 
 /// Has each connection of which the system told something be told ready.
@@ -71,19 +61,13 @@ impl<C: Clock> Sockets<'_, C> {
         self.resting.count > 0 && self.table.queue_len() == self.resting.count && !self.may_come()
     }
 
-    /// How long the system may let it wait. Where nobody else is ready, until the first rest ends for that: not at all for a
-    /// part of a millisecond, which the system makes a whole one.
+    /// How long the system may let it wait. Where nobody else is ready, until the first rest ends for that.
     fn patience(&self) -> Duration {
         let tick = Duration::from_millis(TICK);
         match self.quiet_since {
             Some(since) if self.is_all_at_rest() => {
                 let quiet = self.now.duration_since(since);
-                let left = self.resting.lull.saturating_sub(quiet).min(tick);
-                if left < Duration::from_millis(1) {
-                    Duration::ZERO
-                } else {
-                    left
-                }
+                self.resting.lull.saturating_sub(quiet).min(tick)
             }
             _ if self.table.queue_len() > 0 || self.may_come() => Duration::ZERO,
             _ => tick,
@@ -106,8 +90,6 @@ impl<C: Clock> Sockets<'_, C> {
             self.listener = None;
         }
         self.left = self.table.queue_len();
-        self.turns = most_turns(self.left);
-        self.changes_before = self.changes;
         self.quiet_since = if self.is_all_at_rest() {
             self.quiet_since.or(Some(self.now))
         } else {

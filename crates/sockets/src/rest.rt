@@ -1,6 +1,6 @@
 //! Rests behind what took long.
 
-ghost use Rattle.std.specs.Prelude.{◌≡◌, ◌==◌, ◌||◌, ◌<◌, ◌≤◌, ◌*◌, ◌/◌, ◌-◌, ◌↔◌, not, None, IfSome, IsSome, IsTrue, true, false, min, max};
+ghost use Rattle.std.specs.Prelude.{◌≡◌, ◌≢◌, ◌<◌, ◌≤◌, ◌*◌, ◌/◌, ◌-◌, ◌↔◌, None, IfSome, IsSome, IsTrue, true, false, min, max};
 ghost use Rattle.std.specs.Duration.{as_nanos};
 ghost use Rattle.std.specs.Time.{instant_nanos};
 
@@ -31,8 +31,7 @@ pub struct Rest {
     until: Instant,
     /// It is over too where nobody else was ready for so long.
     lull: Duration,
-    /// How often another connection than the one before had taken a turn when it began, or when the round did that the
-    /// connection gave way in.
+    /// How often another connection than the one before had taken a turn when it began.
     changes: u64,
     /// It gave way: it rests before its next request. Else it rests amid a request.
     pub gives_way: bool,
@@ -59,12 +58,12 @@ impl Rest {
 
     /// That of a connection that gave way, behind an end of a round that took so long, from now on.
     pub(crate) fn behind_end(now: Instant, took: Duration, changes: u64) -> Option<Rest>
-        ensures { IfSome result (λ rest. Begins rest now
-            (min (as_nanos took * 20) 100_000_000) (as_nanos took / 10) changes true) }
+        ensures { IfSome result (λ rest.
+            Begins rest now (min (as_nanos took * 20) 100_000_000) 0 changes true) }
     {
         Some(Rest {
             until: now.checked_add(rest_behind_end(took))?,
-            lull: took / TIMES_OF_LULL,
+            lull: Duration::ZERO,
             changes,
             gives_way: true,
         })
@@ -81,29 +80,14 @@ impl Rest {
         }
     }
 
-    /// Whether it is for others: they wait, or had a turn since it began.
-    fn has_company(&self, changes: u64, others_wait: bool) -> bool
-        ensures { IsTrue result ↔ IsTrue (others_wait || not (changes == self.now.changes)) }
-    {
-        others_wait || changes != self.changes
-    }
-
-    /// Whether it goes on: its time isn't over, others wait or had a turn since it began, and they ask on.
-    pub(crate) fn goes_on(
-        &self,
-        now: Instant,
-        changes: u64,
-        others_wait: bool,
-        quiet_since: Option<Instant>,
-    ) -> bool
+    /// Whether it goes on: its time isn't over, others had a turn since, and they ask on.
+    pub(crate) fn goes_on(&self, now: Instant, changes: u64, quiet_since: Option<Instant>) -> bool
         ensures { IsTrue result ↔ ((instant_nanos now < instant_nanos self.now.until)
-            × IsTrue (others_wait || not (changes == self.now.changes)) × IfSome quiet_since (λ since.
+            × (changes ≢ self.now.changes) × IfSome quiet_since (λ since.
             instant_nanos now - instant_nanos since < as_nanos self.now.lull)) }
     {
         let left = self.until.duration_since(now);
-        left > Duration::ZERO
-            && self.has_company(changes, others_wait)
-            && self.others_ask(now, quiet_since)
+        left > Duration::ZERO && changes != self.changes && self.others_ask(now, quiet_since)
     }
 }
 

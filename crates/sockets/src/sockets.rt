@@ -40,16 +40,12 @@ pub struct Sockets<'r, C> {
     pub(crate) table: Table,
     /// How many of the queue are told before the system is asked again.
     pub(crate) left: usize,
-    /// How many turns this round has left, unless a connection gives way in it.
-    pub(crate) turns: usize,
     /// Those of the queue that rest.
     pub(crate) resting: Resting,
     /// From when on nobody else was ready, as long as some rest.
     pub(crate) quiet_since: Option<Instant>,
     /// How often a connection took a turn behind another's.
     pub(crate) changes: u64,
-    /// The same when this round began.
-    pub(crate) changes_before: u64,
     pub(crate) turn: Turn,
     /// A connection gave way in this round.
     pub(crate) is_long: bool,
@@ -103,11 +99,9 @@ impl<'r, C: Clock + Net> Sockets<'r, C> {
             events: Events::with_capacity(alloc, MOST_EVENTS)?,
             table: Table::new(alloc),
             left: 0,
-            turns: 0,
             resting: Resting::none(),
             quiet_since: None,
             changes: 0,
-            changes_before: 0,
             turn: Turn {
                 id: LISTENER,
                 start: None,

@@ -74,15 +74,6 @@ impl<C: Clock> Sockets<'_, C> {
         true
     }
 
-    /// How many of the queue are looked at yet in this round. Replies that wait for no sync don't wait for many turns.
-    fn left(&self) -> usize {
-        if self.turns == 0 && !self.is_long {
-            0
-        } else {
-            self.left
-        }
-    }
-
     /// The next of the queue that is to be told ready.
     fn ready(&mut self) -> Option<u64>
         ensures moves { MovesNothing self.old self.new }
@@ -91,13 +82,12 @@ impl<C: Clock> Sockets<'_, C> {
         ensures clients { KeepsClients self.old.table self.new.table }
         ensures count { self.new.table.count ≡ self.old.table.count }
     {
-        for _ in 0..self.left() {
+        for _ in 0..self.left {
             self.left = self.left.saturating_sub(1);
             match self.table.pop() {
                 None => return None,
                 Some(id) => {
                     if self.takes_turn(id) {
-                        self.turns = self.turns.saturating_sub(1);
                         return Some(id);
                     }
                 }

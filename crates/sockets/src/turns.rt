@@ -93,7 +93,7 @@ impl<C: Clock> Sockets<'_, C> {
             return;
         };
         let took = now.duration_since(start);
-        if let Some(rest) = Rest::behind_end(now, took, self.changes_before) {
+        if let Some(rest) = Rest::behind_end(now, took, self.changes) {
             self.table.set_rest(id, Some(rest));
         }
     }
@@ -113,8 +113,7 @@ impl<C: Clock> Sockets<'_, C> {
     {
         match status.rest {
             Some(rest) if status.is_amid || rest.gives_way => {
-                let others_wait = self.table.queue_len() > 0;
-                if rest.goes_on(self.now, self.changes, others_wait, self.quiet_since) {
+                if rest.goes_on(self.now, self.changes, self.quiet_since) {
                     self.resting.note(rest);
                     return true;
                 }

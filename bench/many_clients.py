@@ -267,8 +267,8 @@ def beside_puts(server, request, make, pause, seconds):
 
 
 def large_table(service):
-    """All rows are tried in turn, so that what else goes on in the machine is spread over them. It only adds to a latency, so
-    the mark is for the least of the tries in which something was put; the median tells how quiet the machine was."""
+    """All rows are tried in turn, so that what else goes on in the machine is spread over them. The mark is for the median. The
+    least of the tries in which something was put stands beside it: what else goes on only adds to a latency."""
     needs("wrk")
     tries = {name: [] for name, *_ in LARGE}
     with prepared(service) as (server, request):
@@ -280,13 +280,14 @@ def large_table(service):
         asked, waited, took = zip(*tries[name])
         puts = [each for times in took for each in times]
         least = min(each.p99 for each, times in zip(asked, took) if times or not make)
-        held = held and (least < MOST_LATENCY or not is_marked)
+        last = median(each.p99 for each in asked)
+        held = held and (last < MOST_LATENCY or not is_marked)
         put = [str(len(puts)), time_of(median(puts))] if puts else ["-", "-"]
-        mark = [f"p99 below {time_of(MOST_LATENCY)}", word(least < MOST_LATENCY)] if is_marked else ["-", "-"]
-        p99 = [time_of(least), time_of(median(each.p99 for each in asked))]
+        mark = [f"p99 below {time_of(MOST_LATENCY)}", word(last < MOST_LATENCY)] if is_marked else ["-", "-"]
+        p99 = [time_of(last), time_of(least)]
         others = [time_of(median(each.median for each in asked)), *p99, time_of(max(each.longest for each in asked))]
         rows.append([name, *put, f"{median(each.rate for each in asked):,.0f}", f"{median(waited):.0%}", *others, *mark])
-    head = ["One connection puts", "Puts", "A put", f"{ASKING} others, a second", "Waited", "p50", "p99, least", "p99, median", "Longest", "Mark", ""]
+    head = ["One connection puts", "Puts", "A put", f"{ASKING} others, a second", "Waited", "p50", "p99", "p99, least", "Longest", "Mark", ""]
     print_table(head, rows)
     return held
 

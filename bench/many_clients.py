@@ -226,8 +226,10 @@ def identified():
 
 
 # what one connection puts, what makes it, the seconds from one put to the next, and whether the mark is for it
+NGINX = "nothing, and nginx answers"
 LARGE = [
     ("nothing", None, 0, True),
+    (NGINX, None, 0, False),
     ("one text of 1 MB, each second", one_text, 1, True),
     ("order lines of 1 MB, each second", order_lines, 1, True),
     ("one text of 1 MB, one after the other", one_text, 0, True),
@@ -268,12 +270,14 @@ def beside_puts(server, request, make, pause, seconds):
 
 def large_table(service):
     """All rows are tried in turn, so that what else goes on in the machine is spread over them. The mark is for the median. The
-    least of the tries in which something was put stands beside it: what else goes on only adds to a latency."""
-    needs("wrk")
+    least of the tries in which something was put stands beside it: what else goes on only adds to a latency. The row of nginx,
+    to which nothing is put, shows what the machine and the client add."""
+    needs("wrk", "nginx")
     tries = {name: [] for name, *_ in LARGE}
-    with prepared(service) as (server, request):
+    with prepared(service) as (ours, request), nginx_server(ours.reply.decode()) as theirs:
         for _ in range(TRIES):
             for name, make, pause, _ in LARGE:
+                server = theirs if name == NGINX else ours
                 tries[name].append(beside_puts(server, request, make, pause, whole(3 * service.seconds)))
     rows, held = [], True
     for name, make, _, is_marked in LARGE:

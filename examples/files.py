@@ -258,6 +258,21 @@ def unreadable_folders_are_told(program):
         return wrong(("", "cannot read ./shut\n", 2), got)
 
 
+def names_that_are_no_text_stop_no_other(program):
+    with tempfile.TemporaryDirectory() as folder:
+        (Path(folder) / "schema.json").write_text('{"type":"string"}')
+        below = Path(folder) / "orders"
+        below.mkdir()
+        os.mkfifo(below / "pipe.json")
+        for name in (b"a.json", b"\xff.json", b"z.json"):
+            with open(os.path.join(os.fsencode(below), name), "w") as file:
+                file.write("1")
+        out, errors, status = ended(program, ["check", "--quiet", "schema.json", "orders"], folder=folder)
+        return wrong(("cannot read orders\n", 2), (errors, status)) or starts(
+            out, "orders/a.json:1:1: (root): 1 is of another type", "orders/z.json:1:1: (root): 1 is of another type"
+        )
+
+
 def unreadable_documents_are_told(program):
     with tempfile.TemporaryDirectory() as folder:
         (Path(folder) / "schema.json").write_text("{}")
@@ -410,6 +425,7 @@ TRIALS = {
     "a terminal obeys no file's name": terminals_obey_no_name,
     "--library gives documents": library_gives_documents,
     "a folder that can't be read is told": unreadable_folders_are_told,
+    "names that aren't UTF-8, and pipes, stop no other file of a folder": names_that_are_no_text_stop_no_other,
     "each document that is refused is told, and then nothing is checked": unreadable_documents_are_told,
     "an instance of 2 GB is refused for want of memory, and no other": large_instances_are_refused,
     "a bundle says what the documents say": bundles_say_the_same,

@@ -8,7 +8,7 @@ use crate::trouble::Trouble;
 use std::alloc::Global;
 use std::io::Read;
 
-/// The files that a path names, and the folders below it that cannot be read.
+/// The files that a path names, and the folders below it that cannot be read, or not whole.
 #[derive(Drop)]
 pub struct Found {
     pub files: Vec<String>,
@@ -32,8 +32,8 @@ pub trait Folders {
     type File: Read + Drop;
 
     /// The file of the path; or, where that is a folder, the files below it whose names have one of these endings, in byte
-    /// order of paths. Folders that are symbolic links aren't entered, files that are such links stand under their names. Want
-    /// of memory ends it.
+    /// order of paths. Folders that are symbolic links aren't entered, files that are such links stand under their names, and
+    /// pipes and devices are passed over. Want of memory ends it.
     fn files_of(&self, alloc: Global, path: &str, endings: &[&str]) -> Result<Found, Trouble>
         ensures ok { IfOk result (λ found. lists self.now path.now (map (λ e. e.now) endings.now)
             (map (λ f. string_bytes f) found.files.items)) }

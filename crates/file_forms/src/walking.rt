@@ -1,6 +1,7 @@
 //! The files below a folder.
 
 use crate::folders::Found;
+use std::fs::DirEntry;
 use std::io::ErrorKind;
 use std::rt::Files;
 use std::{fs, io};
@@ -12,8 +13,9 @@ pub(crate) const JSON: &[&str] = &[".json"];
 pub(crate) const LINES: &[&str] = &[".ndjson", ".jsonl"];
 
 /// The file of the path; or, where that is a folder, the files below it whose names have one of these endings, in byte order
-/// of paths. Folders that are symbolic links aren't entered, files that are such links stand under their names. Want of
-/// memory ends it.
+/// of paths. Folders that are symbolic links aren't entered, files that are such links stand under their names, and pipes and
+/// devices are passed over. A folder of which something can't be read, such as a name that isn't UTF-8, is among the unread,
+/// with what could be read of it among the files. Want of memory ends it.
 pub(crate) fn files_of<R: Files + AllocGlobal + Clone + Drop>(
     rt: &R,
     path: &str,
@@ -65,7 +67,8 @@ fn walk<R: Files + AllocGlobal + Clone + Drop>(
     Ok(())
 }
 
-// Adds the files of the folder, and the folders in it.
+// Adds the files of the folder, and the folders in it. What can't be read of it, such as a name that isn't UTF-8, is passed
+// over, and the last such error answered.
 fn read_folder<R: Files + AllocGlobal + Clone + Drop>(
     rt: &R,
     folder: &str,
@@ -73,16 +76,43 @@ fn read_folder<R: Files + AllocGlobal + Clone + Drop>(
     folders: &mut Vec<String>,
     found: &mut Found,
 ) -> io::Result<()> {
+    let mut read = Ok(());
     for entry in fs::read_dir(rt, folder)? {
-        let entry = entry?;
-        let path = entry.path().as_str();
-        if entry.file_type()?.is_dir() {
-            folders.push(String::from_str(rt.alloc(), path)?)?;
-        } else if has_ending(entry.file_name(), endings) && !is_folder(rt, path) {
-            found.files.push(String::from_str(rt.alloc(), path)?)?;
+        if let Err(error) = add_entry(rt, entry, endings, folders, found) {
+            if error.kind() == ErrorKind::OutOfMemory {
+                return Err(error);
+            }
+            read = Err(error);
         }
     }
+    read
+}
+
+// Adds a file, or a folder.
+fn add_entry<R: Files + AllocGlobal + Clone + Drop>(
+    rt: &R,
+    entry: io::Result<DirEntry<R>>,
+    endings: &[&str],
+    folders: &mut Vec<String>,
+    found: &mut Found,
+) -> io::Result<()> {
+    let entry = entry?;
+    let path = entry.path().as_str();
+    if entry.file_type()?.is_dir() {
+        folders.push(String::from_str(rt.alloc(), path)?)?;
+    } else if has_ending(entry.file_name(), endings) && may_be_file(rt, path) {
+        found.files.push(String::from_str(rt.alloc(), path)?)?;
+    }
     Ok(())
+}
+
+// Whether a file is at this path, or what can't be looked at: that is told when it is read. A pipe is none, which would be
+// waited for.
+fn may_be_file<R: Files>(rt: &R, path: &str) -> bool {
+    match fs::metadata(rt, path) {
+        Ok(metadata) => metadata.is_file(),
+        Err(_) => true,
+    }
 }
 
 fn has_ending(name: &str, endings: &[&str]) -> bool {

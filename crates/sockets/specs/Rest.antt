@@ -9,5 +9,5 @@ use Rattle.sockets.specs.declared.rest.Rest.{Rest}
 pub record Begins (rest : Rest) (now : Instant) (time quiet count : ℕ) (gives_way : Bool) : Type 0 where
   pub until : instant_nanos rest.until ≡ instant_nanos now + time
   pub lull : as_nanos rest.lull ≡ quiet
-  pub changes : rest.changes ≡ count
+  pub turns : rest.turns ≡ count
   pub kind : rest.gives_way ≡ gives_way

@@ -181,6 +181,7 @@ impl<C: Clock> Network for Sockets<'_, C> {
         ensures stay { OthersStay id self.old.table self.new.table }
     {
         self.is_long = true;
+        self.plain_turns = self.plain_turns.wrapping_sub(1);
         self.table.give_way(id);
         self.ways = self.ways.named(id);
     }

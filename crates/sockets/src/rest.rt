@@ -31,8 +31,8 @@ pub struct Rest {
     until: Instant,
     /// It is over too where nobody else was ready for so long.
     lull: Duration,
-    /// How often another connection than the one before had taken a turn when it began.
-    changes: u64,
+    /// How many turns there had been of those beside whom it rests, when it began.
+    turns: u64,
     /// It gave way: it rests before its next request. Else it rests amid a request.
     pub gives_way: bool,
 }
@@ -41,30 +41,30 @@ impl Rest {
     ghost use Rattle.sockets.specs.Rest.{Begins};
 
     /// That behind a turn that took so long, from now on. Behind a short one there is none.
-    pub(crate) fn behind_turn(now: Instant, took: Duration, changes: u64) -> Option<Rest>
+    pub(crate) fn behind_turn(now: Instant, took: Duration, turns: u64) -> Option<Rest>
         ensures short { as_nanos took ≤ 1_000_000 → result ≡ None }
         ensures some { IfSome result (λ rest.
             Begins rest now (min (as_nanos took * 200) 10_000_000_000)
-            (max (as_nanos took / 10) 1_000_000) changes false) }
+            (max (as_nanos took / 10) 1_000_000) turns false) }
     {
         let time = rest_behind(took)?;
         Some(Rest {
             until: now.checked_add(time)?,
             lull: lull_behind(took),
-            changes,
+            turns,
             gives_way: false,
         })
     }
 
     /// That of a connection that gave way, behind an end of a round that took so long, from now on.
-    pub(crate) fn behind_end(now: Instant, took: Duration, changes: u64) -> Option<Rest>
+    pub(crate) fn behind_end(now: Instant, took: Duration, turns: u64) -> Option<Rest>
         ensures { IfSome result (λ rest.
-            Begins rest now (min (as_nanos took * 20) 100_000_000) 0 changes true) }
+            Begins rest now (min (as_nanos took * 20) 100_000_000) 0 turns true) }
     {
         Some(Rest {
             until: now.checked_add(rest_behind_end(took))?,
             lull: Duration::ZERO,
-            changes,
+            turns,
             gives_way: true,
         })
     }
@@ -81,13 +81,13 @@ impl Rest {
     }
 
     /// Whether it goes on: its time isn't over, others had a turn since, and they ask on.
-    pub(crate) fn goes_on(&self, now: Instant, changes: u64, quiet_since: Option<Instant>) -> bool
+    pub(crate) fn goes_on(&self, now: Instant, turns: u64, quiet_since: Option<Instant>) -> bool
         ensures { IsTrue result ↔ ((instant_nanos now < instant_nanos self.now.until)
-            × (changes ≢ self.now.changes) × IfSome quiet_since (λ since.
+            × (turns ≢ self.now.turns) × IfSome quiet_since (λ since.
             instant_nanos now - instant_nanos since < as_nanos self.now.lull)) }
     {
         let left = self.until.duration_since(now);
-        left > Duration::ZERO && changes != self.changes && self.others_ask(now, quiet_since)
+        left > Duration::ZERO && turns != self.turns && self.others_ask(now, quiet_since)
     }
 }
 

@@ -46,6 +46,8 @@ pub struct Sockets<'r, C> {
     pub(crate) quiet_since: Option<Instant>,
     /// How often a connection took a turn behind another's.
     pub(crate) changes: u64,
+    /// How many turns there were in which no connection gave way.
+    pub(crate) plain_turns: u64,
     pub(crate) turn: Turn,
     /// A connection gave way in this round.
     pub(crate) is_long: bool,
@@ -102,6 +104,7 @@ impl<'r, C: Clock + Net> Sockets<'r, C> {
             resting: Resting::none(),
             quiet_since: None,
             changes: 0,
+            plain_turns: 0,
             turn: Turn {
                 id: LISTENER,
                 start: None,

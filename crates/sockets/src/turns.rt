@@ -29,6 +29,7 @@ impl<C: Clock> Sockets<'_, C> {
         if self.turn.id != id {
             self.changes = self.changes.wrapping_add(1);
         }
+        self.plain_turns = self.plain_turns.wrapping_add(1);
         let start = if is_amid {
             Instant::now(self.clock).ok()
         } else {
@@ -93,8 +94,18 @@ impl<C: Clock> Sockets<'_, C> {
             return;
         };
         let took = now.duration_since(start);
-        if let Some(rest) = Rest::behind_end(now, took, self.changes) {
+        if let Some(rest) = Rest::behind_end(now, took, self.plain_turns) {
             self.table.set_rest(id, Some(rest));
+        }
+    }
+
+    /// How many turns there were of those beside whom the connection rests: of others behind a turn that took long, and of
+    /// those that don't give way behind an end.
+    fn turns_beside(&self, rest: &Rest) -> u64 {
+        if rest.gives_way {
+            self.plain_turns
+        } else {
+            self.changes
         }
     }
 
@@ -113,7 +124,7 @@ impl<C: Clock> Sockets<'_, C> {
     {
         match status.rest {
             Some(rest) if status.is_amid || rest.gives_way => {
-                if rest.goes_on(self.now, self.changes, self.quiet_since) {
+                if rest.goes_on(self.now, self.turns_beside(&rest), self.quiet_since) {
                     self.resting.note(rest);
                     return true;
                 }

@@ -126,12 +126,10 @@ def puts_table(service):
     held, rows = True, []
     for connections in CONNECTIONS:
         times = with_store[connections] / with_store[1]
-        # on a disk that syncs so fast the target is above what is put without a store
-        can_be = LEAST_BY_FIFTY * with_store[1] <= without[connections]
         is_marked = connections == 50
-        holds = times >= LEAST_BY_FIFTY or not (is_marked and can_be)
+        holds = times >= LEAST_BY_FIFTY or not is_marked
         held = held and holds
-        mark = [f"at least {LEAST_BY_FIFTY}", word(holds) if can_be else "above `Without`"] if is_marked else ["-", "-"]
+        mark = [f"at least {LEAST_BY_FIFTY}", word(holds)] if is_marked else ["-", "-"]
         rates = [f"{with_store[connections]:,.0f}", f"{without[connections]:,.0f}", f"{shell:,.0f}" if connections == 1 else "-"]
         rows.append([str(connections), *rates, f"{times:.1f}", *mark])
     head = ["Connections", "With a store, a second", "Without", "SQLite's shell, a commit a row", "Times one connection", "Mark", ""]

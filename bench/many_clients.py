@@ -225,8 +225,9 @@ def identified():
     return {"$defs": {str(number): {"$id": str(number)} for number in range(40_000)}}
 
 
-# what one connection puts, what makes it, the seconds from one put to the next, and whether the mark is for it
 NGINX = "nothing, and nginx answers"
+
+# what one connection puts, what makes it, the seconds from one put to the next, and whether the mark is for it
 LARGE = [
     ("nothing", None, 0, True),
     (NGINX, None, 0, False),

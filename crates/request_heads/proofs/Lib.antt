@@ -1,4 +1,5 @@
 pub mod Limits
+pub mod Lines
 pub mod FieldValues
 pub mod Windows
 pub mod KeptHeadings

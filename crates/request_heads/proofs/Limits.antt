@@ -1,6 +1,7 @@
 -- Heads within the limits.
 use Rattle.std.proofs.Common.{refl, sym, ap, ◌∙◌, subst, append_assoc, append-nil, length-append, inl, inr, arith, leb-true, leb-false, add-one}
-use Rattle.std.specs.Prelude.{None, ◌≡◌, ◌<◌, ◌≤◌, ◌≢◌, ◌+◌, ◌-◌, ◌==◌, cond, Bool, true, false, leb, ℕ, List, [], ◌∷◌, ◌++◌, length, take, drop, get_or}
+use Rattle.std.specs.Prelude.{None, ◌≡◌, ◌<◌, ◌≤◌, ◌≢◌, ◌+◌, ◌-◌, ◌==◌, cond, Bool, true, false, leb, ℕ, zero, suc, List, [], ◌∷◌, ◌++◌, length, take, drop, get_or}
+use Rattle.std.proofs.lemmas.Bool.{eqb-true}
 use Rattle.std.proofs.lemmas.List.{take-append-drop}
 use Rattle.std.proofs.Math.Seq.{take-suc, take-append-add}
 use Rattle.httparse.specs.Grammar.{RequestHead, ReadsRequest, print_request, HasNoRequest, NeverHasRequest}
@@ -9,7 +10,7 @@ use Rattle.httparse.proofs.GrammarLemmas.{ReadsRequest-append}
 use Rattle.definitions.specs.Values.{Text}
 use Rattle.http_definitions.specs.Heads.{IsSmall, line_feeds, body_length}
 use Rattle.http_definitions.specs.Streams.{HasNoSmallHead, BeginsWithHead, IsHopeless}
-use Rattle.request_heads.specs.Searches.{EndsPast, IsSearched}
+use Rattle.request_heads.specs.Searches.{EndsPast, IsSearched, IsSought}
 use Rattle.http_laws.proofs.HeadEnds.{ends_at}
 use Rattle.http_laws.proofs.HeadSizes.{feeds-append, feeds-request, take_inside, in_window, feeds-before}
 use Rattle.request_heads.specs.Fronts.{HasHeading}
@@ -131,3 +132,44 @@ pub whole_window : (bytes : Text) (h : RequestHead) (more : Text) (n : ℕ) → 
     → ReadsRequest (take (length (print_request h) + n) bytes) h (take n more ++ [])
 whole_window bytes h more n reads within =
     (reads.0, ap (take (length (print_request h) + n)) reads.1 ∙ take-append-add (print_request h) more n ∙ ap (λ b. print_request h ++ b) (sym (append-nil (take n more))))
+
+-- ---- over bytes without a line feed
+differs : (n : ℕ) → n ≢ 10 → (n == 10) ≡ false
+differs n other = by (n == 10) refl
+  where
+    by : (b : Bool) → (n == 10) ≡ b → (n == 10) ≡ false
+    by true e = absurd (other (eqb-true n 10 e))
+    by false e = e
+
+past_on : (bytes : Text) (from count : ℕ) → EndsPast from bytes → ((i : ℕ) → i < count → get_or bytes (from + i) 0 ≢ 10) → EndsPast (from + count) bytes
+past_on bytes from zero past none = subst (λ k. EndsPast k bytes) (omega arith) past
+past_on bytes from (suc count) past none =
+    subst (λ k. EndsPast k bytes) (omega arith)
+    (no_feed_past bytes (from + count) (past_on bytes from count past (λ i less. none i (omega (arith, less)))) (none count (omega arith)))
+
+feeds_on : (bytes : Text) (from count : ℕ) → from + count ≤ length bytes → ((i : ℕ) → i < count → get_or bytes (from + i) 0 ≢ 10)
+    → line_feeds (take (from + count) bytes) ≡ line_feeds (take from bytes)
+feeds_on bytes from zero within none = ap (λ k. line_feeds (take k bytes)) (omega arith)
+feeds_on bytes from (suc count) within none =
+    let no : (get_or bytes (from + count) 0 == 10) ≡ false = differs (get_or bytes (from + count) 0) (none count (omega arith)) in
+    let more : line_feeds (take (from + count + 1) bytes) ≡ line_feeds (take (from + count) bytes) + 0 =
+    feeds-next bytes (from + count) (omega (arith, within)) ∙ ap (λ b. line_feeds (take (from + count) bytes) + cond b 1 0) no in
+    let before = feeds_on bytes from count (omega (arith, within)) (λ i less. none i (omega (arith, less))) in
+    let same : line_feeds (take (from + suc count) bytes) ≡ line_feeds (take (from + count + 1) bytes) = ap (λ k. line_feeds (take k bytes)) (omega arith) in
+    omega (arith, same, more, before)
+
+pub sought_on : (bytes : Text) (s t : Search) (count : ℕ) → IsSearched bytes s → ((i : ℕ) → i < count → get_or bytes (s.len + i) 0 ≢ 10)
+    → s.len + count ≤ length bytes → s.len + count ≤ 16384 → t.len ≡ s.len + count → t.line_feeds ≡ s.line_feeds → IsSought bytes t
+sought_on bytes s t count x none within short l f = record {
+  within = omega (arith, within, l);
+  short = omega (arith, short, l);
+  feeds = f ∙ x.feeds ∙ sym (feeds_on bytes s.len count within none) ∙ ap (λ k. line_feeds (take k bytes)) (sym l);
+  few = omega (arith, x.few, f);
+  past = subst (λ k. EndsPast k bytes) (sym l) (past_on bytes s.len count x.past none);
+}
+
+pub searched_sought : (bytes : Text) (s : Search) → IsSought bytes s → s.len ≢ 16384 → IsSearched bytes s
+searched_sought bytes s x other = record { within = x.within; short = below s.len x.short other; feeds = x.feeds; few = x.few; past = x.past }
+  where
+    below : (n : ℕ) → n ≤ 16384 → n ≢ 16384 → n < 16384
+    below n a b = omega (arith, a, b)

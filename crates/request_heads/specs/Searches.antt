@@ -22,3 +22,11 @@ pub record IsSearched (bytes : Text) (s : Search) : Type 0 where
   pub feeds : s.line_feeds ≡ line_feeds (take s.len bytes)
   pub few : s.line_feeds < most_line_feeds
   pub past : EndsPast s.len bytes
+
+-- the same, of as many bytes as a head may have at most
+pub record IsSought (bytes : Text) (s : Search) : Type 0 where
+  pub within : s.len ≤ length bytes
+  pub short : s.len ≤ most_head_bytes
+  pub feeds : s.line_feeds ≡ line_feeds (take s.len bytes)
+  pub few : s.line_feeds < most_line_feeds
+  pub past : EndsPast s.len bytes

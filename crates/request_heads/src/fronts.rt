@@ -1,14 +1,14 @@
 //! A look at the front of a connection's bytes.
-ghost use Rattle.std.specs.Prelude.{◌≡◌, ◌≤◌, ◌<◌, ◌+◌, ◌++◌, None, IfSome, length, take};
+ghost use Rattle.std.specs.Prelude.{◌≡◌, ◌≤◌, ◌<◌, ◌+◌, ◌++◌, None, IfOk, IfSome, Ok, OnErr, length, take};
 ghost use Rattle.httparse.specs.Grammar.{HasNoRequest};
 ghost use Rattle.definitions.specs.Values.{Text};
 ghost use Rattle.http_definitions.specs.Heads.{line_feeds, most_head_bytes, most_line_feeds};
 ghost use Rattle.request_heads.specs.Searches.{IsSearched, EndsPast, HeadsEndIn};
-ghost use Rattle.request_heads.specs.Fronts.{IsFrontOf};
+ghost use Rattle.request_heads.specs.Fronts.{IsFrontOf, Overfills};
 
 use crate::headings::{Heading, judge};
-use crate::searches::{Search, ends_empty_line};
-use httparse::spans::{EMPTY_HEADER_SPAN, parse_request};
+use crate::searches::{MOST_BYTES, Search, ends_empty_line, skip_line};
+use httparse::spans::{EMPTY_HEADER_SPAN, HeaderSpan, parse_request};
 use httparse::{Error, Status};
 
 /// What stands at the front.
@@ -20,11 +20,36 @@ pub enum Front {
     Whole(Heading),
 }
 
-/// The most bytes of a head.
-const MOST_BYTES: usize = 16384;
-
 /// The most line feeds of a head: the first line, 64 fields and the empty line.
 const MOST_LINE_FEEDS: usize = 66;
+
+/// Room for so many fields is made first. Few heads have more.
+const FEW_FIELDS: usize = 32;
+
+// The window has more fields than there was room for.
+#[derive(Drop)]
+struct TooManyFields;
+
+// What the parser finds in these bytes, whatever follows them, with so much room for fields.
+fn parsed_into(window: &[u8], fields: &mut [HeaderSpan]) -> Result<Option<Front>, TooManyFields>
+    requires ends { HeadsEndIn window.now }
+    requires short { length window.now ≤ most_head_bytes }
+    requires few { line_feeds window.now ≤ most_line_feeds }
+    ensures none { result ≡ Ok None → HasNoRequest window.now }
+    ensures some { IfOk result (λ found. IfSome found
+        (λ front. (more : Text) → IsFrontOf (window.now ++ more) front)) }
+    ensures err { OnErr result (Overfills (length fields.old) window.now) }
+{
+    match parse_request(window, fields) {
+        Ok(Status::Complete(head)) => match judge(window, fields, head) {
+            Some(heading) => Ok(Some(Front::Whole(heading))),
+            None => Ok(Some(Front::Hopeless)),
+        },
+        Ok(Status::Partial) => Ok(None),
+        Err(Error::TooManyHeaders) => Err(TooManyFields),
+        Err(_) => Ok(Some(Front::Hopeless)),
+    }
+}
 
 // What the parser finds in these bytes, whatever follows them.
 fn parsed(window: &[u8]) -> Option<Front>
@@ -34,15 +59,12 @@ fn parsed(window: &[u8]) -> Option<Front>
     ensures none { result ≡ None → HasNoRequest window.now }
     ensures some { IfSome result (λ front. (more : Text) → IsFrontOf (window.now ++ more) front) }
 {
-    let mut headers = [EMPTY_HEADER_SPAN; MOST_LINE_FEEDS];
-    match parse_request(window, &mut headers) {
-        Ok(Status::Complete(head)) => match judge(window, &headers, head) {
-            Some(heading) => Some(Front::Whole(heading)),
-            None => Some(Front::Hopeless),
-        },
-        Ok(Status::Partial) => None,
-        Err(Error::TooManyHeaders) => Some(Front::Hopeless),
-        Err(_) => Some(Front::Hopeless),
+    if let Ok(found) = parsed_into(window, &mut [EMPTY_HEADER_SPAN; FEW_FIELDS]) {
+        return found;
+    }
+    match parsed_into(window, &mut [EMPTY_HEADER_SPAN; MOST_LINE_FEEDS]) {
+        Ok(found) => found,
+        Err(TooManyFields) => Some(Front::Hopeless),
     }
 }
 
@@ -94,8 +116,14 @@ pub fn look(bytes: &[u8], search: &mut Search) -> Option<Front>
         → IsSearched bytes.now search.new × (search.new.len ≡ length bytes.now) }
     ensures some { IfSome result (IsFrontOf bytes.now) }
 {
-    for _ in search.len..bytes.len() {
-        if let Some(front) = advance(bytes, search) {
+    while search.len < bytes.len() {
+        skip_line(bytes, search);
+        if search.len == MOST_BYTES {
+            return Some(Front::Hopeless);
+        }
+        if search.len < bytes.len()
+            && let Some(front) = advance(bytes, search)
+        {
             return Some(front);
         }
     }

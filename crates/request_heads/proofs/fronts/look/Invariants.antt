@@ -1,9 +1,9 @@
-use Rattle.std.proofs.Common.{◌≡◌}
+use Rattle.std.proofs.Common.{◌-◌, length}
 use Rattle.request_heads.specs.Searches.{IsSearched}
 use Rattle.request_heads.proofs.fronts.look.Given as goal
 
-abbrev pub invariant-loop : goal.invariant-loop
-invariant-loop l = record {
-  searched : IsSearched l.bytes l.search;
-  at : l.search.len ≡ l.counter;
-}
+abbrev pub invariant-loop-search : goal.invariant-loop-search
+invariant-loop-search l = IsSearched l.bytes l.search
+
+abbrev pub decreases-loop-search : goal.decreases-loop-search
+decreases-loop-search l = length l.bytes - l.search.len

@@ -52,6 +52,10 @@ module _ (ds : List Document) (base : Result Text Fault) (body : Result Value Fa
   unfolding validation_over
   both b x e h = ap (λ b. validation_over ds b body) e ∙ ap (validation_over ds (Ok b)) h
 
+  -- by what its parts are
+  pub over_both : (b : Text) (x : Value) → base ≡ Ok b → body ≡ Ok x → validation_over ds base body ≡ validation_over ds (Ok b) (Ok x)
+  over_both b x e h = ap (λ b. validation_over ds b body) e ∙ ap (validation_over ds (Ok b)) h
+
   pub unlinked : (b : Text) (x : Value) (f : Fault) → base ≡ Ok b → body ≡ Ok x → link_fault (reach ds b) ≡ Some f → validation_over ds base body ≡ refused f
   unlinked b x f e h none = both b x e h ∙ links_not (reach ds b) f (outcome_reply (answer has_match (reach ds b) b x)) none
 

@@ -2,14 +2,14 @@
 
 ghost use Rattle.std.specs.Prelude.{IfOk, IfSome, List, string_bytes};
 ghost use Rattle.definitions.specs.Schemas.{Document};
-ghost use Rattle.tenant_hub.specs.KeptLinks.{AreLinksOf, IsLinkOf};
+ghost use Rattle.tenant_hub.specs.KeptLinks.{AreLinksOf, IsLinkOfBase};
 
 use linker::{Linked, documents};
 use lru::LruCache;
 use std::alloc::{AllocError, Global};
 use std::num::NonZeroUsize;
 
-/// Linked documents by the URIs that they were linked for: those of a registry that were asked for last.
+/// Linked documents by the base forms that they were linked for: those of a registry that were asked for last.
 #[derive(Drop)]
 pub(crate) struct Links {
     pub(crate) entries: LruCache<String, Linked>,
@@ -48,19 +48,19 @@ impl Links {
         self.entries.promote(uri);
     }
 
-    /// The link of this URI.
+    /// The link of this URI: where there is one, that is a base form.
     pub(crate) fn get(&self, uri: &str) -> Option<&Linked>
         ensures { (ds : List Document) → AreLinksOf ds self.now
-            → IfSome result (λ linked. IsLinkOf ds uri.now linked.now) }
+            → IfSome result (λ linked. IsLinkOfBase ds uri.now linked.now) }
     {
         self.entries.peek(uri)
     }
 
-    /// Keeps the link of this URI in the place of those that were asked for longest ago; unless it reaches too many documents
+    /// Keeps the link of this base form in the place of those that were asked for longest ago; unless it reaches too many documents
     /// to be kept, or memory is wanting for it.
     pub(crate) fn keep(&mut self, uri: String, linked: Linked)
         ensures { (ds : List Document) → AreLinksOf ds self.old
-            → IsLinkOf ds (string_bytes uri) linked → AreLinksOf ds self.new }
+            → IsLinkOfBase ds (string_bytes uri) linked → AreLinksOf ds self.new }
     {
         let reached = documents(&linked).len();
         if reached <= self.most {

@@ -1,6 +1,6 @@
 //! Validations by the documents of a source.
 
-ghost use Rattle.std.specs.Prelude.{◌≡◌, ◌≢◌, IfOk, IfErr, string_bytes};
+ghost use Rattle.std.specs.Prelude.{◌≡◌, ◌≢◌, IfOk, IfErr, Ok, string_bytes};
 ghost use Rattle.definitions.specs.Patterns.{regular_search};
 ghost use Rattle.definitions.specs.Registries.{Registry, body_value, documents_seen, refused, validate, validated};
 ghost use Rattle.definitions.specs.Resolution.{base_form};
@@ -63,14 +63,41 @@ fn output_text<S: Source>(
     ensures linked { AreLinksOf (S.documents source.old) links.new }
     ensures same { S.documents source.new ≡ S.documents source.old }
 {
+    // A URI by which a link is kept is a base form: it needn't be split and put together.
+    links.promote(uri);
+    if let Some(linked) = links.get(uri) {
+        let given = read_body_with(alloc, scratch, body)?;
+        return text_by(alloc, linked, &given, memory);
+    }
     let base = base_form(alloc, uri)?;
     let instance = read_body_with(alloc, scratch, body)?;
+    text_at(alloc, memory, links, source, base, &instance)
+}
+
+// The basic output of the instance by the resource of this base.
+fn text_at<S: Source>(
+    alloc: Global,
+    memory: &mut EvaluationMemory,
+    links: &mut Links,
+    source: &mut S,
+    base: String,
+    instance: &Doc,
+) -> Result<String, Fault>
+    requires links { AreLinksOf (S.documents source.old) links.old }
+    requires base { base_form (string_bytes base) ≡ Ok (string_bytes base) }
+    ensures ok { IfOk result (λ t. validation_over (S.documents source.old)
+        (Ok (string_bytes base)) (Ok (value instance.now)) ≡ validated (string_bytes t)) }
+    ensures err { IfErr result (λ f. f ≢ Fault.NoRoom → validation_over (S.documents source.old)
+        (Ok (string_bytes base)) (Ok (value instance.now)) ≡ refused (fault_view f)) }
+    ensures linked { AreLinksOf (S.documents source.old) links.new }
+    ensures same { S.documents source.new ≡ S.documents source.old }
+{
     links.promote(base.as_str());
     if let Some(linked) = links.get(base.as_str()) {
-        return text_by(alloc, linked, &instance, memory);
+        return text_by(alloc, linked, instance, memory);
     }
     let linked = link(alloc, source, base.as_str())?;
-    let text = text_by(alloc, &linked, &instance, memory)?;
+    let text = text_by(alloc, &linked, instance, memory)?;
     links.keep(base, linked);
     Ok(text)
 }

@@ -3,7 +3,7 @@
 use crate::talks::{VALID, told};
 use crate::texts::expect_like;
 use evaluator::evaluate;
-use json_doc::{Doc, Whole};
+use json_doc::{Doc, Scratch, Whole};
 use linker::{ListSource, link};
 use shared_cache::Cache;
 use std::alloc::Global;
@@ -28,9 +28,10 @@ fn answered(
 ) -> Result<String, Fault> {
     let (kind, rest) = text.split_once(' ').unwrap_or((text, ""));
     let (uri, body) = rest.split_once(' ').unwrap_or((rest, ""));
+    let mut scratch = Scratch::new(alloc);
     let reply = match kind {
-        "put" => registry.put(alloc, cache, uri, body.as_bytes()),
-        "batch" => registry.put_all(alloc, cache, rest.as_bytes()),
+        "put" => registry.put(alloc, &mut scratch, cache, uri, body.as_bytes()),
+        "batch" => registry.put_all(alloc, &mut scratch, cache, rest.as_bytes()),
         "delete" => registry.delete(alloc, uri),
         "say" => return said(alloc, registry, cache, uri),
         _ => return Ok(format!(in alloc; "{}", cache.len())?),

@@ -7,17 +7,18 @@ ghost use Rattle.json_doc.specs.Docs.{value};
 ghost use Rattle.stored_documents.specs.StoredDocuments.{stored_view};
 ghost use Rattle.tenant_documents.specs.Puts.{IsSent, IsRefused, IsUnder, RefusesUnder};
 
-use json_doc::Doc;
+use json_doc::{Doc, Scratch};
 use requests::Fault;
 use shared_cache::Cache;
 use std::alloc::Global;
 use stored_documents::Stored;
-use tenants_file::read_body;
+use tenants_file::read_body_with;
 use uri_ref::{base_form, split};
 
 // The document that the body spells under the URI, scanned and with its patterns built.
 pub(crate) fn accept(
     alloc: Global,
+    scratch: &mut Scratch,
     cache: &mut Cache,
     uri: &str,
     body: &[u8],
@@ -26,7 +27,7 @@ pub(crate) fn accept(
     ensures err { IfErr result (λ f. IsRefused uri.now body.now (fault_view f)) }
 {
     let base = base_form(alloc, uri)?;
-    let document = read_body(alloc, body)?;
+    let document = read_body_with(alloc, scratch, body)?;
     Stored::of(alloc, cache, &split(base.as_str()), document)
 }
 

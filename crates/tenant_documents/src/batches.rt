@@ -14,12 +14,13 @@ ghost use Rattle.tenant_documents.specs.Registries.{registry_view};
 
 use crate::batch_entries::{EnteredBatch, entered};
 use crate::registry::Registry;
+use json_doc::Scratch;
 use requests::{Fault, Reply, StoredEntry};
 use shared_cache::Cache;
 use std::alloc::Global;
 use std::rc::Rc;
 use stored_documents::Stored;
-use tenants_file::{read_batch, read_body};
+use tenants_file::{read_batch, read_body_with};
 
 impl Registry {
     /// Stores the documents of a batch, `{"put":[{"schema":{},"uri":"https://ex.org/a"}]}`, each instead of the one with its
@@ -31,11 +32,17 @@ impl Registry {
     /// `LibraryOwned` where the library has a document of one of these canonical URIs; `Taken` with the least resource URI
     /// that another document has after the batch, the tenant's or the library's; `QuotaDocuments` and `QuotaBytes` on the
     /// documents after the batch. `NoRoom` may take the place of any answer.
-    pub fn put_all(&mut self, alloc: Global, cache: &mut Cache, body: &[u8]) -> Reply
+    pub fn put_all(
+        &mut self,
+        alloc: Global,
+        scratch: &mut Scratch,
+        cache: &mut Cache,
+        body: &[u8],
+    ) -> Reply
         ensures { IsAnswer regular_search (registry_view self.old) (batch body.now)
             (reply_view result) (registry_view self.new) }
     {
-        match self.stored_together(alloc, cache, body) {
+        match self.stored_together(alloc, scratch, cache, body) {
             Ok(reply) => reply,
             Err(fault) => Reply::Refused(fault),
         }
@@ -44,6 +51,7 @@ impl Registry {
     fn stored_together(
         &mut self,
         alloc: Global,
+        scratch: &mut Scratch,
         cache: &mut Cache,
         body: &[u8],
     ) -> Result<Reply, Fault>
@@ -52,7 +60,7 @@ impl Registry {
         ensures err { IfErr result (λ f. IsAnswer regular_search (registry_view self.old)
             (batch body.now) (refused (fault_view f)) (registry_view self.new)) }
     {
-        let batch = read_body(alloc, body)?;
+        let batch = read_body_with(alloc, scratch, body)?;
         let entries = read_batch(alloc, &batch)?;
         match entered(alloc, cache, &entries)? {
             EnteredBatch::Documents(documents) => self.place_all(alloc, documents),

@@ -14,7 +14,7 @@ ghost use Rattle.tenant_documents.specs.Registries.{registry_view};
 
 use crate::accepting::{accept, accept_document};
 use crate::registry::Registry;
-use json_doc::Doc;
+use json_doc::{Doc, Scratch};
 use requests::{Fault, Reply};
 use shared_cache::Cache;
 use std::alloc::Global;
@@ -30,11 +30,18 @@ impl Registry {
     /// their order; `BadPattern`; `LibraryOwned` where the library has a document of this canonical URI; `Taken` with the
     /// least resource URI that another document has, the tenant's or the library's; `QuotaDocuments` and `QuotaBytes` on the
     /// documents as they would be. `NoRoom` may take the place of any answer.
-    pub fn put(&mut self, alloc: Global, cache: &mut Cache, uri: &str, body: &[u8]) -> Reply
+    pub fn put(
+        &mut self,
+        alloc: Global,
+        scratch: &mut Scratch,
+        cache: &mut Cache,
+        uri: &str,
+        body: &[u8],
+    ) -> Reply
         ensures { IsAnswer regular_search (registry_view self.old) (put uri.now body.now)
             (reply_view result) (registry_view self.new) }
     {
-        match self.stored(alloc, cache, uri, body) {
+        match self.stored(alloc, scratch, cache, uri, body) {
             Ok(reply) => reply,
             Err(fault) => Reply::Refused(fault),
         }
@@ -43,6 +50,7 @@ impl Registry {
     fn stored(
         &mut self,
         alloc: Global,
+        scratch: &mut Scratch,
         cache: &mut Cache,
         uri: &str,
         body: &[u8],
@@ -52,7 +60,7 @@ impl Registry {
         ensures err { IfErr result (λ f. IsAnswer regular_search (registry_view self.old)
             (put uri.now body.now) (refused (fault_view f)) (registry_view self.new)) }
     {
-        let document = accept(alloc, cache, uri, body)?;
+        let document = accept(alloc, scratch, cache, uri, body)?;
         self.insert(alloc, document)
     }
 

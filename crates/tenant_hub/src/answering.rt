@@ -111,7 +111,13 @@ fn answer_once(
     match request {
         Request::Put(uri, body) => {
             links.clear();
-            registry.put(alloc, &mut workspace.cache, uri.as_str(), body.as_slice())
+            registry.put(
+                alloc,
+                &mut workspace.scratch,
+                &mut workspace.cache,
+                uri.as_str(),
+                body.as_slice(),
+            )
         }
         Request::Delete(uri) => {
             links.clear();
@@ -135,7 +141,12 @@ fn answer_once(
         }
         Request::Batch(body) => {
             links.clear();
-            registry.put_all(alloc, &mut workspace.cache, body.as_slice())
+            registry.put_all(
+                alloc,
+                &mut workspace.scratch,
+                &mut workspace.cache,
+                body.as_slice(),
+            )
         }
     }
 }

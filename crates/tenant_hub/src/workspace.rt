@@ -9,7 +9,7 @@ use requests::Fault;
 use shared_cache::Cache;
 use std::alloc::Global;
 
-// Compiled documents, the memory that instances are read in, which grows to the length of the longest, and the memory that they
+// Compiled documents, the memory that bodies are read in, which grows to the length of the longest, and the memory that instances
 // are evaluated in.
 #[derive(Drop)]
 pub(crate) struct Workspace {
@@ -31,7 +31,7 @@ impl Workspace {
         })
     }
 
-    // Gives the memory back: no document is kept, and the next instance finds no memory to be read in or evaluated in.
+    // Gives the memory back: no document is kept, and the next body finds no memory to be read in, nor an instance to be evaluated in.
     pub(crate) fn clear(&mut self, alloc: Global)
         ensures { self.new.cache ≡ record { keys = []; capacity = self.old.cache.capacity } }
     {

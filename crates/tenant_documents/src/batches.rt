@@ -32,6 +32,8 @@ impl Registry {
     /// `LibraryOwned` where the library has a document of one of these canonical URIs; `Taken` with the least resource URI
     /// that another document has after the batch, the tenant's or the library's; `QuotaDocuments` and `QuotaBytes` on the
     /// documents after the batch. `NoRoom` may take the place of any answer.
+    ///
+    /// The body is read in the memory of `scratch`, of which nothing shows in an answer.
     pub fn put_all(
         &mut self,
         alloc: Global,

@@ -30,6 +30,8 @@ impl Registry {
     /// their order; `BadPattern`; `LibraryOwned` where the library has a document of this canonical URI; `Taken` with the
     /// least resource URI that another document has, the tenant's or the library's; `QuotaDocuments` and `QuotaBytes` on the
     /// documents as they would be. `NoRoom` may take the place of any answer.
+    ///
+    /// The body is read in the memory of `scratch`, of which nothing shows in an answer.
     pub fn put(
         &mut self,
         alloc: Global,

@@ -1,7 +1,7 @@
 -- Texts in buffers, as they grow and are cut back.
 use Rattle.std.proofs.Common.{◌≡◌, ◌≤◌, ◌++◌, ◌∙◌, ℕ, length, take, true, ap, subst, sym}
 use Rattle.std.proofs.lemmas.List.{take-take, with_items_is}
-use Rattle.std.proofs.lemmas.Str.{IsUtf8-append, IsUtf8-from_is_utf8, IsUtf8-take, is_utf8-from_IsUtf8}
+use Rattle.std.proofs.lemmas.Str.{IsCharBoundary-start, IsUtf8-append, IsUtf8-from_is_utf8, IsUtf8-take, is_utf8-from_IsUtf8}
 use Rattle.std.specs.Vec.{with_items}
 use Rattle.std.specs.Str.{IsCharBoundary, IsUtf8, is_utf8}
 use Rattle.lemmas.proofs.Appended.{appended}
@@ -13,6 +13,9 @@ use Rattle.basic_output.specs.declared.unit_text.buffer.TextBuffer.{TextBuffer}
 pub whole_buffer : (b : TextBuffer) → IsUtf8 (buffer_text b)
 unfolding buffer_text
 whole_buffer b = IsUtf8-from_is_utf8 (take b.len b.bytes.items) b.utf8
+
+pub whole_start : (b : TextBuffer) → IsCharBoundary (buffer_text b) 0
+whole_start b = IsCharBoundary-start (buffer_text b) (whole_buffer b)
 
 -- what a text leaves that is written behind it
 pub written_behind : (b : TextBuffer) {end : ℕ} {more new : Text} → IsWrittenOver b.len end more b.bytes.items new → is_utf8 (take end new) ≡ true

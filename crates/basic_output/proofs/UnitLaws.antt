@@ -6,19 +6,14 @@ use Rattle.std.specs.List.{insert, list_all}
 use Rattle.json.specs.Print.{escape, escape_byte, quoted}
 use Rattle.definitions.specs.Pointers.{Pointer, fragment_text, pointer_text}
 use Rattle.definitions.specs.Texts.{text}
-use Rattle.definitions.specs.Values.{Text, string}
+use Rattle.definitions.specs.Schemas.{Identity}
+use Rattle.definitions.specs.Values.{Text, Value, string}
 use Rattle.basic_output.specs.declared.location.Location.{Location}
-use Rattle.basic_output.specs.declared.says.Says.{Says}
-use Rattle.basic_output.specs.declared.unit_text.LocationParts.{LocationParts}
 use Rattle.basic_output.specs.declared.unit_text.saying.Form.{Form}
 use Rattle.basic_output.specs.declared.unit_text.saying.Form.TheVariants.{NotMet, Plain, Written}
 use Rattle.basic_output.specs.declared.unit_text.saying.Said.{Said}
-use Rattle.basic_output.specs.declared.unit_text.step_texts.Notation.TheVariants as notation
-use Rattle.basic_output.specs.Notations.{kept_text}
-use Rattle.basic_output.specs.Parts.{AreParts, formed_text, parts_text, path_key, quotation, said_ending, said_opening, said_text, unit_end}
+use Rattle.basic_output.specs.Parts.{AreTextsOf, formed_text, parts_text, path_key, quotation, said_ending, said_text, text_of_unit, unit_end}
 use Rattle.basic_output.specs.Pieces.{IsHead, is_unescaped, kind_key, unit_text}
-use Rattle.basic_output.specs.PointerViews.{onward_pointer, origin_view, pointer_view}
-use Rattle.basic_output.specs.Sayings.{says_value, unit_at}
 use Rattle.basic_output.proofs.PlainLaws.{fragment_append, message}
 
 -- a position past the end is the end
@@ -27,7 +22,7 @@ insert_min xs i x = ap₂ (λ a b. a ++ x ∷ b) (take_min i xs) (drop_min i xs)
 
 -- ---- a unit of its parts
 -- the head with what leads onward from it
-opened : (uri : Text) (pointer onward : Pointer) (head written rest : Text) → IsHead (uri, pointer) head → written ≡ kept_text notation.Fragment onward
+opened : (uri : Text) (pointer onward : Pointer) (head written rest : Text) → IsHead (uri, pointer) head → written ≡ escape (fragment_text onward)
     → head ++ (written ++ 34 ∷ rest) ≡ codes "{\"absoluteKeywordLocation\":" ++ (quoted (uri ++ 35 ∷ fragment_text (pointer ++ onward)) ++ rest)
 opened uri pointer onward head written rest is_head behind =
     let base = uri ++ 35 ∷ fragment_text pointer in
@@ -42,18 +37,17 @@ opened uri pointer onward head written rest is_head behind =
 closed : (written t rest : Text) → written ≡ escape t → 34 ∷ (written ++ 34 ∷ rest) ≡ quoted t ++ rest
 closed written t rest same = ap (λ s. 34 ∷ (s ++ 34 ∷ rest)) same ∙ ap (λ s. 34 ∷ s) (sym (append_assoc (escape t) (34 ∷ []) rest))
 
-abbrev places_text : Location → Text
-places_text location =
-    codes ",\"instanceLocation\":" ++ (quoted (pointer_text (pointer_view location.instance_location.now))
-    ++ (codes ",\"keywordLocation\":" ++ (quoted (pointer_text (pointer_view location.path.now)) ++ codes "}")))
+abbrev places_text : Pointer → Pointer → Text
+places_text instance_location path =
+    codes ",\"instanceLocation\":" ++ (quoted (pointer_text instance_location) ++ (codes ",\"keywordLocation\":" ++ (quoted (pointer_text path) ++ codes "}")))
 
 -- the texts of the locations, from the key of the instance's on
-places : (location : Location) (p : LocationParts) → AreParts location p
-    → codes ",\"instanceLocation\":\"" ++ (p.instance_location.now ++ (path_key ++ (p.path.now ++ unit_end))) ≡ places_text location
-places location p are =
-    let instance_location = pointer_text (pointer_view location.instance_location.now) in
-    ap (λ t. codes ",\"instanceLocation\":" ++ t) (closed p.instance_location.now instance_location (codes ",\"keywordLocation\":\"" ++ (p.path.now ++ unit_end)) are.instance_location)
-    ∙ ap (λ t. codes ",\"instanceLocation\":" ++ (quoted instance_location ++ (codes ",\"keywordLocation\":" ++ t))) (closed p.path.now (pointer_text (pointer_view location.path.now)) (codes "}") are.path)
+places : (l : Location) {origin : Identity} {onward instance_location path : Pointer} → AreTextsOf l origin onward instance_location path
+    → codes ",\"instanceLocation\":\"" ++ (l.instance_location.now ++ (path_key ++ (l.path.now ++ unit_end))) ≡ places_text instance_location path
+places l {origin} {onward} {instance_location} {path} are =
+    let here = pointer_text instance_location in
+    ap (λ t. codes ",\"instanceLocation\":" ++ t) (closed l.instance_location.now here (codes ",\"keywordLocation\":\"" ++ (l.path.now ++ unit_end)) are.instance_location)
+    ∙ ap (λ t. codes ",\"instanceLocation\":" ++ (quoted here ++ (codes ",\"keywordLocation\":" ++ t))) (closed l.path.now (pointer_text path) (codes "}") are.path)
 
 -- the three texts around what it says
 around : (f : Form) (t rest : Text) → quotation f ++ (t ++ (said_ending f ++ rest)) ≡ formed_text f t ++ (codes ",\"instanceLocation\":\"" ++ rest)
@@ -61,17 +55,23 @@ around NotMet t rest = ap (λ u. 34 ∷ u) (sym (append_assoc t (codes " is not 
 around Plain t rest = ap (λ u. 34 ∷ u) (sym (append_assoc t (34 ∷ []) (codes ",\"instanceLocation\":\"" ++ rest)))
 around Written t rest = refl
 
-pub unit_parts : (annotates : Bool) (location : Location) (says : Says) (p : LocationParts) (s : Said) → AreParts location p → said_text s ≡ text (says_value says)
-    → parts_text (record { annotates = annotates; location = p; said = s }) ≡ unit_text annotates (unit_at location says)
-unfolding unit_text
-unit_parts annotates location says p s are said =
-    let rest = p.instance_location.now ++ (path_key ++ (p.path.now ++ unit_end)) in
+-- of its parts
+pub unit_parts : (annotates : Bool) (l : Location) (v : Value) (s : Said) → said_text s ≡ text v → parts_text (record { annotates = annotates; location = l; said = s }) ≡ text_of_unit annotates l v
+unit_parts annotates l v s said =
+    let rest = l.instance_location.now ++ (path_key ++ (l.path.now ++ unit_end)) in
     let kind = kind_key annotates in
-    let origin = origin_view location.origin.now in
-    let from_opening : said_opening annotates s.form ++ (s.text.now ++ (said_ending s.form ++ rest)) ≡ 34 ∷ (kind ++ (text (says_value says) ++ places_text location)) =
-    append_assoc (34 ∷ kind) (quotation s.form) (s.text.now ++ (said_ending s.form ++ rest)) ∙ ap (λ t. 34 ∷ (kind ++ t)) (around s.form s.text.now rest ∙ ap₂ (λ a b. a ++ b) said (places location p are)) in
-    ap (λ t. p.head.now ++ (p.onward.now ++ t)) from_opening
-    ∙ opened origin.0 origin.1 (onward_pointer location.path.now location.onward) p.head.now p.onward.now (kind ++ (text (says_value says) ++ places_text location)) are.head are.onward
+    ap (λ t. l.head.now ++ (l.onward.now ++ t))
+    (append_assoc (34 ∷ kind) (quotation s.form) (s.text.now ++ (said_ending s.form ++ rest))
+    ∙ ap (λ t. 34 ∷ (kind ++ t)) (around s.form s.text.now rest ∙ ap (λ t. t ++ (codes ",\"instanceLocation\":\"" ++ rest)) said))
+
+-- where the texts are those of a location, it is the unit's text there
+pub unit_located : (annotates : Bool) (l : Location) (v : Value) (origin : Identity) (onward instance_location path : Pointer) → AreTextsOf l origin onward instance_location path
+    → text_of_unit annotates l v ≡ unit_text annotates (record { path = path; resource = origin.0; pointer = origin.1 ++ onward; instance_location = instance_location; says = v })
+unfolding unit_text
+unit_located annotates l v origin onward instance_location path are =
+    let kind = kind_key annotates in
+    ap (λ t. l.head.now ++ (l.onward.now ++ (34 ∷ (kind ++ (text v ++ t))))) (places l are)
+    ∙ opened origin.0 origin.1 onward l.head.now l.onward.now (kind ++ (text v ++ places_text instance_location path)) are.head are.onward
 
 pub said_not_met : (name : Text) → list_all is_unescaped name ≡ true → formed_text NotMet name ≡ text (string (name ++ codes " is not met"))
 said_not_met name unescaped = sym (message name unescaped)

@@ -10,3 +10,4 @@ pub mod Spans
 pub mod Units
 pub mod Outputs
 pub mod Parts
+pub mod WrittenPointers

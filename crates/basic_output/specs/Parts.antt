@@ -1,14 +1,14 @@
 -- A unit's text, put together of its parts.
 use Rattle.std.specs.Prelude.{◌≡◌, ◌+◌, ◌∷◌, ◌++◌, [], ℕ, Bool, codes, length}
-use Rattle.definitions.specs.Values.{Text}
-use Rattle.basic_output.specs.Notations.{kept_text}
+use Rattle.json.specs.Print.{escape}
+use Rattle.definitions.specs.Pointers.{Pointer, fragment_text, pointer_text}
+use Rattle.definitions.specs.Schemas.{Identity}
+use Rattle.definitions.specs.Texts.{text}
+use Rattle.definitions.specs.Values.{Text, Value}
 use Rattle.basic_output.specs.Pieces.{IsHead, kind_key}
-use Rattle.basic_output.specs.PointerViews.{onward_pointer, origin_view, pointer_view}
 use Rattle.basic_output.specs.declared.location.Location.{Location}
 use Rattle.basic_output.specs.declared.unit_text.saying.Form.{Form}
 use Rattle.basic_output.specs.declared.unit_text.saying.Form.TheVariants.{NotMet, Plain, Written}
-use Rattle.basic_output.specs.declared.unit_text.step_texts.Notation.TheVariants as notation
-use Rattle.basic_output.specs.declared.unit_text.LocationParts.{LocationParts}
 use Rattle.basic_output.specs.declared.unit_text.UnitParts.{UnitParts}
 use Rattle.basic_output.specs.declared.unit_text.saying.Said.{Said}
 
@@ -53,9 +53,15 @@ abbrev pub texts_length : UnitParts → ℕ
 texts_length u =
     length u.location.head.now + (length u.location.onward.now + (length u.said.text.now + (length u.location.instance_location.now + length u.location.path.now)))
 
--- the texts of a location, as they stand in the output
-pub record AreParts (location : Location) (p : LocationParts) : Type 0 where
-  pub head : IsHead (origin_view location.origin.now) p.head.now
-  pub onward : p.onward.now ≡ kept_text notation.Fragment (onward_pointer location.path.now location.onward)
-  pub instance_location : p.instance_location.now ≡ kept_text notation.Pointer (pointer_view location.instance_location.now)
-  pub path : p.path.now ≡ kept_text notation.Pointer (pointer_view location.path.now)
+-- the text of a unit at a location that says a value
+abbrev pub text_of_unit : Bool → Location → Value → Text
+text_of_unit annotates l v =
+    l.head.now ++ (l.onward.now ++ (34 ∷ (kind_key annotates ++ (text v ++ (codes ",\"instanceLocation\":\"" ++ (l.instance_location.now ++ (path_key ++ (l.path.now ++ unit_end))))))))
+
+-- its texts are those of these locations, as they stand in the output: that of a keyword to which a pointer leads on from the origin, that
+-- of the instance, and that along the evaluation path
+pub record AreTextsOf (l : Location) (origin : Identity) (further here way : Pointer) : Type 0 where
+  pub head : IsHead origin l.head.now
+  pub onward : l.onward.now ≡ escape (fragment_text further)
+  pub instance_location : l.instance_location.now ≡ escape (pointer_text here)
+  pub path : l.path.now ≡ escape (pointer_text way)

@@ -23,7 +23,7 @@ pub record AreTexts (n : Notation) (text : Text) (starts : List ℕ) (plain_from
   pub plain : (k : ℕ) (d : Step) → plain_from ≤ k → k < length starts → list_all is_plain (token (get_or steps k d)) ≡ true
 
 abbrev pub AreStepTexts : Notation → StepTexts → List Step → Type 0
-AreStepTexts n t steps = AreTexts n (buffer_text t.text) t.starts.items t.plain_from steps
+AreStepTexts n t steps = AreTexts n (buffer_text t.buffer.text) t.starts.items t.plain_from steps
 
 abbrev pub AreSomeTexts : StepTexts → Type 0
 AreSomeTexts t = (n : Notation) × ((steps : List Step) × AreStepTexts n t steps)

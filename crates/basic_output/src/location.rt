@@ -1,17 +1,16 @@
 //! Where a unit stands.
 
-use crate::origin::Origin;
-use crate::written_pointer::WrittenPointer;
-
-/// Where a unit stands (JSON Schema 2020-12 Core, 12.3).
+/// Where a unit stands (JSON Schema 2020-12 Core, 12.3): the texts of its locations, as they stand in the output.
+///
+/// Contracts see the text of a unit there, by `text_of_unit`.
 #[derive(Clone, Copy)]
-pub struct Location<'s, 'a> {
-    /// The keyword's location along the evaluation path, through references.
-    pub path: &'s WrittenPointer<'a>,
-    /// The schema at or below which the keyword stands.
-    pub origin: &'s Origin<'a>,
-    /// How many of the path's last steps lead from there to the keyword.
-    pub onward: usize,
+pub struct Location<'s> {
+    /// How the text of a unit begins, up to the location of its origin ([`Origin::head`](crate::Origin::head)).
+    pub head: &'s str,
+    /// The pointer from there to the keyword, as a fragment.
+    pub onward: &'s str,
     /// The instance's location.
-    pub instance_location: &'s WrittenPointer<'a>,
+    pub instance_location: &'s str,
+    /// The keyword's location along the evaluation path, through references.
+    pub path: &'s str,
 }

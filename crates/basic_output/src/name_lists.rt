@@ -33,57 +33,43 @@ impl NameList {
         }
     }
 
+    // The text of the list of these names, where all of them are short, and else of no list. The only error is want of memory.
+    fn of(alloc: Global, names: &[Name<'_>], text: &str) -> Result<NameList, AllocError>
+        requires { text.now ≡ names_text (map name_text names.now) }
+    {
+        let mut short = Vec::new(alloc);
+        for name in names {
+            match name.short() {
+                Some(text) => short.push(*text)?,
+                None => return Ok(NameList::new(alloc)),
+            }
+        }
+        let text = String::from_str(alloc, text)?;
+        Ok(NameList { text, names: short })
+    }
+
     // Whether it surely is the text of the list of these names.
     #[inline(always)]
     fn is_of(&self, names: &[Name<'_>]) -> bool
         ensures { OnTrue result (string_bytes self.now.text
             ≡ names_text (map name_text names.now)) }
     {
-        !names.is_empty() && are_surely(names, &self.names)
-    }
-
-    // The text of the list of these names, where all of them are short, and else of no list. The only error is want of memory.
-    fn of(alloc: Global, names: &[Name<'_>], text: &str) -> Result<NameList, AllocError>
-        requires { text.now ≡ names_text (map name_text names.now) }
-    {
-        let mut short = Vec::new(alloc);
-        if !push_short(&mut short, names)? {
-            return Ok(NameList::new(alloc));
-        }
-        let text = String::from_str(alloc, text)?;
-        Ok(NameList { text, names: short })
+        !names.is_empty() && names.len() == self.names.len() && are_surely(names, &self.names)
     }
 }
 
-// Whether the names surely are these.
+// Whether as many names surely are these.
 #[inline(always)]
 fn are_surely(names: &[Name<'_>], short: &[ShortText]) -> bool
+    requires { length names.now ≡ length short.now }
     ensures { OnTrue result (map name_text names.now ≡ map short_text short.now) }
 {
-    if names.len() != short.len() {
-        return false;
-    }
     for at in 0..names.len() {
         if !names[at].is_short(&short[at]) {
             return false;
         }
     }
     true
-}
-
-// Appends the names: whether all of them are short.
-fn push_short(short: &mut Vec<ShortText>, names: &[Name<'_>]) -> Result<bool, AllocError>
-    requires { short.old.items ≡ [] }
-    ensures { IfOk result (λ all. all ≡ true
-        → map short_text short.new.items ≡ map name_text names.now) }
-{
-    for name in names {
-        match name.short() {
-            Some(text) => short.push(*text)?,
-            None => return Ok(false),
-        }
-    }
-    Ok(true)
 }
 
 /// Texts of lists of short names.
@@ -109,11 +95,7 @@ impl NameListCache {
             (λ place. IsKept self.now place (names_text (map name_text names.now))) }
     {
         let place = place_of(names);
-        if self.texts.get(place)?.is_of(names) {
-            Some(place)
-        } else {
-            None
-        }
+        self.texts.get(place)?.is_of(names).then_some(place)
     }
 
     /// The text that is kept at that place.
@@ -129,21 +111,13 @@ impl NameListCache {
     pub(crate) fn keep(&mut self, names: &[Name<'_>], text: &str) -> Result<(), AllocError>
         requires { text.now ≡ names_text (map name_text names.now) }
     {
+        let alloc = *self.texts.allocator();
         let place = place_of(names);
         if text.len() <= LONGEST {
-            self.make_place(place)?;
-            self.texts[place] = NameList::of(*self.texts.allocator(), names, text)?;
-        }
-        Ok(())
-    }
-
-    // Makes the place and those before it, where they are missing.
-    fn make_place(&mut self, place: usize) -> Result<(), AllocError>
-        ensures { OnOk result (place < length self.new.texts.items) }
-    {
-        while self.texts.len() <= place {
-            let none = NameList::new(*self.texts.allocator());
-            self.texts.push(none)?;
+            while self.texts.len() <= place {
+                self.texts.push(NameList::new(alloc))?;
+            }
+            self.texts[place] = NameList::of(alloc, names, text)?;
         }
         Ok(())
     }

@@ -1,14 +1,14 @@
 //! Where pointers of keywords begin.
 #![tactic(auto, unfolding(crate::specs::PointerViews::origin_view))]
 
-ghost use Rattle.std.specs.Prelude.{◌≡◌, ◌∷◌, ◌++◌, [], string_bytes, IfOk, IfSome, OnOk};
+ghost use Rattle.std.specs.Prelude.{◌≡◌, ◌∷◌, ◌++◌, [], is_some, string_bytes, true, IfOk, IfSome};
 ghost use Rattle.std.proofs.Props.{props};
 ghost use Rattle.definitions.specs.Bytes.{number_sign};
 ghost use Rattle.definitions.specs.Pointers.{fragment_text};
 ghost use Rattle.locations.specs.Steps.{tokens};
 ghost use Rattle.basic_output.specs.Pieces.{IsHead, head_text};
 
-use crate::memory::OriginMemory;
+use crate::memory::is_kept;
 use crate::unit_text::{TextBuffer, are_unescaped, push_escaped};
 use locations::{Step, push_fragment};
 use std::alloc::{AllocError, Global};
@@ -38,33 +38,23 @@ pub struct Origin<'a> {
 impl<'a> Origin<'a> {
     ghost use Rattle.basic_output.specs.PointerViews.{origin_view};
 
-    /// The schema at these steps in the resource with this URI. The only error is want of memory.
-    pub fn new(
-        alloc: Global,
-        resource: &'a str,
-        steps: Vec<Step<'a>>,
-    ) -> Result<Origin<'a>, AllocError>
-        ensures { IfOk result
-            (λ o. origin_view o ≡ (resource.entry.now, tokens steps.entry.items)) }
-    {
-        Origin::within(OriginMemory::new(alloc), resource, steps)
-    }
-
-    /// The same, whose text is written in memory that was kept, where it finds enough there.
-    #[inline(always)]
+    /// The schema at these steps in the resource with this URI, whose text is written in memory that was kept, where it finds
+    /// enough there. The only error is want of memory.
+    #[inline(never)]
     pub fn within(
-        memory: OriginMemory,
+        memory: String,
         resource: &'a str,
         steps: Vec<Step<'a>>,
     ) -> Result<Origin<'a>, AllocError>
-        ensures { IfOk result
+        ensures head { IfOk result (λ o. is_some o.head ≡ true) }
+        ensures there { IfOk result
             (λ o. origin_view o ≡ (resource.entry.now, tokens steps.entry.items)) }
     {
-        let head = head_of(memory.text, resource, &steps)?;
+        let head = Some(head_of(memory, resource, &steps)?);
         Ok(Origin {
             resource,
             steps,
-            head: Some(head),
+            head,
         })
     }
 
@@ -79,30 +69,13 @@ impl<'a> Origin<'a> {
         }
     }
 
-    /// The memory that its text was written in, for the next origin. It is given back where the text took more than 1,048,576
-    /// bytes.
-    pub fn into_memory(self) -> OriginMemory {
+    /// The memory that its text was written in, for the next origin, unless the text took more than 1,048,576 bytes.
+    pub fn into_memory(self) -> String {
         let Origin { steps, head, .. } = self;
         match head {
-            Some(text) => OriginMemory::keeping(text),
-            None => OriginMemory::new(*steps.allocator()),
+            Some(text) if is_kept(text.capacity()) => text,
+            _ => String::new(*steps.allocator()),
         }
-    }
-
-    /// Whether its text is still to be written.
-    pub fn lacks_text(&self) -> bool {
-        self.head.is_none()
-    }
-
-    /// The same, with its text. The only error is want of memory. It is called apart, since few origins lack it.
-    #[inline(never)]
-    pub fn with_text(&self) -> Result<Rc<Origin<'a>>, AllocError>
-        ensures { IfOk result (λ o. origin_view o.value ≡ origin_view self.now) }
-    {
-        let alloc = *self.steps.allocator();
-        let steps = Vec::from_slice(alloc, &self.steps)?;
-        let written = Origin::new(alloc, self.resource, steps)?;
-        Ok(Rc::new(alloc, written)?)
     }
 
     /// The URI of the resource.
@@ -119,26 +92,34 @@ impl<'a> Origin<'a> {
         self.steps.as_slice()
     }
 
-    /// The same text, which is written anew. The only error is want of memory.
-    pub(crate) fn written_head(&self) -> Result<String, AllocError>
-        ensures { IfOk result (λ h. IsHead (origin_view self.now) (string_bytes h)) }
+    /// Whether it is written how the texts of units begin whose keywords stand below.
+    pub fn has_head(&self) -> bool
+        ensures { result ≡ is_some self.now.head }
     {
-        head_of(
-            String::new(*self.steps.allocator()),
-            self.resource,
-            &self.steps,
-        )
+        self.head.is_some()
     }
 
-    /// How the texts of units begin whose keywords stand below, where it is written.
+    /// The same origin with that. The only error is want of memory. It is called apart, since few origins lack it.
+    #[inline(never)]
+    pub fn with_head(&self) -> Result<Rc<Origin<'a>>, AllocError>
+        ensures head { IfOk result (λ o. is_some o.value.head ≡ true) }
+        ensures same { IfOk result (λ o. origin_view o.value ≡ origin_view self.now) }
+    {
+        let alloc = *self.steps.allocator();
+        let steps = Vec::from_slice(alloc, &self.steps)?;
+        let written = Origin::within(String::new(alloc), self.resource, steps)?;
+        Ok(Rc::new(alloc, written)?)
+    }
+
+    /// How these texts begin.
     #[inline(always)]
-    pub(crate) fn head(&self) -> Option<&str>
-        ensures { IfSome result
-            (λ h. IsHead (origin_view self.now) h.now) }
+    pub fn head(&self) -> &str
+        requires { is_some self.now.head ≡ true }
+        ensures { IsHead (origin_view self.now) result.now }
     {
         match &self.head {
-            Some(head) => Some(head.as_str()),
-            None => None,
+            Some(head) => head.as_str(),
+            None => "",
         }
     }
 }
@@ -157,18 +138,15 @@ fn head_of(memory: String, uri: &str, steps: &[Step<'_>]) -> Result<String, Allo
     if are_unescaped(&head.as_bytes()[KEY.len()..]) {
         return Ok(head);
     }
-    escaped_head(*head.allocator(), uri, steps)
+    escaped_head(*head.allocator(), &head.as_str()[KEY.len()..])
 }
 
-// The same with the escapes of the URI. It is called apart, since few URIs have any.
+// The same of a location that may have escapes. It is called apart, since few URIs have any.
 #[inline(never)]
-fn escaped_head(alloc: Global, uri: &str, steps: &[Step<'_>]) -> Result<String, AllocError>
-    ensures { IfOk result (λ h. IsHead (uri.now, tokens steps.now) (string_bytes h)) }
+fn escaped_head(alloc: Global, location: &str) -> Result<String, AllocError>
+    ensures { IfOk result (λ h. string_bytes h ≡ head_text location.now) }
 {
-    let mut location = String::from_str(alloc, uri)?;
-    location.push_str("#")?;
-    push_fragment(&mut location, steps)?;
     let mut head = TextBuffer::new(alloc);
-    push_escaped(&mut head, &mut String::new(alloc), KEY, location.as_str())?;
+    push_escaped(&mut head, &mut String::new(alloc), KEY, location)?;
     String::from_str(alloc, head.as_str())
 }

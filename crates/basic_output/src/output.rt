@@ -27,16 +27,10 @@ pub fn output_text(alloc: Global, valid: bool, units: &Units) -> Result<String, 
         → IfOk result (λ s. string_bytes s ≡ output_text o) }
     ensures room { IfErr result (λ f. f ≡ Fault.NoRoom) }
 {
-    let mut out = String::with_capacity(alloc, room_for(units))?;
+    let room = FRAME.saturating_add(units.text().len());
+    let mut out = String::with_capacity(alloc, room.saturating_add(units.order().len()))?;
     write_output(valid, units, &mut out)?;
     Ok(out)
-}
-
-// How many bytes the output has at most, if an address holds the number.
-fn room_for(units: &Units) -> usize {
-    FRAME
-        .saturating_add(units.text().len())
-        .saturating_add(units.order().len())
 }
 
 fn write_output(valid: bool, units: &Units, out: &mut String) -> Result<(), AllocError>
@@ -100,12 +94,13 @@ fn write_runs(
     let mut run = spans[first];
     for place in later {
         let span = spans[*place];
-        if run.leads_to(span) {
-            run = run.up_to(span);
-        } else {
-            out.push_str(run.text_in(text))?;
-            out.push_str(",")?;
-            run = span;
+        run = match run.joined(span) {
+            Some(joined) => joined,
+            None => {
+                out.push_str(run.text_in(text))?;
+                out.push_str(",")?;
+                span
+            }
         }
     }
     out.push_str(run.text_in(text))

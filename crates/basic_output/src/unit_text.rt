@@ -1,15 +1,10 @@
 //! The text of a unit, put together of its parts (JSON Schema 2020-12 Core, 12.4.2).
 
-ghost use Rattle.std.specs.Prelude.{◌≡◌, ◌+◌, ◌≤◌, ◌∷◌, ◌++◌, if◌then◌else◌, is_ok, length, IfOk, IfSome};
-ghost use Rattle.locations.specs.Steps.{tokens};
+ghost use Rattle.std.specs.Prelude.{◌≡◌, ◌+◌, ◌≤◌, ◌∷◌, ◌++◌, if◌then◌else◌, is_ok, length, IfSome};
 ghost use Rattle.basic_output.specs.Buffers.{buffer_text};
-ghost use Rattle.basic_output.specs.Notations.{kept_text};
-ghost use Rattle.basic_output.specs.Parts.{AreParts, parts_text, said_ending, said_opening, texts_length};
-ghost use Rattle.basic_output.specs.Pieces.{unit_text};
-ghost use Rattle.basic_output.specs.Sayings.{unit_at};
+ghost use Rattle.basic_output.specs.Parts.{parts_text, said_ending, said_opening, text_of_unit, texts_length};
+ghost use Rattle.basic_output.specs.Sayings.{says_value};
 ghost use Rattle.basic_output.specs.WrittenOver.{IsWrittenOver};
-ghost use Rattle.basic_output.specs.declared.location.Location.{Location};
-ghost use Rattle.basic_output.specs.declared.says.Says.{Says};
 
 mod buffer;
 mod escaping;
@@ -22,147 +17,45 @@ use crate::says::Says;
 pub(crate) use buffer::TextBuffer;
 use buffer::write;
 pub(crate) use escaping::{are_unescaped, push_escaped};
-use locations::Step;
 pub(crate) use saying::Saying;
 use saying::{Form, Said};
-use std::alloc::{AllocError, Global};
-pub(crate) use step_texts::{Notation, StepTexts};
-
-/// The parts of a unit that say where it stands, as they stand in the output.
-#[derive(Clone, Copy)]
-struct LocationParts<'s> {
-    // How it begins, up to the origin.
-    head: &'s str,
-    // The pointer from there.
-    onward: &'s str,
-    instance_location: &'s str,
-    path: &'s str,
-}
+use std::alloc::AllocError;
+pub(crate) use step_texts::Notation;
+pub use step_texts::StepTexts;
 
 /// All parts of a unit.
 #[derive(Clone, Copy)]
 struct UnitParts<'s> {
     annotates: bool,
-    location: LocationParts<'s>,
+    location: Location<'s>,
     said: Said<'s>,
 }
 
 /// Appends a comma and the text of a unit: of an annotation, or else of an error. What the unit says may be written apart first.
 /// The only error is want of memory, and then nothing was appended.
 #[inline(always)]
+#[tactic(auto, unfolding(crate::specs::Buffers::buffer_text), using(crate::proofs::UnitLaws::unit_parts))]
 pub(crate) fn append_unit(
     out: &mut TextBuffer,
     saying: &mut Saying,
     annotates: bool,
-    location: Location<'_, '_>,
+    location: Location<'_>,
     says: Says<'_, '_>,
 ) -> Result<(), AllocError>
     ensures { buffer_text out.new ≡ (if is_ok result
-        then buffer_text out.old ++ 44 ∷ unit_text annotates (unit_at location.entry says.entry)
-        else buffer_text out.old) }
-{
-    match location_parts(location) {
-        Some(parts) => append_at(out, saying, annotates, parts, says),
-        None => append_unwritten(out, saying, annotates, &location, &says),
-    }
-}
-
-// The same, where a text of its location is missing, which is written for it alone.
-#[inline(never)]
-fn append_unwritten(
-    out: &mut TextBuffer,
-    saying: &mut Saying,
-    annotates: bool,
-    location: &Location<'_, '_>,
-    says: &Says<'_, '_>,
-) -> Result<(), AllocError>
-    ensures { buffer_text out.new ≡ (if is_ok result
-        then buffer_text out.old ++ 44 ∷ unit_text annotates (unit_at location.now says.now)
-        else buffer_text out.old) }
-{
-    let alloc = out.allocator();
-    let head = location.origin.written_head()?;
-    let onward = location.path.onward_steps(location.onward);
-    let onward = written(alloc, Notation::Fragment, onward)?;
-    let instance_location = location.instance_location.steps();
-    let instance_location = written(alloc, Notation::Pointer, instance_location)?;
-    let path = written(alloc, Notation::Pointer, location.path.steps())?;
-    let parts = LocationParts {
-        head: head.as_str(),
-        onward: onward.as_str(),
-        instance_location: instance_location.as_str(),
-        path: path.as_str(),
-    };
-    append_at(out, saying, annotates, parts, *says)
-}
-
-// The text of these steps.
-fn written(alloc: Global, notation: Notation, steps: &[Step<'_>]) -> Result<StepTexts, AllocError>
-    ensures { IfOk result (λ t. buffer_text t.text ≡ kept_text notation (tokens steps.now)) }
-{
-    let mut texts = StepTexts::new(alloc);
-    texts.write(notation, steps)?;
-    Ok(texts)
-}
-
-// The texts of the location, where all of them are written.
-#[inline(always)]
-fn location_parts<'s>(location: Location<'s, '_>) -> Option<LocationParts<'s>>
-    ensures { IfSome result (λ parts. AreParts location.entry parts) }
-{
-    let head = location.origin.head()?;
-    let onward = location.path.onward_text(location.onward)?;
-    let instance_location = location.instance_location.text()?;
-    let path = location.path.text()?;
-    Some(LocationParts {
-        head,
-        onward,
-        instance_location,
-        path,
-    })
-}
-
-// Appends a comma and the text of the unit at the location with these parts.
-#[inline(always)]
-#[tactic(auto, using(crate::proofs::UnitLaws::unit_parts))]
-fn append_at(
-    out: &mut TextBuffer,
-    saying: &mut Saying,
-    annotates: bool,
-    location: LocationParts<'_>,
-    says: Says<'_, '_>,
-) -> Result<(), AllocError>
-    ensures { (l : Location) → AreParts l location.entry
-        → buffer_text out.new ≡ (if is_ok result
-        then buffer_text out.old ++ 44 ∷ unit_text annotates (unit_at l says.entry)
+        then buffer_text out.old
+        ++ 44 ∷ text_of_unit annotates location.entry (says_value says.entry)
         else buffer_text out.old) }
 {
     let said = saying.said(says)?;
-    out.push_parts(UnitParts {
+    let unit = UnitParts {
         annotates,
         location,
         said,
-    })
-}
-
-#[tactic(auto, unfolding(crate::specs::Buffers::buffer_text))]
-impl TextBuffer {
-    // Appends a comma and the parts. The only error is want of memory, and then the text stays as it was.
-    #[inline(always)]
-    fn push_parts(&mut self, unit: UnitParts<'_>) -> Result<(), AllocError>
-        ensures { buffer_text self.new ≡ (if is_ok result
-            then buffer_text self.old ++ 44 ∷ parts_text unit.entry
-            else buffer_text self.old) }
-    {
-        match room_for(unit) {
-            Some(room) => {
-                self.make_room(room)?;
-                self.len = write_unit(self.bytes.as_mut_slice(), self.len, unit);
-                Ok(())
-            }
-            None => Err(AllocError),
-        }
-    }
+    };
+    out.make_room(room_for(unit).ok_or(AllocError)?)?;
+    out.len = write_unit(out.bytes.as_mut_slice(), out.len, unit);
+    Ok(())
 }
 
 // How many bytes a comma and the unit take at most, if an address holds the number.

@@ -1,11 +1,11 @@
 //! The units of the basic output, as they are collected (JSON Schema 2020-12 Core, 12.4.2).
 #![tactic(auto, unfolding(crate::specs::Units::unit_texts, crate::specs::Spans::span_text))]
 
-ghost use Rattle.std.specs.Prelude.{◌≡◌, ◌≤◌, ◌<◌, ◌∷◌, ◌++◌, ◌-◌, drop, false, length, nat_eq, nat_le, take, true, IfOk, OnOk, OnErr};
+ghost use Rattle.std.specs.Prelude.{◌≡◌, ◌≤◌, ◌<◌, ◌∷◌, ◌++◌, ◌-◌, [], ℕ, None, Some, drop, false, if◌then◌else◌, length, nat_eq, nat_le, take, true, OnOk, OnErr};
 ghost use Rattle.std.specs.List.{All, insert, list_all};
 ghost use Rattle.basic_output.specs.Buffers.{buffer_text};
-ghost use Rattle.basic_output.specs.Pieces.{unit_text};
-ghost use Rattle.basic_output.specs.Sayings.{unit_at};
+ghost use Rattle.basic_output.specs.Parts.{text_of_unit};
+ghost use Rattle.basic_output.specs.Sayings.{says_value};
 ghost use Rattle.basic_output.specs.Spans.{IsSpan, ascends, last_end, order_of, span_text, texts_in_order};
 
 use crate::location::Location;
@@ -32,21 +32,16 @@ impl Span {
         &text[self.start..self.end]
     }
 
-    /// Whether the other one's text stands behind a comma behind this one's.
-    pub(crate) fn leads_to(self, next: Span) -> bool
-        ensures { result ≡ nat_eq (next.start - 1) self.end }
+    /// Its text and the next one's, where that stands behind a comma behind it.
+    pub(crate) fn joined(self, next: Span) -> Option<Span>
+        ensures { result ≡ (if nat_eq (next.start - 1) self.end then Some (record {
+          start = self.start;
+          end = next.end;
+          position = next.position;
+        }) else None) }
     {
-        next.start.saturating_sub(1) == self.end
-    }
-
-    /// From where this one's text starts to where the other one's ends.
-    pub(crate) fn up_to(self, last: Span) -> Span
-        ensures { result ≡ record { start = self.start; end = last.end; position = last.position } }
-    {
-        Span {
-            start: self.start,
-            ..last
-        }
+        let start = self.start;
+        (next.start.saturating_sub(1) == self.end).then_some(Span { start, ..next })
     }
 }
 
@@ -80,8 +75,6 @@ pub struct Mark {
 }
 
 impl Model for Mark {
-    ghost use Rattle.std.specs.Prelude.{ℕ};
-
     ghost Value = { ℕ };
 
     ghost view = { λ m. m.units };
@@ -90,7 +83,6 @@ impl Model for Mark {
 }
 
 impl Units {
-    ghost use Rattle.std.specs.Prelude.{[]};
     ghost use Rattle.basic_output.specs.Units.{unit_texts};
 
     /// No units. This takes no memory; the units that come later take it from `alloc`.
@@ -110,38 +102,35 @@ impl Units {
     pub fn mark(&self) -> Mark
         ensures { result ≡ length (unit_texts self.now) }
     {
-        Mark {
-            units: self.order.len(),
-        }
+        let units = self.order.len();
+        Mark { units }
     }
 
-    /// Puts a unit last: an annotation, or else an error. The only error is want of memory, and then the units stay as
-    /// they were.
+    /// Puts a unit last: an annotation, or else an error. The only error is want of memory; then the units stay as they were.
     pub fn push(
         &mut self,
         annotates: bool,
-        location: Location<'_, '_>,
+        location: Location<'_>,
         says: Says<'_, '_>,
     ) -> Result<(), AllocError>
         ensures ok { OnOk result (unit_texts self.new
-            ≡ unit_texts self.old ++ unit_text annotates (unit_at location.entry says.entry) ∷ []) }
+            ≡ unit_texts self.old ++ text_of_unit annotates location.entry (says_value says.entry) ∷ []) }
         ensures unchanged { OnErr result (unit_texts self.new ≡ unit_texts self.old) }
     {
         self.insert(self.mark(), annotates, location, says)
     }
 
-    /// Puts a unit at a mark, before those that came later: a keyword's own unit stands before the units of the schemas
-    /// that it applied. Of a mark past the last unit it is put last. The only error is want of memory, and then the
-    /// units stay as they were.
+    /// Puts a unit at a mark, before those that came later: a keyword's own unit stands before those of what it applied. Of a
+    /// mark past the last unit it is put last. The only error is want of memory, and then the units stay as they were.
     pub fn insert(
         &mut self,
         mark: Mark,
         annotates: bool,
-        location: Location<'_, '_>,
+        location: Location<'_>,
         says: Says<'_, '_>,
     ) -> Result<(), AllocError>
         ensures ok { OnOk result (unit_texts self.new ≡ insert (unit_texts self.old) mark
-            (unit_text annotates (unit_at location.entry says.entry))) }
+            (text_of_unit annotates location.entry (says_value says.entry))) }
         ensures unchanged { OnErr result (unit_texts self.new ≡ unit_texts self.old) }
     {
         let start = self.text.len();
@@ -191,13 +180,13 @@ impl Units {
     pub fn clear(&mut self)
         ensures { unit_texts self.new ≡ [] }
     {
-        if is_still_kept(self.text.room(), self.text.len()) && self.saying.is_kept() {
+        if is_still_kept(self.text.bytes.len(), self.text.len()) && self.saying.is_kept() {
             self.spans.clear();
             self.order.clear();
             self.loose = false;
-            self.text.clear();
+            self.text.truncate(0);
         } else {
-            *self = Units::new(self.text.allocator());
+            *self = Units::new(*self.spans.allocator());
         }
     }
 
@@ -225,8 +214,7 @@ impl Units {
     }
 }
 
-// Puts a place at the position, before those that came later. The only error is want of memory, and then the order stays as it
-// was.
+// Puts a place at the position. The only error is want of memory, and then the order stays as it was.
 #[inline(always)]
 fn put(order: &mut Vec<usize>, position: usize, place: usize) -> Result<(), AllocError>
     requires { position ≤ length order.old.items }
@@ -234,11 +222,10 @@ fn put(order: &mut Vec<usize>, position: usize, place: usize) -> Result<(), Allo
     ensures unchanged { OnErr result (order.new.items ≡ order.old.items) }
 {
     if position < order.len() {
-        order.insert(position, place)?;
+        Ok(order.insert(position, place)?)
     } else {
-        order.push(place)?;
+        Ok(order.push(place)?)
     }
-    Ok(())
 }
 
 // Whether all but the first units, so many, were put behind these.

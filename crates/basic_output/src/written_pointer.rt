@@ -1,17 +1,23 @@
 //! A pointer that steps come to and go from, and its texts.
 #![tactic(auto, unfolding(crate::specs::PointerViews::pointer_view))]
 
-ghost use Rattle.std.specs.Prelude.{◌≡◌, ◌-◌, ◌∷◌, ◌++◌, [], true, drop, length, take, IfSome};
+ghost use Rattle.std.specs.Prelude.{◌≡◌, ◌∷◌, ◌++◌, [], if◌then◌else◌, is_ok, length, take, IfOk, OnOk};
 ghost use Rattle.locations.specs.Steps.{token, tokens};
-ghost use Rattle.basic_output.specs.Buffers.{buffer_text};
-ghost use Rattle.basic_output.specs.Notations.{kept_text};
 ghost use Rattle.basic_output.specs.StepTexts.{AreStepTexts};
 ghost use Rattle.basic_output.specs.declared.unit_text.step_texts.Notation.TheVariants as notation;
 
-use crate::memory::PointerMemory;
 use crate::unit_text::{Notation, StepTexts};
 use locations::Step;
 use std::alloc::{AllocError, Global};
+
+/// The texts of a pointer.
+#[derive(Debug, Drop)]
+pub struct PointerTexts {
+    // As a pointer.
+    pointer: StepTexts,
+    // As a fragment, where some of its steps aren't plain.
+    fragment: StepTexts,
+}
 
 /// A pointer (RFC 6901), as the steps of its tokens, and its texts as far as they were written: they stay while steps come
 /// and go behind them, so that a step is written once for all units that stand below it.
@@ -20,46 +26,47 @@ use std::alloc::{AllocError, Global};
 #[derive(Drop)]
 pub struct WrittenPointer<'a> {
     steps: Vec<Step<'a>>,
-    // As a pointer.
-    pointer: StepTexts,
-    // As a fragment, where some of its steps aren't plain.
-    fragment: StepTexts,
-    ghost is_pointer: { AreStepTexts notation.Pointer pointer steps.items },
-    ghost is_fragment: { AreStepTexts notation.Fragment fragment steps.items },
+    texts: Box<PointerTexts>,
+    ghost is_pointer: { AreStepTexts notation.Pointer texts.value.pointer steps.items },
+    ghost is_fragment: { AreStepTexts notation.Fragment texts.value.fragment steps.items },
 }
 
 impl<'a> WrittenPointer<'a> {
-    ghost use Rattle.std.specs.Prelude.{◌≤◌, if◌then◌else◌, is_ok};
-    ghost use Rattle.definitions.specs.Pointers.{Pointer};
-    ghost use Rattle.definitions.specs.Values.{Text};
+    ghost use Rattle.json.specs.Print.{escape};
+    ghost use Rattle.definitions.specs.Pointers.{fragment_text, pointer_text};
     ghost use Rattle.basic_output.specs.PointerViews.{onward_pointer, pointer_view};
+    ghost use Rattle.basic_output.specs.WrittenPointers.{IsWritten, IsWrittenOnward};
 
-    /// The whole document's. This takes no memory; steps and their text take it from `alloc`.
-    pub fn new(alloc: Global) -> WrittenPointer<'a>
-        ensures { pointer_view result ≡ [] }
+    /// The whole document's, which is written in memory that was kept, if any was. The only error is want of memory.
+    #[inline(never)]
+    pub fn within(
+        alloc: Global,
+        memory: Option<Box<PointerTexts>>,
+    ) -> Result<WrittenPointer<'a>, AllocError>
+        ensures { IfOk result (λ p. pointer_view p ≡ []) }
     {
-        WrittenPointer::within(alloc, PointerMemory::new(alloc))
-    }
-
-    /// The whole document's, which is written in memory that was kept. This takes no memory; steps take it from `alloc`, and
-    /// their text too, where it finds too little in what was kept.
-    pub fn within(alloc: Global, memory: PointerMemory) -> WrittenPointer<'a>
-        ensures { pointer_view result ≡ [] }
-    {
-        let mut pointer = memory.pointer;
-        pointer.clear();
-        WrittenPointer {
+        let mut texts = match memory {
+            Some(texts) => texts,
+            None => Box::new(
+                alloc,
+                PointerTexts {
+                    pointer: StepTexts::new(alloc),
+                    fragment: StepTexts::new(alloc),
+                },
+            )?,
+        };
+        texts.pointer.clear();
+        texts.fragment.clear();
+        Ok(WrittenPointer {
             steps: Vec::new(alloc),
-            pointer,
-            fragment: StepTexts::new(alloc),
-        }
+            texts,
+        })
     }
 
-    /// The memory that it was written in, for the next pointer. Where the text took more than 1,048,576 bytes, all of it is
-    /// given back.
-    pub fn into_memory(self) -> PointerMemory {
-        let WrittenPointer { pointer, .. } = self;
-        PointerMemory::keeping(pointer)
+    /// The memory that it was written in, for the next pointer, unless its text took more than 1,048,576 bytes.
+    pub fn into_memory(self) -> Option<Box<PointerTexts>> {
+        let is_kept = self.texts.pointer.is_kept() && self.texts.fragment.is_kept();
+        is_kept.then_some(self.texts)
     }
 
     /// How many steps there are.
@@ -82,18 +89,8 @@ impl<'a> WrittenPointer<'a> {
             ≡ (if is_ok result then pointer_view self.old ++ token step.entry ∷ []
             else pointer_view self.old) }
     {
-        match self.steps.push(step) {
-            Ok(_) => Ok(()),
-            Err(error) => Err(error.into()),
-        }
-    }
-
-    /// One step less.
-    pub fn pop(&mut self)
-        ensures { (older : Pointer) (t : Text) → pointer_view self.old ≡ older ++ t ∷ []
-            → pointer_view self.new ≡ older }
-    {
-        self.truncate(self.len().saturating_sub(1));
+        self.steps.push(step)?;
+        Ok(())
     }
 
     /// Only so many steps stay.
@@ -101,7 +98,8 @@ impl<'a> WrittenPointer<'a> {
         ensures { pointer_view self.new ≡ take len (pointer_view self.old) }
     {
         if len < self.steps.len() {
-            self.unwrite(len);
+            self.texts.pointer.truncate(len);
+            self.texts.fragment.truncate(len);
             self.steps.truncate(len);
         }
     }
@@ -109,94 +107,48 @@ impl<'a> WrittenPointer<'a> {
     /// Writes what the text lacks. The only error is want of memory.
     #[inline(always)]
     pub fn write(&mut self) -> Result<(), AllocError>
-        ensures { pointer_view self.new ≡ pointer_view self.old }
+        ensures written { OnOk result (IsWritten self.new) }
+        ensures same { pointer_view self.new ≡ pointer_view self.old }
     {
-        if self.is_written() {
+        if self.texts.pointer.len() == self.steps.len() {
             return Ok(());
         }
-        self.pointer.write(Notation::Pointer, &self.steps)
+        self.texts.pointer.write(Notation::Pointer, &self.steps)
     }
 
     /// The same, and the last steps, so many, as a fragment, where they aren't written in the same way there. The only error is
     /// want of memory.
     #[inline(always)]
     pub fn write_onward(&mut self, onward: usize) -> Result<(), AllocError>
-        ensures { pointer_view self.new ≡ pointer_view self.old }
+        ensures written { OnOk result (IsWrittenOnward self.new onward) }
+        ensures same { pointer_view self.new ≡ pointer_view self.old }
     {
         self.write()?;
-        if self.pointer.are_plain_from(self.inward(onward)) {
+        if self.texts.pointer.plain_from <= self.steps.len().saturating_sub(onward) {
             return Ok(());
         }
-        self.write_fragment()
+        self.texts.fragment.write(Notation::Fragment, &self.steps)
     }
 
-    // Writes what the text as a fragment lacks.
-    fn write_fragment(&mut self) -> Result<(), AllocError>
-        ensures { pointer_view self.new ≡ pointer_view self.old }
+    /// The text.
+    pub fn text(&self) -> &str
+        requires { IsWritten self.now }
+        ensures { result.now ≡ escape (pointer_text (pointer_view self.now)) }
     {
-        if self.fragment.len() == self.steps.len() {
-            return Ok(());
-        }
-        self.fragment.write(Notation::Fragment, &self.steps)
+        self.texts.pointer.as_str()
     }
 
-    // The texts of so many steps at most stay.
-    fn unwrite(&mut self, len: usize)
-        ensures steps { self.new.steps ≡ self.old.steps }
-        ensures pointer { length self.new.pointer.starts.items ≤ len }
-        ensures fragment { length self.new.fragment.starts.items ≤ len }
-    {
-        self.pointer.truncate(len);
-        self.fragment.truncate(len);
-    }
-
-    // How many steps lead to where the last ones begin, so many.
-    fn inward(&self, onward: usize) -> usize
-        ensures value { result ≡ length (pointer_view self.now) - onward }
-        ensures onward { drop result (pointer_view self.now) ≡ onward_pointer self.now onward }
-    {
-        self.len().saturating_sub(onward)
-    }
-
-    // Whether the text is all of it.
-    fn is_written(&self) -> bool
-        ensures { result ≡ true
-            → length self.now.pointer.starts.items ≡ length self.now.steps.items }
-    {
-        self.pointer.len() == self.steps.len()
-    }
-
-    /// The text, where it is written.
+    /// The text of the last steps, so many, as a fragment.
     #[inline(always)]
-    pub(crate) fn text(&self) -> Option<&str>
-        ensures { IfSome result
-            (λ t. t.now ≡ kept_text notation.Pointer (pointer_view self.now)) }
+    pub fn onward_text(&self, onward: usize) -> &str
+        requires { IsWrittenOnward self.now onward }
+        ensures { result.now ≡ escape (fragment_text (onward_pointer self.now onward)) }
     {
-        if self.is_written() {
-            Some(self.pointer.as_str())
+        let inward = self.steps.len().saturating_sub(onward);
+        if self.texts.pointer.plain_from <= inward {
+            self.texts.pointer.behind(inward)
         } else {
-            None
+            self.texts.fragment.behind(inward)
         }
-    }
-
-    /// The text of the last steps, so many, as a fragment, where it is written.
-    #[inline(always)]
-    pub(crate) fn onward_text(&self, onward: usize) -> Option<&str>
-        ensures { IfSome result
-            (λ t. t.now ≡ kept_text notation.Fragment (onward_pointer self.now onward)) }
-    {
-        let inward = self.inward(onward);
-        if self.pointer.are_plain_from(inward) {
-            self.pointer.behind(inward, self.steps.len())
-        } else {
-            self.fragment.behind(inward, self.steps.len())
-        }
-    }
-
-    /// The last steps, so many.
-    pub(crate) fn onward_steps(&self, onward: usize) -> &[Step<'a>]
-        ensures { tokens result.now ≡ onward_pointer self.now onward }
-    {
-        &self.steps()[self.inward(onward)..]
     }
 }

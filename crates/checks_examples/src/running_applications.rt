@@ -4,7 +4,7 @@
 use crate::documents::listed;
 use crate::texts::{URI, expect_holds};
 use basic_output::Step;
-use evaluation_context::{Context, ContextMemory};
+use evaluation_context::{Context, ContextMemory, Start};
 use keywords::Keyword;
 use linker::{Fault, Linked, link};
 use std::alloc::Global;
@@ -18,8 +18,8 @@ fn linked(alloc: Global) -> Result<Linked, Fault> {
 fn is_at_keyword(alloc: Global, context: &mut Context<'_>) -> Result<bool, Fault> {
     context.write_locations()?;
     let location = context.location();
-    let is_own = location.origin.resource() == context.resource() && location.path.len() == 1;
-    let is_below = location.onward == 1 && location.instance_location.len() == 0;
+    let is_own = context.resource() == URI && location.path == "/not";
+    let is_below = location.onward == "/not" && location.instance_location.is_empty();
     let pointer = context.pointer(alloc)?;
     let is_not = matches!(pointer.first(), Some(Step::Keyword(Keyword::Not)));
     Ok(is_own && is_below && pointer.len() == 1 && is_not)
@@ -29,7 +29,8 @@ fn is_at_keyword(alloc: Global, context: &mut Context<'_>) -> Result<bool, Fault
 fn knows_what_is_running(alloc: Global) -> Result<bool, Fault> {
     let linked = linked(alloc)?;
     let memory = ContextMemory::new(alloc);
-    let mut context = Context::new(alloc, &linked, linked.root(alloc), memory)?;
+    let start = Start::of(alloc, linked.root(alloc), memory)?;
+    let mut context = Context::new(alloc, &linked, start);
     let before = context.is_running();
     context.enter_object()?;
     let within = context.is_running() && context.scope().len() == 1;

@@ -255,12 +255,10 @@ split_last x (y ∷ ys) =
     (x ∷ split.0, split.1, ap (λ zs. x ∷ zs) split.2)
 
 -- a path without its last step
-pub popped_path : (path new : Pointer) (last : ℕ) → ((older : Pointer) (t : Text) → path ≡ older ++ t ∷ [] → new ≡ older) → last < length path → new ≡ take (max (length path - 1) last) path
-popped_path [] new last popped less = absurd (omega arith)
-popped_path (t ∷ ts) new last popped less =
-    let split = split_last t ts in
-    let count : max (length (t ∷ ts) - 1) last ≡ length split.0 = omega (arith, less, ap length split.2, length-append split.0 (split.1 ∷ [])) in
-    popped split.0 split.1 split.2 ∙ sym (ap₂ take count split.2 ∙ take_at split.0 (split.1 ∷ []) (length split.0) refl)
+pub cut_path : (path new : Pointer) (last len : ℕ) → new ≡ take (len - 1) path → len ≡ length path → last < length path → new ≡ take (max (length path - 1) last) path
+cut_path path new last len cut is less =
+    let count : len - 1 ≡ max (length path - 1) last = omega (arith, less, is) in
+    cut ∙ ap (λ n. take n path) count
 
 -- ---- the search
 any_split : {A B : Type 0} (f : B → Bool) (g : A → B) (n : ℕ) (es : List A) → list_any f (map g es) ≡ (list_any f (map g (take n es)) || list_any f (map g (drop n es)))

@@ -5,3 +5,5 @@ pub mod RunningViews
 pub mod Frames
 pub mod Returns
 pub mod Moves
+pub mod Starts
+pub mod Written

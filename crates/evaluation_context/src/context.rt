@@ -1,27 +1,26 @@
 //! Where an application of a schema stands.
 
-ghost use Rattle.std.specs.Prelude.{◌≡◌, ◌≤◌, true, IfOk, OnOk, length, map};
+ghost use Rattle.std.specs.Prelude.{◌≡◌, ◌≤◌, Bool, true, IfOk, OnOk, is_some, length, map};
+ghost use Rattle.definitions.specs.Schemas.{Schema};
 ghost use Rattle.definitions.specs.Values.{Text, Value, is_object};
 ghost use Rattle.definitions.specs.Answers.{first_application};
 ghost use Rattle.definitions.specs.Outcomes.{is_running};
-ghost use Rattle.basic_output.specs.declared.says.Says as output;
-ghost use Rattle.basic_output.specs.Sayings.{says_value, unit_at};
-ghost use Rattle.json_doc.specs.Docs.{value};
+ghost use Rattle.basic_output.specs.Parts.{text_of_unit};
+ghost use Rattle.basic_output.specs.Pieces.{unit_text};
 ghost use Rattle.keywords.specs.Rows.{row_of};
 ghost use Rattle.locations.specs.Steps.{token, tokens};
 ghost use Rattle.keyword_plans.specs.ScopeViews.{scope_documents};
-ghost use Rattle.schema_scan.specs.Locateds.{located_view};
 ghost use Rattle.evaluation_context.specs.RunningViews.{path_pointer};
 ghost use Rattle.evaluation_context.specs.Standings.{application_at, at_keyword, unit_there, within_object};
 
 use crate::context_memory::ContextMemory;
 use crate::running_objects::RunningObjects;
-use basic_output::{Location, Origin, OriginMemory};
+use crate::start::Start;
+use basic_output::{Location, Origin};
 use keyword_plans::DynamicScope;
 use keywords::Keyword;
 use linker::Linked;
 use locations::Step;
-use schema_scan::Located;
 use std::alloc::{AllocError, Global};
 use std::rc::Rc;
 
@@ -54,33 +53,25 @@ pub struct Return<'a> {
 
 impl<'a> Context<'a> {
     ghost use Rattle.evaluation_context.specs.Frames.{Frame, context_view, frame_standing, keyword_frame, object_frame};
+    ghost use Rattle.evaluation_context.specs.Starts.{IsStart};
+    ghost use Rattle.evaluation_context.specs.Written.{AreWritten};
 
-    /// Where the first application stands, of a schema to the whole instance: its locations are written in memory that was kept.
-    /// The only error is want of memory.
+    /// Where the first application stands, of a schema to the whole instance, in these documents.
     #[inline(always)]
-    pub fn new(
-        alloc: Global,
-        linked: &'a Linked,
-        root: Located<'a>,
-        memory: ContextMemory,
-    ) -> Result<Context<'a>, AllocError>
-        ensures there { (x : Value) → IfOk result
-            (λ c. application_at (frame_standing (context_view c)) (value root.entry.schema.now) x
-            ≡ first_application (located_view root.entry) x) }
-        ensures documents { IfOk result (λ c. scope_documents c.scope ≡ linked.entry) }
+    pub fn new(alloc: Global, linked: &'a Linked, start: Start<'a>) -> Context<'a>
+        ensures there { (root : Schema) (x : Value) → IsStart start.entry root
+            → application_at (frame_standing (context_view result)) root.value x
+            ≡ first_application root x }
+        ensures documents { scope_documents result.scope ≡ linked.entry }
     {
-        let Located {
-            resource,
-            steps,
-            schema: _,
-        } = root;
-        Ok(Context {
-            origin: Rc::new(alloc, Origin::within(memory.origin, resource, steps)?)?,
+        let Start { origin, running } = start;
+        Context {
+            origin,
             onward: 0,
             name: None,
             scope: DynamicScope::new(alloc, linked),
-            running: RunningObjects::within(alloc, memory.pointers),
-        })
+            running,
+        }
     }
 
     /// The memory that its locations and its origin were written in, for the next context. Where the text of one of them took more
@@ -94,7 +85,7 @@ impl<'a> Context<'a> {
         let pointers = running.into_memory();
         let origin = match Rc::into_inner(origin) {
             Some(origin) => origin.into_memory(),
-            None => OriginMemory::new(alloc),
+            None => String::new(alloc),
         };
         ContextMemory { origin, pointers }
     }
@@ -131,10 +122,10 @@ impl<'a> Context<'a> {
         self.running.contains(&self.origin, self.onward, self.name)
     }
 
-    /// Writes what the texts of the locations lack, so that a unit's text has only to copy them: `location` says the same
-    /// before and after. The only error is want of memory.
+    /// Writes what the texts of the locations lack. The only error is want of memory.
     #[inline(always)]
     pub fn write_locations(&mut self) -> Result<(), AllocError>
+        ensures written { OnOk result (AreWritten self.new) }
         ensures same { context_view self.new ≡ context_view self.old }
         ensures documents { scope_documents self.new.scope ≡ scope_documents self.old.scope }
     {
@@ -144,26 +135,28 @@ impl<'a> Context<'a> {
 
     // Writes the text of the origin, where that isn't written yet.
     fn write_origin(&mut self) -> Result<(), AllocError>
+        ensures written { OnOk result (is_some self.new.origin.value.head ≡ true) }
         ensures same { context_view self.new ≡ context_view self.old }
         ensures documents { scope_documents self.new.scope ≡ scope_documents self.old.scope }
     {
-        if self.origin.lacks_text() {
-            self.origin = self.origin.with_text()?;
+        if !self.origin.has_head() {
+            self.origin = self.origin.with_head()?;
         }
         Ok(())
     }
 
     /// The location of a unit of the output.
-    pub fn location(&self) -> Location<'_, 'a>
-        ensures { (says : output.Says)
-            → unit_at result says ≡ unit_there (frame_standing (context_view self.now))
-            (says_value says) }
+    pub fn location(&self) -> Location<'_>
+        requires { AreWritten self.now }
+        ensures { (annotates : Bool) (says : Value) → text_of_unit annotates result says
+            ≡ unit_text annotates (unit_there (frame_standing (context_view self.now)) says) }
     {
+        let running = &self.running;
         Location {
-            path: self.running.path(),
-            origin: &self.origin,
-            onward: self.onward,
-            instance_location: self.running.instance_location(),
+            head: self.origin.head(),
+            onward: running.path.onward_text(self.onward),
+            instance_location: running.instance_location.text(),
+            path: running.path.text(),
         }
     }
 

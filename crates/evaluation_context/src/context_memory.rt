@@ -1,13 +1,13 @@
 //! The memory that a context's locations are written in.
 
-use basic_output::{OriginMemory, PointerMemory};
+use basic_output::PointerTexts;
 use std::alloc::Global;
 
 /// The memory that a context's evaluation path, instance location and origin are written in, to be kept for the next context:
 /// what their texts of at most 1,048,576 bytes were written in. No context depends on what is in it.
 #[derive(Debug, Drop)]
 pub struct ContextMemory {
-    pub(crate) origin: OriginMemory,
+    pub(crate) origin: String,
     pub(crate) pointers: PointersMemory,
 }
 
@@ -15,8 +15,11 @@ impl ContextMemory {
     /// None yet. This takes no memory; what is written takes it from `alloc`.
     pub fn new(alloc: Global) -> ContextMemory {
         ContextMemory {
-            origin: OriginMemory::new(alloc),
-            pointers: PointersMemory::new(alloc),
+            origin: String::new(alloc),
+            pointers: PointersMemory {
+                path: None,
+                instance_location: None,
+            },
         }
     }
 }
@@ -24,16 +27,6 @@ impl ContextMemory {
 /// The same of the evaluation path and of the instance location.
 #[derive(Debug, Drop)]
 pub(crate) struct PointersMemory {
-    pub(crate) path: PointerMemory,
-    pub(crate) instance_location: PointerMemory,
-}
-
-impl PointersMemory {
-    /// None yet.
-    pub(crate) fn new(alloc: Global) -> PointersMemory {
-        PointersMemory {
-            path: PointerMemory::new(alloc),
-            instance_location: PointerMemory::new(alloc),
-        }
-    }
+    pub(crate) path: Option<Box<PointerTexts>>,
+    pub(crate) instance_location: Option<Box<PointerTexts>>,
 }

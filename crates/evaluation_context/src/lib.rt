@@ -9,6 +9,8 @@ mod lower_parts;
 mod moving;
 mod running;
 mod running_objects;
+mod start;
 
 pub use context::{Context, Return};
 pub use context_memory::ContextMemory;
+pub use start::Start;

@@ -1,6 +1,6 @@
 //! The evaluation path and the instance location, and the schema objects that are being applied along them.
 
-ghost use Rattle.std.specs.Prelude.{◌≡◌, ◌≤◌, ◌-◌, ◌++◌, ◌∷◌, ◌&&◌, [], false, true, Some, if◌then◌else◌, is_ok, length, map, max, option_map, take, ℕ, IfSome, OnOk, List, Option};
+ghost use Rattle.std.specs.Prelude.{◌≡◌, ◌≤◌, ◌-◌, ◌++◌, ◌∷◌, ◌&&◌, [], false, true, Some, if◌then◌else◌, is_ok, length, map, max, option_map, take, ℕ, IfOk, IfSome, OnOk, List, Option};
 ghost use Rattle.std.specs.List.{list_any};
 ghost use Rattle.definitions.specs.Pointers.{same_pointer};
 ghost use Rattle.definitions.specs.Values.{Text};
@@ -9,6 +9,7 @@ ghost use Rattle.definitions.specs.Applied.{InstanceLocation};
 ghost use Rattle.definitions.specs.Outcomes.{same_name};
 ghost use Rattle.locations.specs.Steps.{token, tokens};
 ghost use Rattle.basic_output.specs.PointerViews.{pointer_view};
+ghost use Rattle.basic_output.specs.WrittenPointers.{IsWritten, IsWrittenOnward};
 ghost use Rattle.evaluation_context.specs.Ends.{identity_end, tell_ends, tells_end};
 ghost use Rattle.evaluation_context.specs.Runnings.{are_above, are_laid, is_running_as, last_end, last_steps, onward_identity, running_identity, running_view};
 
@@ -29,8 +30,8 @@ use std::rc::Rc;
 #[derive(Drop)]
 pub(crate) struct RunningObjects<'a> {
     entries: Vec<Running<'a>>,
-    path: WrittenPointer<'a>,
-    instance_location: WrittenPointer<'a>,
+    pub(crate) path: WrittenPointer<'a>,
+    pub(crate) instance_location: WrittenPointer<'a>,
     ghost laid: { are_laid (λ r. r.reach) 0 (length (pointer_view path)) entries.items ≡ true },
     ghost nested: { are_laid (λ r. r.depth) 0 (length (pointer_view instance_location))
         entries.items
@@ -43,19 +44,21 @@ pub(crate) struct RunningObjects<'a> {
 impl<'a> RunningObjects<'a> {
     ghost use Rattle.evaluation_context.specs.RunningViews.{instance_pointer, path_ends, path_pointer, running_objects};
 
-    /// None, at the whole instance. This takes no memory; what comes later takes it from `alloc`, and texts where they find too
-    /// little in what was kept.
-    pub(crate) fn within(alloc: Global, memory: PointersMemory) -> RunningObjects<'a>
-        ensures running { running_objects result ≡ [] }
-        ensures ends { path_ends result ≡ [] }
-        ensures path { path_pointer result ≡ [] }
-        ensures instance_location { instance_pointer result ≡ [] }
+    /// None, at the whole instance, whose texts are written in memory that was kept, if any was. The only error is want of memory.
+    pub(crate) fn within(
+        alloc: Global,
+        memory: PointersMemory,
+    ) -> Result<RunningObjects<'a>, AllocError>
+        ensures running { IfOk result (λ o. running_objects o ≡ []) }
+        ensures ends { IfOk result (λ o. path_ends o ≡ []) }
+        ensures path { IfOk result (λ o. path_pointer o ≡ []) }
+        ensures instance_location { IfOk result (λ o. instance_pointer o ≡ []) }
     {
-        RunningObjects {
+        Ok(RunningObjects {
             entries: Vec::new(alloc),
-            path: WrittenPointer::within(alloc, memory.path),
-            instance_location: WrittenPointer::within(alloc, memory.instance_location),
-        }
+            path: WrittenPointer::within(alloc, memory.path)?,
+            instance_location: WrittenPointer::within(alloc, memory.instance_location)?,
+        })
     }
 
     /// The memory that the path and the instance location were written in.
@@ -95,6 +98,8 @@ impl<'a> RunningObjects<'a> {
     /// Writes what the texts of the path and of the instance location lack, for units at a keyword to which so many of the path's
     /// last steps lead on from the origin. The only error is want of memory.
     pub(crate) fn write(&mut self, onward: usize) -> Result<(), AllocError>
+        ensures path_written { OnOk result (IsWrittenOnward self.new.path onward) }
+        ensures instance_written { OnOk result (IsWritten self.new.instance_location) }
         ensures running { running_objects self.new ≡ running_objects self.old }
         ensures ends { path_ends self.new ≡ path_ends self.old }
         ensures path { path_pointer self.new ≡ path_pointer self.old }
@@ -125,8 +130,9 @@ impl<'a> RunningObjects<'a> {
             (path_pointer self.old) }
         ensures instance_location { instance_pointer self.new ≡ instance_pointer self.old }
     {
-        if self.needed().0 < self.path.len() {
-            self.path.pop();
+        let len = self.path.len();
+        if self.needed().0 < len {
+            self.path.truncate(len - 1);
         }
     }
 

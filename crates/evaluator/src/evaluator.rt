@@ -20,7 +20,7 @@ use crate::applying::Evaluation;
 use crate::log::Log;
 use crate::memory::EvaluationMemory;
 use crate::report::{Report, reported};
-use evaluation_context::Context;
+use evaluation_context::{Context, Start};
 use faults::Fault;
 use json_doc::Doc;
 use linker::Linked;
@@ -61,7 +61,8 @@ impl<'a> Evaluator<'a> {
         let root = linked.root(alloc);
         let schema = root.schema;
         let EvaluationMemory { log, context } = EvaluationMemory::new(alloc);
-        let context = Context::new(alloc, linked, root, context)?;
+        let start = Start::of(alloc, root, context)?;
+        let context = Context::new(alloc, linked, start);
         let log = Log::within(alloc, log)?;
         Ok(Evaluator {
             evaluation: Evaluation::new(alloc, linked, context, log),

@@ -87,8 +87,8 @@ impl LogMark {
 
 impl<'a> Log<'a> {
     ghost use Rattle.std.specs.Prelude.{◌<◌, ◌∷◌, ◌++◌, true, false, OnOk};
-    ghost use Rattle.basic_output.specs.Pieces.{unit_text};
-    ghost use Rattle.basic_output.specs.Sayings.{unit_at};
+    ghost use Rattle.basic_output.specs.Parts.{text_of_unit};
+    ghost use Rattle.basic_output.specs.Sayings.{says_value};
     ghost use Rattle.definitions.specs.Applied.{Outcome};
     ghost use Rattle.definitions.specs.Keywords.{Meaning};
     ghost use Rattle.definitions.specs.Outcomes.{leaf};
@@ -196,13 +196,13 @@ impl<'a> Log<'a> {
     /// Puts an error last. The only error is want of memory.
     pub(crate) fn push_error(
         &mut self,
-        location: Location<'_, 'a>,
+        location: Location<'_>,
         says: Says<'_, 'a>,
     ) -> Result<(), AllocError>
         ensures { OnOk result (log_view self.new
             ≡ notes_of_both (log_view self.old)
             (record no_notes {
-              errors = unit_text false (unit_at location.entry says.entry)
+              errors = text_of_unit false location.entry (says_value says.entry)
                   ∷ [];
             })) }
     {
@@ -212,13 +212,13 @@ impl<'a> Log<'a> {
     /// Puts an annotation last. The only error is want of memory.
     pub(crate) fn push_annotation(
         &mut self,
-        location: Location<'_, 'a>,
+        location: Location<'_>,
         says: Says<'_, 'a>,
     ) -> Result<(), AllocError>
         ensures { OnOk result (log_view self.new
             ≡ notes_of_both (log_view self.old)
             (record no_notes {
-              annotations = unit_text true (unit_at location.entry says.entry)
+              annotations = text_of_unit true location.entry (says_value says.entry)
                   ∷ [];
             })) }
     {
@@ -247,14 +247,14 @@ impl<'a> Log<'a> {
     pub(crate) fn insert_error(
         &mut self,
         mark: &LogMark,
-        location: Location<'_, 'a>,
+        location: Location<'_>,
         says: Says<'_, 'a>,
     ) -> Result<(), AllocError>
         ensures { (older more : Notes) → mark_view mark.now ≡ lengths older
             → log_view self.old ≡ notes_of_both older more
             → OnOk result (log_view self.new
             ≡ notes_of_both older (record more {
-              errors = unit_text false (unit_at location.entry says.entry)
+              errors = text_of_unit false location.entry (says_value says.entry)
                   ∷ more.errors;
             })) }
     {
@@ -265,14 +265,14 @@ impl<'a> Log<'a> {
     pub(crate) fn insert_annotation(
         &mut self,
         mark: &LogMark,
-        location: Location<'_, 'a>,
+        location: Location<'_>,
         says: Says<'_, 'a>,
     ) -> Result<(), AllocError>
         ensures { (older more : Notes) → mark_view mark.now ≡ lengths older
             → log_view self.old ≡ notes_of_both older more
             → OnOk result (log_view self.new
             ≡ notes_of_both older (record more {
-              annotations = unit_text true (unit_at location.entry says.entry)
+              annotations = text_of_unit true location.entry (says_value says.entry)
                   ∷ more.annotations;
             })) }
     {

@@ -20,7 +20,7 @@ use crate::halt::Halt;
 use crate::log::Log;
 use crate::memory::EvaluationMemory;
 use basic_output::output_text;
-use evaluation_context::Context;
+use evaluation_context::{Context, Start};
 use faults::Fault;
 use json_doc::Doc;
 use linker::Linked;
@@ -104,7 +104,8 @@ pub fn evaluate_with<'a>(
     let root = linked.root(alloc);
     let schema = root.schema;
     let EvaluationMemory { log, context } = replace(memory, EvaluationMemory::new(alloc));
-    let context = Context::new(alloc, linked, root, context)?;
+    let start = Start::of(alloc, root, context)?;
+    let context = Context::new(alloc, linked, start);
     let log = Log::within(alloc, log)?;
     let mut evaluation = Evaluation::new(alloc, linked, context, log);
     let passed = evaluation.apply_root(schema, instance);

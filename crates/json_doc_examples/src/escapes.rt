@@ -1,7 +1,8 @@
 //! Names with escapes at each part of a unit, by the rules of RFC 6901, RFC 3986 and RFC 8259.
 
 use crate::expectations::{expect_same, expect_told};
-use basic_output::{Fault, Location, Origin, Says, Step, Units, WrittenPointer, output_text};
+use crate::places::{Place, origin_at, root_of};
+use basic_output::{Fault, Origin, Says, Step, Units, WrittenPointer, output_text};
 use keywords::Keyword;
 use std::alloc::Global;
 use std::process::Abort;
@@ -265,7 +266,7 @@ fn pointer_to<'a>(
     onward: usize,
     written: Written,
 ) -> Result<WrittenPointer<'a>, Fault> {
-    let mut pointer = WrittenPointer::new(alloc);
+    let mut pointer = WrittenPointer::within(alloc, None)?;
     for step in steps {
         pointer.push(*step)?;
     }
@@ -287,19 +288,17 @@ fn output_at(
 ) -> Result<String, Fault> {
     let [in_origin, in_path, in_instance] = *parts;
     let steps = steps_of(&place_in(in_origin, place), name);
-    let origin = Origin::new(alloc, "urn:x", Vec::from_slice(alloc, &steps)?)?;
+    let origin = origin_at(alloc, "urn:x", &steps)?;
     let steps = steps_of(&place_in(in_path, place), name);
-    let path = pointer_to(alloc, &steps, 2, written)?;
+    let mut path = pointer_to(alloc, &steps, 2, written)?;
     let steps = steps_of(&place_in(in_instance, place), name);
-    let instance_location = pointer_to(alloc, &steps, 0, written)?;
+    let mut here = pointer_to(alloc, &steps, 0, written)?;
     let mut units = Units::new(alloc);
-    let location = Location {
-        path: &path,
+    let place = Place {
         origin: &origin,
         onward: 2,
-        instance_location: &instance_location,
     };
-    units.push(false, location, Says::NotAllowed)?;
+    place.push(&mut units, false, &mut path, &mut here, Says::NotAllowed)?;
     output_text(alloc, false, &units)
 }
 
@@ -390,20 +389,16 @@ const URIS: &[(&str, &str, &str)] = &[
 
 /// The text of the output with an annotation at the root of what has this origin.
 fn output_under(alloc: Global, origin: &Origin<'_>) -> Result<String, Fault> {
-    let here = WrittenPointer::new(alloc);
+    let mut path = WrittenPointer::within(alloc, None)?;
+    let mut here = WrittenPointer::within(alloc, None)?;
     let mut units = Units::new(alloc);
-    let location = Location {
-        path: &here,
-        origin,
-        onward: 0,
-        instance_location: &here,
-    };
-    units.push(true, location, Says::True)?;
+    let place = Place { origin, onward: 0 };
+    place.push(&mut units, true, &mut path, &mut here, Says::True)?;
     output_text(alloc, true, &units)
 }
 
 fn output_under_uri(alloc: Global, uri: &str) -> Result<String, Fault> {
-    output_under(alloc, &Origin::new(alloc, uri, Vec::new(alloc))?)
+    output_under(alloc, &root_of(alloc, uri)?)
 }
 
 fn expect_uri(rt: &impl Abort, alloc: Global, row: &(&str, &str, &str)) {
@@ -425,33 +420,27 @@ fn push_named<'a>(
     units: &mut Units,
     path: &mut WrittenPointer<'a>,
     origin: &Origin<'a>,
-    here: &WrittenPointer<'a>,
+    here: &mut WrittenPointer<'a>,
     name: &'a str,
 ) -> Result<(), Fault> {
     path.push(Step::Name(name))?;
-    path.write_onward(2)?;
-    let location = Location {
-        path,
-        origin,
-        onward: 2,
-        instance_location: here,
-    };
-    units.push(false, location, Says::NotAllowed)?;
-    path.pop();
+    let place = Place { origin, onward: 2 };
+    place.push(units, false, path, here, Says::NotAllowed)?;
+    path.truncate(1);
     Ok(())
 }
 
 /// The output with errors at four names, one after the other, behind another one.
 fn come_and_gone(alloc: Global) -> Result<String, Fault> {
-    let origin = Origin::new(alloc, "urn:x", Vec::new(alloc))?;
-    let here = WrittenPointer::new(alloc);
-    let mut path = WrittenPointer::new(alloc);
+    let origin = root_of(alloc, "urn:x")?;
+    let mut here = WrittenPointer::within(alloc, None)?;
+    let mut path = WrittenPointer::within(alloc, None)?;
     let mut units = Units::new(alloc);
     path.push(Step::Name("a\"b"))?;
-    push_named(&mut units, &mut path, &origin, &here, "\\")?;
-    push_named(&mut units, &mut path, &origin, &here, "x")?;
-    push_named(&mut units, &mut path, &origin, &here, "~")?;
-    push_named(&mut units, &mut path, &origin, &here, "é")?;
+    push_named(&mut units, &mut path, &origin, &mut here, "\\")?;
+    push_named(&mut units, &mut path, &origin, &mut here, "x")?;
+    push_named(&mut units, &mut path, &origin, &mut here, "~")?;
+    push_named(&mut units, &mut path, &origin, &mut here, "é")?;
     output_text(alloc, false, &units)
 }
 

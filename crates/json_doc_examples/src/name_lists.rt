@@ -1,7 +1,8 @@
 //! Lists of names that units say one after the other, by RFC 8259, section 7.
 
 use crate::expectations::{expect_same, expect_told};
-use basic_output::{Location, Origin, Says, Units, WrittenPointer, output_text};
+use crate::places::{Places, root_of};
+use basic_output::{Says, Units, output_text};
 use json_doc::{Doc, Fault, Members, Name};
 use std::alloc::{AllocError, Global};
 use std::process::Abort;
@@ -208,16 +209,8 @@ pub(crate) fn names_of<'a>(
 fn push_names(alloc: Global, units: &mut Units, names: &[&str]) -> Result<(), Fault> {
     let objects = objects_of(alloc, names)?;
     let names = names_of(alloc, &objects)?;
-    let origin = Origin::new(alloc, "urn:x", Vec::new(alloc))?;
-    let root = WrittenPointer::new(alloc);
-    let location = Location {
-        path: &root,
-        origin: &origin,
-        onward: 0,
-        instance_location: &root,
-    };
-    units.push(true, location, Says::Names(&names))?;
-    Ok(())
+    let origin = root_of(alloc, "urn:x")?;
+    Places::new(alloc)?.push(units, true, &origin, Says::Names(&names))
 }
 
 /// The text of an output of these names alone, by units whose memory is kept.

@@ -1,8 +1,8 @@
 //! Texts of outputs, by the rules of JSON Schema 2020-12 Core, 12.4, RFC 6901 and RFC 3986.
 
 use crate::expectations::{expect_same, expect_told};
-use crate::places::{Places, origin_at, root_of, turn_to};
-use basic_output::{Location, Mark, Says, Step, Units, WrittenPointer, output_text};
+use crate::places::{Place, Places, origin_at, root_of, turn_to};
+use basic_output::{Mark, Says, Step, Units, WrittenPointer, output_text};
 use json_doc::{Fault, read};
 use keywords::Keyword;
 use std::alloc::Global;
@@ -12,12 +12,11 @@ use std::process::Abort;
 fn push_error(
     alloc: Global,
     units: &mut Units,
-    places: &Places<'static>,
+    places: &mut Places<'static>,
     says: Says<'static, 'static>,
 ) -> Result<(), Fault> {
     let origin = root_of(alloc, "https://ex.org/s")?;
-    units.push(false, places.within(&origin), says)?;
-    Ok(())
+    places.push(units, false, &origin, says)
 }
 
 /// The same at a mark.
@@ -25,19 +24,23 @@ fn insert_error(
     alloc: Global,
     units: &mut Units,
     mark: Mark,
-    places: &Places<'static>,
+    places: &mut Places<'static>,
     says: Says<'static, 'static>,
 ) -> Result<(), Fault> {
     let origin = root_of(alloc, "https://ex.org/s")?;
-    units.insert(mark, false, places.within(&origin), says)?;
-    Ok(())
+    places.insert_error(units, mark, &origin, says)
 }
 
 fn required_error(alloc: Global) -> Result<String, Fault> {
     let mut units = Units::new(alloc);
-    let mut places = Places::new(alloc);
+    let mut places = Places::new(alloc)?;
     places.turn_to(&[Step::Name("required")], &[])?;
-    push_error(alloc, &mut units, &places, Says::NotMet(Keyword::Required))?;
+    push_error(
+        alloc,
+        &mut units,
+        &mut places,
+        Says::NotMet(Keyword::Required),
+    )?;
     output_text(alloc, false, &units)
 }
 
@@ -70,7 +73,7 @@ fn writes_annotations_or_errors(rt: HostRuntime) {
 fn annotation(alloc: Global, says: Says<'_, '_>) -> Result<String, Fault> {
     let mut units = Units::new(alloc);
     let origin = root_of(alloc, "https://ex.org/s")?;
-    units.push(true, Places::new(alloc).within(&origin), says)?;
+    Places::new(alloc)?.push(&mut units, true, &origin, says)?;
     output_text(alloc, true, &units)
 }
 
@@ -172,12 +175,12 @@ fn escaped(alloc: Global) -> Result<String, Fault> {
     let mut units = Units::new(alloc);
     let steps = [Step::Name("~/%"), Step::Name("ä \""), Step::Name("\u{1}\n")];
     let origin = origin_at(alloc, "urn:x", &steps)?;
-    let mut places = Places::new(alloc);
+    let mut places = Places::new(alloc)?;
     places.turn_to(
         &[Step::Name("$ref"), Step::Name("~/%")],
         &[Step::Name("ä \""), Step::Index(12), Step::Name("\u{1}\n")],
     )?;
-    units.push(false, places.onward(&origin, 0), Says::NotAllowed)?;
+    places.push_error(&mut units, &origin, 0, Says::NotAllowed)?;
     output_text(alloc, false, &units)
 }
 
@@ -191,7 +194,7 @@ fn escapes_locations(rt: HostRuntime) {
 
 /// Puts the error of a subschema, then one that is cut off again, and at the mark that of the keyword.
 fn push_marked(alloc: Global, units: &mut Units, own: Mark) -> Result<(), Fault> {
-    let mut places = Places::new(alloc);
+    let mut places = Places::new(alloc)?;
     push_marked_at(alloc, units, own, &mut places)
 }
 
@@ -239,17 +242,19 @@ fn puts_units_at_marks_and_cuts_them_off(rt: HostRuntime) {
 }
 
 /// The text of an error at the last steps of this pointer, so many.
-fn error_at(alloc: Global, path: &WrittenPointer<'static>, onward: usize) -> Result<String, Fault> {
+fn error_at(
+    alloc: Global,
+    path: &mut WrittenPointer<'static>,
+    onward: usize,
+) -> Result<String, Fault> {
     let origin = root_of(alloc, "urn:x")?;
-    let instance_location = WrittenPointer::new(alloc);
+    let mut root = WrittenPointer::within(alloc, None)?;
     let mut units = Units::new(alloc);
-    let location = Location {
-        path,
+    let place = Place {
         origin: &origin,
         onward,
-        instance_location: &instance_location,
     };
-    units.push(false, location, Says::NotAllowed)?;
+    place.push(&mut units, false, path, &mut root, Says::NotAllowed)?;
     output_text(alloc, false, &units)
 }
 
@@ -262,17 +267,14 @@ const FOUR: &[Step<'static>] = &[
 
 /// Four steps without the last ones, so many.
 fn shortened(alloc: Global, without: usize) -> Result<WrittenPointer<'static>, Fault> {
-    let mut pointer = WrittenPointer::new(alloc);
+    let mut pointer = WrittenPointer::within(alloc, None)?;
     turn_to(&mut pointer, FOUR)?;
-    if without > 0 {
-        pointer.pop();
-    }
     pointer.truncate(FOUR.len().saturating_sub(without));
     Ok(pointer)
 }
 
 fn error_at_shortened(alloc: Global, without: usize, onward: usize) -> Result<String, Fault> {
-    error_at(alloc, &shortened(alloc, without)?, onward)
+    error_at(alloc, &mut shortened(alloc, without)?, onward)
 }
 
 /// How many of four steps are taken away, how many of the others lead on from the origin, and the text of the output.
@@ -329,7 +331,7 @@ fn error_behind_a_reference(alloc: Global) -> Result<String, Fault> {
     let mut units = Units::new(alloc);
     let steps = [Step::Name("$defs"), Step::Name("point")];
     let origin = origin_at(alloc, "https://example.com/polygon", &steps)?;
-    let mut places = Places::new(alloc);
+    let mut places = Places::new(alloc)?;
     let path = [
         Step::Name("items"),
         Step::Name("$ref"),
@@ -337,7 +339,7 @@ fn error_behind_a_reference(alloc: Global) -> Result<String, Fault> {
     ];
     places.turn_to(&path, &[Step::Index(1)])?;
     let says = Says::NotMet(Keyword::Required);
-    units.push(false, places.onward(&origin, 1), says)?;
+    places.push_error(&mut units, &origin, 1, says)?;
     output_text(alloc, false, &units)
 }
 

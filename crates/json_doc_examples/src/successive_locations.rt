@@ -235,14 +235,13 @@ fn push_at(
 ) -> Result<(), Fault> {
     let origin = root_of(alloc, resource_of(path))?;
     places.turn_to(path, instance_location)?;
-    units.push(false, places.within(&origin), Says::NotAllowed)?;
-    Ok(())
+    places.push(units, false, &origin, Says::NotAllowed)
 }
 
 /// The output with errors at these locations in turn, and at those of the instance in the opposite order.
 fn output_at(alloc: Global, locations: &[Row]) -> Result<String, Fault> {
     let mut units = Units::new(alloc);
-    let mut places = Places::new(alloc);
+    let mut places = Places::new(alloc)?;
     for (row, instance) in locations.iter().zip(locations.iter().rev()) {
         push_at(alloc, &mut units, &mut places, row.1, instance.1)?;
     }

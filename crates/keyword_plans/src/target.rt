@@ -36,7 +36,7 @@ impl<'a> Target<'a> {
             steps,
             schema,
         } = located;
-        let origin = Rc::new(alloc, Origin::new(alloc, resource, steps)?)?;
+        let origin = Rc::new(alloc, Origin::within(String::new(alloc), resource, steps)?)?;
         Ok(Target { origin, schema })
     }
 

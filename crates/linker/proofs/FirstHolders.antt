@@ -5,9 +5,10 @@ use Rattle.definitions.specs.Fragments.{Fragment}
 use Rattle.definitions.specs.Schemas.{Document, schemas_of}
 use Rattle.definitions.specs.Targets.{resource_root, target_by, schema_with_dynamic_anchor}
 use Rattle.definitions.specs.Reach.{holds_resource}
+use Rattle.schema_scan.specs.CompiledDocuments.{compiled_schemas, compiled_view}
 use Rattle.linker.specs.LinkedDocuments.{linked_documents, linked_schemas}
 use Rattle.linker.specs.declared.linked.Linked.{Linked}
-use Rattle.linker.proofs.Tables.{found_holder, no_holder, root_in_holder, root_nowhere, target_in_holder, target_nowhere, dynamically_anchored_in_holder, dynamically_anchored_nowhere}
+use Rattle.linker.proofs.Tables.{found_holder, found_holds, no_holder, root_in_holder, root_nowhere, target_in_holder, target_nowhere, dynamically_anchored_in_holder, dynamically_anchored_nowhere}
 
 pub root_of_first : (l : Linked) (uri : Text) (o : Option Document) → o ≡ find (holds_resource uri) (linked_documents l)
     → option_and_then (λ d. resource_root (schemas_of d.base d.value) uri) o ≡ resource_root (linked_schemas l) uri
@@ -28,7 +29,7 @@ anchored_of_first l uri name None e = sym (dynamically_anchored_nowhere (linked_
 anchored_of_first l uri name (Some d) e =
     sym (dynamically_anchored_in_holder (linked_documents l) uri name d (found_holder (linked_documents l) uri d l.distinct (sym e)))
 
--- the resource that was linked has a root
-pub root_is_there : (l : Linked) (uri : Text) → uri ≡ string_bytes l.uri → None ≡ resource_root (linked_schemas l) uri → ⊥
+-- the resource that was linked has a root in its document
+pub root_is_there : (l : Linked) → None ≡ resource_root (compiled_schemas l.document.value) (string_bytes l.uri) → ⊥
 unfolding linked_documents
-root_is_there l uri e none = true≢false (sym l.asked ∙ ap (λ u. is_some (resource_root (linked_schemas l) u)) (sym e) ∙ ap is_some (sym none))
+root_is_there l none = true≢false (sym (found_holds (linked_documents l) (string_bytes l.uri) (compiled_view l.document.value) l.holder).1 ∙ ap is_some (sym none))

@@ -1,16 +1,17 @@
 //! Linked documents.
 
-ghost use Rattle.std.specs.Prelude.{◌≡◌, [], true, false, is_some, string_bytes};
+ghost use Rattle.std.specs.Prelude.{◌≡◌, [], Some, false, find, is_some, slice_get, string_bytes};
 ghost use Rattle.definitions.specs.Values.{Text, same_text};
 ghost use Rattle.definitions.specs.Lists.{has_repeat};
-ghost use Rattle.definitions.specs.Reach.{missing_references};
+ghost use Rattle.definitions.specs.Reach.{holds_resource, missing_references};
 ghost use Rattle.definitions.specs.Scanning.{resource_uris};
 ghost use Rattle.definitions.specs.Schemas.{table_of};
-ghost use Rattle.definitions.specs.Targets.{resource_root, schema_with_dynamic_anchor};
+ghost use Rattle.definitions.specs.Targets.{schema_with_dynamic_anchor};
 ghost use Rattle.linker.specs.CompoundDocuments.{compound_documents};
 ghost use Rattle.linker.specs.SharedDocuments.{shared_documents};
 ghost use Rattle.linker.specs.ValueSets.{value_set};
 ghost use Rattle.linker.specs.Visits.{EmbedAlike};
+ghost use Rattle.schema_scan.specs.CompiledDocuments.{compiled_schemas, compiled_view};
 ghost use Rattle.schema_scan.specs.DynamicResources.{has_resource};
 ghost use Rattle.std.proofs.Props.{props};
 ghost use Rattle.std.specs.List.Sorted.{IsStrictlySortedBy-prop};
@@ -27,6 +28,9 @@ use std::rc::Rc;
 #[derive(Drop)]
 pub struct Linked {
     pub(crate) uri: String,
+    // The document that has it, and its number among that one's resources.
+    pub(crate) document: Rc<Compiled>,
+    pub(crate) number: usize,
     // In byte order of canonical URIs.
     pub(crate) documents: Vec<Rc<Compiled>>,
     // Those of them that have several resources.
@@ -37,7 +41,9 @@ pub struct Linked {
     ghost distinct: { has_repeat same_text (resource_uris (table_of (shared_documents documents.items))) ≡ false },
     ghost known: { EmbedAlike (shared_documents documents.items) (compound_documents compound) } by { Prim.hlevel (props, value_set) },
     ghost whole: { missing_references (shared_documents documents.items) ≡ [] },
-    ghost asked: { is_some (resource_root (table_of (shared_documents documents.items)) (string_bytes uri)) ≡ true },
+    ghost holder: { find (holds_resource (string_bytes uri)) (shared_documents documents.items)
+        ≡ Some (compiled_view document.value) } by { Prim.hlevel (props, value_set) },
+    ghost is_numbered: { slice_get (resource_uris (compiled_schemas document.value)) number ≡ Some (string_bytes uri) },
     ghost by_dynamic_anchor: { (uri name : Text) → has_resource dynamic_resources uri name
         ≡ is_some (schema_with_dynamic_anchor
         (table_of (shared_documents documents.items)) uri name) },

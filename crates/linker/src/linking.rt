@@ -1,10 +1,11 @@
 //! Linking of a resource with what it refers to (JSON Schema 2020-12 Core, sections 8.2.3 and 9.2).
 
-ghost use Rattle.std.specs.Prelude.{◌≡◌, ◌≢◌, None, Some, false, IfErr, IfOk, OnOk};
+ghost use Rattle.std.specs.Prelude.{◌≡◌, ◌≢◌, None, Some, false, find, is_some, slice_get, true, IfErr, IfOk, OnOk};
 ghost use Rattle.definitions.specs.Documents.{Ascend};
-ghost use Rattle.definitions.specs.Reach.{reach};
+ghost use Rattle.definitions.specs.Reach.{holds_resource, reach};
 ghost use Rattle.definitions.specs.Scanning.{resource_uris};
 ghost use Rattle.definitions.specs.Schemas.{table_of};
+ghost use Rattle.definitions.specs.Targets.{resource_root};
 ghost use Rattle.definitions.specs.Values.{same_text};
 ghost use Rattle.definitions.specs.Lists.{has_repeat};
 ghost use Rattle.faults.specs.View.{fault_view};
@@ -13,9 +14,11 @@ ghost use Rattle.linker.specs.LinkFaults.{link_fault};
 ghost use Rattle.linker.specs.LinkedDocuments.{linked_uri, linked_documents};
 ghost use Rattle.linker.specs.SharedDocuments.{shared_documents};
 ghost use Rattle.linker.specs.Visits.{EmbedAlike};
+ghost use Rattle.schema_scan.specs.CompiledDocuments.{compiled_schemas, compiled_view};
 
 use crate::compound_documents::CompoundDocuments;
 use crate::dynamic_resources::dynamic_resources_of;
+use crate::holders::holder;
 use crate::judging::least_missing;
 use crate::linked::Linked;
 use crate::source::Source;
@@ -46,10 +49,13 @@ pub fn link<S: Source>(alloc: Global, source: &mut S, resource: &str) -> Result<
         compound,
     } = reached_documents(alloc, source, resource)?;
     judge(alloc, &documents, &compound)?;
+    let (document, number) = holder_of(&documents, &compound, resource)?;
     let dynamic_resources = dynamic_resources_of(alloc, &documents)?;
     let uri = resource.to_owned(alloc)?;
     Ok(Linked {
         uri,
+        document,
+        number,
         documents,
         compound,
         dynamic_resources,
@@ -78,5 +84,34 @@ fn judge(
     match least_missing(alloc, documents, compound)? {
         Some(reference) => Err(Fault::Unresolved(reference.to_owned(alloc)?)),
         None => Ok(()),
+    }
+}
+
+// The document that has the resource, and the resource's number there. The only error is want of memory.
+fn holder_of(
+    documents: &[Rc<Compiled>],
+    compound: &CompoundDocuments,
+    resource: &str,
+) -> Result<(Rc<Compiled>, usize), Fault>
+    requires ascend { Ascend (shared_documents documents.now) }
+    requires distinct { has_repeat same_text
+        (resource_uris (table_of (shared_documents documents.now))) ≡ false }
+    requires known { EmbedAlike (shared_documents documents.now)
+        (compound_documents compound.now) }
+    requires asked { is_some
+        (resource_root (table_of (shared_documents documents.now)) resource.now) ≡ true }
+    ensures holder { IfOk result
+        (λ h. find (holds_resource resource.now) (shared_documents documents.now)
+        ≡ Some (compiled_view h.0.value)) }
+    ensures number { IfOk result
+        (λ h. slice_get (resource_uris (compiled_schemas h.0.value)) h.1 ≡ Some resource.now) }
+    ensures err { IfErr result (λ f. f ≡ Fault.NoRoom) }
+{
+    match holder(documents, compound, resource) {
+        Some(document) => {
+            let number = document.resource_number(resource);
+            Ok((document.clone()?, number))
+        }
+        None => unreachable!(),
     }
 }

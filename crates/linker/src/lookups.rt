@@ -33,7 +33,7 @@ impl Linked {
         ensures { resource_root (linked_schemas self.now) (linked_uri self.now)
             ≡ Some (located_view result) }
     {
-        match self.resource_root(alloc, self.uri.as_str()) {
+        match self.document.numbered_root(alloc, self.number) {
             Some(root) => root,
             None => unreachable!(),
         }
@@ -142,17 +142,6 @@ impl Linked {
     {
         match holder(self.documents.as_slice(), &self.compound, uri) {
             Some(document) => Some(document),
-            None => None,
-        }
-    }
-
-    // The root of the resource with this URI.
-    fn resource_root(&self, alloc: Global, uri: &str) -> Option<Located<'_>>
-        ensures { option_map located_view result
-            ≡ resource_root (linked_schemas self.now) uri.now }
-    {
-        match self.holder(uri) {
-            Some(document) => document.resource_root(alloc, uri),
             None => None,
         }
     }

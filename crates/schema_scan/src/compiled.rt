@@ -239,7 +239,18 @@ impl Compiled {
             ≡ resource_root (compiled_schemas self.now) uri.now }
     {
         match self.resource_uri(uri) {
-            Some(resource) => match way_of(&self.table.ways, self.resource_number(uri)) {
+            Some(_) => self.numbered_root(alloc, self.resource_number(uri)),
+            None => None,
+        }
+    }
+
+    /// The root of the resource whose URI has this number among [`resource_uris`](Self::resource_uris).
+    pub fn numbered_root(&self, alloc: Global, number: usize) -> Option<Located<'_>>
+        ensures { (uri : Text) → slice_get (resource_uris (compiled_schemas self.now)) number ≡ Some uri
+            → option_map located_view result ≡ resource_root (compiled_schemas self.now) uri }
+    {
+        match numbered(&self.table.uris, number) {
+            Some(resource) => match way_of(&self.table.ways, number) {
                 Some(way) => root_along(alloc, resource, way, &self.document),
                 None => None,
             },

@@ -39,21 +39,11 @@ impl TextBuffer {
         }
     }
 
-    /// Where it takes memory from.
-    pub(crate) fn allocator(&self) -> Global {
-        *self.bytes.allocator()
-    }
-
     /// How many bytes the text has.
     pub(crate) fn len(&self) -> usize
         ensures { result ≡ length (buffer_text self.now) }
     {
         self.len
-    }
-
-    /// How many bytes there are in all.
-    pub(crate) fn room(&self) -> usize {
-        self.bytes.len()
     }
 
     /// The text.
@@ -72,13 +62,6 @@ impl TextBuffer {
         if len < self.len {
             self.len = len;
         }
-    }
-
-    /// No text any more.
-    pub(crate) fn clear(&mut self)
-        ensures { buffer_text self.new ≡ [] }
-    {
-        self.len = 0;
     }
 
     /// Appends a text behind what leads it. The only error is want of memory, and then the text stays as it was.
@@ -108,8 +91,7 @@ impl TextBuffer {
     }
 }
 
-// As many bytes as that at least, where there are fewer: what stands there stays. The only error is want of memory. It is called
-// apart, since few units find so few.
+// As many bytes as that, where there are fewer: what stands there stays. The only error is want of memory. Few units call it.
 #[inline(never)]
 fn make_more_room(bytes: &mut Vec<u8>, end: usize) -> Result<(), AllocError>
     requires { length bytes.old.items < end }

@@ -12,8 +12,7 @@ use std::alloc::{AllocError, Global};
 use std::mem::replace;
 use std::simd::prelude::*;
 
-/// Appends a text as it stands in a string, behind what leads it. Escapes are made in the memory first, whatever that has in it. The
-/// only error is want of memory.
+/// Appends a text as it stands in a string, behind what leads it, by way of the memory. The only error is want of memory.
 #[inline(always)]
 pub(crate) fn push_escaped(
     out: &mut TextBuffer,

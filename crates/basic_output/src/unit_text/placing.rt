@@ -1,5 +1,4 @@
-//! Bytes placed over others. A few are placed by two copies of a fixed size, which may overlap: that takes fewer instructions
-//! than a call.
+//! Bytes placed over others: a few by two copies of a fixed size, which may overlap and take fewer instructions than a call.
 
 ghost use Rattle.std.specs.Prelude.{◌≡◌, ◌+◌, ◌≤◌, length, take};
 ghost use Rattle.json.specs.Filled.{Placed};

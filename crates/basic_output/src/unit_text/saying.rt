@@ -1,12 +1,11 @@
 //! What a unit says.
 
-ghost use Rattle.std.specs.Prelude.{◌≡◌, ◌++◌, map, string_bytes, true, IfOk, IfSome, OnOk};
+ghost use Rattle.std.specs.Prelude.{◌≡◌, ◌++◌, IfOk, IfSome, OnOk};
 ghost use Rattle.definitions.specs.Texts.{text};
 ghost use Rattle.definitions.specs.Values.{string};
-ghost use Rattle.json_doc.specs.NamedMembers.{name_text};
 ghost use Rattle.json_doc.specs.Tokens.{value_tokens};
-ghost use Rattle.basic_output.specs.Parts.{said_text};
-ghost use Rattle.basic_output.specs.Pieces.{index_tokens, name_tokens, names_text};
+ghost use Rattle.basic_output.specs.Parts.{formed_text, said_text};
+ghost use Rattle.basic_output.specs.Pieces.{index_tokens, name_tokens};
 ghost use Rattle.basic_output.specs.Sayings.{says_value};
 ghost use Rattle.basic_output.specs.declared.says.Says.TheVariants as says;
 
@@ -66,124 +65,74 @@ impl Saying {
     {
         match plain_said(says) {
             Some(said) => Ok(said),
-            None => Ok(written_said(self.written(says)?)),
+            None => Ok(said_as(Form::Written, self.written(says)?)),
         }
     }
 
-    // The text of it, which a list of names may have already.
+    // The text of it, which is kept of some lists of names.
     #[inline(always)]
     fn written<'s>(&'s mut self, says: Says<'s, 's>) -> Result<&'s str, AllocError>
         ensures { IfOk result (λ written. written.now ≡ text (says_value says.entry)) }
     {
-        match says {
-            Says::Names(names) => self.list(names),
-            _ => {
-                self.write(says)?;
-                Ok(self.text.as_str())
+        if let Says::Names(names) = says {
+            if let Some(place) = self.lists.find(names) {
+                return Ok(self.lists.text(place));
             }
         }
+        self.write(says)
     }
 
-    #[inline(always)]
-    fn list<'s>(&'s mut self, names: &'s [Name<'s>]) -> Result<&'s str, AllocError>
-        ensures { IfOk result (λ written. written.now ≡ names_text (map name_text names.now)) }
-    {
-        match self.lists.find(names) {
-            Some(place) => Ok(self.lists.text(place)),
-            None => Ok(self.other_list(names)?),
-        }
-    }
-
-    // One that is not kept, and is from then on, if it is short.
+    // Writes its text by the writer of `json`, and keeps that of a short list of names.
     #[inline(never)]
-    fn other_list<'s>(&'s mut self, names: &'s [Name<'s>]) -> Result<&'s str, AllocError>
-        ensures { IfOk result (λ written. written.now ≡ names_text (map name_text names.now)) }
-    {
-        self.write(Says::Names(names))?;
-        self.lists.keep(names, self.text.as_str())?;
-        Ok(self.text.as_str())
-    }
-
-    // Writes its text.
-    #[inline(never)]
-    fn write(&mut self, says: Says<'_, '_>) -> Result<(), AllocError>
-        ensures { OnOk result (string_bytes self.new.text ≡ text (says_value says.entry)) }
-    {
-        match says {
-            Says::True => write_text(&mut self.text, "true"),
-            _ => self.write_value(says),
-        }
-    }
-
-    // Writes the value's text by the writer of `json`.
-    fn write_value(&mut self, says: Says<'_, '_>) -> Result<(), AllocError>
-        ensures { OnOk result (string_bytes self.new.text ≡ text (says_value says.entry)) }
+    fn write<'s>(&'s mut self, says: Says<'s, 's>) -> Result<&'s str, AllocError>
+        ensures { IfOk result (λ written. written.now ≡ text (says_value says.entry)) }
     {
         let alloc = *self.text.allocator();
         let mut out = writer_over(&mut self.text);
         write_says(alloc, says, &mut out)?;
         self.text = written_by(out);
-        Ok(())
+        if let Says::Names(names) = says {
+            self.lists.keep(names, self.text.as_str())?;
+        }
+        Ok(self.text.as_str())
     }
 }
 
-// Writes the text in place of what stands there.
-fn write_text(out: &mut String, text: &str) -> Result<(), AllocError>
-    ensures { OnOk result (string_bytes out.new ≡ text.now) }
-{
-    out.clear();
-    out.push_str(text)
-}
-
-// What a unit says, where it is a string that stands as it is, or no names.
+// What a unit says, where its text is at hand.
 #[inline(always)]
 fn plain_said<'s>(says: Says<'s, 's>) -> Option<Said<'s>>
     ensures { IfSome result (λ said. said_text said ≡ text (says_value says.entry)) }
 {
     match says {
         Says::NotMet(keyword) => Some(not_met(keyword)),
-        Says::Names(names) if names.is_empty() => Some(written_said("[]")),
+        Says::True => Some(said_as(Form::Written, "true")),
+        Says::Names(names) if names.is_empty() => Some(said_as(Form::Written, "[]")),
         Says::Value(doc) => plain_string(doc.as_str()?),
         _ => None,
     }
 }
 
 // That the keyword isn't met, whose name stands in a string as it is.
-#[inline(always)]
 #[tactic(auto, using(crate::proofs::UnitLaws::said_not_met, crate::proofs::KeywordNames::name_is_unescaped))]
 fn not_met<'s>(keyword: Keyword) -> Said<'s>
     ensures { said_text result ≡ text (says_value (says.NotMet keyword)) }
 {
-    Said {
-        form: Form::NotMet,
-        text: keyword.name(),
-    }
+    said_as(Form::NotMet, keyword.name())
 }
 
 // The text, where it stands in a string as it is.
-#[tactic(auto, using(crate::proofs::PlainLaws::quoted_same))]
 fn plain_string(said: &str) -> Option<Said<'_>>
     ensures { IfSome result (λ s. said_text s ≡ text (string said.now)) }
 {
-    if are_unescaped(said.as_bytes()) {
-        Some(Said {
-            form: Form::Plain,
-            text: said,
-        })
-    } else {
-        None
-    }
+    are_unescaped(said.as_bytes()).then_some(said_as(Form::Plain, said))
 }
 
-// What was written.
+// What this text gives so.
 #[inline(always)]
-fn written_said(text: &str) -> Said<'_>
-    ensures { said_text result ≡ text.now }
+fn said_as(form: Form, text: &str) -> Said<'_>
+    ensures { said_text result ≡ formed_text form text.now }
 {
-    Said {
-        form: Form::Written,
-        text,
-    }
+    Said { form, text }
 }
 
 // Writes what the unit says.

@@ -1,5 +1,5 @@
 use Rattle.std.proofs.Common.{◌≡◌, [], ◌∷◌, ◌∙◌, None, false, ap, sym, subst, OnOk}
-use Rattle.definitions.specs.Applied.{OutputUnit}
+use Rattle.definitions.specs.Values.{Text}
 use Rattle.basic_output.specs.Pieces.{unit_text}
 use Rattle.basic_output.specs.Sayings.{says_value}
 use Rattle.basic_output.specs.declared.says.Says.TheVariants.{NotMet}
@@ -42,7 +42,7 @@ returns-in_ok-insert_error-clause-noted c l left a names indexes v older inst co
     let meaning = (row_of k).meaning in
     let seen = visible_notes meaning (parts_notes meaning u.outcomes) in
     c.in_ok-insert_error.ensures older (record seen { annotations = [] }) m (c.cut_annotations.ensures older seen m (c.hide.ensures older (parts_notes meaning u.outcomes) m e))
-    ∙ ap (λ (unit : OutputUnit). notes_of_both older (record seen { annotations = []; errors = unit_text false unit ∷ seen.errors }))
-    (c.location.ensures (NotMet k)
-    ∙ unit_under (context_view c.args.context.now) (context_view c.write_locations.new.self) (row_of k).name a (says_value (NotMet k)) c.write_locations.ensures.same under)
+    ∙ ap (λ (unit : Text). notes_of_both older (record seen { annotations = []; errors = unit ∷ seen.errors }))
+    (c.location.ensures false (says_value (NotMet k))
+    ∙ ap (unit_text false) (unit_under (context_view c.args.context.now) (context_view c.write_locations.new.self) (row_of k).name a (says_value (NotMet k)) c.write_locations.ensures.same under))
     ∙ ap (notes_of_both older) (failing_settled l left a k names indexes v (sym c.if-passes.false ∙ passes))

@@ -1,8 +1,9 @@
-use Rattle.std.proofs.Common.{◌≡◌, None, is_some, string_bytes, ap, sym, ◌∙◌, subst}
+use Rattle.std.proofs.Common.{◌≡◌, None, Some, find, is_some, ap, sym, ◌∙◌, subst}
 use Rattle.definitions.specs.Documents.{Ascend}
+use Rattle.definitions.specs.Reach.{holds_resource}
 use Rattle.definitions.specs.Scanning.{resource_uris}
 use Rattle.definitions.specs.Schemas.{table_of}
-use Rattle.definitions.specs.Targets.{schema_with_dynamic_anchor}
+use Rattle.definitions.specs.Targets.{resource_root, schema_with_dynamic_anchor}
 use Rattle.definitions.specs.Values.{same_text}
 use Rattle.definitions.specs.Lists.{has_repeat}
 use Rattle.linker.specs.LinkFaults.{link_fault}
@@ -25,22 +26,37 @@ judge-requires g c =
       known = subst (λ ds. EmbedAlike (shared_documents ds) (compound_documents c.in_ok-documents.field-0.compound)) (sym c.deref.ensures.value) c.in_ok-documents.ensures.known;
     }
 
+pub holder_of-requires : goal.holder_of-requires
+holder_of-requires g c =
+    let ds = shared_documents c.in_ok-documents.field-0.documents.items in
+    let same = ap shared_documents c.deref-2.ensures.value in
+    let linked : IsLinked ds c.args.resource.now =
+    is_linked (g.S.Source.documents c.args.source.now) ds c.args.resource.now (g.met.S.Source.sound c.args.source.now) c.in_ok-documents.ensures.ok
+    (subst (λ xs. link_fault (shared_documents xs) ≡ None) c.deref.ensures.value c.in_ok-judge.ensures.ok) in
+    record {
+      ascend = subst Ascend (sym same) linked.ascend;
+      distinct = ap (λ xs. has_repeat same_text (resource_uris (table_of xs))) same ∙ linked.distinct;
+      known = subst (λ xs. EmbedAlike (shared_documents xs) (compound_documents c.in_ok-documents.field-0.compound)) (sym c.deref-2.ensures.value) c.in_ok-documents.ensures.known;
+      asked = ap (λ xs. is_some (resource_root (table_of xs) c.args.resource.now)) same ∙ linked.asked;
+    }
+
 pub invariant_of-result : goal.invariant_of-result
 invariant_of-result g c =
     let ds = shared_documents c.in_ok-documents.field-0.documents.items in
-    let linked : IsLinked ds (string_bytes c.in_ok-uri.uri) =
-    subst (IsLinked ds) (sym c.in_ok-uri.ensures.ok)
-    (is_linked (g.S.Source.documents c.args.source.now) ds c.args.resource.now (g.met.S.Source.sound c.args.source.now) c.in_ok-documents.ensures.ok
-    (subst (λ xs. link_fault (shared_documents xs) ≡ None) c.deref.ensures.value c.in_ok-judge.ensures.ok)) in
+    let uri = c.in_ok-uri.ensures.ok in
+    let linked : IsLinked ds c.args.resource.now =
+    is_linked (g.S.Source.documents c.args.source.now) ds c.args.resource.now (g.met.S.Source.sound c.args.source.now) c.in_ok-documents.ensures.ok
+    (subst (λ xs. link_fault (shared_documents xs) ≡ None) c.deref.ensures.value c.in_ok-judge.ensures.ok) in
     record {
       ascend = linked.ascend;
       distinct = linked.distinct;
       known = c.in_ok-documents.ensures.known;
       whole = linked.whole;
-      asked = linked.asked;
+      holder = ap (λ u. find (holds_resource u) ds) uri ∙ ap (λ xs. find (holds_resource c.args.resource.now) (shared_documents xs)) (sym c.deref-2.ensures.value) ∙ c.in_ok-document.ensures.holder;
+      is_numbered = c.in_ok-document.ensures.number ∙ ap Some (sym uri);
       by_dynamic_anchor = λ uri name.
           c.in_ok-dynamic_resources.ensures.ok uri name
-          ∙ ap (λ xs. is_some (schema_with_dynamic_anchor (table_of (shared_documents xs)) uri name)) c.deref-2.ensures.value;
+          ∙ ap (λ xs. is_some (schema_with_dynamic_anchor (table_of (shared_documents xs)) uri name)) c.deref-3.ensures.value;
     }
 
 pub returns-clause-uri : goal.returns-clause-uri

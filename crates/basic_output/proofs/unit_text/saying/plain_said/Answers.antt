@@ -8,9 +8,6 @@ use Rattle.basic_output.specs.Sayings.{says_value}
 use Rattle.lemmas.proofs.SomeValues.{none_some, some_same}
 use Rattle.basic_output.proofs.unit_text.saying.plain_said.Goals as goal
 
-pub returns-in-NotMet : goal.returns-in-NotMet
-returns-in-NotMet c = subst (λ s. said_text c.not_met.result ≡ text (says_value s)) (sym c.in-NotMet.is) c.not_met.ensures
-
 string_is : (v : Value) (t : Text) → as_string v ≡ Some t → v ≡ string t
 string_is (string s) t h = ap string (some_same h)
 string_is v t h = absurd (none_some h)

@@ -1,5 +1,5 @@
 -- The table is held against the definitions at each of the 256 bytes, by computing.
-use Rattle.std.proofs.Common.{◌<◌, ℕ, Bool, true, cond, get_or, refl, arith}
+use Rattle.std.proofs.Common.{ℕ, Bool, true, cond, get_or, refl, arith}
 use Rattle.std.proofs.lemmas.Bool.{agree_below_at, le-leb}
 use Rattle.std.specs.Prelude.{nat_le}
 use Rattle.basic_output.specs.Notations.{stands_in_pointer}
@@ -13,10 +13,8 @@ is_told most p k = cond (nat_le (get_or MARKS k 0) most) (p k) true
 
 pub returns-clause-plain : goal.returns-clause-plain
 returns-clause-plain c =
-    let fits : c.args.byte < 256 = omega arith in
-    λ low. chosen (nat_le (get_or MARKS c.args.byte 0) 48) (is_plain c.args.byte) (agree_below_at (is_told 48 is_plain) (λ n. true) 256 c.args.byte refl fits) (le-leb (get_or MARKS c.args.byte 0) 48 low)
+    λ low. chosen (nat_le (get_or MARKS c.args.byte 0) 48) (is_plain c.args.byte) (agree_below_at (is_told 48 is_plain) (λ n. true) 256 c.args.byte refl (omega arith)) (le-leb (get_or MARKS c.args.byte 0) 48 low)
 
 pub returns-clause-pointer : goal.returns-clause-pointer
 returns-clause-pointer c =
-    let fits : c.args.byte < 256 = omega arith in
-    λ low. chosen (nat_le (get_or MARKS c.args.byte 0) 50) (stands_in_pointer c.args.byte) (agree_below_at (is_told 50 stands_in_pointer) (λ n. true) 256 c.args.byte refl fits) (le-leb (get_or MARKS c.args.byte 0) 50 (omega (arith, low)))
+    λ low. chosen (nat_le (get_or MARKS c.args.byte 0) 50) (stands_in_pointer c.args.byte) (agree_below_at (is_told 50 stands_in_pointer) (λ n. true) 256 c.args.byte refl (omega arith)) (le-leb (get_or MARKS c.args.byte 0) 50 (omega (arith, low)))

@@ -3,8 +3,8 @@ use Rattle.std.proofs.lemmas.List.{length-append, length-map}
 use Rattle.std.specs.List.{All, insert}
 use Rattle.lemmas.proofs.Results.{on_err}
 use Rattle.definitions.specs.Values.{Text}
-use Rattle.basic_output.specs.Pieces.{unit_text}
-use Rattle.basic_output.specs.Sayings.{unit_at}
+use Rattle.basic_output.specs.Parts.{text_of_unit}
+use Rattle.basic_output.specs.Sayings.{says_value}
 use Rattle.basic_output.specs.Buffers.{buffer_text}
 use Rattle.basic_output.specs.Spans.{order_of, span_text, text_at, texts_in_order}
 use Rattle.basic_output.specs.Units.{unit_texts}
@@ -36,27 +36,25 @@ invariant_of-self-in-Ok c =
     let p = c.min-position.result in
     let span : Span = record { start = c.len-start.result + 1; end = c.len-end.result; position = p } in
     let place : c.len-place.result ≡ length ss = c.len-place.ensures ∙ old.spans.ok.0 in
-    let pushed = c.in_ok-push.ensures.items in
-    let k = noted old c.append_unit.new.out _ span c.push.new.self.items c.in_ok-append_unit.ensures (omega (arith, c.len-start.ensures)) c.len-end.ensures pushed in
+    let k = noted old c.append_unit.new.out _ span c.push.new.self.items c.in_ok-append_unit.ensures (omega (arith, c.len-start.ensures)) c.len-end.ensures c.in_ok-push.ensures.items in
     let on : insert (order_of ss) p (length ss) ≡ order_of (ss ++ span ∷ []) = sym (order_on 0 [] ss span ∙ ap (insert (order_of ss) p) (let e : 0 + length ss ≡ length ss = omega arith in e)) in
     record {
       are_spans = k.are_spans;
       ascend = k.ascend;
-      within = subst (λ o. All (λ i. i < length c.push.new.self.items) o) (sym c.in-Ok.ensures.ok) (within_one c.len-place.result p old.order.items ss c.push.new.self.items span place pushed old.within);
-      told = λ e. c.in-Ok.ensures.ok ∙ ap₂ (λ o i. insert o p i) (old.told e) place ∙ on ∙ ap order_of (sym pushed);
+      within = subst (λ o. All (λ i. i < length c.push.new.self.items) o) (sym c.in-Ok.ensures.ok) (within_one c.len-place.result p old.order.items ss c.push.new.self.items span place c.in_ok-push.ensures.items old.within);
+      told = λ e. c.in-Ok.ensures.ok ∙ ap₂ (λ o i. insert o p i) (old.told e) place ∙ on ∙ ap order_of (sym c.in_ok-push.ensures.items);
     }
 
 pub invariant_of-self-in-Err : goal.invariant_of-self-in-Err
 invariant_of-self-in-Err c =
     let old = c.args.self.now in
     let span : Span = record { start = c.len-start.result + 1; end = c.len-end.result; position = c.min-position.result } in
-    let pushed = c.in_ok-push.ensures.items in
-    let k = noted old c.append_unit.new.out _ span c.push.new.self.items c.in_ok-append_unit.ensures (omega (arith, c.len-start.ensures)) c.len-end.ensures pushed in
+    let k = noted old c.append_unit.new.out _ span c.push.new.self.items c.in_ok-append_unit.ensures (omega (arith, c.len-start.ensures)) c.len-end.ensures c.in_ok-push.ensures.items in
     record {
       are_spans = k.are_spans;
       ascend = k.ascend;
       within = subst (λ o. All (λ i. i < length c.push.new.self.items) o) (sym c.in-Err.ensures.unchanged)
-          (below_more (length old.spans.items) (length c.push.new.self.items) old.order.items (omega (arith, ap length pushed, length-append old.spans.items (span ∷ []))) old.within);
+          (below_more (length old.spans.items) (length c.push.new.self.items) old.order.items (omega (arith, ap length c.in_ok-push.ensures.items, length-append old.spans.items (span ∷ []))) old.within);
       told = λ e. absurd (cc);
     }
 
@@ -65,7 +63,7 @@ unfolding unit_texts
 returns-in-Ok-clause-ok c =
     let old = c.args.self.now in
     let t = buffer_text old.text in
-    let more = unit_text c.args.annotates (unit_at c.args.location c.args.says) in
+    let more = text_of_unit c.args.annotates c.args.location (says_value c.args.says) in
     let ss = old.spans.items in
     let order = old.order.items in
     let p = c.min-position.result in
@@ -84,7 +82,7 @@ unfolding unit_texts
 returns-in-Err-clause-unchanged c =
     let old = c.args.self.now in
     let g = span_text (buffer_text old.text) in
-    let more = unit_text c.args.annotates (unit_at c.args.location c.args.says) in
+    let more = text_of_unit c.args.annotates c.args.location (says_value c.args.says) in
     let span : Span = record { start = c.len-start.result + 1; end = c.len-end.result; position = c.min-position.result } in
     let k = noted old c.append_unit.new.out more span c.push.new.self.items c.in_ok-append_unit.ensures (omega (arith, c.len-start.ensures)) c.len-end.ensures c.in_ok-push.ensures.items in
     ap₂ (λ (ts : List Text) o. map (λ i. slice_index_or ts i []) o) k.texts c.in-Err.ensures.unchanged

@@ -1,22 +1,29 @@
-use Rattle.std.proofs.Common.{◌≤◌, length, take, sym, ap, ◌∙◌, arith}
+use Rattle.std.proofs.Common.{◌≤◌, length, subst, sym, ap, ◌∙◌, arith}
 use Rattle.std.proofs.lemmas.List.{take-map}
 use Rattle.locations.specs.Steps.{token, tokens}
 use Rattle.basic_output.specs.PointerViews.{pointer_view}
+use Rattle.basic_output.specs.StepTexts.{AreStepTexts}
+use Rattle.basic_output.specs.declared.unit_text.step_texts.Notation.TheVariants as notation
+use Rattle.basic_output.specs.declared.written_pointer.PointerTexts.{PointerTexts}
 use Rattle.basic_output.proofs.FrontLaws.{cut_texts}
 use Rattle.basic_output.proofs.written_pointer.WrittenPointer.truncate.Goals as goal
 
 pub invariant_of-self : goal.invariant_of-self
 invariant_of-self c =
-    let p = c.unwrite.new.self in
+    let old = c.args.self.now in
+    let steps = old.steps.items in
+    let left = c.truncate-then-len-2.new.self.items in
     let j = c.args.len in
-    let within : j ≤ length p.steps.items = omega (arith, c.if-len.true, c.len.ensures, c.args.self.now.steps.ok.0, ap (λ v. length v.items) c.unwrite.ensures.steps) in
-    let is = c.truncate.ensures.items in
+    let is = c.truncate-then-len-2.ensures.items in
+    let within : j ≤ length steps = omega (arith, c.if-len.true, c.len.ensures, old.steps.ok.0) in
+    let again = sym c.deref_mut-then-len.ensures.value in
+    let pointer = subst (λ (t : PointerTexts). AreStepTexts notation.Pointer t.pointer steps) (sym c.deref_mut.ensures.value) old.is_pointer in
+    let fragment = subst (λ (t : PointerTexts). AreStepTexts notation.Fragment t.fragment steps) (sym c.deref_mut.ensures.value) old.is_fragment in
     record {
-      is_pointer = cut_texts c.truncate.new.self.items j is within c.unwrite.ensures.pointer p.is_pointer;
-      is_fragment = cut_texts c.truncate.new.self.items j is within c.unwrite.ensures.fragment p.is_fragment;
+      is_pointer = subst (λ (t : PointerTexts). AreStepTexts notation.Pointer t.pointer left) again (cut_texts left j is within c.truncate.ensures.fewer (c.truncate.ensures.texts notation.Pointer steps pointer));
+      is_fragment = cut_texts left j is within c.truncate-then-len.ensures.fewer (c.truncate-then-len.ensures.texts notation.Fragment steps (subst (λ (t : PointerTexts). AreStepTexts notation.Fragment t.fragment steps) again fragment));
     }
 
 pub returns-then-len : goal.returns-then-len
 unfolding pointer_view
-returns-then-len c =
-    ap tokens (c.truncate.ensures.items ∙ ap (λ v. take c.args.len v.items) c.unwrite.ensures.steps) ∙ sym (take-map token c.args.len c.args.self.now.steps.items)
+returns-then-len c = ap tokens c.truncate-then-len-2.ensures.items ∙ sym (take-map token c.args.len c.args.self.now.steps.items)

@@ -7,7 +7,7 @@ use Rattle.evaluation_context.proofs.running_objects.RunningObjects.within.Goals
 
 pub returns-clause-running : goal.returns-clause-running
 unfolding running_objects
-returns-clause-running c = ap (map (running_view (pointer_view c.within.result) (pointer_view c.within-2.result))) c.new.ensures.items
+returns-clause-running c = ap (map (running_view (pointer_view c.in_ok-within.field-0) (pointer_view c.in_ok-within-2.field-0))) c.new.ensures.items
 
 pub returns-clause-ends : goal.returns-clause-ends
 unfolding path_ends
@@ -15,8 +15,8 @@ returns-clause-ends c = ap (map (λ (r : Running). r.reach)) c.new.ensures.items
 
 pub returns-clause-path : goal.returns-clause-path
 unfolding path_pointer
-returns-clause-path c = c.within.ensures
+returns-clause-path c = c.in_ok-within.ensures
 
 pub returns-clause-instance_location : goal.returns-clause-instance_location
 unfolding instance_pointer
-returns-clause-instance_location c = c.within-2.ensures
+returns-clause-instance_location c = c.in_ok-within-2.ensures

@@ -186,6 +186,9 @@ use_keyword-returns-in-Ok-clause-passing = one_keyword.use_keyword-returns-in-Ok
 pub use_keyword-returns-in-Ok-clause-noted : goal.use_keyword-returns-in-Ok-clause-noted
 use_keyword-returns-in-Ok-clause-noted = one_keyword.use_keyword-returns-in-Ok-clause-noted
 
+pub use_keyword-returns-in-Ok-clause-err : goal.use_keyword-returns-in-Ok-clause-err
+use_keyword-returns-in-Ok-clause-err = one_keyword.use_keyword-returns-in-Ok-clause-err
+
 pub use_keyword-returns-in-Err-clause-err : goal.use_keyword-returns-in-Err-clause-err
 use_keyword-returns-in-Err-clause-err = one_keyword.use_keyword-returns-in-Err-clause-err
 
@@ -203,6 +206,9 @@ apply_all-returns-clause-found = one_keyword.apply_all-returns-clause-found
 
 pub apply_all-returns-clause-noted : goal.apply_all-returns-clause-noted
 apply_all-returns-clause-noted = one_keyword.apply_all-returns-clause-noted
+
+pub apply_entered-returns-in-Ok-clause-back : goal.apply_entered-returns-in-Ok-clause-back
+apply_entered-returns-in-Ok-clause-back = one_keyword.apply_entered-returns-in-Ok-clause-back
 
 pub apply_entered-returns-in-Ok-clause-valid : goal.apply_entered-returns-in-Ok-clause-valid
 apply_entered-returns-in-Ok-clause-valid = one_keyword.apply_entered-returns-in-Ok-clause-valid

@@ -1,5 +1,5 @@
 use Rattle.std.proofs.Common.{[], ◌∷◌, ◌∙◌, false, ap}
-use Rattle.definitions.specs.Applied.{OutputUnit}
+use Rattle.definitions.specs.Values.{Text}
 use Rattle.basic_output.specs.Pieces.{unit_text}
 use Rattle.basic_output.specs.Sayings.{says_value}
 use Rattle.basic_output.specs.declared.says.Says.TheVariants.{NotMet}
@@ -13,7 +13,7 @@ use Rattle.evaluator.proofs.applying.Evaluation.refuse.Goals as goal
 pub returns-clause-noted : goal.returns-clause-noted
 returns-clause-noted c a is =
     c.in_ok-push_error.ensures
-    ∙ ap (λ (u : OutputUnit). notes_of_both (log_view c.args.self.now.log) (record no_notes { errors = unit_text false u ∷ [] }))
-    (c.location.ensures (NotMet c.args.keyword)
-    ∙ ap (λ f. unit_there (frame_standing f) (says_value (NotMet c.args.keyword))) c.write_locations.ensures.same
-    ∙ ap (λ (st : Standing). unit_there st (says_value (NotMet c.args.keyword))) (c.in_ok-enter_keyword.ensures.there ∙ ap (at_keyword (row_of c.args.keyword).name) is))
+    ∙ ap (λ (u : Text). notes_of_both (log_view c.args.self.now.log) (record no_notes { errors = u ∷ [] }))
+    (c.location.ensures false (says_value (NotMet c.args.keyword))
+    ∙ ap (unit_text false) (ap (λ f. unit_there (frame_standing f) (says_value (NotMet c.args.keyword))) c.write_locations.ensures.same
+    ∙ ap (λ (st : Standing). unit_there st (says_value (NotMet c.args.keyword))) (c.in_ok-enter_keyword.ensures.there ∙ ap (at_keyword (row_of c.args.keyword).name) is)))

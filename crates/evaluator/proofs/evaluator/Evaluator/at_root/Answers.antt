@@ -10,7 +10,7 @@ pub invariant_of-result : goal.invariant_of-result
 invariant_of-result c =
     let found = c.root-root.result in
     record {
-      standing = λ at_root. rw (c.new-2.ensures.linked, c.new-2.ensures.place)
-          (stands_at_root c.args.linked.now (context_view c.in_ok-context.context) (value found.schema.now) (located_view found) c.root-root.ensures refl c.in_ok-context.ensures.there);
-      nothing_noted = ap log_view c.new-2.ensures.noted ∙ c.in_ok-log.ensures;
+      standing = λ at_root. rw (c.new.ensures.linked, c.new.ensures.place)
+          (stands_at_root c.args.linked.now (context_view c.new-context.result) (value found.schema.now) (located_view found) c.root-root.ensures refl (λ x. c.new-context.ensures.there (located_view found) x c.in_ok-start.ensures));
+      nothing_noted = ap log_view c.new.ensures.noted ∙ c.in_ok-log.ensures;
     }

@@ -1,7 +1,7 @@
 use Rattle.std.proofs.Common.{◌∙◌, ap, true}
 use Rattle.std.proofs.lemmas.Result.{on_ok_weaker}
-use Rattle.basic_output.specs.Pieces.{unit_text}
-use Rattle.basic_output.specs.Sayings.{unit_at}
+use Rattle.basic_output.specs.Parts.{text_of_unit}
+use Rattle.basic_output.specs.Sayings.{says_value}
 use Rattle.basic_output.specs.Units.{unit_texts}
 use Rattle.evaluator.specs.Notes.{Lengths, notes_of_both}
 use Rattle.evaluator.specs.Logs.{log_view}
@@ -14,5 +14,5 @@ unfolding log_view notes_of_both
 returns c older more m e =
     on_ok_weaker c.insert.result (λ new.
     same_notes (ap (λ (u : LoggedUnits). unit_texts u.errors) c.deref_mut.ensures.value ∙ errors_of _ older more e)
-    (new ∙ inserted_list c.args.mark.now.annotations older.annotations more.annotations _ (unit_text true (unit_at c.args.location c.args.says)) (ap (λ (l : Lengths). l.annotations) m) (ap (λ (u : LoggedUnits). unit_texts u.annotations) c.deref_mut.ensures.value ∙ annotations_of _ older more e))
+    (new ∙ inserted_list c.args.mark.now.annotations older.annotations more.annotations _ (text_of_unit true c.args.location (says_value c.args.says)) (ap (λ (l : Lengths). l.annotations) m) (ap (λ (u : LoggedUnits). unit_texts u.annotations) c.deref_mut.ensures.value ∙ annotations_of _ older more e))
     (names_of _ older more e) (indexes_of _ older more e) (tally_of _ older more e)) c.insert.ensures.ok

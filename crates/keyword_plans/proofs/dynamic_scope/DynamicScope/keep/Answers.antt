@@ -6,6 +6,14 @@ use Rattle.keyword_plans.specs.Searched.{IsSearched}
 use Rattle.keyword_plans.proofs.Kept.{all_pushed}
 use Rattle.keyword_plans.proofs.dynamic_scope.DynamicScope.keep.Goals as goal
 
+pub invariant_of-self : goal.invariant_of-self
+invariant_of-self c =
+    let now = c.args.self.now in
+    record {
+      within = now.within;
+      right = All-set (IsSearched (followed_in now.references).now (map (λ uri. uri.now) now.uris.items)) now.searched.items c.in-Some.at c.args.searched c.requires now.right;
+    }
+
 pub invariant_of-self-then-len-lt-MOST_KEPT : goal.invariant_of-self-then-len-lt-MOST_KEPT
 invariant_of-self-then-len-lt-MOST_KEPT c =
     let now = c.args.self.now in

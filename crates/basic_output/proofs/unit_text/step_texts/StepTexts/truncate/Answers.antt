@@ -7,7 +7,7 @@ use Rattle.basic_output.proofs.unit_text.step_texts.StepTexts.truncate.Goals as 
 pub truncate-requires : goal.truncate-requires
 truncate-requires c =
     let old = c.args.self.now in
-    let t = buffer_text old.text in
+    let t = buffer_text old.buffer.text in
     let n = c.requires.0 in
     let ss = c.requires.1.0 in
     let start = c.index.result.now in
@@ -22,4 +22,4 @@ returns-then-len-clause-texts c = λ n ss are.
     let left = c.truncate-then-len.new.self.items in
     let less : c.args.len < length old.starts.items = omega (arith, c.if-len.true, c.len.ensures, old.starts.ok.0) in
     subst (λ from. AreTexts n cut left from ss) (sym c.min-self.ensures)
-    (fewer_texts n (buffer_text old.text) cut old.starts.items left old.plain_from ss c.args.len c.index.result.now less c.index.ensures c.truncate.ensures c.truncate-then-len.ensures.items are)
+    (fewer_texts n (buffer_text old.buffer.text) cut old.starts.items left old.plain_from ss c.args.len c.index.result.now less c.index.ensures c.truncate.ensures c.truncate-then-len.ensures.items are)

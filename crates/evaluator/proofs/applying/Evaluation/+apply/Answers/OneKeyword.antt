@@ -6,15 +6,17 @@ use Rattle.json_doc.specs.Docs.{value}
 use Rattle.keyword_plans.specs.ScopeViews.{scope_documents}
 use Rattle.keyword_plans.specs.Subjects.{subject_value}
 use Rattle.evaluation_context.specs.Frames.{context_view, frame_standing}
+use Rattle.evaluation_context.specs.Returns.{CameFrom}
 use Rattle.evaluation_context.specs.Standings.{at_keyword}
 use Rattle.evaluator.specs.Findings.{FindsAll}
 use Rattle.evaluator.specs.Logs.{log_view}
 use Rattle.evaluator.specs.Notes.{IsOver, notes_of_both, uses_notes, parts_notes, part_notes}
+use Rattle.evaluator.specs.declared.halt.Halt.TheVariants as halt
 use Rattle.evaluator.specs.declared.log.Log.{Log}
 use Rattle.evaluator.specs.Rounds.{IsAt, names_since, indexes_since, IsAtKeyword, IsKnown, part_outcomes, linked_outcome, use_there, IsUnder, part_outcome}
 use Rattle.linker.specs.declared.linked.Linked.{Linked}
 use Rattle.std.proofs.lemmas.List.{take_all}
-use Rattle.std.proofs.lemmas.Result.{on_ok_weaker}
+use Rattle.std.proofs.lemmas.Result.{IfErr-weaker, on_ok_weaker}
 use Rattle.evaluator.proofs.LogLaws.{added_nothing}
 use Rattle.keywords.specs.Rows.{row_of}
 use Rattle.definitions.specs.Evaluated.{pass_count}
@@ -117,6 +119,10 @@ use_keyword-returns-in-Ok-clause-noted t c a at knows got =
     (λ at number passing e. c.finish_keyword.ensures.noted a left names indexes older at number passing c.mark-mark.ensures e) in
     finished finishing finds.number finds.passing noted
 
+pub use_keyword-returns-in-Ok-clause-err : goal.use_keyword-returns-in-Ok-clause-err
+use_keyword-returns-in-Ok-clause-err t c a at knows got =
+    IfErr-weaker c.finish_keyword.result (λ f. f ≡ halt.NoRoom) _ (λ f same other. absurd (other same)) c.finish_keyword.ensures.err
+
 pub use_keyword-returns-in-Err-clause-err : goal.use_keyword-returns-in-Err-clause-err
 use_keyword-returns-in-Err-clause-err t c a at knows got other =
     let old = c.args.self.now in
@@ -218,6 +224,11 @@ apply_all-returns-clause-noted t c a under known =
     subst (λ ps. log_view c.loop-one.self.log ≡ notes_of_both (log_view c.args.self.now.log) (parts_notes (row_of c.args.keyword).meaning
     (part_outcomes c.args.self.now.linked.now c.args.nesting (row_of c.args.keyword).name a ps))) whole
     (c.loop-one.invariant.noted a under known)
+
+pub apply_entered-returns-in-Ok-clause-back : goal.apply_entered-returns-in-Ok-clause-back
+apply_entered-returns-in-Ok-clause-back t c =
+    c.leave_planned.ensures.left (context_view c.args.self.now.context)
+    (subst (CameFrom c.in_ok-back.back (context_view c.args.self.now.context)) (sym c.in-Ok.ensures.back) c.in_ok-back.ensures.entered)
 
 pub apply_entered-returns-in-Ok-clause-valid : goal.apply_entered-returns-in-Ok-clause-valid
 apply_entered-returns-in-Ok-clause-valid t c a k under known =

@@ -6,7 +6,7 @@ ghost use Rattle.tenant_hub.specs.Calls.{call_view};
 ghost use Rattle.tenant_hub.specs.Hubs.{hub_view};
 ghost use Rattle.benchmark.specs.Counts.{answered_count, is_refused, CountsAnswered};
 
-use crate::calls::calls_of;
+use crate::calls::{bodies_of, calls_of};
 use crate::tenant::one_tenant;
 use faults::Fault;
 use json_doc::Doc;
@@ -17,8 +17,10 @@ use tenant_hub::{Hub, Reply, Request};
 /// of the latter were not refused.
 pub fn repeat_calls(alloc: Global, before: &Doc, repeat: &Doc, times: u32) -> Result<u64, Fault> {
     let mut hub = one_tenant(alloc)?;
-    count_answered(alloc, &mut hub, &calls_of(alloc, before)?)?;
-    let calls = calls_of(alloc, repeat)?;
+    let bodies = bodies_of(alloc, before)?;
+    count_answered(alloc, &mut hub, &calls_of(alloc, before, &bodies)?)?;
+    let bodies = bodies_of(alloc, repeat)?;
+    let calls = calls_of(alloc, repeat, &bodies)?;
     let mut count: u64 = 0;
     for _ in 0..times {
         count = count.saturating_add(count_answered(alloc, &mut hub, &calls)?);
@@ -30,7 +32,7 @@ pub fn repeat_calls(alloc: Global, before: &Doc, repeat: &Doc, times: u32) -> Re
 pub fn count_answered(
     alloc: Global,
     hub: &mut Hub,
-    calls: &[(String, Request)],
+    calls: &[(String, Request<'_>)],
 ) -> Result<u64, Fault>
     ensures { IfOk result (λ count. CountsAnswered (hub_view hub.old)
         (map call_view calls.now) count (hub_view hub.new)) }

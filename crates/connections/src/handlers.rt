@@ -52,7 +52,7 @@ pub trait Handler {
     ghost keeps: { Type 0 } = { ⊤ };
 
     /// Answers a request with a key. Want of memory is a reply like any other. What an opening may find stays.
-    fn apply(&mut self, alloc: Global, key: &str, request: &asked::Request) -> asked::Reply
+    fn apply(&mut self, alloc: Global, key: &str, request: &asked::Request<'_>) -> asked::Reply
         ensures answered { answers (state self.old) key.now (request_view request.now)
             (reply_view result) (state self.new) }
         ensures found { FindsNoMore finds self.old self.new };

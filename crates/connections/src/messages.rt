@@ -34,7 +34,11 @@ pub fn key_at(bytes: &[u8], heading: Heading) -> &str
 
 /// The request of the message; none where its target is no route's. The only error is want of memory,
 /// [`Fault::NoRoom`].
-pub fn request_at(alloc: Global, bytes: &[u8], heading: Heading) -> Result<Option<Request>, Fault>
+pub fn request_at(
+    alloc: Global,
+    bytes: &[u8],
+    heading: Heading,
+) -> Result<Option<Request<'_>>, Fault>
     requires { HasMessage bytes.now heading }
     ensures ok { IfOk result (IsAskedAt bytes.now heading) }
     ensures err { IfErr result (λ f. f ≡ Fault.NoRoom) }

@@ -8,6 +8,7 @@ use document_file::{Checkpoint, DocumentFile, open};
 use sqlite_disk::{Files, Fuse, Memory};
 use sqlite_trees::store::Reopen;
 use std::alloc::Global;
+use std::borrow::CowStr;
 use std::process::Abort;
 use stored_hub::{DocumentStore, Fault, Handler, Hub, StoredHub, new_servers_have_no_documents};
 use tenant_hub::{Reply, Request};
@@ -55,9 +56,8 @@ fn opened<D: DocumentStore + Drop>(alloc: Global, store: D) -> Option<StoredHub<
 }
 
 fn put<D: DocumentStore>(alloc: Global, hub: &mut StoredHub<D>, uri: &str) -> Option<()> {
-    let uri = String::from_str(alloc, uri).ok()?;
-    let body = Vec::from_slice(alloc, TEXT.as_bytes()).ok()?;
-    match hub.apply(alloc, "k1", &Request::Put(uri, body)) {
+    let request = Request::Put(CowStr::Borrowed(uri), TEXT.as_bytes());
+    match hub.apply(alloc, "k1", &request) {
         Reply::Stored(_, false) => Some(()),
         _ => None,
     }

@@ -51,7 +51,7 @@ impl Handler for HubHandler {
 
     ghost keeps = { ⊥ };
 
-    fn apply(&mut self, alloc: Global, key: &str, request: &Request) -> Reply {
+    fn apply(&mut self, alloc: Global, key: &str, request: &Request<'_>) -> Reply {
         self.hub.apply(alloc, key, request)
     }
 

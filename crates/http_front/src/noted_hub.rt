@@ -54,7 +54,7 @@ impl<H: Handler + HasHub, J: Journal> Handler for NotedHub<'_, H, J> {
 
     ghost keeps = { H.keeps };
 
-    fn apply(&mut self, alloc: Global, key: &str, request: &Request) -> Reply {
+    fn apply(&mut self, alloc: Global, key: &str, request: &Request<'_>) -> Reply {
         self.handler.apply(alloc, key, request)
     }
 

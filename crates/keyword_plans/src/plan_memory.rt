@@ -12,8 +12,6 @@ const MOST_KEPT: usize = 64;
 #[derive(Drop)]
 pub struct PlanMemory<'a> {
     alloc: Global,
-    // That which was given back last, where it wasn't taken again: most often there is no more.
-    last: Option<Vec<Planned<'a>>>,
     kept: Vec<Vec<Planned<'a>>>,
 }
 
@@ -22,7 +20,6 @@ impl<'a> PlanMemory<'a> {
     pub fn new(alloc: Global) -> PlanMemory<'a> {
         PlanMemory {
             alloc,
-            last: None,
             kept: Vec::new(alloc),
         }
     }
@@ -30,9 +27,9 @@ impl<'a> PlanMemory<'a> {
     /// Memory for the plans of one keyword, to be given back: that which was given back last, where any is left.
     #[inline(always)]
     pub fn take(&mut self) -> Vec<Planned<'a>> {
-        match self.last.take() {
+        match self.kept.pop() {
             Some(planned) => planned,
-            None => self.kept.pop().unwrap_or(Vec::new(self.alloc)),
+            None => Vec::new(self.alloc),
         }
     }
 
@@ -43,9 +40,7 @@ impl<'a> PlanMemory<'a> {
         let mut planned = planned;
         planned.clear();
         if planned.capacity() > 0 && planned.capacity() <= MOST_KEPT {
-            if let Some(before) = self.last.replace(planned) {
-                let _ = self.kept.push(before);
-            }
+            let _ = self.kept.push(planned);
         }
     }
 }

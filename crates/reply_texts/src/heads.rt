@@ -1,24 +1,26 @@
 //! The lines before a body.
-ghost use Rattle.std.specs.Prelude.{◌≡◌, ◌++◌, [], codes, OnOk, decimal, string_bytes, if◌then◌else◌};
+ghost use Rattle.std.specs.Prelude.{◌≡◌, ◌++◌, [], IfNone, IfSome, OnOk, decimal, string_bytes};
 ghost use Rattle.reply_texts.specs.Heads.{behind_length};
-ghost use Rattle.http_definitions.specs.ReplyTexts.{http_text, line, phrase_of, status_line};
+ghost use Rattle.http_definitions.specs.ReplyTexts.{http_text, phrase_of, status_line};
 
 use std::alloc::AllocError;
 
-// The phrase of a status (RFC 9110, section 15); empty where no reply has it.
+// The first line of a reply with this status (RFC 9112, section 4, with the phrases of RFC 9110, section 15); none where no reply
+// has it.
 #[tactic(auto, unfolding(http_definitions::specs::ReplyTexts::phrase_of))]
-fn phrase(status: u16) -> &'static str
-    ensures { result.now ≡ phrase_of status }
+fn known_line(status: u16) -> Option<&'static str>
+    ensures some { IfSome result (λ line. line.now ≡ status_line status) }
+    ensures none { IfNone result (phrase_of status ≡ []) }
 {
     match status {
-        200 => "OK",
-        201 => "Created",
-        400 => "Bad Request",
-        403 => "Forbidden",
-        404 => "Not Found",
-        409 => "Conflict",
-        503 => "Service Unavailable",
-        _ => "",
+        200 => Some("HTTP/1.1 200 OK\r\n"),
+        201 => Some("HTTP/1.1 201 Created\r\n"),
+        400 => Some("HTTP/1.1 400 Bad Request\r\n"),
+        403 => Some("HTTP/1.1 403 Forbidden\r\n"),
+        404 => Some("HTTP/1.1 404 Not Found\r\n"),
+        409 => Some("HTTP/1.1 409 Conflict\r\n"),
+        503 => Some("HTTP/1.1 503 Service Unavailable\r\n"),
+        _ => None,
     }
 }
 
@@ -43,11 +45,19 @@ fn write_number(out: &mut String, number: usize) -> Result<(), AllocError>
 fn write_status_line(out: &mut String, status: u16) -> Result<(), AllocError>
     ensures { OnOk result (string_bytes out.new ≡ string_bytes out.old ++ status_line status) }
 {
+    match known_line(status) {
+        Some(line) => out.push_str(line),
+        None => write_line_without_phrase(out, status),
+    }
+}
+
+fn write_line_without_phrase(out: &mut String, status: u16) -> Result<(), AllocError>
+    requires { phrase_of status ≡ [] }
+    ensures { OnOk result (string_bytes out.new ≡ string_bytes out.old ++ status_line status) }
+{
     out.push_str("HTTP/1.1 ")?;
     write_number(out, usize::from(status))?;
-    out.push_str(" ")?;
-    out.push_str(phrase(status))?;
-    out.push_str("\r\n")
+    out.push_str(" \r\n")
 }
 
 /// How many bytes stand before a body, at most.

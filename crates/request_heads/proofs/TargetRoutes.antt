@@ -1,9 +1,11 @@
 -- Targets and the routes.
-use Rattle.std.proofs.Common.{refl, sym, ap, ◌∙◌, eqb, eqb-true, eq-eqb, true≢false}
-use Rattle.std.specs.Prelude.{◌≡◌, ◌≢◌, ℕ, [], ◌∷◌, Bool, true, false, cond, ◌&&◌, ◌==◌, Option, Some, None, option_map, option_and_then, length, take, drop, codes}
+use Rattle.std.proofs.Common.{refl, sym, ap, ◌∙◌, arith, eqb, eqb-true, eq-eqb, true≢false}
+use Rattle.std.specs.Prelude.{◌≡◌, ◌≢◌, ℕ, suc, [], ◌∷◌, Bool, true, false, cond, ◌&&◌, ◌==◌, Option, Some, None, option_map, option_and_then, length, take, drop, codes}
 use lib.Pointwise.{pointwise}
 use Rattle.std.specs.Str.{IsUtf8, is_utf8}
 use Rattle.std.proofs.lemmas.Str.{is_utf8-from_IsUtf8, IsUtf8-from_is_utf8}
+use Rattle.memchr.specs.Find.{Nowhere, Passes, is_byte}
+use Rattle.percent_encoding.proofs.PercentLemmas.{percent_decode-nil, percent_decode_not_percent}
 use Rattle.percent_encoding.specs.Percent.{percent_decode}
 use Rattle.definitions.specs.Values.{Text}
 use Rattle.definitions.specs.Registries.{Request, put, delete, validate, bundled_from, batch}
@@ -94,14 +96,20 @@ validate_is target body o other e =
 pub batch_is : (target body : Text) → target ≡ codes "/batch" → Some (batch body) ≡ request_by routes (codes "POST") target body
 batch_is target body e = sym (ap (λ t. request_by routes (codes "POST") t body) e)
 
--- ---- texts without escapes
-pub decoded_is : (text decoded : Text) → decoded ≡ percent_decode text → IsUtf8 (percent_decode text) → Some decoded ≡ unescaped_text text
-decoded_is text decoded e utf8 =
-    ap Some e ∙ sym (ap (λ b. cond b (Some (percent_decode text)) None) (is_utf8-from_IsUtf8 (percent_decode text) utf8))
+-- ---- texts that are UTF-8
+pub utf8_is : (bytes text : Text) → text ≡ bytes → IsUtf8 bytes → Some text ≡ cond (is_utf8 bytes) (Some bytes) None
+utf8_is bytes text same utf8 = ap Some same ∙ sym (ap (λ b. cond b (Some bytes) None) (is_utf8-from_IsUtf8 bytes utf8))
 
-pub ill_is : (text : Text) → ¬ (IsUtf8 (percent_decode text)) → None ≡ unescaped_text text
-ill_is text ill = sym (either (is_utf8 (percent_decode text)) refl)
+pub ill_is : (bytes : Text) → ¬ (IsUtf8 bytes) → None ≡ cond (is_utf8 bytes) (Some bytes) None
+ill_is bytes ill = sym (either (is_utf8 bytes) refl)
   where
-    either : (b : Bool) → is_utf8 (percent_decode text) ≡ b → ◌≡◌ {A = Option Text} (cond b (Some (percent_decode text)) None) None
-    either true e = absurd (ill (IsUtf8-from_is_utf8 (percent_decode text) e))
+    either : (b : Bool) → is_utf8 bytes ≡ b → ◌≡◌ {A = Option Text} (cond b (Some bytes) None) None
+    either true e = absurd (ill (IsUtf8-from_is_utf8 bytes e))
     either false e = refl
+
+-- ---- texts without escapes
+pub no_escapes : (text : Text) → Nowhere (Passes (is_byte 37) text) 0 (length text) → percent_decode text ≡ text
+no_escapes [] none = percent_decode-nil
+no_escapes (b ∷ bs) none =
+    percent_decode_not_percent b bs (λ is. none 0 (omega arith) (omega arith) (ap (λ x. x == 37) is))
+    ∙ ap (λ t. b ∷ t) (no_escapes bs (λ i low less passes. none (suc i) (omega arith) (omega (arith, less)) passes))

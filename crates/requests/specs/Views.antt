@@ -1,5 +1,6 @@
 -- Requests and replies as the definitions have them.
 use Rattle.std.specs.Prelude.{Bool, map, string_bytes}
+use Rattle.std.specs.Cow.{cow_str_bytes}
 use Rattle.definitions.specs.Values.{Text}
 use Rattle.definitions.specs.Registries as meaning
 use Rattle.faults.specs.View.{fault_view}
@@ -10,11 +11,11 @@ use Rattle.requests.specs.declared.Reply.{Reply}
 use Rattle.requests.specs.declared.Reply.TheVariants.{Stored, Deleted, Output, Bundled, StoredAll, Refused, RefusedAt}
 
 abbrev pub request_view : Request → meaning.Request
-request_view (Put uri body) = meaning.put (string_bytes uri) body.items
-request_view (Delete uri) = meaning.delete (string_bytes uri)
-request_view (Validate uri body) = meaning.validate (string_bytes uri) body.items
-request_view (Bundle uri) = meaning.bundled_from (string_bytes uri)
-request_view (Batch body) = meaning.batch body.items
+request_view (Put uri body) = meaning.put (cow_str_bytes uri) body.now
+request_view (Delete uri) = meaning.delete (cow_str_bytes uri)
+request_view (Validate uri body) = meaning.validate (cow_str_bytes uri) body.now
+request_view (Bundle uri) = meaning.bundled_from (cow_str_bytes uri)
+request_view (Batch body) = meaning.batch body.now
 
 -- the URI, and whether a document was replaced
 abbrev pub stored_entry_view : StoredEntry → Text × Bool

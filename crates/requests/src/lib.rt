@@ -2,20 +2,22 @@
 #![tactic(auto)]
 
 pub use faults::Fault;
+use std::borrow::CowStr;
 
-/// What a tenant asks. A URI is the text that was sent, not resolved yet; a body is at most some bytes, of any content.
+/// What a tenant asks, as it lies in what was sent, but for a URI that had escapes. A URI isn't resolved yet; a body is at most some
+/// bytes, of any content.
 #[derive(Debug, Drop, PartialEq)]
-pub enum Request {
+pub enum Request<'a> {
     /// Stores the schema document that the bytes spell under the URI.
-    Put(String, Vec<u8>),
+    Put(CowStr<'a>, &'a [u8]),
     /// Removes the document that is stored under the URI.
-    Delete(String),
+    Delete(CowStr<'a>),
     /// Validates the instance that the bytes spell by the resource of the URI.
-    Validate(String, Vec<u8>),
+    Validate(CowStr<'a>, &'a [u8]),
     /// Asks for the compound document of the URI (JSON Schema 2020-12 Core, section 9.3).
-    Bundle(String),
+    Bundle(CowStr<'a>),
     /// Stores the documents that the bytes spell, or none of them.
-    Batch(Vec<u8>),
+    Batch(&'a [u8]),
 }
 
 /// A document of a batch that was stored.

@@ -246,8 +246,9 @@ impl Compiled {
 
     /// The root of the resource whose URI has this number among [`resource_uris`](Self::resource_uris).
     pub fn numbered_root(&self, alloc: Global, number: usize) -> Option<Located<'_>>
-        ensures { (uri : Text) → slice_get (resource_uris (compiled_schemas self.now)) number ≡ Some uri
-            → option_map located_view result ≡ resource_root (compiled_schemas self.now) uri }
+        ensures { option_map located_view result
+            ≡ option_and_then (resource_root (compiled_schemas self.now))
+            (slice_get (resource_uris (compiled_schemas self.now)) number) }
     {
         match numbered(&self.table.uris, number) {
             Some(resource) => match way_of(&self.table.ways, number) {

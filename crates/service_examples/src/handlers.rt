@@ -14,7 +14,7 @@ pub struct Counting {
     most: usize,
 }
 
-fn reply_to(alloc: Global, request: &Request) -> Result<Reply, AllocError> {
+fn reply_to(alloc: Global, request: &Request<'_>) -> Result<Reply, AllocError> {
     Ok(match request {
         Request::Put(_, _) => Reply::Stored(String::from_str(alloc, "https://ex.org/s")?, false),
         Request::Validate(_, _) => {
@@ -33,7 +33,7 @@ impl Handler for Counting {
 
     ghost finds = { λ s t. ⊤ };
 
-    fn apply(&mut self, alloc: Global, key: &str, request: &Request) -> Reply {
+    fn apply(&mut self, alloc: Global, key: &str, request: &Request<'_>) -> Reply {
         self.asked = self.asked.saturating_add(1);
         if key != "k1" {
             return Reply::Refused(Fault::UnknownTenant);

@@ -114,13 +114,13 @@ fn no_head_before_its_end(rt: HostRuntime) {
     }
 }
 
-fn request_told(alloc: Global, request: &Option<Request>) -> Result<String, Fault> {
+fn request_told(alloc: Global, request: &Option<Request<'_>>) -> Result<String, Fault> {
     let (kind, uri, body) = match request {
-        Some(Request::Put(uri, body)) => ("put", uri.as_str(), body.as_slice()),
+        Some(Request::Put(uri, body)) => ("put", uri.as_str(), *body),
         Some(Request::Delete(uri)) => ("delete", uri.as_str(), b"".as_slice()),
-        Some(Request::Validate(uri, body)) => ("validate", uri.as_str(), body.as_slice()),
+        Some(Request::Validate(uri, body)) => ("validate", uri.as_str(), *body),
         Some(Request::Bundle(uri)) => ("bundle", uri.as_str(), b"".as_slice()),
-        Some(Request::Batch(body)) => ("batch", "", body.as_slice()),
+        Some(Request::Batch(body)) => ("batch", "", *body),
         None => ("none", "", b"".as_slice()),
     };
     let body = String::from_utf8_lossy(alloc, body)?;

@@ -2,6 +2,7 @@
 
 use crate::texts::{expect_like, filled};
 use std::alloc::{AllocError, Global};
+use std::borrow::CowStr;
 use std::process::Abort;
 use tenant_hub::{Fault, Hub, Reply, Request, StoredEntry, read_tenants};
 
@@ -29,22 +30,20 @@ pub fn new_hub(
     }
 }
 
-// What a text asks for, once it is filled: `put URI BODY`, `delete URI`, `validate URI BODY`, `bundle URI` or `batch BODY`.
-fn asked(alloc: Global, text: &str) -> Result<Request, AllocError> {
-    let text = filled(alloc, text)?;
-    let (kind, rest) = text.split_once(' ').unwrap_or((text.as_str(), ""));
+// What a filled text asks for: `put URI BODY`, `delete URI`, `validate URI BODY`, `bundle URI` or `batch BODY`.
+fn asked(text: &str) -> Request<'_> {
+    let (kind, rest) = text.split_once(' ').unwrap_or((text, ""));
     if kind == "batch" {
-        return Ok(Request::Batch(Vec::from_slice(alloc, rest.as_bytes())?));
+        return Request::Batch(rest.as_bytes());
     }
     let (uri, body) = rest.split_once(' ').unwrap_or((rest, ""));
-    let uri = String::from_str(alloc, uri)?;
-    let body = Vec::from_slice(alloc, body.as_bytes())?;
-    Ok(match kind {
-        "put" => Request::Put(uri, body),
+    let uri = CowStr::Borrowed(uri);
+    match kind {
+        "put" => Request::Put(uri, body.as_bytes()),
         "delete" => Request::Delete(uri),
-        "validate" => Request::Validate(uri, body),
+        "validate" => Request::Validate(uri, body.as_bytes()),
         _ => Request::Bundle(uri),
-    })
+    }
 }
 
 fn verb(replaced: bool) -> &'static str {
@@ -79,7 +78,8 @@ pub fn told(alloc: Global, reply: &Reply) -> Result<String, Fault> {
 
 /// What a tenant is told when it asks for what the text says.
 pub fn answered(alloc: Global, hub: &mut Hub, key: &str, text: &str) -> Result<String, Fault> {
-    let reply = hub.apply(alloc, key, &asked(alloc, text)?);
+    let text = filled(alloc, text)?;
+    let reply = hub.apply(alloc, key, &asked(text.as_str()));
     told(alloc, &reply)
 }
 
@@ -107,21 +107,22 @@ fn expect_lines(rt: &impl Abort, alloc: Global, hub: &mut Hub, lines: &[Line]) {
     }
 }
 
-fn push_call(
-    alloc: Global,
-    calls: &mut Vec<(String, Request)>,
-    line: &Line,
-) -> Result<(), AllocError> {
-    let (key, text, _) = *line;
-    calls.push((String::from_str(alloc, key)?, asked(alloc, text)?))?;
-    Ok(())
+// What all lines ask, as filled texts.
+fn filled_texts(alloc: Global, lines: &[Line]) -> Result<Vec<String>, AllocError> {
+    let mut texts = Vec::with_capacity(alloc, lines.len())?;
+    for (_, text, _) in lines {
+        texts.push(filled(alloc, text)?)?;
+    }
+    Ok(texts)
 }
 
 // What is replied to all lines by one call.
 fn replies(alloc: Global, hub: &mut Hub, lines: &[Line]) -> Result<Vec<Reply>, Fault> {
-    let mut calls = Vec::new(alloc);
-    for line in lines {
-        push_call(alloc, &mut calls, line)?;
+    let texts = filled_texts(alloc, lines)?;
+    let mut calls = Vec::with_capacity(alloc, lines.len())?;
+    for (line, text) in lines.iter().zip(&texts) {
+        let key = String::from_str(alloc, line.0)?;
+        calls.push((key, asked(text.as_str())))?;
     }
     Ok(hub.run(alloc, &calls)?)
 }

@@ -22,7 +22,7 @@ impl<D: DocumentStore> Handler for StoredHub<D> {
 
     ghost finds = { λ s ks. Finds D.recovers s.store (hub_view s.hub) ks };
 
-    fn apply(&mut self, alloc: Global, key: &str, request: &Request) -> Reply {
+    fn apply(&mut self, alloc: Global, key: &str, request: &Request<'_>) -> Reply {
         let reply = self.hub.apply(alloc, key, request);
         if is_change(&reply) {
             self.is_dirty = true;

@@ -1,16 +1,16 @@
 -- A link that is found, those that are left where one is let go, and one that is put.
-use Rattle.std.proofs.Common.{◌≡◌, ◌-◌, ◌<◌, ℕ, List, [], ◌∷◌, Option, Some, None, Bor, String, Global, IfSome, Contains, Result, Ok, Err, length, take, string_bytes, bytes_eq, sym, subst, inl, inr, arith}
+use Rattle.std.proofs.Common.{◌≡◌, ◌-◌, ◌<◌, ℕ, List, [], ◌∷◌, Some, String, Global, Contains, Result, Ok, Err, length, take, string_bytes, bytes_eq, sym, subst, inl, inr, arith}
 use Rattle.std.proofs.lemmas.List.{length-take-le}
-use Rattle.std.proofs.lemmas.Option.{none-some}
+use Rattle.std.proofs.lemmas.Option.{none-some, same_Some}
 use Rattle.std.proofs.lemmas.Slice.Eq.{bytes_eq-Decides}
-use Rattle.std.specs.Option.{option_copied}
-use Rattle.std.specs.Map.{lookup}
+use Rattle.std.specs.List.{slice_get}
 use Rattle.std.specs.Result.{OnOk, OnErr}
 use Rattle.std.specs.String.{string_eq}
 use Rattle.definitions.specs.Schemas.{Document}
 use Rattle.definitions.specs.Values.{Text}
+use Rattle.definition_laws.proofs.Membership.{is_first}
 use Rattle.linker.specs.declared.linked.Linked.{Linked}
-use Rattle.lru.proofs.CallerLemmas.{Contains-lookup, Contains-put_entries, Contains-take}
+use Rattle.lru.proofs.CallerLemmas.{Contains-put_entries, Contains-take}
 use Rattle.lru.proofs.Splits.{Contains-nil}
 use Rattle.lru.specs.LruCache.{LruCache, last_entry, lru_cache, put_entries}
 use Rattle.tenant_hub.specs.KeptLinks.{AreLinksOf, IsLinkOfBase}
@@ -23,18 +23,19 @@ pub fewer : (es : List Entry) (e : Entry) → last_entry es ≡ Some e → lengt
 fewer [] e h = absurd (none-some _ h)
 fewer (x ∷ xs) e h = let short = length-take-le (length (x ∷ xs) - 1) (x ∷ xs) (omega arith) in omega (arith, short)
 
+at_first : (es : List Entry) (e : Entry) → Some e ≡ slice_get es 0 → Contains es e
+at_first [] e at = absurd (none-some e (sym at))
+at_first (x ∷ xs) e at = subst (Contains (x ∷ xs)) (same_Some x e (sym at)) (is_first x xs)
+
 pub none_kept : (ds : List Document) (links : Links) → links.entries.entries ≡ [] → AreLinksOf ds links
 unfolding AreLinksOf
 none_kept ds links none = λ e among. absurd (Contains-nil e (subst (λ es. Contains es e) none among))
 
 module _ (ds : List Document) (links : Links) (all : AreLinksOf ds links) where
-  pub found : (uri : Text) (o : Option (Bor Linked)) → option_copied o ≡ lookup (λ k. bytes_eq uri (string_bytes k)) links.entries.entries
-      → IfSome o (λ l. IsLinkOfBase ds uri l.now)
+  -- the first of those that are kept, where its base form is this one
+  pub first : (uri : Text) (base : String Global) (l : Linked) → Some (base, l) ≡ slice_get links.entries.entries 0 → string_bytes base ≡ uri → IsLinkOfBase ds uri l
   unfolding AreLinksOf
-  found uri None e = tt
-  found uri (Some l) e =
-      let at = Contains-lookup (λ k. bytes_eq uri (string_bytes k)) links.entries.entries l.now (sym e) in
-      subst (λ u. IsLinkOfBase ds u l.now) (sym ((bytes_eq-Decides uri (string_bytes at.0)).0 at.2)) (all (at.0, l.now) at.1)
+  first uri base l at same = subst (λ u. IsLinkOfBase ds u l) same (all (base, l) (at_first links.entries.entries (base, l) at))
 
   pub left : (n cap count most : ℕ) → AreLinksOf ds (record { entries = lru_cache (take n links.entries.entries) cap; reached = count; most = most })
   unfolding AreLinksOf

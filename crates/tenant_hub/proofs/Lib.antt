@@ -3,7 +3,6 @@ mod Courses
 mod NewServers
 mod RegisteredDocuments
 mod KeptRegistries
-mod SentTexts
 mod ServedBundles
 mod Refusals
 mod LinkedReplies

@@ -2,6 +2,8 @@
 
 ghost use Rattle.std.specs.Prelude.{◌≡◌, ◌↔◌, true, IfOk, IsTrue, option_map, string_bytes};
 ghost use Rattle.std.specs.List.{list_all};
+ghost use Rattle.std.specs.Str.{is_utf8};
+ghost use Rattle.bundle_laws.specs.Registered.{PutsText};
 ghost use Rattle.definitions.specs.Patterns.{regular_search};
 ghost use Rattle.definitions.specs.Registries.{documents_seen};
 ghost use Rattle.definitions.specs.Runs.{IsAnswer};
@@ -52,7 +54,7 @@ impl KeyedRegistry {
         &mut self,
         alloc: Global,
         workspace: &mut Workspace,
-        request: &Request,
+        request: &Request<'_>,
     ) -> Reply
         ensures key { string_bytes self.new.key ≡ string_bytes self.old.key }
         ensures answer { IsAnswer regular_search (registry_view self.old.registry)
@@ -96,17 +98,26 @@ pub(crate) fn lacks_room(reply: &Reply) -> bool
     matches!(reply, Reply::Refused(Fault::NoRoom))
 }
 
+// The text, which is UTF-8 as each is.
+fn utf8_text(text: &str) -> &str
+    ensures same { result.now ≡ text.now }
+    ensures utf8 { is_utf8 text.now ≡ true }
+{
+    text
+}
+
 fn answer_once(
     registry: &mut Registry,
     links: &mut Links,
     alloc: Global,
     workspace: &mut Workspace,
-    request: &Request,
+    request: &Request<'_>,
 ) -> Reply
     requires { AreLinksOf (documents_seen (registry_view registry.old)) links.old }
     ensures answer { IsAnswer regular_search (registry_view registry.old)
         (request_view request.now) (reply_view result) (registry_view registry.new) }
     ensures linked { AreLinksOf (documents_seen (registry_view registry.new)) links.new }
+    ensures text { PutsText (request_view request.now) }
 {
     match request {
         Request::Put(uri, body) => {
@@ -115,8 +126,8 @@ fn answer_once(
                 alloc,
                 &mut workspace.scratch,
                 &mut workspace.cache,
-                uri.as_str(),
-                body.as_slice(),
+                utf8_text(uri.as_str()),
+                body,
             )
         }
         Request::Delete(uri) => {
@@ -132,7 +143,7 @@ fn answer_once(
                 links,
                 &mut source,
                 uri.as_str(),
-                body.as_slice(),
+                body,
             )
         }
         Request::Bundle(uri) => {
@@ -141,12 +152,7 @@ fn answer_once(
         }
         Request::Batch(body) => {
             links.clear();
-            registry.put_all(
-                alloc,
-                &mut workspace.scratch,
-                &mut workspace.cache,
-                body.as_slice(),
-            )
+            registry.put_all(alloc, &mut workspace.scratch, &mut workspace.cache, body)
         }
     }
 }

@@ -106,7 +106,7 @@ impl Hub {
     /// registry gives it, byte for byte.
     ///
     /// `UnknownTenant` is for a key that no tenant has, and takes no memory; want of memory is answered as `NoRoom`.
-    pub fn apply(&mut self, alloc: Global, key: &str, request: &Request) -> Reply
+    pub fn apply(&mut self, alloc: Global, key: &str, request: &Request<'_>) -> Reply
         ensures answer { IsCallAnswer regular_search (hub_view self.old)
             (key.now, request_view request.now) (reply_view result) (hub_view self.new) }
         ensures refused { IsRefused (reply_view result)
@@ -123,7 +123,11 @@ impl Hub {
     /// Whatever the other tenants ask, a tenant's replies are a course of its own requests from its own registry; where
     /// none of them is refused for room, they are the replies to its own requests alone. The only error is `NoRoom`, and
     /// then nothing was applied.
-    pub fn run(&mut self, alloc: Global, calls: &[(String, Request)]) -> Result<Vec<Reply>, Fault>
+    pub fn run(
+        &mut self,
+        alloc: Global,
+        calls: &[(String, Request<'_>)],
+    ) -> Result<Vec<Reply>, Fault>
         ensures course { IfOk result (λ rs. CallCourse regular_search (hub_view self.old)
             (map call_view calls.now) (map reply_view rs.items) (hub_view self.new)) }
         ensures own_courses { IfOk result (λ rs. HaveOwnCourses (hub_view self.old)
@@ -191,7 +195,7 @@ impl Hub {
     }
 
     // Where memory runs out, what is kept for speed alone is given back and the request is answered once more.
-    fn answer(&mut self, alloc: Global, key: &str, request: &Request) -> Reply
+    fn answer(&mut self, alloc: Global, key: &str, request: &Request<'_>) -> Reply
         ensures { IsCallAnswer regular_search (hub_view self.old)
             (key.now, request_view request.now) (reply_view result) (hub_view self.new) }
     {
@@ -204,7 +208,7 @@ impl Hub {
         }
     }
 
-    fn answer_once(&mut self, alloc: Global, key: &str, request: &Request) -> Reply
+    fn answer_once(&mut self, alloc: Global, key: &str, request: &Request<'_>) -> Reply
         ensures { IsCallAnswer regular_search (hub_view self.old)
             (key.now, request_view request.now) (reply_view result) (hub_view self.new) }
     {
@@ -229,7 +233,7 @@ impl Hub {
     fn replies_of(
         &mut self,
         alloc: Global,
-        calls: &[(String, Request)],
+        calls: &[(String, Request<'_>)],
     ) -> Result<Vec<Reply>, Fault>
         ensures course { IfOk result (λ rs. CallCourse regular_search (hub_view self.old)
             (map call_view calls.now) (map reply_view rs.items) (hub_view self.new)) }

@@ -41,19 +41,24 @@ impl Links {
         self.reached = 0;
     }
 
-    /// Makes the link of this URI, where there is one, the one that was asked for last.
+    /// Makes the link of this URI, where there is one, the latest. Most often it is.
     pub(crate) fn promote(&mut self, uri: &str)
         ensures { (ds : List Document) → AreLinksOf ds self.old → AreLinksOf ds self.new }
     {
-        self.entries.promote(uri);
+        if self.latest(uri).is_none() {
+            self.entries.promote(uri);
+        }
     }
 
-    /// The link of this URI: where there is one, that is a base form.
-    pub(crate) fn get(&self, uri: &str) -> Option<&Linked>
+    /// The link that was asked for last, where it is that of this URI, which is a base form then.
+    pub(crate) fn latest(&self, uri: &str) -> Option<&Linked>
         ensures { (ds : List Document) → AreLinksOf ds self.now
             → IfSome result (λ linked. IsLinkOfBase ds uri.now linked.now) }
     {
-        self.entries.peek(uri)
+        match self.entries.peek_mru() {
+            Some((base, linked)) if base.as_str() == uri => Some(linked),
+            _ => None,
+        }
     }
 
     /// Keeps the link of this base form in the place of those that were asked for longest ago; unless it reaches too many documents

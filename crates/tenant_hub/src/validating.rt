@@ -65,7 +65,7 @@ fn output_text<S: Source>(
 {
     // A URI by which a link is kept is a base form: it needn't be split and put together.
     links.promote(uri);
-    if let Some(linked) = links.get(uri) {
+    if let Some(linked) = links.latest(uri) {
         let given = read_body_with(alloc, scratch, body)?;
         return text_by(alloc, linked, &given, memory);
     }
@@ -93,7 +93,7 @@ fn text_at<S: Source>(
     ensures same { S.documents source.new ≡ S.documents source.old }
 {
     links.promote(base.as_str());
-    if let Some(linked) = links.get(base.as_str()) {
+    if let Some(linked) = links.latest(base.as_str()) {
         return text_by(alloc, linked, instance, memory);
     }
     let linked = link(alloc, source, base.as_str())?;

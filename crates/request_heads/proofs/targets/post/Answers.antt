@@ -1,20 +1,18 @@
 use Rattle.std.proofs.Common.{sym, ap, ◌∙◌, true≢false, refl}
-use Rattle.std.specs.Prelude.{◌≢◌, Some, None, option_map, string_bytes, codes}
-use Rattle.definitions.specs.Registries.{validate, batch}
+use Rattle.std.specs.Cow.{cow_str_bytes}
+use Rattle.std.specs.Prelude.{◌≢◌, Some, None, option_map, codes}
 use Rattle.request_heads.proofs.TargetRoutes.{validate_is, batch_is}
 use Rattle.request_heads.proofs.targets.post.Goals as goal
 
 pub returns-then-is_batch-clause-ok : goal.returns-then-is_batch-clause-ok
-returns-then-is_batch-clause-ok c =
-    ap (λ b. Some (batch b)) c.in_ok-from_slice.ensures.items ∙ batch_is c.args.target.now c.args.body.now (c.if-is_batch.ensures.0 refl)
+returns-then-is_batch-clause-ok c = batch_is c.args.target.now c.args.body.now (c.if-is_batch.ensures.0 refl)
 
-pub returns-in_ok-from_slice-in-Some-clause-ok : goal.returns-in_ok-from_slice-in-Some-clause-ok
-returns-in_ok-from_slice-in-Some-clause-ok c =
+pub returns-in-Some-clause-ok : goal.returns-in-Some-clause-ok
+returns-in-Some-clause-ok c =
     let other : c.args.target.now ≢ codes "/batch" = λ e. true≢false (sym (c.if-is_batch.ensures.1 e)) in
-    ap (λ b. Some (validate (string_bytes c.in-Some.uri) b)) c.in_ok-from_slice-in-Some.ensures.items
-    ∙ validate_is c.args.target.now c.args.body.now (Some (string_bytes c.in-Some.uri)) other (ap (option_map string_bytes) (sym c.in-Some.is) ∙ c.in_ok-found.ensures.ok)
+    validate_is c.args.target.now c.args.body.now (Some (cow_str_bytes c.in-Some.uri)) other (ap (option_map cow_str_bytes) (sym c.in-Some.is) ∙ c.in_ok-found.ensures.ok)
 
 pub returns-in-None-clause-ok : goal.returns-in-None-clause-ok
 returns-in-None-clause-ok c =
     let other : c.args.target.now ≢ codes "/batch" = λ e. true≢false (sym (c.if-is_batch.ensures.1 e)) in
-    validate_is c.args.target.now c.args.body.now None other (ap (option_map string_bytes) (sym c.in-None.is) ∙ c.in_ok-found.ensures.ok)
+    validate_is c.args.target.now c.args.body.now None other (ap (option_map cow_str_bytes) (sym c.in-None.is) ∙ c.in_ok-found.ensures.ok)

@@ -1,17 +1,9 @@
-use Rattle.std.proofs.Common.{◌≡◌, sym, subst, ◌∙◌}
-use Rattle.std.specs.Str.{IsUtf8}
-use Rattle.percent_encoding.specs.declared.DecodeError.TheVariants.{OutOfMemory}
-use Rattle.request_heads.proofs.TargetRoutes.{decoded_is, ill_is}
+use Rattle.std.proofs.Common.{sym, ap, ◌∙◌, cond}
+use Rattle.std.specs.Prelude.{Some, None}
+use Rattle.std.specs.Str.{is_utf8}
+use Rattle.request_heads.proofs.TargetRoutes.{no_escapes}
 use Rattle.request_heads.proofs.targets.unescaped.Goals as goal
 
-pub returns-in_ok-into_owned-in-Ok-clause-ok : goal.returns-in_ok-into_owned-in-Ok-clause-ok
-returns-in_ok-into_owned-in-Ok-clause-ok c =
-    decoded_is c.args.text.now _ (c.in_ok-into_owned-in-Ok.ensures.ok ∙ c.in-Ok.ensures.value ∙ c.percent_decode.ensures.bytes)
-    (subst IsUtf8 c.percent_decode.ensures.bytes c.in-Ok.ensures.ok_only_if_utf8)
-
-pub returns-in-Err-Utf8-clause-ok : goal.returns-in-Err-Utf8-clause-ok
-returns-in-Err-Utf8-clause-ok c =
-    ill_is c.args.text.now (λ text.
-    let memory : c.in-Err-Utf8.field-0 ≡ OutOfMemory = c.in-Err-Utf8.ensures.utf8 (subst IsUtf8 (sym c.percent_decode.ensures.bytes) text) in
-    let not_text = c.in-Err-Utf8.field-0-is in
-    cc)
+pub returns-in-None-clause-ok : goal.returns-in-None-clause-ok
+returns-in-None-clause-ok c =
+    c.utf8_text.ensures ∙ sym (ap (λ t. cond (is_utf8 t) (Some t) None) (no_escapes c.args.text.now c.in-None.ensures))

@@ -133,8 +133,8 @@ pub fn holds(
     }
 }
 
-// The same, whatever the keyword. It is called apart: what most objects ask is a type. What compares numbers and counts is
-// judged in place, which calls nothing where it holds.
+// Whether the keyword, with this value, holds of the instance, whatever the keyword. It is called apart: what most objects ask is
+// a type. What compares numbers and counts is judged in place, which calls nothing where it holds.
 #[inline(never)]
 fn holds_in_full(
     alloc: Global,
@@ -162,7 +162,7 @@ fn holds_in_full(
     }
 }
 
-// The same, called apart.
+// Whether the keyword, with this value, holds of the instance. It is judged in a call of its own.
 #[inline(never)]
 fn holds_apart(
     alloc: Global,
@@ -176,7 +176,7 @@ fn holds_apart(
     holds_in_place(alloc, assertion, keyword_value, instance)
 }
 
-// The same, judged where it is called.
+// Whether the keyword, with this value, holds of the instance. It is judged in the caller's own code.
 #[inline(always)]
 fn holds_in_place(
     alloc: Global,

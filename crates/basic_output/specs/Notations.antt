@@ -17,7 +17,7 @@ notation_text notation.Fragment p = fragment_text p
 abbrev pub stands_in_pointer : ℕ → Bool
 stands_in_pointer c = not (c == tilde) && not (c == slash)
 
--- the same in a string of JSON
+-- the text of a pointer in this notation, as it stands in a string of JSON
 abbrev pub kept_text : Notation → Pointer → Text
 kept_text n p = escape (notation_text n p)
 

@@ -93,8 +93,8 @@ fn write_unit(bytes: &mut [u8], start: usize, unit: UnitParts<'_>) -> usize
     write(bytes, end, "\"}")
 }
 
-// The same of what stands before what the unit says. Each text is written in a branch of its own, since one of a length
-// that is known takes few instructions.
+// Writes what stands between the unit's location and what it says over the bytes from `start` on: the position behind it. Each
+// text is written in a branch of its own, since one of a length that is known takes few instructions.
 fn write_opening(bytes: &mut [u8], start: usize, annotates: bool, form: Form) -> usize
     requires { start + 17 ≤ length bytes.old }
     ensures end { result ≤ start + 17 }
@@ -109,7 +109,7 @@ fn write_opening(bytes: &mut [u8], start: usize, annotates: bool, form: Form) ->
     }
 }
 
-// The same of what stands behind what the unit says.
+// Writes what stands between what the unit says and its instance location over the bytes from `start` on: the position behind it.
 fn write_ending(bytes: &mut [u8], start: usize, form: Form) -> usize
     requires { start + 40 ≤ length bytes.old }
     ensures end { result ≤ start + 40 }

@@ -116,8 +116,8 @@ impl<'a> WrittenPointer<'a> {
         self.texts.pointer.write(Notation::Pointer, &self.steps)
     }
 
-    /// The same, and the last steps, so many, as a fragment, where they aren't written in the same way there. The only error is
-    /// want of memory.
+    /// Writes what the text lacks, and also the last steps, so many, as a fragment, where they aren't written in the same way
+    /// there. The only error is want of memory.
     #[inline(always)]
     pub fn write_onward(&mut self, onward: usize) -> Result<(), AllocError>
         ensures written { OnOk result (IsWrittenOnward self.new onward) }

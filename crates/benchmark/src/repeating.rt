@@ -87,7 +87,7 @@ pub fn repeat_validate(
     Ok(valid)
 }
 
-/// The same by one evaluator.
+/// Evaluates the instance so often by one evaluator, up to the text of the output, and answers how often it was valid.
 pub fn repeat_evaluate(
     alloc: Global,
     linked: &Linked,

@@ -11,7 +11,8 @@ pub enum Workload {
     Compile,
     /// The instance is evaluated by the linked schema, up to the text of the output, as a hub does it for each request.
     Validate,
-    /// The same by one evaluator, which stays from one turn to the next.
+    /// The instance is evaluated by the linked schema, up to the text of the output, by one evaluator, which stays from
+    /// one turn to the next.
     Evaluate,
     /// All of it, from the text that holds the schema and the instance.
     Check,

@@ -48,7 +48,9 @@ pub fn check_bytes(
     judge(alloc, compiled, &instance)
 }
 
-/// The same of two values.
+/// Checks the value `instance` against the value `schema`, which is taken to stand under the base form of `uri`, as
+/// [`check_bytes`] checks two texts. The faults are the same and come in the same order, but for `BadJson` and `BadNumber`, which
+/// no value has.
 #[tactic(auto, unfolding(crate::specs::Judgements::judgement))]
 pub(crate) fn check_docs(
     alloc: Global,

@@ -67,7 +67,7 @@ fn in_form<'a>(name: &str, matches: &ArgMatches<'a>) -> Option<Conflict<'a>>
     }
 }
 
-/// The same of all words.
+/// What is wrong with the words of the form that was given, beside what `clap` says of them.
 fn found<'a>(matches: &ArgMatches<'a>) -> Option<Conflict<'a>>
     ensures { conflict_of (subcommand_rows_of matches.now) ≡ kinds_of result }
 {

@@ -34,7 +34,7 @@ answer_by most rules uri x = answer_from most rules x (resource_root rules.schem
 abbrev pub rules_of : (Text → Text → Bool) → List Document → Rules
 rules_of matches documents = record { keywords = keywords; schemas = table_of documents; matches = matches }
 
--- the same over documents, by every keyword
+-- what the resource with this URI says of the instance, over these documents and by every keyword
 abbrev pub answer : (Text → Text → Bool) → List Document → Text → Value → Result Outcome Fault
 answer matches documents uri x = answer_by limits (rules_of matches documents) uri x
 

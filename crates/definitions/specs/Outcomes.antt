@@ -112,7 +112,7 @@ same_name _ _ = false
 abbrev pub same_location : InstanceLocation → InstanceLocation → Bool
 same_location p q = same_pointer p.pointer q.pointer && same_name p.name q.name
 
--- the same schema is being applied at the same instance location
+-- the schema is an object, and is already being applied at the same instance location
 abbrev pub is_running : Application → Bool
 is_running a =
     is_object a.schema.value

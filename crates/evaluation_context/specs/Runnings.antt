@@ -26,7 +26,7 @@ abbrev pub running_view : Pointer → Pointer → Running → Identity × Instan
 running_view path location r =
     (running_identity path r, record { pointer = take r.depth location; name = option_map (λ n. n.now) r.name })
 
--- the same schema at the same instance location
+-- the object is this schema, applied at this instance location
 abbrev pub is_running_as : Identity → InstanceLocation → Identity × InstanceLocation → Bool
 is_running_as identity instance_location e = same_identity e.0 identity && same_location e.1 instance_location
 

@@ -24,7 +24,8 @@ impl ContextMemory {
     }
 }
 
-/// The same of the evaluation path and of the instance location.
+/// The memory that a context's evaluation path and instance location are written in, to be kept for the next context. Either is
+/// none where there is nothing to keep.
 #[derive(Debug, Drop)]
 pub(crate) struct PointersMemory {
     pub(crate) path: Option<Box<PointerTexts>>,

@@ -73,7 +73,8 @@ fn text_end(text: &str) -> u32
     ])
 }
 
-// The same of any text. It is called apart, since most names are longer.
+// The number that tells how a text ends, whatever its length. It is called apart, for texts of less than four bytes, since most
+// names are longer.
 #[inline(never)]
 fn short_end(bytes: &[u8]) -> u32
     ensures { result ≡ text_end bytes.now }

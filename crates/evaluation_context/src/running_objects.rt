@@ -252,8 +252,9 @@ impl<'a> RunningObjects<'a> {
         self.needed().1 == self.instance_location.len()
     }
 
-    // The same as `contains`, of an identity that ends so. Objects higher up stand before those at the instance location, so
-    // that the search ends at the first of them.
+    // Whether one of them is the schema to which the last steps of the path, so many, lead from the origin, applied at the
+    // instance location with this name. The schema's identity ends so. Objects higher up stand before those at the instance
+    // location, so that the search ends at the first of them.
     fn contains_here(
         &self,
         origin: &Origin<'_>,
@@ -322,7 +323,8 @@ fn is_same(
     !are_other_ends(object.end, end) && is_same_throughout(path, object, origin, onward, name)
 }
 
-// The same, whatever the ends are. It is called apart, since few searches get so far.
+// Whether the object is the schema to which the last steps of the path, so many, lead from the origin, applied where the name at
+// the instance location is this one, however their identities end. It is called apart, since few searches get so far.
 #[inline(never)]
 fn is_same_throughout(
     path: &[Step<'_>],
@@ -375,7 +377,8 @@ fn are_joined(
     }
 }
 
-// The same, where the first list is no longer than the third. What differs mostly does so behind it.
+// Whether the steps of the first two lists are those of the others, where the first list is no longer than the third. What
+// differs mostly does so behind it.
 fn are_joined_within(
     first: &[Step<'_>],
     second: &[Step<'_>],

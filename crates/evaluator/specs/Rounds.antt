@@ -29,7 +29,7 @@ use Rattle.evaluator.specs.declared.log.Before.{Before}
 abbrev pub linked_outcome : Linked → ℕ → Application → Outcome
 linked_outcome l left = outcome (linked_rules l) left
 
--- the same, where no application is under way
+-- the outcome by the linked documents, where no application is under way
 abbrev pub root_outcome : Linked → Application → Outcome
 root_outcome l a = linked_outcome l limits.nested_applications a
 
@@ -83,7 +83,7 @@ indexes_since before n = drop before.indexes n.indexes
 abbrev pub uses_with : Linked → ℕ → Application → Keyword → List Text → List ℕ → Option Value → List Use
 uses_with l left a k names indexes v = uses_by_keyword (linked_rules l) (linked_outcome l left) names indexes a (row_of k) v
 
--- the same, by itself
+-- the use of a keyword of the application's schema, which has this value
 abbrev pub use_there : Linked → ℕ → Application → Keyword → List Text → List ℕ → Value → Use
 use_there l left a k names indexes v =
     use_of (linked_rules l) (linked_outcome l left) a (row_of k).name (row_of k).meaning v

@@ -140,7 +140,8 @@ fn annotates(name: Name<'_>, schema: &Doc, subject: Subject<'_>) -> bool
     }
 }
 
-// The same, by comparing the name.
+// Whether a name of the schema object annotates with its value. The name is compared with the three that are of the
+// contents of strings.
 fn annotates_by_name(name: Name<'_>, schema: &Doc, subject: Subject<'_>) -> bool
     ensures { result
         ≡ is_annotation (value schema.now) (subject_value subject.entry) (name_text name.entry) }

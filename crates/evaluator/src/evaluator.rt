@@ -53,7 +53,7 @@ impl<'a> Evaluator<'a> {
         Ok(Evaluator::at_root(alloc, linked)?)
     }
 
-    // The same, at the root.
+    // An evaluator by this linked resource, which stands at its root. The only error is want of memory.
     fn at_root(alloc: Global, linked: &'a Linked) -> Result<Evaluator<'a>, AllocError>
         ensures linked { IfOk result (λ e. evaluator_linked e ≡ linked.now) }
         ensures there { IfOk result (λ e. e.is_at_root ≡ true) }

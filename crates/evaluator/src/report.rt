@@ -49,7 +49,7 @@ impl Report {
         self.text.as_str()
     }
 
-    /// The same text, handed over.
+    /// The text of the basic output, as [`Report::text`] gives it, which is handed over to the caller.
     pub fn into_text(self) -> String
         ensures { string_bytes result ≡ report_text self }
     {
@@ -82,8 +82,9 @@ pub fn evaluate<'a>(alloc: Global, linked: &'a Linked, instance: &'a Doc) -> Res
     evaluate_with(alloc, linked, instance, &mut EvaluationMemory::new(alloc))
 }
 
-/// The same, in memory that was kept from earlier evaluations, which the next one can use again, whether this one answers with
-/// a report or with a fault. Nothing of it shows in an answer.
+/// Applies the linked resource's root to the instance as [`evaluate`] does, with the same faults, in memory that was kept from
+/// earlier evaluations. The next evaluation can use it again, whether this one answers with a report or with a fault. Nothing of
+/// it shows in an answer.
 pub fn evaluate_with<'a>(
     alloc: Global,
     linked: &'a Linked,

@@ -137,7 +137,8 @@ fn note_own<'a>(
     }
 }
 
-// The same among the annotations alone: of the names `evaluated` has those that the keyword annotates with.
+// Inserts the keyword's own annotation, if it makes one, before those of what it applied, among the annotations alone.
+// Of the names `evaluated` has those that the keyword annotates with.
 #[inline(always)]
 fn insert_own<'a>(
     context: &mut Context<'a>,

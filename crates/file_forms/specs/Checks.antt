@@ -21,7 +21,8 @@ given_of checks = record { documents = checks.documents; schema = checks.schema;
 abbrev pub judge_by : Checks → List Document → Text → Judge
 judge_by checks documents uri = record { documents = documents; uri = uri; format = checks.format; quiet = checks.quiet }
 
--- the same by a linked schema, over whatever documents it was linked among
+-- there is an account of each instance that the arguments name, in order, by a linked schema, over whatever documents it was
+-- linked among
 pub record AreCheckedBy (holds : Holds) (lists : Lists) (checks : Checks) (linked : Linked) (input left : Option Text) (before after : State) : Type 0 where
   pub subjects : List Subject
   pub named : OfArguments holds lists checks.lines checks.instances input left subjects

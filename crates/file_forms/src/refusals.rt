@@ -29,7 +29,7 @@ pub(crate) fn refusal_text(
     }
 }
 
-/// The same where memory is wanting.
+/// What is printed of an instance that is refused, where memory is wanting for more.
 pub(crate) fn no_room_text(format: Format) -> &'static str
     ensures { result.now ≡ no_room_text format }
 {

@@ -99,7 +99,7 @@ impl Trouble {
         }
     }
 
-    /// The same refusal, of what this file has.
+    /// This refusal, with `origin` as the file that has what is refused, where that is known. Other trouble stays as it is.
     pub(crate) fn with_origin(self, origin: Option<String>) -> Trouble
         ensures { (path : Text) (line : Option ℕ) (fault : Fault) → IsRefusal path line fault self
             → IsRefusal path line fault result }

@@ -11,8 +11,8 @@ pub fn connections_are_isolated()
     ensures { ConnectionsAreIsolated }
 {}
 
-/// The same of connections that are served one after the other, each to its end: all that is read of them is their
-/// streams, and what is written is a first part of what they are to be sent.
+/// Connections that are served one after the other, each to its end, are isolated as [`connections_are_isolated`] says
+/// it. All that is read of them is their streams, and what is written is a first part of what they are to be sent.
 pub fn served_connections_are_isolated()
     ensures { ServedConnectionsAreIsolated }
 {}

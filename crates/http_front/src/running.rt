@@ -76,8 +76,8 @@ pub fn run_connection<R: ByteReader, W: ByteWriter>(
     }
 }
 
-/// The same over the library that a batch gives. The errors are those of `hub_over`, before anything is read, then
-/// those of `serve`.
+/// Serves one connection by a new hub, of the tenants' file, over the library that a batch gives and with a cache of
+/// this capacity. The errors are those of `hub_over`, before anything is read, then those of `serve`.
 pub fn run_connection_with<R: ByteReader, W: ByteWriter>(
     alloc: Global,
     tenants: &[u8],

@@ -25,8 +25,9 @@ pub fn hub_of(alloc: Global, tenants: &[u8], capacity: usize) -> Result<Hub, Fau
     }
 }
 
-/// The same over the library that a batch gives: its faults come last. `BadPattern` is also for a pattern of it that is too
-/// big once it is built.
+/// The hub of a tenants' file over the library that a batch gives, with a cache of this capacity. The errors are first those of
+/// `read_tenants`, then those of `Hub::with_library`, of which those of the library come last. `BadPattern` is also for a pattern
+/// of it that is too big once it is built; `NoRoom` may take the place of any answer.
 pub fn hub_over(
     alloc: Global,
     tenants: &[u8],

@@ -9,7 +9,7 @@ use crate::members::Members;
 use faults::Fault;
 use std::alloc::Global;
 
-/// The same value once more, in which keywords' names stand as the keywords. The only error is want of memory,
+/// A copy of the value, in which keywords' names stand as the keywords. The only error is want of memory,
 /// [`Fault::NoRoom`].
 ///
 /// What is copied was seen whole, so the contract also says that every value that could be copied is well formed.

@@ -136,7 +136,8 @@ impl Doc {
         }
     }
 
-    /// The same of a short text, which among few members is found without a call.
+    /// The member whose name is this short text, if the value is an object that has one. Among few members it is found
+    /// without a call.
     #[inline(always)]
     pub fn get_short(&self, name: &ShortText) -> Option<&Doc>
         ensures { option_map (λ d. value d.now) result
@@ -160,7 +161,8 @@ impl Doc {
         }
     }
 
-    /// The same. Where the member stands at this position among the members, it needn't be searched for.
+    /// The member of this keyword's name, if the value is an object that has one. Where the member stands at this
+    /// position among the members, it needn't be searched for.
     #[inline(always)]
     pub fn keyword_value_near(&self, keyword: Keyword, position: usize) -> Option<&Doc>
         ensures { option_map (λ d. value d.now) result

@@ -73,7 +73,7 @@ impl Gathered {
         }
     }
 
-    // The same members, in a map where this name would move many.
+    // Turns the list of members into a map, where this name would move many of them.
     #[inline(always)]
     fn give_way(&mut self, alloc: Global, name: &str) -> Result<(), AllocError>
         ensures { OnOk result (gathered_view self.new ≡ gathered_view self.old) }
@@ -93,7 +93,7 @@ impl Gathered {
         }
     }
 
-    // The same members in a map.
+    // Turns the list of members into a map of the same members.
     #[cold]
     #[inline(never)]
     fn turn_into_map(&mut self, alloc: Global) -> Result<(), AllocError>

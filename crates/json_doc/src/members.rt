@@ -62,7 +62,7 @@ impl Members {
         }
     }
 
-    /// The same of a short text, which among few members is found without a call.
+    /// The member whose name is this short text. Among few members it is found without a call.
     #[inline(always)]
     pub fn get_short(&self, name: &ShortText) -> Option<&Doc>
         ensures { option_map (λ d. value d.now) result
@@ -87,7 +87,7 @@ impl Members {
         self.first_value(keyword)
     }
 
-    /// The same. Where the member stands at this position, it needn't be searched for.
+    /// The member of this keyword's name. Where it stands at this position among the members, it needn't be searched for.
     #[inline(always)]
     pub fn keyword_value_near(&self, keyword: Keyword, position: usize) -> Option<&Doc>
         ensures { option_map (λ d. value d.now) result
@@ -99,7 +99,7 @@ impl Members {
         }
     }
 
-    // The same, searched for. It is called apart, since few members are.
+    // The member of this keyword's name, which is searched for. It is called apart, since few members need that.
     #[inline(never)]
     fn keyword_value_far(&self, keyword: Keyword) -> Option<&Doc>
         ensures { option_map (λ d. value d.now) result
@@ -108,7 +108,7 @@ impl Members {
         self.keyword_value(keyword)
     }
 
-    // The same, one member after the other.
+    // The member of this keyword's name, for which one member after the other is looked at.
     #[inline(always)]
     fn first_value(&self, keyword: Keyword) -> Option<&Doc>
         ensures { option_map (λ d. value d.now) result
@@ -181,7 +181,9 @@ impl Members {
         Ok(())
     }
 
-    /// The same, where a new name stands as the keyword if it is one's, so that it needn't be compared to be told as one.
+    /// Puts a member in, in place of the one of the same name, if there is one. A new name that comes after all that are here
+    /// stands as the keyword if it is one's, so that it needn't be compared to be told as one. The only error is want of memory,
+    /// and then the members stay as they were.
     pub(crate) fn insert_named(
         &mut self,
         alloc: Global,
@@ -225,7 +227,7 @@ impl<'a> MembersIter<'a> {
         }
     }
 
-    /// The same, each with its name as it stands there.
+    /// The members that are left, each with its name as it stands in the object.
     pub fn named(self) -> NamedMembers<'a>
         ensures { named_left result ≡ members_left self.entry }
     {

@@ -85,7 +85,8 @@ impl<T> NameMap<T> {
         }
     }
 
-    /// The same of a short text, which of few names is found without a call.
+    /// The value whose name is this short text, with the name as it stands here. Among few names it is found without a call;
+    /// otherwise the time grows with the logarithm of their number.
     #[inline(always)]
     pub fn get_key_value_of(&self, name: &ShortText) -> Option<&(SmallText, T)>
         ensures { option_map entry_view result ≡ entry_named (short_text name.now) self.now }
@@ -118,7 +119,7 @@ impl<T> NameMap<T> {
 }
 
 impl<T: Drop> NameMap<T> {
-    /// The same as a map that takes more names in any order. The only error is want of memory.
+    /// The names and values as a map that takes more names in any order. The only error is want of memory.
     pub fn into_map(self, alloc: Global) -> Result<BTreeMap<SmallText, T>, AllocError>
         ensures { IfOk result (λ m. m.entries ≡ self) }
     {
@@ -154,7 +155,8 @@ impl<T: Drop> NameMap<T> {
         self.put(alloc, name, value)
     }
 
-    /// The same, where a new name stands as the keyword if it is one's.
+    /// Puts a value in, in place of the one of the same name, if there is one. A new name that comes after all that are here
+    /// stands as the keyword if it is one's. The only error is want of memory, and then the map stays as it was.
     pub fn insert_named(&mut self, alloc: Global, name: &str, value: T) -> Result<(), AllocError>
         ensures ok { OnOk result (IsPut name.now value self.old self.new) }
         ensures unchanged { OnErr result (self.new ≡ self.old) }

@@ -84,7 +84,7 @@ pub struct NamedMembers<'a> {
 }
 
 impl<'a> NamedMembers<'a> {
-    /// The same members.
+    /// The members that are left of these, each with its name as it stands there.
     pub(crate) fn of(members: MembersIter<'a>) -> NamedMembers<'a>
         ensures { named_left result ≡ members_left members.entry }
     {

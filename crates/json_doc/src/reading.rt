@@ -34,8 +34,8 @@ pub fn read(alloc: Global, bytes: &[u8]) -> Result<Doc, Fault>
     read_with(alloc, &mut scratch, bytes)
 }
 
-/// The same as [`read`], in memory that is kept from one text to the next: to make a new one takes the time of many
-/// small texts. It grows to the length of the longest text.
+/// Reads a JSON text as [`read`] does, with the same faults, in memory that is kept from one text to the next: to make
+/// new memory takes the time of many small texts. It grows to the length of the longest text.
 pub fn read_with(alloc: Global, scratch: &mut Scratch, bytes: &[u8]) -> Result<Doc, Fault>
     ensures ok { IfOk result (λ d. parsed_value bytes.now ≡ Ok (value d)) }
     ensures err { IfErr result
@@ -59,7 +59,7 @@ fn doc_of_text(alloc: Global, scratch: &mut Scratch, text: &str) -> Result<Doc, 
     }
 }
 
-// The same of a text, by way of the value that `serde_json` reads.
+// Reads the value of a text by way of the value that `serde_json` reads.
 fn read_by_value(alloc: Global, text: &str) -> Result<Doc, Fault>
     ensures ok { IfOk result (λ d. value_or_bad_json (read_text text.now) ≡ Ok (value d)) }
     ensures err { IfErr result (λ f. f ≢ Fault.NoRoom

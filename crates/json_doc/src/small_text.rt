@@ -132,7 +132,7 @@ impl SmallText {
         }
     }
 
-    // The same, called apart, since most names are short and no keywords.
+    // The text, however it stands. It is called apart, since most names are short and no keywords.
     #[inline(never)]
     fn other_str(&self) -> &str
         ensures { result.now ≡ text_view self.now }

@@ -52,7 +52,7 @@ planned_pairs k a i vs xs = map (λ e. at_part a (k ∷ decimal (e.0).0 ∷ []) 
 abbrev pub planned_matches : Text → Application → Text → Value → List (Text × Value) → List (Part × Application)
 planned_matches k a name x ps = map (λ p. at_part a (k ∷ p.0 ∷ []) p.1 (named name) x) (filter (λ p. has_match p.0 name) ps)
 
--- the same, at each of these members
+-- the schemas under the patterns that match the name of one of these members, at that member
 abbrev pub planned_pattern : Text → Application → List (Text × Value) → List (Text × Value) → List (Part × Application)
 planned_pattern k a ps ms = flat_map (λ m. planned_matches k a m.0 m.1 ps) ms
 

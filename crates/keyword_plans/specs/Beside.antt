@@ -16,7 +16,7 @@ pub record StandsBeside (l : Linked) (b : PropertyKeywords) (a : Application) : 
   pub patterns : unwrap_or (option_map (λ m. members_value m.now) b.patterns) [] ≡ members (beside a (codes "patternProperties"))
   pub inside : ArePatternsOf l b.resource.now a.schema (members (beside a (codes "patternProperties")))
 
--- the same, the patterns with their numbers
+-- these keywords stand in the application's schema, and the patterns have their numbers in these documents
 pub record AreTakers (l : Linked) (t : Takers) (a : Application) : Type 0 where
   pub properties : unwrap_or (option_map (λ m. members_value m.now) t.properties) [] ≡ members (beside a (codes "properties"))
   pub patterns : map numbered_view t.patterns.now ≡ members (beside a (codes "patternProperties"))

@@ -92,7 +92,8 @@ impl<'a> ComparedResources<'a> {
         }
     }
 
-    // The same where several documents are linked.
+    // The number of the document that the schemas of the resource with this URI stand in, where several documents are linked. The
+    // only error is want of memory.
     #[inline(never)]
     fn document_of_several(&mut self, alloc: Global, uri: &str) -> Result<Option<usize>, AllocError>
         ensures ok { (s : Schema) → Contains (linked_schemas (compared_in self.old).now) s

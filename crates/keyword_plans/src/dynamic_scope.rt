@@ -222,7 +222,8 @@ impl<'a> DynamicScope<'a> {
         }
     }
 
-    // The same without this one.
+    // The schema with this dynamic anchor, which one of the documents' resources has, in the outermost resource of the scope that
+    // has it; none where none of the scope has it.
     fn outermost(&mut self, alloc: Global, name: &'a str) -> Result<Option<Target<'a>>, AllocError>
         requires { HasAnchor (scope_documents self.old).now name.now }
         ensures ok { HasResources (scope_documents self.old).now (scope_uris self.old)

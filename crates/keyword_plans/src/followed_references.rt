@@ -223,7 +223,7 @@ impl<'a> FollowedReferences<'a> {
         }
     }
 
-    // The same among those that aren't short.
+    // The one of this number among those that aren't short, where it is kept.
     fn find_long(&self, number: ReferenceNumber) -> Option<&FollowedReference<'a>>
         ensures named { (resource text : Text)
             → reference_pair (followed_in self.now).now number ≡ Some (resource, text)
@@ -327,7 +327,7 @@ fn named_first<'a>(
     }
 }
 
-// The same once more.
+// A copy of what a reference names first, if it names anything. The only error is want of memory.
 fn again<'a>(named: &Option<Followed<'a>>) -> Result<Option<Followed<'a>>, AllocError>
     ensures named { (table : List Schema) (text : Text) → IsNamed table text named.now
         → IfOk result (λ n. IsNamed table text n) }

@@ -67,7 +67,8 @@ impl<'a> NumberedResources<'a> {
         }
     }
 
-    // The same of one that isn't kept, and is from now on, where the texts are those of these numbers.
+    // The URI of the resource that a schema opens by this `$id`, where the resource around it has this URI. It isn't kept yet,
+    // and is kept from now on where the texts are those of these numbers.
     fn open(
         &mut self,
         alloc: Global,
@@ -99,7 +100,8 @@ impl<'a> NumberedResources<'a> {
         }
     }
 
-    // The same of one that isn't kept, and is from now on, where the URI is that of this number.
+    // The number of the document of the resource with this URI. It isn't kept yet, and is kept from now on where the URI is that
+    // of this number.
     fn find(&mut self, uri: &str, number: usize) -> Result<Option<usize>, AllocError>
         ensures ok { IfOk result (IsDocument self.old.linked.now uri.now) }
         ensures linked { self.new.linked ≡ self.old.linked }
@@ -143,7 +145,8 @@ impl<'a> NumberedResources<'a> {
         }
     }
 
-    // The same of one that isn't kept, and is from now on, where the texts are those of these numbers.
+    // The schema with this dynamic anchor in the resource with this URI. It isn't kept yet, and is kept from now on where the
+    // texts are those of these numbers.
     fn find_anchored(
         &mut self,
         alloc: Global,

@@ -157,7 +157,7 @@ impl<'a> Searches<'a> {
         }
     }
 
-    // The same of one that isn't held, and is from now on.
+    // Whether the pattern of this number, which isn't held yet and is from now on, matches somewhere in the text.
     fn search_first(&mut self, number: PatternNumber, text: &str) -> Result<bool, AllocError>
         ensures ok { (pattern : Text)
             → pattern_text (searched_in self.old).now number ≡ Some pattern

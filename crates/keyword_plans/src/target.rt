@@ -40,7 +40,7 @@ impl<'a> Target<'a> {
         Ok(Target { origin, schema })
     }
 
-    /// The same once more. The only error is want of memory.
+    /// A copy of this schema, which shares its origin. The only error is want of memory.
     pub(crate) fn again(&self) -> Result<Target<'a>, AllocError>
         ensures { IfOk result (λ t. target_view t ≡ target_view self.now) }
     {
@@ -71,7 +71,7 @@ pub(crate) fn dynamically_anchored<'a>(
     }
 }
 
-/// The same schema once more, where there is one. The only error is want of memory.
+/// A copy of the schema that was found, if one was: it shares the origin. The only error is want of memory.
 pub(crate) fn again<'a>(found: &Option<Target<'a>>) -> Result<Option<Target<'a>>, AllocError>
     ensures { IfOk result
         (λ t. option_map target_view t ≡ option_map target_view found.now) }

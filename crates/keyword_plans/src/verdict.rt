@@ -85,7 +85,8 @@ pub fn holds_of(
     }
 }
 
-// The same of a name alone. It is called apart, since few assertions are made of names.
+// Whether the keyword that makes this assertion, with this value, holds of a name. The only error is want of memory. It is called
+// apart, since few assertions are made of names.
 #[inline(never)]
 fn holds_of_name(
     alloc: Global,

@@ -101,7 +101,8 @@ impl ListSource {
     }
 }
 
-// The same and a document, if that has several resources. Nothing where memory runs out.
+// The documents that have several resources, and also this one if it has several. Nothing where memory runs out, or did so
+// before.
 fn with_document(
     alloc: Global,
     compound: Option<CompoundDocuments>,
@@ -118,7 +119,7 @@ fn with_document(
     }
 }
 
-// The same document, of which the scan found no fault.
+// The document as it is. The contract says that the scan found no fault in it.
 fn checked(document: &Compiled) -> &Compiled
     ensures same { result.now ≡ document.now }
     ensures faultless { scan_fault (compiled_base document.now) (compiled_value document.now)

@@ -11,8 +11,8 @@ use crate::step::Step;
 use json_doc::Doc;
 use std::alloc::{AllocError, Global};
 
-/// The same way, which owns its names. It fails only for want of memory; a name whose length, or an index, is of more than
-/// 32 bits counts as that.
+/// The way that these steps go, which owns its names. It fails only for want of memory; a name whose length, or an index, is of
+/// more than 32 bits counts as that.
 pub fn own(alloc: Global, steps: &[Step<'_>]) -> Result<OwnedWay, AllocError>
     ensures { IfOk result (λ way. owned_hops way ≡ step_hops steps.now) }
 {
@@ -69,7 +69,7 @@ fn keep_name(names: &mut String, name: &str) -> Result<OwnedStep, AllocError>
     Ok(OwnedStep::Name(in_32_bits(name.len())?))
 }
 
-// The same number, where it has no more bits. It fails as for want of memory where it has.
+// The number in 32 bits, where they hold it. Where they don't, it fails as for want of memory.
 fn in_32_bits(number: usize) -> Result<u32, AllocError>
     ensures { IfOk result (λ n. n ≡ number) }
 {

@@ -122,7 +122,8 @@ impl Machine {
         self.is_match_from_start(alloc, hay)
     }
 
-    // The same, with a look at the start first: all matches begin there, or one may be empty, or the DFA gave up.
+    // Whether the pattern matches somewhere in the text, with a look at the start first: all matches begin there, or
+    // one may be empty, or the DFA gave up. The only error is want of memory.
     fn is_match_from_start(&mut self, alloc: Global, hay: &[u8]) -> Result<bool, AllocError>
         ensures ok { IfOk result (λ found. found ≡ has_match self.old hay.now) }
         ensures same { self.new ≡ self.old }

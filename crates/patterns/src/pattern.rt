@@ -57,8 +57,9 @@ impl Pattern {
         Pattern::build_within(alloc, source, &mut room)
     }
 
-    /// The same, for one of several patterns that share a room of so many bytes. What this one takes is taken from the
-    /// room; a pattern that takes more than there is left is [`Fault::BadPattern`] too, and leaves the room as it was.
+    /// Reads the text and builds what it spells as [`Pattern::build`] does, with the same faults, for one of several patterns
+    /// that share a room of so many bytes. What this one takes is taken from the room; a pattern that takes more than there is
+    /// left is [`Fault::BadPattern`] too. Each fault leaves the room as it was.
     pub fn build_within(alloc: Global, source: &str, room: &mut usize) -> Result<Pattern, Fault>
         ensures ok { IfOk result (λ p. p ≡ source.now) }
         ensures read { IfOk result (λ p. is_read p ≡ true) }

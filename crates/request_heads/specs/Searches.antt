@@ -23,7 +23,7 @@ pub record IsSearched (bytes : Text) (s : Search) : Type 0 where
   pub few : s.line_feeds < most_line_feeds
   pub past : EndsPast s.len bytes
 
--- the same, of as many bytes as a head may have at most
+-- so many of the bytes were looked at, no more than a head may have, and they have so many line feeds
 pub record IsSought (bytes : Text) (s : Search) : Type 0 where
   pub within : s.len ≤ length bytes
   pub short : s.len ≤ most_head_bytes

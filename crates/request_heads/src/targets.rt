@@ -48,7 +48,8 @@ fn decoded(alloc: Global, text: &[u8]) -> Result<Option<CowStr<'_>>, Fault>
     }
 }
 
-// The same. Few texts have a percent sign, and the others needn't be decoded.
+// The text without its percent escapes; none where it is no UTF-8 then. Few texts have a percent sign, and the others
+// needn't be decoded.
 fn unescaped(alloc: Global, text: &[u8]) -> Result<Option<CowStr<'_>>, Fault>
     ensures ok { IfOk result (λ t. option_map cow_str_bytes t ≡ unescaped_text text.now) }
     ensures err { IfErr result (λ f. f ≡ Fault.NoRoom) }

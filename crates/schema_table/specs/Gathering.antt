@@ -117,14 +117,16 @@ pub record IsTableOf (t : SchemaTable) (ss : List Spot) : Type 0 where
   pub texts : table_texts t ≡ flat_map spot_texts ss
   pub marks : table_marks t ≡ flat_map marks ss
 
--- the same with the texts of the patterns
+-- the texts of the patterns that were gathered beside the table
 unfoldable pub gathered_patterns : Gathered → List Text
 gathered_patterns g = map (λ t. t.now) g.patterns.items
 
+-- the later has what the earlier has, and what is gathered of these schemas: the table's part, and the patterns' texts
 pub record Gathers (earlier later : Gathered) (ss : List Spot) : Type 0 where
   pub table : Extends earlier.table later.table ss
   pub patterns : gathered_patterns later ≡ gathered_patterns earlier ++ flat_map spot_patterns ss
 
+-- all that is gathered is of these schemas
 pub record IsGathered (g : Gathered) (ss : List Spot) : Type 0 where
   pub table : IsTableOf g.table ss
   pub patterns : gathered_patterns g ≡ flat_map spot_patterns ss

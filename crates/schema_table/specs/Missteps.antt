@@ -24,7 +24,7 @@ misstep_fault way wrong_id = bad_id
 misstep_fault way wrong_anchor = bad_anchor
 misstep_fault way wrong_dialect = faults.dialect
 
--- the same misstep from the value around, whose member of this name the walk began at
+-- the misstep as seen from the value around, whose member of this name the walk began at
 abbrev pub deeper : Text → Misstep → Misstep
 deeper name (wrong_shape p) = wrong_shape (name ∷ p)
 deeper name wrong_id = wrong_id

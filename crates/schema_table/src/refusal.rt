@@ -49,7 +49,8 @@ impl<'a> Refusal<'a> {
         }
     }
 
-    /// The same from the object around, whose member of this name the walk was in.
+    /// This refusal as seen from the object around, whose member of this name the walk was in: the steps to a keyword
+    /// now begin with that name.
     pub(crate) fn under_name(self, name: &'a str) -> Refusal<'a>
         ensures { (ms : List Misstep) → Refuses self.entry ms
             → Refuses result (below_name name.now ms) }
@@ -63,7 +64,8 @@ impl<'a> Refusal<'a> {
         }
     }
 
-    /// The same from the list around, whose element of this index the walk was in.
+    /// This refusal as seen from the list around, whose element of this index the walk was in: the steps to a keyword
+    /// now begin with that index.
     pub(crate) fn under_index(self, index: usize) -> Refusal<'a>
         ensures { (ms : List Misstep) → Refuses self.entry ms
             → Refuses result (below_name (decimal index) ms) }

@@ -68,8 +68,8 @@ fn tell<O: Write, E: Write>(out: &mut O, errors: &mut E, stop: &Stop<'_>) -> io:
     Ok(stop.status())
 }
 
-/// The same, where a stream may fail. A failure of standard output is told on standard error; one of standard error
-/// isn't, since there is nowhere to say so.
+/// Prints why there is no report on the stream that it goes to, and gives the program's status, which is 2 where that stream
+/// fails. A failure of standard output is told on standard error; one of standard error isn't, since there is nowhere to say so.
 pub fn explain<O: Write, E: Write + ByteWriter>(out: &mut O, errors: &mut E, stop: &Stop<'_>) -> u8
     ensures error { is_error stop.now ≡ true → (result ≡ 2) × (out.new ≡ out.old) }
     ensures request { is_error stop.now ≡ false

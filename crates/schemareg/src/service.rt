@@ -145,7 +145,7 @@ fn hub(alloc: Global, sources: &Sources, capacity: usize) -> Result<Hub, Fault>
     }
 }
 
-/// The same as the start of a call.
+/// Makes new registries at the start of a call. Where they are refused, that is why the call stops.
 fn start_hub<'a>(alloc: Global, sources: &Sources, capacity: usize) -> Result<Hub, Stop<'a>>
     ensures ok { IfOk result (λ h.
         OnServerIn sources.now capacity (λ server. server ≡ Ok (hub_view h))) }

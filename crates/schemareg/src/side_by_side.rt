@@ -107,7 +107,8 @@ fn serve_network<H: Registries, N: Network, C: Clock, W: Write>(
     registries.serve(alloc, log, network, &mut watch, most_memory)
 }
 
-/// The same with a log on `out`, and how many there were.
+/// Serves the connections of a network side by side by these registries, until they are over, with a log on `out`. It also
+/// answers how many connections, requests and refusals there were.
 fn serve_logged<H: Registries, N: Network, C: Clock, W: Write + Drop>(
     alloc: Global,
     clock: &C,
@@ -126,7 +127,8 @@ fn serve_logged<H: Registries, N: Network, C: Clock, W: Write + Drop>(
     (ended, counts)
 }
 
-/// The same, with a log in a file or else on `errors`.
+/// Serves the connections of a network side by side by these registries, until they are over, with a log in a file or else on
+/// `errors`. It also answers how many connections, requests and refusals there were.
 fn serve_told<H: Registries, N: Network, C: Clock, L: Write + Drop, E: Write>(
     alloc: Global,
     clock: &C,

@@ -22,7 +22,8 @@ pub fn write_all<W: ByteWriter>(writer: &mut W, bytes: &[u8]) -> Result<(), Faul
     Ok(())
 }
 
-/// The same of what a connection is sent.
+/// Writes all bytes that a connection is sent, by as many writes as it takes. The only error is the failure of
+/// [`Fault::WriteFailed`], where a write failed or took none of some bytes: then a first part of the bytes is written.
 pub fn tell_all<W: ByteWriter>(writer: &mut W, bytes: &[u8]) -> Result<(), Failure>
     ensures { TellsBytes (W.writes writer.old) bytes.now result (W.writes writer.new) }
 {

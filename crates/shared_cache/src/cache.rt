@@ -121,7 +121,8 @@ impl Cache {
         Ok(compiled)
     }
 
-    /// The same with its key, under which it can be asked for again by [`Cache::compiled_as`].
+    /// The document under this base, compiled as [`Cache::compiled`] does it, with the same faults, and its key, under which it
+    /// can be asked for again by [`Cache::compiled_as`].
     pub fn compiled_with_key(
         &mut self,
         alloc: Global,
@@ -150,7 +151,8 @@ impl Cache {
         Ok((key, compiled))
     }
 
-    /// The same under a key that was made before, whose text is read as the document's value.
+    /// The document under a key that was made before, compiled as [`Cache::compiled`] does it, with the same faults. The key's
+    /// text has to be one that is read as the document's value.
     pub fn compiled_as(
         &mut self,
         alloc: Global,

@@ -36,7 +36,7 @@ pub struct Stored {
     canonical: String,
     // In the order of a walk.
     resources: Vec<String>,
-    // The same in byte order, to look up.
+    // The URIs of the resources in byte order, to look them up.
     resource_set: BTreeSet<String>,
     ghost reads_back: { is_read_as key.value.1 (value document) ≡ true },
     ghost compact: { key.value.1 ≡ text (value document) },

@@ -44,7 +44,8 @@ pub(crate) fn place_all(stored: &mut Vec<Rc<Stored>>, documents: Vec<Rc<Stored>>
     replaced
 }
 
-// The same for one document.
+// Puts one document at its place, for which there is room, and answers how many bytes the text has that is replaced: 0
+// where none is.
 fn place_in_room(stored: &mut Vec<Rc<Stored>>, document: Rc<Stored>) -> u64
     requires ascend { Ascend (stored_documents stored.old.items) }
     requires room { vec_len stored.old < vec_capacity stored.old }

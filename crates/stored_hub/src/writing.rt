@@ -46,7 +46,7 @@ pub(crate) fn write_change<D: DocumentStore>(
     }
 }
 
-// The same, where the digest of the key is there.
+// Writes what the reply to the tenant with this key changed, as the hub now has it. `tenant` is the digest of the key.
 fn write_reply<D: DocumentStore>(
     store: &mut D,
     hub: &Hub,
@@ -111,7 +111,7 @@ fn write_document<D: DocumentStore>(
     }
 }
 
-// The same, where no row has its URI yet.
+// Writes the document that the tenant has under this canonical URI, where no row of the tenant has that URI yet.
 fn write_new<D: DocumentStore>(
     store: &mut D,
     hub: &Hub,

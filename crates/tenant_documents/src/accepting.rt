@@ -31,7 +31,7 @@ pub(crate) fn accept(
     Stored::of(alloc, cache, &split(base.as_str()), document)
 }
 
-// The same of a document that was read.
+// The document that was read, taken to stand under the URI, scanned and with its patterns built.
 pub(crate) fn accept_document(
     alloc: Global,
     cache: &mut Cache,

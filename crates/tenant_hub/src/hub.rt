@@ -66,7 +66,8 @@ impl Hub {
         }
     }
 
-    /// The same over a library, which a batch gives: its documents are seen by every tenant, and no request changes them.
+    /// A registry without documents for each tenant, over a library, which a batch gives: its documents are seen by every tenant,
+    /// and no request changes them.
     ///
     /// After the faults of [`Hub::new`] come those of the batch, the first of these: `TooLarge` above 1,048,576 bytes,
     /// `BadJson`, `BadNumber`, `BadBatch`; of each entry in turn `BadUri`, those of a scan and `BadPattern`; `SameDocument`

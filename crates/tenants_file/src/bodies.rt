@@ -23,7 +23,7 @@ pub fn read_body(alloc: Global, body: &[u8]) -> Result<Doc, Fault>
     read_body_with(alloc, &mut scratch, body)
 }
 
-/// The same as [`read_body`], in memory that is kept from one body to the next.
+/// Reads the body of a request as [`read_body`] does, with the same faults, in memory that is kept from one body to the next.
 pub fn read_body_with(alloc: Global, scratch: &mut Scratch, body: &[u8]) -> Result<Doc, Fault>
     ensures ok { IfOk result (λ d. body_value body.now ≡ Ok (value d)) }
     ensures err { IfErr result (λ f. f ≢ Fault.NoRoom → body_value body.now ≡ Err (fault_view f)) }

@@ -26,7 +26,7 @@ abbrev pub is_toward : ℕ → ℕ → Bool → Text → Bool
 is_toward position bound below text =
     if below then nat_lt (place_value text position) bound else not (nat_lt (place_value text position) bound)
 
--- the same of the text of a number
+-- the text of this number stands on that side of the bound at the position: below it, or not below it
 abbrev pub is_side : List Text → ℕ → ℕ → Bool → ℕ → Bool
 is_side texts position bound below number =
     if below then is_below texts position bound number else is_rest texts position bound number

@@ -17,7 +17,7 @@ struct Sides {
     rest: Vec<usize>,
 }
 
-/// The same: those of the smaller side, and those of the other one.
+/// Numbers of texts on both sides of a division, told by which side is the smaller one: its numbers, and those of the other side.
 #[derive(Drop)]
 struct Divided {
     /// Whether the smaller side is that below the bound.

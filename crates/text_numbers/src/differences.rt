@@ -80,7 +80,8 @@ fn bound_at(texts: &[&str], numbers: &[usize], position: usize) -> Option<u16>
     }
 }
 
-// The same, of few texts: what the middle one has, where another has less, and otherwise the next above it.
+// A bound that divides the texts of these numbers at the position, where they don't agree there: what the middle one has, where
+// another has less, and otherwise the next above it.
 fn middle_bound(texts: &[&str], numbers: &[usize], position: usize) -> Option<u16>
     ensures below { IfSome result (λ bound.
         list_any (is_below (map (λ t. t.now) texts.now) position bound) numbers.now ≡ true) }

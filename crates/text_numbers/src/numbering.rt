@@ -25,7 +25,8 @@ impl TextNumbers {
         TextNumbers::of_borrowed(alloc, &borrowed)
     }
 
-    /// The same of texts that stand elsewhere, none of which is copied.
+    /// The numbers of these texts, by their place. They stand elsewhere, and none of them is copied. The only error is want of
+    /// memory.
     pub fn of_borrowed(alloc: Global, texts: &[&str]) -> Result<TextNumbers, AllocError>
         ensures { IfOk result (λ numbers. AreNumbers numbers (map (λ t. t.now) texts.now)) }
     {
@@ -42,7 +43,8 @@ impl TextNumbers {
         self.tree.leaf(text).number
     }
 
-    /// The same, where no other text has the same bytes in the places that are looked at. This takes no memory.
+    /// The number of this text, as [`TextNumbers::number`] tells it, where one alone of those that were numbered has the same
+    /// bytes in the places that are looked at. This takes no memory.
     pub fn only_number(&self, text: &str) -> Option<usize>
         ensures { IfSome result
             (λ n. (n ≡ text_number self.now text.now) × (is_only self.now text.now ≡ true)) }
@@ -52,7 +54,7 @@ impl TextNumbers {
     }
 }
 
-// The same texts, borrowed.
+// These texts, each of which is borrowed.
 fn borrowed(alloc: Global, texts: &[String]) -> Result<Vec<&str>, AllocError>
     ensures { IfOk result (λ ts. map (λ t. t.now) ts.items ≡ map string_bytes texts.now) }
 {

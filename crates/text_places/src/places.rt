@@ -118,7 +118,8 @@ pub fn position_of_location(
     }
 }
 
-// The same, with what the text or the location is refused for.
+// The position of the value at a location in a JSON text; none where the text has none there. The error is what the text or the
+// location is refused for.
 fn position_in(alloc: Global, bytes: &[u8], location: &str) -> Result<Option<Position>, Fault>
     ensures { IfOk result (λ p. IfSome p (IsPositionOf bytes.now location.now)) }
 {

@@ -69,7 +69,7 @@ impl<'a> Parts<'a> {
         self.fragment
     }
 
-    /// The same parts without a fragment.
+    /// These parts, without the fragment if there is one.
     pub fn without_fragment(&self) -> Parts<'a>
         ensures { result ≡ record self.now { fragment = None } }
     {

@@ -29,7 +29,8 @@ pub(crate) fn push_escaped(
     push_escapes(out, memory, lead, text)
 }
 
-// The same of a text that may have escapes. It is called apart, since few texts have any.
+// Appends a text that may have escapes as it stands in a string, behind what leads it, by way of the memory. The only error is
+// want of memory. It is called apart, since few texts have any.
 #[inline(never)]
 fn push_escapes(
     out: &mut TextBuffer,
@@ -89,7 +90,7 @@ pub(crate) fn are_unescaped(bytes: &[u8]) -> bool
     }
 }
 
-// The same of N bytes and more, of which the last N may be looked at twice. It is inlined for its size.
+// Whether N bytes or more surely stand in a string as they are. The last N may be looked at twice. It is inlined for its size.
 fn are_many_unescaped<const N: usize>(bytes: &[u8]) -> bool
     requires { (0 < N) × (N ≤ 64) × (N ≤ length bytes.now) }
     ensures { OnTrue result (PlainBetween bytes.now 0 (length bytes.now)) }

@@ -189,7 +189,7 @@ impl StepBuffer {
         }
     }
 
-    // The same of a member's name.
+    // Appends the text of a member's name: whether it is plain.
     #[inline(always)]
     fn push_name(&mut self, notation: Notation, name: &str) -> Result<bool, AllocError>
         ensures { IfOk result (λ plain. IsPushed notation name.now plain
@@ -204,7 +204,7 @@ impl StepBuffer {
         Ok(false)
     }
 
-    // The same of a name that isn't plain, whose mark this is. It is called apart, since few are such.
+    // Appends the text of a name that isn't plain, whose mark this is. It is called apart, since few are such.
     #[inline(never)]
     fn push_other_name(
         &mut self,

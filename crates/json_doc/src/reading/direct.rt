@@ -186,7 +186,7 @@ fn negative_from(digits: &[u8]) -> Option<Whole>
     }
 }
 
-// The same with any number of digits.
+// The number that a token without a minus spells, however many digits it has, if it is whole and 64 bits hold it.
 #[cold]
 #[inline(never)]
 fn long_positive_from(digits: &[u8]) -> Option<Whole>

@@ -67,7 +67,8 @@ fn plan_matched<'a>(
     Ok(())
 }
 
-// The same of patterns with their numbers.
+// Plans the schemas under the patterns that match the name of one of these members, at that member. The patterns have
+// their numbers.
 fn plan_numbered<'a>(
     planned: &mut Vec<Planned<'a>>,
     searches: &mut Searches<'a>,

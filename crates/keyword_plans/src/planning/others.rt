@@ -39,7 +39,7 @@ struct PropertyKeywords<'a> {
     resource: &'a str,
 }
 
-// The same, the patterns with their numbers.
+// The keywords beside `additionalProperties` that take members, where the patterns have their numbers.
 #[derive(Clone, Copy)]
 struct Takers<'s, 'a> {
     properties: Option<&'a Members>,

@@ -34,8 +34,8 @@ fn resource(alloc: Global, uri: &str, letter: &str, keyword: &str) -> Result<Str
     )?)
 }
 
-// The answer to these rows of three resources: two have a dynamic reference to an anchor of their own, and the third refers to the
-// first one, so that its own anchor is the outermost there (JSON Schema 2020-12 Core, 8.2.3.2).
+// The answer to these rows of three resources: two have a dynamic reference to an anchor of their own, and the third refers to
+// the first one, so that its own anchor is the outermost there (JSON Schema 2020-12 Core, 8.2.3.2).
 fn answer_to(alloc: Global, uri: &str, last: &str) -> Result<String, Fault> {
     let dynamic = r##""$dynamicRef":"#n""##;
     let one = resource(alloc, uri, "a", dynamic)?;

@@ -256,8 +256,16 @@ const PAIR: &[(&str, &str)] = &[(
     r#"{"prefixItems":[{"minimum":2}],"unevaluatedItems":{"maximum":1}}"#,
 )];
 
-// How many elements the instances have: the output of the longest takes more than is kept.
-const LENGTHS: &[usize] = &[3, 300, 1, 10_000, 2, 0, 3];
+// Why an instance comes there, and how many elements it has.
+const LENGTHS: &[(&str, usize)] = &[
+    ("nothing was evaluated before", 3),
+    ("a longer output takes more than the one before", 300),
+    ("no error is left of the 299 before", 1),
+    ("the longest output takes more than is kept", 10_000),
+    ("a short output comes behind one that wasn't kept", 2),
+    ("an empty array has no element to judge", 0),
+    ("the answer is that of the first instance", 3),
+];
 
 // Whether the answer in kept memory is the one in new memory, and as it should be.
 fn is_as_new(
@@ -274,12 +282,9 @@ fn is_as_new(
 
 fn expect_as_new(rt: &impl Abort, alloc: Global, linked: &Linked) {
     let mut memory = EvaluationMemory::new(alloc);
-    for length in LENGTHS {
-        expect_holds(
-            rt,
-            is_as_new(alloc, linked, &mut memory, *length),
-            "what was evaluated before changes no answer",
-        );
+    for row in LENGTHS {
+        let (why, length) = *row;
+        expect_holds(rt, is_as_new(alloc, linked, &mut memory, length), why);
     }
 }
 

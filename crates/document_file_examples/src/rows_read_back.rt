@@ -12,21 +12,64 @@ use std::io;
 use std::process::Abort;
 use stored_rows::{DocumentStore, RowRef, StoreFault};
 
-// What is put, or deleted where there is no text: tenant, URI, base and text. Then the rows.
-const CHANGES: &[(&str, &str, &str, &str)] = &[
-    ("b", "https://ex.org/s", "https://ex.org/s", "{}"),
-    ("b", "https://ex.org/a", "https://ex.org/x", "true"),
-    ("a", "https://ex.org/s", "https://ex.org/s", "false"),
-    (
-        "b",
-        "https://ex.org/s",
-        "https://ex.org/x",
-        r#"{"type":"string"}"#,
-    ),
-    ("b", "https://ex.org/s/t", "", "{}"),
-    ("a", "https://ex.org/t", "https://ex.org/t", "{}"),
-    ("a", "https://ex.org/t", "", ""),
-    ("a", "https://ex.org/u", "", ""),
+// What is put, or deleted where there is no text, and why. Then the rows.
+const CHANGES: &[RowRef<'static>] = &[
+    // A first row, which a later one replaces.
+    RowRef {
+        tenant: "b",
+        uri: "https://ex.org/s",
+        base: "https://ex.org/s",
+        text: "{}",
+    },
+    // By its URI it stands before the first one.
+    RowRef {
+        tenant: "b",
+        uri: "https://ex.org/a",
+        base: "https://ex.org/x",
+        text: "true",
+    },
+    // By its tenant it stands before both, under a URI that both tenants have.
+    RowRef {
+        tenant: "a",
+        uri: "https://ex.org/s",
+        base: "https://ex.org/s",
+        text: "false",
+    },
+    // It replaces base and text of the first one.
+    RowRef {
+        tenant: "b",
+        uri: "https://ex.org/s",
+        base: "https://ex.org/x",
+        text: r#"{"type":"string"}"#,
+    },
+    // Its URI goes on from another one, and its base is empty.
+    RowRef {
+        tenant: "b",
+        uri: "https://ex.org/s/t",
+        base: "",
+        text: "{}",
+    },
+    // A row that doesn't stay.
+    RowRef {
+        tenant: "a",
+        uri: "https://ex.org/t",
+        base: "https://ex.org/t",
+        text: "{}",
+    },
+    // It is deleted.
+    RowRef {
+        tenant: "a",
+        uri: "https://ex.org/t",
+        base: "",
+        text: "",
+    },
+    // Where there is no row, a delete changes nothing.
+    RowRef {
+        tenant: "a",
+        uri: "https://ex.org/u",
+        base: "",
+        text: "",
+    },
 ];
 
 const ROWS: &str = r#"a https://ex.org/s https://ex.org/s false
@@ -78,20 +121,11 @@ const OPENINGS: &[Opening] = &[
     },
 ];
 
-fn change<D: DocumentStore>(
-    store: &mut D,
-    row: &(&str, &str, &str, &str),
-) -> Result<(), StoreFault> {
-    let (tenant, uri, base, text) = *row;
-    if text.is_empty() {
-        store.delete(tenant, uri)
+fn change<D: DocumentStore>(store: &mut D, row: &RowRef<'_>) -> Result<(), StoreFault> {
+    if row.text.is_empty() {
+        store.delete(row.tenant, row.uri)
     } else {
-        store.put(RowRef {
-            tenant,
-            uri,
-            base,
-            text,
-        })
+        store.put(*row)
     }
 }
 

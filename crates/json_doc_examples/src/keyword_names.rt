@@ -92,11 +92,20 @@ fn has_its_values(doc: &Doc) -> bool {
         && doc.keyword_value(Keyword::MaxItems).is_none()
 }
 
-// Few members, and more than are gone through one by one.
-const OBJECTS: &[&str] = &[
-    r#"{"minItems":1,"type":"array"}"#,
-    r#"{"aminItems":0,"minItems":1,"minItemsa":2,"title":"type","type":"array"}"#,
-    r#"{"a":0,"b":0,"c":0,"d":0,"e":0,"f":0,"g":0,"h":0,"i":0,"j":0,"k":0,"l":0,"m":0,"minItems":1,"n":0,"o":0,"p":0,"type":"array"}"#,
+// Why both keywords are found in an object, and the object.
+const OBJECTS: &[(&str, &str)] = &[
+    (
+        "the first name is a keyword's, and so is the last",
+        r#"{"minItems":1,"type":"array"}"#,
+    ),
+    (
+        "names that have a keyword's within them are others, and a value is no name",
+        r#"{"aminItems":0,"minItems":1,"minItemsa":2,"title":"type","type":"array"}"#,
+    ),
+    (
+        "more members than are gone through one by one are searched by their order",
+        r#"{"a":0,"b":0,"c":0,"d":0,"e":0,"f":0,"g":0,"h":0,"i":0,"j":0,"k":0,"l":0,"m":0,"minItems":1,"n":0,"o":0,"p":0,"type":"array"}"#,
+    ),
 ];
 
 // Whether each position gives the value that the search gives.
@@ -121,10 +130,15 @@ fn are_found_in_copies(alloc: Global, text: &str) -> Result<bool, Fault> {
     Ok(are_found(&doc) && are_found(&copied))
 }
 
+fn expect_found(rt: &impl Abort, alloc: Global, row: &(&str, &str)) {
+    let (why, text) = *row;
+    expect_holds(rt, are_found_in_copies(alloc, text), why);
+}
+
 #[test]
 fn keywords_values_are_found_from_everywhere(rt: HostRuntime) {
-    for text in OBJECTS {
-        expect_holds(&rt, are_found_in_copies(rt.alloc(), text), text);
+    for row in OBJECTS {
+        expect_found(&rt, rt.alloc(), row);
     }
     assert!(rt; Doc::Null.keyword_value(Keyword::Type).is_none());
     assert!(rt; Doc::Null.keyword_value_near(Keyword::Type, 0).is_none());

@@ -31,8 +31,11 @@ fn object(alloc: Global, others: u64) -> Result<Doc, Fault> {
     Ok(Doc::Dict(members))
 }
 
-// Few members, and more than are gone through one by one.
-const OTHERS: &[u64] = &[0, 20];
+// Why all names are found beside so many others, and how many.
+const OTHERS: &[(&str, u64)] = &[
+    ("few members are gone through one by one", 0),
+    ("more members than that are searched by their order", 20),
+];
 
 fn is_found(doc: &Doc, name: &str) -> bool {
     match ShortText::of(name) {
@@ -61,10 +64,15 @@ fn are_found_among(alloc: Global, others: u64) -> Result<bool, Fault> {
     Ok(are_all_found(&doc) && is_absent(&doc) && is_absent(&Doc::Int(Whole::of(1))))
 }
 
+fn expect_found(rt: &impl Abort, alloc: Global, row: &(&str, u64)) {
+    let (why, others) = *row;
+    expect_holds(rt, are_found_among(alloc, others), why);
+}
+
 #[test]
 fn members_are_found_by_short_texts(rt: HostRuntime) {
-    for others in OTHERS {
-        expect_holds(&rt, are_found_among(rt.alloc(), *others), "all names");
+    for row in OTHERS {
+        expect_found(&rt, rt.alloc(), row);
     }
 }
 

@@ -177,10 +177,30 @@ fn are_told(alloc: Global, length: u64) -> Result<bool, Fault> {
     )
 }
 
+// Why lists of a length are told so, and the length.
+const LENGTHS: &[(&str, u64)] = &[
+    ("one element alone is no other's equal", 1),
+    ("15 elements are few enough to compare each two", 15),
+    (
+        "16 elements are the most of which each two are compared",
+        16,
+    ),
+    (
+        "17 elements are sorted, and then neighbours are compared",
+        17,
+    ),
+    ("longer lists are sorted, too", 40),
+];
+
+fn expect_length(rt: &impl Abort, alloc: Global, row: &(&str, u64)) {
+    let (why, length) = *row;
+    expect_holds(rt, are_told(alloc, length), why);
+}
+
 #[test]
 fn short_and_long_lists_are_told_alike(rt: HostRuntime) {
-    for length in &[1_u64, 15, 16, 17, 40] {
-        expect_holds(&rt, are_told(rt.alloc(), *length), "a length");
+    for row in LENGTHS {
+        expect_length(&rt, rt.alloc(), row);
     }
 }
 

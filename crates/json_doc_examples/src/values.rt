@@ -66,15 +66,33 @@ fn a_value_tells_its_texts(rt: HostRuntime) {
     expect_holds(&rt, tells_its_texts(rt.alloc()), "a text and an object");
 }
 
-// Texts in byte order: those of 24 bytes are the longest that stand in the value itself.
-const TEXTS: &[&str] = &[
-    "",
-    "abcdefghijklmnopqrstuvw",
-    "abcdefghijklmnopqrstuvwx",
-    "abcdefghijklmnopqrstuvwxy",
-    "abcdefghijklmnopqrstuvwxyz",
-    "ääääääääääää",
-    "äääääääääääää",
+// Why a text is here, and the text, in byte order.
+const TEXTS: &[(&str, &str)] = &[
+    ("the empty text comes before all others", ""),
+    (
+        "a text of 23 bytes stands in the value itself",
+        "abcdefghijklmnopqrstuvw",
+    ),
+    (
+        "24 bytes are the most that stand in the value itself",
+        "abcdefghijklmnopqrstuvwx",
+    ),
+    (
+        "a text of 25 bytes doesn't stand in the value itself",
+        "abcdefghijklmnopqrstuvwxy",
+    ),
+    (
+        "a text comes behind the one that it goes on from",
+        "abcdefghijklmnopqrstuvwxyz",
+    ),
+    (
+        "12 characters of two bytes each are 24 bytes",
+        "ääääääääääää",
+    ),
+    (
+        "13 characters of two bytes each are more than 24 bytes",
+        "äääääääääääää",
+    ),
 ];
 
 fn is_short_or_long(alloc: Global, text: &str) -> Result<bool, Fault> {
@@ -94,10 +112,15 @@ fn is_kept(alloc: Global, doc: &Doc) -> Result<bool, Fault> {
     Ok(same(&again, doc) && same(&copied, doc))
 }
 
+fn expect_short_or_long(rt: &impl Abort, alloc: Global, row: &(&str, &str)) {
+    let (why, text) = *row;
+    expect_holds(rt, is_short_or_long(alloc, text), why);
+}
+
 #[test]
 fn texts_and_names_are_short_or_long(rt: HostRuntime) {
-    for text in TEXTS {
-        expect_holds(&rt, is_short_or_long(rt.alloc(), text), text);
+    for row in TEXTS {
+        expect_short_or_long(&rt, rt.alloc(), row);
     }
 }
 
@@ -113,20 +136,18 @@ fn stands_so(
     Ok(is_same && compare(&string, &other) == places.0.cmp(&places.1))
 }
 
-fn expect_among(rt: &impl Abort, alloc: Global, place: usize, text: &str) {
+fn expect_among(rt: &impl Abort, alloc: Global, place: usize, row: &(&str, &str)) {
+    let (why, text) = *row;
     for (other_place, other) in TEXTS.iter().enumerate() {
-        expect_holds(
-            rt,
-            stands_so(alloc, (place, other_place), text, other),
-            text,
-        );
+        let places = (place, other_place);
+        expect_holds(rt, stands_so(alloc, places, text, other.1), why);
     }
 }
 
 #[test]
 fn short_texts_stand_among_long_ones(rt: HostRuntime) {
-    for (place, text) in TEXTS.iter().enumerate() {
-        expect_among(&rt, rt.alloc(), place, text);
+    for (place, row) in TEXTS.iter().enumerate() {
+        expect_among(&rt, rt.alloc(), place, row);
     }
 }
 

@@ -10,53 +10,69 @@ fn found(alloc: Global, schema: &str) -> Result<Findings, Fault> {
     Ok(look_over(alloc, &read(alloc, schema.as_bytes())?, false)?)
 }
 
-// A schema, and its warnings with `; ` between them.
-const WARNINGS: &[(&str, &str)] = &[
+// Why a schema has its warnings, the schema, and the warnings with `; ` between them.
+const WARNINGS: &[(&str, &str, &str)] = &[
     (
+        "two letters of a keyword are exchanged",
         r#"{"requried":["a"]}"#,
         "/requried: requried is no keyword; did you mean required?",
     ),
     (
+        "a property's name is its own, and the names in its schema are looked at",
         r#"{"properties":{"requried":{"tpye":"string"}}}"#,
         "/properties/requried/tpye: tpye is no keyword; did you mean type?",
     ),
     (
+        "a long name may be two edits away from a keyword's",
         r#"{"additionalPropertys":false}"#,
         "/additionalPropertys: additionalPropertys is no keyword; did you mean additionalProperties?",
     ),
     (
+        "`ref` lacks its `$`, `x-` begins one's own names, and the others look like none",
         r#"{"ref":"a","x-type":1,"notes":1,"summary":2}"#,
         "/ref: ref is no keyword; did you mean $ref?",
     ),
-    // Nothing in values that are no schemas.
     (
+        "values of these keywords are no schemas (Validation, 6.1.2, 6.1.3, 9.2, 9.5)",
         r#"{"enum":[{"tpye":1}],"const":{"tpye":1},"default":{"tpye":1},"examples":[{"tpye":1}]}"#,
         "",
     ),
     (
+        "the standard has each of these names (Core, 8.3; Validation, 9)",
         r#"{"$comment":"a","title":"b","description":"c","readOnly":true,"deprecated":false}"#,
         "",
     ),
     (
+        "each element of `allOf` is a schema (Core, 10.2.1.1)",
         r#"{"allOf":[{},{"a/b":1,"formt":"date"}]}"#,
         "/allOf/1/formt: formt is no keyword; did you mean format?",
     ),
     (
+        "`format` may annotate alone (Validation, 7.2.1)",
         r#"{"items":{"format":"date"}}"#,
         "/items/format: format annotates, and asserts nothing here",
     ),
     (
-        "{\"dependencies\":{},\"$recursiveRef\":\"#\",\"id\":\"a\"}",
+        "older drafts had each of these keywords, and they are told in byte order",
+        r##"{"dependencies":{},"$recursiveRef":"#","id":"a"}"##,
         "/$recursiveRef: $recursiveRef is of an older draft, and not looked at; write $dynamicRef; /dependencies: dependencies is of an older draft, and not looked at; write dependentRequired or dependentSchemas; /id: id is of an older draft, and not looked at; write $id",
     ),
-    (r#"{"id":7}"#, ""),
+    ("the `id` of older drafts was a text", r#"{"id":7}"#, ""),
     (
+        "nothing refers into `definitions`, and `~0` is a tilde (RFC 6901, 4)",
         r#"{"definitions":{"a~b":{"nto":{}}}}"#,
         "/definitions: definitions is $defs by now, and nothing here refers into it; /definitions/a~0b/nto: nto is no keyword; did you mean not?",
     ),
-    // What has a name can be referred to.
-    (r#"{"definitions":{"a":{"$anchor":"a"}}}"#, ""),
-    (r#"{"definitions":{"a":{"$id":"https://ex.org/a"}}}"#, ""),
+    (
+        "what has an anchor may be referred to by it (Core, 8.2.2)",
+        r#"{"definitions":{"a":{"$anchor":"a"}}}"#,
+        "",
+    ),
+    (
+        "what has an `$id` may be referred to by its URI (Core, 8.2.1)",
+        r#"{"definitions":{"a":{"$id":"https://ex.org/a"}}}"#,
+        "",
+    ),
 ];
 
 fn push_hint(alloc: Global, text: &mut String, hint: &Hint) -> Result<(), Fault> {
@@ -76,9 +92,9 @@ fn warnings(alloc: Global, schema: &str) -> Result<String, Fault> {
     Ok(text)
 }
 
-fn expect_warnings(rt: &impl Abort, alloc: Global, row: &(&str, &str)) {
-    let (schema, wanted) = *row;
-    expect_told(rt, alloc, warnings(alloc, schema), wanted, schema);
+fn expect_warnings(rt: &impl Abort, alloc: Global, row: &(&str, &str, &str)) {
+    let (why, schema, wanted) = *row;
+    expect_told(rt, alloc, warnings(alloc, schema), wanted, why);
 }
 
 #[test]

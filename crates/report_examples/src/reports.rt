@@ -13,8 +13,16 @@ use std::process::Abort;
 const OUTPUT: &str =
     r##"{"errors":[{"absoluteKeywordLocation":"https://ex.org/order#/required","error":"required is not met","instanceLocation":"","keywordLocation":"/required"},{"absoluteKeywordLocation":"https://ex.org/order#/properties","error":"properties is not met","instanceLocation":"","keywordLocation":"/properties"},{"absoluteKeywordLocation":"https://ex.org/order#/properties/lines/items","error":"items is not met","instanceLocation":"/lines","keywordLocation":"/properties/lines/items"},{"absoluteKeywordLocation":"https://ex.org/order#/properties/lines/items/$ref","error":"$ref is not met","instanceLocation":"/lines/0","keywordLocation":"/properties/lines/items/$ref"},{"absoluteKeywordLocation":"https://ex.org/line#/properties","error":"properties is not met","instanceLocation":"/lines/0","keywordLocation":"/properties/lines/items/$ref/properties"},{"absoluteKeywordLocation":"https://ex.org/line#/properties/price/type","error":"type is not met","instanceLocation":"/lines/0/price","keywordLocation":"/properties/lines/items/$ref/properties/price/type"},{"absoluteKeywordLocation":"https://ex.org/order#/additionalProperties","error":"additionalProperties is not met","instanceLocation":"","keywordLocation":"/additionalProperties"},{"absoluteKeywordLocation":"https://ex.org/order#/additionalProperties","error":"no value is allowed","instanceLocation":"/note","keywordLocation":"/additionalProperties"}],"valid":false}"##;
 
-const TEXT: &str =
-    "{\n  \"lines\": [\n    { \"price\": \"twelve\" }\n  ],\n  \"note\": [\n    1,\n    2\n  ]\n}\n";
+const TEXT: &str = r#"{
+  "lines": [
+    { "price": "twelve" }
+  ],
+  "note": [
+    1,
+    2
+  ]
+}
+"#;
 
 // The value of each keyword, wherever it stands.
 #[derive(Drop)]
@@ -45,16 +53,16 @@ fn told_by(
 }
 
 const CAUSES: &str =
-    "orders/7,a.json:1:1: (root): {\"lines\": [{ \"price\": \"twelve\" }],\"note\": [1,2]} lacks a member that is required
+    r#"orders/7,a.json:1:1: (root): {"lines": [{ "price": "twelve" }],"note": [1,2]} lacks a member that is required
     by /required
     at https://ex.org/order#/required
-orders/7,a.json:3:16: /lines/0/price: \"twelve\" is of another type than the schema allows
+orders/7,a.json:3:16: /lines/0/price: "twelve" is of another type than the schema allows
     by /properties/lines/items/$ref/properties/price/type
     at https://ex.org/line#/properties/price/type
 orders/7,a.json:5:11: /note: [1,2] is not allowed here
     by /additionalProperties
     at https://ex.org/order#/additionalProperties
-";
+"#;
 
 #[test]
 fn causes_are_told(rt: HostRuntime) {
@@ -63,7 +71,7 @@ fn causes_are_told(rt: HostRuntime) {
 }
 
 const FIRST_ANNOTATION: &str =
-    "::error file=orders/7%2Ca.json,line=40,col=1,title=required is not met::(root): {\"lines\": [{ \"price\": \"twelve\" }],\"note\": [1,2]} lacks a member that is required%0A    by /required%0A    at https://ex.org/order#/required";
+    r#"::error file=orders/7%2Ca.json,line=40,col=1,title=required is not met::(root): {"lines": [{ "price": "twelve" }],"note": [1,2]} lacks a member that is required%0A    by /required%0A    at https://ex.org/order#/required"#;
 
 const SECOND_ANNOTATION: &str =
     "::error file=orders/7%2Ca.json,line=42,col=16,title=type is not met::";
@@ -86,11 +94,11 @@ fn causes_are_annotations(rt: HostRuntime) {
     }
 }
 
-const VALID: &str = "{\"annotations\":[],\"valid\":true}";
+const VALID: &str = r#"{"annotations":[],"valid":true}"#;
 
 fn line_of_json(alloc: Global) -> Result<String, Fault> {
     let instance = Instance {
-        path: "a \"b\".json",
+        path: r#"a "b".json"#,
         line: Some(3),
         text: b"1",
     };
@@ -99,7 +107,7 @@ fn line_of_json(alloc: Global) -> Result<String, Fault> {
 
 #[test]
 fn lines_of_json_begin_with_the_instance(rt: HostRuntime) {
-    let wanted = "{\"instance\":\"a \\\"b\\\".json\",\"line\":3,\"annotations\":[],\"valid\":true}";
+    let wanted = r#"{"instance":"a \"b\".json","line":3,"annotations":[],"valid":true}"#;
     expect_told(
         &rt,
         rt.alloc(),
@@ -111,9 +119,8 @@ fn lines_of_json_begin_with_the_instance(rt: HostRuntime) {
 
 #[test]
 fn lines_of_json_tell_why_an_instance_is_refused(rt: HostRuntime) {
-    let wanted =
-        "{\"instance\":\"a,\\\"b\\\".json\",\"line\":3,\"refused\":\"25 BadUri \\\"x\\\"\"}";
-    let found = json_refusal(rt.alloc(), "a,\"b\".json", Some(3), "25 BadUri \"x\"");
+    let wanted = r#"{"instance":"a,\"b\".json","line":3,"refused":"25 BadUri \"x\""}"#;
+    let found = json_refusal(rt.alloc(), r#"a,"b".json"#, Some(3), r#"25 BadUri "x""#);
     expect_told(&rt, rt.alloc(), found, wanted, "a refused line");
 }
 
@@ -141,16 +148,16 @@ fn annotations_tell_why_an_instance_is_refused(rt: HostRuntime) {
 
 // With `["lines","id"]` as the value of each keyword.
 const WANTED: &str =
-    "orders/7,a.json:1:1: (root): {\"lines\": [{ \"price\": \"twelve\" }],\"note\": [1,2]} lacks a member that is required: \"id\"
+    r#"orders/7,a.json:1:1: (root): {"lines": [{ "price": "twelve" }],"note": [1,2]} lacks a member that is required: "id"
     by /required
     at https://ex.org/order#/required
-orders/7,a.json:3:16: /lines/0/price: \"twelve\" is of another type than the schema allows: [\"lines\",\"id\"]
+orders/7,a.json:3:16: /lines/0/price: "twelve" is of another type than the schema allows: ["lines","id"]
     by /properties/lines/items/$ref/properties/price/type
     at https://ex.org/line#/properties/price/type
 orders/7,a.json:5:11: /note: [1,2] is not allowed here
     by /additionalProperties
     at https://ex.org/order#/additionalProperties
-";
+"#;
 
 fn told_with_values(alloc: Global) -> Result<String, Fault> {
     let schemas = OneValue(Some(read(alloc, br#"["lines","id"]"#)?));

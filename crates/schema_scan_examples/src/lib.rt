@@ -11,6 +11,8 @@ mod expectations;
 #[cfg(test)]
 mod fragments;
 #[cfg(test)]
+mod letters_from_the_end;
+#[cfg(test)]
 mod pattern_limits;
 #[cfg(test)]
 mod pattern_matches;
@@ -28,7 +30,5 @@ mod resolution;
 mod resources;
 #[cfg(test)]
 mod scans;
-#[cfg(test)]
-mod searches_of_many_states;
 #[cfg(test)]
 mod shapes;

@@ -42,11 +42,11 @@ fn asked(
     answers: &mut Vec<Rc<Compiled>>,
     line: &Line,
 ) -> Result<String, Fault> {
-    if line.0.is_empty() {
+    if line.base.is_empty() {
         cache.clear();
         return Ok(format!(in alloc; "{} kept", cache.len())?);
     }
-    let document = compiled(alloc, cache, line.0, line.1)?;
+    let document = compiled(alloc, cache, line.base, line.document)?;
     let number = number(answers, document)?;
     Ok(format!(in alloc; "{number}, {} kept", cache.len())?)
 }
@@ -62,38 +62,146 @@ fn canonicals(alloc: Global, answers: &[Rc<Compiled>]) -> Result<String, Fault> 
 }
 
 // A base, a document, and the number of what is answered and how many are kept then, or the fault.
-type Line = (&'static str, &'static str, &'static str);
+struct Line {
+    why: &'static str,
+    base: &'static str,
+    document: &'static str,
+    wanted: &'static str,
+}
 
-const PUSHED_OUT: &[Line] = &[(A, "{}", "1, 1 kept"), (B, "{}", "2, 1 kept")];
+const PUSHED_OUT: &[Line] = &[
+    Line {
+        why: "a new document is compiled",
+        base: A,
+        document: "{}",
+        wanted: "1, 1 kept",
+    },
+    Line {
+        why: "the same text under another base is another document",
+        base: B,
+        document: "{}",
+        wanted: "2, 1 kept",
+    },
+];
 
 const CLEARED: &[Line] = &[
-    (A, "{}", "1, 1 kept"),
-    (B, "{}", "2, 2 kept"),
-    ("", "", "0 kept"),
-    (A, "{}", "3, 1 kept"),
+    Line {
+        why: "a new document is compiled",
+        base: A,
+        document: "{}",
+        wanted: "1, 1 kept",
+    },
+    Line {
+        why: "a cache of two has room for a second document",
+        base: B,
+        document: "{}",
+        wanted: "2, 2 kept",
+    },
+    Line {
+        why: "nothing is kept once the cache is cleared",
+        base: "",
+        document: "",
+        wanted: "0 kept",
+    },
+    Line {
+        why: "what was cleared is compiled anew",
+        base: A,
+        document: "{}",
+        wanted: "3, 1 kept",
+    },
 ];
 
 const REFUSED: &[Line] = &[
-    (B, "{}", "1, 1 kept"),
-    (B, r#"{"pattern":"(?=a)"}"#, "5 BadPattern"),
-    (B, "[]", "6 NotObject"),
-    (B, "{}", "1, 1 kept"),
+    Line {
+        why: "a new document is compiled",
+        base: B,
+        document: "{}",
+        wanted: "1, 1 kept",
+    },
+    Line {
+        why: "look-around is no part of the grammar (PROFILE.md, 5)",
+        base: B,
+        document: r#"{"pattern":"(?=a)"}"#,
+        wanted: "5 BadPattern",
+    },
+    Line {
+        why: "a document is an object (PROFILE.md, 6)",
+        base: B,
+        document: "[]",
+        wanted: "6 NotObject",
+    },
+    Line {
+        why: "the document before the refused ones is still kept",
+        base: B,
+        document: "{}",
+        wanted: "1, 1 kept",
+    },
 ];
 
 const LONGEST_AGO: &[Line] = &[
-    (A, r#"{"type":"string"}"#, "1, 1 kept"),
-    (A, r#"{"type":"integer"}"#, "2, 2 kept"),
-    (A, r#"{ "type" : "string" }"#, "1, 2 kept"),
-    (B, r#"{"type":"string"}"#, "3, 2 kept"),
-    (A, r#"{"type":"string"}"#, "1, 2 kept"),
-    (A, r#"{"type":"integer"}"#, "4, 2 kept"),
+    Line {
+        why: "a new document is compiled",
+        base: A,
+        document: r#"{"type":"string"}"#,
+        wanted: "1, 1 kept",
+    },
+    Line {
+        why: "another text under the same base is another document",
+        base: A,
+        document: r#"{"type":"integer"}"#,
+        wanted: "2, 2 kept",
+    },
+    Line {
+        why: "blanks make no other document",
+        base: A,
+        document: r#"{ "type" : "string" }"#,
+        wanted: "1, 2 kept",
+    },
+    Line {
+        why: "the integer's was asked for longest ago, and goes (LIMITS.md)",
+        base: B,
+        document: r#"{"type":"string"}"#,
+        wanted: "3, 2 kept",
+    },
+    Line {
+        why: "the string's was asked for later, and is still kept",
+        base: A,
+        document: r#"{"type":"string"}"#,
+        wanted: "1, 2 kept",
+    },
+    Line {
+        why: "what was pushed out is compiled anew",
+        base: A,
+        document: r#"{"type":"integer"}"#,
+        wanted: "4, 2 kept",
+    },
 ];
 
 const TOO_DEEP: &[Line] = &[
-    (A, r#"{"const":«119*[»«119*]»}"#, "1, 1 kept"),
-    (A, r#"{"const":«120*[»«120*]»}"#, "7 TooNested"),
-    (A, r#"{"const":«126*[»«126*]»}"#, "7 TooNested"),
-    (A, r#"{"const":«119*[»«119*]»}"#, "1, 1 kept"),
+    Line {
+        why: "119 arrays and their document nest 120 deep, which is the most (LIMITS.md)",
+        base: A,
+        document: r#"{"const":«119*[»«119*]»}"#,
+        wanted: "1, 1 kept",
+    },
+    Line {
+        why: "120 arrays and their document nest 121 deep (LIMITS.md)",
+        base: A,
+        document: r#"{"const":«120*[»«120*]»}"#,
+        wanted: "7 TooNested",
+    },
+    Line {
+        why: "a text that nests 127 deep is JSON, and too deep for a document (LIMITS.md)",
+        base: A,
+        document: r#"{"const":«126*[»«126*]»}"#,
+        wanted: "7 TooNested",
+    },
+    Line {
+        why: "the document before the refused ones is still kept",
+        base: A,
+        document: r#"{"const":«119*[»«119*]»}"#,
+        wanted: "1, 1 kept",
+    },
 ];
 
 // Why documents are answered so, a capacity, what is asked and answered, and the canonical URIs of all documents that were
@@ -139,7 +247,7 @@ fn expect_line(
     line: &Line,
 ) {
     let found = asked(alloc, cache, answers, line);
-    expect_like(rt, alloc, found, line.2, line.1);
+    expect_like(rt, alloc, found, line.wanted, line.why);
 }
 
 fn expect_cache(

@@ -168,38 +168,178 @@ fn streams_have_their_replies(rt: HostRuntime) {
 }
 
 const LAST_BYTES: &[Step] = &[
-    ("open", 1, "", "", false),
-    ("open", 2, "", "", false),
-    ("feed into", 1, PUT_FRONT, "", false),
-    ("feed into", 2, POST, NOT_FOUND, false),
-    ("feed into", 1, "}", STORED, false),
-    ("feed into", 2, POST, OUTPUT, false),
+    Step {
+        why: "a free id is opened",
+        kind: "open",
+        id: 1,
+        bytes: "",
+        wanted: "",
+        is_closed: false,
+    },
+    Step {
+        why: "a second id is opened beside the first",
+        kind: "open",
+        id: 2,
+        bytes: "",
+        wanted: "",
+        is_closed: false,
+    },
+    Step {
+        why: "a request without its last byte isn't answered",
+        kind: "feed into",
+        id: 1,
+        bytes: PUT_FRONT,
+        wanted: "",
+        is_closed: false,
+    },
+    Step {
+        why: "no document is stored before the request is whole",
+        kind: "feed into",
+        id: 2,
+        bytes: POST,
+        wanted: NOT_FOUND,
+        is_closed: false,
+    },
+    Step {
+        why: "the last byte makes the request whole",
+        kind: "feed into",
+        id: 1,
+        bytes: "}",
+        wanted: STORED,
+        is_closed: false,
+    },
+    Step {
+        why: "the document judges on the other connection, too",
+        kind: "feed into",
+        id: 2,
+        bytes: POST,
+        wanted: OUTPUT,
+        is_closed: false,
+    },
 ];
 
 // Nothing is applied behind a closing fault.
 const CLOSED: &[Step] = &[
-    ("open", 1, "", "", false),
-    ("feed", 1, "GET / HTTP/2.0\r\n\r\n", CLOSING, true),
-    ("feed", 1, PUT, "", true),
-    ("end", 1, "", "", true),
-    ("open", 1, "", "", false),
-    ("feed", 1, POST, NOT_FOUND, false),
+    Step {
+        why: "a free id is opened",
+        kind: "open",
+        id: 1,
+        bytes: "",
+        wanted: "",
+        is_closed: false,
+    },
+    Step {
+        why: "a version is HTTP/1.1 or HTTP/1.0 (RFC 9112, 2.3)",
+        kind: "feed",
+        id: 1,
+        bytes: "GET / HTTP/2.0\r\n\r\n",
+        wanted: CLOSING,
+        is_closed: true,
+    },
+    Step {
+        why: "behind a closing fault nothing is read (HTTP.md)",
+        kind: "feed",
+        id: 1,
+        bytes: PUT,
+        wanted: "",
+        is_closed: true,
+    },
+    Step {
+        why: "the end of a closed connection has no reply",
+        kind: "end",
+        id: 1,
+        bytes: "",
+        wanted: "",
+        is_closed: true,
+    },
+    Step {
+        why: "an id is free behind its end",
+        kind: "open",
+        id: 1,
+        bytes: "",
+        wanted: "",
+        is_closed: false,
+    },
+    Step {
+        why: "the put behind the closing fault has stored nothing (HTTP.md)",
+        kind: "feed",
+        id: 1,
+        bytes: POST,
+        wanted: NOT_FOUND,
+        is_closed: false,
+    },
 ];
 
 // An id is open until its end.
 const IDS: &[Step] = &[
-    ("open", 1, "", "", false),
-    ("open", 1, "", "31 IdInUse", false),
-    ("feed", 2, "x", "32 NoSession", true),
-    ("end", 2, "", "32 NoSession", true),
-    ("feed", 1, "", "", false),
+    Step {
+        why: "a free id is opened",
+        kind: "open",
+        id: 1,
+        bytes: "",
+        wanted: "",
+        is_closed: false,
+    },
+    Step {
+        why: "an open id isn't opened again (PROFILE.md, 31)",
+        kind: "open",
+        id: 1,
+        bytes: "",
+        wanted: "31 IdInUse",
+        is_closed: false,
+    },
+    Step {
+        why: "no connection of this id is open, so none is fed (PROFILE.md, 32)",
+        kind: "feed",
+        id: 2,
+        bytes: "x",
+        wanted: "32 NoSession",
+        is_closed: true,
+    },
+    Step {
+        why: "no connection of this id is open, so none ends (PROFILE.md, 32)",
+        kind: "end",
+        id: 2,
+        bytes: "",
+        wanted: "32 NoSession",
+        is_closed: true,
+    },
+    Step {
+        why: "the open connection is as it was, and no bytes have no reply",
+        kind: "feed",
+        id: 1,
+        bytes: "",
+        wanted: "",
+        is_closed: false,
+    },
 ];
 
 // A library's document judges at once.
 const OVER_A_LIBRARY: &[Step] = &[
-    ("open", 1, "", "", false),
-    ("feed", 1, POST, OUTPUT, false),
-    ("feed", 1, PUT, "HTTP/1.1 409 Conflict\r\n…", false),
+    Step {
+        why: "a free id is opened",
+        kind: "open",
+        id: 1,
+        bytes: "",
+        wanted: "",
+        is_closed: false,
+    },
+    Step {
+        why: "the library's document judges, without a put (HTTP.md)",
+        kind: "feed",
+        id: 1,
+        bytes: POST,
+        wanted: OUTPUT,
+        is_closed: false,
+    },
+    Step {
+        why: "a library's document is no tenant's to replace (PROFILE.md, 34)",
+        kind: "feed",
+        id: 1,
+        bytes: PUT,
+        wanted: "HTTP/1.1 409 Conflict\r\n…",
+        is_closed: false,
+    },
 ];
 
 fn expect_steps_of(

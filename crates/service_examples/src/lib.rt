@@ -29,6 +29,8 @@ mod new_servers;
 #[cfg(test)]
 mod own_registries;
 #[cfg(test)]
+mod refused_requests;
+#[cfg(test)]
 mod registries;
 #[cfg(test)]
 mod replied_bundles;

@@ -1,6 +1,6 @@
 //! Hubs over a fixed library, whose documents every tenant reaches and none owns.
 
-use crate::talks::{TWO_TENANTS, Talk, VALID, expect_talk, new_hub};
+use crate::talks::{Line, TWO_TENANTS, Talk, VALID, expect_talk, new_hub};
 use crate::texts::expect_like;
 use std::alloc::Global;
 use std::process::Abort;
@@ -12,26 +12,49 @@ const LIBRARY: &str =
 const TENANTS: &str =
     r#"{"tenants":[{"bytes":100,"documents":2,"key":"k1"},{"bytes":100,"documents":2,"key":"k2"}]}"#;
 
-const OWNED: &[(&str, &str, &str)] = &[
-    ("k1", "put https://ex.org/lib {}", "34 LibraryOwned"),
-    ("k1", "delete https://ex.org/lib", "34 LibraryOwned"),
-    (
-        "k1",
-        r#"batch {"put":[{"schema":{},"uri":"https://ex.org/t"},{"schema":{},"uri":"https://ex.org/lib"}]}"#,
-        "34 LibraryOwned",
-    ),
-    ("k1", "bundle https://ex.org/t", "14 NotFound"),
-    (
-        "k1",
-        r#"put https://ex.org/t {"$defs":{"e":{"$id":"lib"}}}"#,
-        "27 Taken https://ex.org/lib",
-    ),
-    (
-        "k1",
-        r#"batch {"put":[{"schema":{"$defs":{"e":{"$id":"lib"}}},"uri":"https://ex.org/t"}]}"#,
-        "27 Taken https://ex.org/lib",
-    ),
-    ("k2", "validate https://ex.org/lib 5", VALID),
+const OWNED: &[Line] = &[
+    Line {
+        why: "a library's document is no tenant's to replace (PROFILE.md, 34)",
+        key: "k1",
+        asks: "put https://ex.org/lib {}",
+        wanted: "34 LibraryOwned",
+    },
+    Line {
+        why: "a library's document is no tenant's to delete (PROFILE.md, 34)",
+        key: "k1",
+        asks: "delete https://ex.org/lib",
+        wanted: "34 LibraryOwned",
+    },
+    Line {
+        why: "no entry of a batch replaces a library's document, either (PROFILE.md, 34)",
+        key: "k1",
+        asks: r#"batch {"put":[{"schema":{},"uri":"https://ex.org/t"},{"schema":{},"uri":"https://ex.org/lib"}]}"#,
+        wanted: "34 LibraryOwned",
+    },
+    Line {
+        why: "nothing of the refused batch is stored (PROFILE.md, 14)",
+        key: "k1",
+        asks: "bundle https://ex.org/t",
+        wanted: "14 NotFound",
+    },
+    Line {
+        why: "a library's URI is taken for a resource within a document, too (PROFILE.md, 27)",
+        key: "k1",
+        asks: r#"put https://ex.org/t {"$defs":{"e":{"$id":"lib"}}}"#,
+        wanted: "27 Taken https://ex.org/lib",
+    },
+    Line {
+        why: "in a batch a library's URI is taken as well (PROFILE.md, 27)",
+        key: "k1",
+        asks: r#"batch {"put":[{"schema":{"$defs":{"e":{"$id":"lib"}}},"uri":"https://ex.org/t"}]}"#,
+        wanted: "27 Taken https://ex.org/lib",
+    },
+    Line {
+        why: "each tenant reaches the library's documents (HTTP.md)",
+        key: "k2",
+        asks: "validate https://ex.org/lib 5",
+        wanted: VALID,
+    },
 ];
 
 const NO_INTEGER: &str =
@@ -46,27 +69,55 @@ const BUNDLE_OF_LIB2: &str =
 const BUNDLE_OF_S: &str =
     r#"{"$defs":{"https://ex.org/lib":{"$id":"https://ex.org/lib","type":"integer"}},"$id":"https://ex.org/s","$ref":"lib"}"#;
 
-const REACHED: &[(&str, &str, &str)] = &[
-    (
-        "k1",
-        r#"put https://ex.org/s {"$ref":"lib"}"#,
-        "stored https://ex.org/s",
-    ),
-    (
-        "k1",
-        r#"put https://ex.org/own {"type":"string"}"#,
-        "stored https://ex.org/own",
-    ),
-    ("k1", r#"validate https://ex.org/s "x""#, NO_INTEGER),
-    ("k1", "validate https://ex.org/lib2 5", NO_STRING),
-    (
-        "k2",
-        "validate https://ex.org/lib2 5",
-        "15 Unresolved https://ex.org/own",
-    ),
-    ("k1", "bundle https://ex.org/lib2", BUNDLE_OF_LIB2),
-    ("k1", "bundle https://ex.org/s", BUNDLE_OF_S),
-    ("k1", "put https://ex.org/t {}", "28 QuotaDocuments"),
+const REACHED: &[Line] = &[
+    Line {
+        why: "a tenant's document may refer to the library's",
+        key: "k1",
+        asks: r#"put https://ex.org/s {"$ref":"lib"}"#,
+        wanted: "stored https://ex.org/s",
+    },
+    Line {
+        why: "a tenant may have the document that the library refers to",
+        key: "k1",
+        asks: r#"put https://ex.org/own {"type":"string"}"#,
+        wanted: "stored https://ex.org/own",
+    },
+    Line {
+        why: "`s` leads to `lib`, which asks for an integer (Validation, 6.1.1)",
+        key: "k1",
+        asks: r#"validate https://ex.org/s "x""#,
+        wanted: NO_INTEGER,
+    },
+    Line {
+        why: "`lib2` leads to the tenant's `own`, which asks for a string (Validation, 6.1.1)",
+        key: "k1",
+        asks: "validate https://ex.org/lib2 5",
+        wanted: NO_STRING,
+    },
+    Line {
+        why: "the other tenant has no `own`, which `lib2` refers to (PROFILE.md, 15)",
+        key: "k2",
+        asks: "validate https://ex.org/lib2 5",
+        wanted: "15 Unresolved https://ex.org/own",
+    },
+    Line {
+        why: "the bundle of a library's document holds the tenant's that it reaches",
+        key: "k1",
+        asks: "bundle https://ex.org/lib2",
+        wanted: BUNDLE_OF_LIB2,
+    },
+    Line {
+        why: "the bundle of a tenant's document holds the library's that it reaches",
+        key: "k1",
+        asks: "bundle https://ex.org/s",
+        wanted: BUNDLE_OF_S,
+    },
+    Line {
+        why: "two documents are the most, and the library's don't count (HTTP.md)",
+        key: "k1",
+        asks: "put https://ex.org/t {}",
+        wanted: "28 QuotaDocuments",
+    },
 ];
 
 const TALKS: &[Talk] = &[

@@ -10,27 +10,59 @@ const ROOM_FOR_A_THOUSAND: &str = r#"{"tenants":[{"bytes":1000000,"documents":10
 
 const MANY: u32 = 300;
 
-// What is asked for each document before the next line is, and what is told; `№` is the document's number.
-const LINES: &[(&str, &str)] = &[
+// Why a line is answered so, what is asked for each document before the next line is, and what is told; `№` is the
+// document's number.
+const LINES: &[(&str, &str, &str)] = &[
     (
+        "document № is new, with a resource inside",
         r#"put https://ex.org/№ {"$defs":{"e":{"$id":"e№"}},"const":№}"#,
         "stored https://ex.org/№",
     ),
-    ("validate https://ex.org/№ №", VALID),
     (
+        "№ equals the `const` of document № (Validation, 6.1.3)",
+        "validate https://ex.org/№ №",
+        VALID,
+    ),
+    (
+        "0 differs from the `const` of document № (Validation, 6.1.3)",
         "validate https://ex.org/№ 0",
         r#"{"errors":…"valid":false}"#,
     ),
-    ("validate https://ex.org/e№ 0", VALID),
     (
+        "the resource inside document № asks for nothing",
+        "validate https://ex.org/e№ 0",
+        VALID,
+    ),
+    (
+        "document № is replaced, by one without a resource inside",
         r#"put https://ex.org/№ {"maximum":№}"#,
         "replaced https://ex.org/№",
     ),
-    ("validate https://ex.org/№ 0", VALID),
-    ("validate https://ex.org/e№ 0", "14 NotFound"),
-    ("delete https://ex.org/№", "deleted https://ex.org/№"),
-    ("validate https://ex.org/№ 0", "14 NotFound"),
-    ("put https://ex.org/№ {}", "stored https://ex.org/№"),
+    (
+        "0 is at most the `maximum` of document № (Validation, 6.2.2)",
+        "validate https://ex.org/№ 0",
+        VALID,
+    ),
+    (
+        "the resource inside the old document № is gone (PROFILE.md, 14)",
+        "validate https://ex.org/e№ 0",
+        "14 NotFound",
+    ),
+    (
+        "document № is deleted",
+        "delete https://ex.org/№",
+        "deleted https://ex.org/№",
+    ),
+    (
+        "the deleted document № judges nothing (PROFILE.md, 14)",
+        "validate https://ex.org/№ 0",
+        "14 NotFound",
+    ),
+    (
+        "document № is new once more",
+        "put https://ex.org/№ {}",
+        "stored https://ex.org/№",
+    ),
 ];
 
 fn numbered(alloc: Global, text: &str, number: u32) -> Result<String, AllocError> {
@@ -38,22 +70,45 @@ fn numbered(alloc: Global, text: &str, number: u32) -> Result<String, AllocError
     text.replace(alloc, '№', number.as_str())
 }
 
-fn expect_asked(rt: &impl Abort, alloc: Global, hub: &mut Hub, asked: &str, wanted: &str) {
-    expect_like(rt, alloc, answered(alloc, hub, "k1", asked), wanted, asked);
+fn expect_asked(
+    rt: &impl Abort,
+    alloc: Global,
+    hub: &mut Hub,
+    why: &str,
+    asked: &str,
+    wanted: &str,
+) {
+    expect_like(rt, alloc, answered(alloc, hub, "k1", asked), wanted, why);
 }
 
-fn expect_numbered(rt: &impl Abort, alloc: Global, hub: &mut Hub, row: &(&str, &str), number: u32) {
-    let (asked, wanted) = *row;
+fn expect_numbered(
+    rt: &impl Abort,
+    alloc: Global,
+    hub: &mut Hub,
+    row: &(&str, &str, &str),
+    number: u32,
+) {
+    let (why, asked, wanted) = *row;
     match (
+        numbered(alloc, why, number),
         numbered(alloc, asked, number),
         numbered(alloc, wanted, number),
     ) {
-        (Ok(asked), Ok(wanted)) => expect_asked(rt, alloc, hub, asked.as_str(), wanted.as_str()),
+        (Ok(why), Ok(asked), Ok(wanted)) => {
+            expect_asked(
+                rt,
+                alloc,
+                hub,
+                why.as_str(),
+                asked.as_str(),
+                wanted.as_str(),
+            );
+        }
         _ => panic!(rt; "no room"),
     }
 }
 
-fn expect_line(rt: &impl Abort, alloc: Global, hub: &mut Hub, row: &(&str, &str)) {
+fn expect_line(rt: &impl Abort, alloc: Global, hub: &mut Hub, row: &(&str, &str, &str)) {
     for number in 1..=MANY {
         expect_numbered(rt, alloc, hub, row, number);
     }

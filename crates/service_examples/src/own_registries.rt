@@ -48,31 +48,68 @@ fn library(alloc: Global, batch: Option<&str>) -> Result<ListSource, Fault> {
 
 const LIBRARY: &str = r#"{"put":[{"schema":{"type":"integer"},"uri":"https://ex.org/lib"}]}"#;
 
-const OVER_A_LIBRARY: &[(&str, &str)] = &[
+// Why a registry answers so, what it is asked, and what it answers.
+type Line = (&'static str, &'static str, &'static str);
+
+const OVER_A_LIBRARY: &[Line] = &[
     (
+        "a document may refer to the library's",
         r#"put https://ex.org/s {"$ref":"lib"}"#,
         "stored https://ex.org/s",
     ),
     (
+        "a batch's document may refer to one that is stored",
         r#"batch {"put":[{"schema":{"$ref":"s"},"uri":"https://ex.org/t"}]}"#,
         "stored https://ex.org/t",
     ),
-    ("say https://ex.org/t", VALID),
-    ("delete https://ex.org/s", "deleted https://ex.org/s"),
-    ("say https://ex.org/t", "15 Unresolved https://ex.org/s"),
+    (
+        "5 is an integer, which the library's document asks for by way of `s`",
+        "say https://ex.org/t",
+        VALID,
+    ),
+    (
+        "a document may go that another one refers to",
+        "delete https://ex.org/s",
+        "deleted https://ex.org/s",
+    ),
+    (
+        "the reference to the deleted document has no target (PROFILE.md, 15)",
+        "say https://ex.org/t",
+        "15 Unresolved https://ex.org/s",
+    ),
 ];
 
-const CACHE_OF_TWO: &[(&str, &str)] = &[
-    ("len", "0"),
-    ("put https://ex.org/a {}", "stored https://ex.org/a"),
-    ("len", "1"),
-    ("put https://ex.org/b {}", "stored https://ex.org/b"),
-    ("len", "2"),
-    ("put https://ex.org/c {}", "stored https://ex.org/c"),
-    ("len", "2"),
+const CACHE_OF_TWO: &[Line] = &[
+    ("a new cache keeps no document", "len", "0"),
+    (
+        "a first document is stored",
+        "put https://ex.org/a {}",
+        "stored https://ex.org/a",
+    ),
+    ("the first document is kept compiled", "len", "1"),
+    (
+        "a second document is stored",
+        "put https://ex.org/b {}",
+        "stored https://ex.org/b",
+    ),
+    ("both documents are kept compiled", "len", "2"),
+    (
+        "a registry may have more documents than the cache keeps",
+        "put https://ex.org/c {}",
+        "stored https://ex.org/c",
+    ),
+    (
+        "a cache of two keeps two documents at most (LIMITS.md)",
+        "len",
+        "2",
+    ),
 ];
 
-const EMPTY_LIBRARY: &[(&str, &str)] = &[("say https://ex.org/lib", "14 NotFound")];
+const EMPTY_LIBRARY: &[Line] = &[(
+    "no document has the URI (PROFILE.md, 14)",
+    "say https://ex.org/lib",
+    "14 NotFound",
+)];
 
 /// A library, a cache's capacity, the most documents of the registry, and what it is asked and answers.
 struct Alone {
@@ -80,7 +117,7 @@ struct Alone {
     library: Option<&'static str>,
     capacity: usize,
     documents: u32,
-    lines: &'static [(&'static str, &'static str)],
+    lines: &'static [Line],
 }
 
 const REGISTRIES: &[Alone] = &[
@@ -112,15 +149,15 @@ fn expect_line(
     alloc: Global,
     registry: &mut Registry,
     cache: &mut Cache,
-    line: &(&str, &str),
+    line: &Line,
 ) {
-    let (text, wanted) = *line;
+    let (why, text, wanted) = *line;
     expect_like(
         rt,
         alloc,
         answered(alloc, registry, cache, text),
         wanted,
-        text,
+        why,
     );
     registry.kept();
 }
@@ -130,7 +167,7 @@ fn expect_lines(
     alloc: Global,
     registry: &mut Registry,
     cache: &mut Cache,
-    lines: &[(&str, &str)],
+    lines: &[Line],
 ) {
     for line in lines {
         expect_line(rt, alloc, registry, cache, line);

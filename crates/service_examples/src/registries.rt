@@ -1,231 +1,311 @@
-//! One tenant's registry: what is stored, replaced, deleted and refused.
+//! One tenant's registry: what is stored, replaced and deleted, and what it has no room for.
 
-use crate::talks::{SMALL_TENANT, TWO_TENANTS, Talk, VALID, expect_talk};
+use crate::talks::{Line, SMALL_TENANT, TWO_TENANTS, Talk, VALID, expect_talk};
 
 const NO_MATCH: &str =
     r#"{"errors":[{"absoluteKeywordLocation":"https://ex.org/s#/pattern","error":"pattern is not met","instanceLocation":"","keywordLocation":"/pattern"}],"valid":false}"#;
 
-const REFUSED_PUT: &[(&str, &str, &str)] = &[
-    (
-        "k1",
-        r#"put https://ex.org/s {"pattern":"a+"}"#,
-        "stored https://ex.org/s",
-    ),
-    ("k1", r#"validate https://ex.org/s "xaay""#, VALID),
-    (
-        "k1",
-        r#"put https://ex.org/s {"pattern":"(?=a)"}"#,
-        "5 BadPattern",
-    ),
-    ("k1", r#"validate https://ex.org/s "xaay""#, VALID),
-    ("k1", r#"validate https://ex.org/s "xy""#, NO_MATCH),
+const REFUSED_PUT: &[Line] = &[
+    Line {
+        why: "no document has the URI yet",
+        key: "k1",
+        asks: r#"put https://ex.org/s {"pattern":"a+"}"#,
+        wanted: "stored https://ex.org/s",
+    },
+    Line {
+        why: "`a+` matches within the text (Validation, 6.3.3)",
+        key: "k1",
+        asks: r#"validate https://ex.org/s "xaay""#,
+        wanted: VALID,
+    },
+    Line {
+        why: "look-around is no part of the grammar (PROFILE.md, 5)",
+        key: "k1",
+        asks: r#"put https://ex.org/s {"pattern":"(?=a)"}"#,
+        wanted: "5 BadPattern",
+    },
+    Line {
+        why: "`a+` matches as before the refused put",
+        key: "k1",
+        asks: r#"validate https://ex.org/s "xaay""#,
+        wanted: VALID,
+    },
+    Line {
+        why: "the text has no `a`, which the old pattern asks for (Validation, 6.3.3)",
+        key: "k1",
+        asks: r#"validate https://ex.org/s "xy""#,
+        wanted: NO_MATCH,
+    },
 ];
 
-const TAKEN: &[(&str, &str, &str)] = &[
-    ("k1", "put https://ex.org/x {}", "stored https://ex.org/x"),
-    (
-        "k1",
-        r#"put https://ex.org/y {"$defs":{"e":{"$id":"x"}}}"#,
-        "27 Taken https://ex.org/x",
-    ),
-    (
-        "k1",
-        r#"put https://ex.org/z {"$defs":{"e":{"$id":"w"}}}"#,
-        "stored https://ex.org/z",
-    ),
-    ("k1", "validate https://ex.org/w null", VALID),
-    ("k1", "put https://ex.org/w {}", "27 Taken https://ex.org/w"),
-    (
-        "k1",
-        r#"put https://ex.org/v {"$defs":{"a":{"$id":"z"},"b":{"$id":"x"},"c":{"$id":"w"}}}"#,
-        "27 Taken https://ex.org/w",
-    ),
-    ("k1", "bundle https://ex.org/w", "14 NotFound"),
-    ("k1", "delete https://ex.org/w", "14 NotFound"),
-    ("k1", "put https://ex.org/z {}", "replaced https://ex.org/z"),
-    ("k1", "validate https://ex.org/w null", "14 NotFound"),
-    ("k1", "put https://ex.org/w {}", "stored https://ex.org/w"),
+const TAKEN: &[Line] = &[
+    Line {
+        why: "no document has the URI yet",
+        key: "k1",
+        asks: "put https://ex.org/x {}",
+        wanted: "stored https://ex.org/x",
+    },
+    Line {
+        why: "`x` is another document's (PROFILE.md, 27)",
+        key: "k1",
+        asks: r#"put https://ex.org/y {"$defs":{"e":{"$id":"x"}}}"#,
+        wanted: "27 Taken https://ex.org/x",
+    },
+    Line {
+        why: "no document has a resource `w` yet",
+        key: "k1",
+        asks: r#"put https://ex.org/z {"$defs":{"e":{"$id":"w"}}}"#,
+        wanted: "stored https://ex.org/z",
+    },
+    Line {
+        why: "a resource inside a document judges by its own URI (HTTP.md)",
+        key: "k1",
+        asks: "validate https://ex.org/w null",
+        wanted: VALID,
+    },
+    Line {
+        why: "`w` is a resource inside `z` (PROFILE.md, 27)",
+        key: "k1",
+        asks: "put https://ex.org/w {}",
+        wanted: "27 Taken https://ex.org/w",
+    },
+    Line {
+        why: "of three URIs that are taken the least is told (PROFILE.md, 27)",
+        key: "k1",
+        asks: r#"put https://ex.org/v {"$defs":{"a":{"$id":"z"},"b":{"$id":"x"},"c":{"$id":"w"}}}"#,
+        wanted: "27 Taken https://ex.org/w",
+    },
+    Line {
+        why: "a bundle is of a whole document, and `w` is none (PROFILE.md, 14)",
+        key: "k1",
+        asks: "bundle https://ex.org/w",
+        wanted: "14 NotFound",
+    },
+    Line {
+        why: "a delete is of a whole document, and `w` is none (PROFILE.md, 14)",
+        key: "k1",
+        asks: "delete https://ex.org/w",
+        wanted: "14 NotFound",
+    },
+    Line {
+        why: "a document may take over the URI of the one that it replaces",
+        key: "k1",
+        asks: "put https://ex.org/z {}",
+        wanted: "replaced https://ex.org/z",
+    },
+    Line {
+        why: "with the old `z` the resource inside it is gone (PROFILE.md, 14)",
+        key: "k1",
+        asks: "validate https://ex.org/w null",
+        wanted: "14 NotFound",
+    },
+    Line {
+        why: "`w` is free again",
+        key: "k1",
+        asks: "put https://ex.org/w {}",
+        wanted: "stored https://ex.org/w",
+    },
 ];
 
-const REFERENCES: &[(&str, &str, &str)] = &[
-    (
-        "k1",
-        r#"put https://ex.org/s {"$defs":{"u":{"$ref":"q"},"v":{"$ref":"p"}}}"#,
-        "stored https://ex.org/s",
-    ),
-    (
-        "k1",
-        "validate https://ex.org/s null",
-        "15 Unresolved https://ex.org/p",
-    ),
-    (
-        "k1",
-        "bundle https://ex.org/s",
-        "15 Unresolved https://ex.org/p",
-    ),
-    ("k1", "put https://ex.org/p {}", "stored https://ex.org/p"),
-    (
-        "k1",
-        "validate https://ex.org/s null",
-        "15 Unresolved https://ex.org/q",
-    ),
-    ("k1", "put https://ex.org/q {}", "stored https://ex.org/q"),
-    ("k1", "validate https://ex.org/s null", VALID),
-    ("k1", "delete https://ex.org/p", "deleted https://ex.org/p"),
-    (
-        "k1",
-        "validate https://ex.org/s null",
-        "15 Unresolved https://ex.org/p",
-    ),
+const REFERENCES: &[Line] = &[
+    Line {
+        why: "a document may come before those that it refers to",
+        key: "k1",
+        asks: r#"put https://ex.org/s {"$defs":{"u":{"$ref":"q"},"v":{"$ref":"p"}}}"#,
+        wanted: "stored https://ex.org/s",
+    },
+    Line {
+        why: "of two references without a target the least is told (PROFILE.md, 15)",
+        key: "k1",
+        asks: "validate https://ex.org/s null",
+        wanted: "15 Unresolved https://ex.org/p",
+    },
+    Line {
+        why: "a bundle needs each target as a validation does (PROFILE.md, 15)",
+        key: "k1",
+        asks: "bundle https://ex.org/s",
+        wanted: "15 Unresolved https://ex.org/p",
+    },
+    Line {
+        why: "`p` is the target of one of the references",
+        key: "k1",
+        asks: "put https://ex.org/p {}",
+        wanted: "stored https://ex.org/p",
+    },
+    Line {
+        why: "the other reference is left without its target (PROFILE.md, 15)",
+        key: "k1",
+        asks: "validate https://ex.org/s null",
+        wanted: "15 Unresolved https://ex.org/q",
+    },
+    Line {
+        why: "`q` is the target of the other reference",
+        key: "k1",
+        asks: "put https://ex.org/q {}",
+        wanted: "stored https://ex.org/q",
+    },
+    Line {
+        why: "each reference has its target, and none is applied",
+        key: "k1",
+        asks: "validate https://ex.org/s null",
+        wanted: VALID,
+    },
+    Line {
+        why: "a document may go that another one refers to",
+        key: "k1",
+        asks: "delete https://ex.org/p",
+        wanted: "deleted https://ex.org/p",
+    },
+    Line {
+        why: "the reference to the deleted document has no target (PROFILE.md, 15)",
+        key: "k1",
+        asks: "validate https://ex.org/s null",
+        wanted: "15 Unresolved https://ex.org/p",
+    },
 ];
 
-const QUOTAS: &[(&str, &str, &str)] = &[
-    ("k1", "put https://ex.org/a {}", "stored https://ex.org/a"),
-    ("k1", "put https://ex.org/b {}", "28 QuotaDocuments"),
-    (
-        "k1",
-        r#"put https://ex.org/a {"type":"string"}"#,
-        "replaced https://ex.org/a",
-    ),
-    (
-        "k1",
-        r#"put https://ex.org/a {"minLength":10000000}"#,
-        "29 QuotaBytes",
-    ),
-    (
-        "k1",
-        r#"put https://ex.org/a {"minLength" : 100000}"#,
-        "replaced https://ex.org/a",
-    ),
-    ("k1", "delete https://ex.org/a", "deleted https://ex.org/a"),
-    ("k1", "delete https://ex.org/a", "14 NotFound"),
-    ("k1", "put https://ex.org/b {}", "stored https://ex.org/b"),
+const QUOTAS: &[Line] = &[
+    Line {
+        why: "one document of 2 bytes is within both quotas",
+        key: "k1",
+        asks: "put https://ex.org/a {}",
+        wanted: "stored https://ex.org/a",
+    },
+    Line {
+        why: "a second document is more than one (PROFILE.md, 28)",
+        key: "k1",
+        asks: "put https://ex.org/b {}",
+        wanted: "28 QuotaDocuments",
+    },
+    Line {
+        why: "a document that replaces another is none more, and 17 bytes are within 20",
+        key: "k1",
+        asks: r#"put https://ex.org/a {"type":"string"}"#,
+        wanted: "replaced https://ex.org/a",
+    },
+    Line {
+        why: "22 bytes are more than 20 (PROFILE.md, 29)",
+        key: "k1",
+        asks: r#"put https://ex.org/a {"minLength":10000000}"#,
+        wanted: "29 QuotaBytes",
+    },
+    Line {
+        why: "without its blanks the document has 20 bytes (HTTP.md)",
+        key: "k1",
+        asks: r#"put https://ex.org/a {"minLength" : 100000}"#,
+        wanted: "replaced https://ex.org/a",
+    },
+    Line {
+        why: "a document may be deleted where the quotas are used up",
+        key: "k1",
+        asks: "delete https://ex.org/a",
+        wanted: "deleted https://ex.org/a",
+    },
+    Line {
+        why: "the document is gone (PROFILE.md, 14)",
+        key: "k1",
+        asks: "delete https://ex.org/a",
+        wanted: "14 NotFound",
+    },
+    Line {
+        why: "a deleted document counts no more",
+        key: "k1",
+        asks: "put https://ex.org/b {}",
+        wanted: "stored https://ex.org/b",
+    },
 ];
 
-const URIS: &[(&str, &str, &str)] = &[
-    (
-        "k1",
-        "put https://ex.org/x/../a {}",
-        "stored https://ex.org/a",
-    ),
-    ("k1", "validate https://ex.org/./a null", VALID),
-    (
-        "k1",
-        "bundle https://ex.org/y/../a",
-        r#"{"$id":"https://ex.org/a"}"#,
-    ),
-    ("k1", "put s {}", "25 BadUri"),
-    ("k1", "put https://ex.org/a# {}", "25 BadUri"),
-    ("k1", "put x:/.//a {}", "25 BadUri"),
-    ("k1", "delete s", "25 BadUri"),
-    ("k1", "validate https://ex.org/a#/$defs/b null", "25 BadUri"),
-    ("k1", "bundle //ex.org/a", "25 BadUri"),
-    (
-        "k1",
-        r#"put https://ex.org/a/c/x {"$id":"../b"}"#,
-        "stored https://ex.org/a/b",
-    ),
-    ("k1", "validate https://ex.org/a/b null", VALID),
-    ("k1", "validate https://ex.org/a/c/x null", "14 NotFound"),
-    (
-        "k1",
-        r#"put https://ex.org/other {"$id":"https://ex.org/a/b"}"#,
-        "replaced https://ex.org/a/b",
-    ),
-    (
-        "k1",
-        "delete https://ex.org/x/../a",
-        "deleted https://ex.org/a",
-    ),
-    ("k1", "validate https://ex.org/a null", "14 NotFound"),
-];
-
-const REFUSED_DOCUMENTS: &[(&str, &str, &str)] = &[
-    ("k1", "put https://ex.org/s [1", "1 BadJson"),
-    ("k1", "put https://ex.org/s [1.0]", "2 BadNumber"),
-    ("k1", "put https://ex.org/s []", "6 NotObject"),
-    ("k1", "put https://ex.org/s true", "6 NotObject"),
-    (
-        "k1",
-        r#"put https://ex.org/s {"not":5}"#,
-        "8 BadKeyword /not",
-    ),
-    (
-        "k1",
-        r#"put https://ex.org/s {"$defs":{"d":{"type":"int"}},"allOf":[]}"#,
-        "8 BadKeyword /allOf",
-    ),
-    (
-        "k1",
-        r#"put https://ex.org/s {"$defs":{"d":{"type":"int"}}}"#,
-        "8 BadKeyword /$defs/d/type",
-    ),
-    ("k1", r#"put https://ex.org/s {"$id":"a#b"}"#, "9 BadId"),
-    (
-        "k1",
-        r#"put https://ex.org/s {"$anchor":"1"}"#,
-        "10 BadAnchor",
-    ),
-    (
-        "k1",
-        r#"put https://ex.org/s {"$schema":"x:y"}"#,
-        "11 Dialect",
-    ),
-    (
-        "k1",
-        r#"put https://ex.org/s {"$defs":{"d":{"$id":"s"}}}"#,
-        "12 DuplicateUri",
-    ),
-    (
-        "k1",
-        r#"put https://ex.org/s {"$anchor":"n","$defs":{"d":{"$dynamicAnchor":"n"}}}"#,
-        "13 DuplicateAnchor",
-    ),
-    ("k1", "validate https://ex.org/s null", "14 NotFound"),
-    (
-        "k1",
-        r#"put https://ex.org/s {"$anchor":"n","$defs":{"d":{"$dynamicAnchor":"n","$id":"e"}}}"#,
-        "stored https://ex.org/s",
-    ),
-];
-
-const REFUSED_VALIDATIONS: &[(&str, &str, &str)] = &[
-    ("k1", "validate s [1", "25 BadUri"),
-    ("k1", "validate https://ex.org/s [1", "1 BadJson"),
-    ("k1", "validate https://ex.org/s 1.5", "2 BadNumber"),
-    ("k1", "validate https://ex.org/s 1", "14 NotFound"),
-    (
-        "k1",
-        r##"put https://ex.org/s {"$ref":"#"}"##,
-        "stored https://ex.org/s",
-    ),
-    ("k1", "validate https://ex.org/s 1", "17 Loop"),
-    (
-        "k1",
-        r##"put https://ex.org/t {"$ref":"#/$defs/a"}"##,
-        "stored https://ex.org/t",
-    ),
-    (
-        "k1",
-        "validate https://ex.org/t 1",
-        "15 Unresolved https://ex.org/t#/$defs/a",
-    ),
-];
-
-const LONG_BODIES: &[(&str, &str, &str)] = &[
-    (
-        "k1",
-        "put https://ex.org/s {}«1048574* »",
-        "stored https://ex.org/s",
-    ),
-    ("k1", "validate https://ex.org/s {}«1048574* »", VALID),
-    ("k1", "put https://ex.org/s {}«1048575* »", "26 TooLarge"),
-    (
-        "k1",
-        "validate https://ex.org/s {}«1048575* »",
-        "26 TooLarge",
-    ),
-    ("k1", "batch {}«1048575* »", "26 TooLarge"),
+const URIS: &[Line] = &[
+    Line {
+        why: "a `..` segment is removed, with the one before it (RFC 3986, 5.2.4)",
+        key: "k1",
+        asks: "put https://ex.org/x/../a {}",
+        wanted: "stored https://ex.org/a",
+    },
+    Line {
+        why: "a `.` segment is removed from a validation's URI, too (RFC 3986, 5.2.4)",
+        key: "k1",
+        asks: "validate https://ex.org/./a null",
+        wanted: VALID,
+    },
+    Line {
+        why: "a bundle's document is found without dot segments, and has its canonical URI",
+        key: "k1",
+        asks: "bundle https://ex.org/y/../a",
+        wanted: r#"{"$id":"https://ex.org/a"}"#,
+    },
+    Line {
+        why: "a URI has a scheme (PROFILE.md, 25)",
+        key: "k1",
+        asks: "put s {}",
+        wanted: "25 BadUri",
+    },
+    Line {
+        why: "a URI has no fragment, also no empty one (PROFILE.md, 25)",
+        key: "k1",
+        asks: "put https://ex.org/a# {}",
+        wanted: "25 BadUri",
+    },
+    Line {
+        why: "without `/.` the path begins with `//`, without an authority (PROFILE.md, 25)",
+        key: "k1",
+        asks: "put x:/.//a {}",
+        wanted: "25 BadUri",
+    },
+    Line {
+        why: "a delete's URI has a scheme (PROFILE.md, 25)",
+        key: "k1",
+        asks: "delete s",
+        wanted: "25 BadUri",
+    },
+    Line {
+        why: "a validation's URI has no fragment (PROFILE.md, 25)",
+        key: "k1",
+        asks: "validate https://ex.org/a#/$defs/b null",
+        wanted: "25 BadUri",
+    },
+    Line {
+        why: "a bundle's URI has a scheme, and not only an authority (PROFILE.md, 25)",
+        key: "k1",
+        asks: "bundle //ex.org/a",
+        wanted: "25 BadUri",
+    },
+    Line {
+        why: "an `$id` is resolved against the URI that it is put under (Core, 8.2.1)",
+        key: "k1",
+        asks: r#"put https://ex.org/a/c/x {"$id":"../b"}"#,
+        wanted: "stored https://ex.org/a/b",
+    },
+    Line {
+        why: "a document judges by its canonical URI (HTTP.md)",
+        key: "k1",
+        asks: "validate https://ex.org/a/b null",
+        wanted: VALID,
+    },
+    Line {
+        why: "the URI that a document is put under is none of its own where it has an `$id`",
+        key: "k1",
+        asks: "validate https://ex.org/a/c/x null",
+        wanted: "14 NotFound",
+    },
+    Line {
+        why: "the same `$id` makes it the same document, under whichever URI it is put",
+        key: "k1",
+        asks: r#"put https://ex.org/other {"$id":"https://ex.org/a/b"}"#,
+        wanted: "replaced https://ex.org/a/b",
+    },
+    Line {
+        why: "dot segments are removed from a delete's URI, too (RFC 3986, 5.2.4)",
+        key: "k1",
+        asks: "delete https://ex.org/x/../a",
+        wanted: "deleted https://ex.org/a",
+    },
+    Line {
+        why: "the deleted document judges nothing (PROFILE.md, 14)",
+        key: "k1",
+        asks: "validate https://ex.org/a null",
+        wanted: "14 NotFound",
+    },
 ];
 
 const TALKS: &[Talk] = &[
@@ -263,27 +343,6 @@ const TALKS: &[Talk] = &[
         library: None,
         capacities: &[256],
         lines: URIS,
-    },
-    Talk {
-        why: "documents with a fault are not stored",
-        tenants: TWO_TENANTS,
-        library: None,
-        capacities: &[256],
-        lines: REFUSED_DOCUMENTS,
-    },
-    Talk {
-        why: "validations are refused by the first fault",
-        tenants: TWO_TENANTS,
-        library: None,
-        capacities: &[256],
-        lines: REFUSED_VALIDATIONS,
-    },
-    Talk {
-        why: "bodies have 1,048,576 bytes at most (LIMITS.md)",
-        tenants: TWO_TENANTS,
-        library: None,
-        capacities: &[1],
-        lines: LONG_BODIES,
     },
 ];
 

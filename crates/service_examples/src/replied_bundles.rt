@@ -1,6 +1,6 @@
 //! Bundles of a tenant's documents, and what they say in a registry that has nothing else.
 
-use crate::talks::{TWO_TENANTS, Talk, answered, expect_talk, new_hub};
+use crate::talks::{Line, TWO_TENANTS, Talk, answered, expect_talk, new_hub};
 use crate::texts::{expect_holds, expect_same};
 use std::alloc::Global;
 use std::process::Abort;
@@ -9,70 +9,106 @@ use tenant_hub::{Fault, Hub};
 const BUNDLE_OF_ROOT: &str =
     r#"{"$defs":{"https://ex.org/b":{"$id":"https://ex.org/b","type":"integer"}},"$id":"https://ex.org/root","properties":{"a":{"$ref":"b"}}}"#;
 
-const BUNDLES: &[(&str, &str, &str)] = &[
-    ("k1", "put https://ex.org/s {}", "stored https://ex.org/s"),
-    (
-        "k1",
-        "bundle https://ex.org/s",
-        r#"{"$id":"https://ex.org/s"}"#,
-    ),
-    (
-        "k1",
-        r#"put https://ex.org/root {"properties":{"a":{"$ref":"b"}}}"#,
-        "stored https://ex.org/root",
-    ),
-    (
-        "k1",
-        "bundle https://ex.org/root",
-        "15 Unresolved https://ex.org/b",
-    ),
-    (
-        "k1",
-        r#"put https://ex.org/b {"type":"integer"}"#,
-        "stored https://ex.org/b",
-    ),
-    ("k1", "bundle https://ex.org/root", BUNDLE_OF_ROOT),
-    (
-        "k1",
-        r#"put https://ex.org/root {"$defs":{"https://ex.org/b":{}},"$ref":"b"}"#,
-        "replaced https://ex.org/root",
-    ),
-    (
-        "k1",
-        "bundle https://ex.org/root",
-        "19 BundleClash https://ex.org/b",
-    ),
-    (
-        "k1",
-        r#"put https://ex.org/z {"$defs":{"e":{"$id":"w","$ref":"unknown"}}}"#,
-        "stored https://ex.org/z",
-    ),
-    ("k1", "bundle https://ex.org/w", "14 NotFound"),
-    ("k2", "bundle https://ex.org/s", "14 NotFound"),
+const BUNDLES: &[Line] = &[
+    Line {
+        why: "no document has the URI yet",
+        key: "k1",
+        asks: "put https://ex.org/s {}",
+        wanted: "stored https://ex.org/s",
+    },
+    Line {
+        why: "a document's canonical URI stands in its bundle as `$id`",
+        key: "k1",
+        asks: "bundle https://ex.org/s",
+        wanted: r#"{"$id":"https://ex.org/s"}"#,
+    },
+    Line {
+        why: "a document may come before the one that it refers to",
+        key: "k1",
+        asks: r#"put https://ex.org/root {"properties":{"a":{"$ref":"b"}}}"#,
+        wanted: "stored https://ex.org/root",
+    },
+    Line {
+        why: "a bundle needs the target of each reference (PROFILE.md, 15)",
+        key: "k1",
+        asks: "bundle https://ex.org/root",
+        wanted: "15 Unresolved https://ex.org/b",
+    },
+    Line {
+        why: "`b` is the target of the reference",
+        key: "k1",
+        asks: r#"put https://ex.org/b {"type":"integer"}"#,
+        wanted: "stored https://ex.org/b",
+    },
+    Line {
+        why: "a document that is referred to stands in `$defs`, under its URI (CLI.md)",
+        key: "k1",
+        asks: "bundle https://ex.org/root",
+        wanted: BUNDLE_OF_ROOT,
+    },
+    Line {
+        why: "a key in `$defs` may look like another document's URI",
+        key: "k1",
+        asks: r#"put https://ex.org/root {"$defs":{"https://ex.org/b":{}},"$ref":"b"}"#,
+        wanted: "replaced https://ex.org/root",
+    },
+    Line {
+        why: "the key for `b` is taken (PROFILE.md, 19)",
+        key: "k1",
+        asks: "bundle https://ex.org/root",
+        wanted: "19 BundleClash https://ex.org/b",
+    },
+    Line {
+        why: "a resource inside may refer to a document that isn't there",
+        key: "k1",
+        asks: r#"put https://ex.org/z {"$defs":{"e":{"$id":"w","$ref":"unknown"}}}"#,
+        wanted: "stored https://ex.org/z",
+    },
+    Line {
+        why: "an embedded resource has no bundle of its own (PROFILE.md, 14)",
+        key: "k1",
+        asks: "bundle https://ex.org/w",
+        wanted: "14 NotFound",
+    },
+    Line {
+        why: "the other tenant has no document of this URI (PROFILE.md, 14)",
+        key: "k2",
+        asks: "bundle https://ex.org/s",
+        wanted: "14 NotFound",
+    },
 ];
 
-const NESTED: &[(&str, &str, &str)] = &[
-    (
-        "k1",
-        r#"put https://ex.org/root {"$ref":"b"}"#,
-        "stored https://ex.org/root",
-    ),
-    (
-        "k1",
-        r#"put https://ex.org/b {"const":«117*[»«117*]»}"#,
-        "stored https://ex.org/b",
-    ),
-    (
-        "k1",
-        "bundle https://ex.org/root",
-        r#"{"$defs":{"https://ex.org/b":{"$id":"https://ex.org/b","const":«117*[»«117*]»}},"$id":"https://ex.org/root","$ref":"b"}"#,
-    ),
-    (
-        "k1",
-        r#"put https://ex.org/b {"const":«118*[»«118*]»}"#,
-        "replaced https://ex.org/b",
-    ),
-    ("k1", "bundle https://ex.org/root", "20 BundleTooLarge"),
+const NESTED: &[Line] = &[
+    Line {
+        why: "the root of the bundle refers to one document",
+        key: "k1",
+        asks: r#"put https://ex.org/root {"$ref":"b"}"#,
+        wanted: "stored https://ex.org/root",
+    },
+    Line {
+        why: "117 arrays and their document nest 118 deep, within 120 (LIMITS.md)",
+        key: "k1",
+        asks: r#"put https://ex.org/b {"const":«117*[»«117*]»}"#,
+        wanted: "stored https://ex.org/b",
+    },
+    Line {
+        why: "with `$defs` and the root the bundle nests 120 deep, which is the limit (LIMITS.md)",
+        key: "k1",
+        asks: "bundle https://ex.org/root",
+        wanted: r#"{"$defs":{"https://ex.org/b":{"$id":"https://ex.org/b","const":«117*[»«117*]»}},"$id":"https://ex.org/root","$ref":"b"}"#,
+    },
+    Line {
+        why: "118 arrays and their document nest 119 deep, within 120 (LIMITS.md)",
+        key: "k1",
+        asks: r#"put https://ex.org/b {"const":«118*[»«118*]»}"#,
+        wanted: "replaced https://ex.org/b",
+    },
+    Line {
+        why: "with `$defs` and the root the bundle would nest 121 deep (LIMITS.md)",
+        key: "k1",
+        asks: "bundle https://ex.org/root",
+        wanted: "20 BundleTooLarge",
+    },
 ];
 
 const TALKS: &[Talk] = &[

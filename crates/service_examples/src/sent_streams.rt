@@ -66,7 +66,14 @@ fn stepped<H: Handler>(
 }
 
 /// What is done with a connection, its id, the bytes, what is sent, and whether it is closed then.
-pub type Step = (&'static str, u64, &'static str, &'static str, bool);
+pub struct Step {
+    pub why: &'static str,
+    pub kind: &'static str,
+    pub id: u64,
+    pub bytes: &'static str,
+    pub wanted: &'static str,
+    pub is_closed: bool,
+}
 
 fn expect_step<H: Handler>(
     rt: &impl Abort,
@@ -74,10 +81,9 @@ fn expect_step<H: Handler>(
     sessions: &mut Sessions<H>,
     step: &Step,
 ) {
-    let (kind, id, bytes, wanted, closed) = *step;
-    let found = stepped(alloc, sessions, kind, id, bytes);
-    expect_like(rt, alloc, found, wanted, bytes);
-    assert_eq!(rt; sessions.is_closed(id), closed, "{kind} {id}: {bytes}");
+    let found = stepped(alloc, sessions, step.kind, step.id, step.bytes);
+    expect_like(rt, alloc, found, step.wanted, step.why);
+    assert_eq!(rt; sessions.is_closed(step.id), step.is_closed, "{}", step.why);
 }
 
 /// Expects that each step goes so.

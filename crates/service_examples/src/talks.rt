@@ -84,7 +84,12 @@ pub fn answered(alloc: Global, hub: &mut Hub, key: &str, text: &str) -> Result<S
 }
 
 /// A line of a talk: a tenant's key, what it asks, and what it is told.
-pub type Line = (&'static str, &'static str, &'static str);
+pub struct Line {
+    pub why: &'static str,
+    pub key: &'static str,
+    pub asks: &'static str,
+    pub wanted: &'static str,
+}
 
 /// A talk with a hub of these tenants, over the library that the batch gives, if there is one.
 pub struct Talk {
@@ -97,8 +102,8 @@ pub struct Talk {
 }
 
 fn expect_line(rt: &impl Abort, alloc: Global, hub: &mut Hub, line: &Line) {
-    let (key, text, wanted) = *line;
-    expect_like(rt, alloc, answered(alloc, hub, key, text), wanted, text);
+    let found = answered(alloc, hub, line.key, line.asks);
+    expect_like(rt, alloc, found, line.wanted, line.why);
 }
 
 fn expect_lines(rt: &impl Abort, alloc: Global, hub: &mut Hub, lines: &[Line]) {
@@ -110,8 +115,8 @@ fn expect_lines(rt: &impl Abort, alloc: Global, hub: &mut Hub, lines: &[Line]) {
 // What all lines ask, as filled texts.
 fn filled_texts(alloc: Global, lines: &[Line]) -> Result<Vec<String>, AllocError> {
     let mut texts = Vec::with_capacity(alloc, lines.len())?;
-    for (_, text, _) in lines {
-        texts.push(filled(alloc, text)?)?;
+    for line in lines {
+        texts.push(filled(alloc, line.asks)?)?;
     }
     Ok(texts)
 }
@@ -121,15 +126,14 @@ fn replies(alloc: Global, hub: &mut Hub, lines: &[Line]) -> Result<Vec<Reply>, F
     let texts = filled_texts(alloc, lines)?;
     let mut calls = Vec::with_capacity(alloc, lines.len())?;
     for (line, text) in lines.iter().zip(&texts) {
-        let key = String::from_str(alloc, line.0)?;
+        let key = String::from_str(alloc, line.key)?;
         calls.push((key, asked(text.as_str())))?;
     }
     Ok(hub.run(alloc, &calls)?)
 }
 
 fn expect_reply(rt: &impl Abort, alloc: Global, line: &Line, reply: &Reply) {
-    let (_, text, wanted) = *line;
-    expect_like(rt, alloc, told(alloc, reply), wanted, text);
+    expect_like(rt, alloc, told(alloc, reply), line.wanted, line.why);
 }
 
 fn expect_replies(rt: &impl Abort, alloc: Global, lines: &[Line], replies: &[Reply]) {

@@ -1,4 +1,4 @@
-//! A search of more states than its table may keep.
+//! A letter that a pattern asks for at a place counted from the end: a search of more states than its table may keep.
 
 use crate::expectations::expect_holds;
 use patterns::{Fault, Pattern};

@@ -11,9 +11,8 @@ pub(crate) fn is_kept(bytes: usize) -> bool {
     bytes <= ALWAYS_KEPT
 }
 
-/// Whether the memory of a text, of so many bytes, is kept for the next one, where the last text took so many of them: it is
-/// always kept up to 1,048,576 bytes, and up to 16,777,216 as long as texts take a quarter of it or more, since to make and to
-/// fill it anew takes longer than such a text.
+/// Whether the memory of a text is kept for the next one: always up to 1,048,576 bytes, and up to 16,777,216 where the last text
+/// took a quarter of it or more, since to make and to fill it anew takes longer than such a text.
 pub(crate) fn is_still_kept(bytes: usize, taken: usize) -> bool {
     is_kept(bytes) || (bytes <= MOST_KEPT && taken >= bytes / 4)
 }

@@ -99,8 +99,7 @@ impl<'a> Origin<'a> {
         self.head.is_some()
     }
 
-    /// A copy of this origin in which it is written how the texts of units begin whose keywords stand below. The only error is
-    /// want of memory. It is called apart, since few origins lack that text.
+    /// This origin with its head written. The only error is want of memory. It is called apart, since few origins lack one.
     #[inline(never)]
     pub fn with_head(&self) -> Result<Rc<Origin<'a>>, AllocError>
         ensures head { IfOk result (λ o. is_some o.value.head ≡ true) }
@@ -142,8 +141,7 @@ fn head_of(memory: String, uri: &str, steps: &[Step<'_>]) -> Result<String, Allo
     escaped_head(*head.allocator(), &head.as_str()[KEY.len()..])
 }
 
-// How the texts of units begin below a location that may need escapes in a string of JSON. It is called apart, since few URIs
-// need any.
+// The head of a location that may need escapes in a string of JSON. It is called apart, since few URIs need any.
 #[inline(never)]
 fn escaped_head(alloc: Global, location: &str) -> Result<String, AllocError>
     ensures { IfOk result (λ h. string_bytes h ≡ head_text location.now) }

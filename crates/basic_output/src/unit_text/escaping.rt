@@ -29,8 +29,7 @@ pub(crate) fn push_escaped(
     push_escapes(out, memory, lead, text)
 }
 
-// Appends a text that may have escapes as it stands in a string, behind what leads it, by way of the memory. The only error is
-// want of memory. It is called apart, since few texts have any.
+// Appends a text that may need escapes, behind what leads it. Want of memory is the only error. Few texts come here.
 #[inline(never)]
 fn push_escapes(
     out: &mut TextBuffer,

@@ -4,7 +4,8 @@ use Rattle.std.specs.Option.{IfSome}
 use Rattle.definitions.specs.Values.{Text}
 use Rattle.command_line.specs.Calls.{Asked}
 use Rattle.command_line.specs.Calls as call
-use Rattle.schemareg.specs.Folders.{ByFolder, CarriedOut, is_folder_in, may_be_folder}
+use Rattle.service_forms.specs.Files.{may_be_folder}
+use Rattle.schemareg.specs.Folders.{ByFolder, CarriedOut, is_folder_in}
 
 -- ---- a file or a folder
 by_folder : (known : Option Bool) (A B C D : Type 0) → (A → C) → (B → D) → ByFolder known A B → ByFolder known C D

@@ -12,12 +12,12 @@ use Rattle.http_front.specs.Running.{IsRun}
 use Rattle.http_front.proofs.Refused.{refused_run}
 use Rattle.serving.specs.Transfers.{Transfer}
 use Rattle.serving.specs.Writing.{WritesSome}
-use Rattle.schemareg.specs.declared.stop.Stop.{Stop}
-use Rattle.schemareg.specs.declared.stop.Stop.TheVariants.{Words, NotText, CannotRead, Refused, CannotWrite, CannotListen, CannotAccept, CannotLog, Told, TooManyConnections, Store}
+use Rattle.service_forms.specs.declared.stop.Stop.{Stop}
+use Rattle.service_forms.specs.declared.stop.Stop.TheVariants.{Words, NotText, CannotRead, Refused, CannotWrite, CannotListen, CannotAccept, CannotLog, Told, TooManyConnections, Store}
+use Rattle.service_forms.specs.Services.{EndsRun, OnRun, OnServer, OnStart, OnStore, RunsWith, Server}
+use Rattle.service_forms.specs.Stops.{is_error, stop_by, stop_of}
+use Rattle.service_forms.proofs.Judged.{all_known, every_server, on_servers}
 use Rattle.schemareg.specs.Answers.{Check, EndsBy, EndsWith, OnCheck, check_of_input, check_of_texts, report_line}
-use Rattle.schemareg.specs.Services.{EndsRun, OnRun, OnServer, OnStart, OnStore, RunsWith, Server}
-use Rattle.schemareg.specs.Stops.{IsUnreadAmong, is_error, stop_by, stop_of}
-use Rattle.schemareg.proofs.Judged.{all_known, every_server, on_servers}
 
 -- a stop that is told on standard error leaves standard output as it was
 abbrev pub IsTold : Stop → ℕ → List Transfer → List Transfer → Type 0
@@ -67,21 +67,6 @@ on_checks files bytes (call.serve start listen accept) P Q f h = tt
 on_checks files bytes (call.serve_many start listen limits logging) P Q f h = tt
 
 -- ---- connections
--- what ends a connection before it begins
-pub unbegun_run : (names : List Text) (stop : Stop) → IsUnreadAmong names stop → (reads writes : List Transfer) (server : Server)
-    → EndsRun server reads writes (Err stop) reads writes
-unbegun_run names (CannotRead name) h reads writes server = (refl, refl)
-unbegun_run names (Refused f) h reads writes server = refused_run server reads writes f (λ other. absurd (other h))
-unbegun_run names (Words e) h reads writes server = absurd h
-unbegun_run names NotText h reads writes server = absurd h
-unbegun_run names CannotWrite h reads writes server = absurd h
-unbegun_run names (CannotListen a) h reads writes server = absurd h
-unbegun_run names CannotAccept h reads writes server = absurd h
-unbegun_run names (CannotLog path) h reads writes server = absurd h
-unbegun_run names (TooManyConnections most) h reads writes server = absurd h
-unbegun_run names Told h reads writes server = absurd h
-unbegun_run names (Store s) h reads writes server = absurd h
-
 -- memory ran out while the words were read
 pub unspelled : (e : Error) (result : Result ℕ Stop) → kind_of e ≡ OutOfMemory → IsErrAnd result (λ stop. stop ≡ stop_of e) → result ≡ Err (Refused NoRoom)
 unspelled e (Ok status) k h = absurd h

@@ -9,12 +9,12 @@ use Rattle.serving.specs.Transfers.{Transfer}
 use Rattle.serving.specs.declared.failure.Failure.{Failure}
 use Rattle.serving.specs.declared.failure.Failure.TheVariants as failure
 use Rattle.stored_rows.specs.Rows.{Row}
-use Rattle.schemareg.specs.declared.stop.Stop.{Stop}
-use Rattle.schemareg.specs.declared.stop.Stop.TheVariants.{Words, NotText, CannotRead, Refused, CannotWrite, CannotListen, CannotAccept, CannotLog, Told, TooManyConnections, Store}
-use Rattle.schemareg.specs.Endings.{StopsReading}
-use Rattle.schemareg.specs.Services.{EndsServing, EndsServingMany, IsRefusal, Server}
-use Rattle.schemareg.specs.Stops.{is_error}
-use Rattle.schemareg.specs.Stored.{EndsAsked, EndsStoredMany, EndsStoredRun, EndsStoredServing, IsEndOf, IsUnserved, RunsStoredWith}
+use Rattle.service_forms.specs.declared.stop.Stop.{Stop}
+use Rattle.service_forms.specs.declared.stop.Stop.TheVariants.{Words, NotText, CannotRead, Refused, CannotWrite, CannotListen, CannotAccept, CannotLog, Told, TooManyConnections, Store}
+use Rattle.service_forms.specs.Endings.{StopsReading}
+use Rattle.service_forms.specs.Services.{EndsServing, EndsServingMany, IsRefusal, Server}
+use Rattle.service_forms.specs.Stops.{is_error}
+use Rattle.service_forms.specs.Stored.{EndsAsked, EndsStoredMany, EndsStoredRun, EndsStoredServing, IsEndOf, IsUnserved, RunsStoredWith}
 use Rattle.schemareg.proofs.Ended.{IsTold, every_start}
 
 -- ---- one connection

@@ -8,12 +8,12 @@ use Rattle.command_line.specs.Calls as call
 use Rattle.file_forms.specs.Accounts.{State}
 use Rattle.file_forms.specs.Checks.{state_with}
 use Rattle.serving.specs.Transfers.{Transfer, transferred_bytes}
-use Rattle.schemareg.specs.declared.stop.Stop.{Stop}
-use Rattle.schemareg.specs.declared.stop.Stop.TheVariants.{Words, NotText, CannotRead, Refused, CannotWrite, CannotListen, CannotAccept, CannotLog, Told, TooManyConnections, Store}
-use Rattle.schemareg.specs.Endings.{ReadsInOrder, files_in}
+use Rattle.service_forms.specs.declared.stop.Stop.{Stop}
+use Rattle.service_forms.specs.declared.stop.Stop.TheVariants.{Words, NotText, CannotRead, Refused, CannotWrite, CannotListen, CannotAccept, CannotLog, Told, TooManyConnections, Store}
+use Rattle.service_forms.specs.Endings.{ReadsInOrder, files_in}
+use Rattle.service_forms.specs.Stops.{IsUnreadAmong, is_error}
 use Rattle.schemareg.specs.Folders.{CarriedOut}
 use Rattle.schemareg.specs.Forms.{Disk, Ending, EndsForm, EndsFormIfRoom, EndsFormWithIfRoom, IsShown, IsShownWith, LacksRoom, OnForm}
-use Rattle.schemareg.specs.Stops.{IsUnreadAmong, is_error}
 use Rattle.schemareg.proofs.Carried.{carried_out, every_carried}
 use Rattle.schemareg.proofs.Ended.{IsTold}
 

@@ -11,8 +11,8 @@ use Rattle.command_line.specs.Calls.{Asked}
 use Rattle.command_line.specs.Calls as call
 use Rattle.serving.specs.Transfers.{Transfer}
 use Rattle.serving.specs.Writing.{Writes, WritesSome}
-use Rattle.schemareg.specs.declared.stop.Stop.{Stop}
-use Rattle.schemareg.specs.declared.stop.Stop.TheVariants.{CannotRead, Refused, CannotWrite}
+use Rattle.service_forms.specs.declared.stop.Stop.{Stop}
+use Rattle.service_forms.specs.declared.stop.Stop.TheVariants.{CannotRead, Refused, CannotWrite}
 
 -- the status after a report
 abbrev pub check_status : Bool → ℕ

@@ -1,13 +1,10 @@
 -- A check of what may be a folder.
-use Rattle.std.specs.Prelude.{◌≡◌, ◌⊎◌, ◌∷◌, [], ◌&&◌, Bool, true, false, not, Option, Some, None, if◌then◌else◌, is_none}
+use Rattle.std.specs.Prelude.{◌≡◌, ◌⊎◌, ◌∷◌, [], Bool, true, false, Option, Some, None, if◌then◌else◌}
 use Rattle.command_line.specs.Calls.{Asked}
 use Rattle.command_line.specs.Calls as call
 use Rattle.command_line.specs.declared.call.Format.TheVariants.{Text as ForPeople}
 use Rattle.definitions.specs.Values.{Text}
-
--- neither is it known what a file there holds, nor that it can't be read
-abbrev pub may_be_folder : (Text → Option Text) → (Text → Bool) → Text → Bool
-may_be_folder files unreadable path = is_none (files path) && not (unreadable path)
+use Rattle.service_forms.specs.Files.{may_be_folder}
 
 -- whether a folder is there, if that is known
 abbrev pub is_folder_in : (Text → Option Text) → (Text → Bool) → (Text → Option Bool) → Text → Option Bool

@@ -10,9 +10,9 @@ use Rattle.file_forms.specs.Checks.{EndsChecks, state_with}
 use Rattle.file_forms.specs.Gathered.{Folder}
 use Rattle.file_forms.specs.Subjects.{Holds, Lists}
 use Rattle.serving.specs.Transfers.{Transfer, transferred_bytes}
+use Rattle.service_forms.specs.declared.stop.Stop.{Stop}
+use Rattle.service_forms.specs.declared.stop.Stop.TheVariants.{Refused, CannotWrite, Told}
 use Rattle.schemareg.specs.Outputs.{IsFirstPart}
-use Rattle.schemareg.specs.declared.stop.Stop.{Stop}
-use Rattle.schemareg.specs.declared.stop.Stop.TheVariants.{Refused, CannotWrite, Told}
 
 -- Files and folders: whether the file at a path holds a text, whether a path names files with such endings, whether the program
 -- runs in a folder, and whether the file at a path was given a text

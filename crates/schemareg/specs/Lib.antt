@@ -1,10 +1,4 @@
-pub mod StoreStops
-pub mod Stops
-pub mod Endings
 pub mod Folders
 pub mod Outputs
 pub mod Forms
 pub mod Answers
-pub mod Services
-pub mod Stored
-pub mod Logs

@@ -2,15 +2,14 @@
 ghost use Rattle.std.specs.Prelude.{◌≡◌, ◌∷◌, [], List, None, IfOk, IfSome, codes};
 ghost use Rattle.definitions.specs.Values.{Text};
 ghost use Rattle.evaluator.specs.Reports.{is_valid, report_text};
-ghost use Rattle.schemareg.specs.Endings.{EndsReading, ReadsInOrder};
+ghost use Rattle.service_forms.specs.Endings.{EndsReading, ReadsInOrder};
 ghost use Rattle.schemareg.specs.Answers.{EndsBy, Prints, check_of_input, check_of_texts, check_status, report_line};
 
-use crate::files::Texts;
-use crate::stop::Stop;
 use crate::{printing, reading};
 use checks::Report;
 use faults::Fault;
 use file_forms::place_of;
+use service_forms::{Stop, Texts};
 use serving::ByteWriter;
 use std::alloc::Global;
 use std::io::Read;

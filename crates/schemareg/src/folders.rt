@@ -1,18 +1,17 @@
 //! A check whose instance is a file, or a folder of them.
 ghost use Rattle.std.specs.Prelude.{◌≡◌, [], None, IfOk, IfSome};
 ghost use Rattle.command_line.specs.Calls.{Asked, check, check_many, checks_view};
+ghost use Rattle.service_forms.specs.Endings.{EndsReading, ReadsInOrder, address_of, files_in, names_of};
 ghost use Rattle.schemareg.specs.Answers.{EndsBy, check_of_texts};
-ghost use Rattle.schemareg.specs.Endings.{EndsReading, ReadsInOrder, address_of, files_in, names_of};
 ghost use Rattle.schemareg.specs.Folders.{CarriedOut, folder_check, is_folder_in};
 ghost use Rattle.schemareg.specs.Forms.{EndsFormIfRoom, OnForm};
 
 use crate::checking;
-use crate::files::Texts;
 use crate::forms::Forms;
-use crate::stop::Stop;
 use crate::terminal::Terminal;
 use command_line::{Checks, Documents, Format};
 use faults::Fault;
+use service_forms::{Stop, Texts};
 use serving::ByteWriter;
 use std::alloc::{AllocError, Global};
 use std::io::{Read, Write};

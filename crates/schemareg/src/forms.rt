@@ -3,14 +3,14 @@ ghost use Rattle.std.specs.Prelude.{[], None};
 ghost use Rattle.command_line.specs.Calls.{bundling_view, checks_view};
 ghost use Rattle.file_forms.specs.Bundles.{EndsBundle};
 ghost use Rattle.file_forms.specs.Checks.{EndsChecks};
-ghost use Rattle.schemareg.specs.Endings.{EndsReading};
+ghost use Rattle.service_forms.specs.Endings.{EndsReading};
 ghost use Rattle.schemareg.specs.Forms.{Disk, EndsForm, EndsScan, unknown_disk};
 
-use crate::files::{FileSystem, Terminals};
-use crate::stop::Stop;
+use crate::file_system::{FileSystem, Terminals};
 use crate::terminal::Terminal;
 use command_line::{Bundling, Checks, Scanning};
 use file_forms::{SystemFolders, wants_colours};
+use service_forms::Stop;
 use serving::ByteWriter;
 use std::alloc::Global;
 use std::io::{Read, Write};

@@ -2,25 +2,17 @@
 #![tactic(auto)]
 
 mod checking;
-mod files;
+mod file_system;
 mod folders;
 mod forms;
-mod log;
 mod output;
 mod printing;
 mod program;
 mod progress;
 mod reading;
-mod registries;
-mod service;
-mod side_by_side;
-mod stop;
-mod store_stop;
-mod stored;
-mod stores;
 mod terminal;
 
-use crate::files::Terminals;
+use crate::file_system::Terminals;
 use crate::terminal::Terminal;
 use serving::Recorded;
 use std::io::{self, IsTerminal};

@@ -1,12 +1,12 @@
 //! Printing a report, or why there is none.
 ghost use Rattle.std.specs.Prelude.{◌≡◌, ◌⊎◌, ◌++◌, ◌∷◌, [], true, false, not, IfOk, IfErr, OnOk, OnErr, string_bytes};
 ghost use Rattle.definitions.specs.Bytes.{line_feed};
+ghost use Rattle.service_forms.specs.Stops.{Attempts, EndsRequest, EndsUnwritten, Tells, is_error, status_of, text_of, unwritten_text};
 ghost use Rattle.schemareg.specs.Answers.{Prints, check_status};
-ghost use Rattle.schemareg.specs.Stops.{Attempts, EndsRequest, EndsUnwritten, Tells, is_error, status_of, text_of, unwritten_text};
 
-use crate::stop::{Stop, UNWRITTEN};
 use fault_sentences::Sentence;
 use faults::Fault;
+use service_forms::{Stop, UNWRITTEN};
 use serving::{ByteWriter, write_all};
 use std::io::{self, Write};
 

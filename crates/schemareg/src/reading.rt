@@ -1,10 +1,10 @@
 //! Reading the words and the files.
 ghost use Rattle.std.specs.Prelude.{◌≡◌, ◌≢◌, ◌⊎◌, IfOk, IfErr, IfSome};
 ghost use Rattle.std.specs.IoError.{error_kind};
-ghost use Rattle.schemareg.specs.Stops.{IsUnread};
+ghost use Rattle.service_forms.specs.Stops.{IsUnread};
 
-use crate::stop::Stop;
 use faults::Fault;
+use service_forms::Stop;
 use std::alloc::Global;
 use std::io::{self, ErrorKind, Read};
 use std::rt::{Env, Files};

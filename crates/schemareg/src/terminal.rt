@@ -2,15 +2,15 @@
 ghost use Rattle.std.specs.Prelude.{◌≡◌, ◌++◌, [], List, None, string_bytes};
 ghost use Rattle.definitions.specs.Values.{Text};
 ghost use Rattle.serving.specs.Transfers.{Transfer, transferred_bytes};
-ghost use Rattle.schemareg.specs.Endings.{EndsReading};
+ghost use Rattle.service_forms.specs.Endings.{EndsReading};
 ghost use Rattle.schemareg.specs.Forms.{IsShown};
 ghost use Rattle.schemareg.specs.Outputs.{IsWritten, bytes_in, given_text};
 
 use crate::output::Output;
 use crate::progress::Progress;
-use crate::stop::Stop;
 use file_forms::{Console, Trouble};
 use network::Transcript;
+use service_forms::Stop;
 use serving::ByteWriter;
 use std::alloc::Global;
 use std::io::Write;

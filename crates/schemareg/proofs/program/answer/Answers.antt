@@ -1,10 +1,10 @@
 use Rattle.std.proofs.Common.{◌∙◌, Ok, Err, map, subst, sym}
 use Rattle.std.specs.Process.{exit_status}
 use Rattle.command_line.specs.Calls.{faults_of}
+use Rattle.service_forms.specs.Endings.{EndsReading, address_of, names_of}
+use Rattle.service_forms.specs.Services.{EndsRun, RunsWith}
+use Rattle.service_forms.specs.Stored.{EndsAsked, EndsStoredRun, RunsStoredWith}
 use Rattle.schemareg.specs.Answers.{EndsBy, EndsWith}
-use Rattle.schemareg.specs.Endings.{EndsReading, address_of, names_of}
-use Rattle.schemareg.specs.Services.{EndsRun, RunsWith}
-use Rattle.schemareg.specs.Stored.{EndsAsked, EndsStoredRun, RunsStoredWith}
 use Rattle.schemareg.proofs.Carried.{by_carried_out}
 use Rattle.schemareg.proofs.Ended.{ended_with, on_checks, on_runs, run_ended, run_stopped, stopped_with, told_with}
 use Rattle.schemareg.proofs.EndedStored.{not_stopped, stored_ended, stored_stopped}

@@ -1,4 +1,0 @@
-use Rattle.schemareg.proofs.service.run_over.Goals as goal
-
-pub returns-in-Err-clause-ran : goal.returns-in-Err-clause-ran
-returns-in-Err-clause-ran g c = c.in-Err.ensures

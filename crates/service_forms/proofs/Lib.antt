@@ -1,0 +1,4 @@
+mod Alone
+pub mod Judged
+mod Listened
+mod Restored

@@ -308,7 +308,7 @@ const URIS: &[Line] = &[
     },
 ];
 
-const TALKS: &[Talk] = &[
+const STORING: &[Talk] = &[
     Talk {
         why: "a refused put leaves the old document",
         tenants: TWO_TENANTS,
@@ -330,6 +330,9 @@ const TALKS: &[Talk] = &[
         capacities: &[1],
         lines: REFERENCES,
     },
+];
+
+const QUOTAS_AND_URIS: &[Talk] = &[
     Talk {
         why: "quotas are judged on what is left",
         tenants: SMALL_TENANT,
@@ -347,8 +350,15 @@ const TALKS: &[Talk] = &[
 ];
 
 #[test]
-fn one_tenants_registry(rt: HostRuntime) {
-    for talk in TALKS {
+fn what_one_tenant_stores(rt: HostRuntime) {
+    for talk in STORING {
+        expect_talk(&rt, rt.alloc(), talk);
+    }
+}
+
+#[test]
+fn what_quotas_and_uris_decide(rt: HostRuntime) {
+    for talk in QUOTAS_AND_URIS {
         expect_talk(&rt, rt.alloc(), talk);
     }
 }

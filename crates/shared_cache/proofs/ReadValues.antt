@@ -11,7 +11,7 @@ use Rattle.json_doc.proofs.Equality.{same-Decides}
 use Rattle.schema_scan.specs.CompiledDocuments.{compiled_base, compiled_value}
 use Rattle.schema_scan.specs.declared.compiled.Compiled.{Compiled}
 use Rattle.shared_cache.specs.Entries.{IsMadeBy}
-use Rattle.shared_cache.specs.Readings.{is_read_as, is_ok_of}
+use Rattle.shared_cache.specs.Readings.{is_read_as, is_ok_of, read_value, value_or_null}
 
 ok_of : (r : Result Value Fault) (v : Value) → is_ok_of v r ≡ true → r ≡ Ok v
 ok_of (Ok w) v h = ap (λ u. Ok u) (sym ((same-Decides v w).0 h))
@@ -24,6 +24,10 @@ read_as t v h = ok_of (parsed_value t) v h
 pub is_read : (t : Text) (v : Value) → parsed_value t ≡ Ok v → is_read_as t v ≡ true
 unfolding is_read_as
 is_read t v e = ap (is_ok_of v) e ∙ (same-Decides v v).1 refl
+
+pub spelled : (t : Text) (v : Value) → parsed_value t ≡ Ok v → read_value t ≡ v
+unfolding read_value
+spelled t v e = ap value_or_null e
 
 same_Ok : {X E : Type 0} {x y : X} → ◌≡◌ {A = Result X E} (Ok x) (Ok y) → x ≡ y
 same_Ok e = cc

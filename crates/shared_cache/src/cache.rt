@@ -11,10 +11,10 @@ ghost use Rattle.faults.specs.View.{fault_view};
 ghost use Rattle.json_doc.specs.Docs.{value};
 ghost use Rattle.schema_scan.specs.CompiledDocuments.{compiled_base, compiled_value};
 ghost use Rattle.shared_cache.specs.Entries.{IsMadeBy};
-ghost use Rattle.shared_cache.specs.Readings.{is_read_as};
+ghost use Rattle.shared_cache.specs.Readings.{is_read_as, read_value};
 ghost use Rattle.shared_cache.specs.Refusals.{Refuses};
 
-use crate::compiling::{compiled_anew, refusal};
+use crate::compiling::{compiled_anew, read_again, refusal};
 use crate::key::Key;
 use faults::Fault;
 use json_doc::{Doc, nesting};
@@ -122,7 +122,7 @@ impl Cache {
     }
 
     /// The document under this base, compiled as [`Cache::compiled`] does it, with the same faults, and its key, under which it
-    /// can be asked for again by [`Cache::compiled_as`].
+    /// can be asked for again by [`Cache::compiled_of_key`].
     pub fn compiled_with_key(
         &mut self,
         alloc: Global,
@@ -132,6 +132,7 @@ impl Cache {
         ensures key { IfOk result
             (λ r. r.0.value ≡ (recompose base.now, text (value document.now))) }
         ensures reads_back { IfOk result (λ r. is_read_as r.0.value.1 (value document.now) ≡ true) }
+        ensures spells { IfOk result (λ r. read_value r.0.value.1 ≡ value document.now) }
         ensures base { IfOk result (λ r. compiled_base r.1.value ≡ recompose base.now) }
         ensures value { IfOk result (λ r. compiled_value r.1.value ≡ value document.now) }
         ensures sound { OnOk result (scan_fault (recompose base.now) (value document.now) ≡ None) }
@@ -151,9 +152,37 @@ impl Cache {
         Ok((key, compiled))
     }
 
-    /// The document under a key that was made before, compiled as [`Cache::compiled`] does it, with the same faults. The key's
-    /// text has to be one that is read as the document's value.
-    pub fn compiled_as(
+    /// The document of a key that was made before, compiled as [`Cache::compiled`] does it, with the same faults. Where it isn't
+    /// kept, it is read from the key's text, which has to be one that is read as a value.
+    pub fn compiled_of_key(&mut self, alloc: Global, key: &Rc<Key>) -> Result<Rc<Compiled>, Fault>
+        requires { is_read_as key.now.value.1 (read_value key.now.value.1) ≡ true }
+        ensures base { IfOk result (λ c. compiled_base c.value ≡ key.now.value.0) }
+        ensures value { IfOk result (λ c. compiled_value c.value ≡ read_value key.now.value.1) }
+        ensures sound { OnOk result
+            (scan_fault key.now.value.0 (read_value key.now.value.1) ≡ None) }
+        ensures regular { OnOk result
+            (is_regular regular_search (read_value key.now.value.1) ≡ true) }
+        ensures err { IfErr result
+            (λ f. f ≢ Fault.NoRoom → Refuses key.now.value.0 (read_value key.now.value.1)
+            (fault_view f)) }
+        ensures kept { OnOk result (IsUsed self.old key.now.value self.new) }
+        ensures refused { OnErr result (self.new ≡ self.old) }
+    {
+        match self.find(key)? {
+            Some(found) => {
+                // What is found passed the scan, and its patterns were built.
+                let _ = found.document();
+                Ok(found)
+            }
+            None => {
+                let document = read_again(alloc, key)?;
+                self.compiled_and_kept(alloc, key, &document)
+            }
+        }
+    }
+
+    // The document of a key whose text is read as the document's value.
+    fn compiled_as(
         &mut self,
         alloc: Global,
         key: &Rc<Key>,
@@ -175,12 +204,31 @@ impl Cache {
                 let _ = found.document();
                 Ok(found)
             }
-            None => {
-                let made = compiled_anew(alloc, &split(key.base()), document)?;
-                self.keep(key, &made);
-                Ok(made)
-            }
+            None => self.compiled_and_kept(alloc, key, document),
         }
+    }
+
+    // The document of a key that is new, compiled, and kept where memory suffices.
+    fn compiled_and_kept(
+        &mut self,
+        alloc: Global,
+        key: &Rc<Key>,
+        document: &Doc,
+    ) -> Result<Rc<Compiled>, Fault>
+        requires new { has_key self.old key.now.value ≡ false }
+        requires reads { is_read_as key.now.value.1 (value document.now) ≡ true }
+        ensures base { IfOk result (λ c. compiled_base c.value ≡ key.now.value.0) }
+        ensures value { IfOk result (λ c. compiled_value c.value ≡ value document.now) }
+        ensures sound { OnOk result (scan_fault key.now.value.0 (value document.now) ≡ None) }
+        ensures regular { OnOk result (is_regular regular_search (value document.now) ≡ true) }
+        ensures err { IfErr result
+            (λ f. f ≢ Fault.NoRoom → Refuses key.now.value.0 (value document.now) (fault_view f)) }
+        ensures kept { OnOk result (IsUsed self.old key.now.value self.new) }
+        ensures refused { OnErr result (self.new ≡ self.old) }
+    {
+        let made = compiled_anew(alloc, &split(key.base()), document)?;
+        self.keep(key, &made);
+        Ok(made)
     }
 
     // The document that is kept under this key, which is now the most recently used.

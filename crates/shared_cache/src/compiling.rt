@@ -9,14 +9,28 @@ ghost use Rattle.definitions.specs.Values.{nesting};
 ghost use Rattle.faults.specs.View.{fault_view};
 ghost use Rattle.json_doc.specs.Docs.{value};
 ghost use Rattle.schema_scan.specs.CompiledDocuments.{compiled_base, compiled_value};
+ghost use Rattle.shared_cache.specs.Readings.{is_read_as, read_value};
 ghost use Rattle.shared_cache.specs.Refusals.{Refuses};
 
+use crate::key::Key;
 use faults::Fault;
-use json_doc::Doc;
+use json_doc::{Doc, read};
 use schema_scan::{Compiled, compile, scan};
 use std::alloc::Global;
 use std::rc::Rc;
 use uri_ref::Parts;
+
+// The document that the key's text spells, which is read as a value. The only error is want of memory.
+pub(crate) fn read_again(alloc: Global, key: &Key) -> Result<Doc, Fault>
+    requires { is_read_as key.now.1 (read_value key.now.1) ≡ true }
+    ensures ok { IfOk result (λ d. value d ≡ read_value key.now.1) }
+    ensures err { IfErr result (λ f. f ≡ Fault.NoRoom) }
+{
+    match read(alloc, key.text().as_bytes()) {
+        Ok(document) => Ok(document),
+        Err(_) => Err(Fault::NoRoom),
+    }
+}
 
 // The document under this base, scanned and compiled.
 pub(crate) fn compiled_anew(

@@ -10,7 +10,7 @@ ghost use Rattle.definitions.specs.Uris.{recompose};
 ghost use Rattle.definitions.specs.Values.{nesting};
 ghost use Rattle.json_doc.specs.Docs.{value};
 ghost use Rattle.shared_cache.specs.Digests.{digest_of};
-ghost use Rattle.shared_cache.specs.Readings.{is_read_as};
+ghost use Rattle.shared_cache.specs.Readings.{is_read_as, read_value};
 
 use faults::Fault;
 use json_doc::{Doc, write};
@@ -44,15 +44,18 @@ impl Model for Key {
 impl Key {
     /// The key of the document under this base. The only error is want of memory.
     ///
-    /// The text of a document that nests no deeper than 127 is read as its value again.
+    /// The text of a document that nests no deeper than 127 is read as its value again. It takes no more room than its bytes.
     pub fn of(alloc: Global, base: &Parts, document: &Doc) -> Result<Key, Fault>
         ensures ok { IfOk result (λ k. k ≡ (recompose base.now, text (value document.now))) }
         ensures reads_back { IfOk result
             (λ k. nesting (value document.now) ≤ 127 → is_read_as k.1 (value document.now) ≡ true) }
+        ensures spells { IfOk result
+            (λ k. nesting (value document.now) ≤ 127 → read_value k.1 ≡ value document.now) }
         ensures err { IfErr result (λ f. f ≡ Fault.NoRoom) }
     {
         let base = recompose(alloc, base)?;
-        let text = write(alloc, document)?;
+        let mut text = write(alloc, document)?;
+        text.shrink_to_fit();
         let digest = digest(base.as_str(), text.as_str());
         Ok(Key { digest, base, text })
     }

@@ -1,16 +1,7 @@
-use Rattle.std.proofs.Common.{Ok, sym, ap, ◌∙◌}
-use Rattle.definitions.specs.Caches.{CacheKey}
-use Rattle.definitions.specs.Values.{Value}
 use Rattle.json_doc.specs.Docs.{value}
 use Rattle.schema_scan.specs.CompiledDocuments.{compiled_value}
-use Rattle.shared_cache.proofs.ReadValues.{read_as, one_value, sound_as, regular_as}
+use Rattle.shared_cache.proofs.ReadValues.{one_value, sound_as, regular_as}
 use Rattle.shared_cache.proofs.cache.Cache.compiled_as.Goals as goal
-
-pub keep-requires-clause-made : goal.keep-requires-clause-made
-keep-requires-clause-made c = (
-  c.in_ok-made-in-None.ensures.base ∙ c.split.ensures.recomposes ∙ c.base.ensures ∙ ap (λ (l : CacheKey). l.0) c.deref-in-None.ensures,
-  read_as c.args.key.now.value.1 (value c.args.document.now) c.requires ∙ ap (λ (v : Value). Ok v) (sym c.in_ok-made-in-None.ensures.value),
-)
 
 pub returns-in-Some-clause-value : goal.returns-in-Some-clause-value
 returns-in-Some-clause-value c =

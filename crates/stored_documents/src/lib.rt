@@ -7,6 +7,7 @@ mod insertion;
 mod ordered;
 mod releases;
 mod resource_texts;
+mod resources;
 mod stored;
 mod taken_uris;
 mod together;

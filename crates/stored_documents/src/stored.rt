@@ -12,39 +12,34 @@ ghost use Rattle.definitions.specs.Texts.{text};
 ghost use Rattle.definitions.specs.Uris.{recompose};
 ghost use Rattle.faults.specs.View.{fault_view};
 ghost use Rattle.json_doc.specs.Docs.{value};
-ghost use Rattle.shared_cache.specs.Readings.{is_read_as};
+ghost use Rattle.shared_cache.specs.Readings.{is_read_as, read_value};
 ghost use Rattle.shared_cache.specs.Refusals.{Refuses};
-ghost use Rattle.stored_documents.specs.TextSets.{IsSetOf};
 
-use crate::resource_texts::{copied, text_set};
+use crate::resources::Resources;
 use faults::Fault;
 use json_doc::Doc;
 use schema_scan::canonical;
 use shared_cache::{Cache, Key};
 use std::alloc::Global;
-use std::collections::BTreeSet;
 use std::rc::Rc;
 use uri_ref::Parts;
 
-/// A document that the scan found no fault in and whose patterns were built, with its key and its resources' URIs.
+/// A document that the scan found no fault in and whose patterns were built, as its key, with its resources' URIs.
 ///
-/// Nothing compiled is held: a cache is asked for that, by the key. Contracts see the document by `stored_view`.
+/// The key's text is all that is held of its value: a cache is asked for what is compiled, by the key. Contracts see the
+/// document by `stored_view`.
 #[derive(Drop)]
 pub struct Stored {
     key: Rc<Key>,
-    document: Doc,
     canonical: String,
     // In the order of a walk.
-    resources: Vec<String>,
-    // The URIs of the resources in byte order, to look them up.
-    resource_set: BTreeSet<String>,
-    ghost reads_back: { is_read_as key.value.1 (value document) ≡ true },
-    ghost compact: { key.value.1 ≡ text (value document) },
-    ghost faultless: { scan_fault key.value.0 (value document) ≡ None },
-    ghost regular: { is_regular regular_search (value document) ≡ true },
-    ghost named: { string_bytes canonical ≡ (document_from key.value.0 (value document)).canonical },
-    ghost opened: { map string_bytes resources.items ≡ resources_of (document_from key.value.0 (value document)) },
-    ghost looked_up: { IsSetOf resource_set (map string_bytes resources.items) },
+    resources: Resources,
+    ghost reads_back: { is_read_as key.value.1 (read_value key.value.1) ≡ true },
+    ghost compact: { key.value.1 ≡ text (read_value key.value.1) },
+    ghost faultless: { scan_fault key.value.0 (read_value key.value.1) ≡ None },
+    ghost regular: { is_regular regular_search (read_value key.value.1) ≡ true },
+    ghost named: { string_bytes canonical ≡ (document_from key.value.0 (read_value key.value.1)).canonical },
+    ghost opened: { resources ≡ resources_of (document_from key.value.0 (read_value key.value.1)) },
 }
 
 impl Stored {
@@ -57,45 +52,37 @@ impl Stored {
         alloc: Global,
         cache: &mut Cache,
         base: &Parts,
-        document: Doc,
+        document: &Doc,
     ) -> Result<Stored, Fault>
         ensures ok { IfOk result
-            (λ s. stored_view s ≡ document_from (recompose base.now) (value document)) }
+            (λ s. stored_view s ≡ document_from (recompose base.now) (value document.now)) }
         ensures err { IfErr result
-            (λ f. f ≢ Fault.NoRoom → Refuses (recompose base.now) (value document) (fault_view f)) }
+            (λ f. f ≢ Fault.NoRoom → Refuses (recompose base.now) (value document.now)
+            (fault_view f)) }
         ensures used { OnOk result
-            (IsUsed cache.old (recompose base.now, text (value document)) cache.new) }
+            (IsUsed cache.old (recompose base.now, text (value document.now)) cache.new) }
     {
-        let (key, compiled) = cache.compiled_with_key(alloc, base, &document)?;
+        let (key, compiled) = cache.compiled_with_key(alloc, base, document)?;
         let canonical = canonical(&compiled).to_owned(alloc)?;
-        let resources = copied(alloc, compiled.resource_uris())?;
-        let resource_set = text_set(alloc, &resources)?;
+        let resources = Resources::of(alloc, compiled.resource_uris())?;
         Ok(Stored {
             key,
-            document,
             canonical,
             resources,
-            resource_set,
         })
     }
 
-    /// The key under which a cache keeps what is compiled of it. Its text is read as the document's value.
+    /// The key under which a cache keeps what is compiled of it. Its text is read as the document's value, which has no fault.
     pub fn key(&self) -> &Rc<Key>
         ensures base { result.now.value.0 ≡ (stored_view self.now).base }
         ensures text { result.now.value.1 ≡ text (stored_view self.now).value }
+        ensures spells { read_value result.now.value.1 ≡ (stored_view self.now).value }
         ensures reads_back { is_read_as result.now.value.1 (stored_view self.now).value ≡ true }
-    {
-        &self.key
-    }
-
-    /// The document.
-    pub fn document(&self) -> &Doc
-        ensures value { value result.now ≡ (stored_view self.now).value }
         ensures faultless { scan_fault (stored_view self.now).base
             (stored_view self.now).value ≡ None }
         ensures regular { is_regular regular_search (stored_view self.now).value ≡ true }
     {
-        &self.document
+        &self.key
     }
 
     /// Its canonical URI: that of its root's resource (JSON Schema 2020-12 Core, section 8.2.1).
@@ -109,7 +96,7 @@ impl Stored {
     pub fn resource_uris(&self) -> &[String]
         ensures { map string_bytes result.now ≡ resources_of (stored_view self.now) }
     {
-        self.resources.as_slice()
+        self.resources.uris()
     }
 
     /// How many bytes its compact text has.
@@ -123,6 +110,6 @@ impl Stored {
     pub fn holds(&self, uri: &str) -> bool
         ensures { result ≡ holds_resource uri.now (stored_view self.now) }
     {
-        self.resource_set.contains(uri)
+        self.resources.contains(uri)
     }
 }

@@ -9,5 +9,5 @@ use Rattle.stored_documents.proofs.stored.Stored.holds.Goals as goal
 pub returns : goal.returns
 returns c =
     let d = stored_view c.args.self.now in
-    c.contains.ensures ∙ c.args.self.now.looked_up c.args.uri.now ∙ ap (list_any (same_text c.args.uri.now)) c.args.self.now.opened
+    c.contains.ensures ∙ ap (list_any (same_text c.args.uri.now)) c.args.self.now.opened
     ∙ held c.args.uri.now (schemas_of d.base d.value)

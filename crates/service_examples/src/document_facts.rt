@@ -8,13 +8,14 @@ use std::process::Abort;
 use stored_documents::{Documents, Fault, Stored};
 use uri_ref::split;
 
-// The canonical URI, the length, the key's text, the written document, how many resources there are, and which of three
-// URIs they have; and how many documents the cache keeps.
+// The canonical URI, the length, the key's text, the written document that the cache gives for the key, how many resources
+// there are, and which of three URIs they have.
 fn told(alloc: Global, cache: &mut Cache, text: &str) -> Result<String, Fault> {
     let document: Doc = read(alloc, text.as_bytes())?;
-    let kept = Stored::of(alloc, cache, &split("https://ex.org/s"), document)?;
+    let kept = Stored::of(alloc, cache, &split("https://ex.org/s"), &document)?;
     let (canonical, length) = (kept.canonical(), kept.length());
-    let (key, document) = (kept.key().text(), write(alloc, kept.document())?);
+    let compiled = cache.compiled_of_key(alloc, kept.key())?;
+    let (key, document) = (kept.key().text(), write(alloc, compiled.document())?);
     let uris = kept.resource_uris().len();
     let mut line = format!(in alloc; "{canonical} {length} {key} {document} {uris}")?;
     for uri in &["https://ex.org/t", "https://ex.org/e", "https://ex.org/s"] {

@@ -105,6 +105,35 @@ const CACHE_OF_TWO: &[Line] = &[
     ),
 ];
 
+const PUSHED_OUT: &[Line] = &[
+    (
+        "a first document is stored",
+        r#"put https://ex.org/a {"type":"integer"}"#,
+        "stored https://ex.org/a",
+    ),
+    (
+        "a second document is stored, and pushes the first one out of the cache",
+        r#"put https://ex.org/b {"type":"string"}"#,
+        "stored https://ex.org/b",
+    ),
+    (
+        "5 is an integer, which the first document asks for, compiled anew",
+        "say https://ex.org/a",
+        VALID,
+    ),
+    (
+        "5 is no string, which the second document asks for, compiled anew",
+        "say https://ex.org/b",
+        r#"{"errors":[{"absoluteKeywordLocation":"https://ex.org/b#/type","error":"type is not met","instanceLocation":"","keywordLocation":"/type"}],"valid":false}"#,
+    ),
+    (
+        "the first document, pushed out once more, says the same",
+        "say https://ex.org/a",
+        VALID,
+    ),
+    ("a cache of one keeps one document", "len", "1"),
+];
+
 const EMPTY_LIBRARY: &[Line] = &[(
     "no document has the URI (PROFILE.md, 14)",
     "say https://ex.org/lib",
@@ -134,6 +163,13 @@ const REGISTRIES: &[Alone] = &[
         capacity: 2,
         documents: 3,
         lines: CACHE_OF_TWO,
+    },
+    Alone {
+        why: "what was pushed out of the cache is compiled anew from the text that is kept",
+        library: None,
+        capacity: 1,
+        documents: 2,
+        lines: PUSHED_OUT,
     },
     Alone {
         why: "without a library its documents aren't there",

@@ -28,7 +28,7 @@ pub(crate) fn accept(
 {
     let base = base_form(alloc, uri)?;
     let document = read_body_with(alloc, scratch, body)?;
-    Stored::of(alloc, cache, &split(base.as_str()), document)
+    Stored::of(alloc, cache, &split(base.as_str()), &document)
 }
 
 // The document that was read, taken to stand under the URI, scanned and with its patterns built.
@@ -36,10 +36,11 @@ pub(crate) fn accept_document(
     alloc: Global,
     cache: &mut Cache,
     uri: &str,
-    document: Doc,
+    document: &Doc,
 ) -> Result<Stored, Fault>
-    ensures ok { IfOk result (λ s. IsUnder (base_form uri.now) (value document) (stored_view s)) }
-    ensures err { IfErr result (λ f. RefusesUnder (base_form uri.now) (value document)
+    ensures ok { IfOk result (λ s. IsUnder (base_form uri.now) (value document.now)
+        (stored_view s)) }
+    ensures err { IfErr result (λ f. RefusesUnder (base_form uri.now) (value document.now)
         (fault_view f)) }
 {
     let base = base_form(alloc, uri)?;

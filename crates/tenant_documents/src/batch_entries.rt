@@ -10,7 +10,7 @@ ghost use Rattle.tenant_documents.specs.Batches.{IsEntered, IsRefusal};
 ghost use Rattle.tenant_documents.specs.EntryRefusals.{IsRefusedEntry, IsRefusedUnder};
 ghost use Rattle.tenants_file.specs.Entries.{entry_view};
 
-use json_doc::{Doc, copy};
+use json_doc::Doc;
 use requests::Fault;
 use shared_cache::Cache;
 use std::alloc::Global;
@@ -80,7 +80,6 @@ fn stored_under(
     ensures err { IfErr result (λ f. f ≢ Fault.NoRoom
         → IsRefusedUnder (Ok base.now) (value document.now) (fault_view f)) }
 {
-    let copied = copy(alloc, document)?;
-    let stored = Stored::of(alloc, cache, &split(base), copied)?;
+    let stored = Stored::of(alloc, cache, &split(base), document)?;
     Ok(Rc::new(alloc, stored)?)
 }

@@ -71,8 +71,8 @@ impl Registry {
     /// The faults are those of a put but for the body's, in the same order: `BadUri`, and from the faults of the scan on.
     /// Where one is answered, nothing changes. `NoRoom` may take the place of any answer, and `BadPattern` may be for a
     /// pattern that can be read and is too big once it is built.
-    pub fn restore(&mut self, alloc: Global, cache: &mut Cache, uri: &str, document: Doc) -> Reply
-        ensures { IsPutUnder (registry_view self.old) (base_form uri.now) (value document)
+    pub fn restore(&mut self, alloc: Global, cache: &mut Cache, uri: &str, document: &Doc) -> Reply
+        ensures { IsPutUnder (registry_view self.old) (base_form uri.now) (value document.now)
             (reply_view result) (registry_view self.new) }
     {
         match self.restored(alloc, cache, uri, document) {
@@ -86,12 +86,12 @@ impl Registry {
         alloc: Global,
         cache: &mut Cache,
         uri: &str,
-        document: Doc,
+        document: &Doc,
     ) -> Result<Reply, Fault>
         ensures ok { IfOk result (λ r. IsPutUnder (registry_view self.old) (base_form uri.now)
-            (value document) (reply_view r) (registry_view self.new)) }
+            (value document.now) (reply_view r) (registry_view self.new)) }
         ensures err { IfErr result (λ f. IsPutUnder (registry_view self.old) (base_form uri.now)
-            (value document) (refused (fault_view f)) (registry_view self.new)) }
+            (value document.now) (refused (fault_view f)) (registry_view self.new)) }
     {
         let document = accept_document(alloc, cache, uri, document)?;
         self.insert(alloc, document)

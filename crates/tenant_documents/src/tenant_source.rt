@@ -32,10 +32,7 @@ impl<'a> Source for TenantSource<'a> {
 
     fn holding(&mut self, alloc: Global, resource: &str) -> Result<Option<Rc<Compiled>>, Fault> {
         match self.documents.holder(resource) {
-            Some(stored) => match self
-                .cache
-                .compiled_as(alloc, stored.key(), stored.document())
-            {
+            Some(stored) => match self.cache.compiled_of_key(alloc, stored.key()) {
                 Ok(compiled) => Ok(Some(compiled)),
                 // A stored document has no fault, and its patterns can be read.
                 Err(_) => Err(Fault::NoRoom),

@@ -66,7 +66,7 @@ fn restore_once(
         (reply_view result) (registry_view registry.new) }
 {
     match read_restored(alloc, &mut workspace.scratch, text) {
-        Ok(document) => registry.restore(alloc, &mut workspace.cache, base, document),
+        Ok(document) => registry.restore(alloc, &mut workspace.cache, base, &document),
         Err(fault) => Reply::Refused(fault),
     }
 }

@@ -16,14 +16,14 @@ pub returns-in_err-base-clause-err : goal.returns-in_err-base-clause-err
 returns-in_err-base-clause-err c =
     let p = err_from_is_err_and c.from_residual.result c.from_residual.ensures.1 in
     let form = base_form c.args.uri.now in
-    let v = value c.args.document in
+    let v = value c.args.document.now in
     rw (p.1, p.2) (for_each_fault (RefusesUnder form v) c.in_err-base.field-0.0 (λ other. bad_base_under form v (fault_view c.in_err-base.field-0.0) (c.in_err-base.ensures.err other)) (no_room_under form v))
 
 pub returns-clause-err : goal.returns-clause-err
 returns-clause-err c =
     let form = base_form c.args.uri.now in
     let base = recompose c.split.result in
-    let v = value c.args.document in
+    let v = value c.args.document.now in
     let same : string_bytes c.in_ok-base.base ≡ base = sym (c.split.ensures.recomposes ∙ c.as_str.ensures.value) in
     err_more (λ (f : Fault). f ≢ NoRoom → Refuses base v (fault_view f)) (λ (f : Fault). RefusesUnder form v (fault_view f)) c.of.result
     (λ f why. for_each_fault (RefusesUnder form v) f

@@ -1,6 +1,5 @@
 use Rattle.std.proofs.Common.{subst}
 use Rattle.std.proofs.lemmas.Result.{err_from_is_err_and}
-use Rattle.definitions.specs.Uris.{recompose}
 use Rattle.faults.specs.View.{fault_view}
 use Rattle.json_doc.specs.Docs.{value}
 use Rattle.shared_cache.specs.Refusals.{Refuses}
@@ -9,9 +8,8 @@ use Rattle.tenant_documents.proofs.batch_entries.stored_under.Goals as goal
 
 pub returns-in_err-stored-clause-err : goal.returns-in_err-stored-clause-err
 returns-in_err-stored-clause-err c =
-    let p = err_from_is_err_and c.from_residual-in_err-stored.result c.from_residual-in_err-stored.ensures.1 in
+    let p = err_from_is_err_and c.from_residual.result c.from_residual.ensures.1 in
     let v = value c.args.document.now in
     let f = fault_view c.in_err-stored.field-0.0 in
     rw (p.1, p.2) (λ other. refuses_under c.args.base.now v f
-    (subst (λ b. Refuses b v f) c.split.ensures.recomposes
-    (subst (λ w. Refuses (recompose c.split.result) w f) c.in_ok-copied.ensures.ok (c.in_err-stored.ensures.err other))))
+    (subst (λ b. Refuses b v f) c.split.ensures.recomposes (c.in_err-stored.ensures.err other)))

@@ -374,6 +374,9 @@ CASES = [
     Case("4,000 documents, each asked for twice in turn", lambda: [
         *[("k", "put", f"{SITE}{n}", {}) for n in range(4_000)],
         *[("k", "validate", f"{SITE}{n}", 1) for n in range(4_000)] * 2], "200 valid"),
+    Case("10,000 documents, each asked for in turn", lambda: [
+        *[("k", "put", f"{SITE}{n}", {}) for n in range(10_000)],
+        *[("k", "validate", f"{SITE}{n}", 1) for n in range(10_000)]], "200 valid"),
     Case("8 documents of 260,000 lists of one number, with --cache 1", lambda: [
         ("k", "put", f"{SITE}{n}", repeated(b"[1]", BODY, b'{"const":[', b"]}")) for n in range(8)],
         "201", over="stored", words=("--cache", "1")),

@@ -9,6 +9,7 @@ from workloads import ADDRESS, ORDER_LINE, compact, order, small_object
 
 KEY = "k1"
 SITE = "https://example.com"
+RING, RINGS = 40, 5
 TENANTS = {"tenants": [{"key": KEY, "documents": 1_000_000, "bytes": 1_000_000_000}]}
 
 
@@ -37,11 +38,48 @@ def labels():
     return {"items": {"title": "t" * 800}}, ["b" * 118 for _ in range(15)]
 
 
+def ring_uri(number):
+    return f"{SITE}/r/{number:03}"
+
+
+def ring_document(number):
+    """One of two hundred documents in rings of forty, each of which refers to the next of its ring."""
+    following = number - number % RING + (number + 1) % RING
+    members = {"id": {"type": "integer", "minimum": 0}, "name": {"type": "string", "maxLength": 40}, "next": {"$ref": ring_uri(following)}}
+    return {"type": "object", "required": ["id"], "properties": members}
+
+
+def ring_documents():
+    return [["put", ring_uri(number), ring_document(number)] for number in range(RINGS * RING)]
+
+
+def ring_instance():
+    """An instance to which every document of a ring is applied once."""
+    instance = {"id": RING, "name": "Ada Lovelace"}
+    for number in reversed(range(1, RING)):
+        instance = {"id": number, "name": "Ada Lovelace", "next": instance}
+    return instance
+
+
+def ring_bundle():
+    """One document that says what a ring does."""
+    others = {ring_uri(number): {"$id": ring_uri(number), **ring_document(number)} for number in range(1, RING)}
+    return {"$id": ring_uri(0), "$defs": others, **ring_document(0)}
+
+
 VALIDATIONS = {
     "validate, small object": lambda: in_byte_order(small_object),
     "validate, order of 2 KB": lambda: in_byte_order(order_alone),
     "validate, labels of 2 KB": labels,
 }
+
+
+OF_RING = "validate, 40 of 200 documents"
+
+
+def schema_alone(name, before):
+    """One document that says what the request is validated by."""
+    return ring_bundle() if name == OF_RING else before[0][2]
 
 
 def document_uri(number):
@@ -94,6 +132,8 @@ def program_requests():
     for name, make in VALIDATIONS.items():
         schema, instance = make()
         requests[name] = ([["put", f"{SITE}/schema", schema]], ["validate", f"{SITE}/schema", instance])
+    requests[OF_RING] = (ring_documents(), ["validate", ring_uri(0), ring_instance()])
+    requests["put, one of 200 documents"] = (ring_documents(), ["put", ring_uri(0), ring_document(0)])
     requests["bundle, 10 documents of 1 KB"] = (chained(10), ["bundle", document_uri(0)])
     return requests
 

@@ -13,6 +13,7 @@ where valgrind is installed. Each table is measured for at least S seconds a fig
     feed     the bytes of one connection in pieces: what a byte costs at one size and at twice the size
     run      one pipelined connection on standard input and output
     serve    one connection on the loopback address, pipelined, and with a reply awaited before the next request
+    registry the memory of a registry of 10,000 documents of 2 KB
     bursts   20 and 200 requests that a client on the loopback address sends in one write, to `serve` with and without --accept
     many ..  many clients of `serve` without --accept, which is on one processor and they on the others:
         many, beside nginx      validations by 1, 50 and 900 connections, and nginx's with one worker and a fixed reply
@@ -46,7 +47,7 @@ from pathlib import Path
 from statistics import median
 
 from loopback import connect, free_port, in_turn, reply_length, together
-from durable import DURABLE_TABLES
+from durable import DURABLE_TABLES, OPENED, of_length, put_all
 from many_clients import MANY_TABLES
 from many_servers import many_server
 from run import TOP, Bench, amount, print_table, time_of
@@ -54,6 +55,7 @@ from service_requests import (
     SITE, TENANTS, VALIDATIONS, chained, compact, document_uri, http_call, http_request, program_requests, ring_documents,
     schema_alone, small_document, stored, written,
 )
+from workloads import order
 
 REGISTRIES = (1, 100, 10_000)
 BUNDLES = (250, 500, 1_000)
@@ -330,6 +332,30 @@ def burst_table(service):
     return all(row[-1] == "ok" for row in rows)
 
 
+# the megabytes that a registry may take: half of what it took where each document was kept as a value, too
+MOST_REGISTRY = {"one text each": 38.1, "an order's schema each": 66.6}
+
+
+def order_schema(number, length):
+    """The order's schema under a URI of its own, with a text that fills it up to so many bytes."""
+    schema = {**order()[0], "$id": document_uri(number), "description": ""}
+    schema["description"] = "d" * (length - len(compact(schema)))
+    return schema
+
+
+def registry_table(service):
+    """Whether a server that has 10,000 documents of 2 KB takes at most its megabytes."""
+    rows = []
+    for (name, most), make in zip(MOST_REGISTRY.items(), (of_length, order_schema)):
+        with written(TENANTS) as tenants, many_server(service.served, tenants) as server:
+            empty = server.resident()
+            put_all(server, OPENED, lambda number: make(number, 2_000))
+            taken = server.resident() - empty
+        rows.append([f"{OPENED:,} of 2 KB, {name}", f"{taken:.1f} MB", f"at most {most} MB", "ok" if taken <= most else "missed"])
+    print_table(["Documents", "Resident memory", "Mark", ""], rows)
+    return all(row[-1] == "ok" for row in rows)
+
+
 TABLES = {
     "hub": hub_table,
     "bundles": bundle_table,
@@ -337,6 +363,7 @@ TABLES = {
     "run": run_table,
     "serve": serve_table,
     "bursts": burst_table,
+    "registry": registry_table,
     **MANY_TABLES,
     **DURABLE_TABLES,
 }

@@ -379,7 +379,7 @@ CASES = [
         *[("k", "validate", f"{SITE}{n}", 1) for n in range(10_000)]], "200 valid"),
     Case("8 documents of 260,000 lists of one number, with --cache 1", lambda: [
         ("k", "put", f"{SITE}{n}", repeated(b"[1]", BODY, b'{"const":[', b"]}")) for n in range(8)],
-        "201", over="stored", words=("--cache", "1")),
+        "201", over="many", words=("--cache", "1")),
     Case("40 documents of 25 bytes with a large pattern, then another tenant's, in 500 MB", lambda: [
         *[("k", "put", f"{SITE}{n}", {"pattern": rf"\w{{1000}}{n}"}) for n in range(40)],
         ("l", "put", f"{SITE}s", {}), ("l", "put", f"{SITE}p", {"pattern": r"\w{900}"}), ("l", "validate", f"{SITE}s", 1)],

@@ -19,7 +19,8 @@ from run import amount, print_table, time_of
 from service_requests import SITE, TENANTS, compact, http_call, program_requests, written
 from workloads import ORDER_LINE
 
-TRIES = 5
+# By five tries, one pair of servers differs by a tenth from run to run.
+TRIES = 15
 LARGEST_BODY = 1_048_576
 CONNECTIONS = (1, 50, 900)
 LEAST_OF_NGINX = 0.8

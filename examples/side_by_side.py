@@ -235,13 +235,12 @@ def memory_is_taken(program):
 
 
 def room_is_given_back(program):
-    """Idle clients that have each sent a large request take no more memory than those that have not."""
+    """Idle clients that have each sent a large request, one after the other, take no more memory than those that have not."""
     with Server(program) as server:
         clients = [server.client() for _ in range(200)]
         large = put("urn:large", b" " * 100_000 + STRING)
         for client in clients:
             client.sendall(large)
-        for client in clients:
             answer = b""
             while not answer.endswith(b"}"):
                 answer += client.recv(65_536)

@@ -13,6 +13,8 @@ mod examples;
 #[cfg(test)]
 mod keyword_outputs;
 #[cfg(test)]
+mod known_targets;
+#[cfg(test)]
 mod large_reports;
 #[cfg(test)]
 mod limits;

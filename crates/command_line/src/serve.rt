@@ -20,8 +20,9 @@ const AFTER_HELP: &str =
     standard error as 'connection <k>: <name>', and the others are served.\n\n\
     Without --accept connections are served side by side. Standard error gets 'listening on <address>'\n\
     at first, also of a port that the system chose for 0, and at the end how many connections, requests\n\
-    and refusals there were. The end comes with that of standard input, where it is a pipe or a terminal:\n\
-    no further client is taken then, and each connection ends once all that came whole is answered.\n\n\
+    and refusals there were. The end comes with that of standard input, where it is a pipe, or when a\n\
+    terminal there hangs up (not by Ctrl-D): no further client is taken then, and each connection ends\n\
+    once all that came whole is answered.\n\n\
     With --accept a client that neither sends nor takes a byte for 30 seconds is let go, and each one\n\
     5 minutes after it was accepted.\n\n\
     Status: 0 at the end, 2 where nothing can be served at the address; standard error then says why.\n\n\

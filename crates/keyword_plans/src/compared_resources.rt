@@ -36,6 +36,8 @@ pub(crate) struct ComparedResources<'a> {
     compared: usize,
     enough: usize,
     numbered: Option<Box<NumberedResources<'a>>>,
+    // The number of the document that is tried first.
+    likely: usize,
     ghost same: { IfSome numbered (λ n. n.value.linked ≡ linked) } by { Prim.hlevel (props, value_set) },
 }
 
@@ -51,6 +53,7 @@ impl<'a> ComparedResources<'a> {
             compared: 0,
             enough: MANY,
             numbered: None,
+            likely: 0,
         }
     }
 
@@ -103,8 +106,26 @@ impl<'a> ComparedResources<'a> {
         self.compare(alloc, uri.len())?;
         match &mut self.numbered {
             Some(numbered) => numbered.document(uri),
-            None => Ok(self.linked.document_number(uri)),
+            None => Ok(self.document_compared(uri)),
         }
+    }
+
+    // The same by comparing: with the document that most likely has the resource first.
+    fn document_compared(&self, uri: &str) -> Option<usize>
+        ensures { IsDocument (compared_in self.now).now uri.now result }
+    {
+        if self.linked.is_holder(self.likely, uri) {
+            Some(self.likely)
+        } else {
+            self.linked.document_number(uri)
+        }
+    }
+
+    /// The document of this number, where there is one, is tried first from here on.
+    pub(crate) fn expect(&mut self, document: Option<usize>)
+        ensures { compared_in self.new ≡ compared_in self.old }
+    {
+        self.likely = document.unwrap_or(self.likely);
     }
 
     /// The number of a dynamic anchor of the documents, where the texts have numbers. The only error is want of memory.

@@ -24,6 +24,9 @@ use std::collections::BTreeMap;
 /// How many short references are kept.
 const MOST_SHORT: usize = 64;
 
+/// How far apart the places of two documents' first references are; odd, so that sixty-four documents have a place each.
+const APART: usize = 11;
+
 /// With so many bytes in its text and in the URI of its resource a reference is short: what it names is found about as fast as
 /// among those that are kept by their numbers.
 const SHORT: usize = 128;
@@ -45,8 +48,8 @@ struct FollowedReference<'a> {
 }
 
 /// What the references that were followed in an evaluation name: of the short ones sixty-four at most, each in the place that
-/// the number of its text tells, of which the last that was followed there is kept; of the others all, since to find anew what
-/// one names takes as long as its text is.
+/// the numbers of its document and of its text tell, of which the last that was followed there is kept; of the others all,
+/// since to find anew what one names takes as long as its text is.
 ///
 /// To follow one of them again takes no memory. Contracts see the documents that they stand in, by `followed_in`.
 #[derive(Drop)]
@@ -115,7 +118,7 @@ impl<'a> FollowedReferences<'a> {
         match self.number(alloc, resource, reference)? {
             Some(number) => self.numbered(alloc, number),
             // Never: some schema has the reference.
-            None => named_first(alloc, self.linked, resource, reference),
+            None => named_first(alloc, self.linked, None, resource, reference),
         }
     }
 
@@ -251,9 +254,10 @@ impl<'a> FollowedReferences<'a> {
         ensures anchored { IfOk result (HasFollowedAnchor (followed_in self.old).now) }
         ensures linked { followed_in self.new ≡ followed_in self.old }
     {
+        self.resources.expect(self.linked.target_document(number));
         match self.linked.reference(number) {
             Some((resource, reference)) => {
-                let named = named_first(alloc, self.linked, resource, reference)?;
+                let named = named_first(alloc, self.linked, Some(number), resource, reference)?;
                 let followed = FollowedReference {
                     number,
                     named: again(&named)?,
@@ -298,17 +302,19 @@ fn is_short(resource: &str, reference: &str) -> bool {
     resource.len() <= SHORT && reference.len() <= SHORT - resource.len()
 }
 
-// The place of a short reference among those that are kept.
+// The place of a short reference among those that are kept. Those of one document stand side by side, and those of others apart.
 fn place_of(number: ReferenceNumber) -> usize
     ensures { result < 64 }
 {
-    number.text() % MOST_SHORT
+    let (document, _, _) = number.parts();
+    document.wrapping_mul(APART).wrapping_add(number.text()) % MOST_SHORT
 }
 
-// What the documents have under the reference.
+// What the documents have under the reference, which has this number, where one is given.
 fn named_first<'a>(
     alloc: Global,
     linked: &'a Linked,
+    number: Option<ReferenceNumber>,
     resource: &str,
     reference: &str,
 ) -> Result<Option<Followed<'a>>, AllocError>
@@ -316,7 +322,7 @@ fn named_first<'a>(
         (target_uri resource.now reference.now) n) }
     ensures anchored { IfOk result (HasFollowedAnchor linked.entry.now) }
 {
-    match linked.named(alloc, resource, reference) {
+    match linked.named(alloc, number, resource, reference) {
         Ok(Some(named)) => Ok(Some(Followed {
             target: Target::of(alloc, named.target)?,
             anchor: named.anchor,

@@ -1,6 +1,7 @@
 -- The document that a schema of linked documents stands in.
 use Rattle.std.proofs.Common.{◌≡◌, ℕ, List, [], ◌∷◌, Option, Some, None, Contains, IfSome, find, is_some, length, option_and_then, refl, option_map, sym, ap, ap₂, ◌∙◌, subst, arith, append-nil, true}
-use Rattle.std.proofs.lemmas.Option.{same_Some, slice_get-map}
+use Rattle.std.proofs.lemmas.List.Elements.{Contains-get_or}
+use Rattle.std.proofs.lemmas.Option.{get_or_from_slice_get, same_Some, slice_get-map, slice_get_within}
 use Rattle.std.specs.Global.{Global}
 use Rattle.std.specs.List.{slice_get}
 use Rattle.std.specs.declared.rc.Rc.{Rc}
@@ -20,6 +21,7 @@ use Rattle.linker.specs.ReferenceNumbers.{StandsIn, document_at, pair_in, refere
 use Rattle.linker.specs.SharedDocuments.{shared_documents}
 use Rattle.linker.specs.declared.linked.Linked.{Linked}
 use Rattle.linker.specs.declared.references.ReferenceNumber.{ReferenceNumber}
+use Rattle.linker.proofs.CanonicalHolders.{first_holder}
 use Rattle.linker.proofs.Tables.{found_holds, resource_held}
 
 -- the only one
@@ -90,3 +92,19 @@ numbered l s d n uri text at resource reference =
 
 pub held_there : (s : Schema) (d : Compiled) (uri : Text) → Contains (compiled_schemas d) s → s.resource ≡ uri → holds_resource uri (compiled_view d) ≡ true
 held_there s d uri inside resource = resource_held (compiled_view d) uri s inside (ap (same_text uri) resource ∙ same_text_itself uri)
+
+-- the document of a number is one of them, and the one that has its resources
+pub document_numbered : (l : Linked) (n : ℕ) (d : Compiled) → document_at l n ≡ Some d → slice_get (linked_documents l) n ≡ Some (compiled_view d)
+unfolding linked_documents shared_documents document_at
+document_numbered l n d at = slice_get-map (λ (x : Rc Compiled Global). compiled_view x.value) l.documents.items n ∙ viewed (slice_get l.documents.items n) d at
+
+contains_numbered : {X : Type 0} (xs : List X) (n : ℕ) (x : X) → slice_get xs n ≡ Some x → Contains xs x
+contains_numbered xs n x e = subst (Contains xs) (get_or_from_slice_get xs n x x e) (Contains-get_or xs n x (slice_get_within xs n x e))
+
+pub holder_numbered : (l : Linked) (n : ℕ) (d : Compiled) (uri : Text) → document_at l n ≡ Some d → holds_resource uri (compiled_view d) ≡ true
+    → Some (compiled_view d) ≡ find (holds_resource uri) (linked_documents l)
+unfolding linked_documents
+holder_numbered l n d uri at holds =
+    let ds = linked_documents l in
+    sym (first_holder ds uri (compiled_view d) (ap (has_repeat same_text) (sym (table_uris ds)) ∙ l.distinct)
+    (contains_numbered ds n (compiled_view d) (document_numbered l n d at)) holds)

@@ -18,6 +18,7 @@ mod named;
 mod pattern_numbers;
 mod references;
 mod source;
+mod target_documents;
 mod visiting;
 
 pub use both::Both;

@@ -35,6 +35,9 @@ pub struct Linked {
     pub(crate) documents: Vec<Rc<Compiled>>,
     // Those of them that have several resources.
     pub(crate) compound: CompoundDocuments,
+    // The numbers of the documents that the references of the first resource of each lead to, by the numbers of their texts,
+    // where several documents are linked.
+    pub(crate) target_documents: Vec<Vec<Option<usize>>>,
     // The URIs of the resources that have a dynamic anchor, by its name.
     pub(crate) dynamic_resources: BTreeMap<String, BTreeSet<String>>,
     ghost ascend: { Ascend (shared_documents documents.items) } by { IsStrictlySortedBy-prop _ _ },

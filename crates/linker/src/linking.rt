@@ -22,6 +22,7 @@ use crate::holders::holder;
 use crate::judging::least_missing;
 use crate::linked::Linked;
 use crate::source::Source;
+use crate::target_documents::target_documents;
 use crate::visiting::{Reached, reached_documents};
 use faults::Fault;
 use schema_scan::Compiled;
@@ -51,6 +52,7 @@ pub fn link<S: Source>(alloc: Global, source: &mut S, resource: &str) -> Result<
     judge(alloc, &documents, &compound)?;
     let (document, number) = holder_of(&documents, &compound, resource)?;
     let dynamic_resources = dynamic_resources_of(alloc, &documents)?;
+    let target_documents = target_documents(alloc, &documents, &compound)?;
     let uri = resource.to_owned(alloc)?;
     Ok(Linked {
         uri,
@@ -58,6 +60,7 @@ pub fn link<S: Source>(alloc: Global, source: &mut S, resource: &str) -> Result<
         number,
         documents,
         compound,
+        target_documents,
         dynamic_resources,
     })
 }

@@ -1,6 +1,6 @@
 //! What the linked documents have under a URI and a reference (JSON Schema 2020-12 Core, section 8.2).
 
-ghost use Rattle.std.specs.Prelude.{◌≡◌, [], List, false, true, Some, Ok, Err, IfOk, IfErr, IfSome, IsTrue, Contains, codes, is_some, map, option_map, find, unwrap_or, string_bytes};
+ghost use Rattle.std.specs.Prelude.{◌≡◌, [], List, false, true, Some, Ok, Err, IfOk, IfErr, IfSome, IsTrue, Contains, codes, is_some, map, option_map, find, slice_get, unwrap_or, string_bytes};
 ghost use Rattle.definitions.specs.Fragments.{plain_name, tokens};
 ghost use Rattle.definitions.specs.Reach.{holds_resource};
 ghost use Rattle.definitions.specs.Resolution.{target_uri};
@@ -21,6 +21,7 @@ ghost use Rattle.uri_ref.specs.FragmentViews.{fragment_view};
 use crate::holders::holder;
 use crate::linked::Linked;
 use crate::named::Named;
+use crate::references::ReferenceNumber;
 use faults::Fault;
 use json_doc::{Doc, Pointer};
 use schema_scan::{Compiled, Located};
@@ -40,10 +41,12 @@ impl Linked {
     }
 
     /// What a reference names first (JSON Schema 2020-12 Core, section 8.2.3): the reference's text, and the URI of the
-    /// resource that it stands in. The only error is want of memory.
+    /// resource that it stands in. By its number, where that is given, the document that it leads to is found. The only error
+    /// is want of memory.
     pub fn named(
         &self,
         alloc: Global,
+        number: Option<ReferenceNumber>,
         resource: &str,
         reference: &str,
     ) -> Result<Option<Named<'_>>, Fault>
@@ -58,12 +61,9 @@ impl Linked {
             (λ n. IfSome n (HasItsAnchor (linked_schemas self.now))) }
         ensures err { IfErr result (λ f. f ≡ Fault.NoRoom) }
     {
-        if let Some(named) = self.absolute_reference(resource, reference) {
-            return self.named_by(alloc, named);
-        }
-        match absolute_reference(alloc, resource, reference)? {
-            Some(named) => self.named_by(alloc, &named),
-            None => Ok(None),
+        match self.known_target(number, resource, reference) {
+            Some((document, named)) => self.named_in(alloc, document, named),
+            None => self.named_by_texts(alloc, resource, reference),
         }
     }
 
@@ -168,7 +168,31 @@ impl Linked {
             (λ n. IfSome n (HasItsAnchor (linked_schemas self.now))) }
         ensures err { IfErr result (λ f. f ≡ Fault.NoRoom) }
     {
-        match self.target_by(alloc, named.uri.as_str(), &named.fragment) {
+        match self.holder(named.uri.as_str()) {
+            Some(document) => self.named_in(alloc, document, named),
+            None => Ok(None),
+        }
+    }
+
+    // What an absolute reference names first, whose resource this document has.
+    fn named_in<'a>(
+        &'a self,
+        alloc: Global,
+        document: &'a Compiled,
+        named: &AbsoluteReference,
+    ) -> Result<Option<Named<'a>>, Fault>
+        requires { Some (compiled_view document.now)
+            ≡ find (holds_resource (string_bytes named.now.uri)) (linked_documents self.now) }
+        ensures first { IfOk result
+            (λ n. option_map first_target n ≡ target_of (linked_schemas self.entry.now) named.now) }
+        ensures dynamic { (scope : List Text) → IfOk result
+            (λ n. option_map (target_in_scope (linked_schemas self.entry.now) scope) n
+            ≡ dynamic_target_of (linked_schemas self.entry.now) scope named.now) }
+        ensures anchored { IfOk result
+            (λ n. IfSome n (HasItsAnchor (linked_schemas self.entry.now))) }
+        ensures err { IfErr result (λ f. f ≡ Fault.NoRoom) }
+    {
+        match self.target_in(alloc, document, named.uri.as_str(), &named.fragment) {
             Ok(Some(target)) => {
                 let anchor = dynamic_anchor(&target, &named.fragment);
                 Ok(Some(Named { target, anchor }))
@@ -176,6 +200,76 @@ impl Linked {
             Ok(None) => Ok(None),
             Err(fault) => Err(fault),
         }
+    }
+
+    // What a reference names first, by its texts alone.
+    fn named_by_texts(
+        &self,
+        alloc: Global,
+        resource: &str,
+        reference: &str,
+    ) -> Result<Option<Named<'_>>, Fault>
+        ensures first { IfOk result
+            (λ n. option_map first_target n
+            ≡ target (linked_schemas self.now) (target_uri resource.now reference.now)) }
+        ensures dynamic { (scope : List Text) → IfOk result
+            (λ n. option_map (target_in_scope (linked_schemas self.now) scope) n
+            ≡ dynamic_target (linked_schemas self.now) scope
+            (target_uri resource.now reference.now)) }
+        ensures anchored { IfOk result
+            (λ n. IfSome n (HasItsAnchor (linked_schemas self.now))) }
+        ensures err { IfErr result (λ f. f ≡ Fault.NoRoom) }
+    {
+        if let Some(named) = self.absolute_reference(resource, reference) {
+            return self.named_by(alloc, named);
+        }
+        match absolute_reference(alloc, resource, reference)? {
+            Some(named) => self.named_by(alloc, &named),
+            None => Ok(None),
+        }
+    }
+
+    // What the reference with this number is read as, and the document that it leads to, where both are known.
+    fn known_target(
+        &self,
+        number: Option<ReferenceNumber>,
+        resource: &str,
+        reference: &str,
+    ) -> Option<(&Compiled, &AbsoluteReference)>
+        ensures read { IfSome result
+            (λ r. IsReadAs (target_uri resource.now reference.now) (Some r.1.now)) }
+        ensures holder { IfSome result (λ r. Some (compiled_view r.0.now)
+            ≡ find (holds_resource (string_bytes r.1.now.uri)) (linked_documents self.now)) }
+    {
+        let number = number?;
+        let target = self.target_document(number)?;
+        let standing = self.document(number.document)?;
+        let named = standing.absolute_reference(resource, reference)?;
+        let document = self.holder_at(target, named.uri.as_str())?;
+        Some((document, named))
+    }
+
+    // The document of this number, where it has a resource with this URI.
+    fn holder_at(&self, number: usize, uri: &str) -> Option<&Compiled>
+        ensures numbered { IfSome result
+            (λ d. slice_get (linked_documents self.now) number ≡ Some (compiled_view d.now)) }
+        ensures holder { IfSome result (λ d. Some (compiled_view d.now)
+            ≡ find (holds_resource uri.now) (linked_documents self.now)) }
+    {
+        let document = self.document(number)?;
+        if document.resource_uri(uri).is_some() {
+            Some(document)
+        } else {
+            None
+        }
+    }
+
+    /// Whether the document of this number surely is the one that has a resource with this URI.
+    pub fn is_holder(&self, number: usize, uri: &str) -> bool
+        ensures { result ≡ true → slice_get (linked_documents self.now) number
+            ≡ find (holds_resource uri.now) (linked_documents self.now) }
+    {
+        self.holder_at(number, uri).is_some()
     }
 
     // What the fragment names in the resource with this URI.
@@ -191,9 +285,27 @@ impl Linked {
         ensures err { IfErr result (λ f. f ≡ Fault.NoRoom) }
     {
         match self.holder(uri) {
-            Some(document) => Ok(document.target(alloc, uri, fragment)?),
+            Some(document) => self.target_in(alloc, document, uri, fragment),
             None => Ok(None),
         }
+    }
+
+    // What the fragment names in the resource with this URI, which this document has.
+    fn target_in<'a>(
+        &'a self,
+        alloc: Global,
+        document: &'a Compiled,
+        uri: &str,
+        fragment: &FragmentKind,
+    ) -> Result<Option<Located<'a>>, Fault>
+        requires { Some (compiled_view document.now)
+            ≡ find (holds_resource uri.now) (linked_documents self.now) }
+        ensures ok { IfOk result
+            (λ t. option_map located_view t
+            ≡ target_by (linked_schemas self.entry.now) uri.now (fragment_view fragment.now)) }
+        ensures err { IfErr result (λ f. f ≡ Fault.NoRoom) }
+    {
+        Ok(document.target(alloc, uri, fragment)?)
     }
 
     // The URI, as a text of the documents, where one of their resources has it, and else an empty text.

@@ -8,7 +8,7 @@ ghost use Rattle.definitions.specs.Values.{text_at};
 ghost use Rattle.linker.specs.LinkedDocuments.{linked_documents, linked_schemas};
 ghost use Rattle.linker.specs.ReferenceNumbers.{StandsIn, document_at, pair_in, reference_pair};
 ghost use Rattle.schema_scan.specs.ReferenceTexts.{HasReference};
-ghost use Rattle.schema_scan.specs.CompiledDocuments.{compiled_schemas};
+ghost use Rattle.schema_scan.specs.CompiledDocuments.{compiled_schemas, compiled_texts};
 
 use crate::holders::holder_number;
 use crate::linked::Linked;
@@ -106,6 +106,18 @@ impl Linked {
         }
     }
 
+    /// The number of the document that the reference of this number leads to, where that was found when the documents were linked.
+    pub fn target_document(&self, number: ReferenceNumber) -> Option<usize> {
+        if number.resource == 0 {
+            *self
+                .target_documents
+                .get(number.document)?
+                .get(number.text)?
+        } else {
+            None
+        }
+    }
+
     /// The URI of the resource that a schema with this `$id` opens, where one document is linked, and the `$id` is told from all
     /// others by the bytes in which they differ.
     pub fn resource_identified(&self, id: &str) -> Option<&str>
@@ -137,12 +149,19 @@ fn pair_in(document: &Compiled, resource: usize, text: usize) -> Option<(&str, &
     ensures { option_map (λ r. (r.0.now, r.1.now)) result ≡ pair_in resource text document.now }
 {
     match uri_in(document, resource) {
-        Some(uri) => match document.reference_text(text) {
+        Some(uri) => match text_in(document, text) {
             Some(text) => Some((uri, text)),
             None => None,
         },
         None => None,
     }
+}
+
+// The reference's text of this number.
+fn text_in(document: &Compiled, number: usize) -> Option<&str>
+    ensures { option_map (λ t. t.now) result ≡ slice_get (compiled_texts document.now) number }
+{
+    Some(document.reference_texts().get(number)?.as_str())
 }
 
 fn uri_in(document: &Compiled, number: usize) -> Option<&str>

@@ -182,12 +182,12 @@ impl Compiled {
         self.text_numbers.number(reference)
     }
 
-    /// The reference's text of this number.
-    #[tactic(auto, unfolding(crate::specs::CompiledDocuments::compiled_texts))]
-    pub fn reference_text(&self, number: usize) -> Option<&str>
-        ensures { option_map (λ t. t.now) result ≡ slice_get (compiled_texts self.now) number }
+    /// The texts of its schemas' references as they stand, by their numbers.
+    #[tactic(auto, unfolding(crate::specs::CompiledDocuments::compiled_texts, schema_table::specs::Gathering::table_texts))]
+    pub fn reference_texts(&self) -> &[String]
+        ensures { map string_bytes result.now ≡ compiled_texts self.now }
     {
-        numbered(&self.table.texts, number)
+        self.table.texts.as_slice()
     }
 
     /// The URI of the resource that a schema of the document with this `$id` opens, where the `$id` is told from all others by

@@ -43,7 +43,7 @@ fn asked(
     line: &Line,
 ) -> Result<String, Fault> {
     if line.base.is_empty() {
-        cache.clear();
+        cache.clear(alloc);
         return Ok(format!(in alloc; "{} kept", cache.len())?);
     }
     let document = compiled(alloc, cache, line.base, line.document)?;

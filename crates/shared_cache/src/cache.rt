@@ -17,7 +17,7 @@ ghost use Rattle.shared_cache.specs.Refusals.{Refuses};
 use crate::compiling::{compiled_anew, read_again, refusal};
 use crate::key::Key;
 use faults::Fault;
-use json_doc::{Doc, nesting};
+use json_doc::{Doc, Scratch, nesting};
 use lru::LruCache;
 use schema_scan::Compiled;
 use std::alloc::{AllocError, Global};
@@ -38,6 +38,8 @@ const MOST_NESTED: usize = 120;
 #[derive(Drop)]
 pub struct Cache {
     entries: LruCache<Rc<Key>, Rc<Compiled>>,
+    // In which documents are read that are kept no longer.
+    scratch: Scratch,
 }
 
 impl Model for Cache {
@@ -68,6 +70,7 @@ impl Cache {
         match NonZeroUsize::new(capacity) {
             Some(most) => Ok(Cache {
                 entries: LruCache::new(alloc, most)?,
+                scratch: Scratch::new(alloc),
             }),
             None => Err(Fault::BadCapacity),
         }
@@ -87,11 +90,13 @@ impl Cache {
         self.entries.cap().get()
     }
 
-    /// Forgets every document. This takes no memory, and gives back that of each document which nothing else holds.
-    pub fn clear(&mut self)
+    /// Forgets every document. This takes no memory, and gives back what it read in, and that of each document which nothing else
+    /// holds.
+    pub fn clear(&mut self, alloc: Global)
         ensures { self.new ≡ record { keys = []; capacity = self.old.capacity } }
     {
         self.entries.clear();
+        self.scratch = Scratch::new(alloc);
     }
 
     /// The document under this base, compiled: the one that is kept, or else a new one, which is kept from now on.
@@ -175,7 +180,7 @@ impl Cache {
                 Ok(found)
             }
             None => {
-                let document = read_again(alloc, key)?;
+                let document = read_again(alloc, &mut self.scratch, key)?;
                 self.compiled_and_kept(alloc, key, &document)
             }
         }

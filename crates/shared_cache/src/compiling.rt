@@ -14,19 +14,19 @@ ghost use Rattle.shared_cache.specs.Refusals.{Refuses};
 
 use crate::key::Key;
 use faults::Fault;
-use json_doc::{Doc, read};
+use json_doc::{Doc, Scratch, read_with};
 use schema_scan::{Compiled, compile, scan};
 use std::alloc::Global;
 use std::rc::Rc;
 use uri_ref::Parts;
 
 // The document that the key's text spells, which is read as a value. The only error is want of memory.
-pub(crate) fn read_again(alloc: Global, key: &Key) -> Result<Doc, Fault>
+pub(crate) fn read_again(alloc: Global, scratch: &mut Scratch, key: &Key) -> Result<Doc, Fault>
     requires { is_read_as key.now.1 (read_value key.now.1) ≡ true }
     ensures ok { IfOk result (λ d. value d ≡ read_value key.now.1) }
     ensures err { IfErr result (λ f. f ≡ Fault.NoRoom) }
 {
-    match read(alloc, key.text().as_bytes()) {
+    match read_with(alloc, scratch, key.text().as_bytes()) {
         Ok(document) => Ok(document),
         Err(_) => Err(Fault::NoRoom),
     }

@@ -13,7 +13,7 @@ use std::marker::Model;
 // How many URIs are looked through one by one. Most documents have fewer resources, and then need no set.
 const FEW: usize = 8;
 
-// Texts, that can be looked up.
+// Texts that can be looked up.
 //
 // Contracts see them as the list of them.
 #[derive(Drop)]

@@ -35,7 +35,7 @@ impl Workspace {
     pub(crate) fn clear(&mut self, alloc: Global)
         ensures { self.new.cache ≡ record { keys = []; capacity = self.old.cache.capacity } }
     {
-        self.cache.clear();
+        self.cache.clear(alloc);
         self.scratch = Scratch::new(alloc);
         self.evaluation = EvaluationMemory::new(alloc);
     }

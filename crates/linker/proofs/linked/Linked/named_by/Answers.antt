@@ -1,19 +1,20 @@
-use Rattle.std.proofs.Common.{◌≡◌, Bor, List, IfSome, Option, Some, None, true, option_map, sym, ap, ◌∙◌}
-use Rattle.definitions.specs.Fragments.{Fragment, plain_name}
-use Rattle.definitions.specs.Schemas.{Schema}
-use Rattle.definitions.specs.Targets.{is_dynamic_anchor, target_by}
-use Rattle.definitions.specs.Values.{Text}
-use Rattle.linker.specs.DynamicTargets.{has_anchor}
-use Rattle.linker.specs.LinkedDocuments.{linked_schemas}
-use Rattle.schema_scan.specs.Locateds.{located_view}
-use Rattle.linker.proofs.NamedSchemas.{anchor_there}
+use Rattle.std.proofs.Common.{None, Ok, ap, find, option_map, string_bytes, ◌∙◌}
+use Rattle.definitions.specs.Reach.{holds_resource}
+use Rattle.definitions.specs.Targets.{dynamic_by}
+use Rattle.linker.specs.LinkedDocuments.{linked_documents, linked_schemas}
+use Rattle.uri_ref.specs.FragmentViews.{fragment_view}
+use Rattle.linker.proofs.FirstHolders.{target_of_first}
 use Rattle.linker.proofs.linked.Linked.named_by.Goals as goal
 
-anchor_where : (table : List Schema) (uri : Text) (f : Fragment) (s : Schema) (o : Option (Bor Text)) → Some s ≡ target_by table uri f
-    → IfSome o (λ a. (f ≡ plain_name a.now) × (is_dynamic_anchor a.now s ≡ true)) → IfSome o (λ a. has_anchor table a.now ≡ true)
-anchor_where table uri f s None e own = tt
-anchor_where table uri f s (Some a) e own = anchor_there table uri a.now s (ap (target_by table uri) (sym own.0) ∙ sym e) own.1
+pub returns-in-None-clause-first : goal.returns-in-None-clause-first
+returns-in-None-clause-first c =
+    let l = c.args.self.now in
+    target_of_first l (string_bytes c.args.named.now.uri) (fragment_view c.args.named.now.fragment) None
+    (c.in-None.ensures ∙ ap (λ u. find (holds_resource u) (linked_documents l)) c.as_str.ensures.value)
 
-pub returns-in-Ok-Some-clause-anchored : goal.returns-in-Ok-Some-clause-anchored
-returns-in-Ok-Some-clause-anchored c =
-    anchor_where (linked_schemas c.args.self.now) _ _ (located_view c.in-Ok-Some.target) c.dynamic_anchor-anchor.result (sym (ap (option_map located_view) c.in-Ok-Some.field-0-is) ∙ c.in-Ok-Some.ensures.ok) c.dynamic_anchor-anchor.ensures.own
+pub returns-in-None-clause-dynamic : goal.returns-in-None-clause-dynamic
+returns-in-None-clause-dynamic c = λ scope.
+    let l = c.args.self.now in
+    ap (option_map (λ first. dynamic_by (linked_schemas l) scope first (Ok (fragment_view c.args.named.now.fragment))))
+    (target_of_first l (string_bytes c.args.named.now.uri) (fragment_view c.args.named.now.fragment) None
+    (c.in-None.ensures ∙ ap (λ u. find (holds_resource u) (linked_documents l)) c.as_str.ensures.value))

@@ -1,4 +1,4 @@
-use Rattle.std.proofs.Common.{◌≡◌, Option, Some, option_and_then, option_map, string_bytes, sym, ap, ◌∙◌}
+use Rattle.std.proofs.Common.{◌≡◌, Option, Some, option_and_then, string_bytes, sym, ap, ◌∙◌}
 use Rattle.std.specs.List.{slice_get}
 use Rattle.definitions.specs.Schemas.{Schema}
 use Rattle.definitions.specs.Scanning.{resource_uris}

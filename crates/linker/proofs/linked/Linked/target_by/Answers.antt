@@ -1,12 +1,7 @@
-use Rattle.std.proofs.Common.{Some, None, ◌∙◌}
-use Rattle.schema_scan.specs.CompiledDocuments.{compiled_view}
+use Rattle.std.proofs.Common.{None}
 use Rattle.uri_ref.specs.FragmentViews.{fragment_view}
 use Rattle.linker.proofs.FirstHolders.{target_of_first}
 use Rattle.linker.proofs.linked.Linked.target_by.Goals as goal
 
 pub returns-in-None-clause-ok : goal.returns-in-None-clause-ok
 returns-in-None-clause-ok c = target_of_first c.args.self.now c.args.uri.now (fragment_view c.args.fragment.now) None c.in-None.ensures
-
-pub returns-in_ok-target-in-Some-clause-ok : goal.returns-in_ok-target-in-Some-clause-ok
-returns-in_ok-target-in-Some-clause-ok c =
-    c.in_ok-target-in-Some.ensures ∙ target_of_first c.args.self.now c.args.uri.now (fragment_view c.args.fragment.now) (Some (compiled_view c.in-Some.document.now)) c.in-Some.ensures

@@ -13,10 +13,11 @@ use clap::{ArgMatches, Command};
 use std::alloc::{AllocError, Global};
 
 const AFTER_HELP: &str =
-    "Each file is judged as a server judges a schema that is put. Standard output gets its URI, its\n\
-    other resources and its anchors, the references that lead nowhere among the files that are given,\n\
-    and as warnings, which don't change the status, names that look like a keyword and are none,\n\
-    keywords of older drafts, and formats, which assert nothing here.\n\n\
+    "Each file is judged as a server judges a schema that is put, whatever its length, and no two may\n\
+    have one URI. Standard output gets its URI, its other resources and its anchors, the references\n\
+    that lead nowhere among the files that are given, and as warnings, which don't change the status,\n\
+    names that look like a keyword and are none, keywords of older drafts, and formats, which assert\n\
+    nothing here.\n\n\
     Status: 0 where nothing is wrong, 1 where a reference leads nowhere, 2 where a file is refused.\n\n\
     Examples:\n  \
       schemareg scan schemas\n  \

@@ -71,7 +71,8 @@ pub fn sentence_of(fault: &Fault) -> &'static str
             "No tenant has the key. Send the key of a tenant of the tenants' file.",
         Fault::BadUri =>
             "The text is no URI that a document may stand under. Write one with a scheme and without a fragment, as https://example.org/order.",
-        Fault::TooLarge => "The body has too many bytes. Send it in parts.",
+        Fault::TooLarge =>
+            "The body, or the library's file, has too many bytes. Give a smaller one.",
         Fault::Taken(_) =>
             "This URI belongs to another document already. Give the resource another $id, or take the other document away.",
         Fault::QuotaDocuments =>
@@ -84,7 +85,7 @@ pub fn sentence_of(fault: &Fault) -> &'static str
         Fault::LibraryOwned =>
             "The document belongs to the fixed library, which no tenant changes. Put yours under another URI.",
         Fault::BadTenants =>
-            "The tenants' file, or a key in it, has the wrong shape. Write an object of tenants by their keys, each of 1 to 64 visible characters of ASCII.",
+            "The tenants' file, or a key in it, has the wrong shape. Write {\"tenants\":[..]}, for each tenant its key, of 1 to 64 visible characters of ASCII, and its documents and bytes.",
         Fault::BadRoute =>
             "No request has this method and target. Look up the requests that there are.",
         Fault::BadRequest =>
@@ -96,7 +97,7 @@ pub fn sentence_of(fault: &Fault) -> &'static str
         Fault::BadInput =>
             "Standard input has to be one JSON object with the members schema and instance, and uri, a text, where it is given.",
         Fault::BadBatch =>
-            "The bytes are no batch of documents, or one of none or too many. Write an object with one member for each document.",
+            "The bytes are no batch of documents, or one of none or too many. Write {\"put\":[..]} with 1 to 64 entries, each with a uri and a schema.",
         Fault::SameDocument(_) => "Two documents have this one URI. Give one of them another $id.",
     }
 }

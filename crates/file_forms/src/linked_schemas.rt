@@ -12,7 +12,7 @@ pub(crate) struct LinkedSchemas<'a>(pub(crate) &'a Linked);
 impl Schemas for LinkedSchemas<'_> {
     fn keyword_value(&self, alloc: Global, location: &str) -> Option<&Doc> {
         let (schema, keyword) = location.rsplit_once('/')?;
-        let named = self.0.named(alloc, "", schema).ok()??;
+        let named = self.0.named(alloc, None, "", schema).ok()??;
         named.target.schema.get(keyword)
     }
 }

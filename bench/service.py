@@ -29,7 +29,7 @@ where valgrind is installed. Each table is measured for at least S seconds a fig
         durable, size           the file of 100,000 documents of 1 KB
 
 The last two words stand for tables with marks: the status is 1 where one doesn't hold. They need Linux; those of many clients
-need `wrk` and `nginx`, and more than one processor, and measure each figure five times, for S seconds.
+need `wrk` and `nginx`, and more than one processor, and measure each figure fifteen times, for S seconds.
 
 Instructions of a request are those of 2 N turns less those of N, divided by N; so the start of the program, what was stored
 before, and what is made once don't count.

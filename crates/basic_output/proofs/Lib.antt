@@ -1,8 +1,7 @@
 pub mod PlainLaws
 pub mod EscapeLaws
 pub mod KeywordNames
-pub mod PieceLaws
-pub mod OutputTexts
+pub mod JoinedLengths
 pub mod OrderLaws
 pub mod FrontLaws
 pub mod SpanLaws

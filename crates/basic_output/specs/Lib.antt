@@ -8,6 +8,5 @@ pub mod PointerViews
 pub mod Sayings
 pub mod Spans
 pub mod Units
-pub mod Outputs
 pub mod Parts
 pub mod WrittenPointers

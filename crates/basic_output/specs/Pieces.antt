@@ -29,13 +29,13 @@ plain_text = flat_map (λ token. slash ∷ token)
 abbrev pub are_plain : List Text → Bool
 are_plain = list_all (λ t. list_all is_plain t)
 
--- ---- an array of values with these texts
+-- ---- texts, each later one behind a comma
 abbrev pub later_texts : List Text → Text
 later_texts = flat_map (λ t. 44 ∷ t)
 
-abbrev pub array_text : List Text → Text
-array_text [] = codes "[]"
-array_text (t ∷ ts) = 91 ∷ (t ++ (later_texts ts ++ 93 ∷ []))
+abbrev pub joined_texts : List Text → Text
+joined_texts [] = []
+joined_texts (t ∷ ts) = t ++ later_texts ts
 
 -- the text of a list of names
 abbrev pub names_text : List Text → Text
@@ -49,23 +49,11 @@ abbrev pub index_tokens : List ℕ → List Token
 index_tokens indexes = elements_tokens (to_elements (map (λ index. integer (pos index)) indexes))
 
 -- ---- what the units are called
-abbrev pub kind : Bool → Text
-kind true = codes "annotation"
-kind false = codes "error"
-
 abbrev pub kind_key : Bool → Text
 kind_key true = codes ",\"annotation\":"
 kind_key false = codes ",\"error\":"
 
-abbrev pub list_key : Bool → Text
-list_key true = codes "{\"annotations\":"
-list_key false = codes "{\"errors\":"
-
-abbrev pub valid_member : Bool → Text
-valid_member true = codes ",\"valid\":true}"
-valid_member false = codes ",\"valid\":false}"
-
--- ---- a unit's text, and that of all
+-- ---- a unit's text
 -- how the text begins, up to where this location ends
 abbrev pub head_text : Text → Text
 head_text location = codes "{\"absoluteKeywordLocation\":\"" ++ escape location

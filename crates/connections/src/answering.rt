@@ -92,6 +92,10 @@ pub fn answer<H: Handler>(
 {
     match reply_to(alloc, handler, bytes, heading) {
         Err(fault) => Err(fault),
-        Ok(reply) => tell(alloc, handler, out, bytes, heading, &reply),
+        Ok(reply) => {
+            let told = tell(alloc, handler, out, bytes, heading, &reply);
+            handler.reuse(reply);
+            told
+        }
     }
 }

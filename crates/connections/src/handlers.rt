@@ -66,6 +66,13 @@ pub trait Handler {
             → finds self.old s ⊎ (s ≡ state self.old) }
         ensures err { OnErr result keeps };
 
+    /// Takes a reply back once it was told, or couldn't be told: its memory may be used for the next one. This changes nothing
+    /// that is answered.
+    fn reuse(&mut self, _reply: asked::Reply)
+        ensures state { state self.new ≡ state self.old }
+        ensures found { FindsNoMore finds self.old self.new }
+    {}
+
     /// How many changes were granted up to now, modulo 2^64: where it grows, the next settle has something to do. This decides
     /// nothing that is answered.
     fn changes(&self) -> u64 {

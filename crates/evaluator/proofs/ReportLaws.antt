@@ -1,5 +1,5 @@
 -- Laws of the answer, and of the report of it.
-use Rattle.std.proofs.Common.{◌≡◌, ◌≢◌, ◌<◌, ◌≤◌, ℕ, arith, List, [], Bool, ◌&&◌, true, false, Some, Ok, Err, refl, subst, sym, ap, ap₂, ◌∙◌, map, is_some, Result, IfOk, IfErr, OnOk}
+use Rattle.std.proofs.Common.{◌≡◌, ◌≢◌, ◌<◌, ◌≤◌, ℕ, arith, List, [], Bool, ◌&&◌, true, false, Some, Ok, Err, refl, subst, sym, ap, ap₂, ◌∙◌, map, is_some, Result, IfOk, IfErr, IfErr, OnOk}
 use Rattle.std.proofs.lemmas.Bool.{le-ltb}
 use Rattle.std.proofs.lemmas.Option.{same_Some}
 use Rattle.definitions.specs.Values.{Value, same_text}
@@ -18,9 +18,10 @@ use Rattle.definitions.specs.Applied.{Outcome}
 use Rattle.definitions.specs.Answers.{answer, answer_of, answer_from, first_application, output_text}
 use Rattle.definitions.specs.Limits.{limits}
 use Rattle.definition_laws.proofs.Membership.{nothing_in, found_there}
-use Rattle.basic_output.specs.Outputs as output
+use Rattle.output_texts.specs.Outputs as output
 use Rattle.basic_output.specs.Pieces.{unit_text}
 use Rattle.basic_output.specs.Units.{unit_texts}
+use Rattle.output_texts.specs.declared.output.Output.{Output}
 use Rattle.linker.specs.LinkedDocuments.{linked_documents, linked_schemas, linked_uri}
 use Rattle.linker.specs.declared.linked.Linked.{Linked}
 use Rattle.keyword_plans.specs.Sites.{linked_rules}
@@ -29,7 +30,7 @@ use Rattle.evaluation_context.specs.Standings.{application_at}
 use Rattle.evaluator.specs.Logs.{log_view}
 use Rattle.evaluator.specs.Notes.{IsOver, Notes, no_notes, notes_of_both, outcome_notes}
 use Rattle.evaluator.specs.declared.report.Report.{Report}
-use Rattle.evaluator.specs.Reports.{Gives, is_valid, report_or_fault, report_text}
+use Rattle.evaluator.specs.Reports.{Gives, GivesOutput, is_valid, report_or_fault, report_text}
 use Rattle.evaluator.specs.Roots.{StandsAtRoot}
 use Rattle.evaluator.specs.Rounds.{IsAt, linked_outcome}
 use Rattle.evaluator.specs.declared.log.Log.{Log}
@@ -99,15 +100,11 @@ pub deep_so : (l : Log) (o : Outcome) → log_view l ≡ outcome_notes o → o.d
 unfolding log_view
 deep_so l o e = sym (ap (λ (n : Notes). n.tally.deep) e)
 
-pub logged_annotations : (l : Log) (o : Outcome) (valid : Bool) → log_view l ≡ outcome_notes o → o.valid ≡ true → valid ≡ true
-    → unit_texts l.units.value.annotations ≡ map (unit_text valid) (output.reported_units o)
+pub counted_so : (l : Log) (o : Outcome) (valid : Bool) → log_view l ≡ outcome_notes o → o.valid ≡ valid
+    → unit_texts (output.counted_units valid l.units.value) ≡ map (unit_text valid) (output.reported_units o)
 unfolding log_view
-logged_annotations l o valid e v w = rw (v, w) (ap (λ (n : Notes). n.annotations) e)
-
-pub logged_errors : (l : Log) (o : Outcome) (valid : Bool) → log_view l ≡ outcome_notes o → o.valid ≡ false → valid ≡ false
-    → unit_texts l.units.value.errors ≡ map (unit_text valid) (output.reported_units o)
-unfolding log_view
-logged_errors l o valid e v w = rw (v, w) (ap (λ (n : Notes). n.errors) e)
+counted_so l o true e v = rw v (ap (λ (n : Notes). n.annotations) e)
+counted_so l o false e v = rw v (ap (λ (n : Notes). n.errors) e)
 
 -- ---- what gives an answer
 pub gives_same : (e : Result Report Fault) {a b : Result Outcome meaning.Fault} → b ≡ a → Gives e a → Gives e b
@@ -125,6 +122,24 @@ pub gives_made : (r : Result Report Fault) (o : Outcome) (valid : Bool) → vali
     → IfErr r (λ f. f ≡ Fault.NoRoom) → Gives r (Ok o)
 gives_made (Ok r) o valid same v t e = ap₂ (λ b text. Ok (b, text)) (sym (v ∙ same)) t
 gives_made (Err f) o valid same v t e = λ other. absurd (other e)
+
+-- ---- .. before the text is put together
+pub output_same : (e : Result Output Fault) {a b : Result Outcome meaning.Fault} → b ≡ a → GivesOutput e a → GivesOutput e b
+output_same e is g = subst (λ a. GivesOutput e a) (sym is) g
+
+pub output_ok : (e : Result Output Fault) (a : Result Outcome meaning.Fault) → GivesOutput e a → IfOk e (λ o. report_or_fault a ≡ Ok (output.output_view o))
+output_ok (Ok o) a g = g
+output_ok (Err f) a g = tt
+
+pub output_err : (e : Result Output Fault) (a : Result Outcome meaning.Fault) → GivesOutput e a → IfErr e (λ f. f ≢ Fault.NoRoom → a ≡ Err (fault_view f))
+output_err (Ok o) a g = tt
+output_err (Err f) a g = g
+
+-- .. and once it is
+pub gives_text : (r : Result Report Fault) (a : Result Outcome meaning.Fault) (o : Output) → IfOk r (λ r. (is_valid r, report_text r) ≡ output.output_view o)
+    → IfErr r (λ f. f ≡ Fault.NoRoom) → report_or_fault a ≡ Ok (output.output_view o) → Gives r a
+gives_text (Ok r) a o shown e given = given ∙ ap Ok (sym shown)
+gives_text (Err f) a o shown e given = λ other. absurd (other e)
 
 -- ---- what isn't reached
 none_missing : (l : Linked) → missing_references (linked_documents l) ≡ []

@@ -1,6 +1,5 @@
 pub mod Tallies
 pub mod Notes
-pub mod NoUnits
 pub mod Logs
 pub mod Findings
 pub mod Groups

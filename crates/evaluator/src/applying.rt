@@ -19,6 +19,7 @@ use json_doc::Doc;
 use keyword_plans::{Enumerations, PlanMemory, Searches, Subject};
 use keywords::KEYWORDS;
 use linker::Linked;
+use output_texts::NotedUnits;
 use std::alloc::{AllocError, Global};
 
 /// How many applications may nest, the root's among them.
@@ -84,18 +85,19 @@ impl<'a> Evaluation<'a> {
         }
     }
 
-    /// The memory that it worked in, for the next evaluation.
-    pub(crate) fn into_memory(self) -> EvaluationMemory {
+    /// The units that were noted, and the other memory that it worked in, for the next evaluation.
+    pub(crate) fn into_units(self) -> (Box<NotedUnits>, EvaluationMemory)
+        ensures { result.0 ≡ self.entry.log.units }
+    {
         let Evaluation {
             alloc,
             context,
             log,
             ..
         } = self;
-        EvaluationMemory {
-            log: log.into_memory(),
-            context: context.into_memory(alloc),
-        }
+        let (units, log) = log.into_units();
+        let context = context.into_memory(alloc);
+        (units, EvaluationMemory { log, context })
     }
 
     /// Applies the schema, which is the linked resource's root where the evaluation stands there, to the whole instance.

@@ -2,17 +2,17 @@
 
 ghost use Rattle.std.specs.Prelude.{◌≡◌, ◌≤◌, ◌&&◌, [], not, IfOk, IfSome};
 ghost use Rattle.std.proofs.Props.{props};
+ghost use Rattle.output_texts.specs.NoUnits.{HasNoUnits};
 ghost use Rattle.definitions.specs.Limits.{limits};
 ghost use Rattle.json_doc.specs.NamedMembers.{name_text};
 ghost use Rattle.keywords.specs.Rows.{row_of};
-ghost use Rattle.evaluator.specs.NoUnits.{HasNoUnits};
 ghost use Rattle.evaluator.specs.Notes.{needs_to_pass};
 
-use crate::logged_units::LoggedUnits;
 use basic_output::{Location, Mark, Says};
 use json_doc::Name;
 use keyword_plans::Part;
 use keywords::Keyword;
+use output_texts::NotedUnits;
 use std::alloc::{AllocError, Global};
 
 /// How many applications of schemas there may be in all.
@@ -26,7 +26,7 @@ pub(crate) const MOST_APPLICATIONS: u64 = 100_000;
 #[derive(Drop)]
 pub(crate) struct Log<'a> {
     pub(crate) alloc: Global,
-    pub(crate) units: Box<LoggedUnits>,
+    pub(crate) units: Box<NotedUnits>,
     pub(crate) names: Vec<Name<'a>>,
     pub(crate) indexes: Vec<usize>,
     pub(crate) count: u64,
@@ -41,7 +41,7 @@ const MOST_INDEXES: usize = 131_072;
 /// The memory of a log's indexes and of the texts of its units, to be kept for the next log.
 #[derive(Drop)]
 pub(crate) struct LogMemory {
-    units: Option<Box<LoggedUnits>>,
+    units: Option<Box<NotedUnits>>,
     indexes: Vec<usize>,
     ghost no_units: { IfSome units (λ u. HasNoUnits u.value) } by { Prim.hlevel props },
     ghost no_indexes: { indexes.items ≡ [] },
@@ -54,6 +54,14 @@ impl LogMemory {
             units: None,
             indexes: Vec::new(alloc),
         }
+    }
+
+    /// Keeps the memory of an earlier log's units. That of the errors is given back where it is more than what 1,048,576 bytes of
+    /// text took and more than four times what these took, and so is that of the annotations.
+    pub(crate) fn keep(&mut self, units: Box<NotedUnits>) {
+        let mut units = units;
+        units.clear();
+        self.units = Some(units);
     }
 }
 
@@ -116,24 +124,24 @@ impl<'a> Log<'a> {
         })
     }
 
-    /// The memory of the indexes and of the texts, for the next log. That of the errors is given back where it is more than what
-    /// 1,048,576 bytes of text took and more than four times what these took, and so is that of the annotations; that of the
-    /// indexes where there was room for more than 131,072.
-    pub(crate) fn into_memory(self) -> LogMemory {
+    /// The units, and the memory of the indexes for the next log, which is given back where there was room for more than 131,072.
+    pub(crate) fn into_units(self) -> (Box<NotedUnits>, LogMemory)
+        ensures { result.0 ≡ self.entry.units }
+    {
         let Log {
             alloc,
-            mut units,
+            units,
             indexes,
             ..
         } = self;
-        units.clear();
-        LogMemory {
-            units: Some(units),
+        let memory = LogMemory {
+            units: None,
             indexes: emptied(alloc, indexes),
-        }
+        };
+        (units, memory)
     }
 
-    /// Nothing any more. Memory is kept, that of the texts of units as [`Log::into_memory`] keeps it.
+    /// Nothing any more. Memory is kept, that of the texts of units as [`LogMemory::keep`] keeps it.
     pub(crate) fn clear(&mut self)
         ensures { log_view self.new ≡ no_notes }
     {
@@ -366,14 +374,14 @@ impl<'a> Log<'a> {
 // No units, in this memory where there is any. The only error is want of memory.
 fn none_within(
     alloc: Global,
-    memory: Option<Box<LoggedUnits>>,
-) -> Result<Box<LoggedUnits>, AllocError>
+    memory: Option<Box<NotedUnits>>,
+) -> Result<Box<NotedUnits>, AllocError>
     requires { IfSome memory (λ u. HasNoUnits u.value) }
     ensures { IfOk result (λ u. HasNoUnits u.value) }
 {
     match memory {
         Some(units) => Ok(units),
-        None => Ok(Box::new(alloc, LoggedUnits::new(alloc))?),
+        None => Ok(Box::new(alloc, NotedUnits::new(alloc))?),
     }
 }
 

@@ -2,6 +2,7 @@
 
 use crate::log::LogMemory;
 use evaluation_context::ContextMemory;
+use output_texts::{NotedUnits, Output};
 use std::alloc::Global;
 
 /// The memory that an evaluation works in, to be kept for the next one: that of the texts of its units, of its evaluation path,
@@ -21,5 +22,15 @@ impl EvaluationMemory {
             log: LogMemory::new(alloc),
             context: ContextMemory::new(alloc),
         }
+    }
+
+    /// Takes back the memory of an output that is done with, for the next evaluation.
+    pub fn take_back(&mut self, output: Output) {
+        self.keep(output.into_units());
+    }
+
+    /// Keeps the memory of these units.
+    pub(crate) fn keep(&mut self, units: Box<NotedUnits>) {
+        self.log.keep(units);
     }
 }

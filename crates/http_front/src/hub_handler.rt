@@ -58,4 +58,8 @@ impl Handler for HubHandler {
     fn settle(&mut self) -> Result<(), Unsettled> {
         Ok(())
     }
+
+    fn reuse(&mut self, reply: Reply) {
+        self.hub.reuse(reply);
+    }
 }

@@ -62,6 +62,10 @@ impl<H: Handler + HasHub, J: Journal> Handler for NotedHub<'_, H, J> {
         self.handler.settle()
     }
 
+    fn reuse(&mut self, reply: Reply) {
+        self.handler.reuse(reply);
+    }
+
     fn changes(&self) -> u64 {
         self.handler.changes()
     }

@@ -2,8 +2,9 @@
 
 use crate::expectations::{expect_same, expect_told};
 use crate::places::{Place, origin_at, root_of};
-use basic_output::{Fault, Origin, Says, Step, Units, WrittenPointer, output_text};
+use basic_output::{Origin, Says, Step, Units, WrittenPointer};
 use keywords::Keyword;
+use output_texts::{Fault, output_text};
 use std::alloc::Global;
 use std::process::Abort;
 

@@ -2,8 +2,9 @@
 
 use crate::expectations::{expect_same, expect_told};
 use crate::places::{Places, root_of};
-use basic_output::{Says, Units, output_text};
+use basic_output::{Says, Units};
 use json_doc::{Doc, Fault, Members, Name};
+use output_texts::output_text;
 use std::alloc::{AllocError, Global};
 use std::process::Abort;
 

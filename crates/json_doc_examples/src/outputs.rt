@@ -2,9 +2,10 @@
 
 use crate::expectations::{expect_same, expect_told};
 use crate::places::{Place, Places, origin_at, root_of, turn_to};
-use basic_output::{Mark, Says, Step, Units, WrittenPointer, output_text};
+use basic_output::{Mark, Says, Step, Units, WrittenPointer};
 use json_doc::{Fault, read};
 use keywords::Keyword;
+use output_texts::output_text;
 use std::alloc::Global;
 use std::process::Abort;
 

@@ -2,9 +2,10 @@
 
 use crate::expectations::expect_same;
 use crate::places::{Places, root_of};
-use basic_output::{Says, Step, Units, output_text};
+use basic_output::{Says, Step, Units};
 use json_doc::Fault;
 use keywords::Keyword;
+use output_texts::output_text;
 use std::alloc::Global;
 use std::process::Abort;
 

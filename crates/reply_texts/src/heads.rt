@@ -1,8 +1,10 @@
 //! The lines before a body.
 ghost use Rattle.std.specs.Prelude.{◌≡◌, ◌++◌, [], IfNone, IfSome, OnOk, decimal, string_bytes};
-ghost use Rattle.reply_texts.specs.Heads.{behind_length};
+ghost use Rattle.output_texts.specs.Outputs.{output_view};
+ghost use Rattle.reply_texts.specs.Heads.{behind_length, head_text};
 ghost use Rattle.http_definitions.specs.ReplyTexts.{http_text, phrase_of, status_line};
 
+use output_texts::Output;
 use std::alloc::AllocError;
 
 // The first line of a reply with this status (RFC 9112, section 4, with the phrases of RFC 9110, section 15); none where no reply
@@ -63,16 +65,34 @@ fn write_line_without_phrase(out: &mut String, status: u16) -> Result<(), AllocE
 /// How many bytes stand before a body, at most.
 const MOST_HEAD: usize = 128;
 
+// What stands before a body of so many bytes, with room for the body behind it.
+fn write_head(out: &mut String, closes: bool, status: u16, length: usize) -> Result<(), AllocError>
+    ensures { OnOk result (string_bytes out.new
+        ≡ string_bytes out.old ++ head_text closes status length) }
+{
+    out.reserve(length.saturating_add(MOST_HEAD))?;
+    write_status_line(out, status)?;
+    out.push_str("content-type: application/json\r\ncontent-length: ")?;
+    write_number(out, length)?;
+    out.push_str(behind_length(closes))?;
+    Ok(())
+}
+
 /// Appends a whole reply, of which the body is JSON. One after which the connection is closed says so.
 pub fn write_http(out: &mut String, closes: bool, status: u16, body: &str) -> Result<(), AllocError>
     ensures { OnOk result (string_bytes out.new
         ≡ string_bytes out.old ++ http_text closes status body.now) }
 {
-    out.reserve(body.len().saturating_add(MOST_HEAD))?;
-    write_status_line(out, status)?;
-    out.push_str("content-type: application/json\r\ncontent-length: ")?;
-    write_number(out, body.len())?;
-    out.push_str(behind_length(closes))?;
+    write_head(out, closes, status, body.len())?;
     out.push_str(body)?;
     Ok(())
+}
+
+/// Appends a whole reply, of which the body is the text of an output: it is written into its place.
+pub fn write_output(out: &mut String, closes: bool, output: &Output) -> Result<(), AllocError>
+    ensures { OnOk result (string_bytes out.new
+        ≡ string_bytes out.old ++ http_text closes 200 (output_view output.now).1) }
+{
+    write_head(out, closes, 200, output.text_len())?;
+    output.write(out)
 }

@@ -7,7 +7,7 @@ ghost use Rattle.reply_texts.specs.Bodies.{refusal_text};
 ghost use Rattle.requests.specs.Views.{reply_view, stored_entry_view};
 
 use crate::bodies::{deleted_body, fault_body, stored_all_body, stored_body};
-use crate::heads::write_http;
+use crate::heads::{write_http, write_output};
 use faults::Fault;
 use requests::{Reply, StoredEntry};
 use std::alloc::{AllocError, Global};
@@ -59,9 +59,8 @@ pub fn write_reply(
     ensures err { IfErr result (λ f. f ≡ Fault.NoRoom) }
 {
     match reply {
-        Reply::Output(text) | Reply::Bundled(text) => {
-            write_http(out, closes, 200, text.as_str())?;
-        }
+        Reply::Output(output) => write_output(out, closes, output)?,
+        Reply::Bundled(text) => write_http(out, closes, 200, text.as_str())?,
         Reply::Stored(uri, replaced) => {
             let body = stored_body(alloc, uri.as_str(), *replaced)?;
             let status = if *replaced { 200 } else { 201 };

@@ -3,6 +3,7 @@ use Rattle.std.specs.Prelude.{Bool, map, string_bytes}
 use Rattle.std.specs.Cow.{cow_str_bytes}
 use Rattle.definitions.specs.Values.{Text}
 use Rattle.definitions.specs.Registries as meaning
+use Rattle.output_texts.specs.Outputs.{output_view}
 use Rattle.faults.specs.View.{fault_view}
 use Rattle.requests.specs.declared.Request.{Request}
 use Rattle.requests.specs.declared.Request.TheVariants.{Put, Delete, Validate, Bundle, Batch}
@@ -24,7 +25,7 @@ stored_entry_view e = (string_bytes e.uri, e.replaced)
 abbrev pub reply_view : Reply → meaning.Reply
 reply_view (Stored uri replaced) = meaning.stored (string_bytes uri) replaced
 reply_view (Deleted uri) = meaning.deleted (string_bytes uri)
-reply_view (Output text) = meaning.validated (string_bytes text)
+reply_view (Output output) = meaning.validated (output_view output).1
 reply_view (Bundled text) = meaning.bundled (string_bytes text)
 reply_view (StoredAll entries) = meaning.stored_all (map stored_entry_view entries.items)
 reply_view (Refused f) = meaning.refused (fault_view f)

@@ -2,6 +2,7 @@
 #![tactic(auto)]
 
 pub use faults::Fault;
+use output_texts::Output;
 use std::borrow::CowStr;
 
 /// What a tenant asks, as it lies in what was sent, but for a URI that had escapes. A URI isn't resolved yet; a body is at most some
@@ -30,14 +31,14 @@ pub struct StoredEntry {
 }
 
 /// What a request is answered. URIs are canonical.
-#[derive(Debug, Drop, PartialEq)]
+#[derive(Drop)]
 pub enum Reply {
     /// The document is stored; whether one with its canonical URI was there.
     Stored(String, bool),
     /// The document with this canonical URI is removed.
     Deleted(String),
-    /// The text of the basic output (Core, section 12.4.2).
-    Output(String),
+    /// The basic output (Core, section 12.4.2), whose text isn't put together yet.
+    Output(Output),
     /// The text of the compound document.
     Bundled(String),
     /// All documents of the batch are stored, in its order.

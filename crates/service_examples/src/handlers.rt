@@ -3,6 +3,7 @@ ghost use Rattle.std.specs.Prelude.{◌≡◌, ⊤, ℕ, None};
 ghost use Rattle.connections.specs.Connected.{connection_at};
 
 use connections::{Handler, Sessions, Unsettled};
+use output_texts::{NotedUnits, Output};
 use requests::{Fault, Reply, Request};
 use std::alloc::{AllocError, Global};
 
@@ -18,7 +19,8 @@ fn reply_to(alloc: Global, request: &Request<'_>) -> Result<Reply, AllocError> {
     Ok(match request {
         Request::Put(_, _) => Reply::Stored(String::from_str(alloc, "https://ex.org/s")?, false),
         Request::Validate(_, _) => {
-            Reply::Output(String::from_str(alloc, r#"{"annotations":[],"valid":true}"#)?)
+            let units = Box::new(alloc, NotedUnits::new(alloc))?;
+            Reply::Output(Output::new(true, units))
         }
         _ => Reply::Refused(Fault::NotFound),
     })

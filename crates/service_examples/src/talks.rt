@@ -69,7 +69,8 @@ pub fn told(alloc: Global, reply: &Reply) -> Result<String, Fault> {
     Ok(match reply {
         Reply::Stored(uri, replaced) => format!(in alloc; "{} {uri}", verb(*replaced))?,
         Reply::Deleted(uri) => format!(in alloc; "deleted {uri}")?,
-        Reply::Output(text) | Reply::Bundled(text) => String::from_str(alloc, text.as_str())?,
+        Reply::Output(output) => output.text(alloc)?,
+        Reply::Bundled(text) => String::from_str(alloc, text.as_str())?,
         Reply::StoredAll(entries) => entries_told(alloc, entries)?,
         Reply::Refused(fault) => format!(in alloc; "{fault}")?,
         Reply::RefusedAt(entry, fault) => format!(in alloc; "entry {entry}: {fault}")?,

@@ -57,6 +57,10 @@ impl<D: DocumentStore> Handler for StoredHub<D> {
         }
     }
 
+    fn reuse(&mut self, reply: Reply) {
+        self.hub.reuse(reply);
+    }
+
     fn changes(&self) -> u64 {
         self.changes
     }

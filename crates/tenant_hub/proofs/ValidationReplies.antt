@@ -1,5 +1,7 @@
 -- What a validation replies, by what its parts answer.
-use Rattle.std.proofs.Common.{◌≡◌, ◌≢◌, List, Bool, Some, Result, Ok, Err, IfOk, IfErr, String, Global, string_bytes, refl, sym, ap, ◌∙◌, inl}
+use Rattle.std.proofs.Common.{◌≡◌, ◌≢◌, List, Bool, Some, Result, Ok, Err, IfOk, IfErr, refl, sym, ap, ◌∙◌, inl}
+use Rattle.output_texts.specs.Outputs.{output_view}
+use Rattle.output_texts.specs.declared.output.Output.{Output}
 use Rattle.definitions.specs.Answers.{answer, output_text}
 use Rattle.definitions.specs.Applied.{Outcome}
 use Rattle.definitions.specs.Faults.{Fault}
@@ -24,12 +26,21 @@ use Rattle.tenant_hub.proofs.LinkedReplies.{links, links_not}
 both_same : {X Y : Type 0} {x y : X} → ◌≡◌ {A = Result X Y} (Ok x) (Ok y) → x ≡ y
 both_same e = cc
 
-pub shown : (o : Result Outcome Fault) (valid : Bool) (t : Text) → report_or_fault o ≡ Ok (valid, t) → outcome_reply o ≡ validated t
-shown (Ok o) valid t e = let pairs : ◌≡◌ {A = Bool × Text} (o.valid, output_text o) (valid, t) = both_same e in ap (λ (p : Bool × Text). validated p.1) pairs
-shown (Err f) valid t e = cc
+shown : (a : Result Outcome Fault) (shows : Bool × Text) → report_or_fault a ≡ Ok shows → outcome_reply a ≡ validated shows.1
+shown (Ok o) shows e = let pairs : ◌≡◌ {A = Bool × Text} (o.valid, output_text o) shows = both_same e in ap (λ (p : Bool × Text). validated p.1) pairs
+shown (Err f) shows e = cc
+
+pub shown_by : (r : Result Output code.Fault) (a : Result Outcome Fault) → IfOk r (λ o. report_or_fault a ≡ Ok (output_view o)) → IfOk r (λ o. outcome_reply a ≡ validated (output_view o).1)
+shown_by (Ok o) a e = shown a (output_view o) e
+shown_by (Err f) a e = tt
+
+pub refused_by : (r : Result Output code.Fault) (a : Result Outcome Fault) → IfErr r (λ f. f ≢ code.Fault.NoRoom → a ≡ Err (fault_view f))
+    → IfErr r (λ f. f ≢ code.Fault.NoRoom → outcome_reply a ≡ refused (fault_view f))
+refused_by (Ok o) a e = tt
+refused_by (Err f) a e = λ other. ap outcome_reply (e other)
 
 -- what is said of one reply is said of another that is the same
-pub replied : {E : Type 0} {a b : Reply} (o : Result (String Global) E) → a ≡ b → IfOk o (λ t. b ≡ validated (string_bytes t)) → IfOk o (λ t. a ≡ validated (string_bytes t))
+pub replied : {E : Type 0} {a b : Reply} (o : Result Output E) → a ≡ b → IfOk o (λ o. b ≡ validated (output_view o).1) → IfOk o (λ o. a ≡ validated (output_view o).1)
 replied (Ok t) same is = same ∙ is
 replied (Err f) same is = tt
 

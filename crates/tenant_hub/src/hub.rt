@@ -119,6 +119,17 @@ impl Hub {
         self.answer(alloc, key, request)
     }
 
+    /// Takes a reply back that was told: the memory of an output is used for the next one. No reply depends on it.
+    #[tactic(auto, unfolding(crate::specs::Hubs::hub_view))]
+    pub fn reuse(&mut self, reply: Reply)
+        ensures registries { hub_view self.new ≡ hub_view self.old }
+        ensures cache { cache_capacity self.new ≡ cache_capacity self.old }
+    {
+        if let Reply::Output(output) = reply {
+            self.workspace.evaluation.take_back(output);
+        }
+    }
+
     /// Answers requests of many tenants in turn, each with its tenant's key.
     ///
     /// Whatever the other tenants ask, a tenant's replies are a course of its own requests from its own registry; where

@@ -1,6 +1,7 @@
 //! Validations by the documents of a source.
 
 ghost use Rattle.std.specs.Prelude.{◌≡◌, ◌≢◌, IfOk, IfErr, Ok, string_bytes};
+ghost use Rattle.output_texts.specs.Outputs.{output_view};
 ghost use Rattle.definitions.specs.Patterns.{regular_search};
 ghost use Rattle.definitions.specs.Registries.{Registry, body_value, documents_seen, refused, validate, validated};
 ghost use Rattle.definitions.specs.Resolution.{base_form};
@@ -12,9 +13,10 @@ ghost use Rattle.tenant_hub.specs.KeptLinks.{AreLinksOf};
 ghost use Rattle.tenant_hub.specs.SourceReplies.{reply_by, validation_over};
 
 use crate::links::Links;
-use evaluator::{EvaluationMemory, evaluate_with};
+use evaluator::{EvaluationMemory, evaluate_output};
 use json_doc::{Doc, Scratch};
 use linker::{Linked, Source, link};
+use output_texts::Output;
 use requests::{Fault, Reply};
 use std::alloc::Global;
 use tenants_file::read_body_with;
@@ -40,13 +42,13 @@ pub(crate) fn validation_reply<S: Source>(
     ensures linked { AreLinksOf (S.documents source.old) links.new }
     ensures same { S.documents source.new ≡ S.documents source.old }
 {
-    match output_text(alloc, scratch, memory, links, source, uri, body) {
-        Ok(text) => Reply::Output(text),
+    match output_for(alloc, scratch, memory, links, source, uri, body) {
+        Ok(output) => Reply::Output(output),
         Err(fault) => Reply::Refused(fault),
     }
 }
 
-fn output_text<S: Source>(
+fn output_for<S: Source>(
     alloc: Global,
     scratch: &mut Scratch,
     memory: &mut EvaluationMemory,
@@ -54,10 +56,10 @@ fn output_text<S: Source>(
     source: &mut S,
     uri: &str,
     body: &[u8],
-) -> Result<String, Fault>
+) -> Result<Output, Fault>
     requires { AreLinksOf (S.documents source.old) links.old }
-    ensures ok { IfOk result (λ t. validation_over (S.documents source.old)
-        (base_form uri.now) (body_value body.now) ≡ validated (string_bytes t)) }
+    ensures ok { IfOk result (λ o. validation_over (S.documents source.old)
+        (base_form uri.now) (body_value body.now) ≡ validated (output_view o).1) }
     ensures err { IfErr result (λ f. f ≢ Fault.NoRoom → validation_over (S.documents source.old)
         (base_form uri.now) (body_value body.now) ≡ refused (fault_view f)) }
     ensures linked { AreLinksOf (S.documents source.old) links.new }
@@ -67,26 +69,26 @@ fn output_text<S: Source>(
     links.promote(uri);
     if let Some(linked) = links.latest(uri) {
         let given = read_body_with(alloc, scratch, body)?;
-        return text_by(alloc, linked, &given, memory);
+        return output_by(alloc, linked, &given, memory);
     }
     let base = base_form(alloc, uri)?;
     let instance = read_body_with(alloc, scratch, body)?;
-    text_at(alloc, memory, links, source, base, &instance)
+    output_at(alloc, memory, links, source, base, &instance)
 }
 
 // The basic output of the instance by the resource of this base.
-fn text_at<S: Source>(
+fn output_at<S: Source>(
     alloc: Global,
     memory: &mut EvaluationMemory,
     links: &mut Links,
     source: &mut S,
     base: String,
     instance: &Doc,
-) -> Result<String, Fault>
+) -> Result<Output, Fault>
     requires links { AreLinksOf (S.documents source.old) links.old }
     requires base { base_form (string_bytes base) ≡ Ok (string_bytes base) }
-    ensures ok { IfOk result (λ t. validation_over (S.documents source.old)
-        (Ok (string_bytes base)) (Ok (value instance.now)) ≡ validated (string_bytes t)) }
+    ensures ok { IfOk result (λ o. validation_over (S.documents source.old)
+        (Ok (string_bytes base)) (Ok (value instance.now)) ≡ validated (output_view o).1) }
     ensures err { IfErr result (λ f. f ≢ Fault.NoRoom → validation_over (S.documents source.old)
         (Ok (string_bytes base)) (Ok (value instance.now)) ≡ refused (fault_view f)) }
     ensures linked { AreLinksOf (S.documents source.old) links.new }
@@ -94,26 +96,25 @@ fn text_at<S: Source>(
 {
     links.promote(base.as_str());
     if let Some(linked) = links.latest(base.as_str()) {
-        return text_by(alloc, linked, instance, memory);
+        return output_by(alloc, linked, instance, memory);
     }
     let linked = link(alloc, source, base.as_str())?;
-    let text = text_by(alloc, &linked, instance, memory)?;
+    let output = output_by(alloc, &linked, instance, memory)?;
     links.keep(base, linked);
-    Ok(text)
+    Ok(output)
 }
 
 // The basic output of the instance by what was linked.
-fn text_by(
+fn output_by(
     alloc: Global,
     linked: &Linked,
     instance: &Doc,
     memory: &mut EvaluationMemory,
-) -> Result<String, Fault>
-    ensures ok { IfOk result (λ t. reply_by linked.now (value instance.now)
-        ≡ validated (string_bytes t)) }
+) -> Result<Output, Fault>
+    ensures ok { IfOk result (λ o. reply_by linked.now (value instance.now)
+        ≡ validated (output_view o).1) }
     ensures err { IfErr result (λ f. f ≢ Fault.NoRoom
         → reply_by linked.now (value instance.now) ≡ refused (fault_view f)) }
 {
-    let report = evaluate_with(alloc, linked, instance, memory)?;
-    Ok(report.into_text())
+    evaluate_output(alloc, linked, instance, memory)
 }

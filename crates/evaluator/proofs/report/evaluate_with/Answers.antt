@@ -1,36 +1,13 @@
-use Rattle.std.proofs.Common.{◌≡◌, ◌∙◌, Some, sym, ap, subst}
-use Rattle.definitions.specs.Answers.{first_application}
-use Rattle.definitions.specs.Targets.{resource_root}
-use Rattle.json_doc.specs.Docs.{value}
-use Rattle.linker.specs.LinkedDocuments.{linked_schemas, linked_uri}
-use Rattle.schema_scan.specs.Locateds.{located_view}
-use Rattle.evaluation_context.specs.Frames.{context_view, frame_standing}
-use Rattle.evaluation_context.specs.Standings.{application_at}
-use Rattle.evaluator.specs.Logs.{log_view}
-use Rattle.evaluator.specs.Reports.{linked_answer}
-use Rattle.evaluator.specs.Rounds.{root_outcome}
-use Rattle.evaluator.proofs.ReportLaws.{costly_first, first_outcome, first_is_at, gives_err, gives_ok, gives_same, noted_first, unreached_changes_nothing}
+use Rattle.std.proofs.Common.{Ok}
+use Rattle.evaluator.proofs.ReportLaws.{gives_err, gives_ok, gives_text}
 use Rattle.evaluator.proofs.report.evaluate_with.Goals as goal
 
-pub returns : goal.returns
-returns c =
-    let e = c.new-evaluation.result in
-    let l = e.linked.now in
-    let same = ap (λ k. k.now) c.new-evaluation.ensures.linked in
-    let s = located_view c.root-root.result in
-    let x = value c.args.instance.now in
-    let a = first_application s x in
-    let o = root_outcome l a in
-    let found = subst (λ k. resource_root (linked_schemas k) (linked_uri k) ≡ Some s) (sym same) c.root-root.ensures in
-    let there = subst (λ k. application_at (frame_standing (context_view k)) s.value x ≡ a) (sym c.new-evaluation.ensures.place) (c.new-context.ensures.there s x c.in_ok-start.ensures) in
-    let at = first_is_at l (context_view e.context) s x found there in
-    let nothing = ap log_view c.new-evaluation.ensures.noted ∙ c.in_ok-log.ensures in
-    let noted = noted_first c.apply_root-passed.result (log_view c.apply_root-passed.new.self.log) _ o nothing (c.apply_root-passed.ensures.noted a at) in
-    let costly = costly_first c.apply_root-passed.result _ o nothing (c.apply_root-passed.ensures.err a at) in
-    let r = c.reported-report.result in
-    let given = gives_same r (ap (λ k. linked_answer k x) (sym same) ∙ first_outcome l s x found) (c.reported-report.ensures o (c.apply_root-passed.ensures.valid a at) noted costly) in
+pub returns-in-Ok : goal.returns-in-Ok
+returns-in-Ok c =
+    let r = c.of-report.result in
+    let told = λ a. gives_text r a c.in-Ok.output c.of-report.ensures.ok c.of-report.ensures.err in
     record {
-      ok = gives_ok r _ given;
-      err = gives_err r _ given;
-      whole = λ G distinct reached. gives_same r (unreached_changes_nothing c.args.linked.now G x distinct reached) given;
+      ok = gives_ok r _ (told _ c.in-Ok.ensures.ok);
+      err = gives_err r _ (told _ c.in-Ok.ensures.ok);
+      whole = λ G distinct reached. told _ (c.in-Ok.ensures.whole G distinct reached);
     }

@@ -1,23 +1,12 @@
-use Rattle.std.proofs.Common.{◌≡◌, ◌∙◌, OnOk, IfOk, subst}
-use Rattle.evaluator.specs.Logs.{log_view}
-use Rattle.evaluator.specs.Notes.{outcome_notes}
-use Rattle.evaluator.proofs.ReportLaws.{answer_deep, answer_loop, answer_made, deep_so, gives_made, gives_same, looped_so, within_most}
+use Rattle.std.proofs.Common.{◌≡◌, map, subst, sym}
+use Rattle.output_texts.specs.Outputs.{counted_units, reported_units}
+use Rattle.basic_output.specs.Pieces.{unit_text}
+use Rattle.basic_output.specs.Units.{unit_texts}
+use Rattle.evaluator.proofs.ReportLaws.{gives_made, gives_same}
 use Rattle.evaluator.proofs.report.reported.Goals as goal
 
-pub returns-then-log : goal.returns-then-log
-returns-then-log c = λ o valid noted costly other.
-    let e = subst (λ r. OnOk r (log_view c.args.log.now ≡ outcome_notes o)) c.in-Ok.is noted in
-    answer_loop 100000 o (within_most c.args.log.now o e) (looped_so c.args.log.now o e ∙ c.if-log.true)
-
-pub returns-then-log-2 : goal.returns-then-log-2
-returns-then-log-2 c = λ o valid noted costly other.
-    let e = subst (λ r. OnOk r (log_view c.args.log.now ≡ outcome_notes o)) c.in-Ok.is noted in
-    answer_deep 100000 o (within_most c.args.log.now o e) (looped_so c.args.log.now o e ∙ c.if-log.false) (deep_so c.args.log.now o e ∙ c.if-log-2.true)
-
-pub returns-else-log-2 : goal.returns-else-log-2
-returns-else-log-2 c = λ o valid noted costly.
-    let e = subst (λ r. OnOk r (log_view c.args.log.now ≡ outcome_notes o)) c.in-Ok.is noted in
-    let v = subst (λ r. IfOk r (λ b. b ≡ o.valid)) c.in-Ok.is valid in
-    gives_same c.made.result
-    (answer_made 100000 o (within_most c.args.log.now o e) (looped_so c.args.log.now o e ∙ c.if-log.false) (deep_so c.args.log.now o e ∙ c.if-log-2.false))
-    (gives_made c.made.result o c.in-Ok.valid v c.made.ensures.valid (c.made.ensures.text o v e) c.made.ensures.err)
+pub returns-in-Ok : goal.returns-in-Ok
+returns-in-Ok c = λ o valid noted costly.
+    let j = c.in-Ok.ensures o valid noted costly in
+    let units = subst (λ u. unit_texts (counted_units c.in-Ok.valid u) ≡ map (unit_text c.in-Ok.valid) (reported_units o)) (sym c.deref.ensures) j.1.0 in
+    gives_same c.made.result j.1.1 (gives_made c.made.result o c.in-Ok.valid (sym j.0) c.made.ensures.valid (c.made.ensures.text o j.0 units) c.made.ensures.err)

@@ -1,4 +1,4 @@
-use Rattle.std.proofs.Common.{string_bytes}
+use Rattle.output_texts.specs.Outputs.{output_view}
 use Rattle.definitions.specs.Registries.{validate, validated, refused}
 use Rattle.faults.specs.View.{fault_view}
 use Rattle.tenant_hub.proofs.Refusals.{refusal}
@@ -7,7 +7,7 @@ use Rattle.tenant_hub.proofs.validating.validation_reply.Goals as goal
 
 pub returns-in-Ok-clause-answer : goal.returns-in-Ok-clause-answer
 returns-in-Ok-clause-answer g c = λ r e.
-    validation_answer r (g.S.Source.documents c.args.source.now) c.args.uri.now c.args.body.now (validated (string_bytes c.in-Ok.text)) e c.in-Ok.ensures.ok
+    validation_answer r (g.S.Source.documents c.args.source.now) c.args.uri.now c.args.body.now (validated (output_view c.in-Ok.output).1) e c.in-Ok.ensures.ok
 
 pub returns-in-Err-clause-answer : goal.returns-in-Err-clause-answer
 returns-in-Err-clause-answer g c = λ r e.

@@ -5,7 +5,7 @@ use Rattle.basic_output.specs.Sayings.{says_value}
 use Rattle.basic_output.specs.Units.{unit_texts}
 use Rattle.evaluator.specs.Notes.{notes_of_both}
 use Rattle.evaluator.specs.Logs.{log_view}
-use Rattle.evaluator.specs.declared.logged_units.LoggedUnits.{LoggedUnits}
+use Rattle.output_texts.specs.declared.noted_units.NotedUnits.{NotedUnits}
 use Rattle.evaluator.proofs.LogLaws.{same_notes, tallied_nothing}
 use Rattle.evaluator.proofs.log.Log.push_annotation.Goals as goal
 
@@ -13,4 +13,4 @@ pub returns : goal.returns
 unfolding log_view notes_of_both
 returns c =
     on_ok_weaker c.push.result (λ e.
-    same_notes (ap (λ (u : LoggedUnits). unit_texts u.errors) c.deref_mut.ensures.value ∙ sym (append-nil _)) (e ∙ ap (λ (u : LoggedUnits). unit_texts u.annotations ++ text_of_unit true c.args.location (says_value c.args.says) ∷ []) c.deref_mut.ensures.value) (sym (append-nil _)) (sym (append-nil _)) (sym (tallied_nothing _))) c.push.ensures.ok
+    same_notes (ap (λ (u : NotedUnits). unit_texts u.errors) c.deref_mut.ensures.value ∙ sym (append-nil _)) (e ∙ ap (λ (u : NotedUnits). unit_texts u.annotations ++ text_of_unit true c.args.location (says_value c.args.says) ∷ []) c.deref_mut.ensures.value) (sym (append-nil _)) (sym (append-nil _)) (sym (tallied_nothing _))) c.push.ensures.ok

@@ -1,0 +1,2 @@
+pub mod NoUnits
+pub mod Outputs

@@ -15,7 +15,10 @@ impl Units {
     pub fn joined_len(&self) -> usize
         ensures { result ≡ min (length (joined_texts (unit_texts self.now))) (2 ^ 64 - 1) }
     {
-        joined_len(self.text(), self.spans(), self.order())
+        match self.order().split_first() {
+            Some((first, rest)) => texts_len(self.text(), self.spans(), *first, rest),
+            None => 0,
+        }
     }
 
     /// Appends the units, with a comma between each two. After want of memory the first of them may stand there.
@@ -24,19 +27,6 @@ impl Units {
             (string_bytes out.new ≡ string_bytes out.old ++ joined_texts (unit_texts self.now)) }
     {
         write_joined(self.text(), self.spans(), self.order(), out)
-    }
-}
-
-// How many bytes the texts that stand there have in this order, joined.
-fn joined_len(text: &str, spans: &[Span], order: &[usize]) -> usize
-    requires spans { All (IsSpan text.now) spans.now }
-    requires order { All (λ i. i < length spans.now) order.now }
-    ensures { result ≡ min (length (joined_texts (texts_in_order text.now spans.now order.now)))
-        (2 ^ 64 - 1) }
-{
-    match order.split_first() {
-        Some((first, rest)) => texts_len(text, spans, *first, rest),
-        None => 0,
     }
 }
 

@@ -1,5 +1,5 @@
 -- Laws of the answer, and of the report of it.
-use Rattle.std.proofs.Common.{◌≡◌, ◌≢◌, ◌<◌, ◌≤◌, ℕ, arith, List, [], Bool, ◌&&◌, true, false, Some, Ok, Err, refl, subst, sym, ap, ap₂, ◌∙◌, map, is_some, Result, IfOk, IfErr, IfErr, OnOk}
+use Rattle.std.proofs.Common.{◌≡◌, ◌≢◌, ◌<◌, ◌≤◌, ℕ, arith, List, [], Bool, ◌&&◌, true, false, Some, Ok, Err, refl, subst, sym, ap, ap₂, ◌∙◌, map, is_some, Result, IfOk, IfErr, OnOk}
 use Rattle.std.proofs.lemmas.Bool.{le-ltb}
 use Rattle.std.proofs.lemmas.Option.{same_Some}
 use Rattle.definitions.specs.Values.{Value, same_text}

@@ -19,8 +19,6 @@ returns-else-log-2 c = λ o valid noted costly.
     let e = subst (λ r. OnOk r (log_view c.args.log.now ≡ outcome_notes o)) c.in-Ok.is noted in
     let v = sym (subst (λ r. IfOk r (λ b. b ≡ o.valid)) c.in-Ok.is valid) in (
       v,
-      (
-        counted_so c.args.log.now o c.in-Ok.valid e v,
-        answer_made 100000 o (within_most c.args.log.now o e) (looped_so c.args.log.now o e ∙ c.if-log.false) (deep_so c.args.log.now o e ∙ c.if-log-2.false),
-      ),
+      counted_so c.args.log.now o c.in-Ok.valid e v,
+      answer_made 100000 o (within_most c.args.log.now o e) (looped_so c.args.log.now o e ∙ c.if-log.false) (deep_so c.args.log.now o e ∙ c.if-log-2.false),
     )

@@ -8,5 +8,5 @@ use Rattle.evaluator.proofs.report.reported.Goals as goal
 pub returns-in-Ok : goal.returns-in-Ok
 returns-in-Ok c = λ o valid noted costly.
     let j = c.in-Ok.ensures o valid noted costly in
-    let units = subst (λ u. unit_texts (counted_units c.in-Ok.valid u) ≡ map (unit_text c.in-Ok.valid) (reported_units o)) (sym c.deref.ensures) j.1.0 in
-    gives_same c.made.result j.1.1 (gives_made c.made.result o c.in-Ok.valid (sym j.0) c.made.ensures.valid (c.made.ensures.text o j.0 units) c.made.ensures.err)
+    let units = subst (λ u. unit_texts (counted_units c.in-Ok.valid u) ≡ map (unit_text c.in-Ok.valid) (reported_units o)) (sym c.deref.ensures) j.1 in
+    gives_same c.made.result j.2 (gives_made c.made.result o c.in-Ok.valid (sym j.0) c.made.ensures.valid (c.made.ensures.text o j.0 units) c.made.ensures.err)
